@@ -1,0 +1,2 @@
+//! host_core
+#![tactic(auto)]

@@ -1,0 +1,2 @@
+//! line_world
+#![tactic(auto)]

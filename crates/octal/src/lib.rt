@@ -1,0 +1,2 @@
+//! octal
+#![tactic(auto)]

@@ -1,0 +1,2 @@
+//! odt_machine
+#![tactic(auto)]

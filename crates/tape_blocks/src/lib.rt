@@ -1,0 +1,2 @@
+//! tape_blocks
+#![tactic(auto)]

@@ -1,0 +1,2 @@
+//! tape_image
+#![tactic(auto)]

@@ -1,6 +1,9 @@
 //! The program `ldaodt`.
 #![tactic(auto)]
 
+mod input;
+mod output;
+
 use std::process::ExitCode;
 
 fn main(_rt: HostRuntime) -> ExitCode {

@@ -1,0 +1,13 @@
+-- What reaches an output, where the writer tells its bytes.
+use Rattle.std.specs.Prelude.{◌≡◌, ℕ, List, Option, ◌++◌}
+use Rattle.std.specs.Io.KnownBytes.{Appends}
+
+-- a text was written but for what is left of it, and nothing else was
+pub record WritesAllBut (before after : Option (List ℕ)) (text left : List ℕ) : Type 0 where
+  pub written : List ℕ
+  pub whole : text ≡ written ++ left
+  pub appended : Appends before after written
+
+-- a prefix of the text was written, and nothing else
+abbrev pub WritesPrefix : Option (List ℕ) → Option (List ℕ) → List ℕ → Type 0
+WritesPrefix before after text = (left : List ℕ) × WritesAllBut before after text left

@@ -1,2 +1,27 @@
-//! tape_blocks
+//! Reads and writes absolute loader tapes (.LDA), as the RT-11 Software Support Manual lays them
+//! out. A tape is a row of blocks, and bytes 00 may stand before and between them:
+//!
+//!     01 00             mark
+//!     low high          count of the bytes from the 01 to the last data byte
+//!     low high          address of the first data byte
+//!     data bytes        count - 6 of them
+//!     checksum          makes the sum of the whole block 0 modulo 256
+//!
+//! A block of count 6 is the transfer block: it ends the tape, and its address starts the program.
+//!
+//! The contract: `read_tape` answers a tape exactly where one begins the input, and else the one
+//! fault of the input, at its place; `write_tape` gives the plain text, which reads as the same tape.
+//! `tape_image` makes words of the blocks, and the program `load_command` reads its tapes here.
 #![tactic(auto)]
+
+mod block;
+mod fault;
+mod reader;
+mod tape;
+mod writer;
+
+pub use block::Block;
+pub use fault::{Fault, Memory, ReadError, Why};
+pub use reader::read_tape;
+pub use tape::{BadTape, TAPE_LIMIT, Tape};
+pub use writer::write_tape;

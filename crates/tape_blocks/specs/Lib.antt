@@ -1,0 +1,6 @@
+pub mod Block
+pub mod Tape
+pub mod BadTape
+pub mod Fault
+pub mod Refusal
+pub mod Reading

@@ -1,0 +1,138 @@
+use std::alloc::{AllocError, AllocFailed};
+use std::error::Error;
+use std::fmt;
+
+/// Why an input is no tape. `s` is the place of the block's 01, and places count from 0.
+#[derive(Clone, Copy, Debug, PartialEq, Eq)]
+pub enum Why {
+    /// Where a block or a 00 should stand, another byte stands: at that byte.
+    Stray,
+    /// The byte behind the 01 is not 00: at `s + 1`.
+    BadMark,
+    /// The count is below 6: at `s + 2`.
+    BadCount,
+    /// The input ends inside a block: at `s`.
+    Cut,
+    /// The sum of the whole block is not 0 modulo 256: at `s`.
+    BadSum,
+    /// A data block with a good sum ends above 160000 (octal): at `s + 4`.
+    PastTop,
+    /// The input ends where a block or a 00 could stand: at the length of the input.
+    NoTransfer,
+    /// The byte at place 1,048,576 is needed and is there: at 1,048,576.
+    TooLong,
+}
+
+impl fmt::Display for Why {
+    ghost use Rattle.std.specs.Prelude.{Some};
+    ghost use Rattle.tape_blocks.specs.Fault.{why_text};
+
+    ghost output = { λ why. Some (why_text why) };
+
+    fn fmt<W: fmt::Write>(&self, f: &mut fmt::Formatter<W>) -> fmt::Result {
+        f.write_str(match self {
+            Why::Stray => "Stray",
+            Why::BadMark => "BadMark",
+            Why::BadCount => "BadCount",
+            Why::Cut => "Cut",
+            Why::BadSum => "BadSum",
+            Why::PastTop => "PastTop",
+            Why::NoTransfer => "NoTransfer",
+            Why::TooLong => "TooLong",
+        })
+    }
+}
+
+/// What is wrong with an input, and at which of its bytes, counted from 0.
+#[derive(Clone, Copy, Debug, PartialEq, Eq)]
+pub struct Fault {
+    /// The place of the fault in the input.
+    pub at: u32,
+    /// The reason.
+    pub why: Why,
+}
+
+impl fmt::Display for Fault {
+    ghost use Rattle.std.specs.Prelude.{Some};
+    ghost use Rattle.tape_blocks.specs.Fault.{fault_text};
+
+    ghost output = { λ fault. Some (fault_text fault) };
+
+    fn fmt<W: fmt::Write>(&self, f: &mut fmt::Formatter<W>) -> fmt::Result {
+        let at = self.at;
+        let why = self.why;
+        write!(f, "{at}: {why}")
+    }
+}
+
+impl Error for Fault {}
+
+/// A growth of memory was refused.
+#[derive(Clone, Copy, Debug, PartialEq, Eq)]
+pub struct Memory;
+
+impl fmt::Display for Memory {
+    ghost use Rattle.std.specs.Prelude.{Some, codes};
+
+    ghost output = { λ _. Some (codes "out of memory") };
+
+    fn fmt<W: fmt::Write>(&self, f: &mut fmt::Formatter<W>) -> fmt::Result {
+        f.write_str("out of memory")
+    }
+}
+
+impl Error for Memory {}
+
+impl From<AllocError> for Memory {
+    fn from(_e: AllocError) -> Memory {
+        Memory
+    }
+}
+
+impl<T: Drop> From<AllocFailed<T>> for Memory {
+    fn from(_e: AllocFailed<T>) -> Memory {
+        Memory
+    }
+}
+
+/// Why an input was not read.
+#[derive(Clone, Copy, Debug, PartialEq, Eq)]
+pub enum ReadError {
+    /// The input is no tape.
+    Tape(Fault),
+    /// A growth of memory was refused.
+    Memory,
+}
+
+impl fmt::Display for ReadError {
+    fn fmt<W: fmt::Write>(&self, f: &mut fmt::Formatter<W>) -> fmt::Result {
+        match self {
+            ReadError::Tape(fault) => write!(f, "tape refused at {fault}"),
+            ReadError::Memory => write!(f, "{}", Memory),
+        }
+    }
+}
+
+impl Error for ReadError {}
+
+impl From<AllocError> for ReadError {
+    ghost use Rattle.std.specs.Prelude.{◌≡◌};
+    ghost use Rattle.tape_blocks.specs.declared.fault.ReadError.TheVariants.{Memory as out_of_memory};
+
+    ghost from_gives = { λ _ e. e ≡ out_of_memory };
+
+    fn from(_e: AllocError) -> ReadError {
+        ReadError::Memory
+    }
+}
+
+impl<T: Drop> From<AllocFailed<T>> for ReadError {
+    ghost use Rattle.std.specs.Prelude.{◌≡◌};
+    ghost use Rattle.tape_blocks.specs.declared.fault.ReadError.TheVariants.{Memory as out_of_memory};
+
+    ghost from_gives = { λ _ e. e ≡ out_of_memory };
+
+    fn from(_e: AllocFailed<T>) -> ReadError {
+        ReadError::Memory
+    }
+}

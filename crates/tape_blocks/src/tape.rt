@@ -1,0 +1,127 @@
+ghost use Rattle.std.specs.Prelude.{◌≡◌, ◌<◌, ◌^◌, ◌↔◌, List, All, IsTrue, IfOk, IfErr, IfNone, MatchOption};
+ghost use Rattle.tape_blocks.specs.Block.{BlockValue, IsBlock, HoldsBytes, block_at};
+ghost use Rattle.tape_blocks.specs.Tape.{IsSound, tape_limit, written_length};
+ghost use Rattle.tape_blocks.specs.BadTape.{IsBadTape, IsFirstAt};
+
+use crate::block::{Block, TOP};
+use std::fmt;
+use std::marker::Model;
+
+/// The most bytes that a tape may have, up to the end of its transfer block (this project's choice).
+pub const TAPE_LIMIT: usize = 1_048_576;
+
+/// The bytes of a block besides its data: mark, count, address and checksum.
+const FRAME: usize = 7;
+
+/// Why a list of blocks makes no tape. Blocks are numbered from 0.
+#[derive(Clone, Copy, Debug, PartialEq, Eq)]
+pub enum BadTape {
+    /// This block has no bytes, and the blocks before it are good.
+    EmptyBlock(usize),
+    /// This block ends above 160000 (octal), and the blocks before it are good.
+    BlockPastTop(usize),
+    /// Each block is good, but the tape cannot be written in 1,048,576 bytes.
+    TooMuch,
+}
+
+/// The blocks of a tape in their order, and its start address.
+///
+/// Each block is not empty and ends at or below 160000 (octal), and the tape can be written in at
+/// most 1,048,576 bytes.
+#[derive(Debug, Drop)]
+pub struct Tape {
+    blocks: Vec<Block>,
+    start: u16,
+}
+
+impl Model for Tape {
+    ghost use Rattle.tape_blocks.specs.Tape.{TapeValue, IsSound, tape_code};
+
+    ghost Value = { TapeValue };
+
+    ghost coded = { tape_code };
+
+    ghost view = { λ t. record { blocks = t.blocks.items; start = t.start } };
+
+    ghost invariant = { λ t. IsSound (record { blocks = t.blocks.items; start = t.start }) };
+}
+
+impl Tape {
+    /// The tape of these blocks and this start address.
+    ///
+    /// The first bad block decides, and each is judged as empty before past the top; `TooMuch` comes
+    /// only where no block is bad. The blocks come back in each refusal. Takes no memory.
+    pub fn new(blocks: Vec<Block>, start: u16) -> Result<Tape, (Vec<Block>, BadTape)>
+        ensures made { IfOk result (λ tape. tape ≡ record { blocks = blocks.items; start = start }) }
+        ensures sound { IfOk result (λ tape. IsSound tape) }
+        ensures handed_back { IfErr result (λ e. e.0.items ≡ blocks.items) }
+        ensures refused { IfErr result (λ e. IsBadTape blocks.items e.1) }
+    {
+        if let Some(bad) = bad_block(&blocks) {
+            return Err((blocks, bad));
+        }
+        if is_too_much(&blocks) {
+            return Err((blocks, BadTape::TooMuch));
+        }
+        Ok(Tape { blocks, start })
+    }
+
+    /// The blocks in tape order. A byte of a later block replaces an earlier one at its address.
+    pub fn blocks(&self) -> &[Block]
+        ensures value { result.now ≡ self.now.blocks }
+        ensures sound { IsSound self.now }
+    {
+        &self.blocks
+    }
+
+    /// The start address. An even one starts the program, and an odd one means: do not start.
+    pub fn start(&self) -> u16
+        ensures value { result ≡ self.now.start }
+        ensures sound { IsSound self.now }
+    {
+        self.start
+    }
+}
+
+/// The first bad block, if any.
+fn bad_block(blocks: &[Block]) -> Option<BadTape>
+    ensures judged { MatchOption result (All IsBlock blocks.now) (IsBadTape blocks.now) }
+    ensures of_bytes { IfNone result (All HoldsBytes blocks.now) }
+{
+    for (number, block) in blocks.iter().enumerate() {
+        if let Some(bad) = bad_bytes(number, block.address, &block.bytes) {
+            return Some(bad);
+        }
+    }
+    None
+}
+
+/// What is wrong with the bytes at an address, as block of this number, if anything is.
+fn bad_bytes(number: usize, address: u16, bytes: &[u8]) -> Option<BadTape>
+    ensures judged { let b = block_at address bytes.now in
+        MatchOption result (IsBlock b) (λ bad. (blocks : List BlockValue) → IsFirstAt blocks number (λ x. x ≡ b) → IsBadTape blocks bad) }
+    ensures of_bytes { All (λ byte. byte < 2 ^ 8) bytes.now }
+{
+    if bytes.is_empty() {
+        return Some(BadTape::EmptyBlock(number));
+    }
+    if bytes.len() > TOP || usize::from(address) > TOP - bytes.len() {
+        return Some(BadTape::BlockPastTop(number));
+    }
+    None
+}
+
+/// Whether the blocks and the transfer block fill more bytes than a tape may have.
+fn is_too_much(blocks: &[Block]) -> bool
+    requires { All IsBlock blocks.now }
+    ensures { IsTrue result ↔ (tape_limit < written_length blocks.now) }
+{
+    let mut length = FRAME;
+    for block in blocks {
+        length += FRAME + block.bytes.len();
+        if length > TAPE_LIMIT {
+            return true;
+        }
+    }
+    false
+}

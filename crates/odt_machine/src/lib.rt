@@ -1,2 +1,28 @@
-//! odt_machine
+//! A simulated LSI-11 console: the machine's memory and its console ODT, key by key.
+//!
+//! `Odt::take` is one typed key: it changes the mode, stores a word where a carriage return ends a
+//! deposit, and answers what the console prints. Its contract is the key table of
+//! `specs/KeyTable.antt`, and above it the laws that a reader would ask for: memory changes only
+//! where typed digits are closed by a return, and only that word; an illegal key stores nothing; a
+//! running machine answers nothing; an answer has at most nine characters.
+//!
+//! Contracts see a machine as its style, its memory as a list of words, and its mode. Only
+//! `Odt::new` takes memory. Used by the simulated line and by the program's rehearsals.
+
 #![tactic(auto)]
+
+mod answer;
+mod character;
+mod key;
+mod machine;
+mod mode;
+mod style;
+
+pub use answer::Answer;
+pub use character::{
+    CARRIAGE_RETURN, GO, LINE_FEED, PROMPT, QUESTION_MARK, RESYNCHRONISE, SLASH, SPACE,
+};
+pub use key::Key;
+pub use machine::{LARGEST_WORDS, Odt, OdtError};
+pub use mode::Mode;
+pub use style::Style;

@@ -1,0 +1,7 @@
+pub mod Style
+pub mod Key
+pub mod Machine
+pub mod Answer
+pub mod KeyTable
+pub mod Laws
+pub mod Described

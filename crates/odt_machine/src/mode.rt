@@ -1,0 +1,16 @@
+/// What the console is in the middle of.
+///
+/// A digit count is 1 to 7, where 7 stands for seven digits or more.
+#[derive(Clone, Copy, Debug, PartialEq, Eq)]
+pub enum Mode {
+    /// At the prompt, with nothing typed.
+    Prompt,
+    /// Digits were typed at the prompt: the number so far, and how many digits.
+    Number(u16, u8),
+    /// The word at this address is open, and nothing was typed since.
+    Opened(u16),
+    /// Digits were typed into an open word: its address, the value so far, and how many digits.
+    Typing(u16, u16, u8),
+    /// The program runs, started at this address.
+    Running(u16),
+}

@@ -1,0 +1,40 @@
+ghost use Rattle.std.specs.Prelude.{◌≡◌, ℕ, ◌<◌, ◌≤◌, MatchOption};
+ghost use Rattle.odt_machine.specs.Style.{style_number};
+
+/// What the console's answers leave open: three choices, each a machine's own.
+#[derive(Clone, Copy, Debug, PartialEq, Eq)]
+pub struct Style {
+    /// One space stands before the digits of an opened word.
+    pub space_before: bool,
+    /// Two carriage returns, in place of one, stand before the line feed.
+    pub two_returns: bool,
+    /// An illegal key is echoed before the question mark.
+    pub echo_illegal: bool,
+}
+
+impl Style {
+    /// The style with this number: 1 for `space_before`, plus 2 for `two_returns`, plus 4 for
+    /// `echo_illegal`. `None` exactly above 7.
+    pub fn from_number(number: u8) -> Option<Style>
+        ensures { MatchOption result (8 ≤ number) (λ style. style_number style ≡ number) }
+    {
+        if number > 7 {
+            return None;
+        }
+        Some(Style {
+            space_before: number % 2 == 1,
+            two_returns: number / 2 % 2 == 1,
+            echo_illegal: number / 4 == 1,
+        })
+    }
+
+    /// This style's number, 0 to 7.
+    pub fn number(self) -> u8
+        ensures value { result ≡ style_number self }
+        ensures range { result < 8 }
+    {
+        u8::from(self.space_before)
+            + 2 * u8::from(self.two_returns)
+            + 4 * u8::from(self.echo_illegal)
+    }
+}

@@ -1,0 +1,36 @@
+-- The last of the blocks that has a byte for an address.
+use Rattle.std.proofs.Common.{◌≡◌, ℕ, zero, suc, ◌+◌, ◌-◌, ◌<◌, ◌≤◌, Bool, true, false, cond, leb, List, [], ◌∷◌, length, get_or, drop, Option, Some, None, refl, arith, ap, sym, ◌∙◌, subst}
+use Rattle.std.specs.Prelude.{All, IfSome, slice_get}
+use Rattle.std.specs.Option.{option_or}
+use Rattle.std.proofs.lemmas.Bool.{leb-true}
+use Rattle.std.proofs.Math.Seq.{drop-cons}
+use Rattle.std.proofs.lemmas.List.Elements.{All-tail, All-head}
+use Rattle.tape_blocks.specs.Block.{BlockValue, IsBlock, HoldsBytes, top}
+use Rattle.tape_image.specs.Image.{byte_in, byte_at}
+
+-- a byte that the later blocks have is the byte of all the blocks
+pub byte_at-drop : (blocks : List BlockValue) (k a byte : ℕ) → byte_at (drop k blocks) a ≡ Some byte → byte_at blocks a ≡ Some byte
+byte_at-drop blocks zero a byte e = e
+byte_at-drop [] (suc k) a byte e = e
+byte_at-drop (block ∷ blocks) (suc k) a byte e = ap (λ o. option_or o (byte_in block a)) (byte_at-drop blocks k a byte e)
+
+-- of the block before the place n, where those from n on have no byte
+pub byte_at-last : (blocks : List BlockValue) (n a byte : ℕ) (block : BlockValue) → 0 < n → n ≤ length blocks → byte_at (drop n blocks) a ≡ None → block ≡ get_or blocks (n - 1) block → byte_in block a ≡ Some byte → byte_at blocks a ≡ Some byte
+byte_at-last blocks zero a byte block some l none is e = absurd (omega arith)
+byte_at-last blocks (suc k) a byte block some l none is e =
+    let before : k ≡ suc k - 1 = omega arith in
+    let rest : drop k blocks ≡ get_or blocks k block ∷ drop (suc k) blocks = drop-cons blocks k block (omega arith) in
+    byte_at-drop blocks k a byte
+    (ap (λ bs. byte_at bs a) rest ∙ ap (λ o. option_or o (byte_in (get_or blocks k block) a)) none
+    ∙ ap (λ i. byte_in (get_or blocks i block) a) before ∙ ap (λ b. byte_in b a) (sym is) ∙ e)
+
+-- what holds of each byte of a list holds of the one that is found
+slice_get-All : (P : ℕ → Type 0) (xs : List ℕ) (i : ℕ) → All P xs → IfSome (slice_get xs i) P
+slice_get-All P [] i all = tt
+slice_get-All P (x ∷ xs) zero all = All-head P x xs all
+slice_get-All P (x ∷ xs) (suc i) all = slice_get-All P xs i (All-tail P x xs all)
+
+slice_get-within : (xs : List ℕ) (i : ℕ) → IfSome (slice_get xs i) (λ _. i < length xs)
+slice_get-within [] i = tt
+slice_get-within (x ∷ xs) zero = omega arith
+slice_get-within (x ∷ xs) (suc i) = elim (slice_get xs i) as (λ o. IfSome o (λ _. i < length xs) → IfSome o (λ _. suc i < suc (length xs))) [ None ↦ λ h. tt | Some x ↦ λ h. omega arith ] (slice_get-within xs i)

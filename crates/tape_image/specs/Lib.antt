@@ -1,0 +1,5 @@
+pub mod Memory
+pub mod Word
+pub mod Image
+pub mod Plan
+pub mod Overlay

@@ -1,0 +1,61 @@
+-- The plan: the image of a tape as the words that the host types, and the program's start.
+use Rattle.std.specs.Prelude.{◌≡◌, ℕ, zero, suc, ◌+◌, ◌*◌, ◌%◌, ◌<◌, ◌≤◌, ◌==◌, if◌then◌else◌, List, [], ◌∷◌, ◌++◌, length, Option, Some, None, All, AllPairs, IfSome, refl}
+use Rattle.std.specs.Coded.{Coded, code_by, coded×, coded_ℕ, coded_list, coded_option}
+use Rattle.std.specs.FinMap.{get, code}
+use Rattle.tape_blocks.specs.Tape.{TapeValue}
+use Rattle.tape_image.specs.Memory.{half}
+use Rattle.tape_image.specs.Word.{WordValue, word_code, IsWord, gives}
+use Rattle.tape_image.specs.Image.{Image, image_of}
+
+-- the word for an even address, by the image's bytes there and at the next: none where it has neither, a mask of
+-- 000377 for the first and 177400 for the second, and 0 outside the mask
+abbrev pub word_of : ℕ → Option ℕ → Option ℕ → List WordValue
+word_of a None None = []
+word_of a (Some low) None = record { address = a; mask = 0o377; value = low } ∷ []
+word_of a None (Some high) = record { address = a; mask = 0o177400; value = 256 * high } ∷ []
+word_of a (Some low) (Some high) = record { address = a; mask = 0o177777; value = low + 256 * high } ∷ []
+
+-- the words for the first n even addresses, rising
+unfoldable pub words_below : Image → ℕ → List WordValue
+words_below image zero = []
+words_below image (suc n) = words_below image n ++ word_of (2 * n) (get image (2 * n)) (get image (2 * n + 1))
+
+-- the words of the image: one for each even address below 160000 with a byte of the image at it or after it
+unfoldable pub words_of : Image → List WordValue
+words_of image = words_below image 28672
+
+-- the byte for an address in the first of the words that gives it, or none
+abbrev pub given_byte : List WordValue → ℕ → Option ℕ
+given_byte [] b = None
+given_byte (w ∷ words) b = if gives w b then Some (half b w.value) else given_byte words b
+
+-- an even start address is where the program begins, an odd one says: do not start
+abbrev pub program_start : ℕ → Option ℕ
+program_start start = if start % 2 == 0 then Some start else None
+
+-- the image, its words, and the program's start where it has one
+pub record PlanValue : Type 0 where
+  pub image : Image
+  pub words : List WordValue
+  pub start : Option ℕ
+
+-- a plan is stored as its three fields
+abbrev pub plan_code : Coded PlanValue
+plan_code =
+    code_by (Image × (List WordValue × Option ℕ)) (coded× (code coded_ℕ coded_ℕ) (coded× (coded_list word_code) (coded_option coded_ℕ)))
+    (λ p. (p.image, (p.words, p.start))) (λ p. record { image = p.0; words = p.1.0; start = p.1.1 }) (λ _. refl)
+
+-- the plan of a tape
+abbrev pub plan_of : TapeValue → PlanValue
+plan_of tape = record { image = image_of tape.blocks; words = words_of (image_of tape.blocks); start = program_start tape.start }
+
+-- what every plan keeps, however it was made
+pub record IsPlan (p : PlanValue) : Type 0 where
+  pub words_of_image : p.words ≡ words_of p.image
+  pub each : All IsWord p.words
+  pub rising : AllPairs (λ v w. v.address < w.address) p.words
+  pub few : length p.words ≤ 28672
+  pub image_of_words : (b : ℕ) → get p.image b ≡ given_byte p.words b
+  pub within : (b : ℕ) → IfSome (get p.image b) (λ _. b < 0o160000)
+  pub bytes : (b : ℕ) → IfSome (get p.image b) (λ byte. byte < 256)
+  pub start_even : IfSome p.start (λ start. (start % 2 ≡ 0) × (start < 65536))

@@ -1,0 +1,54 @@
+-- A word of the plan: which bytes of a machine's word are the tape's, and what they are.
+use Rattle.std.specs.Prelude.{◌≡◌, ℕ, ◌+◌, ◌*◌, ◌/◌, ◌%◌, ◌<◌, ◌⊎◌, Bool, false, ◌==◌, ◌&&◌, if◌then◌else◌, IsTrue, refl}
+use Rattle.std.specs.Coded.{Coded, code_by, coded×, coded_ℕ}
+use Rattle.tape_image.specs.Memory.{half}
+
+-- the address of the word, the bits that the tape gives (the mask), and these bits
+pub record WordValue : Type 0 where
+  pub address : ℕ
+  pub mask : ℕ
+  pub value : ℕ
+
+-- a word is stored as its three fields
+abbrev pub word_code : Coded WordValue
+word_code =
+    code_by (ℕ × (ℕ × ℕ)) (coded× coded_ℕ (coded× coded_ℕ coded_ℕ)) (λ w. (w.address, (w.mask, w.value)))
+    (λ p. record { address = p.0; mask = p.1.0; value = p.1.1 }) (λ _. refl)
+
+-- whether the mask has the byte at the address b, which it has whole or not at all
+abbrev pub covers : ℕ → ℕ → Bool
+covers b mask = half b mask == 0o377
+
+-- whether the word gives the byte at the address b
+abbrev pub gives : WordValue → ℕ → Bool
+gives w b = (w.address / 2 == b / 2) && covers b w.mask
+
+-- the byte for the address b after the word is laid over an old one: the word's under the mask, else the old one's
+abbrev pub merged_half : ℕ → WordValue → ℕ → ℕ
+merged_half b w old = if covers b w.mask then half b w.value else half b old
+
+-- the word that has these two bytes, the low one and the high one
+abbrev pub merged : WordValue → ℕ → ℕ
+merged w old = merged_half 0 w old + 256 * merged_half 1 w old
+
+-- the byte for the address b is the word's, if the mask has it
+abbrev pub HalfStands : ℕ → WordValue → ℕ → Type 0
+HalfStands b w now = IsTrue (covers b w.mask) → half b now ≡ half b w.value
+
+-- each byte under the mask is the word's
+pub record Stands (w : WordValue) (now : ℕ) : Type 0 where
+  pub low : HalfStands 0 w now
+  pub high : HalfStands 1 w now
+
+-- the low byte (000377), the high byte (177400) or both (177777)
+abbrev pub IsMask : ℕ → Type 0
+IsMask mask = (mask ≡ 0o377) ⊎ ((mask ≡ 0o177400) ⊎ (mask ≡ 0o177777))
+
+-- an even address below 160000, one of the three masks, and a value of 16 bits with none outside the mask
+pub record IsWord (w : WordValue) : Type 0 where
+  pub even : w.address % 2 ≡ 0
+  pub below : w.address < 0o160000
+  pub masked : IsMask w.mask
+  pub low : covers 0 w.mask ≡ false → half 0 w.value ≡ 0
+  pub high : covers 1 w.mask ≡ false → half 1 w.value ≡ 0
+  pub fits : w.value < 65536

@@ -1,8 +1,11 @@
 //! The program `ldaodt`.
 #![tactic(auto)]
 
+mod fault;
 mod input;
 mod output;
+mod tape_file;
+mod text;
 
 use std::process::ExitCode;
 

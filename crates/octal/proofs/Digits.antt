@@ -28,7 +28,7 @@ octal_text-only w (a ∷ b ∷ c ∷ d ∷ e ∷ f ∷ []) h =
 octal_text-only w _ h = absurd (omega arith)
 
 -- one more digit, as long as the number stays below 65536
-pushed-small : (v c : ℕ) → 8 * v + digit_value c < 65536 → pushed v c ≡ 8 * v + digit_value c
+pub pushed-small : (v c : ℕ) → 8 * v + digit_value c < 65536 → pushed v c ≡ 8 * v + digit_value c
 pushed-small v c h = omega arith
 
 -- typing six digits, the first at most 1, gives the number that they stand for
@@ -43,12 +43,13 @@ pushed-octal_value (a ∷ b ∷ c ∷ d ∷ e ∷ f ∷ []) six digits first =
     omega arith
 pushed-octal_value _ six digits first = absurd (omega arith)
 
--- what six typed digits make, read as the text of a word
-pub read_text : (text : List ℕ) (n v : ℕ) → length text ≡ 6 → n ≡ 6 → v ≡ fold pushed 0 (take n text) → All (λ c. IsTrue (is_digit c)) (take n text) → slice_index text 0 ≤ 49 → (v ≡ octal_value text) × All (λ c. IsTrue (is_digit c)) text
-read_text text n v six here value digits first =
-    let whole : take n text ≡ text = take-all text n six here in
+-- what six typed digits make is the word that they are the text of
+pub typed-is : (text : List ℕ) (n v : ℕ) → length text ≡ 6 → n ≡ 6 → v ≡ fold pushed 0 (take n text) → All (λ c. IsTrue (is_digit c)) (take n text) → slice_index text 0 ≤ 49 → IsOct6 v text
+typed-is text n v six here value digits first =
+    let whole : take n text ≡ text = ap (λ k. take k text) (here ∙ sym six) ∙ take-length text in
     let all : All (λ c. IsTrue (is_digit c)) text = subst (All (λ c. IsTrue (is_digit c))) whole digits in
-    (value ∙ (ap (fold pushed 0) whole ∙ pushed-octal_value text six all first), all)
-  where
-    take-all : (text : List ℕ) (n : ℕ) → length text ≡ 6 → n ≡ 6 → take n text ≡ text
-    take-all text n six here = ap (λ k. take k text) (here ∙ sym six) ∙ take-length text
+    record { six = six; digits = all; first = first; value = sym (pushed-octal_value text six all first) ∙ (ap (fold pushed 0) (sym whole) ∙ sym value) }
+
+-- a text is of one word alone
+pub one_word : (v w : ℕ) (text : List ℕ) → IsOct6 v text → IsOct6 w text → v ≡ w
+one_word v w text is also = sym is.value ∙ also.value

@@ -1,5 +1,5 @@
-ghost use Rattle.std.specs.Prelude.{◌≡◌, ℕ, ◌+◌, ◌/◌, ◌%◌, ◌^◌, ◌<◌, ◌↔◌, List};
-ghost use Rattle.octal.specs.Octal.{octal_text, IsOct6};
+ghost use Rattle.std.specs.Prelude.{◌≡◌, ℕ, ◌+◌, ◌/◌, ◌%◌, ◌^◌, ◌<◌, ◌≤◌, ◌↔◌, List, All, slice_index, IsTrue, IsSome, IfSome};
+ghost use Rattle.octal.specs.Octal.{is_digit, octal_text, IsOct6};
 
 use crate::digit::push_digit;
 
@@ -31,7 +31,10 @@ fn digit_at(word: u16, shift: u32) -> u8
 ///
 /// `None` exactly where a character is none of `0` to `7`, or the first is above `1`.
 pub fn read_oct6(text: &[u8; 6]) -> Option<u16>
+    ensures some { IsSome result ↔ (All (λ c. IsTrue (is_digit c)) text.now × (slice_index text.now 0 ≤ 49)) }
     ensures exact { (word : ℕ) → (result ≡ Some word) ↔ IsOct6 word text.now }
+    ensures gives_back { (word : ℕ) → word < 65536 → text.now ≡ octal_text word → result ≡ Some word }
+    ensures only_text { IfSome result (λ word. text.now ≡ octal_text word) }
 {
     if text[0] > b'1' {
         return None;

@@ -1,5 +1,5 @@
 -- The last of the blocks that has a byte for an address.
-use Rattle.std.proofs.Common.{◌≡◌, ℕ, zero, suc, ◌+◌, ◌-◌, ◌<◌, ◌≤◌, Bool, true, false, cond, leb, List, [], ◌∷◌, length, get_or, drop, Option, Some, None, refl, arith, ap, sym, ◌∙◌, subst}
+use Rattle.std.proofs.Common.{◌≡◌, ℕ, zero, suc, ◌+◌, ◌-◌, ◌^◌, ◌<◌, ◌≤◌, Bool, true, false, cond, leb, List, [], ◌∷◌, length, get_or, drop, Option, Some, None, refl, arith, ap, sym, ◌∙◌, subst}
 use Rattle.std.specs.Prelude.{All, IfSome, slice_get}
 use Rattle.std.specs.Option.{option_or}
 use Rattle.std.proofs.lemmas.Bool.{leb-true}
@@ -34,3 +34,35 @@ slice_get-within : (xs : List ℕ) (i : ℕ) → IfSome (slice_get xs i) (λ _. 
 slice_get-within [] i = tt
 slice_get-within (x ∷ xs) zero = omega arith
 slice_get-within (x ∷ xs) (suc i) = elim (slice_get xs i) as (λ o. IfSome o (λ _. i < length xs) → IfSome o (λ _. suc i < suc (length xs))) [ None ↦ λ h. tt | Some x ↦ λ h. omega arith ] (slice_get-within xs i)
+
+-- a block's byte lies below the top, and is a byte
+byte_in-within : (block : BlockValue) (a : ℕ) → IsBlock block → IfSome (byte_in block a) (λ _. a < top)
+byte_in-within block a is =
+    elim (leb block.address a) as (λ t. leb block.address a ≡ t → IfSome (cond t (slice_get block.bytes (a - block.address)) None) (λ _. a < top)) [
+      | true ↦ λ e.
+          let above : block.address ≤ a = leb-true _ _ e in
+          elim (slice_get block.bytes (a - block.address)) as (λ o. IfSome o (λ _. a - block.address < length block.bytes) → IfSome o (λ _. a < top)) [
+            | None ↦ λ h. tt
+            | Some x ↦ λ h. omega (arith, is.below_top)
+          ] (slice_get-within block.bytes (a - block.address))
+      | false ↦ λ e. tt
+    ] refl
+
+byte_in-byte : (block : BlockValue) (a : ℕ) → HoldsBytes block → IfSome (byte_in block a) (λ byte. byte < 2 ^ 8)
+byte_in-byte block a holds =
+    elim (leb block.address a) as (λ t. IfSome (cond t (slice_get block.bytes (a - block.address)) None) (λ byte. byte < 2 ^ 8)) [
+      | true ↦ slice_get-All (λ byte. byte < 2 ^ 8) block.bytes (a - block.address) holds
+      | false ↦ tt
+    ]
+
+either : (o p : Option ℕ) (P : ℕ → Type 0) → IfSome o P → IfSome p P → IfSome (option_or o p) P
+either None p P h k = k
+either (Some x) p P h k = h
+
+pub byte_at-within : (blocks : List BlockValue) (a : ℕ) → All IsBlock blocks → IfSome (byte_at blocks a) (λ _. a < top)
+byte_at-within [] a all = tt
+byte_at-within (block ∷ blocks) a all = either (byte_at blocks a) (byte_in block a) (λ _. a < top) (byte_at-within blocks a (All-tail IsBlock block blocks all)) (byte_in-within block a (All-head IsBlock block blocks all))
+
+pub byte_at-byte : (blocks : List BlockValue) (a : ℕ) → All HoldsBytes blocks → IfSome (byte_at blocks a) (λ byte. byte < 2 ^ 8)
+byte_at-byte [] a all = tt
+byte_at-byte (block ∷ blocks) a all = either (byte_at blocks a) (byte_in block a) (λ byte. byte < 2 ^ 8) (byte_at-byte blocks a (All-tail HoldsBytes block blocks all)) (byte_in-byte block a (All-head HoldsBytes block blocks all))

@@ -4,9 +4,11 @@ use Rattle.std.specs.Prelude.{All, IfSome, slice_get}
 use Rattle.std.specs.Ordering.{nat_cmp, eq_by_cmp}
 use Rattle.std.specs.Cmp.{nat_cmp_total}
 use Rattle.std.specs.FinMap.{get, insert, empty, get-insert, get-empty, gets}
-use Rattle.std.proofs.lemmas.Bool.{cases_order, eq-eqb, ne_eqb, lt-ltb, le-ltb}
+use Rattle.std.proofs.lemmas.Bool.{cases_order, eq-eqb, ne_eqb, lt-ltb, le-ltb, ltb-false}
 use Rattle.std.proofs.lemmas.Bool.Decides.{nat_tests}
-use Rattle.tape_image.specs.Image.{Image, with_byte, image_below, image_of, byte_at}
+use Rattle.tape_image.specs.Image.{Image, IsImageOf, with_byte, image_below, image_of, byte_at}
+use Rattle.tape_blocks.specs.Block.{BlockValue, IsBlock, top}
+use Rattle.tape_image.proofs.Blocks.{byte_at-within}
 
 tied : (q a : ℕ) → eq_by_cmp nat_cmp q a ≡ eqb q a
 tied q a = grind (arith, nat_tests)
@@ -44,3 +46,16 @@ get-image_below f (suc n) q =
         | inr more ↦ get_above (f n) (f q) (get (image_below f n) q) n q more (get-image_below f n q)
       ]
     ]
+
+-- the image of good blocks has at each address the byte that they have
+pub get-image_of : (blocks : List BlockValue) → All IsBlock blocks → IsImageOf blocks (image_of blocks)
+unfolding image_of
+get-image_of blocks good a =
+    get-image_below (byte_at blocks) top a
+    ∙ elim (ltb a top) as (λ t. ltb a top ≡ t → cond t (byte_at blocks a) None ≡ byte_at blocks a) [
+      | true ↦ λ e. refl
+      | false ↦ λ e. elim (byte_at blocks a) as (λ o. IfSome o (λ _. a < top) → None ≡ o) [
+        | None ↦ λ h. refl
+        | Some x ↦ λ h. absurd (let above : top ≤ a = ltb-false a top e in omega arith)
+      ] (byte_at-within blocks a good)
+    ] refl

@@ -1,8 +1,8 @@
 -- The image of a tape: which byte it leaves at which address (RT-11 Software Support Manual, absolute binary format).
-use Rattle.std.specs.Prelude.{ℕ, zero, suc, ◌-◌, nat_le, if◌then◌else◌, List, [], ◌∷◌, Option, Some, None, slice_get}
+use Rattle.std.specs.Prelude.{◌≡◌, ℕ, zero, suc, ◌-◌, nat_le, if◌then◌else◌, List, [], ◌∷◌, Option, Some, None, slice_get}
 use Rattle.std.specs.Option.{option_or}
 use Rattle.std.specs.Ordering.{nat_cmp}
-use Rattle.std.specs.FinMap.{FinMap, empty, insert}
+use Rattle.std.specs.FinMap.{FinMap, empty, insert, get}
 use Rattle.tape_blocks.specs.Block.{BlockValue}
 
 -- the byte that a block has for an address
@@ -17,6 +17,10 @@ byte_at (block ∷ later) a = option_or (byte_at later a) (byte_in block a)
 -- a set of addresses, with a byte for each
 abbrev pub Image : Type 0
 Image = FinMap nat_cmp ℕ
+
+-- at each address the image has the byte that the blocks have for it
+abbrev pub IsImageOf : List BlockValue → Image → Type 0
+IsImageOf blocks image = (a : ℕ) → get image a ≡ byte_at blocks a
 
 -- the image with this byte for an address, if there is one
 abbrev pub with_byte : Image → ℕ → Option ℕ → Image

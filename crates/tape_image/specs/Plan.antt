@@ -1,6 +1,7 @@
 -- The plan: the image of a tape as the words that the host types, and the program's start.
 use Rattle.std.specs.Prelude.{◌≡◌, ℕ, zero, suc, ◌+◌, ◌*◌, ◌%◌, ◌<◌, ◌≤◌, ◌==◌, if◌then◌else◌, List, [], ◌∷◌, ◌++◌, length, Option, Some, None, All, AllPairs, IfSome, refl}
 use Rattle.std.specs.Coded.{Coded, code_by, coded×, coded_ℕ, coded_list, coded_option}
+use Rattle.std.specs.Option.{option_to_list}
 use Rattle.std.specs.FinMap.{get, code}
 use Rattle.tape_blocks.specs.Tape.{TapeValue}
 use Rattle.tape_image.specs.Memory.{half}
@@ -9,16 +10,16 @@ use Rattle.tape_image.specs.Image.{Image, image_of}
 
 -- the word for an even address, by the image's bytes there and at the next: none where it has neither, a mask of
 -- 000377 for the first and 177400 for the second, and 0 outside the mask
-abbrev pub word_of : ℕ → Option ℕ → Option ℕ → List WordValue
-word_of a None None = []
-word_of a (Some low) None = record { address = a; mask = 0o377; value = low } ∷ []
-word_of a None (Some high) = record { address = a; mask = 0o177400; value = 256 * high } ∷ []
-word_of a (Some low) (Some high) = record { address = a; mask = 0o177777; value = low + 256 * high } ∷ []
+abbrev pub word_of : ℕ → Option ℕ → Option ℕ → Option WordValue
+word_of a None None = None
+word_of a (Some low) None = Some (record { address = a; mask = 0o377; value = low })
+word_of a None (Some high) = Some (record { address = a; mask = 0o177400; value = 256 * high })
+word_of a (Some low) (Some high) = Some (record { address = a; mask = 0o177777; value = low + 256 * high })
 
 -- the words for the first n even addresses, rising
 unfoldable pub words_below : Image → ℕ → List WordValue
 words_below image zero = []
-words_below image (suc n) = words_below image n ++ word_of (2 * n) (get image (2 * n)) (get image (2 * n + 1))
+words_below image (suc n) = words_below image n ++ option_to_list (word_of (2 * n) (get image (2 * n)) (get image (2 * n + 1)))
 
 -- the words of the image: one for each even address below 160000 with a byte of the image at it or after it
 unfoldable pub words_of : Image → List WordValue

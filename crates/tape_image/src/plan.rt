@@ -1,13 +1,17 @@
-ghost use Rattle.std.specs.Prelude.{◌≡◌, ℕ, IfOk};
+ghost use Rattle.std.specs.Prelude.{◌≡◌, All, IfOk};
 ghost use Rattle.std.specs.FinMap.{get};
-ghost use Rattle.tape_image.specs.Image.{byte_at, byte_in};
-ghost use Rattle.tape_image.specs.Plan.{IsPlan, plan_of};
+ghost use Rattle.tape_blocks.specs.Block.{IsBlock, HoldsBytes};
+ghost use Rattle.tape_image.specs.Image.{IsImageOf, byte_at, byte_in, image_of};
+ghost use Rattle.tape_image.specs.Plan.{IsPlan, plan_of, program_start, words_of};
 ghost use Rattle.tape_image.specs.Overlay.{MakesOverlay};
 
 use crate::word::Word;
 use std::alloc::Global;
 use std::marker::Model;
 use tape_blocks::{Block, Memory, Tape};
+
+/// The words below 160000.
+const WORDS: u16 = 0o70000;
 
 /// The plan of a tape.
 #[derive(Drop)]
@@ -18,9 +22,7 @@ pub struct Plan {
 }
 
 impl Model for Plan {
-    ghost use Rattle.std.specs.Prelude.{◌≡◌, ℕ};
-    ghost use Rattle.std.specs.FinMap.{get};
-    ghost use Rattle.tape_image.specs.Image.{byte_at, image_of};
+    ghost use Rattle.tape_image.specs.Image.{IsImageOf, image_of};
     ghost use Rattle.tape_image.specs.Plan.{PlanValue, plan_code, IsPlan};
 
     ghost Value = { PlanValue };
@@ -29,18 +31,22 @@ impl Model for Plan {
 
     ghost view = { λ p. record { image = image_of p.blocks.items; words = p.words.items; start = p.start } };
 
-    ghost invariant = { λ p. IsPlan (record { image = image_of p.blocks.items; words = p.words.items; start = p.start }) × ((a : ℕ) → get (image_of p.blocks.items) a ≡ byte_at p.blocks.items a) };
+    ghost invariant = { λ p. IsPlan (record { image = image_of p.blocks.items; words = p.words.items; start = p.start }) × IsImageOf p.blocks.items (image_of p.blocks.items) };
 }
 
 impl Plan {
     pub fn of(alloc: Global, tape: &Tape) -> Result<Plan, Memory>
         ensures plan { IfOk result (λ plan. plan ≡ plan_of tape.now) }
-        ensures bytes { IfOk result (λ plan. (a : ℕ) → get plan.image a ≡ byte_at tape.now.blocks a) }
+        ensures bytes { IfOk result (λ plan. IsImageOf tape.now.blocks plan.image) }
         ensures sound { IfOk result IsPlan }
     {
-        let _ = alloc;
-        let _ = tape;
-        Err(Memory)
+        let blocks = copied(alloc, tape.blocks())?;
+        let words = words_of(alloc, &blocks)?;
+        Ok(Plan {
+            blocks,
+            words,
+            start: program_start(tape.start()),
+        })
     }
 
     pub fn words(&self) -> &[Word]
@@ -66,6 +72,47 @@ impl Plan {
     }
 }
 
+/// A copy of the blocks, in their order.
+fn copied(alloc: Global, blocks: &[Block]) -> Result<Vec<Block>, Memory>
+    ensures { IfOk result (λ copy. copy.items ≡ blocks.now) }
+{
+    let mut copy = Vec::with_capacity(alloc, blocks.len())?;
+    for block in blocks {
+        let bytes = Vec::from_slice(alloc, &block.bytes)?;
+        copy.push(Block {
+            address: block.address,
+            bytes,
+        })?;
+    }
+    Ok(copy)
+}
+
+/// The words of the image that these blocks make.
+fn words_of(alloc: Global, blocks: &[Block]) -> Result<Vec<Word>, Memory>
+    requires blocks { All IsBlock blocks.now }
+    requires bytes { All HoldsBytes blocks.now }
+    ensures { IfOk result (λ words. words.items ≡ words_of (image_of blocks.now)) }
+{
+    let mut words = Vec::new(alloc);
+    for number in 0..WORDS {
+        let address = 2 * number;
+        let low = last_byte_at(blocks, address);
+        let high = last_byte_at(blocks, address + 1);
+        if let Some(word) = Word::of_bytes(address, low, high) {
+            words.push(word)?;
+        }
+    }
+    Ok(words)
+}
+
+/// Where the program begins: an odd start address says that it does not.
+fn program_start(start: u16) -> Option<u16>
+    ensures { result ≡ program_start start }
+{
+    (start % 2 == 0).then_some(start)
+}
+
+/// The byte for the address in the last of the blocks that covers it.
 fn last_byte_at(blocks: &[Block], address: u16) -> Option<u8>
     ensures { result ≡ byte_at blocks.now address }
 {
@@ -77,6 +124,7 @@ fn last_byte_at(blocks: &[Block], address: u16) -> Option<u8>
     None
 }
 
+/// The byte of the block for the address.
 fn byte_of_block(block: &Block, address: u16) -> Option<u8>
     ensures { result ≡ byte_in block.now address }
 {

@@ -1,6 +1,7 @@
-ghost use Rattle.std.specs.Prelude.{◌≡◌, ℕ, ◌↔◌, IsTrue};
+ghost use Rattle.std.specs.Prelude.{◌≡◌, ◌%◌, ◌<◌, ◌↔◌, IsTrue};
 ghost use Rattle.std.specs.Option.{SomeIff};
 ghost use Rattle.tape_image.specs.Word.{WordValue, IsWord, merged, Stands};
+ghost use Rattle.tape_image.specs.Plan.{word_of};
 
 use std::marker::Model;
 
@@ -53,6 +54,25 @@ impl Word {
         } else {
             None
         }
+    }
+
+    /// The word of these bytes of an image, at an even address and the next, if there is one.
+    pub(crate) fn of_bytes(address: u16, low: Option<u8>, high: Option<u8>) -> Option<Word>
+        requires even { address % 2 ≡ 0 }
+        requires below { address < TOP }
+        ensures { result ≡ word_of address low high }
+    {
+        let (mask, value) = match (low, high) {
+            (None, None) => return None,
+            (Some(low), None) => (LOW_BYTE, u16::from(low)),
+            (None, Some(high)) => (HIGH_BYTE, 256 * u16::from(high)),
+            (Some(low), Some(high)) => (BOTH_BYTES, u16::from(low) + 256 * u16::from(high)),
+        };
+        Some(Word {
+            address,
+            mask,
+            value,
+        })
     }
 
     pub fn address(self) -> u16

@@ -4,5 +4,6 @@ pub mod Blocks
 pub mod Images
 pub mod Words
 pub mod Given
+pub mod Standing
 pub mod Plans
 pub mod OverlayLaw

@@ -44,11 +44,15 @@ pub record Stands (w : WordValue) (now : ℕ) : Type 0 where
 abbrev pub IsMask : ℕ → Type 0
 IsMask mask = (mask ≡ 0o377) ⊎ ((mask ≡ 0o177400) ⊎ (mask ≡ 0o177777))
 
--- an even address below 160000, one of the three masks, and a value of 16 bits with none outside the mask
+-- one of the masks, and a value with no bit outside it: a byte that the mask does not have is 0
+pub record IsInside (mask value : ℕ) : Type 0 where
+  pub one_mask : IsMask mask
+  pub low : covers 0 mask ≡ false → half 0 value ≡ 0
+  pub high : covers 1 mask ≡ false → half 1 value ≡ 0
+
+-- an even address below 160000, and a value of 16 bits inside the mask
 pub record IsWord (w : WordValue) : Type 0 where
   pub even : w.address % 2 ≡ 0
   pub below : w.address < 0o160000
-  pub masked : IsMask w.mask
-  pub low : covers 0 w.mask ≡ false → half 0 w.value ≡ 0
-  pub high : covers 1 w.mask ≡ false → half 1 w.value ≡ 0
+  pub inside : IsInside w.mask w.value
   pub fits : w.value < 65536

@@ -1,19 +1,30 @@
-ghost use Rattle.std.specs.Prelude.{◌≡◌, ◌%◌, ◌<◌, ◌↔◌, IsTrue};
-ghost use Rattle.std.specs.Option.{SomeIff};
-ghost use Rattle.tape_image.specs.Word.{WordValue, IsWord, merged, Stands};
+ghost use Rattle.std.specs.Prelude.{◌≡◌, ℕ, ◌%◌, ◌<◌, ◌↔◌, IsTrue, IsSome, IfSome};
+ghost use Rattle.tape_image.specs.Memory.{half};
+ghost use Rattle.tape_image.specs.Word.{IsWord, IsInside, merged, merged_half, Stands};
 ghost use Rattle.tape_image.specs.Plan.{word_of};
 
 use std::marker::Model;
 
+/// The mask of the low byte, at the word's own address.
 const LOW_BYTE: u16 = 0o377;
 
+/// The mask of the high byte, at the next address.
 const HIGH_BYTE: u16 = 0o177400;
 
+/// The mask of both bytes.
 const BOTH_BYTES: u16 = 0o177777;
 
+/// 160000 octal, where memory ends and the I/O page begins.
 const TOP: u16 = 0o160000;
 
-/// A word of the tape's image.
+/// How many values a byte has: a word is its low byte plus so many times its high byte.
+const BYTE: u16 = 256;
+
+/// A word of a tape's image: an address, and the bits that the tape has for the word there.
+///
+/// The address is even and below 160000 (octal). The mask says which bytes of the word are the
+/// tape's: 000377 the low one, 177400 the high one, 177777 both. The value has these bytes, and 0
+/// outside the mask. Contracts see the record of the three.
 #[derive(Clone, Copy, Debug, PartialEq, Eq)]
 pub struct Word {
     address: u16,
@@ -36,16 +47,13 @@ impl Model for Word {
 }
 
 impl Word {
+    /// The word of this address, mask and value. None where the address is odd or not below 160000
+    /// (octal), the mask is none of the three, or the value has a bit outside the mask.
     pub fn new(address: u16, mask: u16, value: u16) -> Option<Word>
-        ensures { SomeIff result (IsWord (record { address = address; mask = mask; value = value })) (record { address = address; mask = mask; value = value }) }
+        ensures made { IsSome result ↔ IsWord (record { address = address; mask = mask; value = value }) }
+        ensures value { IfSome result (λ word. word ≡ record { address = address; mask = mask; value = value }) }
     {
-        let is_inside = match mask {
-            LOW_BYTE => value / 256 == 0,
-            HIGH_BYTE => value % 256 == 0,
-            BOTH_BYTES => true,
-            _ => false,
-        };
-        if address % 2 == 0 && address < TOP && is_inside {
+        if address % 2 == 0 && address < TOP && is_inside(mask, value) {
             Some(Word {
                 address,
                 mask,
@@ -65,8 +73,8 @@ impl Word {
         let (mask, value) = match (low, high) {
             (None, None) => return None,
             (Some(low), None) => (LOW_BYTE, u16::from(low)),
-            (None, Some(high)) => (HIGH_BYTE, 256 * u16::from(high)),
-            (Some(low), Some(high)) => (BOTH_BYTES, u16::from(low) + 256 * u16::from(high)),
+            (None, Some(high)) => (HIGH_BYTE, BYTE * u16::from(high)),
+            (Some(low), Some(high)) => (BOTH_BYTES, u16::from(low) + BYTE * u16::from(high)),
         };
         Some(Word {
             address,
@@ -75,6 +83,7 @@ impl Word {
         })
     }
 
+    /// The address of the word, and of its low byte: even, and below 160000 (octal).
     pub fn address(self) -> u16
         ensures value { result ≡ self.address }
         ensures sound { IsWord self }
@@ -82,6 +91,7 @@ impl Word {
         self.address
     }
 
+    /// The mask: 000377, 177400 or 177777 (octal).
     pub fn mask(self) -> u16
         ensures value { result ≡ self.mask }
         ensures sound { IsWord self }
@@ -89,6 +99,7 @@ impl Word {
         self.mask
     }
 
+    /// The bits under the mask, and 0 outside it.
     pub fn value(self) -> u16
         ensures value { result ≡ self.value }
         ensures sound { IsWord self }
@@ -97,26 +108,45 @@ impl Word {
     }
 }
 
-pub fn merge(w: Word, old: u16) -> u16
-    ensures { result ≡ merged w old }
+/// Whether the mask is one of the three, and the value has no bit outside it.
+fn is_inside(mask: u16, value: u16) -> bool
+    ensures { IsTrue result ↔ IsInside mask value }
 {
-    let low = if w.mask % 256 == 255 {
-        w.value % 256
-    } else {
-        old % 256
-    };
-    let high = if w.mask / 256 == 255 {
-        w.value / 256
-    } else {
-        old / 256
-    };
-    low + 256 * high
+    match mask {
+        LOW_BYTE => value / BYTE == 0,
+        HIGH_BYTE => value % BYTE == 0,
+        BOTH_BYTES => true,
+        _ => false,
+    }
 }
 
-pub fn stands(w: Word, now: u16) -> bool
-    ensures { IsTrue result ↔ Stands w now }
+/// The word of memory after `word` is laid over `old`: the value's bits inside the mask, and the old
+/// ones outside.
+pub fn merge(word: Word, old: u16) -> u16
+    ensures value { result ≡ merged word old }
+    ensures halves { (b : ℕ) → half b result ≡ merged_half b word old }
+    ensures stands { Stands word result }
+    ensures unchanged { Stands word old → result ≡ old }
 {
-    let low = w.mask % 256 != 255 || now % 256 == w.value % 256;
-    let high = w.mask / 256 != 255 || now / 256 == w.value / 256;
+    let low = if word.mask == HIGH_BYTE {
+        old
+    } else {
+        word.value
+    };
+    let high = if word.mask == LOW_BYTE {
+        old
+    } else {
+        word.value
+    };
+    low % BYTE + BYTE * (high / BYTE)
+}
+
+/// Whether a word of memory has the value's bits inside the mask, whatever it has outside.
+pub fn stands(word: Word, now: u16) -> bool
+    ensures stands { IsTrue result ↔ Stands word now }
+    ensures merged { IsTrue result ↔ (merged word now ≡ now) }
+{
+    let low = word.mask == HIGH_BYTE || now % BYTE == word.value % BYTE;
+    let high = word.mask == LOW_BYTE || now / BYTE == word.value / BYTE;
     low && high
 }

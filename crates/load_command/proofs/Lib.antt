@@ -1,1 +1,2 @@
 pub mod TapeInput
+pub mod TapeSize

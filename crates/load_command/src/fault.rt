@@ -1,7 +1,7 @@
 use crate::input::InputFault;
 use crate::output::WriteFailed;
 use std::alloc::AllocError;
-use tape_blocks::Fault;
+use tape_blocks::{Fault, Memory};
 
 /// Why a command did not do what it was asked.
 #[derive(Clone, Copy, Debug, PartialEq, Eq)]
@@ -43,5 +43,16 @@ impl From<WriteFailed> for CommandFault {
 
     fn from(_failed: WriteFailed) -> CommandFault {
         CommandFault::Write
+    }
+}
+
+impl From<Memory> for CommandFault {
+    ghost use Rattle.std.specs.Prelude.{◌≡◌};
+    ghost use Rattle.load_command.specs.declared.fault.CommandFault.TheVariants.{Memory};
+
+    ghost from_gives = { λ _ fault. fault ≡ Memory };
+
+    fn from(_refused: Memory) -> CommandFault {
+        CommandFault::Memory
     }
 }

@@ -1,6 +1,7 @@
 //! The program `ldaodt`.
 #![tactic(auto)]
 
+mod check;
 mod fault;
 mod input;
 mod output;

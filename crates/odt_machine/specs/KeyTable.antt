@@ -34,11 +34,12 @@ row s memory Prompt Digit c = record { mode = Number (digit_value c) 1; memory =
 row s memory Prompt Return c = record { mode = Prompt; memory = memory; answer = prompt_text s }
 -- at the prompt any other key is illegal (choice)
 row s memory Prompt _ c = illegal s memory c
--- a further digit is pushed from the right, modulo 65536 (handbook), and counted
+-- a further digit is pushed in at the right (handbook); what passes sixteen bits falls off, and
+-- the count stays at 7 (choice)
 row s memory (Number v n) Digit c = record { mode = Number (pushed v c) (digits_after n); memory = memory; answer = c ∷ [] }
 -- `/` opens the word at the address typed (handbook); where no word lies there: `?` (choice)
 row s memory (Number v n) Slash c = if is_word memory v then record { mode = Opened v; memory = memory; answer = c ∷ word_text s (word_at memory v) } else record { mode = Prompt; memory = memory; answer = refused_text s c }
--- `G` starts the program at the address typed (handbook); at an odd one: `?` (choice)
+-- `G` starts the program at the address typed (handbook); at an odd address: `?` (choice)
 row s memory (Number v n) Go c = if v % 2 == 0 then record { mode = Running v; memory = memory; answer = c ∷ [] } else record { mode = Prompt; memory = memory; answer = refused_text s c }
 -- a return forgets the number (choice)
 row s memory (Number v n) Return c = record { mode = Prompt; memory = memory; answer = prompt_text s }
@@ -50,7 +51,8 @@ row s memory (Opened a) Digit c = record { mode = Typing a (digit_value c) 1; me
 row s memory (Opened a) Return c = record { mode = Prompt; memory = memory; answer = prompt_text s }
 -- in an open word any other key is illegal (choice)
 row s memory (Opened a) _ c = illegal s memory c
--- a further digit of the new value is pushed from the right, modulo 65536 (handbook), and counted
+-- a further digit of the new value is pushed in at the right (handbook); what passes sixteen bits
+-- falls off, and the count stays at 7 (choice)
 row s memory (Typing a v n) Digit c = record { mode = Typing a (pushed v c) (digits_after n); memory = memory; answer = c ∷ [] }
 -- a return stores the value in the open word and closes it (handbook)
 row s memory (Typing a v n) Return c = record { mode = Prompt; memory = stored memory a v; answer = prompt_text s }

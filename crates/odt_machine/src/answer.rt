@@ -7,7 +7,8 @@ use crate::style::Style;
 use arrayvec::ArrayVec;
 use octal::oct6;
 
-/// What the console prints for one key: at most nine characters.
+/// What the console prints for one key. It has room for ten characters; the longest answer, an
+/// opened word with a space before its digits, has nine.
 pub type Answer = ArrayVec<u8, 10>;
 
 /// Nothing, as a running machine answers.
@@ -70,6 +71,7 @@ pub(crate) fn opened(style: Style, key: u8, word: u16) -> Answer
     answer
 }
 
+// Adds the six octal digits of a word.
 fn push_digits(answer: &mut Answer, word: u16)
     requires { length answer.old.items ≤ 4 }
     ensures { answer.new.items ≡ answer.old.items ++ octal_text word }
@@ -79,6 +81,7 @@ fn push_digits(answer: &mut Answer, word: u16)
     }
 }
 
+// Adds the end of the line and the prompt.
 fn push_prompt(answer: &mut Answer, style: Style)
     requires { length answer.old.items ≤ 6 }
     ensures { answer.new.items ≡ answer.old.items ++ prompt_text style }

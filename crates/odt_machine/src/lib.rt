@@ -26,3 +26,6 @@ pub use key::Key;
 pub use machine::{LARGEST_WORDS, Odt, OdtError};
 pub use mode::Mode;
 pub use style::Style;
+
+#[cfg(test)]
+mod tests;

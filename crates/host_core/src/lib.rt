@@ -1,2 +1,24 @@
-//! host_core
+//! What the host decides: which character to type next, by values alone.
+//!
+//! `HostCore` loads a plan of words through a console: it types each word's address, reads the word,
+//! mends it where it differs, and reads it back before it counts as verified; then it types the
+//! start. It is told what was heard, a character or that nothing came, and answers the character
+//! to send. There is no line, no clock and no memory here: the crate `line_world` has those.
+//!
+//! The contract of `step` is the phase table. Above it stand the laws: no life sends more than the
+//! character bound, nothing is sent once the mark is set, and `G` is sent only after the whole
+//! start address with every word verified.
 #![tactic(auto)]
+
+mod console;
+mod heard;
+mod host;
+mod phase;
+mod progress;
+mod table;
+mod turn;
+
+pub use heard::Heard;
+pub use host::HostCore;
+pub use phase::{End, Phase, Reason, Visit};
+pub use progress::{BadProgress, Progress};

@@ -1,0 +1,16 @@
+use Rattle.std.proofs.Common.{sym, ◌∙◌, subst}
+use Rattle.host_core.specs.Host.{IsHost}
+use Rattle.host_core.proofs.Turns.{begun_kept, accepted}
+use Rattle.host_core.proofs.host.HostCore.new.Goals as goal
+
+pub invariant_of-result : goal.invariant_of-result
+invariant_of-result c =
+    let fine = accepted c.args.plan c.args.progress.verified c.args.progress.going (sym c.refusal.ensures.refusal ∙ c.in_default.is) in
+    subst IsHost (sym (c.begun-life.ensures c.args.patience))
+    (begun_kept c.args.plan c.args.progress.verified c.args.progress.going c.args.patience c.refusal.ensures.plan fine.0 c.ranges.patience.fits fine.1)
+
+pub returns-clause-begun : goal.returns-clause-begun
+returns-clause-begun c = c.begun-life.ensures c.args.patience
+
+pub returns-clause-kept : goal.returns-clause-kept
+returns-clause-kept c = invariant_of-result c

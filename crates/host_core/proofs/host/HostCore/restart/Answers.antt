@@ -1,0 +1,17 @@
+use Rattle.std.proofs.Common.{◌≡◌, subst}
+use Rattle.host_core.specs.Core.{Core, restarted}
+use Rattle.host_core.specs.Life.{core_of}
+use Rattle.host_core.proofs.Turns.{restart_kept}
+use Rattle.host_core.proofs.host.HostCore.restart.Goals as goal
+
+pub returns-clause-begun : goal.returns-clause-begun
+returns-clause-begun c =
+    let P : Core → Type 0 = λ core. core_of c.self.inside.plan c.self.inside.patience c.begun-self-inside.result ≡ restarted core c.args.kept in
+    subst P c.self.view_is (rw c.min-verified.ensures at (c.begun-self-inside.ensures c.self.inside.patience))
+
+pub invariant_of-self : goal.invariant_of-self
+invariant_of-self c =
+    rw c.begun-self-inside.ensures (rw c.min-verified.ensures (restart_kept _ c.args.kept c.self.invariant))
+
+pub returns-clause-kept : goal.returns-clause-kept
+returns-clause-kept c = invariant_of-self c

@@ -1,0 +1,41 @@
+-- What holds of a host over everything that it may ever hear.
+use Rattle.std.specs.Prelude.{◌≡◌, ℕ, ◌+◌, ◌≤◌, List, [], ◌∷◌, ◌++◌, length, Option, Some, None, Contains}
+use Rattle.octal.specs.Octal.{octal_text}
+use Rattle.host_core.specs.declared.heard.Heard.{Heard}
+use Rattle.host_core.specs.Console.{go}
+use Rattle.host_core.specs.Core.{Core, start_of}
+use Rattle.host_core.specs.Bound.{character_bound}
+use Rattle.host_core.specs.PhaseTable.{move}
+
+-- the core that a list of heard things makes
+abbrev pub led : Core → List Heard → Core
+led core [] = core
+led core (heard ∷ more) = led (move core heard).next more
+
+-- the character that is sent, if any
+abbrev pub keys : Option ℕ → List ℕ
+keys None = []
+keys (Some key) = key ∷ []
+
+-- what a core sends over a list of heard things
+abbrev pub replay : Core → List Heard → List ℕ
+replay core [] = []
+replay core (heard ∷ more) = keys (move core heard).key ++ replay (move core heard).next more
+
+-- whatever is heard, no more characters are sent than the bound, those of this life before included
+abbrev pub KeepsBound : Core → Type 0
+KeepsBound core = (heard : List Heard) → core.sent + length (replay core heard) ≤ character_bound (length core.plan.words) core.patience
+
+-- with the mark set nothing is sent, whatever is heard
+abbrev pub IsSilent : Core → Type 0
+IsSilent core = (heard : List Heard) → replay core heard ≡ []
+
+-- the keys end with the whole start address and `G`
+abbrev pub EndsWithStart : ℕ → List ℕ → Type 0
+EndsWithStart start typed = (before : List ℕ) × (typed ≡ before ++ octal_text start ++ go ∷ [])
+
+-- whatever is heard, `G` is sent only right after the six digits of the start address, with every word verified, and is the last key
+abbrev pub StartsOnlyWhole : Core → Type 0
+StartsOnlyWhole core =
+    (heard : List Heard) → Contains (replay core heard) go →
+    EndsWithStart (start_of core) (replay core heard) × ((led core heard).verified ≡ length core.plan.words)

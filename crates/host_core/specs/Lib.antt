@@ -1,0 +1,9 @@
+pub mod Bound
+pub mod Console
+pub mod Core
+pub mod Host
+pub mod Laws
+pub mod Life
+pub mod Opening
+pub mod PhaseTable
+pub mod Steps

@@ -1,0 +1,23 @@
+// The characters of the console that are no digits.
+
+/// Makes the console forget what was typed: no command of the console uses it.
+pub const RESYNC: u8 = b'Z';
+
+/// The console can't do what was typed.
+pub const QUESTION: u8 = b'?';
+
+/// Closes the open word.
+pub const CARRIAGE_RETURN: u8 = b'\r';
+
+pub const LINE_FEED: u8 = b'\n';
+
+/// The console waits for a command.
+pub const PROMPT: u8 = b'@';
+
+/// Opens the word at the address before it.
+pub const SLASH: u8 = b'/';
+
+pub const SPACE: u8 = b' ';
+
+/// Starts the program at the address before it.
+pub const GO: u8 = b'G';

@@ -1,0 +1,82 @@
+/// Why the word under way is opened.
+#[derive(Clone, Copy, Debug, PartialEq, Eq)]
+pub enum Visit {
+    /// To see what memory holds before anything is stored.
+    Look,
+
+    /// To see that the deposit reached memory.
+    Check,
+}
+
+/// Why a CR was typed.
+#[derive(Clone, Copy, Debug, PartialEq, Eq)]
+pub enum Reason {
+    /// It stores the digits before it.
+    Store,
+
+    /// It closes a word that stands already.
+    Close,
+}
+
+/// How a life ended.
+#[derive(Clone, Copy, Debug, PartialEq, Eq)]
+pub enum End {
+    /// Every word is verified and the tape has no start.
+    Loaded,
+
+    /// The echo of `G` was heard.
+    Started,
+
+    /// `G` was sent and its echo did not come.
+    Uncertain,
+
+    /// The life began with the mark set: an earlier life sent `G`.
+    MaybeStarted,
+
+    /// More mishaps than the patience.
+    GaveUp,
+
+    /// No memory answers at this address.
+    NoWord(u16),
+
+    /// The word at this address was stored and reads back otherwise.
+    WontHold(u16),
+}
+
+/// What the host waits for. Places count the digits of a number from 1; in `Value` and in the
+/// answers to `Z` and CR they count from 0.
+#[derive(Clone, Copy, Debug, PartialEq, Eq)]
+pub enum Phase {
+    /// The line becomes quiet.
+    Settle,
+
+    /// The answer to `Z`, from place 0 to 5.
+    Sync(u8),
+
+    /// The echo of a digit of the word's address, place 1 to 6.
+    Address(Visit, u8),
+
+    /// The echo of `/`.
+    Slash(Visit),
+
+    /// The beginning of the reading.
+    Before(Visit),
+
+    /// The rest of the reading: the number so far, and how many of its digits came, 0 to 6.
+    Value(Visit, u16, u8),
+
+    /// The echo of a digit of the number that is stored, place 1 to 6.
+    Deposit(u16, u8),
+
+    /// The answer to CR, from place 0 to 3.
+    Return(Reason, u8),
+
+    /// The echo of a digit of the start address, place 1 to 6.
+    Start(u8),
+
+    /// The echo of `G`.
+    Go,
+
+    /// Nothing more: the life is over.
+    Ended(End),
+}

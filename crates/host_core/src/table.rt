@@ -1,0 +1,169 @@
+ghost use Rattle.std.specs.Prelude.{◌≡◌, ℕ, ◌<◌, ◌≤◌};
+ghost use Rattle.octal.specs.Octal.{digit_of};
+ghost use Rattle.host_core.specs.PhaseTable.{sync_hears, address_hears, slash_hears, first_digit_hears, before_hears, read, value_hears, deposit_hears, return_hears, start_hears, go_hears, waits};
+ghost use Rattle.host_core.specs.Host.{IsPlace, value_room};
+
+use crate::console::{CARRIAGE_RETURN, GO, LINE_FEED, PROMPT, QUESTION, RESYNC, SLASH, SPACE};
+use crate::phase::{End, Phase, Reason, Visit};
+use crate::turn::Turn;
+use octal::oct6;
+use tape_image::{Word, merge};
+
+/// How many octal digits the host types of every number.
+const DIGITS: u8 = 6;
+
+pub fn sync(place: u8, c: u8) -> Turn
+    ensures { result ≡ sync_hears place c }
+{
+    match (place, c) {
+        (0, RESYNC) => Turn::Listen(Phase::Sync(1)),
+        (0 | 1, QUESTION) => Turn::Listen(Phase::Sync(2)),
+        (2, CARRIAGE_RETURN) => Turn::Listen(Phase::Sync(3)),
+        (3, CARRIAGE_RETURN) => Turn::Listen(Phase::Sync(4)),
+        (3 | 4, LINE_FEED) => Turn::Listen(Phase::Sync(5)),
+        (5.., PROMPT) => Turn::Next,
+        _ => Turn::Stray,
+    }
+}
+
+pub fn address(address: u16, visit: Visit, place: u8, c: u8) -> Turn
+    requires { IsPlace place }
+    ensures { result ≡ address_hears address visit place c }
+{
+    if c != digit(address, place) {
+        Turn::Stray
+    } else if place < DIGITS {
+        Turn::Key(digit(address, place + 1), Phase::Address(visit, place + 1))
+    } else {
+        Turn::Key(SLASH, Phase::Slash(visit))
+    }
+}
+
+pub fn slash(visit: Visit, c: u8) -> Turn
+    ensures { result ≡ slash_hears visit c }
+{
+    match c {
+        SLASH => Turn::Listen(Phase::Before(visit)),
+        _ => Turn::Stray,
+    }
+}
+
+pub fn before(address: u16, visit: Visit, c: u8) -> Turn
+    ensures { result ≡ before_hears address visit c }
+{
+    match c {
+        SPACE => Turn::Listen(Phase::Value(visit, 0, 0)),
+        QUESTION => Turn::Stop(End::NoWord(address)),
+        _ => first_digit(visit, c),
+    }
+}
+
+// A word's first octal digit is 0 or 1.
+fn first_digit(visit: Visit, c: u8) -> Turn
+    ensures { result ≡ first_digit_hears visit c }
+{
+    match c {
+        b'0' | b'1' => Turn::Listen(Phase::Value(visit, u16::from(c - b'0'), 1)),
+        _ => Turn::Stray,
+    }
+}
+
+pub fn value(word: Word, visit: Visit, value: u16, place: u8, c: u8) -> Turn
+    requires { value < value_room place }
+    ensures { result ≡ value_hears word visit value place c }
+{
+    match (place, c) {
+        (0, _) => first_digit(visit, c),
+        (1..=5, b'0'..=b'7') => Turn::Listen(Phase::Value(
+            visit,
+            8 * value + u16::from(c - b'0'),
+            place + 1,
+        )),
+        (6.., SPACE) => whole_reading(word, visit, value),
+        _ => Turn::Stray,
+    }
+}
+
+// Six digits came, so nothing of the reading was lost.
+fn whole_reading(word: Word, visit: Visit, value: u16) -> Turn
+    ensures { result ≡ read word visit value }
+{
+    let stored = merge(word, value);
+    if stored == value {
+        return Turn::Verified;
+    }
+    match visit {
+        Visit::Look => Turn::Key(digit(stored, 1), Phase::Deposit(stored, 1)),
+        Visit::Check => Turn::Stop(End::WontHold(word.address())),
+    }
+}
+
+pub fn deposit(value: u16, place: u8, c: u8) -> Turn
+    requires { IsPlace place }
+    ensures { result ≡ deposit_hears value place c }
+{
+    if c != digit(value, place) {
+        Turn::Stray
+    } else if place < DIGITS {
+        Turn::Key(digit(value, place + 1), Phase::Deposit(value, place + 1))
+    } else {
+        Turn::Key(CARRIAGE_RETURN, Phase::Return(Reason::Store, 0))
+    }
+}
+
+pub fn after_return(reason: Reason, place: u8, c: u8) -> Turn
+    ensures { result ≡ return_hears reason place c }
+{
+    match (place, c) {
+        (0, CARRIAGE_RETURN) => Turn::Listen(Phase::Return(reason, 1)),
+        (1, CARRIAGE_RETURN) => Turn::Listen(Phase::Return(reason, 2)),
+        (1 | 2, LINE_FEED) => Turn::Listen(Phase::Return(reason, 3)),
+        (3.., PROMPT) => match reason {
+            Reason::Store => Turn::ReadBack,
+            Reason::Close => Turn::Next,
+        },
+        _ => Turn::Stray,
+    }
+}
+
+pub fn start(start: u16, place: u8, c: u8) -> Turn
+    requires { IsPlace place }
+    ensures { result ≡ start_hears start place c }
+{
+    if c != digit(start, place) {
+        Turn::Stray
+    } else if place < DIGITS {
+        Turn::Key(digit(start, place + 1), Phase::Start(place + 1))
+    } else {
+        Turn::Mark
+    }
+}
+
+pub fn go(c: u8) -> Turn
+    ensures { result ≡ go_hears c }
+{
+    match c {
+        GO => Turn::Stop(End::Started),
+        _ => Turn::Stop(End::Uncertain),
+    }
+}
+
+/// Nothing came for the quiet time.
+pub fn quiet(phase: Phase) -> Turn
+    ensures { result ≡ waits phase }
+{
+    match phase {
+        Phase::Settle => Turn::Key(RESYNC, Phase::Sync(0)),
+        Phase::Go => Turn::Stop(End::Uncertain),
+        Phase::Ended(_) => Turn::Listen(phase),
+        _ => Turn::Timeout,
+    }
+}
+
+// The digit of `number` at a place from 1 to 6, as a character.
+pub fn digit(number: u16, place: u8) -> u8
+    requires { IsPlace place }
+    ensures { result ≡ digit_of number place }
+{
+    oct6(number)[usize::from(place - 1)]
+}

@@ -10,11 +10,14 @@ use std::alloc::Global;
 use std::marker::Model;
 use tape_blocks::{Block, Memory, Tape};
 
-/// The words below 160000.
+/// How many words lie below 160000 (octal), and so the most that a plan has.
 const WORDS: u16 = 0o70000;
 
-/// The plan of a tape.
-#[derive(Drop)]
+/// What a host types to load a tape: the words of the tape's image, and the program's start.
+///
+/// Contracts see the image as a finite map from addresses to bytes, the list of the words and the
+/// start, and no block. Inside, a plan keeps a copy of the blocks and answers by asking them.
+#[derive(Debug, Drop)]
 pub struct Plan {
     blocks: Vec<Block>,
     words: Vec<Word>,
@@ -31,10 +34,14 @@ impl Model for Plan {
 
     ghost view = { λ p. record { image = image_of p.blocks.items; words = p.words.items; start = p.start } };
 
-    ghost invariant = { λ p. IsPlan (record { image = image_of p.blocks.items; words = p.words.items; start = p.start }) × IsImageOf p.blocks.items (image_of p.blocks.items) };
+    ghost invariant = { λ p.
+        IsPlan (record { image = image_of p.blocks.items; words = p.words.items; start = p.start })
+        × IsImageOf p.blocks.items (image_of p.blocks.items) };
 }
 
 impl Plan {
+    /// The plan of the tape. The one error is want of memory, for the copy of the blocks or for the
+    /// words. Each even address below 160000 (octal) is asked once of the blocks.
     pub fn of(alloc: Global, tape: &Tape) -> Result<Plan, Memory>
         ensures plan { IfOk result (λ plan. plan ≡ plan_of tape.now) }
         ensures bytes { IfOk result (λ plan. IsImageOf tape.now.blocks plan.image) }
@@ -49,6 +56,8 @@ impl Plan {
         })
     }
 
+    /// The words, one for each even address with a byte of the image at it or after it, addresses
+    /// rising; at most 28,672. Merged into a memory in any order they lay the image over it.
     pub fn words(&self) -> &[Word]
         ensures value { result.now ≡ self.now.words }
         ensures overlay { MakesOverlay self.now.image self.now.words }
@@ -57,6 +66,8 @@ impl Plan {
         self.words.as_slice()
     }
 
+    /// The even address where the program begins. None where the tape's start address is odd, which
+    /// means: do not start.
     pub fn start(&self) -> Option<u16>
         ensures value { result ≡ self.now.start }
         ensures sound { IsPlan self.now }
@@ -64,6 +75,7 @@ impl Plan {
         self.start
     }
 
+    /// The image's byte at the address, if it has one there.
     pub fn byte_at(&self, address: u16) -> Option<u8>
         ensures value { result ≡ get self.now.image address }
         ensures sound { IsPlan self.now }
@@ -112,28 +124,26 @@ fn program_start(start: u16) -> Option<u16>
     (start % 2 == 0).then_some(start)
 }
 
-/// The byte for the address in the last of the blocks that covers it.
+/// The byte for the address in the last of the blocks that covers it: a later block replaces an
+/// earlier one.
 fn last_byte_at(blocks: &[Block], address: u16) -> Option<u8>
     ensures { result ≡ byte_at blocks.now address }
 {
     for place in (0..blocks.len()).rev() {
-        if let Some(byte) = byte_of_block(&blocks[place], address) {
+        if let Some(byte) = byte_in(&blocks[place], address) {
             return Some(byte);
         }
     }
     None
 }
 
-/// The byte of the block for the address.
-fn byte_of_block(block: &Block, address: u16) -> Option<u8>
+/// The byte that the block has for the address.
+fn byte_in(block: &Block, address: u16) -> Option<u8>
     ensures { result ≡ byte_in block.now address }
 {
-    if block.address <= address {
-        block
-            .bytes
-            .get(usize::from(address - block.address))
-            .copied()
-    } else {
-        None
-    }
+    let offset = usize::from(address.checked_sub(block.address)?);
+    block.bytes.get(offset).copied()
 }
+
+#[cfg(test)]
+mod tests;

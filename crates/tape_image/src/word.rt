@@ -150,3 +150,96 @@ pub fn stands(word: Word, now: u16) -> bool
     let high = word.mask == LOW_BYTE || now / BYTE == word.value / BYTE;
     low && high
 }
+
+#[cfg(test)]
+mod tests {
+    use super::*;
+
+    #[test]
+    fn words_and_none(rt: HostRuntime) {
+        for (address, mask, value, is_word, reason) in [
+            (0o1000, 0o377, 0o104, true, "a low byte"),
+            (
+                0o157776,
+                0o177400,
+                0o52400,
+                true,
+                "a high byte, in the last word",
+            ),
+            (0, 0o177777, 0o177777, true, "both bytes, in the first word"),
+            (0o1001, 0o177777, 0, false, "an odd address"),
+            (0o1000, 0o7777, 0, false, "a mask that cuts a byte"),
+            (0o1000, 0, 0, false, "a mask with no byte"),
+            (0o1000, 0o377, 0o400, false, "a bit above the mask"),
+            (0o1000, 0o177400, 1, false, "a bit below the mask"),
+            (0o160000, 0o177777, 0, false, "the I/O page"),
+        ] {
+            let word = Word::new(address, mask, value);
+            let parts = word.map(|word| (word.address(), word.mask(), word.value()));
+            let wanted = is_word.then_some((address, mask, value));
+            assert_eq!(rt; parts, wanted, "{reason}");
+        }
+    }
+
+    #[test]
+    fn merged_and_standing(rt: HostRuntime) {
+        for (mask, value, old, new, stood, reason) in [
+            (
+                0o377,
+                0o104,
+                0o123456,
+                0o123504,
+                false,
+                "the high byte stays",
+            ),
+            (
+                0o377,
+                0o104,
+                0o123504,
+                0o123504,
+                true,
+                "it stands, whatever the high byte",
+            ),
+            (
+                0o177400,
+                0o52400,
+                0o125252,
+                0o52652,
+                false,
+                "the low byte stays",
+            ),
+            (
+                0o177400,
+                0o52400,
+                0o52652,
+                0o52652,
+                true,
+                "it stands, whatever the low byte",
+            ),
+            (0o177777, 0o11064, 0o177777, 0o11064, false, "no byte stays"),
+            (
+                0o177777,
+                0o11064,
+                0o11064,
+                0o11064,
+                true,
+                "the whole word stands",
+            ),
+            (
+                0o177777,
+                0o11064,
+                0o11065,
+                0o11064,
+                false,
+                "one bit differs",
+            ),
+        ] {
+            let Some(word) = Word::new(0o1000, mask, value) else {
+                panic!(rt; "{reason}");
+            };
+            assert_eq!(rt; merge(word, old), new, "{reason}");
+            assert_eq!(rt; stands(word, old), stood, "{reason}");
+            assert!(rt; stands(word, merge(word, old)), "{reason}");
+        }
+    }
+}

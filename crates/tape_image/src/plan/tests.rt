@@ -1,0 +1,168 @@
+use super::*;
+use std::process::Abort;
+use std::test::Fail;
+
+/// The end of memory, 160000 octal.
+const TOP: u16 = 0o160000;
+
+/// A tape of these blocks, each an address and its bytes, and this start address.
+fn tape(alloc: Global, blocks: &[(u16, &[u8])], start: u16) -> Result<Tape, Fail> {
+    let mut made = Vec::new(alloc);
+    for &(address, bytes) in blocks {
+        made.push(Block {
+            address,
+            bytes: Vec::from_slice(alloc, bytes)?,
+        })?;
+    }
+    Ok(Tape::new(made, start)?)
+}
+
+/// The byte that the full image has at the address: neighbours differ, and so do pages.
+fn full_byte(address: u16) -> u8 {
+    (address % 251) as u8
+}
+
+/// The plan of a tape whose one block fills all of memory.
+fn full_plan(alloc: Global) -> Result<Plan, Fail> {
+    let mut bytes = Vec::new(alloc);
+    for address in 0..TOP {
+        bytes.push(full_byte(address))?;
+    }
+    Ok(Plan::of(alloc, &tape(alloc, &[(0, &bytes)], 0)?)?)
+}
+
+/// Asserts that the plan has exactly these words: address, mask and value of each.
+fn assert_words(rt: &impl Abort, plan: &Plan, wanted: &[(u16, u16, u16)], reason: &str) {
+    assert_eq!(rt; plan.words().len(), wanted.len(), "{reason}");
+    for (word, &parts) in plan.words().iter().zip(wanted) {
+        assert_eq!(rt;
+            (word.address(), word.mask(), word.value()),
+            parts,
+            "{reason}"
+        );
+    }
+}
+
+#[test]
+fn words_of_tapes(rt: HostRuntime) -> Result<(), Fail> {
+    let rows: [(&[(u16, &[u8])], &[(u16, u16, u16)], &str); 11] = [
+        (&[], &[], "a tape with no block has no words"),
+        (
+            &[(0o1000, &[0x34, 0x12])],
+            &[(0o1000, 0o177777, 0o011064)],
+            "a whole word, low byte first",
+        ),
+        (
+            &[(0o157777, &[0x55])],
+            &[(0o157776, 0o177400, 0o052400)],
+            "the last byte of memory is the high one of its word",
+        ),
+        (
+            &[(0o1001, &[0x55])],
+            &[(0o1000, 0o177400, 0o052400)],
+            "an odd byte leaves the one before it alone",
+        ),
+        (
+            &[(0, &[0xFF])],
+            &[(0, 0o377, 0o377)],
+            "the first byte of memory",
+        ),
+        (
+            &[(0o1000, &[0, 0])],
+            &[(0o1000, 0o177777, 0)],
+            "bytes 00 are bytes of the image",
+        ),
+        (
+            &[(0o1000, &[0x11, 0x22]), (0o1001, &[0x33, 0x44])],
+            &[(0o1000, 0o177777, 0o031421), (0o1002, 0o377, 0o104)],
+            "where blocks overlap the later byte counts",
+        ),
+        (
+            &[(0o1001, &[0x11, 0x22]), (0o1000, &[0x33])],
+            &[(0o1000, 0o177777, 0o010463), (0o1002, 0o377, 0o42)],
+            "two blocks give the two bytes of one word",
+        ),
+        (
+            &[
+                (0o1000, &[0xAA, 0xBB, 0xCC]),
+                (0o1003, &[0xDD]),
+                (0o1001, &[0x11, 0x22]),
+            ],
+            &[(0o1000, 0o177777, 0o010652), (0o1002, 0o177777, 0o156442)],
+            "a later block crosses into two words that have bytes already",
+        ),
+        (
+            &[(0o1000, &[1]), (0o1005, &[2])],
+            &[(0o1000, 0o377, 1), (0o1004, 0o177400, 0o1000)],
+            "a word between two blocks is none of the plan's",
+        ),
+        (
+            &[(0o2000, &[7, 0]), (0o1000, &[5, 0])],
+            &[(0o1000, 0o177777, 5), (0o2000, 0o177777, 7)],
+            "addresses rise whatever the order of the blocks",
+        ),
+    ];
+    for (blocks, words, reason) in rows {
+        let plan = Plan::of(rt.alloc(), &tape(rt.alloc(), blocks, 1)?)?;
+        assert_words(&rt, &plan, words, reason);
+    }
+    Ok(())
+}
+
+#[test]
+fn starts(rt: HostRuntime) -> Result<(), Fail> {
+    for (start, begins, reason) in [
+        (0o1000, Some(0o1000), "an even start"),
+        (0, Some(0), "address 0 is even"),
+        (0o177776, Some(0o177776), "an even start above memory"),
+        (1, None, "the usual odd start"),
+        (0o1001, None, "an odd start inside the image"),
+    ] {
+        let plan = Plan::of(rt.alloc(), &tape(rt.alloc(), &[(0o1000, &[1, 2])], start)?)?;
+        assert_eq!(rt; plan.start(), begins, "{reason}");
+    }
+    Ok(())
+}
+
+#[test]
+fn full_image(rt: HostRuntime) -> Result<(), Fail> {
+    let plan = full_plan(rt.alloc())?;
+    assert_eq!(rt; plan.words().len(), 28_672);
+    let mut next = 0u16;
+    for word in plan.words() {
+        assert_eq!(rt; word.address(), next);
+        assert_eq!(rt; word.mask(), 0o177777);
+        let [low, high] = word.value().to_le_bytes();
+        assert_eq!(rt; low, full_byte(next));
+        assert_eq!(rt; high, full_byte(next.wrapping_add(1)));
+        next = next.wrapping_add(2);
+    }
+    Ok(())
+}
+
+#[test]
+fn each_address_asked(rt: HostRuntime) -> Result<(), Fail> {
+    let overlap = tape(
+        rt.alloc(),
+        &[(0o1000, &[0x11, 0x22]), (0o1001, &[0x33, 0x44])],
+        0o1000,
+    )?;
+    let plan = Plan::of(rt.alloc(), &overlap)?;
+    let full = full_plan(rt.alloc())?;
+    for address in 0..=u16::MAX {
+        let byte = match address {
+            0o1000 => Some(0x11),
+            0o1001 => Some(0x33),
+            0o1002 => Some(0x44),
+            _ => None,
+        };
+        assert_eq!(rt; plan.byte_at(address), byte, "at {address}");
+        let byte = (address < TOP).then_some(full_byte(address));
+        assert_eq!(rt;
+            full.byte_at(address),
+            byte,
+            "of the full image, at {address}"
+        );
+    }
+    Ok(())
+}

@@ -1,2 +1,4 @@
+pub mod Faults
 pub mod TapeInput
 pub mod TapeSize
+pub mod Typing

@@ -3,3 +3,4 @@ pub mod Output
 pub mod TapeFile
 pub mod CheckText
 pub mod CheckFault
+pub mod Typing

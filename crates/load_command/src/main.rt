@@ -7,6 +7,7 @@ mod input;
 mod output;
 mod tape_file;
 mod text;
+mod type_keys;
 
 use std::process::ExitCode;
 

@@ -1,18 +1,13 @@
-use Rattle.std.proofs.Common.{◌≡◌, ◌∙◌, Result, Ok, Err, IfErr, sym, subst}
-use Rattle.std.specs.Result.{IsErrAnd}
+use Rattle.std.proofs.Common.{◌∙◌, subst}
 use Rattle.load_command.specs.CheckFault.{IsCheckFault}
 use Rattle.load_command.specs.Output.{WritesPrefix}
-use Rattle.load_command.specs.declared.fault.CommandFault.{CommandFault}
 use Rattle.load_command.specs.declared.fault.CommandFault.TheVariants.{Write}
+use Rattle.load_command.proofs.Faults.{fault_is}
 use Rattle.load_command.proofs.check.check_to.Goals as goal
-
-failed : {T : Type 0} (r : Result T CommandFault) (P : CommandFault → Type 0) → IsErrAnd r (λ e. e ≡ Write) → P Write → IfErr r P
-failed (Ok x) P h p = tt
-failed (Err e) P h p = subst P (sym h) p
 
 pub returns-in_err-write_whole-clause-err : goal.returns-in_err-write_whole-clause-err
 returns-in_err-write_whole-clause-err g c =
-    failed c.from_residual-in_err-write_whole.result (IsCheckFault (g.R.Read.remaining c.args.tape.now) (g.W.Write.contents c.args.out.now) (g.W.Write.contents c.write_whole.new.out))
+    fault_is c.from_residual-in_err-write_whole.result Write (IsCheckFault (g.R.Read.remaining c.args.tape.now) (g.W.Write.contents c.args.out.now) (g.W.Write.contents c.write_whole.new.out))
     c.from_residual-in_err-write_whole.ensures.1 (record {
       text = c.in_ok-file.file.text.items;
       tape = c.in_ok-file.file.tape;

@@ -115,6 +115,17 @@ impl fmt::Display for ReadError {
 
 impl Error for ReadError {}
 
+impl From<Fault> for ReadError {
+    ghost use Rattle.std.specs.Prelude.{◌≡◌};
+    ghost use Rattle.tape_blocks.specs.declared.fault.ReadError.TheVariants.{Tape as refused};
+
+    ghost from_gives = { λ fault e. e ≡ refused fault };
+
+    fn from(fault: Fault) -> ReadError {
+        ReadError::Tape(fault)
+    }
+}
+
 impl From<AllocError> for ReadError {
     ghost use Rattle.std.specs.Prelude.{◌≡◌};
     ghost use Rattle.tape_blocks.specs.declared.fault.ReadError.TheVariants.{Memory as out_of_memory};

@@ -16,12 +16,15 @@
 
 mod block;
 mod fault;
+mod head;
+mod law;
 mod reader;
 mod tape;
 mod writer;
 
 pub use block::Block;
 pub use fault::{Fault, Memory, ReadError, Why};
+pub use law::one_tape;
 pub use reader::read_tape;
 pub use tape::{BadTape, TAPE_LIMIT, Tape};
 pub use writer::write_tape;

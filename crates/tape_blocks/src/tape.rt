@@ -11,7 +11,7 @@ use std::marker::Model;
 pub const TAPE_LIMIT: usize = 1_048_576;
 
 /// The bytes of a block besides its data: mark, count, address and checksum.
-const FRAME: usize = 7;
+pub const FRAME: usize = 7;
 
 /// Why a list of blocks makes no tape. Blocks are numbered from 0.
 #[derive(Clone, Copy, Debug, PartialEq, Eq)]
@@ -64,6 +64,14 @@ impl Tape {
             return Err((blocks, BadTape::TooMuch));
         }
         Ok(Tape { blocks, start })
+    }
+
+    /// The tape of blocks and a start address that are known to be one's.
+    pub(crate) fn of_sound(blocks: Vec<Block>, start: u16) -> Tape
+        requires { IsSound (record { blocks = blocks.items; start = start }) }
+        ensures { result ≡ record { blocks = blocks.items; start = start } }
+    {
+        Tape { blocks, start }
     }
 
     /// The blocks in tape order. A byte of a later block replaces an earlier one at its address.

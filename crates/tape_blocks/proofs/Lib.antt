@@ -1,0 +1,6 @@
+mod Faults
+mod Framing
+mod Fronts
+mod Progress
+mod Readings
+mod Tests

@@ -1,0 +1,174 @@
+-- Lawful keys: a phase's own key is lawful, and ODT takes a lawful key without harm.
+use Rattle.std.proofs.Common.{◌≡◌, ◌≢◌, ℕ, zero, suc, ◌+◌, ◌-◌, ◌*◌, ◌%◌, ◌<◌, ◌≤◌, ◌⊎◌, Bool, true, false, cond, eqb, List, [], ◌∷◌, ◌++◌, length, unwrap_or, inl, inr, refl, arith, ap, sym, subst, lit<, lit≤}
+use Rattle.std.specs.Prelude.{if◌then◌else◌}
+use Rattle.std.proofs.lemmas.Bool.Decides.{nat_tests}
+use Rattle.octal.specs.Octal.{is_digit, digit_of, head}
+use Rattle.odt_machine.specs.declared.style.Style.{Style}
+use Rattle.odt_machine.specs.declared.mode.Mode.{Mode}
+use Rattle.odt_machine.specs.declared.mode.Mode.TheVariants.{Prompt, Number, Opened, Typing, Running}
+use Rattle.odt_machine.specs.declared.key.Key.TheVariants.{Digit}
+use Rattle.odt_machine.specs.Key.{key_of}
+use Rattle.odt_machine.specs.Machine.{Machine, IsMachine, ModeFits, is_word, word_at, stored}
+use Rattle.odt_machine.specs.Answer.{prompt_text, word_text, refused_text, illegal_text}
+use Rattle.odt_machine.specs.KeyTable.{Taken, row, take_of}
+use Rattle.host_core.specs.declared.phase.Visit.TheVariants.{Look, Check}
+use Rattle.host_core.specs.declared.phase.Reason.TheVariants.{Store, Close}
+use Rattle.host_core.specs.declared.phase.Phase.{Phase}
+use Rattle.host_core.specs.declared.phase.Phase.TheVariants.{Settle, Sync, Address, Slash, Before, Value, Deposit, Return, Start, Go, Ended}
+use Rattle.host_core.specs.Core.{Core, word_nr, start_of}
+use Rattle.host_core.specs.Host.{IsHost, basis_of, PhaseFits, MarkFits, IsPastMark, IsPlace}
+use Rattle.line_world.specs.Site.{Site, site, wanted, Lies, number_mode, typing_mode}
+use Rattle.line_world.specs.Pending.{Live, Fits, IsStopped, IsOpened}
+use Rattle.line_world.specs.Lawful.{Ground, ground, site_in, TakesDigit, TakesSlash, TakesReturn, LawfulBefore, LawfulKey, Lawful}
+use Rattle.line_world.specs.Invariant.{IsKept, RunsWith}
+use Rattle.line_world.proofs.Digits.{digit_is, at_place}
+use Rattle.line_world.proofs.Frame.{scene, PhaseHolds}
+use Rattle.line_world.proofs.Rows.{row_go, row_resync}
+use Rattle.line_world.proofs.Silence.{past_mark}
+
+unmarked : (going : Bool) → (going ≡ true → ⊥) → going ≡ false
+unmarked true h = absurd (h refl)
+unmarked false h = refl
+
+before_mark : (g : Ground) (c : ℕ) → (g.going ≡ true → ⊥) → LawfulBefore g c → LawfulKey g.going g c
+before_mark g c h lawful = subst (λ b. LawfulKey b g c) (sym (unmarked g.going h)) lawful
+
+digit_of_is : (w k : ℕ) → is_digit (digit_of w k) ≡ true
+digit_of_is w k = digit_is (head w k)
+
+number_takes : (w k : ℕ) → IsPlace k → TakesDigit (number_mode w (k - 1))
+number_takes w = at_place (λ k. TakesDigit (number_mode w (k - 1))) tt (lit< tt) (lit< tt) (lit< tt) (lit< tt) (lit< tt)
+
+typing_takes : (a w k : ℕ) → IsPlace k → TakesDigit (typing_mode a w (k - 1))
+typing_takes a w = at_place (λ k. TakesDigit (typing_mode a w (k - 1))) tt (lit< tt) (lit< tt) (lit< tt) (lit< tt) (lit< tt)
+
+opened_takes : (g : Ground) (mode : Mode) → IsOpened mode → TakesReturn g mode
+opened_takes g Prompt h = absurd h
+opened_takes g (Number v n) h = absurd h
+opened_takes g (Opened a) h = tt
+opened_takes g (Typing a v n) h = absurd h
+opened_takes g (Running p) h = absurd h
+
+typing_lies : (m : Machine) (a v n : ℕ) → IsMachine m → m.mode ≡ Typing a v n → is_word m.memory a ≡ true
+typing_lies m a v n is mode = (subst (ModeFits m.memory) mode is.mode).0
+
+-- the key that a phase waits for is lawful
+pub phase_lawful : (phase : Phase) (m : Machine) (core : Core) (c lost : ℕ) → IsMachine m → PhaseFits phase (basis_of core) → (core.going ≡ true → IsPastMark phase) → PhaseHolds phase m core (c ∷ []) [] lost → LawfulKey core.going (ground (scene m core (c ∷ []) [] lost)) c
+phase_lawful Settle m core c lost machine fits past h = h
+phase_lawful (Ended end) m core c lost machine fits past h = h.0
+phase_lawful (Sync k) m core c lost machine fits past h = before_mark _ c past (inr (inr (inr (h.key.1, h.key.2))))
+phase_lawful (Address visit k) m core c lost machine fits past h =
+    let a = (word_nr core.plan.words core.verified).address in
+    before_mark _ c past (inl (rw h.key.0 (digit_of_is a k), rw h.key.1 (number_takes a k fits.1)))
+phase_lawful (Slash visit) m core c lost machine fits past h =
+    before_mark _ c past (inr (inl (h.key.0, rw h.key.1 (core.verified, fits, refl, refl))))
+phase_lawful (Before visit) m core c lost machine fits past h = absurd h.key
+phase_lawful (Value visit v j) m core c lost machine fits past h = absurd h.key
+phase_lawful (Deposit x k) m core c lost machine fits past h =
+    before_mark _ c past (inl (rw h.key.0 (digit_of_is x k), rw h.key.1 (typing_takes (word_nr core.plan.words core.verified).address x k fits.1)))
+phase_lawful (Return Store k) m core c lost machine fits past h =
+    let lies = typing_lies m _ _ 6 machine h.key.2 in
+    before_mark _ c past (inr (inr (inl (h.key.1, rw h.key.2 (core.verified, fits.0, lies, refl, refl, refl)))))
+phase_lawful (Return Close k) m core c lost machine fits past h = before_mark _ c past (inr (inr (inl (h.key.1, opened_takes (ground (scene m core (c ∷ []) [] lost)) m.mode h.key.2))))
+phase_lawful (Start k) m core c lost machine fits past h =
+    before_mark _ c past (inl (rw h.key.0 (digit_of_is (start_of core) k), rw h.key.1 (number_takes (start_of core) k fits.1)))
+phase_lawful Go m core c lost machine fits past h = subst (λ b. LawfulKey b (ground (scene m core (c ∷ []) [] lost)) c) (sym fits.1) h.key
+
+-- a key under way is lawful, in every world
+pub lawful : (m : Machine) (core : Core) (c : ℕ) (down up : List ℕ) (lost : ℕ) → IsKept (scene m core (c ∷ down) up lost) → LawfulKey core.going (ground (scene m core (c ∷ down) up lost)) c
+lawful m core c [] [] lost k = phase_lawful core.phase m core c lost k.machine k.host.fits (past_mark core k.host.mark) k.phase
+lawful m core c (d ∷ down) up lost k = let none = k.one_way.0 in absurd (cc)
+lawful m core c [] (u ∷ up) lost k = let none = k.one_way.1 in absurd (cc)
+
+-- memory stays, or one word of the plan is merged in place
+abbrev pub Stores : Ground → List ℕ → Type 0
+Stores g memory =
+    (memory ≡ g.machine.memory)
+    ⊎ ((i : ℕ) × (i < length g.plan.words) × Lies (site_in g i) × (memory ≡ stored g.machine.memory (word_nr g.plan.words i).address (wanted (site_in g i))))
+
+-- what a lawful key makes of the machine
+pub record Takes (g : Ground) (taken : Taken) : Type 0 where
+  pub memory : Stores g taken.memory
+  pub running : RunsWith g.going taken.mode
+  pub short : length taken.answer ≤ 9
+
+short_if : (b : Bool) (xs ys : List ℕ) → length xs ≤ 9 → length ys ≤ 9 → length (if b then xs else ys) ≤ 9
+short_if true xs ys f g = f
+short_if false xs ys f g = g
+
+short_prompt : (s : Style) → length (prompt_text s) ≤ 9
+short_prompt s = short_if s.two_returns _ _ (lit≤ tt) (lit≤ tt)
+
+-- an answer with one or two characters before the prompt
+short_more : (two : Bool) (c d : ℕ) → length (c ∷ d ∷ (if two then 13 ∷ 13 ∷ 10 ∷ 64 ∷ [] else 13 ∷ 10 ∷ 64 ∷ [])) ≤ 9
+short_more true c d = lit≤ tt
+short_more false c d = lit≤ tt
+
+short_one : (two : Bool) (c : ℕ) → length (c ∷ (if two then 13 ∷ 13 ∷ 10 ∷ 64 ∷ [] else 13 ∷ 10 ∷ 64 ∷ [])) ≤ 9
+short_one true c = lit≤ tt
+short_one false c = lit≤ tt
+
+short_word : (space : Bool) (s : Style) (c w : ℕ) → s.space_before ≡ space → length (c ∷ word_text s w) ≤ 9
+short_word true s c w e = rw e (lit≤ tt)
+short_word false s c w e = rw e (lit≤ tt)
+
+takes_if : (g : Ground) (b : Bool) (x y : Taken) → Takes g x → Takes g y → Takes g (if b then x else y)
+takes_if g true x y f h = f
+takes_if g false x y f h = h
+
+digit_takes : (g : Ground) (c : ℕ) (mode : Mode) → key_of c ≡ Digit → TakesDigit mode → Takes g (row g.machine.style g.machine.memory mode (key_of c) c)
+digit_takes g c Prompt key takes = rw key (record { memory = inl refl; running = tt; short = lit≤ tt })
+digit_takes g c (Number v n) key takes = rw key (record { memory = inl refl; running = tt; short = lit≤ tt })
+digit_takes g c (Opened a) key takes = rw key (record { memory = inl refl; running = tt; short = lit≤ tt })
+digit_takes g c (Typing a v n) key takes = rw key (record { memory = inl refl; running = tt; short = lit≤ tt })
+digit_takes g c (Running p) key takes = absurd takes
+
+slash_takes : (g : Ground) (mode : Mode) → TakesSlash g mode → Takes g (row g.machine.style g.machine.memory mode (key_of 47) 47)
+slash_takes g Prompt takes = absurd takes
+slash_takes g (Number v n) takes =
+    takes_if g (is_word g.machine.memory v) _ _
+    (record { memory = inl refl; running = tt; short = short_word g.machine.style.space_before g.machine.style 47 (word_at g.machine.memory v) refl })
+    (record { memory = inl refl; running = tt; short = short_more g.machine.style.two_returns 47 63 })
+slash_takes g (Opened a) takes = absurd takes
+slash_takes g (Typing a v n) takes = absurd takes
+slash_takes g (Running p) takes = absurd takes
+
+return_takes : (g : Ground) (mode : Mode) → TakesReturn g mode → Takes g (row g.machine.style g.machine.memory mode (key_of 13) 13)
+return_takes g Prompt takes = absurd takes
+return_takes g (Number v n) takes = absurd takes
+return_takes g (Opened a) takes = record { memory = inl refl; running = tt; short = short_prompt g.machine.style }
+return_takes g (Typing a v n) takes = record {
+  memory = inr (takes.0, takes.1, takes.2, same_store g.machine.memory a _ v _ takes.4 takes.5);
+  running = tt;
+  short = short_prompt g.machine.style;
+}
+  where
+    same_store : (memory : List ℕ) (a b v w : ℕ) → a ≡ b → v ≡ w → stored memory a v ≡ stored memory b w
+    same_store memory a b v w e f = rw (e, f) refl
+return_takes g (Running p) takes = absurd takes
+
+short_illegal : (s : Style) → length (illegal_text s 90) ≤ 9
+short_illegal s = short_if s.echo_illegal _ _ (short_more s.two_returns 90 63) (short_one s.two_returns 63)
+
+resync_takes : (g : Ground) (mode : Mode) → IsStopped mode → Takes g (row g.machine.style g.machine.memory mode (key_of 90) 90)
+resync_takes g mode stopped = rw (row_resync g.machine.style g.machine.memory mode stopped) (record { memory = inl refl; running = tt; short = short_illegal g.machine.style })
+
+go_takes : (g : Ground) (mode : Mode) → unwrap_or g.plan.start 0 % 2 ≡ 0 → g.going ≡ true → mode ≡ number_mode (unwrap_or g.plan.start 0) 6 → Takes g (row g.machine.style g.machine.memory mode (key_of 71) 71)
+go_takes g mode even going is = rw (is, row_go g.machine.style g.machine.memory (unwrap_or g.plan.start 0) 6 even) (record { memory = inl refl; running = going; short = lit≤ tt })
+
+-- ODT takes a lawful key without harm
+takes_before : (g : Ground) (c : ℕ) → LawfulBefore g c → Takes g (take_of g.machine c)
+takes_before g c (inl (digit, takes)) = digit_takes g c g.machine.mode (key_digit c digit) takes
+  where
+    key_digit : (c : ℕ) → is_digit c ≡ true → key_of c ≡ Digit
+    key_digit c e = rw e refl
+takes_before g c (inr (inl (is, takes))) = rw is (slash_takes g g.machine.mode takes)
+takes_before g c (inr (inr (inl (is, takes)))) = rw is (return_takes g g.machine.mode takes)
+takes_before g c (inr (inr (inr (is, takes)))) = rw is (resync_takes g g.machine.mode takes)
+
+takes_by : (going : Bool) (g : Ground) (c : ℕ) → g.going ≡ going → unwrap_or g.plan.start 0 % 2 ≡ 0 → LawfulKey going g c → Takes g (take_of g.machine c)
+takes_by true g c is even h = rw h.0 (go_takes g g.machine.mode even is h.1)
+takes_by false g c is even h = takes_before g c h
+
+pub takes_lawful : (g : Ground) (c : ℕ) → unwrap_or g.plan.start 0 % 2 ≡ 0 → LawfulKey g.going g c → Takes g (take_of g.machine c)
+takes_lawful g c even h = takes_by g.going g c refl even h

@@ -1,0 +1,9 @@
+pub mod Parts
+pub mod Digits
+pub mod Rows
+pub mod Frame
+pub mod Losses
+pub mod Silence
+pub mod Keys
+pub mod Sites
+pub mod Stores

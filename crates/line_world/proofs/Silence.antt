@@ -1,0 +1,76 @@
+-- A timeout keeps the invariant.
+use Rattle.std.proofs.Common.{◌≡◌, ◌≢◌, ℕ, zero, suc, ◌+◌, ◌-◌, ◌*◌, ◌<◌, ◌≤◌, ◌⊎◌, Bool, true, false, cond, eqb, List, [], ◌∷◌, ◌++◌, length, inl, inr, refl, arith, ap, sym, subst}
+use Rattle.std.specs.Prelude.{if◌then◌else◌}
+use Rattle.odt_machine.specs.declared.style.Style.{Style}
+use Rattle.odt_machine.specs.declared.mode.Mode.{Mode}
+use Rattle.odt_machine.specs.declared.mode.Mode.TheVariants.{Prompt, Number, Opened, Typing, Running}
+use Rattle.odt_machine.specs.Machine.{Machine, is_word}
+use Rattle.host_core.specs.declared.phase.Visit.TheVariants.{Look, Check}
+use Rattle.host_core.specs.declared.phase.Reason.TheVariants.{Store, Close}
+use Rattle.host_core.specs.declared.phase.Phase.{Phase}
+use Rattle.host_core.specs.declared.phase.Phase.TheVariants.{Settle, Sync, Address, Slash, Before, Value, Deposit, Return, Start, Go, Ended}
+use Rattle.host_core.specs.declared.turn.Turn.{Turn}
+use Rattle.host_core.specs.declared.turn.Turn.TheVariants.{Listen, Key, Verified, ReadBack, Next, Mark, Stop, Stray, Timeout}
+use Rattle.host_core.specs.declared.heard.Heard.TheVariants.{Quiet}
+use Rattle.host_core.specs.Core.{Core}
+use Rattle.host_core.specs.Host.{IsHost, MarkFits, IsPastMark}
+use Rattle.host_core.specs.PhaseTable.{move, waits}
+use Rattle.line_world.specs.World.{stepped}
+use Rattle.line_world.specs.Site.{Site, site, held, reading, refusal_from, prompt_from, last_digits}
+use Rattle.line_world.specs.Pending.{Live, IsStopped, BrokenIsPaid, rest_of}
+use Rattle.line_world.specs.Invariant.{IsKept, RunsWith}
+use Rattle.line_world.proofs.Frame.{scene, TurnFits, PhaseHolds, kept_turn}
+
+-- something is still to come
+abbrev pub IsFilled : List ℕ → Type 0
+IsFilled [] = ⊥
+IsFilled (c ∷ rest) = Unit {0}
+
+filled_if : (b : Bool) (xs ys : List ℕ) → IsFilled xs → IsFilled ys → IsFilled (if b then xs else ys)
+filled_if true xs ys f g = f
+filled_if false xs ys f g = g
+
+filled_prompt : (two : Bool) (k : ℕ) → IsFilled (prompt_from two k)
+filled_prompt two k = filled_if (eqb k 0) _ _ (filled_if two _ _ tt tt) (filled_if (eqb k 1) _ _ (filled_if two _ _ tt tt) (filled_if (eqb k 2) _ _ tt tt))
+
+filled_refusal : (s : Style) (k : ℕ) → IsFilled (refusal_from s k)
+filled_refusal s k = filled_if (eqb k 0) _ _ (filled_if s.echo_illegal _ _ tt tt) (filled_if (eqb k 1) _ _ tt (filled_prompt s.two_returns (k - 2)))
+
+filled_digits : (w n : ℕ) → IsFilled (last_digits w n)
+filled_digits w zero = tt
+filled_digits w (suc n) = tt
+
+pub filled_reading : (t : Site) → IsFilled (reading t)
+filled_reading t = filled_if (is_word t.memory t.word.address) _ _ (filled_if t.style.space_before _ _ tt (filled_digits (held t) 6)) tt
+
+-- where nothing is under way, a loss was there that no mishap has paid for
+broken : (rest : List ℕ) (spent lost : ℕ) → IsFilled rest → BrokenIsPaid rest [] [] spent lost → spent < lost
+broken [] spent lost filled paid = absurd filled
+broken (c ∷ rest) spent lost filled (inl whole) = absurd (cc)
+broken (c ∷ rest) spent lost filled (inr paid) = paid
+
+pub stopped : (going : Bool) (mode : Mode) → RunsWith going mode → (going ≡ true → ⊥) → IsStopped mode
+stopped going Prompt runs unmarked = tt
+stopped going (Number v n) runs unmarked = tt
+stopped going (Opened a) runs unmarked = tt
+stopped going (Typing a v n) runs unmarked = tt
+stopped going (Running p) runs unmarked = unmarked runs
+
+pub past_mark : (core : Core) → MarkFits core.going core.plan.start core.phase → core.going ≡ true → IsPastMark core.phase
+past_mark core mark going = (subst (λ b. MarkFits b core.plan.start core.phase) going mark).1
+
+fits_silence : (m : Machine) (core : Core) (lost : ℕ) (phase : Phase) → PhaseHolds phase m core [] [] lost → RunsWith core.going m.mode → (core.going ≡ true → IsPastMark phase) → TurnFits m core [] lost (waits phase)
+fits_silence m core lost Settle h runs past = (refl, record { key = (refl, refl, stopped core.going m.mode runs past); rest = tt; paid = tt; facts = tt })
+fits_silence m core lost (Sync k) h runs past = (refl, broken _ core.spent lost (filled_refusal m.style k) h.paid, stopped core.going m.mode runs past)
+fits_silence m core lost (Address visit k) h runs past = (refl, broken _ core.spent lost tt h.paid, stopped core.going m.mode runs past)
+fits_silence m core lost (Slash visit) h runs past = (refl, broken _ core.spent lost tt h.paid, stopped core.going m.mode runs past)
+fits_silence m core lost (Before visit) h runs past = (refl, broken _ core.spent lost (filled_reading (site (scene m core [] [] lost))) h.paid, stopped core.going m.mode runs past)
+fits_silence m core lost (Value visit v j) h runs past = (refl, broken _ core.spent lost (filled_digits _ (6 - j)) h.paid, stopped core.going m.mode runs past)
+fits_silence m core lost (Deposit x k) h runs past = (refl, broken _ core.spent lost tt h.paid, stopped core.going m.mode runs past)
+fits_silence m core lost (Return why k) h runs past = (refl, broken _ core.spent lost (filled_prompt m.style.two_returns k) h.paid, stopped core.going m.mode runs past)
+fits_silence m core lost (Start k) h runs past = (refl, broken _ core.spent lost tt h.paid, stopped core.going m.mode runs past)
+fits_silence m core lost Go h runs past = broken _ core.spent lost tt h.paid
+fits_silence m core lost (Ended end) h runs past = h
+
+pub kept_silence : (m : Machine) (core : Core) (lost : ℕ) → IsHost (move core Quiet).next → IsKept (scene m core [] [] lost) → IsKept (stepped (scene m core [] [] lost) [] (move core Quiet))
+kept_silence m core lost host k = kept_turn m core [] [] lost (waits core.phase) k (omega arith) host (fits_silence m core lost core.phase k.phase k.running (past_mark core k.host.mark))

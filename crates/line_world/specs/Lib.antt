@@ -1,0 +1,9 @@
+pub mod Scene
+pub mod World
+pub mod Site
+pub mod Pending
+pub mod Lawful
+pub mod Invariant
+pub mod Safe
+pub mod CleanText
+pub mod Promises

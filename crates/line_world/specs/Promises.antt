@@ -1,0 +1,57 @@
+-- What holds of every world, and what the keys typed in some events say of the program's start.
+use Rattle.std.specs.Prelude.{ℕ, ◌≡◌, ◌<◌, ◌≤◌, ◌+◌, ◌*◌, ◌⊎◌, ◌↔◌, Bool, true, false, List, [], ◌∷◌, length, Contains}
+use Rattle.tape_image.specs.Memory.{top_of}
+use Rattle.tape_image.specs.Plan.{PlanValue}
+use Rattle.odt_machine.specs.declared.mode.Mode.{Mode}
+use Rattle.odt_machine.specs.declared.mode.Mode.TheVariants.{Prompt, Number, Opened, Typing, Running}
+use Rattle.odt_machine.specs.Described.{IsDescribed}
+use Rattle.host_core.specs.declared.phase.End.{End}
+use Rattle.host_core.specs.declared.phase.End.TheVariants.{Loaded, Started, Uncertain, MaybeStarted, GaveUp, NoWord, WontHold}
+use Rattle.host_core.specs.declared.phase.Phase.{Phase}
+use Rattle.host_core.specs.declared.phase.Phase.TheVariants.{Settle, Sync, Address, Slash, Before, Value, Deposit, Return, Start, Go, Ended}
+use Rattle.host_core.specs.Core.{Core, word_nr}
+use Rattle.line_world.specs.Scene.{Scene}
+use Rattle.line_world.specs.Invariant.{EndIsPaid}
+
+-- the mode holds the address of a word of the plan
+abbrev pub HasAddress : PlanValue → Mode → Type 0
+HasAddress plan (Number v n) = (i : ℕ) × (i < length plan.words) × (v ≡ (word_nr plan.words i).address)
+HasAddress plan mode = ⊥
+
+-- each key under way is described in the mode that the machine then has, and `/` stands after the address of a word of the plan
+abbrev pub KeysAreDescribed : PlanValue → Mode → List ℕ → Type 0
+KeysAreDescribed plan mode [] = Unit {0}
+KeysAreDescribed plan mode (c ∷ down) = IsDescribed mode c × (c ≡ 47 → HasAddress plan mode)
+
+-- the queues are short, and one of them is empty
+pub record QueuesAreShort (down up : List ℕ) : Type 0 where
+  pub keys : length down ≤ 1
+  pub answers : length up ≤ 32
+  pub one_way : (down ≡ []) ⊎ (up ≡ [])
+
+-- an end, if it is one, has its cause
+abbrev pub HasCause : Phase → Scene → Type 0
+HasCause (Ended end) w = EndIsPaid end w.machine.memory w.core.patience w.core.spent w.lost
+HasCause phase w = Unit {0}
+
+-- what holds of every world, however it came to be
+pub record IsTame (w : Scene) : Type 0 where
+  pub keys : KeysAreDescribed w.core.plan w.machine.mode w.down
+  pub queues : QueuesAreShort w.down w.up
+  -- no mishap without a loss of its own
+  pub spent : w.core.spent ≤ w.lost
+  -- GaveUp after more losses than the patience, Uncertain after one that no mishap paid for, NoWord past memory, WontHold never
+  pub cause : HasCause w.core.phase w
+  pub lost : w.lost ≤ 41 + 9 * w.core.sent
+
+-- nothing stands after `G`, so it stands there once at most
+abbrev pub EndsAtGo : List ℕ → Type 0
+EndsAtGo [] = Unit {0}
+EndsAtGo (c ∷ keys) = (c ≡ 71 → keys ≡ []) × EndsAtGo keys
+
+-- the keys start the program at most once: `G` is the last of them, none is typed where the mark stood, and `G` is typed exactly where the mark is set
+pub record StartsOnce (before after : Core) (keys : List ℕ) : Type 0 where
+  pub last : EndsAtGo keys
+  pub silent : before.going ≡ true → keys ≡ []
+  pub marked : Contains keys 71 ↔ ((before.going ≡ false) × (after.going ≡ true))
+  pub stays : before.going ≡ true → after.going ≡ true

@@ -1,0 +1,32 @@
+-- Safety against an earlier memory: it speaks of memory, the host's record and the mark alone.
+use Rattle.std.specs.Prelude.{ℕ, ◌≡◌, ◌<◌, ◌⊎◌, Bool, true, List, length, Option, Some}
+use Rattle.std.specs.FinMap.{get}
+use Rattle.tape_image.specs.Memory.{byte_of, top_of}
+use Rattle.tape_image.specs.Word.{Stands}
+use Rattle.tape_image.specs.Plan.{PlanValue}
+use Rattle.tape_image.specs.Image.{Image}
+use Rattle.host_core.specs.Core.{word_nr}
+use Rattle.tape_image.specs.Overlay.{IsOverlay}
+use Rattle.odt_machine.specs.Machine.{is_word, word_at as memory_word}
+use Rattle.line_world.specs.Scene.{Scene}
+
+-- the plan's word numbered i lies in memory
+abbrev pub WordLies : PlanValue → List ℕ → ℕ → Type 0
+WordLies plan memory i = is_word memory (word_nr plan.words i).address ≡ true
+
+-- each byte is the earlier one, or the image's at its address
+pub record OnlyImage (before : List ℕ) (image : Image) (now : List ℕ) : Type 0 where
+  pub size : length now ≡ length before
+  pub bytes : (b : ℕ) → b < top_of before → (byte_of now b ≡ byte_of before b) ⊎ (get image b ≡ Some (byte_of now b))
+
+-- every word of the plan lies in memory, and memory is the overlay
+pub record IsLoaded (before : List ℕ) (plan : PlanValue) (now : List ℕ) : Type 0 where
+  pub lies : (i : ℕ) → i < length plan.words → WordLies plan now i
+  pub overlay : IsOverlay before plan.image now
+
+-- safe against an earlier memory
+pub record IsSafe (before : List ℕ) (w : Scene) : Type 0 where
+  pub lies : (i : ℕ) → i < w.core.verified → WordLies w.core.plan w.machine.memory i
+  pub stands : (i : ℕ) → i < w.core.verified → Stands (word_nr w.core.plan.words i) (memory_word w.machine.memory (word_nr w.core.plan.words i).address)
+  pub bytes : OnlyImage before w.core.plan.image w.machine.memory
+  pub going : w.core.going ≡ true → IsLoaded before w.core.plan w.machine.memory

@@ -1,0 +1,12 @@
+-- The world: a host and a machine, with a queue of characters in each direction.
+use Rattle.std.specs.Prelude.{ℕ, List}
+use Rattle.odt_machine.specs.Machine.{Machine}
+use Rattle.host_core.specs.Core.{Core}
+
+-- a machine, a host, the keys under way (`down`), the answers under way (`up`), and how many characters the line has lost in this life
+pub record Scene : Type 0 where
+  pub machine : Machine
+  pub core : Core
+  pub down : List ℕ
+  pub up : List ℕ
+  pub lost : ℕ

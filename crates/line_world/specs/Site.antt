@@ -1,0 +1,79 @@
+-- What the machine's mode is after so many typed digits, and what its exact answer still holds.
+use Rattle.std.specs.Prelude.{ℕ, zero, suc, ◌≡◌, ◌+◌, ◌-◌, ◌==◌, Bool, true, if◌then◌else◌, List, [], ◌∷◌, Option, unwrap_or}
+use Rattle.octal.specs.Octal.{head, digit_of}
+use Rattle.tape_image.specs.Word.{WordValue}
+use Rattle.tape_image.specs.Word.{merged}
+use Rattle.host_core.specs.Core.{word_nr}
+use Rattle.odt_machine.specs.declared.style.Style.{Style}
+use Rattle.odt_machine.specs.declared.mode.Mode.{Mode}
+use Rattle.odt_machine.specs.declared.mode.Mode.TheVariants.{Prompt, Number, Opened, Typing, Running}
+use Rattle.odt_machine.specs.Machine.{is_word, word_at as memory_word}
+use Rattle.line_world.specs.Scene.{Scene}
+
+-- where a word is loaded: the machine's style and memory, the word, and the start
+pub record Site : Type 0 where
+  pub style : Style
+  pub memory : List ℕ
+  pub word : WordValue
+  pub start : ℕ
+
+-- the place of the plan's word numbered i
+abbrev pub site_of : Scene → ℕ → Site
+site_of w i = record { style = w.machine.style; memory = w.machine.memory; word = word_nr w.core.plan.words i; start = unwrap_or w.core.plan.start 0 }
+
+-- the place of the word that is loaded now
+abbrev pub site : Scene → Site
+site w = site_of w w.core.verified
+
+-- what memory holds at the word's address
+abbrev pub held : Site → ℕ
+held t = memory_word t.memory t.word.address
+
+-- the word's address lies in memory
+abbrev pub Lies : Site → Type 0
+Lies t = is_word t.memory t.word.address ≡ true
+
+-- what has to be stored at the word's address
+abbrev pub wanted : Site → ℕ
+wanted t = merged t.word (held t)
+
+-- the word lies in memory, and memory has its bits inside its mask
+abbrev pub IsThere : Site → Type 0
+IsThere t = Lies t × (wanted t ≡ held t)
+
+-- the mode after the first k digits of a number at the prompt
+abbrev pub number_mode : ℕ → ℕ → Mode
+number_mode n k = if k == 0 then Prompt else Number (head n k) k
+
+-- the mode after the first k digits of a value with the address a open
+abbrev pub typing_mode : ℕ → ℕ → ℕ → Mode
+typing_mode a x k = if k == 0 then Opened a else Typing a (head x k) k
+
+-- the mode after `/`
+abbrev pub opened_mode : Site → Mode
+opened_mode t = if is_word t.memory t.word.address then Opened t.word.address else Prompt
+
+-- a new line and the prompt, without the first i of the longest form's characters: one CR more where the style has two
+abbrev pub prompt_from : Bool → ℕ → List ℕ
+prompt_from two_returns i =
+    if i == 0 then (if two_returns then 13 ∷ 13 ∷ 10 ∷ 64 ∷ [] else 13 ∷ 10 ∷ 64 ∷ [])
+    else if i == 1 then (if two_returns then 13 ∷ 10 ∷ 64 ∷ [] else 10 ∷ 64 ∷ [])
+    else if i == 2 then 10 ∷ 64 ∷ [] else 64 ∷ []
+
+-- the last digits of a word, and the space behind them
+abbrev pub last_digits : ℕ → ℕ → List ℕ
+last_digits w zero = 32 ∷ []
+last_digits w (suc left) = digit_of w (6 - left) ∷ last_digits w left
+
+-- what follows the echo of `/`
+abbrev pub reading : Site → List ℕ
+reading t =
+    if is_word t.memory t.word.address then (if t.style.space_before then 32 ∷ last_digits (held t) 6 else last_digits (held t) 6)
+    else 63 ∷ prompt_from t.style.two_returns 0
+
+-- what is left of the answer to `Z`
+abbrev pub refusal_from : Style → ℕ → List ℕ
+refusal_from s k =
+    if k == 0 then (if s.echo_illegal then 90 ∷ 63 ∷ prompt_from s.two_returns 0 else 63 ∷ prompt_from s.two_returns 0)
+    else if k == 1 then 63 ∷ prompt_from s.two_returns 0
+    else prompt_from s.two_returns (k - 2)

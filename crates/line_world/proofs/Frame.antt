@@ -96,11 +96,11 @@ kept_next : (m : Machine) (core : Core) (old up : List ℕ) (lost : ℕ) (test :
     IsKept (stepped (scene m core [] old lost) up (cond test (sends core (digit_of (word_under_way core).address 1) (Address Look 1)) (after_words core start)))
 kept_next m core old up lost true start k shorter is host none prompt =
     rw none (kept_send m core (record core { sent = core.sent + 1; phase = Address Look 1 }) (digit_of (word_under_way core).address 1) old lost k host k.words k.running k.spent refl
-        record { key = (refl, prompt); rest = tt; paid = tt; facts = tt })
+    record { key = (refl, prompt); rest = tt; paid = tt; facts = tt })
 kept_next m core old up lost false (Some s) k shorter is host none prompt =
     let at_start : start_of core ≡ s = ap (λ o. unwrap_or o 0) is in
     rw none (kept_send m core (record core { sent = core.sent + 1; phase = Start 1 }) (digit_of s 1) old lost k host k.words k.running k.spent refl
-        record { key = (ap (λ x. digit_of x 1) (sym at_start), prompt); rest = tt; paid = tt; facts = tt })
+    record { key = (ap (λ x. digit_of x 1) (sym at_start), prompt); rest = tt; paid = tt; facts = tt })
 kept_next m core old up lost false None k shorter is host none prompt =
     kept_listen m core (record core { phase = Ended Loaded }) old up lost k shorter host k.words k.running k.spent refl (tt, tt)
 
@@ -136,7 +136,7 @@ kept_timeout : (m : Machine) (core : Core) (old up : List ℕ) (lost : ℕ) (tes
     IsKept (stepped (scene m core [] old lost) up (cond test (sends (record core { spent = core.spent + 1 }) 90 (Sync 0)) (listens core (Ended GaveUp))))
 kept_timeout m core old up lost true k shorter is host none paid stopped =
     rw none (kept_send m core (record core { spent = core.spent + 1; sent = core.sent + 1; phase = Sync 0 }) 90 old lost k host k.words k.running (omega arith) refl
-        record { key = (refl, refl, stopped); rest = tt; paid = tt; facts = tt })
+    record { key = (refl, refl, stopped); rest = tt; paid = tt; facts = tt })
 kept_timeout m core old up lost false k shorter is host none paid stopped =
     kept_listen m core (record core { phase = Ended GaveUp }) old up lost k shorter host k.words k.running k.spent refl (tt, over core.spent core.patience lost is paid)
   where
@@ -150,14 +150,14 @@ kept_turn m core old up lost (Key key phase) k shorter host fits =
     rw fits.0 (kept_send m core (record core { sent = core.sent + 1; phase = phase }) key old lost k host k.words k.running k.spent refl fits.1)
 kept_turn m core old up lost Verified k shorter host fits =
     rw fits.0 (kept_send m core (record core { verified = core.verified + 1; sent = core.sent + 1; phase = Return Close 0 }) 13 old lost k host (words_more m core k.words fits.1) k.running k.spent refl
-        record { key = (refl, refl, fits.2); rest = tt; paid = tt; facts = tt })
+    record { key = (refl, refl, fits.2); rest = tt; paid = tt; facts = tt })
 kept_turn m core old up lost ReadBack k shorter host fits =
     rw fits.0 (kept_send m core (record core { sent = core.sent + 1; phase = Address Check 1 }) (digit_of (word_under_way core).address 1) old lost k host k.words k.running k.spent refl
-        record { key = (refl, fits.2); rest = tt; paid = tt; facts = fits.1 })
+    record { key = (refl, fits.2); rest = tt; paid = tt; facts = fits.1 })
 kept_turn m core old up lost Next k shorter host fits = kept_next m core old up lost (ltb core.verified (length core.plan.words)) core.plan.start k shorter refl host fits.0 fits.1
 kept_turn m core old up lost Mark k shorter host fits =
     rw fits.0 (kept_send m core (record core { going = true; sent = core.sent + 1; phase = Go }) 71 old lost k host (words_all m core k.words fits.1) (runs_marked m.mode) k.spent refl
-        record { key = (refl, fits.2); rest = tt; paid = tt; facts = tt })
+    record { key = (refl, fits.2); rest = tt; paid = tt; facts = tt })
 kept_turn m core old up lost (Stop end) k shorter host fits =
     kept_listen m core (record core { phase = Ended end }) old up lost k shorter host k.words k.running k.spent refl (tt, fits)
 kept_turn m core old up lost Stray k shorter host fits = kept_stray m core old up lost (ltb core.spent core.patience) k shorter refl host fits

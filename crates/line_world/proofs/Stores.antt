@@ -30,9 +30,10 @@ lies_same memory other a same h = rw same h
 pub stored_stands : (t : Site) → Lies t → IsThere (with_memory t (stored t.memory t.word.address (wanted t)))
 stored_stands t lies =
     let k = t.word.address / 2 in
-    let now : slice_index (slice_set t.memory k (wanted t)) k ≡ wanted t = get_or-set_same t.memory k (wanted t) 0 (lies_below t.memory t.word.address lies) in
-    (lies_same t.memory _ t.word.address (length-set t.memory k (wanted t)) lies,
-     rw now (merged-Stands t.word (wanted t) (Stands-merged t.word (held t))))
+    let now : slice_index (slice_set t.memory k (wanted t)) k ≡ wanted t = get_or-set_same t.memory k (wanted t) 0 (lies_below t.memory t.word.address lies) in (
+      lies_same t.memory _ t.word.address (length-set t.memory k (wanted t)) lies,
+      rw now (merged-Stands t.word (wanted t) (Stands-merged t.word (held t))),
+    )
 
 -- a word elsewhere stays as it was
 stored_other : (t : Site) (a v : ℕ) → t.word.address / 2 ≢ a / 2 → IsThere t → IsThere (with_memory t (stored t.memory a v))
@@ -45,6 +46,7 @@ same_or i j = elim (eqb i j) as (λ b. eqb i j ≡ b → (i ≡ j) ⊎ (i ≢ j)
   where
     same : (i j : ℕ) → eqb i j ≡ true → i ≡ j
     same i j e = grind (arith, nat_tests)
+
     other : (i j : ℕ) → eqb i j ≡ false → i ≢ j
     other i j e same = grind (arith, nat_tests)
 

@@ -7,3 +7,5 @@ pub mod Invariant
 pub mod Safe
 pub mod CleanText
 pub mod Promises
+pub mod Opening
+pub mod Runs

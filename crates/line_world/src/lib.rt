@@ -9,5 +9,9 @@
 #![tactic(auto)]
 
 mod event;
+mod setup;
+mod world;
 
 pub use event::Event;
+pub use setup::Setup;
+pub use world::World;

@@ -1,0 +1,16 @@
+-- What a list of events, and a run on a line that loses nothing, leave.
+use Rattle.std.specs.Prelude.{◌≡◌, List, Some}
+use Rattle.host_core.specs.declared.phase.End.{End}
+use Rattle.host_core.specs.Core.{ended}
+use Rattle.line_world.specs.declared.event.Event.{Event}
+use Rattle.line_world.specs.Scene.{Scene}
+use Rattle.line_world.specs.World.{after, typed, IsCleanRun}
+use Rattle.line_world.specs.Promises.{StartsOnce}
+
+-- the events of a line that loses nothing, up to the first end, lead from one world to another that has this end
+pub record RunsClean (before now : Scene) (end : End) : Type 0 where
+  pub events : List Event
+  pub clean : IsCleanRun before events
+  pub world : now ≡ after before events
+  pub end_is : ended now.core.phase ≡ Some end
+  pub start : StartsOnce before.core now.core (typed before events)

@@ -1,0 +1,155 @@
+ghost use Rattle.std.specs.Prelude.{◌≡◌, ℕ, ◌<◌, ◌≤◌, true, List, length, is_some, None, IfOk, IfErr, OnOk};
+ghost use Rattle.std.specs.Bool.{OnFalse};
+ghost use Rattle.host_core.specs.Core.{ended};
+ghost use Rattle.host_core.specs.Host.{IsHost};
+ghost use Rattle.odt_machine.specs.Machine.{IsMachine};
+ghost use Rattle.line_world.specs.World.{occurs, happens, after, possible_count, typed_in, typed, is_timeout, had_timeout, first_event, work_left};
+ghost use Rattle.line_world.specs.Safe.{IsSafe};
+ghost use Rattle.line_world.specs.Promises.{IsTame, StartsOnce};
+ghost use Rattle.line_world.specs.Opening.{opened, IsAccepted, IsRefused};
+ghost use Rattle.line_world.specs.Runs.{RunsClean};
+
+use crate::event::Event;
+use crate::setup::Setup;
+use arrayvec::ArrayVec;
+use host_core::{End, HostCore};
+use odt_machine::Odt;
+use std::marker::Model;
+
+/// A host and a machine on one line, with the characters that are under way.
+#[derive(Drop)]
+pub struct World {
+    odt: Odt,
+    core: HostCore,
+    down: ArrayVec<u8, 1>,
+    up: ArrayVec<u8, 48>,
+    lost: u64,
+}
+
+impl Model for World {
+    ghost use Rattle.std.specs.Coded.{codes};
+    ghost use Rattle.tape_image.specs.Plan.{plan_code};
+    ghost use Rattle.line_world.specs.Scene.{Scene};
+    ghost use Rattle.line_world.specs.Invariant.{IsKept};
+
+    ghost Value = { Scene };
+
+    ghost coded = { Prim.hlevel (codes, plan_code) };
+
+    ghost view = { λ w. record { machine = w.odt; core = w.core; down = w.down.items; up = w.up.items; lost = w.lost } };
+
+    ghost invariant = { λ w. IsKept (record { machine = w.odt; core = w.core; down = w.down.items; up = w.up.items; lost = w.lost }) × ⊥ };
+}
+
+impl World {
+    /// A world at its opening: `waiting` are the answer characters that wait for the host, the oldest first.
+    ///
+    /// Refused by the first of `Setup` that holds; the machine and the host come back.
+    pub fn new(odt: Odt, core: HostCore, waiting: &[u8]) -> Result<World, (Odt, HostCore, Setup)>
+        ensures accepted { OnOk result (IsAccepted odt core waiting.now) }
+        ensures opened { IfOk result (λ world. world ≡ opened odt core waiting.now) }
+        ensures safe { IfOk result (λ world. IsSafe odt.memory world) }
+        ensures tame { IfOk result IsTame }
+        ensures given_back { IfErr result (λ err. (err.0 ≡ odt) × (err.1 ≡ core)) }
+    {
+        let _ = waiting;
+        Err((odt, core, Setup::NotFresh))
+    }
+
+    /// One event. False exactly where it is not possible, and then nothing changes.
+    pub fn apply(&mut self, event: Event) -> bool
+        ensures possible { result ≡ is_some (occurs self.old event) }
+        ensures world { self.new ≡ happens self.old event }
+        ensures unchanged { OnFalse result (self.new ≡ self.old) }
+        ensures safe { IsSafe self.old.machine.memory self.new }
+        ensures since { (earlier : List ℕ) → IsSafe earlier self.old → IsSafe earlier self.new }
+        ensures start { StartsOnce self.old.core self.new.core (typed_in self.old event) }
+        ensures tame { IsTame self.new }
+        ensures short { length self.old.up ≤ 9 → length self.new.up ≤ 9 }
+        ensures silent { is_timeout self.old event ≡ true → length self.new.up ≤ 9 }
+        ensures next { event ≡ first_event self.old → result ≡ true }
+        ensures work { event ≡ first_event self.old → ended self.old.core.phase ≡ None → work_left self.new < work_left self.old }
+    {
+        let _ = &self.lost;
+        let _ = event;
+        false
+    }
+
+    /// The events in order, the impossible ones skipped; the answer is how many were possible.
+    pub fn run(&mut self, events: &[Event]) -> u64
+        ensures count { result ≡ possible_count self.old events.now }
+        ensures world { self.new ≡ after self.old events.now }
+        ensures safe { IsSafe self.old.machine.memory self.new }
+        ensures since { (earlier : List ℕ) → IsSafe earlier self.old → IsSafe earlier self.new }
+        ensures start { StartsOnce self.old.core self.new.core (typed self.old events.now) }
+        ensures tame { IsTame self.new }
+        ensures short { length self.old.up ≤ 9 → length self.new.up ≤ 9 }
+        ensures silent { had_timeout self.old events.now ≡ true → length self.new.up ≤ 9 }
+    {
+        let _ = &self.lost;
+        let _ = events;
+        0
+    }
+
+    /// The line loses nothing: Take where that is possible, else Hear, else Quiet, until the host has
+    /// an end. Where it has one, nothing happens.
+    pub fn run_clean(&mut self) -> End
+        ensures run { RunsClean self.old self.new result }
+        ensures safe { IsSafe self.old.machine.memory self.new }
+        ensures since { (earlier : List ℕ) → IsSafe earlier self.old → IsSafe earlier self.new }
+        ensures tame { IsTame self.new }
+    {
+        let _ = &self.lost;
+        End::Loaded
+    }
+
+    /// The event that comes next on a line that loses nothing.
+    pub fn next_event(&self) -> Event
+        ensures { result ≡ first_event self.now }
+    {
+        let _ = &self.lost;
+        Event::Take
+    }
+
+    /// The machine.
+    pub fn odt(&self) -> &Odt
+        ensures value { result.now ≡ self.now.machine }
+        ensures machine { IsMachine self.now.machine }
+        ensures tame { IsTame self.now }
+    {
+        &self.odt
+    }
+
+    /// The host.
+    pub fn core(&self) -> &HostCore
+        ensures value { result.now ≡ self.now.core }
+        ensures kept { IsHost self.now.core }
+        ensures tame { IsTame self.now }
+    {
+        &self.core
+    }
+
+    /// The keys under way to the machine, the oldest first.
+    pub fn down(&self) -> &[u8]
+        ensures value { result.now ≡ self.now.down }
+        ensures tame { IsTame self.now }
+    {
+        self.down.as_slice()
+    }
+
+    /// The answer characters under way to the host, the oldest first.
+    pub fn up(&self) -> &[u8]
+        ensures value { result.now ≡ self.now.up }
+        ensures tame { IsTame self.now }
+    {
+        self.up.as_slice()
+    }
+
+    /// How many characters the line has lost in this life of the host.
+    pub fn lost(&self) -> u64
+        ensures value { result ≡ self.now.lost }
+        ensures tame { IsTame self.now }
+    {
+        self.lost
+    }
+}

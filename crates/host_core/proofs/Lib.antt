@@ -1,1 +1,4 @@
+pub mod Frame
+pub mod Lives
+pub mod Starts
 pub mod Turns

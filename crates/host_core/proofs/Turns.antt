@@ -250,9 +250,12 @@ waits_fits b (Start place) f m = (unmarked b.going b.plan.start (Start place) m 
 waits_fits b Go f m = (f.1, ended_mark b.going b.plan.start Uncertain f.0.has_start, omega arith)
 waits_fits b (Ended end) f m = (f, m, omega arith)
 
+pub turn_fits : (core : Core) (heard : Heard) → IsHost core → TurnFits (turn_of core heard) (basis_of core) (used_in core.phase)
+turn_fits core (Got c) h = hears_fits (basis_of core) (start_of core) core.phase c h.image h.fits h.mark
+turn_fits core Quiet h = waits_fits (basis_of core) core.phase h.fits h.mark
+
 pub kept : (core : Core) (heard : Heard) → IsHost core → IsHost (move core heard).next
-kept core (Got c) h = taken_kept core (turn_of core (Got c)) h (hears_fits (basis_of core) (start_of core) core.phase c h.image h.fits h.mark)
-kept core Quiet h = taken_kept core (waits core.phase) h (waits_fits (basis_of core) core.phase h.fits h.mark)
+kept core heard h = taken_kept core (turn_of core heard) h (turn_fits core heard h)
 
 used_le : (phase : Phase) (b : Basis) → PhaseFits phase b → used_in phase ≤ 23
 used_le Settle b f = omega arith

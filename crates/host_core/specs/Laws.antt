@@ -1,5 +1,6 @@
 -- What holds of a host over everything that it may ever hear.
-use Rattle.std.specs.Prelude.{◌≡◌, ℕ, ◌+◌, ◌≤◌, List, [], ◌∷◌, ◌++◌, length, Option, Some, None, Contains}
+use Rattle.std.specs.Prelude.{◌≡◌, ℕ, ◌+◌, ◌≤◌, List, [], ◌∷◌, ◌++◌, length, Option, Some, None}
+use Rattle.std.specs.List.{Contains}
 use Rattle.octal.specs.Octal.{octal_text}
 use Rattle.host_core.specs.declared.heard.Heard.{Heard}
 use Rattle.host_core.specs.Console.{go}
@@ -22,19 +23,20 @@ abbrev pub replay : Core → List Heard → List ℕ
 replay core [] = []
 replay core (heard ∷ more) = keys (move core heard).key ++ replay (move core heard).next more
 
--- whatever is heard, no more characters are sent than the bound, those of this life before included
+-- whatever is heard, this life sends no more characters than the bound, those that it has sent included
 abbrev pub KeepsBound : Core → Type 0
 KeepsBound core = (heard : List Heard) → core.sent + length (replay core heard) ≤ character_bound (length core.plan.words) core.patience
 
--- with the mark set nothing is sent, whatever is heard
+-- whatever is heard, nothing is sent
 abbrev pub IsSilent : Core → Type 0
 IsSilent core = (heard : List Heard) → replay core heard ≡ []
 
--- the keys end with the whole start address and `G`
+-- these keys end with the whole start address and `G`
 abbrev pub EndsWithStart : ℕ → List ℕ → Type 0
 EndsWithStart start typed = (before : List ℕ) × (typed ≡ before ++ octal_text start ++ go ∷ [])
 
--- whatever is heard, `G` is sent only right after the six digits of the start address, with every word verified, and is the last key
+-- whatever is heard, `G` is sent only right after the six digits of the start address, with every word
+-- verified, and nothing is sent after it
 abbrev pub StartsOnlyWhole : Core → Type 0
 StartsOnlyWhole core =
     (heard : List Heard) → Contains (replay core heard) go →

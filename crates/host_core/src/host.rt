@@ -4,6 +4,7 @@ ghost use Rattle.tape_image.specs.Plan.{IsPlan};
 ghost use Rattle.host_core.specs.Bound.{character_bound};
 ghost use Rattle.host_core.specs.Core.{IsFresh, begun, ended, first_phase, restarted, start_of, word_under_way};
 ghost use Rattle.host_core.specs.Host.{IsHost, HasWord, basis_of};
+ghost use Rattle.host_core.specs.Laws.{KeepsBound, IsSilent, StartsOnlyWhole};
 ghost use Rattle.host_core.specs.Life.{core_of};
 ghost use Rattle.host_core.specs.Opening.{refusal_of};
 ghost use Rattle.host_core.specs.PhaseTable.{move, next_word, taken, turn_of};
@@ -170,6 +171,7 @@ impl HostCore {
         ensures accepted { OnOk result (refusal_of plan progress.verified progress.going ≡ None) }
         ensures refused { IfErr result (λ err. refusal_of plan progress.verified progress.going ≡ Some err.1) }
         ensures given_back { IfErr result (λ err. err.0 ≡ plan) }
+        ensures start { IfOk result StartsOnlyWhole }
         ensures kept { IfOk result IsHost }
     {
         if let Some(why) = refusal(&plan, progress) {
@@ -195,6 +197,7 @@ impl HostCore {
     pub fn progress(&self) -> Progress
         ensures verified { result.verified ≡ self.now.verified }
         ensures going { result.going ≡ self.now.going }
+        ensures silent { self.now.going ≡ true → IsSilent self.now }
         ensures kept { IsHost self.now }
     {
         self.life.progress
@@ -220,6 +223,7 @@ impl HostCore {
     pub fn sent_count(&self) -> u64
         ensures value { result ≡ self.now.sent }
         ensures bound { result ≤ character_bound (length self.now.plan.words) self.now.patience }
+        ensures later { KeepsBound self.now }
         ensures kept { IsHost self.now }
     {
         self.life.sent
@@ -270,6 +274,7 @@ impl HostCore {
     /// verified words still count, and the mark stays as it was.
     pub fn restart(&mut self, kept: u32)
         ensures begun { self.new ≡ restarted self.old kept }
+        ensures start { StartsOnlyWhole self.new }
         ensures kept { IsHost self.new }
     {
         let verified = kept.min(self.life.progress.verified);

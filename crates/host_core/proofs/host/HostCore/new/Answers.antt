@@ -1,5 +1,7 @@
 use Rattle.std.proofs.Common.{sym, ◌∙◌, subst}
 use Rattle.host_core.specs.Host.{IsHost}
+use Rattle.host_core.specs.Laws.{StartsOnlyWhole}
+use Rattle.host_core.proofs.Starts.{starts_only_whole}
 use Rattle.host_core.proofs.Turns.{begun_kept, accepted}
 use Rattle.host_core.proofs.host.HostCore.new.Goals as goal
 
@@ -14,3 +16,6 @@ returns-clause-begun c = c.begun-life.ensures c.args.patience
 
 pub returns-clause-kept : goal.returns-clause-kept
 returns-clause-kept c = invariant_of-result c
+
+pub returns-clause-start : goal.returns-clause-start
+returns-clause-start c = subst StartsOnlyWhole (sym (c.begun-life.ensures c.args.patience)) (starts_only_whole c.args.plan c.args.progress.verified c.args.progress.going c.args.patience (subst IsHost (c.begun-life.ensures c.args.patience) (invariant_of-result c)))

@@ -1,6 +1,9 @@
-use Rattle.std.proofs.Common.{◌≡◌, subst}
+use Rattle.std.proofs.Common.{◌≡◌, min, subst, sym}
 use Rattle.host_core.specs.Core.{Core, restarted}
 use Rattle.host_core.specs.Life.{core_of}
+use Rattle.host_core.specs.Host.{IsHost}
+use Rattle.host_core.specs.Laws.{StartsOnlyWhole}
+use Rattle.host_core.proofs.Starts.{starts_only_whole}
 use Rattle.host_core.proofs.Turns.{restart_kept}
 use Rattle.host_core.proofs.host.HostCore.restart.Goals as goal
 
@@ -15,3 +18,8 @@ invariant_of-self c =
 
 pub returns-clause-kept : goal.returns-clause-kept
 returns-clause-kept c = invariant_of-self c
+
+pub returns-clause-start : goal.returns-clause-start
+returns-clause-start c =
+    let kept : IsHost (restarted c.args.self.now c.args.kept) = subst IsHost (returns-clause-begun c) (invariant_of-self c) in
+    subst StartsOnlyWhole (sym (returns-clause-begun c)) (starts_only_whole c.args.self.now.plan (min c.args.kept c.args.self.now.verified) c.args.self.now.going c.args.self.now.patience kept)

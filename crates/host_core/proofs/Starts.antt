@@ -1,0 +1,231 @@
+-- `G` is typed only right after the whole start address: what a life has typed so far, phase by phase.
+use Rattle.std.proofs.Common.{◌≡◌, ℕ, zero, suc, ◌+◌, ◌<◌, ◌≤◌, ◌⊎◌, Bool, true, false, ◌==◌, ◌||◌, ◌&&◌, nat_lt, if◌then◌else◌, List, [], ◌∷◌, ◌++◌, length, take, Option, Some, None, refl, arith, subst, sym, ◌∙◌, ap, inl, inr, append_assoc, append-nil}
+use Rattle.std.specs.List.{Contains}
+use Rattle.std.specs.Option.{is_none, unwrap_or}
+use Rattle.std.proofs.lemmas.List.Elements.{Contains-append_cases}
+use borrow.Author.Tests.{ltb-true, ltb-false}
+use Rattle.octal.specs.Octal.{digit_of, octal_text, is_digit}
+use Rattle.tape_image.specs.Plan.{PlanValue}
+use Rattle.tape_image.specs.Word.{WordValue, merged}
+use Rattle.host_core.specs.declared.phase.Phase.{Phase}
+use Rattle.host_core.specs.declared.phase.Phase.TheVariants.{Settle, Sync, Address, Slash, Before, Value, Deposit, Return, Start, Go, Ended}
+use Rattle.host_core.specs.declared.phase.Visit.{Visit}
+use Rattle.host_core.specs.declared.phase.Visit.TheVariants.{Look, Check}
+use Rattle.host_core.specs.declared.phase.Reason.{Reason}
+use Rattle.host_core.specs.declared.phase.Reason.TheVariants.{Store, Close}
+use Rattle.host_core.specs.declared.phase.End.TheVariants.{Loaded, GaveUp}
+use Rattle.host_core.specs.declared.heard.Heard.{Heard}
+use Rattle.host_core.specs.declared.heard.Heard.TheVariants.{Got, Quiet}
+use Rattle.host_core.specs.declared.turn.Turn.{Turn}
+use Rattle.host_core.specs.declared.turn.Turn.TheVariants.{Listen, Key, Verified, ReadBack, Next, Mark, Stop, Stray, Timeout}
+use Rattle.host_core.specs.Console.{resync, carriage_return, go}
+use Rattle.host_core.specs.Core.{Core, begun, first_phase, word_under_way, start_of}
+use Rattle.host_core.specs.Host.{IsHost, IsPlace, Basis, PhaseFits, basis_of}
+use Rattle.host_core.specs.Bound.{used_in}
+use Rattle.host_core.specs.Laws.{led, keys, replay, EndsWithStart, StartsOnlyWhole}
+use Rattle.host_core.specs.PhaseTable.{Move, move, listens, sends, taken, turn_of, hears, waits, sync_hears, address_hears, first_digit_hears, before_hears, differs, value_hears, deposit_hears, return_hears, returned, start_hears, after_words}
+use Rattle.host_core.proofs.Frame.{on_test, on_move, IsMoved, moved, StaysStill, silent}
+use Rattle.host_core.proofs.Turns.{TurnFits, turn_fits, kept}
+use Rattle.host_core.proofs.Lives.{led_plan}
+
+-- in the phase Start the last keys are the digits of the start address so far
+abbrev pub TypedFits : Phase → ℕ → List ℕ → Type 0
+TypedFits (Start place) start typed = (before : List ℕ) × (typed ≡ before ++ take place (octal_text start))
+TypedFits _ start typed = Unit {0}
+
+-- what is typed in a turn goes on so, and the mark comes after all six digits
+abbrev pub Types : Phase → ℕ → Turn → Type 0
+Types phase start (Listen next) = (typed : List ℕ) → TypedFits phase start typed → TypedFits next start typed
+Types phase start (Key key next) = (go ≡ key → ⊥) × ((typed : List ℕ) → TypedFits phase start typed → TypedFits next start (typed ++ key ∷ []))
+Types phase start Mark = (typed : List ℕ) → TypedFits phase start typed → (before : List ℕ) × (typed ≡ before ++ octal_text start)
+Types phase start _ = Unit {0}
+
+either : (phase : Phase) (start : ℕ) (test : Bool) (t u : Turn) → (test ≡ true → Types phase start t) → (test ≡ false → Types phase start u) → Types phase start (if test then t else u)
+either phase start test t u is isnt = on_test (λ v. Types phase start (if v then t else u)) test is isnt
+
+no_digit : (w k : ℕ) → go ≡ digit_of w k → ⊥
+no_digit w k e = omega arith
+
+sync_types : (p : Phase) (start place c : ℕ) → Types p start (sync_hears place c)
+sync_types p start place c =
+    either p start (place == 0) _ _ (λ _. either p start (c == 90) _ _ (λ _ _ _. tt) (λ _. either p start (c == 63) _ _ (λ _ _ _. tt) (λ _. tt)))
+    (λ _. either p start (place == 1) _ _ (λ _. either p start (c == 63) _ _ (λ _ _ _. tt) (λ _. tt))
+    (λ _. either p start (place == 2) _ _ (λ _. either p start (c == 13) _ _ (λ _ _ _. tt) (λ _. tt))
+    (λ _. either p start (place == 3) _ _ (λ _. either p start (c == 13) _ _ (λ _ _ _. tt) (λ _. either p start (c == 10) _ _ (λ _ _ _. tt) (λ _. tt)))
+    (λ _. either p start (place == 4) _ _ (λ _. either p start (c == 10) _ _ (λ _ _ _. tt) (λ _. tt))
+    (λ _. either p start (c == 64) _ _ (λ _. tt) (λ _. tt))))))
+
+address_types : (p : Phase) (start address : ℕ) (visit : Visit) (place c : ℕ) → Types p start (address_hears address visit place c)
+address_types p start address visit place c =
+    either p start (c == digit_of address place) _ _
+    (λ _. either p start (nat_lt place 6) _ _ (λ _. (no_digit address (place + 1), λ _ _. tt)) (λ _. ((λ e. omega arith), λ _ _. tt)))
+    (λ _. tt)
+
+first_digit_types : (p : Phase) (start : ℕ) (visit : Visit) (c : ℕ) → Types p start (first_digit_hears visit c)
+first_digit_types p start visit c = either p start (c == 48 || c == 49) _ _ (λ _ _ _. tt) (λ _. tt)
+
+before_types : (p : Phase) (start address : ℕ) (visit : Visit) (c : ℕ) → Types p start (before_hears address visit c)
+before_types p start address visit c =
+    either p start (c == 32) _ _ (λ _ _ _. tt)
+    (λ _. either p start (c == 63) _ _ (λ _. tt) (λ _. first_digit_types p start visit c))
+
+differs_types : (p : Phase) (start : ℕ) (word : WordValue) (visit : Visit) (value : ℕ) → Types p start (differs word visit value)
+differs_types p start word Look value = (no_digit (merged word value) 1, λ _ _. tt)
+differs_types p start word Check value = tt
+
+value_types : (p : Phase) (start : ℕ) (word : WordValue) (visit : Visit) (value place c : ℕ) → Types p start (value_hears word visit value place c)
+value_types p start word visit value place c =
+    either p start (place == 0) _ _ (λ _. first_digit_types p start visit c)
+    (λ _. either p start (nat_lt place 6) _ _
+    (λ _. either p start (is_digit c) _ _ (λ _ _ _. tt) (λ _. tt))
+    (λ _. either p start (c == 32) _ _
+    (λ _. either p start (merged word value == value) _ _ (λ _. tt) (λ _. differs_types p start word visit value))
+    (λ _. tt)))
+
+deposit_types : (p : Phase) (start value place c : ℕ) → Types p start (deposit_hears value place c)
+deposit_types p start value place c =
+    either p start (c == digit_of value place) _ _
+    (λ _. either p start (nat_lt place 6) _ _ (λ _. (no_digit value (place + 1), λ _ _. tt)) (λ _. ((λ e. omega arith), λ _ _. tt)))
+    (λ _. tt)
+
+returned_types : (p : Phase) (start : ℕ) (reason : Reason) → Types p start (returned reason)
+returned_types p start Store = tt
+returned_types p start Close = tt
+
+return_types : (p : Phase) (start : ℕ) (reason : Reason) (place c : ℕ) → Types p start (return_hears reason place c)
+return_types p start reason place c =
+    either p start (place == 0) _ _ (λ _. either p start (c == 13) _ _ (λ _ _ _. tt) (λ _. tt))
+    (λ _. either p start (place == 1) _ _ (λ _. either p start (c == 13) _ _ (λ _ _ _. tt) (λ _. either p start (c == 10) _ _ (λ _ _ _. tt) (λ _. tt)))
+    (λ _. either p start (place == 2) _ _ (λ _. either p start (c == 10) _ _ (λ _ _ _. tt) (λ _. tt))
+    (λ _. either p start (c == 64) _ _ (λ _. returned_types p start reason) (λ _. tt))))
+
+-- one digit more of the start address
+one_more : (start place : ℕ) → 1 ≤ place → place < 6 → take (place + 1) (octal_text start) ≡ take place (octal_text start) ++ digit_of start (place + 1) ∷ []
+one_more start zero low high = absurd (omega arith)
+one_more start (suc zero) low high = refl
+one_more start (suc (suc zero)) low high = refl
+one_more start (suc (suc (suc zero))) low high = refl
+one_more start (suc (suc (suc (suc zero)))) low high = refl
+one_more start (suc (suc (suc (suc (suc zero))))) low high = refl
+one_more start (suc (suc (suc (suc (suc (suc n)))))) low high = absurd (omega arith)
+
+typed_more : (start place : ℕ) → 1 ≤ place → place < 6 → (typed : List ℕ) → TypedFits (Start place) start typed → TypedFits (Start (place + 1)) start (typed ++ digit_of start (place + 1) ∷ [])
+typed_more start place low high typed t =
+    (t.0, ap (λ all. all ++ digit_of start (place + 1) ∷ []) t.1 ∙ (append_assoc t.0 (take place (octal_text start)) (digit_of start (place + 1) ∷ []) ∙ ap (λ digits. t.0 ++ digits) (sym (one_more start place low high))))
+
+start_types : (start place c : ℕ) → IsPlace place → Types (Start place) start (start_hears start place c)
+start_types start place c p =
+    either (Start place) start (c == digit_of start place) _ _
+    (λ _. either (Start place) start (nat_lt place 6) _ _
+    (λ less. (no_digit start (place + 1), typed_more start place p.from (ltb-true _ _ less)))
+    (λ more typed t. (t.0, let six : place ≡ 6 = omega (arith, p.to, ltb-false _ _ more) in t.1 ∙ ap (λ k. t.0 ++ take k (octal_text start)) six)))
+    (λ _. tt)
+
+hears_types : (word : WordValue) (start : ℕ) (phase : Phase) (c : ℕ) (b : Basis) → PhaseFits phase b → Types phase start (hears word start phase c)
+hears_types word start Settle c b f = λ _ _. tt
+hears_types word start (Sync place) c b f = sync_types (Sync place) start place c
+hears_types word start (Address visit place) c b f = address_types (Address visit place) start word.address visit place c
+hears_types word start (Slash visit) c b f = either (Slash visit) start (c == 47) _ _ (λ _ _ _. tt) (λ _. tt)
+hears_types word start (Before visit) c b f = before_types (Before visit) start word.address visit c
+hears_types word start (Value visit value place) c b f = value_types (Value visit value place) start word visit value place c
+hears_types word start (Deposit value place) c b f = deposit_types (Deposit value place) start value place c
+hears_types word start (Return reason place) c b f = return_types (Return reason place) start reason place c
+hears_types word start (Start place) c b f = start_types start place c f.1
+hears_types word start Go c b f = either Go start (c == 71) _ _ (λ _. tt) (λ _. tt)
+hears_types word start (Ended end) c b f = λ _ _. tt
+
+waits_types : (start : ℕ) (phase : Phase) → Types phase start (waits phase)
+waits_types start Settle = ((λ e. omega arith), λ _ _. tt)
+waits_types start (Sync place) = tt
+waits_types start (Address visit place) = tt
+waits_types start (Slash visit) = tt
+waits_types start (Before visit) = tt
+waits_types start (Value visit value place) = tt
+waits_types start (Deposit value place) = tt
+waits_types start (Return reason place) = tt
+waits_types start (Start place) = tt
+waits_types start Go = tt
+waits_types start (Ended end) = λ _ _. tt
+
+-- what a life has typed: no `G` yet, or the whole start address and `G` with every word verified
+abbrev pub IsTyped : Core → List ℕ → Type 0
+IsTyped core typed =
+    ((Contains typed go → ⊥) × TypedFits core.phase (start_of core) typed) ⊎
+    (EndsWithStart (start_of core) typed × (core.verified ≡ length core.plan.words) × (core.going ≡ true))
+
+the_only : (key : ℕ) → Contains (key ∷ []) go → go ≡ key
+the_only key (zero, low, is) = sym is
+the_only key (suc k, low, is) = absurd (omega (arith, low))
+
+no_more : (typed : List ℕ) (key : ℕ) → (Contains typed go → ⊥) → (go ≡ key → ⊥) → Contains (typed ++ key ∷ []) go → ⊥
+no_more typed key none other c = elim (Contains-append_cases typed (key ∷ []) go c) [ inl before ↦ none before | inr last ↦ other (the_only key last) ]
+
+not_typed : (core : Core) (typed : List ℕ) → IsTyped core typed → IsTyped core (typed ++ [])
+not_typed core typed t = subst (λ all. IsTyped core all) (sym (append-nil typed)) t
+
+after_words_typed : (core : Core) (start : Option ℕ) (typed : List ℕ) → core.plan.start ≡ start → (Contains typed go → ⊥) → IsTyped (after_words core start).next (typed ++ keys (after_words core start).key)
+after_words_typed core (Some start) typed e none =
+    inl (no_more typed (digit_of start 1) none (no_digit start 1), (typed, ap (λ s. typed ++ digit_of (unwrap_or s 0) 1 ∷ []) (sym e)))
+after_words_typed core None typed e none = not_typed (listens core (Ended Loaded)).next typed (inl (none, tt))
+
+taken_typed : (core : Core) (turn : Turn) (typed : List ℕ) → TurnFits turn (basis_of core) (used_in core.phase) → Types core.phase (start_of core) turn → (Contains typed go → ⊥) → TypedFits core.phase (start_of core) typed →
+    IsTyped (taken core turn).next (typed ++ keys (taken core turn).key)
+taken_typed core (Listen phase) typed f t none past = not_typed (listens core phase).next typed (inl (none, t typed past))
+taken_typed core (Key key phase) typed f t none past = inl (no_more typed key none t.0, t.1 typed past)
+taken_typed core Verified typed f t none past = inl (no_more typed carriage_return none (λ e. omega arith), tt)
+taken_typed core ReadBack typed f t none past = inl (no_more typed (digit_of (word_under_way core).address 1) none (no_digit (word_under_way core).address 1), tt)
+taken_typed core Next typed f t none past =
+    on_move (λ m. IsTyped m.next (typed ++ keys m.key)) (nat_lt core.verified (length core.plan.words)) (sends core (digit_of (word_under_way core).address 1) (Address Look 1)) (after_words core core.plan.start)
+    (λ _. inl (no_more typed (digit_of (word_under_way core).address 1) none (no_digit (word_under_way core).address 1), tt))
+    (λ _. after_words_typed core core.plan.start typed refl none)
+taken_typed core Mark typed f t none past =
+    let whole = t typed past in
+    inr ((whole.0, ap (λ all. all ++ go ∷ []) whole.1), f.0.all, refl)
+taken_typed core (Stop end) typed f t none past = not_typed (listens core (Ended end)).next typed (inl (none, tt))
+taken_typed core Stray typed f t none past =
+    on_move (λ m. IsTyped m.next (typed ++ keys m.key)) (nat_lt core.spent core.patience) (listens (record core { spent = core.spent + 1 }) Settle) (listens core (Ended GaveUp))
+    (λ _. not_typed (listens (record core { spent = core.spent + 1 }) Settle).next typed (inl (none, tt)))
+    (λ _. not_typed (listens core (Ended GaveUp)).next typed (inl (none, tt)))
+taken_typed core Timeout typed f t none past =
+    on_move (λ m. IsTyped m.next (typed ++ keys m.key)) (nat_lt core.spent core.patience) (sends (record core { spent = core.spent + 1 }) resync (Sync 0)) (listens core (Ended GaveUp))
+    (λ _. inl (no_more typed resync none (λ e. omega arith), tt))
+    (λ _. not_typed (listens core (Ended GaveUp)).next typed (inl (none, tt)))
+
+stays_whole : (core : Core) (m : Move) (typed : List ℕ) → StaysStill core m → IsMoved core m → EndsWithStart (start_of core) typed → core.verified ≡ length core.plan.words → core.going ≡ true → IsTyped m.next (typed ++ keys m.key)
+stays_whole core m typed s mv ends all e =
+    inr (
+      (ends.0, ap (λ key. typed ++ keys key) s.key ∙ (append-nil typed ∙ (ends.1 ∙ ap (λ start. ends.0 ++ octal_text start ++ go ∷ []) (sym mv.start)))),
+      s.verified ∙ (all ∙ ap (λ plan. length plan.words) (sym mv.plan)),
+      mv.going e,
+    )
+
+turn_types : (core : Core) (heard : Heard) → IsHost core → Types core.phase (start_of core) (turn_of core heard)
+turn_types core (Got c) h = hears_types (word_under_way core) (start_of core) core.phase c (basis_of core) h.fits
+turn_types core Quiet h = waits_types (start_of core) core.phase
+
+move_typed : (core : Core) (heard : Heard) (typed : List ℕ) → IsHost core → IsTyped core typed → IsTyped (move core heard).next (typed ++ keys (move core heard).key)
+move_typed core heard typed h (inl t) = taken_typed core (turn_of core heard) typed (turn_fits core heard h) (turn_types core heard h) t.0 t.1
+move_typed core heard typed h (inr t) = stays_whole core (move core heard) typed (silent core heard h t.2) (moved core heard) t.0 t.1 t.2
+
+led_typed : (core : Core) (heard : List Heard) (typed : List ℕ) → IsHost core → IsTyped core typed → IsTyped (led core heard) (typed ++ replay core heard)
+led_typed core [] typed h t = not_typed core typed t
+led_typed core (heard ∷ more) typed h t =
+    subst (λ all. IsTyped (led core (heard ∷ more)) all) (append_assoc typed (keys (move core heard).key) (replay (move core heard).next more))
+    (led_typed (move core heard).next more (typed ++ keys (move core heard).key) (kept core heard h) (move_typed core heard typed h t))
+
+first_typed : (plan : PlanValue) (verified : ℕ) (going : Bool) (start : ℕ) → TypedFits (first_phase plan verified going) start []
+first_typed plan verified true start = tt
+first_typed plan verified false start = on_test (λ v. TypedFits (if v then Ended Loaded else Settle) start []) (verified == length plan.words && is_none plan.start) (λ _. tt) (λ _. tt)
+
+nothing_yet : Contains [] go → ⊥
+nothing_yet (k, low, is) = omega (arith, low)
+
+whole_start : (core : Core) (heard : List Heard) → IsTyped (led core heard) (replay core heard) → Contains (replay core heard) go → EndsWithStart (start_of core) (replay core heard) × ((led core heard).verified ≡ length core.plan.words)
+whole_start core heard (inl t) c = absurd (t.0 c)
+whole_start core heard (inr t) c =
+    (subst (λ plan. EndsWithStart (unwrap_or plan.start 0) (replay core heard)) (led_plan core heard) t.0, t.1 ∙ ap (λ plan. length plan.words) (led_plan core heard))
+
+pub starts_only_whole : (plan : PlanValue) (verified : ℕ) (going : Bool) (patience : ℕ) → IsHost (begun plan verified going patience) → StartsOnlyWhole (begun plan verified going patience)
+starts_only_whole plan verified going patience h heard c =
+    let core : Core = begun plan verified going patience in
+    whole_start core heard (led_typed core heard [] h (inl (nothing_yet, first_typed plan verified going (start_of core)))) c

@@ -1,0 +1,7 @@
+use Rattle.std.proofs.Common.{subst}
+use Rattle.host_core.specs.Host.{IsHost}
+use Rattle.host_core.proofs.Lives.{keeps_bound}
+use Rattle.host_core.proofs.host.HostCore.sent_count.Goals as goal
+
+pub returns-clause-later : goal.returns-clause-later
+returns-clause-later c = keeps_bound c.args.self.now (subst IsHost c.self.view_is c.self.invariant)

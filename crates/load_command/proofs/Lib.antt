@@ -2,3 +2,10 @@ pub mod Faults
 pub mod TapeInput
 pub mod TapeSize
 pub mod Typing
+pub mod Numbers
+pub mod Forms
+pub mod Codes
+pub mod Lines
+pub mod Drafts
+pub mod Scripts
+pub mod OneLine

@@ -4,3 +4,6 @@ pub mod TapeFile
 pub mod CheckText
 pub mod CheckFault
 pub mod Typing
+pub mod Line
+pub mod Script
+pub mod Draft

@@ -4,10 +4,13 @@
 mod check;
 mod fault;
 mod input;
+mod line;
 mod output;
+mod script;
 mod tape_file;
 mod text;
 mod type_keys;
+mod waiting;
 
 use std::process::ExitCode;
 

@@ -4,11 +4,12 @@ use Rattle.std.proofs.lemmas.List.{length-take, take_all, drop-drop}
 use Rattle.std.proofs.lemmas.List.Elements.{All-nil, All-append, All-cons}
 use Rattle.std.proofs.lemmas.List.Sums.{sum_by-cons}
 use Rattle.tape_blocks.specs.Block.{BlockValue, IsBlock, HoldsBytes, data_block, transfer_block}
-use Rattle.tape_blocks.specs.Tape.{Piece, text_of, blocks_of, IsFront, IsTape, IsSound, tape_limit}
+use Rattle.tape_blocks.specs.Tape.{TapeValue, Piece, text_of, blocks_of, IsFront, IsTape, IsSound, tape_limit}
 use Rattle.tape_blocks.specs.Tape.Piece.{blank, block}
 use Rattle.tape_blocks.specs.Refusal.{IsRefused, missing_fault}
-use Rattle.tape_blocks.specs.Head.{IsFaulty}
+use Rattle.tape_blocks.specs.Head.{IsHead, IsFaulty}
 use Rattle.tape_blocks.specs.declared.fault.Fault.{Fault}
+use Rattle.tape_blocks.specs.declared.head.Head.{Head}
 use Rattle.tape_blocks.proofs.Fronts.{text_of-append, blocks_of-append}
 use Rattle.tape_blocks.proofs.Tests.{length-framed, take_seam}
 use Rattle.tape_blocks.proofs.Readings.{refused, take_within}
@@ -148,3 +149,23 @@ IsRead-place input text at blocks is r =
     let l : at + length (drop at text) ≡ length text = IsRead-within text at blocks r in
     let e : length (take (length text - at) (drop at text)) ≡ length (drop at text) = ap length (rest_is text at) in
     omega arith
+
+-- what stands behind the reader, by the head that was found there
+pub head_behind : (text : List ℕ) (at : ℕ) (found head : Head) → IsHead (take (length text - at) (drop at text)) found → found ≡ head
+    → IsHead (drop at text) head
+head_behind text at found head h e = subst (IsHead (drop at text)) e (subst (λ x. IsHead x found) (rest_is text at) h)
+
+-- the same of a fault
+pub fault_behind :
+    (input text : List ℕ) (at : ℕ) (blocks : List BlockValue) (fault missing : Fault) → text ≡ take tape_limit input
+    → missing ≡ missing_fault input at → IsRead text at blocks
+    → IsFaulty at missing (take (length text - at) (drop at text)) fault → IsRefused input fault.at fault.why
+fault_behind input text at blocks fault missing is m r f =
+    IsRead-fault input text at blocks fault missing is m r (subst (λ x. IsFaulty at missing x fault) (rest_is text at) f)
+
+-- the tape that is answered there
+pub tape_answered :
+    (input : List ℕ) (at : ℕ) (blocks : List BlockValue) (start : ℕ) (tape : TapeValue) → record { blocks = blocks; start = start } ≡ tape
+    → Ends input at blocks start → (at + 7 ≤ length input) × IsTape (take (at + 7) input) tape.blocks tape.start
+tape_answered input at blocks start tape same e =
+    subst (λ t. (at + 7 ≤ length input) × IsTape (take (at + 7) input) t.blocks t.start) same (e.within, e.is_tape)

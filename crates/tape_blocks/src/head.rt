@@ -1,4 +1,4 @@
-ghost use Rattle.std.specs.Prelude.{◌≡◌, ℕ, ◌+◌, ◌-◌, ◌<◌, ◌≤◌, length, take, drop, sum, slice_get, ◌↔◌, IsTrue, MatchResult, None, Some};
+ghost use Rattle.std.specs.Prelude.{◌≡◌, ℕ, ◌+◌, ◌-◌, ◌%◌, ◌<◌, ◌≤◌, length, take, drop, sum, slice_get, ◌↔◌, IsTrue, MatchResult, None, Some};
 ghost use Rattle.tape_blocks.specs.Tape.{tape_limit};
 ghost use Rattle.tape_blocks.specs.Refusal.{address_of, count_of, first_fault, tests_of};
 ghost use Rattle.tape_blocks.specs.Head.{IsHead, IsFaulty};
@@ -8,14 +8,14 @@ use crate::fault::{Fault, Why};
 use byteorder::{ByteOrder, LittleEndian};
 
 /// What begins a block.
-const MARK: u8 = 1;
+pub const MARK: u8 = 1;
 
 /// What may stand before and between blocks, and the second byte of a block's mark.
-const BLANK: u8 = 0;
+pub const BLANK: u8 = 0;
 
 /// The bytes before the data: mark, count and address. A block's count has them in, so this is the
 /// count of the transfer block, and the least one that there is.
-const HEADER: usize = 6;
+pub const HEADER: usize = 6;
 
 /// What stands first in a text.
 pub enum Head<'a> {
@@ -98,7 +98,7 @@ fn framed<'a>(text: &'a [u8], at: usize, missing: Fault) -> Result<(u16, &'a [u8
     if text.len() <= count {
         return Err(missing);
     }
-    if byte_sum(&text[..count + 1]) % 256 != 0 {
+    if byte_sum(&text[..count + 1]) != 0 {
         return Err(Fault {
             at: at as u32,
             why: Why::BadSum,
@@ -107,10 +107,10 @@ fn framed<'a>(text: &'a [u8], at: usize, missing: Fault) -> Result<(u16, &'a [u8
     Ok((LittleEndian::read_u16(&text[4..]), &text[HEADER..count]))
 }
 
-/// The sum of the bytes.
-fn byte_sum(bytes: &[u8]) -> u32
+/// The sum of the bytes modulo 256, which is 0 over a whole block.
+pub fn byte_sum(bytes: &[u8]) -> u32
     requires { length bytes.now ≤ tape_limit }
-    ensures { result ≡ sum bytes.now }
+    ensures { result ≡ sum bytes.now % 256 }
 {
-    bytes.iter().map(|byte| u32::from(*byte)).sum()
+    bytes.iter().map(|byte| u32::from(*byte)).sum::<u32>() % 256
 }

@@ -5,3 +5,9 @@ ghost use Rattle.tape_blocks.specs.Reading.{OneTape, OneReading};
 pub fn one_tape()
     ensures { OneTape }
 {}
+
+/// An input of bytes says one thing and no second: either a tape of so many bytes begins it, or it is
+/// refused for one reason at one place. This function does nothing: its contract is the law.
+pub fn one_reading()
+    ensures { OneReading }
+{}

@@ -24,7 +24,7 @@ mod writer;
 
 pub use block::Block;
 pub use fault::{Fault, Memory, ReadError, Why};
-pub use law::one_tape;
+pub use law::{one_reading, one_tape};
 pub use reader::read_tape;
 pub use tape::{BadTape, TAPE_LIMIT, Tape};
 pub use writer::write_tape;

@@ -1,22 +1,17 @@
-use Rattle.std.proofs.Common.{◌≡◌, ℕ, List, ◌∷◌, ◌++◌, ◌∙◌, ap, arith, length, sym, ◌+◌, ◌-◌, ◌<◌, ◌↔◌, Bool, false, Some, IsTrue, subst, drop, [], All, ◌^◌}
-use Rattle.std.specs.Prelude.{slice_get, slice_index}
+use Rattle.std.proofs.Common.{◌≡◌, ℕ, ◌+◌, ◌-◌, List, [], ◌∷◌, ◌++◌, length, drop, ap, ◌∙◌, sym, subst, arith, ◌↔◌, Bool, false, Some, IsTrue}
+use Rattle.std.specs.Prelude.{slice_get}
 use Rattle.std.proofs.lemmas.Bool.{eqb-true, eqb-false}
 use Rattle.std.proofs.lemmas.List.{nil_from_length}
-use Rattle.std.proofs.lemmas.List.Elements.{All-from_get_or, All-take, All-drop}
 use Rattle.std.proofs.lemmas.Result.{err_from_is_err_and}
 use Rattle.tape_blocks.specs.Block.{framed}
 use Rattle.tape_blocks.specs.Refusal.{count_of, address_of}
-use Rattle.tape_blocks.proofs.Tests.{framed_text, passes_framed, data_of, length-data_of}
+use Rattle.tape_blocks.proofs.Tests.{passes_framed, data_of, length-data_of}
 use Rattle.tape_blocks.proofs.Faults.{faulty_frame, faulty_end}
+use Rattle.tape_blocks.proofs.Heads.{AreBytes, framed_as}
 use Rattle.tape_blocks.proofs.head.first_of.Goals as goal
 
 not_blank : (text : List ℕ) (r : Bool) → r ≡ false → (IsTrue r ↔ (slice_get text 0 ≡ Some 0)) → (rest : List ℕ) → text ≡ 0 ∷ rest → ⊥
 not_blank text r f h rest e = grind (arith, ap (λ t. slice_get t 0) e)
-
-same_text : (text bytes : List ℕ) (address : ℕ) → address ≡ address_of text → bytes ≡ data_of text
-    → text ≡ framed (address_of text) (data_of text) ++ drop (7 + length (data_of text)) text
-    → text ≡ framed address bytes ++ drop (7 + length bytes) text
-same_text text bytes address a d e = e ∙ sym (ap (λ x. framed x bytes ++ drop (7 + length bytes) text) a ∙ ap (λ x. framed (address_of text) x ++ drop (7 + length x) text) d)
 
 pub returns-in_err-address : goal.returns-in_err-address
 returns-in_err-address c =
@@ -30,12 +25,10 @@ returns-then-is_empty c =
     let bytes : List ℕ = c.in_ok-address.data.now in
     let a : ℕ = c.in_ok-address.address in
     let e = c.in_ok-address.ensures in
-    let f = passes_framed c.args.at c.args.missing text e.0 in
-    let t = same_text text bytes a e.1 e.2 (framed_text text (λ i. omega (arith, c.type_inv.text i)) f) in
+    let are : AreBytes text = λ i. omega (arith, c.type_inv.text i) in
+    let g = framed_as text a bytes are (passes_framed c.args.at c.args.missing text e.0) e.1 e.2 in
     let none : bytes ≡ [] = nil_from_length bytes (eqb-true _ _ (sym c.is_empty.ensures ∙ c.if-is_empty.true)) in
-    let b : (i : ℕ) → slice_index text i < 256 = λ i. omega (arith, c.type_inv.text i) in
-    let word : a < 2 ^ 16 = omega (arith, e.1, b 4, b 5) in
-    (word, subst (λ bs. text ≡ framed a bs ++ drop (7 + length bs) text) none t)
+    (g.word, subst (λ bs. text ≡ framed a bs ++ drop (7 + length bs) text) none g.joined)
 
 pub returns-then-from-data-gt-TOP : goal.returns-then-from-data-gt-TOP
 returns-then-from-data-gt-TOP c =
@@ -55,11 +48,8 @@ pub returns : goal.returns
 returns c =
     let text : List ℕ = c.args.text.now in
     let bytes : List ℕ = c.in_ok-address.data.now in
-    let a : ℕ = c.in_ok-address.address in
     let e = c.in_ok-address.ensures in
-    let f = passes_framed c.args.at c.args.missing text e.0 in
-    let t = same_text text bytes a e.1 e.2 (framed_text text (λ i. omega (arith, c.type_inv.text i)) f) in
+    let are : AreBytes text = λ i. omega (arith, c.type_inv.text i) in
+    let g = framed_as text c.in_ok-address.address bytes are (passes_framed c.args.at c.args.missing text e.0) e.1 e.2 in
     let some : length bytes ≡ 0 → ⊥ = eqb-false _ _ (sym c.is_empty.ensures ∙ c.if-is_empty.false) in
-    let b : All (λ x. x < 2 ^ 8) text = All-from_get_or (λ x. x < 2 ^ 8) text 0 (λ i _. omega (arith, c.type_inv.text i)) in
-    let d : All (λ x. x < 2 ^ 8) (data_of text) = All-take (λ x. x < 2 ^ 8) _ _ (All-drop (λ x. x < 2 ^ 8) 6 text b) in
-    (record { not_empty = omega arith; below_top = omega arith }, subst (All (λ x. x < 2 ^ 8)) (sym e.2) d, t)
+    (record { not_empty = omega arith; below_top = omega arith }, g.each_byte, g.joined)

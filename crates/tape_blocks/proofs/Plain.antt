@@ -1,0 +1,55 @@
+-- The plain text of a tape is a tape.
+use Rattle.std.proofs.Common.{◌≡◌, ℕ, ◌+◌, ◌<◌, List, [], ◌∷◌, ◌++◌, length, map, take, arith, ◌∙◌, sym, ap, subst, refl, length-append, append-nil, get_or, sum_by, All, Ok}
+use Rattle.std.proofs.lemmas.List.{take_more, map-append}
+use Rattle.std.proofs.lemmas.List.Sums.{sum_by-cons}
+use Rattle.tape_blocks.specs.Block.{BlockValue, IsBlock, data_block, transfer_block}
+use Rattle.tape_blocks.specs.Tape.{TapeValue, text_of, blocks_of, IsTape, IsSound, plain_text, written_length}
+use Rattle.tape_blocks.specs.Tape.Piece.{block}
+use Rattle.tape_blocks.specs.Reading.{IsReading}
+use Rattle.tape_blocks.proofs.Fronts.{text_of-append}
+use Rattle.tape_blocks.proofs.Tests.{length-framed, take_seam}
+
+blocks_of-blocks : (bs : List BlockValue) → blocks_of (map block bs) ≡ bs
+blocks_of-blocks [] = refl
+blocks_of-blocks (b ∷ bs) = ap (λ l. b ∷ l) (blocks_of-blocks bs)
+
+length-blocks : (bs : List BlockValue) → length (text_of (map block bs)) ≡ sum_by (λ b. 7 + length b.bytes) bs
+length-blocks [] = refl
+length-blocks (b ∷ bs) =
+    let h = length-blocks bs in
+    let s = sum_by-cons (λ x. 7 + length x.bytes) b bs in
+    let l = length-append (data_block b) (text_of (map block bs)) in
+    let f = length-framed b.address b.bytes in
+    omega arith
+
+pub length-plain_text : (tape : TapeValue) → length (plain_text tape) ≡ written_length tape.blocks
+length-plain_text tape =
+    let h = length-blocks tape.blocks in
+    let l = length-append (text_of (map block tape.blocks)) (transfer_block tape.start) in
+    let f = length-framed tape.start [] in
+    omega arith
+
+pub plain_text-tape : (tape : TapeValue) → IsSound tape → IsTape (plain_text tape) tape.blocks tape.start
+plain_text-tape tape s = record {
+  pieces = map block tape.blocks;
+  front = record { joined = refl; allowed = subst (All IsBlock) (sym (blocks_of-blocks tape.blocks)) s.each_block };
+  all_used = blocks_of-blocks tape.blocks;
+  within = let l = length-plain_text tape in let w = s.within in omega arith;
+}
+
+-- whatever follows it
+pub read_again : (tape : TapeValue) (text more : List ℕ) (n : ℕ) → IsSound tape → text ≡ plain_text tape → n ≡ length text
+    → IsReading (text ++ more) (Ok (tape, n))
+read_again tape text more n s e l =
+    let a = length-append text more in
+    let t : take n (text ++ more) ≡ plain_text tape = take_seam n text more l ∙ e in
+    (omega arith, subst (λ x. IsTape x tape.blocks tape.start) (sym t) (plain_text-tape tape s))
+
+-- one more block in the text
+pub text_of-push : (bs : List BlockValue) (i : ℕ) (b : BlockValue) → i < length bs → b ≡ get_or bs i b
+    → text_of (map block (take (i + 1) bs)) ≡ text_of (map block (take i bs)) ++ data_block b
+text_of-push bs i b h e =
+    ap (λ l. text_of (map block l)) (take_more bs i b h ∙ ap (λ x. take i bs ++ x ∷ []) (sym e))
+    ∙ ap text_of (map-append block (take i bs) (b ∷ []))
+    ∙ text_of-append (map block (take i bs)) (block b ∷ [])
+    ∙ ap (λ t. text_of (map block (take i bs)) ++ t) (append-nil (data_block b))

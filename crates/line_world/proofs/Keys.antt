@@ -49,7 +49,7 @@ opened_takes g (Opened a) h = tt
 opened_takes g (Typing a v n) h = absurd h
 opened_takes g (Running p) h = absurd h
 
-typing_lies : (m : Machine) (a v n : ℕ) → IsMachine m → m.mode ≡ Typing a v n → is_word m.memory a ≡ true
+pub typing_lies : (m : Machine) (a v n : ℕ) → IsMachine m → m.mode ≡ Typing a v n → is_word m.memory a ≡ true
 typing_lies m a v n is mode = (subst (ModeFits m.memory) mode is.mode).0
 
 -- the key that a phase waits for is lawful

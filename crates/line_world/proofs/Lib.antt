@@ -7,3 +7,7 @@ pub mod Silence
 pub mod Keys
 pub mod Sites
 pub mod Stores
+pub mod Taking
+pub mod Hearing
+pub mod Machines
+pub mod Events

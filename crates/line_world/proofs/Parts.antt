@@ -1,5 +1,5 @@
 -- Lists with characters lost.
-use Rattle.std.proofs.Common.{◌≡◌, ◌≢◌, ℕ, zero, suc, ◌+◌, ◌<◌, ◌≤◌, ◌⊎◌, Bool, true, false, eqb, List, [], ◌∷◌, length, inl, inr, refl, arith, sym}
+use Rattle.std.proofs.Common.{◌≡◌, ◌≢◌, ℕ, zero, suc, ◌+◌, ◌<◌, ◌≤◌, ◌⊎◌, Bool, true, false, eqb, List, [], ◌∷◌, length, inl, inr, refl, arith, sym, subst}
 use Rattle.std.specs.List.{remove}
 use Rattle.std.proofs.lemmas.Bool.Decides.{nat_tests}
 use Rattle.line_world.specs.Pending.{IsPart}
@@ -74,3 +74,28 @@ follows_skip c d rest more other f = record { part = skip c d rest more other f;
 -- a character that is not the next one may leave the rest as it is
 pub follows_stay : (c d : ℕ) (rest : List ℕ) → c ≢ d → Follows c (d ∷ rest) (d ∷ rest)
 follows_stay c d rest other = record { part = λ u h. part_peel c u (d ∷ rest) h; whole = λ u e. absurd (other cc) }
+
+pub follows_at : (c d : ℕ) (rest more : List ℕ) → c ≡ d → Follows d rest more → Follows c rest more
+follows_at c d rest more e f = subst (λ x. Follows x rest more) (sym e) f
+
+-- the character is not the next one of the exact answer
+abbrev pub Misses : ℕ → List ℕ → Type 0
+Misses c rest = (u : List ℕ) → c ∷ u ≡ rest → ⊥
+
+pub misses : (c d : ℕ) (rest : List ℕ) → c ≢ d → Misses c (d ∷ rest)
+misses c d rest other u e = other cc
+
+-- the character is nowhere in the list
+abbrev pub IsAbsent : ℕ → List ℕ → Type 0
+IsAbsent c [] = Unit {0}
+IsAbsent c (d ∷ rest) = (c ≢ d) × IsAbsent c rest
+
+pub part_absent : (c : ℕ) (u rest : List ℕ) → IsAbsent c rest → IsPart (c ∷ u) rest → ⊥
+part_absent c u [] absent h = h
+part_absent c u (d ∷ rest) absent (inl h) = absent.0 h.0
+part_absent c u (d ∷ rest) absent (inr h) = part_absent c u rest absent.1 h
+
+-- past a character that is another
+pub part_past : (c d : ℕ) (u rest : List ℕ) → c ≢ d → IsPart (c ∷ u) (d ∷ rest) → IsPart (c ∷ u) rest
+part_past c d u rest other (inl h) = absurd (other h.0)
+part_past c d u rest other (inr h) = h

@@ -41,7 +41,7 @@ stored_other t a v apart there =
     let now : slice_index (slice_set t.memory (a / 2) v) (t.word.address / 2) ≡ held t = get_or-set_other t.memory (a / 2) (t.word.address / 2) v 0 apart in
     (lies_same t.memory _ t.word.address (length-set t.memory (a / 2) v) there.0, rw now there.1)
 
-same_or : (i j : ℕ) → (i ≡ j) ⊎ (i ≢ j)
+pub same_or : (i j : ℕ) → (i ≡ j) ⊎ (i ≢ j)
 same_or i j = elim (eqb i j) as (λ b. eqb i j ≡ b → (i ≡ j) ⊎ (i ≢ j)) [ true ↦ λ e. inl (same i j e) | false ↦ λ e. inr (other i j e) ] refl
   where
     same : (i j : ℕ) → eqb i j ≡ true → i ≡ j
@@ -60,7 +60,7 @@ stands_after g memory j is (inr (i, inside, lies, now)) below there =
     ])
 
 -- below its length a list needs no default
-rest_default : (words : List WordValue) (i : ℕ) (d e : WordValue) → i < length words → get_or words i d ≡ get_or words i e
+pub rest_default : (words : List WordValue) (i : ℕ) (d e : WordValue) → i < length words → get_or words i d ≡ get_or words i e
 rest_default [] i d e h = absurd (omega arith)
 rest_default (w ∷ words) zero d e h = refl
 rest_default (w ∷ words) (suc i) d e h = rest_default words i d e (omega arith)

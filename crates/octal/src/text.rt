@@ -64,7 +64,10 @@ mod tests {
             assert_eq!(rt; read_oct6(text), Some(word), "{reason}");
         }
         for (text, reason) in [
-            (b"200000", "a word has sixteen bits, so the first digit is 0 or 1"),
+            (
+                b"200000",
+                "a word has sixteen bits, so the first digit is 0 or 1",
+            ),
             (b"777777", "the same for the largest digit"),
             (b"000008", "8 is no octal digit"),
             (b"00000/", "the character before the digits"),
@@ -79,7 +82,12 @@ mod tests {
         for (value, key, want, reason) in [
             (0, b'5', Some(5), "the first digit"),
             (0o12, b'3', Some(0o123), "a digit comes in at the right"),
-            (0o123456, b'7', Some(0o34567), "a seventh digit pushes the first out"),
+            (
+                0o123456,
+                b'7',
+                Some(0o34567),
+                "a seventh digit pushes the first out",
+            ),
             (65535, b'7', Some(65535), "sixteen bits stay sixteen"),
             (1, b'8', None, "8 is no octal digit"),
             (1, b'/', None, "a command's key"),

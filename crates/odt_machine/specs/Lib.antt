@@ -1,5 +1,6 @@
 pub mod Style
 pub mod Key
+pub mod Error
 pub mod Machine
 pub mod Answer
 pub mod KeyTable

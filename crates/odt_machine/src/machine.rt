@@ -1,4 +1,5 @@
-ghost use Rattle.std.specs.Prelude.{◌≡◌, ℕ, ◌<◌, ◌≤◌, ◌↔◌, replicate, IsTrue, IsOk, IfOk, IfErr};
+ghost use Rattle.std.specs.Prelude.{◌≡◌, ℕ, ◌<◌, ◌≤◌, ◌↔◌, replicate, IsTrue, IsOk, IfOk, IfErr, Some};
+ghost use Rattle.odt_machine.specs.Error.{error_text};
 ghost use Rattle.odt_machine.specs.Machine.{ModeFits, IsMachine};
 
 mod memory;
@@ -28,6 +29,8 @@ pub enum OdtError {
 }
 
 impl fmt::Display for OdtError {
+    ghost output = { λ error. Some (error_text error) };
+
     fn fmt<W: fmt::Write>(&self, f: &mut fmt::Formatter<W>) -> fmt::Result {
         f.write_str(match self {
             OdtError::TooLarge => "a machine has at most 28672 words",

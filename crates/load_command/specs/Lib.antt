@@ -7,3 +7,5 @@ pub mod Typing
 pub mod Line
 pub mod Script
 pub mod Draft
+pub mod Status
+pub mod Failure

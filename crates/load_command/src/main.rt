@@ -2,18 +2,43 @@
 #![tactic(auto)]
 
 mod check;
+mod command_line;
+mod failure;
 mod fault;
 mod input;
 mod line;
 mod output;
+mod program;
 mod script;
+mod status;
 mod tape_file;
 mod text;
 mod type_keys;
 mod waiting;
 
 use std::process::ExitCode;
+use std::{env, io};
 
-fn main(_rt: HostRuntime) -> ExitCode {
-    ExitCode::from(0)
+use failure::Failure;
+
+fn main(rt: HostRuntime) -> ExitCode {
+    let mut input = rt.stdin();
+    let mut out = rt.stdout();
+    let mut err = rt.stderr();
+    let Ok(words) = words(&rt) else {
+        return ExitCode::from(program::tell(Failure::NoMemory, &mut err).code());
+    };
+    let alloc = rt.alloc();
+    ExitCode::from(program::program(
+        &rt, alloc, &words, &mut input, &mut out, &mut err,
+    ))
+}
+
+/// The words after the program's name.
+fn words(rt: &HostRuntime) -> io::Result<Vec<String>> {
+    let mut words = Vec::new(rt.alloc());
+    for word in env::args(rt)?.skip(1) {
+        words.push(word)?;
+    }
+    Ok(words)
 }

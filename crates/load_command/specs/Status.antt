@@ -1,0 +1,14 @@
+-- The exit status of the program (this project's own).
+use Rattle.std.specs.Prelude.{ℕ}
+use Rattle.load_command.specs.declared.status.Status.{Status}
+use Rattle.load_command.specs.declared.status.Status.TheVariants.{Done, BadCommandLine, Refused, DeviceFailed, NotLoaded, Uncertain, NoMemory}
+
+-- the number of each ending
+abbrev pub status_code : Status → ℕ
+status_code Done = 0
+status_code BadCommandLine = 2
+status_code Refused = 3
+status_code DeviceFailed = 4
+status_code NotLoaded = 5
+status_code Uncertain = 6
+status_code NoMemory = 7

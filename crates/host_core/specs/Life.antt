@@ -1,7 +1,7 @@
 -- How a host's fields make a core.
 use Rattle.std.specs.Prelude.{ℕ}
 use Rattle.tape_image.specs.Plan.{PlanValue}
-use Rattle.host_core.specs.declared.host.Life.{Life}
+use Rattle.host_core.specs.declared.life.Life.{Life}
 use Rattle.host_core.specs.Core.{Core}
 
 -- the core with this plan and patience, in the middle of a life

@@ -1,137 +1,22 @@
-ghost use Rattle.std.specs.Prelude.{◌≡◌, ℕ, ◌+◌, ◌^◌, ◌<◌, ◌≤◌, ◌⊎◌, ◌↔◌, true, false, length, IsTrue, IfOk, IfErr, OnOk, Some, None};
-ghost use Rattle.host_core.specs.declared.heard.Heard.TheVariants.{Got};
-ghost use Rattle.tape_image.specs.Plan.{IsPlan};
+ghost use Rattle.std.specs.Prelude.{◌≡◌, ℕ, ◌≤◌, ◌⊎◌, ◌↔◌, true, false, length, IsTrue, IfOk, IfErr, OnOk, Some, None};
 ghost use Rattle.host_core.specs.Bound.{character_bound};
-ghost use Rattle.host_core.specs.Core.{IsFresh, begun, ended, first_phase, restarted, start_of, word_under_way};
-ghost use Rattle.host_core.specs.Host.{IsHost, HasWord, basis_of};
+ghost use Rattle.host_core.specs.Core.{IsFresh, begun, ended, first_phase, restarted};
+ghost use Rattle.host_core.specs.Host.{IsHost};
 ghost use Rattle.host_core.specs.Laws.{KeepsBound, IsSilent, StartsOnlyWhole};
-ghost use Rattle.host_core.specs.Life.{core_of};
 ghost use Rattle.host_core.specs.Opening.{refusal_of};
-ghost use Rattle.host_core.specs.PhaseTable.{move, next_word, taken, turn_of};
+ghost use Rattle.host_core.specs.PhaseTable.{move};
 ghost use Rattle.host_core.specs.Steps.{IsVerifying, IsMarking};
 
-use crate::console::{CARRIAGE_RETURN, GO, RESYNC};
+#[cfg(test)]
+mod tests;
+mod turns;
+
 use crate::heard::Heard;
-use crate::phase::{End, Phase, Reason, Visit};
+use crate::life::{Life, Outcome};
+use crate::phase::{End, Phase};
 use crate::progress::{BadProgress, Progress};
-use crate::table;
-use crate::turn::Turn;
 use std::marker::Model;
-use tape_image::{Plan, Word};
-
-/// One life of the host: what changes from step to step.
-#[derive(Clone, Copy)]
-struct Life {
-    progress: Progress,
-    spent: u32,
-    sent: u64,
-    phase: Phase,
-}
-
-/// A life after a step, and the character that the step sends.
-#[derive(Clone, Copy)]
-struct Outcome {
-    life: Life,
-    key: Option<u8>,
-}
-
-impl Life {
-    // After the mark nothing is typed; with all words verified and no start nothing is left to do.
-    fn begun(plan: &Plan, progress: Progress) -> Life
-        ensures { (patience : ℕ) → core_of plan.now patience result ≡ begun plan.now progress.verified progress.going patience }
-    {
-        let phase = if progress.going {
-            Phase::Ended(End::MaybeStarted)
-        } else if progress.verified as usize == plan.words().len() && plan.start().is_none() {
-            Phase::Ended(End::Loaded)
-        } else {
-            Phase::Settle
-        };
-        Life {
-            progress,
-            spent: 0,
-            sent: 0,
-            phase,
-        }
-    }
-
-    // One more word is verified.
-    fn with_word(self) -> Life
-        requires { self.progress.verified + 1 < 2 ^ 32 }
-        ensures { result ≡ record self { progress = record { verified = self.progress.verified + 1; going = self.progress.going } } }
-    {
-        let verified = self.progress.verified + 1;
-        Life {
-            progress: Progress {
-                verified,
-                ..self.progress
-            },
-            ..self
-        }
-    }
-
-    fn with_mark(self) -> Life
-        ensures { result ≡ record self { progress = record { verified = self.progress.verified; going = true } } }
-    {
-        Life {
-            progress: Progress {
-                going: true,
-                ..self.progress
-            },
-            ..self
-        }
-    }
-
-    // One mishap more.
-    fn with_mishap(self) -> Life
-        requires { self.spent + 1 < 2 ^ 32 }
-        ensures { result ≡ record self { spent = self.spent + 1 } }
-    {
-        Life {
-            spent: self.spent + 1,
-            ..self
-        }
-    }
-
-    fn listens(self, phase: Phase) -> Outcome
-        ensures { result ≡ record { life = record self { phase = phase }; key = None } }
-    {
-        Outcome {
-            life: Life { phase, ..self },
-            key: None,
-        }
-    }
-
-    fn sends(self, key: u8, phase: Phase) -> Outcome
-        requires { self.sent + 1 < 2 ^ 64 }
-        ensures { result ≡ record { life = record self { sent = self.sent + 1; phase = phase }; key = Some key } }
-    {
-        Outcome {
-            life: Life {
-                sent: self.sent + 1,
-                phase,
-                ..self
-            },
-            key: Some(key),
-        }
-    }
-}
-
-// What is wrong with a progress, if anything.
-fn refusal(plan: &Plan, progress: Progress) -> Option<BadProgress>
-    ensures refusal { result ≡ refusal_of plan.now progress.verified progress.going }
-    ensures plan { IsPlan plan.now }
-{
-    let words = plan.words().len();
-    let verified = progress.verified as usize;
-    if verified > words {
-        Some(BadProgress::TooMany)
-    } else if progress.going && (verified < words || plan.start().is_none()) {
-        Some(BadProgress::EarlyMark)
-    } else {
-        None
-    }
-}
+use tape_image::Plan;
 
 /// A host that loads one plan: it says which character to type next.
 ///
@@ -174,7 +59,7 @@ impl HostCore {
         ensures start { IfOk result StartsOnlyWhole }
         ensures kept { IfOk result IsHost }
     {
-        if let Some(why) = refusal(&plan, progress) {
+        if let Some(why) = progress.refusal(&plan) {
             return Err((plan, why));
         }
         let life = Life::begun(&plan, progress);
@@ -301,91 +186,5 @@ impl HostCore {
         let Outcome { life, key } = self.taken(turn);
         self.life = life;
         key
-    }
-
-    fn turn(&self, heard: Heard) -> Turn
-        ensures { result ≡ turn_of self.now heard }
-    {
-        match heard {
-            Heard::Got(c) => self.hears(c),
-            Heard::Quiet => table::quiet(self.life.phase),
-        }
-    }
-
-    fn word(&self) -> Word
-        requires { HasWord (basis_of self.now) }
-        ensures { result ≡ word_under_way self.now }
-    {
-        self.plan.words()[self.life.progress.verified as usize]
-    }
-
-    fn hears(&self, c: u8) -> Turn
-        ensures { result ≡ turn_of self.now (Got c) }
-    {
-        match self.life.phase {
-            Phase::Settle => Turn::Listen(Phase::Settle),
-            Phase::Sync(place) => table::sync(place, c),
-            Phase::Address(visit, place) => table::address(self.word().address(), visit, place, c),
-            Phase::Slash(visit) => table::slash(visit, c),
-            Phase::Before(visit) => table::before(self.word().address(), visit, c),
-            Phase::Value(visit, value, place) => table::value(self.word(), visit, value, place, c),
-            Phase::Deposit(value, place) => table::deposit(value, place, c),
-            Phase::Return(reason, place) => table::after_return(reason, place, c),
-            Phase::Start(place) => table::start(self.start(), place, c),
-            Phase::Go => table::go(c),
-            Phase::Ended(end) => Turn::Listen(Phase::Ended(end)),
-        }
-    }
-
-    // The start address: phase Start has one.
-    fn start(&self) -> u16
-        ensures { result ≡ start_of self.now }
-    {
-        self.plan.start().unwrap_or(0)
-    }
-
-    fn taken(&self, turn: Turn) -> Outcome
-        requires { IsHost (taken self.now turn).next }
-        ensures next { core_of self.now.plan self.now.patience result.life ≡ (taken self.now turn).next }
-        ensures key { result.key ≡ (taken self.now turn).key }
-    {
-        let life = self.life;
-        match turn {
-            Turn::Listen(phase) => life.listens(phase),
-            Turn::Key(key, phase) => life.sends(key, phase),
-            Turn::Verified => life
-                .with_word()
-                .sends(CARRIAGE_RETURN, Phase::Return(Reason::Close, 0)),
-            Turn::ReadBack => life.sends(
-                table::digit(self.word().address(), 1),
-                Phase::Address(Visit::Check, 1),
-            ),
-            Turn::Next => self.next_word(),
-            Turn::Mark => life.with_mark().sends(GO, Phase::Go),
-            Turn::Stop(end) => life.listens(Phase::Ended(end)),
-            Turn::Stray if life.spent < self.patience => life.with_mishap().listens(Phase::Settle),
-            Turn::Timeout if life.spent < self.patience => life
-                .with_mishap()
-                .sends(RESYNC, Phase::Sync(0)),
-            Turn::Stray | Turn::Timeout => life.listens(Phase::Ended(End::GaveUp)),
-        }
-    }
-
-    // The next word, or the start, or nothing more.
-    fn next_word(&self) -> Outcome
-        requires { self.now.sent + 1 < 2 ^ 64 }
-        ensures next { core_of self.now.plan self.now.patience result.life ≡ (next_word self.now).next }
-        ensures key { result.key ≡ (next_word self.now).key }
-    {
-        if (self.life.progress.verified as usize) < self.plan.words().len() {
-            return self.life.sends(
-                table::digit(self.word().address(), 1),
-                Phase::Address(Visit::Look, 1),
-            );
-        }
-        match self.plan.start() {
-            Some(start) => self.life.sends(table::digit(start, 1), Phase::Start(1)),
-            None => self.life.listens(Phase::Ended(End::Loaded)),
-        }
     }
 }

@@ -13,6 +13,7 @@
 mod console;
 mod heard;
 mod host;
+mod life;
 mod phase;
 mod progress;
 mod table;

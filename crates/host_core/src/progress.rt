@@ -1,3 +1,9 @@
+ghost use Rattle.std.specs.Prelude.{◌≡◌, ℕ};
+ghost use Rattle.tape_image.specs.Plan.{IsPlan};
+ghost use Rattle.host_core.specs.Opening.{refusal_of};
+
+use tape_image::Plan;
+
 /// How far a load has come.
 #[derive(Clone, Copy, Debug, PartialEq, Eq)]
 pub struct Progress {
@@ -16,4 +22,22 @@ pub enum BadProgress {
 
     /// The mark is set with words missing, or with no start.
     EarlyMark,
+}
+
+impl Progress {
+    /// What is wrong with this progress in a load of the plan, if anything.
+    pub(crate) fn refusal(self, plan: &Plan) -> Option<BadProgress>
+        ensures refusal { result ≡ refusal_of plan.now self.verified self.going }
+        ensures plan { IsPlan plan.now }
+    {
+        let words = plan.words().len();
+        let verified = self.verified as usize;
+        if verified > words {
+            Some(BadProgress::TooMany)
+        } else if self.going && (verified < words || plan.start().is_none()) {
+            Some(BadProgress::EarlyMark)
+        } else {
+            None
+        }
+    }
 }

@@ -1,0 +1,108 @@
+ghost use Rattle.std.specs.Prelude.{◌≡◌, ℕ, ◌+◌, ◌^◌, ◌<◌, true, Some, None};
+ghost use Rattle.host_core.specs.Core.{begun};
+ghost use Rattle.host_core.specs.Life.{core_of};
+
+use crate::phase::{End, Phase};
+use crate::progress::Progress;
+use tape_image::Plan;
+
+/// One life of the host: what changes from step to step.
+#[derive(Clone, Copy)]
+pub struct Life {
+    pub progress: Progress,
+    pub spent: u32,
+    pub sent: u64,
+    pub phase: Phase,
+}
+
+/// A life after a step, and the character that the step sends.
+#[derive(Clone, Copy)]
+pub struct Outcome {
+    pub life: Life,
+    pub key: Option<u8>,
+}
+
+impl Life {
+    /// The beginning of a life: after the mark nothing is typed; with all words verified and no start nothing is left to do.
+    pub fn begun(plan: &Plan, progress: Progress) -> Life
+        ensures { (patience : ℕ) → core_of plan.now patience result ≡ begun plan.now progress.verified progress.going patience }
+    {
+        let phase = if progress.going {
+            Phase::Ended(End::MaybeStarted)
+        } else if progress.verified as usize == plan.words().len() && plan.start().is_none() {
+            Phase::Ended(End::Loaded)
+        } else {
+            Phase::Settle
+        };
+        Life {
+            progress,
+            spent: 0,
+            sent: 0,
+            phase,
+        }
+    }
+
+    /// One more word is verified.
+    pub fn with_word(self) -> Life
+        requires { self.progress.verified + 1 < 2 ^ 32 }
+        ensures { result ≡ record self { progress = record { verified = self.progress.verified + 1; going = self.progress.going } } }
+    {
+        let verified = self.progress.verified + 1;
+        Life {
+            progress: Progress {
+                verified,
+                ..self.progress
+            },
+            ..self
+        }
+    }
+
+    /// The mark is set.
+    pub fn with_mark(self) -> Life
+        ensures { result ≡ record self { progress = record { verified = self.progress.verified; going = true } } }
+    {
+        Life {
+            progress: Progress {
+                going: true,
+                ..self.progress
+            },
+            ..self
+        }
+    }
+
+    /// One mishap more.
+    pub fn with_mishap(self) -> Life
+        requires { self.spent + 1 < 2 ^ 32 }
+        ensures { result ≡ record self { spent = self.spent + 1 } }
+    {
+        Life {
+            spent: self.spent + 1,
+            ..self
+        }
+    }
+
+    /// Goes on in this phase, nothing is sent.
+    pub fn listens(self, phase: Phase) -> Outcome
+        ensures { result ≡ record { life = record self { phase = phase }; key = None } }
+    {
+        Outcome {
+            life: Life { phase, ..self },
+            key: None,
+        }
+    }
+
+    /// Sends the character and goes on in this phase.
+    pub fn sends(self, key: u8, phase: Phase) -> Outcome
+        requires { self.sent + 1 < 2 ^ 64 }
+        ensures { result ≡ record { life = record self { sent = self.sent + 1; phase = phase }; key = Some key } }
+    {
+        Outcome {
+            life: Life {
+                sent: self.sent + 1,
+                phase,
+                ..self
+            },
+            key: Some(key),
+        }
+    }
+}

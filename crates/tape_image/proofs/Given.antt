@@ -1,10 +1,10 @@
 -- Which byte the words of a plan give for an address.
-use Rattle.std.proofs.Common.{◌≡◌, ℕ, zero, suc, ◌+◌, ◌*◌, ◌/◌, ◌%◌, ◌<◌, ◌≤◌, Bool, true, false, cond, eqb, ◌||◌, List, [], ◌∷◌, length, get_or, Option, Some, None, refl, arith, ap, sym, ◌∙◌}
+use Rattle.std.proofs.Common.{◌≡◌, ℕ, zero, suc, ◌/◌, ◌%◌, ◌<◌, true, false, cond, eqb, ◌||◌, List, [], ◌∷◌, length, get_or, Some, None, refl, arith, ap, ◌∙◌}
 use Rattle.std.specs.Prelude.{All, AllPairs, Contains}
 use Rattle.std.specs.List.{list_any}
 use Rattle.std.specs.FinMap.{get}
 use Rattle.std.proofs.lemmas.Bool.{eqb-true, and_parts, false_from_ne_true}
-use Rattle.std.proofs.lemmas.List.Elements.{All-tail, All-head}
+use Rattle.std.proofs.lemmas.List.Elements.{All-tail}
 use Rattle.tape_image.specs.Memory.{half}
 use Rattle.tape_image.specs.Word.{WordValue, IsWord, covers, gives}
 use Rattle.tape_image.specs.Plan.{PlanValue, IsPlan, given_byte}

@@ -1,10 +1,8 @@
 -- One word merged into one word, half by half.
-use Rattle.std.proofs.Common.{◌≡◌, ℕ, ◌+◌, ◌*◌, ◌/◌, ◌%◌, ◌<◌, ◌≤◌, Bool, true, false, cond, ltb, eqb, refl, arith, ap, sym, ◌∙◌}
-use Rattle.std.specs.Prelude.{◌==◌, IsTrue, if◌then◌else◌}
-use Rattle.std.proofs.lemmas.Bool.{cases_Bool}
-use Rattle.std.proofs.lemmas.Grind.{common_steps}
+use Rattle.std.proofs.Common.{◌≡◌, ℕ, ◌+◌, ◌*◌, ◌/◌, ◌%◌, ◌<◌, true, false, cond, refl, arith, ap, sym, ◌∙◌}
+use Rattle.std.specs.Prelude.{◌==◌}
 use Rattle.tape_image.specs.Memory.{half}
-use Rattle.tape_image.specs.Word.{WordValue, covers, merged, merged_half, HalfStands, Stands, IsWord, IsMask}
+use Rattle.tape_image.specs.Word.{WordValue, covers, merged, merged_half, HalfStands, Stands}
 
 -- two bytes make one word, and are its halves
 low_of : (low high : ℕ) → low < 256 → (low + 256 * high) % 256 ≡ low

@@ -1,16 +1,16 @@
 -- Merged words make the overlay.
-use Rattle.std.proofs.Common.{◌≡◌, ℕ, suc, ◌+◌, ◌*◌, ◌/◌, ◌%◌, ◌<◌, ◌≤◌, Bool, true, false, cond, eqb, ltb, ◌||◌, List, [], ◌∷◌, length, get_or, Option, Some, None, refl, arith, ap, sym, ◌∙◌, subst, length-set}
-use Rattle.std.specs.Prelude.{All, unwrap_or, slice_index}
+use Rattle.std.proofs.Common.{◌≡◌, ℕ, ◌+◌, ◌*◌, ◌/◌, ◌%◌, ◌<◌, ◌≤◌, Bool, true, false, cond, ltb, ◌||◌, List, [], ◌∷◌, length, get_or, refl, arith, ap, sym, ◌∙◌, subst, length-set}
+use Rattle.std.specs.Prelude.{All, unwrap_or, slice_index, IsPermutation}
 use Rattle.std.specs.List.{list_any}
-use Rattle.std.specs.List.Sorted.{IsPermutation}
 use Rattle.std.specs.FinMap.{get}
-use Rattle.std.proofs.lemmas.Bool.{ltb-true, ltb-false, false_from_ne_true}
+use Rattle.std.proofs.lemmas.Bool.{ltb-true, ltb-false, false_from_ne_true, eq-eqb, ne_eqb}
+use Rattle.std.proofs.lemmas.List.{ext_get_or}
 use Rattle.std.proofs.lemmas.List.Elements.{All-tail, All-head, Contains-get_or}
 use Rattle.std.proofs.lemmas.List.Sorted.{All-permutation, list_any-IsPermutation}
 use Rattle.tape_image.specs.Memory.{half, byte_of, top_of}
-use Rattle.tape_image.specs.Word.{WordValue, gives, merged}
+use Rattle.tape_image.specs.Word.{WordValue, gives}
 use Rattle.tape_image.specs.Image.{Image}
-use Rattle.tape_image.specs.Plan.{PlanValue, IsPlan, given_byte}
+use Rattle.tape_image.specs.Plan.{PlanValue, IsPlan}
 use Rattle.tape_image.specs.Overlay.{IsOverlay, merge_at, merge_all, MakesOverlay}
 use Rattle.tape_image.proofs.Stores.{byte_of-with_word, with_word}
 use Rattle.tape_image.proofs.Given.{gives-address, image_at_word, given_byte-none}
@@ -49,9 +49,9 @@ byte_of-merge_all (w ∷ words) memory b v l all =
     ∙ ap (cond (list_any (λ w. gives w b) words) v) (byte_of-merge_at memory w b l)
     ∙ later_over_first (gives w b) (list_any (λ w. gives w b) words) (half b w.value) v (byte_of memory b) (All-head (λ w. gives w b ≡ true → half b w.value ≡ v) w words all)
 
--- of every plan, in every order
-pub merged_words-overlay : (p : PlanValue) → IsPlan p → MakesOverlay p.image p.words
-merged_words-overlay p is memory ordered same = record {
+-- the words of a plan, merged in any order, leave an overlay
+IsOverlay-merge_all : (p : PlanValue) → IsPlan p → (memory : List ℕ) (ordered : List WordValue) → IsPermutation p.words ordered → IsOverlay memory p.image (merge_all memory ordered)
+IsOverlay-merge_all p is memory ordered same = record {
   size = length-merge_all memory ordered;
   bytes = λ b l.
       let v : ℕ = unwrap_or (get p.image b) (byte_of memory b) in
@@ -64,3 +64,35 @@ merged_words-overlay p is memory ordered same = record {
         | false ↦ λ e. sym (ap (λ o. unwrap_or o (byte_of memory b)) (is.image_of_words b ∙ given_byte-none p.words b e))
       ] refl;
 }
+
+-- a word's two bytes, by their addresses
+even_half : (i word : ℕ) → half (2 * i) word ≡ word % 256
+even_half i word = ap (λ t. cond t (word % 256) (word / 256)) (eq-eqb (2 * i % 2) 0 (omega arith))
+
+odd_half : (i word : ℕ) → half (2 * i + 1) word ≡ word / 256
+odd_half i word = ap (λ t. cond t (word % 256) (word / 256)) (ne_eqb ((2 * i + 1) % 2) 0 (λ e. omega arith))
+
+low_byte_of : (memory : List ℕ) (i : ℕ) → byte_of memory (2 * i) ≡ slice_index memory i % 256
+low_byte_of memory i = even_half i (slice_index memory (2 * i / 2)) ∙ (let here : 2 * i / 2 ≡ i = omega arith in ap (λ k. slice_index memory k % 256) here)
+
+high_byte_of : (memory : List ℕ) (i : ℕ) → byte_of memory (2 * i + 1) ≡ slice_index memory i / 256
+high_byte_of memory i = odd_half i (slice_index memory ((2 * i + 1) / 2)) ∙ (let here : (2 * i + 1) / 2 ≡ i = omega arith in ap (λ k. slice_index memory k / 256) here)
+
+-- two memories with the same bytes have the same words
+same_bytes : (xs ys : List ℕ) → length xs ≡ length ys → ((b : ℕ) → b < top_of xs → byte_of xs b ≡ byte_of ys b) → xs ≡ ys
+same_bytes xs ys size same =
+    ext_get_or 0 xs ys size (λ i l.
+      let low : slice_index xs i % 256 ≡ slice_index ys i % 256 = sym (low_byte_of xs i) ∙ same (2 * i) (omega arith) ∙ low_byte_of ys i in
+      let high : slice_index xs i / 256 ≡ slice_index ys i / 256 = sym (high_byte_of xs i) ∙ same (2 * i + 1) (omega arith) ∙ high_byte_of ys i in
+      omega arith)
+
+-- a memory has one overlay
+pub one_overlay : (before : List ℕ) (image : Image) (after other : List ℕ) → IsOverlay before image after → IsOverlay before image other → after ≡ other
+one_overlay before image after other a o =
+    same_bytes after other (a.size ∙ sym o.size) (λ b l. let low : b < top_of before = rw (← a.size) l in a.bytes b low ∙ sym (o.bytes b low))
+
+-- of every plan
+pub merged_words-overlay : (p : PlanValue) → IsPlan p → MakesOverlay p.image p.words
+merged_words-overlay p is memory after ordered same =
+    let merged : IsOverlay memory p.image (merge_all memory ordered) = IsOverlay-merge_all p is memory ordered same in
+    ((λ a. one_overlay memory p.image after (merge_all memory ordered) a merged), (λ e. subst (IsOverlay memory p.image) (sym e) merged))

@@ -1,10 +1,10 @@
 -- The plan of a tape keeps what every plan keeps.
-use Rattle.std.proofs.Common.{◌≡◌, ℕ, suc, ◌+◌, ◌-◌, ◌*◌, ◌%◌, ◌<◌, ◌≤◌, Bool, true, false, cond, eqb, ltb, ◌++◌, List, [], length, Option, Some, None, refl, arith, ap, sym, ◌∙◌, subst}
+use Rattle.std.proofs.Common.{◌≡◌, ℕ, suc, ◌+◌, ◌*◌, ◌%◌, ◌<◌, true, false, cond, eqb, ltb, ◌++◌, List, [], Option, Some, None, refl, arith, ap, sym, ◌∙◌, subst}
 use Rattle.std.specs.Prelude.{All, IfSome}
 use Rattle.std.specs.Option.{option_to_list}
 use Rattle.std.specs.FinMap.{get}
 use Rattle.std.proofs.lemmas.Bool.{eqb-true, lt-ltb}
-use Rattle.tape_blocks.specs.Block.{BlockValue, IsBlock, HoldsBytes, top}
+use Rattle.tape_blocks.specs.Block.{BlockValue, IsBlock, top}
 use Rattle.tape_blocks.specs.Tape.{TapeValue, IsSound}
 use Rattle.tape_image.specs.Word.{WordValue}
 use Rattle.tape_image.specs.Image.{Image, image_of, byte_at}

@@ -1,10 +1,10 @@
 -- Words that stand in a memory, for those who follow a memory word by word.
-use Rattle.std.proofs.Common.{◌≡◌, ◌≢◌, ◌⊎◌, ℕ, zero, suc, ◌+◌, ◌*◌, ◌/◌, ◌%◌, ◌<◌, ◌≤◌, Bool, true, false, cond, eqb, List, [], ◌∷◌, length, get_or, Option, Some, None, refl, arith, ap, sym, ◌∙◌, inl, inr}
+use Rattle.std.proofs.Common.{◌≡◌, ◌≢◌, ◌⊎◌, ℕ, suc, ◌/◌, ◌%◌, ◌<◌, true, false, cond, eqb, List, [], ◌∷◌, length, get_or, Some, None, refl, arith, ap, sym, ◌∙◌, inl, inr}
 use Rattle.std.specs.Prelude.{All, Contains, unwrap_or, slice_index}
 use Rattle.std.specs.FinMap.{get}
 use Rattle.std.proofs.lemmas.Bool.{cases_order, and_parts}
 use Rattle.tape_image.specs.Memory.{half, byte_of, top_of}
-use Rattle.tape_image.specs.Word.{WordValue, IsWord, covers, gives, Stands}
+use Rattle.tape_image.specs.Word.{WordValue, covers, gives, Stands}
 use Rattle.tape_image.specs.Plan.{PlanValue, IsPlan, given_byte}
 use Rattle.tape_image.specs.Overlay.{IsOverlay}
 use Rattle.tape_image.proofs.Stores.{with_word, byte_of-with_word}

@@ -1,9 +1,9 @@
 -- What a word that is stored changes in a memory, byte by byte.
-use Rattle.std.proofs.Common.{◌≡◌, ◌≢◌, ℕ, ◌+◌, ◌*◌, ◌/◌, ◌%◌, ◌<◌, ◌≤◌, Bool, true, false, cond, ltb, eqb, List, length, refl, arith, ap, sym, ◌∙◌, get_or-set_other, get_or-set_same, length-set}
-use Rattle.std.specs.Prelude.{◌==◌, ◌&&◌, slice_index, slice_set}
-use Rattle.std.proofs.lemmas.Bool.{cases_Bool, eqb-true, eqb-false, eq-eqb, ne_eqb}
-use Rattle.tape_image.specs.Memory.{half, byte_of, top_of}
-use Rattle.tape_image.specs.Word.{WordValue, covers, gives, merged, merged_half}
+use Rattle.std.proofs.Common.{◌≡◌, ◌≢◌, ℕ, ◌/◌, ◌<◌, true, false, cond, eqb, List, length, refl, ap, sym, ◌∙◌, get_or-set_other, get_or-set_same}
+use Rattle.std.specs.Prelude.{◌&&◌, slice_index, slice_set}
+use Rattle.std.proofs.lemmas.Bool.{eqb-true, eqb-false}
+use Rattle.tape_image.specs.Memory.{half, byte_of}
+use Rattle.tape_image.specs.Word.{WordValue, covers, gives, merged}
 use Rattle.tape_image.proofs.Halves.{half-merged}
 
 -- a stored word changes its own two bytes

@@ -1,5 +1,5 @@
 -- Laying an image over a machine's memory.
-use Rattle.std.specs.Prelude.{◌≡◌, ℕ, ◌/◌, ◌<◌, nat_lt, if◌then◌else◌, List, [], ◌∷◌, length, slice_index, slice_set, unwrap_or}
+use Rattle.std.specs.Prelude.{◌≡◌, ◌↔◌, ℕ, ◌/◌, ◌<◌, nat_lt, if◌then◌else◌, List, [], ◌∷◌, length, slice_index, slice_set, unwrap_or}
 use Rattle.std.specs.FinMap.{get}
 use Rattle.std.specs.List.Sorted.{IsPermutation}
 use Rattle.tape_image.specs.Memory.{byte_of, top_of}
@@ -23,6 +23,8 @@ unfoldable pub merge_all : List ℕ → List WordValue → List ℕ
 merge_all memory [] = memory
 merge_all memory (w ∷ words) = merge_all (merge_at memory w) words
 
--- merged words make the overlay: so it is for every memory and in every order of the words
+-- merged words make the overlay: for every memory, in every order of the words, what they leave is the one overlay
 abbrev pub MakesOverlay : Image → List WordValue → Type 0
-MakesOverlay image words = (memory : List ℕ) (ordered : List WordValue) → IsPermutation words ordered → IsOverlay memory image (merge_all memory ordered)
+MakesOverlay image words =
+    (memory after : List ℕ) (ordered : List WordValue) → IsPermutation words ordered
+    → IsOverlay memory image after ↔ (after ≡ merge_all memory ordered)

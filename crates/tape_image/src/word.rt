@@ -1,6 +1,6 @@
 ghost use Rattle.std.specs.Prelude.{◌≡◌, ℕ, ◌%◌, ◌<◌, ◌↔◌, IsTrue, IsSome, IfSome};
 ghost use Rattle.tape_image.specs.Memory.{half};
-ghost use Rattle.tape_image.specs.Word.{IsWord, IsInside, merged, merged_half, Stands};
+ghost use Rattle.tape_image.specs.Word.{IsWord, IsInside, covers, merged, merged_half, Stands};
 ghost use Rattle.tape_image.specs.Plan.{word_of};
 
 use std::marker::Model;
@@ -106,6 +106,20 @@ impl Word {
     {
         self.value
     }
+
+    /// Whether the low byte is the tape's.
+    fn has_low(self) -> bool
+        ensures { result ≡ covers 0 self.mask }
+    {
+        matches!(self.mask, LOW_BYTE | BOTH_BYTES)
+    }
+
+    /// Whether the high byte is the tape's.
+    fn has_high(self) -> bool
+        ensures { result ≡ covers 1 self.mask }
+    {
+        matches!(self.mask, HIGH_BYTE | BOTH_BYTES)
+    }
 }
 
 /// Whether the mask is one of the three, and the value has no bit outside it.
@@ -128,16 +142,8 @@ pub fn merge(word: Word, old: u16) -> u16
     ensures stands { Stands word result }
     ensures unchanged { Stands word old → result ≡ old }
 {
-    let low = if word.mask == HIGH_BYTE {
-        old
-    } else {
-        word.value
-    };
-    let high = if word.mask == LOW_BYTE {
-        old
-    } else {
-        word.value
-    };
+    let low = if word.has_low() { word.value } else { old };
+    let high = if word.has_high() { word.value } else { old };
     low % BYTE + BYTE * (high / BYTE)
 }
 
@@ -146,8 +152,8 @@ pub fn stands(word: Word, now: u16) -> bool
     ensures stands { IsTrue result ↔ Stands word now }
     ensures merged { IsTrue result ↔ (merged word now ≡ now) }
 {
-    let low = word.mask == HIGH_BYTE || now % BYTE == word.value % BYTE;
-    let high = word.mask == LOW_BYTE || now / BYTE == word.value / BYTE;
+    let low = !word.has_low() || now % BYTE == word.value % BYTE;
+    let high = !word.has_high() || now / BYTE == word.value / BYTE;
     low && high
 }
 

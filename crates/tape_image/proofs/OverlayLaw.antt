@@ -82,9 +82,9 @@ high_byte_of memory i = odd_half i (slice_index memory ((2 * i + 1) / 2)) ∙ (l
 same_bytes : (xs ys : List ℕ) → length xs ≡ length ys → ((b : ℕ) → b < top_of xs → byte_of xs b ≡ byte_of ys b) → xs ≡ ys
 same_bytes xs ys size same =
     ext_get_or 0 xs ys size (λ i l.
-      let low : slice_index xs i % 256 ≡ slice_index ys i % 256 = sym (low_byte_of xs i) ∙ same (2 * i) (omega arith) ∙ low_byte_of ys i in
-      let high : slice_index xs i / 256 ≡ slice_index ys i / 256 = sym (high_byte_of xs i) ∙ same (2 * i + 1) (omega arith) ∙ high_byte_of ys i in
-      omega arith)
+    let low : slice_index xs i % 256 ≡ slice_index ys i % 256 = sym (low_byte_of xs i) ∙ same (2 * i) (omega arith) ∙ low_byte_of ys i in
+    let high : slice_index xs i / 256 ≡ slice_index ys i / 256 = sym (high_byte_of xs i) ∙ same (2 * i + 1) (omega arith) ∙ high_byte_of ys i in
+    omega arith)
 
 -- a memory has one overlay
 pub one_overlay : (before : List ℕ) (image : Image) (after other : List ℕ) → IsOverlay before image after → IsOverlay before image other → after ≡ other

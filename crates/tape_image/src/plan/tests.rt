@@ -1,6 +1,7 @@
 use super::*;
 use std::process::Abort;
 use std::test::Fail;
+use tape_blocks::read_tape;
 
 /// The end of memory, 160000 octal.
 const TOP: u16 = 0o160000;
@@ -105,6 +106,31 @@ fn words_of_tapes(rt: HostRuntime) -> Result<(), Fail> {
     for (blocks, words, reason) in rows {
         let plan = Plan::of(rt.alloc(), &tape(rt.alloc(), blocks, 1)?)?;
         assert_words(&rt, &plan, words, reason);
+    }
+    Ok(())
+}
+
+#[test]
+fn padding_changes_no_word(rt: HostRuntime) -> Result<(), Fail> {
+    let block = [0x01, 0, 0x08, 0, 0x00, 0x02, 0x34, 0x12, 0xAF];
+    let transfer = [0x01, 0, 0x06, 0, 0x00, 0x02, 0xF7];
+    let mut plain = Vec::new(rt.alloc());
+    let mut padded = Vec::new(rt.alloc());
+    plain.extend_from_slice(&block)?;
+    plain.extend_from_slice(&transfer)?;
+    padded.extend_from_slice(&[0; 40])?;
+    padded.extend_from_slice(&block)?;
+    padded.extend_from_slice(&[0; 3])?;
+    padded.extend_from_slice(&transfer)?;
+    padded.extend_from_slice(&[0xFF, 0xFF])?;
+    for (bytes, reason) in [
+        (plain, "the first worked tape"),
+        (padded, "the same, padded"),
+    ] {
+        let (tape, _length) = read_tape(rt.alloc(), &bytes)?;
+        let plan = Plan::of(rt.alloc(), &tape)?;
+        assert_words(&rt, &plan, &[(0o1000, 0o177777, 0o011064)], reason);
+        assert_eq!(rt; plan.start(), Some(0o1000), "{reason}");
     }
     Ok(())
 }

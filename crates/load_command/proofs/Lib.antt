@@ -9,3 +9,5 @@ pub mod Lines
 pub mod Drafts
 pub mod Scripts
 pub mod OneLine
+pub mod Reports
+pub mod Plays

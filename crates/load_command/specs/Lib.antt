@@ -9,3 +9,5 @@ pub mod Script
 pub mod Draft
 pub mod Status
 pub mod Failure
+pub mod Report
+pub mod Played

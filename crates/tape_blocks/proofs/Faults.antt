@@ -6,7 +6,7 @@ use Rattle.tape_blocks.specs.Refusal.{Test, tests_of, first_fault, count_of, add
 use Rattle.tape_blocks.specs.Head.{IsFaulty}
 use Rattle.tape_blocks.specs.declared.fault.Fault.{Fault}
 use Rattle.tape_blocks.specs.declared.fault.Why.TheVariants.{PastTop}
-use Rattle.tape_blocks.proofs.Tests.{IsFramed, framed-states, framed_passes, first_fault-append_some, first_fault-append_none}
+use Rattle.tape_blocks.proofs.FirstBlock.{IsFramed, framed-states, framed_passes, first_fault-append_some, first_fault-append_none}
 
 none_some : {X : Type 0} (o : Option X) (x : X) → o ≡ None → o ≡ Some x → ⊥
 none_some o x n s = cc (n, s)

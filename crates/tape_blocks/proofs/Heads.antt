@@ -7,7 +7,7 @@ use Rattle.tape_blocks.specs.Refusal.{first_fault, tests_of, address_of, count_o
 use Rattle.tape_blocks.specs.Head.{IsFaulty}
 use Rattle.tape_blocks.specs.declared.fault.Fault.{Fault}
 use Rattle.tape_blocks.specs.declared.fault.Why.TheVariants.{PastTop}
-use Rattle.tape_blocks.proofs.Tests.{IsFramed, passes_framed, framed_text, data_of, length-data_of}
+use Rattle.tape_blocks.proofs.FirstBlock.{IsFramed, passes_framed, framed_text, data_of, length-data_of}
 use Rattle.tape_blocks.proofs.Faults.{faulty_frame, faulty_end}
 
 -- each number of the list is a byte

@@ -1,9 +1,9 @@
 mod Faults
+mod FirstBlock
 mod Framing
 mod Fronts
 mod Heads
 mod Plain
 mod Progress
 mod Readings
-mod Tests
 mod Totality

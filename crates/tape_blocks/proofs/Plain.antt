@@ -7,7 +7,7 @@ use Rattle.tape_blocks.specs.Tape.{TapeValue, text_of, blocks_of, IsTape, IsSoun
 use Rattle.tape_blocks.specs.Tape.Piece.{block}
 use Rattle.tape_blocks.specs.Reading.{IsReading}
 use Rattle.tape_blocks.proofs.Fronts.{text_of-append}
-use Rattle.tape_blocks.proofs.Tests.{length-framed, take_seam}
+use Rattle.tape_blocks.proofs.FirstBlock.{length-framed, take_seam}
 
 blocks_of-blocks : (bs : List BlockValue) → blocks_of (map block bs) ≡ bs
 blocks_of-blocks [] = refl

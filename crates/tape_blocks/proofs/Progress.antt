@@ -11,7 +11,7 @@ use Rattle.tape_blocks.specs.Head.{IsHead, IsFaulty}
 use Rattle.tape_blocks.specs.declared.fault.Fault.{Fault}
 use Rattle.tape_blocks.specs.declared.head.Head.{Head}
 use Rattle.tape_blocks.proofs.Fronts.{text_of-append, blocks_of-append}
-use Rattle.tape_blocks.proofs.Tests.{length-framed, take_seam}
+use Rattle.tape_blocks.proofs.FirstBlock.{length-framed, take_seam}
 use Rattle.tape_blocks.proofs.Readings.{refused, take_within}
 
 -- the reader stands at a place of the text, and has read these blocks

@@ -28,3 +28,6 @@ pub use law::{one_reading, one_tape};
 pub use reader::read_tape;
 pub use tape::{BadTape, TAPE_LIMIT, Tape};
 pub use writer::write_tape;
+
+#[cfg(test)]
+mod tests;

@@ -5,7 +5,7 @@ use Rattle.std.proofs.lemmas.List.{nil_from_length}
 use Rattle.std.proofs.lemmas.Result.{err_from_is_err_and}
 use Rattle.tape_blocks.specs.Block.{framed}
 use Rattle.tape_blocks.specs.Refusal.{count_of, address_of}
-use Rattle.tape_blocks.proofs.Tests.{passes_framed, data_of, length-data_of}
+use Rattle.tape_blocks.proofs.FirstBlock.{passes_framed, data_of, length-data_of}
 use Rattle.tape_blocks.proofs.Faults.{faulty_frame, faulty_end}
 use Rattle.tape_blocks.proofs.Heads.{AreBytes, framed_as}
 use Rattle.tape_blocks.proofs.head.first_of.Goals as goal

@@ -50,11 +50,11 @@ silence_kept m core [] [] lost k = kept_silence m core lost (kept core Silence k
 silence_kept m core (c ∷ down) up lost k = k
 silence_kept m core [] (c ∷ up) lost k = k
 
-under : (k n : ℕ) → ltb k n ≡ true → k < n
+pub under : (k n : ℕ) → ltb k n ≡ true → k < n
 under k n e = grind (arith, nat_tests)
 
 -- a place in a queue, or none
-lost_if : (P : Scene → Type 0) (w next : Scene) (test : Bool) → P w → (test ≡ true → P next) → P (unwrap_or (if test then Some next else None) w)
+pub lost_if : (P : Scene → Type 0) (w next : Scene) (test : Bool) → P w → (test ≡ true → P next) → P (unwrap_or (if test then Some next else None) w)
 lost_if P w next true here there = there refl
 lost_if P w next false here there = here
 

@@ -11,3 +11,6 @@ pub mod Taking
 pub mod Hearing
 pub mod Machines
 pub mod Events
+pub mod Tame
+pub mod Starts
+pub mod Work

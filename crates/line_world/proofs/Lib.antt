@@ -14,3 +14,4 @@ pub mod Events
 pub mod Tame
 pub mod Starts
 pub mod Work
+pub mod CleanEnds

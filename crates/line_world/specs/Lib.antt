@@ -9,3 +9,4 @@ pub mod CleanText
 pub mod Promises
 pub mod Opening
 pub mod Runs
+pub mod CleanLine

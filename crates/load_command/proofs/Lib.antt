@@ -11,3 +11,5 @@ pub mod Scripts
 pub mod OneLine
 pub mod Reports
 pub mod Plays
+pub mod Openings
+pub mod Rehearsals

@@ -16,16 +16,16 @@ use Rattle.load_command.specs.Input.{IsTaken}
 use Rattle.load_command.specs.TapeFile.{IsInput, BeginsWithTape, IsRefusedInput, input_limit}
 
 -- what a reader has left, where it tells
-abbrev left_of : Option (List ℕ) → List ℕ
+abbrev pub left_of : Option (List ℕ) → List ℕ
 left_of None = []
 left_of (Some bytes) = bytes
 
-whole : (before after : Option (List ℕ)) (bytes : List ℕ) → Consumes before after bytes → IsInput before (bytes ++ left_of after)
+pub whole : (before after : Option (List ℕ)) (bytes : List ℕ) → Consumes before after bytes → IsInput before (bytes ++ left_of after)
 whole None after bytes h = tt
 whole (Some xs) None bytes h = absurd h
 whole (Some xs) (Some ys) bytes h = h
 
-ends : (after : Option (List ℕ)) → IsAtEnd after → left_of after ≡ []
+pub ends : (after : Option (List ℕ)) → IsAtEnd after → left_of after ≡ []
 ends None h = refl
 ends (Some ys) h = h
 

@@ -11,3 +11,4 @@ pub mod Status
 pub mod Failure
 pub mod Report
 pub mod Played
+pub mod Rehearsal

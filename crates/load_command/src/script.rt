@@ -215,7 +215,9 @@ fn first_line(text: &[u8]) -> (&[u8], &[u8])
 /// or sets up after an event line; 0 where the text has more than 1,048,576 bytes. `Memory` comes
 /// only where a growth was refused.
 pub fn read_script(alloc: Global, text: &[u8]) -> Result<Script, ScriptError>
-    ensures { MatchResult result (IsScript text.now) (IsScriptError text.now) }
+    ensures read { MatchResult result (IsScript text.now) (IsScriptError text.now) }
+    ensures size { IfOk result (λ script. script.words ≤ 28672) }
+    ensures style { IfOk result (λ script. script.style < 8) }
 {
     if text.len() > SCRIPT_LIMIT {
         return Err(ScriptError::Refused(0));

@@ -57,7 +57,8 @@ impl Waiting {
 
     /// The characters in order.
     pub fn as_slice(&self) -> &[u8]
-        ensures { result.now ≡ self.now }
+        ensures value { result.now ≡ self.now }
+        ensures few { length self.now ≤ 32 }
     {
         &self.characters[..self.count]
     }

@@ -1,0 +1,47 @@
+use Rattle.std.proofs.Common.{subst}
+use Rattle.std.proofs.KnownBytes.{Keeps-refl}
+use Rattle.std.specs.Io.KnownBytes.{Appends}
+use Rattle.load_command.specs.Output.{WritesPrefix}
+use Rattle.load_command.specs.Rehearsal.{IsRehearseFault}
+use Rattle.load_command.specs.declared.fault.CommandFault.TheVariants.{Write}
+use Rattle.load_command.proofs.Faults.{fault_is}
+use Rattle.load_command.proofs.Rehearsals.{play_fault}
+use Rattle.load_command.proofs.rehearse.rehearse_to.Goals as goal
+
+pub returns-in_err-text-clause-err : goal.returns-in_err-text-clause-err
+returns-in_err-text-clause-err g c =
+    fault_is c.from_residual-in_err-text.result c.in_err-text.field-0.0
+    (IsRehearseFault (g.R.Read.remaining c.args.tape.now) (g.S.Read.remaining c.args.script.now) (g.W.Write.contents c.args.out.now) (g.W.Write.contents c.args.out.now))
+    c.from_residual-in_err-text.ensures.1
+    (play_fault _ _ _ c.in_ok-script.script _ c.in_ok-script.ensures.ok (Keeps-refl (g.W.Write.contents c.args.out.now)) c.in_err-text.ensures.err)
+
+pub returns-in_err-write_whole-clause-err : goal.returns-in_err-write_whole-clause-err
+returns-in_err-write_whole-clause-err g c =
+    fault_is c.from_residual-in_err-write_whole.result Write
+    (IsRehearseFault (g.R.Read.remaining c.args.tape.now) (g.S.Read.remaining c.args.script.now) (g.W.Write.contents c.args.out.now) (g.W.Write.contents c.write_whole.new.out))
+    c.from_residual-in_err-write_whole.ensures.1 (
+      c.in_ok-text.text.items,
+      record {
+        tape_text = c.in_ok-file.file.text.items;
+        tape = c.in_ok-file.file.tape;
+        begins = c.in_ok-file.ensures.ok;
+        script = c.in_ok-script.script;
+        is_script = c.in_ok-script.ensures.ok;
+        rehearsal = c.in_ok-text.ensures.ok;
+      },
+      subst (WritesPrefix (g.W.Write.contents c.args.out.now) (g.W.Write.contents c.write_whole.new.out)) c.deref.ensures.value c.in_err-write_whole.ensures.err,
+    )
+
+pub returns-clause-ok : goal.returns-clause-ok
+returns-clause-ok g c = (
+  c.in_ok-text.text.items,
+  record {
+    tape_text = c.in_ok-file.file.text.items;
+    tape = c.in_ok-file.file.tape;
+    begins = c.in_ok-file.ensures.ok;
+    script = c.in_ok-script.script;
+    is_script = c.in_ok-script.ensures.ok;
+    rehearsal = c.in_ok-text.ensures.ok;
+  },
+  subst (Appends (g.W.Write.contents c.args.out.now) (g.W.Write.contents c.write_whole.new.out)) c.deref.ensures.value c.in_ok-write_whole.ensures.ok,
+)

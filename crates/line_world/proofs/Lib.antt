@@ -15,3 +15,6 @@ pub mod Tame
 pub mod Starts
 pub mod Work
 pub mod CleanEnds
+pub mod KeysLeft
+pub mod CleanKeys
+pub mod CleanLine

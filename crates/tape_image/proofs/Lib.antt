@@ -6,4 +6,5 @@ pub mod Words
 pub mod Given
 pub mod Standing
 pub mod Plans
+pub mod SameWords
 pub mod OverlayLaw

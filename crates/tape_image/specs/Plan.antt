@@ -1,5 +1,5 @@
 -- The plan: the image of a tape as the words that the host types, and the program's start.
-use Rattle.std.specs.Prelude.{◌≡◌, ℕ, zero, suc, ◌+◌, ◌*◌, ◌%◌, ◌<◌, ◌≤◌, ◌==◌, if◌then◌else◌, List, [], ◌∷◌, ◌++◌, length, Option, Some, None, All, AllPairs, IfSome, refl}
+use Rattle.std.specs.Prelude.{◌≡◌, ◌↔◌, ℕ, zero, suc, ◌+◌, ◌*◌, ◌%◌, ◌<◌, ◌≤◌, ◌==◌, if◌then◌else◌, List, [], ◌∷◌, ◌++◌, length, Option, Some, None, All, AllPairs, IfSome, refl}
 use Rattle.std.specs.Coded.{Coded, code_by, coded×, coded_ℕ, coded_list, coded_option}
 use Rattle.std.specs.Option.{option_to_list}
 use Rattle.std.specs.FinMap.{get, code}
@@ -29,6 +29,16 @@ words_of image = words_below image 28672
 abbrev pub given_byte : List WordValue → ℕ → Option ℕ
 given_byte [] b = None
 given_byte (w ∷ words) b = if gives w b then Some (half b w.value) else given_byte words b
+
+-- words whose addresses rise, and which together give each byte of the image and no other
+pub record AreWordsOf (image : Image) (words : List WordValue) : Type 0 where
+  pub each : All IsWord words
+  pub rising : AllPairs (λ v w. v.address < w.address) words
+  pub bytes : (b : ℕ) → given_byte words b ≡ get image b
+
+-- these words are the image's, and no others are
+abbrev pub AreTheWordsOf : Image → List WordValue → Type 0
+AreTheWordsOf image words = (others : List WordValue) → AreWordsOf image others ↔ (others ≡ words)
 
 -- an even start address is where the program begins, an odd one says: do not start
 abbrev pub program_start : ℕ → Option ℕ

@@ -2,7 +2,7 @@ ghost use Rattle.std.specs.Prelude.{◌≡◌, All, IfOk};
 ghost use Rattle.std.specs.FinMap.{get};
 ghost use Rattle.tape_blocks.specs.Block.{IsBlock, HoldsBytes};
 ghost use Rattle.tape_image.specs.Image.{IsImageOf, byte_at, byte_in, image_of};
-ghost use Rattle.tape_image.specs.Plan.{IsPlan, plan_of, program_start, words_of};
+ghost use Rattle.tape_image.specs.Plan.{AreTheWordsOf, IsPlan, plan_of, program_start, words_of};
 ghost use Rattle.tape_image.specs.Overlay.{MakesOverlay};
 
 use crate::word::Word;
@@ -45,6 +45,7 @@ impl Plan {
     pub fn of(alloc: Global, tape: &Tape) -> Result<Plan, Memory>
         ensures plan { IfOk result (λ plan. plan ≡ plan_of tape.now) }
         ensures bytes { IfOk result (λ plan. IsImageOf tape.now.blocks plan.image) }
+        ensures words { IfOk result (λ plan. AreTheWordsOf plan.image plan.words) }
         ensures sound { IfOk result IsPlan }
     {
         let blocks = copied(alloc, tape.blocks())?;

@@ -5,6 +5,7 @@ use Rattle.tape_image.specs.Image.{image_of, byte_at}
 use Rattle.tape_image.specs.Plan.{words_of, program_start}
 use Rattle.tape_image.proofs.Images.{get-image_of}
 use Rattle.tape_image.proofs.Plans.{IsPlan-made}
+use Rattle.tape_image.proofs.SameWords.{plan_words}
 use Rattle.tape_image.proofs.plan.Plan.of.Goals as goal
 
 pub invariant_of-result : goal.invariant_of-result
@@ -18,6 +19,9 @@ invariant_of-result c = (
 
 pub returns-clause-bytes : goal.returns-clause-bytes
 returns-clause-bytes c a = (invariant_of-result c).1 a ∙ ap (λ bs. byte_at bs a) (c.in_ok-blocks.ensures ∙ c.blocks-2.ensures.value)
+
+pub returns-clause-words : goal.returns-clause-words
+returns-clause-words c = plan_words _ (invariant_of-result c).0
 
 pub returns-clause-sound : goal.returns-clause-sound
 returns-clause-sound c = (invariant_of-result c).0

@@ -1,6 +1,8 @@
 -- How a fault of a tape is printed.
 use Rattle.std.specs.Prelude.{ℕ, List, ◌++◌, codes, decimal}
 use Rattle.tape_blocks.specs.declared.fault.Fault.{Fault}
+use Rattle.tape_blocks.specs.declared.fault.ReadError.{ReadError}
+use Rattle.tape_blocks.specs.declared.fault.ReadError.TheVariants.{Tape, Memory}
 use Rattle.tape_blocks.specs.declared.fault.Why.{Why}
 use Rattle.tape_blocks.specs.declared.fault.Why.TheVariants.{Stray, BadMark, BadCount, Cut, BadSum, PastTop, NoTransfer, TooLong}
 
@@ -18,3 +20,8 @@ why_text TooLong = codes "TooLong"
 -- the place of a fault, counted from 0, and its reason
 abbrev pub fault_text : Fault → List ℕ
 fault_text fault = decimal fault.at ++ codes ": " ++ why_text fault.why
+
+-- what is said of an input that was not read
+abbrev pub read_error_text : ReadError → List ℕ
+read_error_text (Tape fault) = codes "tape refused at " ++ fault_text fault
+read_error_text Memory = codes "out of memory"

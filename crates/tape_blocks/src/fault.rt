@@ -1,3 +1,5 @@
+ghost use Rattle.std.specs.Prelude.{◌≡◌, ◌<◌, ◌^◌};
+
 use std::alloc::{AllocError, AllocFailed};
 use std::error::Error;
 use std::fmt;
@@ -50,6 +52,15 @@ pub struct Fault {
     pub at: u32,
     /// The reason.
     pub why: Why,
+}
+
+impl Fault {
+    pub(crate) fn new(at: usize, why: Why) -> Fault
+        requires { at < 2 ^ 32 }
+        ensures { result ≡ record { at = at; why = why } }
+    {
+        Fault { at: at as u32, why }
+    }
 }
 
 impl fmt::Display for Fault {
@@ -105,10 +116,15 @@ pub enum ReadError {
 }
 
 impl fmt::Display for ReadError {
+    ghost use Rattle.std.specs.Prelude.{Some};
+    ghost use Rattle.tape_blocks.specs.Fault.{read_error_text};
+
+    ghost output = { λ e. Some (read_error_text e) };
+
     fn fmt<W: fmt::Write>(&self, f: &mut fmt::Formatter<W>) -> fmt::Result {
         match self {
             ReadError::Tape(fault) => write!(f, "tape refused at {fault}"),
-            ReadError::Memory => write!(f, "{}", Memory),
+            ReadError::Memory => f.write_str("out of memory"),
         }
     }
 }

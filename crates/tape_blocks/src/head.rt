@@ -3,19 +3,10 @@ ghost use Rattle.tape_blocks.specs.Tape.{tape_limit};
 ghost use Rattle.tape_blocks.specs.Refusal.{address_of, count_of, first_fault, tests_of};
 ghost use Rattle.tape_blocks.specs.Head.{IsHead, IsFaulty};
 
-use crate::block::TOP;
+use crate::block::{BLANK, HEADER, MARK, TOP};
+use crate::checksum::byte_sum;
 use crate::fault::{Fault, Why};
 use byteorder::{ByteOrder, LittleEndian};
-
-/// What begins a block.
-pub const MARK: u8 = 1;
-
-/// What may stand before and between blocks, and the second byte of a block's mark.
-pub const BLANK: u8 = 0;
-
-/// The bytes before the data: mark, count and address. A block's count has them in, so this is the
-/// count of the transfer block, and the least one that there is.
-pub const HEADER: usize = 6;
 
 /// What stands first in a text.
 pub enum Head<'a> {
@@ -41,10 +32,7 @@ pub fn first_of<'a>(text: &'a [u8], at: usize, missing: Fault) -> Result<Head<'a
         return Ok(Head::Transfer(address));
     }
     if usize::from(address) + data.len() > TOP {
-        return Err(Fault {
-            at: (at + 4) as u32,
-            why: Why::PastTop,
-        });
+        return Err(Fault::new(at + 4, Why::PastTop));
     }
     Ok(Head::Data(address, data))
 }
@@ -71,46 +59,26 @@ fn framed<'a>(text: &'a [u8], at: usize, missing: Fault) -> Result<(u16, &'a [u8
         return Err(missing);
     }
     if text[0] != MARK {
-        return Err(Fault {
-            at: at as u32,
-            why: Why::Stray,
-        });
+        return Err(Fault::new(at, Why::Stray));
     }
     if text.len() < 2 {
         return Err(missing);
     }
     if text[1] != BLANK {
-        return Err(Fault {
-            at: (at + 1) as u32,
-            why: Why::BadMark,
-        });
+        return Err(Fault::new(at + 1, Why::BadMark));
     }
     if text.len() < 4 {
         return Err(missing);
     }
     let count = usize::from(LittleEndian::read_u16(&text[2..]));
     if count < HEADER {
-        return Err(Fault {
-            at: (at + 2) as u32,
-            why: Why::BadCount,
-        });
+        return Err(Fault::new(at + 2, Why::BadCount));
     }
     if text.len() <= count {
         return Err(missing);
     }
     if byte_sum(&text[..count + 1]) != 0 {
-        return Err(Fault {
-            at: at as u32,
-            why: Why::BadSum,
-        });
+        return Err(Fault::new(at, Why::BadSum));
     }
     Ok((LittleEndian::read_u16(&text[4..]), &text[HEADER..count]))
-}
-
-/// The sum of the bytes modulo 256, which is 0 over a whole block.
-pub fn byte_sum(bytes: &[u8]) -> u32
-    requires { length bytes.now ≤ tape_limit }
-    ensures { result ≡ sum bytes.now % 256 }
-{
-    bytes.iter().map(|byte| u32::from(*byte)).sum::<u32>() % 256
 }

@@ -15,6 +15,7 @@
 #![tactic(auto)]
 
 mod block;
+mod checksum;
 mod fault;
 mod head;
 mod law;

@@ -4,10 +4,10 @@ ghost use Rattle.tape_blocks.specs.Refusal.{missing_fault as missing_fault_of};
 ghost use Rattle.tape_blocks.specs.Reading.{IsReading, IsReadingUnlessMemory};
 ghost use Rattle.tape_blocks.specs.declared.fault.ReadError.{ReadError as Error};
 
-use crate::block::Block;
+use crate::block::{Block, FRAME};
 use crate::fault::{Fault, ReadError, Why};
 use crate::head::{Head, first_of};
-use crate::tape::{FRAME, TAPE_LIMIT, Tape};
+use crate::tape::{TAPE_LIMIT, Tape};
 use std::alloc::Global;
 
 /// Reads the tape that begins the input, and tells how many bytes it has, up to the end of its
@@ -60,15 +60,12 @@ fn missing_fault(bytes: &[u8], at: usize) -> Fault
     ensures { result ≡ missing_fault_of bytes.now at }
 {
     if bytes.len() > TAPE_LIMIT {
-        return Fault {
-            at: TAPE_LIMIT as u32,
-            why: Why::TooLong,
-        };
+        return Fault::new(TAPE_LIMIT, Why::TooLong);
     }
     let why = if at == bytes.len() {
         Why::NoTransfer
     } else {
         Why::Cut
     };
-    Fault { at: at as u32, why }
+    Fault::new(at, why)
 }

@@ -3,15 +3,13 @@ ghost use Rattle.tape_blocks.specs.Block.{BlockValue, IsBlock, HoldsBytes, block
 ghost use Rattle.tape_blocks.specs.Tape.{IsSound, tape_limit, written_length};
 ghost use Rattle.tape_blocks.specs.BadTape.{IsBadTape, IsFirstAt};
 
-use crate::block::{Block, TOP};
+use crate::block::{Block, FRAME, TOP};
+use std::error::Error;
 use std::fmt;
 use std::marker::Model;
 
 /// The most bytes that a tape may have, up to the end of its transfer block (this project's choice).
 pub const TAPE_LIMIT: usize = 1_048_576;
-
-/// The bytes of a block besides its data: mark, count, address and checksum.
-pub const FRAME: usize = 7;
 
 /// Why a list of blocks makes no tape. Blocks are numbered from 0.
 #[derive(Clone, Copy, Debug, PartialEq, Eq)]
@@ -23,6 +21,23 @@ pub enum BadTape {
     /// Each block is good, but the tape cannot be written in 1,048,576 bytes.
     TooMuch,
 }
+
+impl fmt::Display for BadTape {
+    ghost use Rattle.std.specs.Prelude.{Some};
+    ghost use Rattle.tape_blocks.specs.BadTape.{bad_tape_text};
+
+    ghost output = { λ bad. Some (bad_tape_text bad) };
+
+    fn fmt<W: fmt::Write>(&self, f: &mut fmt::Formatter<W>) -> fmt::Result {
+        match self {
+            BadTape::EmptyBlock(number) => write!(f, "block {number} is empty"),
+            BadTape::BlockPastTop(number) => write!(f, "block {number} ends above 160000"),
+            BadTape::TooMuch => f.write_str("the blocks are too much for a tape"),
+        }
+    }
+}
+
+impl Error for BadTape {}
 
 /// The blocks of a tape in their order, and its start address.
 ///

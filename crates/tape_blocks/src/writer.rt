@@ -3,8 +3,9 @@ ghost use Rattle.tape_blocks.specs.Block.{framed, top};
 ghost use Rattle.tape_blocks.specs.Tape.{plain_text, written_length};
 ghost use Rattle.tape_blocks.specs.Reading.{IsReading};
 
+use crate::block::{BLANK, HEADER, MARK};
+use crate::checksum::byte_sum;
 use crate::fault::Memory;
-use crate::head::{BLANK, HEADER, MARK, byte_sum};
 use crate::tape::Tape;
 use byteorder::{ByteOrder, LittleEndian};
 use std::alloc::{AllocError, Global};

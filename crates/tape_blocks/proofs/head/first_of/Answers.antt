@@ -42,7 +42,7 @@ returns-then-from-data-gt-TOP c =
     let m : length bytes ≡ length (data_of text) = ap length e.2 in
     let a : c.in_ok-address.address ≡ address_of text = e.1 in
     let n : count_of text - 6 ≡ length bytes = omega arith in
-    faulty_end c.args.at c.args.missing text blank e.0 f (omega arith) (omega arith)
+    rw c.new.ensures (faulty_end c.args.at c.args.missing text blank e.0 f (omega arith) (omega arith))
 
 pub returns : goal.returns
 returns c =

@@ -124,3 +124,6 @@ fn put_field(report: &mut Vec<u8>, word: u16, end: u8) -> Result<(), AllocError>
     report.push(end)?;
     Ok(())
 }
+
+#[cfg(test)]
+mod tests;

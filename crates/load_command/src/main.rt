@@ -3,6 +3,8 @@
 
 mod check;
 mod command_line;
+#[cfg(test)]
+mod devices;
 mod failure;
 mod fault;
 mod input;
@@ -20,10 +22,9 @@ mod text;
 mod type_keys;
 mod waiting;
 
+use failure::Failure;
 use std::process::ExitCode;
 use std::{env, io};
-
-use failure::Failure;
 
 fn main(rt: HostRuntime) -> ExitCode {
     let mut input = rt.stdin();
@@ -33,9 +34,7 @@ fn main(rt: HostRuntime) -> ExitCode {
         return ExitCode::from(program::tell(Failure::NoMemory, &mut err).code());
     };
     let alloc = rt.alloc();
-    ExitCode::from(program::program(
-        &rt, alloc, &words, &mut input, &mut out, &mut err,
-    ))
+    ExitCode::from(program::program(&rt, alloc, &words, &mut input, &mut out, &mut err))
 }
 
 /// The words after the program's name.

@@ -149,3 +149,6 @@ fn type_input<'a, R: Read, W: Write>(
         Err(fault) => Err(Failure::of(fault, STANDARD_INPUT, STANDARD_INPUT)),
     }
 }
+
+#[cfg(test)]
+mod tests;

@@ -82,3 +82,6 @@ fn typed_key(character: u8) -> u8
         character
     }
 }
+
+#[cfg(test)]
+mod tests;

@@ -11,6 +11,43 @@ const ONE_WORD: [u8; 16] = [
 const ONE_WORD_TEXT: &str =
     "blocks 1 data 2 read 16\nstart 001000\ncanonical yes\nwords 1\n001000 177777 011064\n";
 
+/// A transfer block with a wrong sum.
+const BAD_SUM: [u8; 7] = [1, 0, 6, 0, 0, 2, 0xF6];
+
+/// The words, what stands on standard input, and what must come: the status, the output and the
+/// line on standard error.
+const REQUESTS: [(&[&str], &[u8], u8, &str, &str); 8] = [
+    (&[], &ONE_WORD, 0, ONE_WORD_TEXT, ""),
+    (&[], &BAD_SUM, 3, "", "ldaodt: tape refused at 0: BadSum\n"),
+    (&["check", "one-word.lda"], &[], 0, ONE_WORD_TEXT, ""),
+    (
+        &["check", "no-such.lda"],
+        &ONE_WORD,
+        4,
+        "",
+        "ldaodt: cannot read no-such.lda\n",
+    ),
+    (&["check", "."], &ONE_WORD, 4, "", "ldaodt: cannot read .\n"),
+    (&["type"], b"001000/\n", 0, "001000/000000 \r\n@", ""),
+    (&["type", "--words", "0"], b"0/", 0, "0/?\r\n@", ""),
+    (&["type", "--style", "7"], b"Z", 0, "Z?\r\r\n@", ""),
+];
+
+/// Words that ask for a text.
+const HELP: [&[&str]; 2] = [&["--help"], &["--version"]];
+
+/// Words that are refused, and why.
+const REFUSED: [(&[&str], &str); 8] = [
+    (&["check"], "no tape named"),
+    (&["check", "a.lda", "b.lda"], "two tapes"),
+    (&["load", "a.lda"], "a command that is not there yet"),
+    (&["a.lda"], "a tape with no command"),
+    (&["type", "--words", "28673"], "a machine too large"),
+    (&["type", "--words", "-1"], "a negative size"),
+    (&["type", "--style", "8"], "a style that is none"),
+    (&["type", "--words"], "an option without its number"),
+];
+
 /// What a run of the program left.
 #[derive(Drop)]
 struct Ended {
@@ -35,24 +72,7 @@ fn run(rt: &HostRuntime, words: &[&str], mut input: &[u8]) -> Result<Ended, Fail
 #[test]
 fn requests_end_with_their_status(rt: HostRuntime) -> Result<(), Fail> {
     fs::write(&rt, "one-word.lda", &ONE_WORD)?;
-    let bad_sum = [1, 0, 6, 0, 0, 2, 0xF6];
-    let rows: [(&[&str], &[u8], u8, &str, &str); 8] = [
-        (&[], &ONE_WORD, 0, ONE_WORD_TEXT, ""),
-        (&[], &bad_sum, 3, "", "ldaodt: tape refused at 0: BadSum\n"),
-        (&["check", "one-word.lda"], &[], 0, ONE_WORD_TEXT, ""),
-        (
-            &["check", "no-such.lda"],
-            &ONE_WORD,
-            4,
-            "",
-            "ldaodt: cannot read no-such.lda\n",
-        ),
-        (&["check", "."], &ONE_WORD, 4, "", "ldaodt: cannot read .\n"),
-        (&["type"], b"001000/\n", 0, "001000/000000 \r\n@", ""),
-        (&["type", "--words", "0"], b"0/", 0, "0/?\r\n@", ""),
-        (&["type", "--style", "7"], b"Z", 0, "Z?\r\r\n@", ""),
-    ];
-    for (words, input, status, out, err) in rows {
+    for (words, input, status, out, err) in REQUESTS {
         let ended = run(&rt, words, input)?;
         assert_eq!(rt; ended.status, status, "{words:?}");
         assert!(rt; ended.out.as_slice() == out.as_bytes(), "{words:?}");
@@ -64,17 +84,7 @@ fn requests_end_with_their_status(rt: HostRuntime) -> Result<(), Fail> {
 
 #[test]
 fn other_words_are_refused(rt: HostRuntime) -> Result<(), Fail> {
-    let rows: [(&[&str], &str); 8] = [
-        (&["check"], "no tape named"),
-        (&["check", "a.lda", "b.lda"], "two tapes"),
-        (&["load", "a.lda"], "a command that is not there yet"),
-        (&["a.lda"], "a tape with no command"),
-        (&["type", "--words", "28673"], "a machine too large"),
-        (&["type", "--words", "-1"], "a negative size"),
-        (&["type", "--style", "8"], "a style that is none"),
-        (&["type", "--words"], "an option without its number"),
-    ];
-    for (words, reason) in rows {
+    for (words, reason) in REFUSED {
         let ended = run(&rt, words, &ONE_WORD)?;
         assert_eq!(rt; ended.status, 2, "{reason}");
         assert!(rt; ended.out.is_empty(), "{reason}");
@@ -85,7 +95,7 @@ fn other_words_are_refused(rt: HostRuntime) -> Result<(), Fail> {
 
 #[test]
 fn help_names_the_program(rt: HostRuntime) -> Result<(), Fail> {
-    for words in [&["--help"], &["--version"]] {
+    for words in HELP {
         let ended = run(&rt, words, &[])?;
         assert_eq!(rt; ended.status, 0, "{words:?}");
         assert!(rt; ended.err.is_empty(), "{words:?}");

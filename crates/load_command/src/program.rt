@@ -1,5 +1,5 @@
 //! The body of `main`, over any files, input and outputs.
-ghost use Rattle.std.specs.Prelude.{◌≡◌, [], OnOk, IfErr};
+ghost use Rattle.std.specs.Prelude.{◌≡◌, [], OnOk, IfOk, IfErr};
 ghost use Rattle.tape_blocks.specs.declared.fault.Fault.{Fault as TapeFault};
 ghost use Rattle.load_command.specs.TapeFile.{IsRefusedInput};
 ghost use Rattle.load_command.specs.CheckText.{IsChecked};
@@ -55,7 +55,7 @@ fn attempt<F: Files, R: Read, W: Write, E: Write>(
     ensures refused { request.entry ≡ Request.CheckInput → result ≡ Status.Refused → (fault : TapeFault) × IsRefusedInput (R.remaining input.old) fault }
 {
     match perform(rt, alloc, request, input, out) {
-        Ok(()) => Status::Done,
+        Ok(status) => status,
         Err(failure) => tell(failure, err),
     }
 }
@@ -86,29 +86,30 @@ pub fn tell<E: Write>(failure: Failure<'_>, err: &mut E) -> Status
     failure.status()
 }
 
-/// Does a request, and flushes what it wrote.
+/// Does a request, flushes what it wrote, and answers how it ended.
 fn perform<'a, F: Files, R: Read, W: Write>(
     rt: &F,
     alloc: Global,
     request: Request<'a>,
     input: &mut R,
     out: &mut W,
-) -> Result<(), Failure<'a>>
+) -> Result<Status, Failure<'a>>
     ensures ok { OnOk result (request.entry ≡ Request.CheckInput → IsChecked (R.remaining input.old) (W.contents out.old) (W.contents out.new)) }
+    ensures done { IfOk result (λ status. request.entry ≡ Request.CheckInput → status ≡ Status.Done) }
     ensures err { IfErr result (λ failure. request.entry ≡ Request.CheckInput → IsCheckFailure (R.remaining input.old) failure) }
 {
-    match request {
+    let status = match request {
         Request::CheckInput => check(alloc, STANDARD_INPUT, input, out)?,
         Request::Check(tape) => {
             let mut file = open(rt, tape)?;
-            check(alloc, tape, &mut file, out)?;
+            check(alloc, tape, &mut file, out)?
         }
         Request::Type(console) => type_input(alloc, console, input, out)?,
-    }
+    };
     if out.flush().is_err() {
         return Err(Failure::CannotWrite);
     }
-    Ok(())
+    Ok(status)
 }
 
 fn open<'a, F: Files>(rt: &F, name: &'a str) -> Result<F::File, Failure<'a>> {
@@ -123,12 +124,13 @@ fn check<'a, R: Read, W: Write>(
     name: &'a str,
     tape: &mut R,
     out: &mut W,
-) -> Result<(), Failure<'a>>
+) -> Result<Status, Failure<'a>>
     ensures ok { OnOk result (IsChecked (R.remaining tape.old) (W.contents out.old) (W.contents out.new)) }
+    ensures done { IfOk result (λ status. status ≡ Status.Done) }
     ensures err { IfErr result (IsCheckFailure (R.remaining tape.old)) }
 {
     match check_to(alloc, tape, out) {
-        Ok(()) => Ok(()),
+        Ok(()) => Ok(Status::Done),
         Err(fault) => Err(Failure::of(fault, name, name)),
     }
 }
@@ -138,14 +140,14 @@ fn type_input<'a, R: Read, W: Write>(
     console: Console,
     input: &mut R,
     out: &mut W,
-) -> Result<(), Failure<'a>> {
+) -> Result<Status, Failure<'a>> {
     let mut odt = match Odt::new(alloc, console.words, console.style) {
         Ok(odt) => odt,
         Err(OdtError::TooLarge) => return Err(Failure::TooLarge),
         Err(OdtError::Memory) => return Err(Failure::NoMemory),
     };
     match type_to(&mut odt, input, out) {
-        Ok(_) => Ok(()),
+        Ok(_) => Ok(Status::Done),
         Err(fault) => Err(Failure::of(fault, STANDARD_INPUT, STANDARD_INPUT)),
     }
 }

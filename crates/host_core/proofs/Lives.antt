@@ -1,7 +1,8 @@
 -- What holds of a life over every list of heard things.
-use Rattle.std.proofs.Common.{◌≡◌, ◌+◌, true, List, [], ◌∷◌, length, refl, arith, ◌∙◌, ap, length-append}
+use Rattle.std.proofs.Common.{◌≡◌, ◌+◌, ◌≤◌, true, List, [], ◌∷◌, length, refl, arith, ◌∙◌, ap, length-append}
 use Rattle.host_core.specs.declared.heard.Heard.{Heard}
 use Rattle.host_core.specs.Core.{Core}
+use Rattle.host_core.specs.Bound.{character_bound}
 use Rattle.host_core.specs.Host.{IsHost}
 use Rattle.host_core.specs.Laws.{led, keys, replay, KeepsBound, IsSilent}
 use Rattle.host_core.specs.PhaseTable.{move}
@@ -28,6 +29,13 @@ led_sent core (heard ∷ more) =
 pub keeps_bound : (core : Core) → IsHost core → KeepsBound core
 keeps_bound core h heard =
     omega (arith, within_bound (led core heard) (led_kept core heard h), led_sent core heard, ap (λ plan. length plan.words) (led_plan core heard), led_patience core heard)
+
+-- the bound at the largest plan and patience
+largest_bound : character_bound 28672 4294967295 ≡ 98784878599
+largest_bound = refl
+
+pub within_largest : (core : Core) → IsHost core → core.sent ≤ 98784878599
+within_largest core h = omega (arith, within_bound core h, h.image.few, h.long)
 
 pub is_silent : (core : Core) → IsHost core → core.going ≡ true → IsSilent core
 is_silent core h e [] = refl

@@ -20,7 +20,8 @@ use tape_image::Plan;
 
 /// A host that loads one plan: it says which character to type next.
 ///
-/// A life is what lies between two beginnings, `new` or `restart`.
+/// A life is what lies between two beginnings, `new` or `restart`. Contracts see a record of the
+/// plan, the progress, the patience, the mishaps spent, the characters sent and the phase.
 #[derive(Drop)]
 pub struct HostCore {
     plan: Plan,
@@ -46,7 +47,13 @@ impl Model for HostCore {
 }
 
 impl HostCore {
-    /// A host at the beginning of a life, or the plan again and what is wrong with the progress.
+    /// A host at the beginning of a life: it has verified what `progress` says, and survives
+    /// `patience` mishaps.
+    ///
+    /// The plan comes back where the progress is refused: `TooMany` exactly where more words are
+    /// verified than the plan has, else `EarlyMark` exactly where the mark is set with words missing
+    /// or without a start. A life that begins with the mark has ended already, as `MaybeStarted`; one
+    /// with every word verified and no start as `Loaded`.
     pub fn new(
         plan: Plan,
         progress: Progress,
@@ -56,7 +63,7 @@ impl HostCore {
         ensures accepted { OnOk result (refusal_of plan progress.verified progress.going ≡ None) }
         ensures refused { IfErr result (λ err. refusal_of plan progress.verified progress.going ≡ Some err.1) }
         ensures given_back { IfErr result (λ err. err.0 ≡ plan) }
-        ensures start { IfOk result StartsOnlyWhole }
+        ensures whole_start { IfOk result StartsOnlyWhole }
         ensures kept { IfOk result IsHost }
     {
         if let Some(why) = progress.refusal(&plan) {
@@ -78,7 +85,8 @@ impl HostCore {
         &self.plan
     }
 
-    /// How many words are verified, and the mark.
+    /// How many words are verified, and the mark. Once the mark is set nothing is sent, whatever is
+    /// heard.
     pub fn progress(&self) -> Progress
         ensures verified { result.verified ≡ self.now.verified }
         ensures going { result.going ≡ self.now.going }
@@ -104,11 +112,13 @@ impl HostCore {
         self.life.spent
     }
 
-    /// The characters sent in this life so far.
+    /// The characters sent in this life so far, also the first `Z`. Whatever is heard, they never pass
+    /// the character bound, which for the largest plan and patience is 98,784,878,599.
     pub fn sent_count(&self) -> u64
         ensures value { result ≡ self.now.sent }
         ensures bound { result ≤ character_bound (length self.now.plan.words) self.now.patience }
         ensures later { KeepsBound self.now }
+        ensures most { result ≤ 98784878599 }
         ensures kept { IsHost self.now }
     {
         self.life.sent
@@ -159,18 +169,19 @@ impl HostCore {
     /// verified words still count, and the mark stays as it was.
     pub fn restart(&mut self, kept: u32)
         ensures begun { self.new ≡ restarted self.old kept }
-        ensures start { StartsOnlyWhole self.new }
+        ensures whole_start { StartsOnlyWhole self.new }
         ensures kept { IsHost self.new }
     {
-        let verified = kept.min(self.life.progress.verified);
+        let Progress { verified, going } = self.progress();
         let progress = Progress {
-            verified,
-            ..self.life.progress
+            verified: kept.min(verified),
+            going,
         };
         self.life = Life::begun(&self.plan, progress);
     }
 
-    /// One thing is heard; the answer is the character to send now, if any.
+    /// Hears one thing and answers the character to send now, if any: a step of the phase table. It
+    /// never refuses.
     pub fn step(&mut self, heard: Heard) -> Option<u8>
         ensures next { self.new ≡ (move self.old heard).next }
         ensures key { result ≡ (move self.old heard).key }

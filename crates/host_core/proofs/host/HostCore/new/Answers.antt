@@ -17,5 +17,5 @@ returns-clause-begun c = c.begun-life.ensures c.args.patience
 pub returns-clause-kept : goal.returns-clause-kept
 returns-clause-kept c = invariant_of-result c
 
-pub returns-clause-start : goal.returns-clause-start
-returns-clause-start c = subst StartsOnlyWhole (sym (c.begun-life.ensures c.args.patience)) (starts_only_whole c.args.plan c.args.progress.verified c.args.progress.going c.args.patience (subst IsHost (c.begun-life.ensures c.args.patience) (invariant_of-result c)))
+pub returns-clause-whole_start : goal.returns-clause-whole_start
+returns-clause-whole_start c = subst StartsOnlyWhole (sym (c.begun-life.ensures c.args.patience)) (starts_only_whole c.args.plan c.args.progress.verified c.args.progress.going c.args.patience (subst IsHost (c.begun-life.ensures c.args.patience) (invariant_of-result c)))

@@ -1,5 +1,5 @@
 use Rattle.std.proofs.Common.{◌≡◌, min, subst, sym}
-use Rattle.host_core.specs.Core.{Core, restarted}
+use Rattle.host_core.specs.Core.{Core, begun, restarted}
 use Rattle.host_core.specs.Life.{core_of}
 use Rattle.host_core.specs.Host.{IsHost}
 use Rattle.host_core.specs.Laws.{StartsOnlyWhole}
@@ -9,17 +9,18 @@ use Rattle.host_core.proofs.host.HostCore.restart.Goals as goal
 
 pub returns-clause-begun : goal.returns-clause-begun
 returns-clause-begun c =
-    let P : Core → Type 0 = λ core. core_of c.self.inside.plan c.self.inside.patience c.begun-self-inside.result ≡ restarted core c.args.kept in
-    subst P c.self.view_is (rw c.min-verified.ensures at (c.begun-self-inside.ensures c.self.inside.patience))
+    let P : Core → Type 0 = λ core. core_of c.self.inside.plan c.self.inside.patience c.begun-self-inside.result ≡ begun core.plan (min c.args.kept c.args.self.now.verified) c.args.self.now.going core.patience in
+    subst P c.self.view_is
+    (rw (c.progress-verified.ensures.verified, c.progress-verified.ensures.going) at (rw c.min.ensures at (c.begun-self-inside.ensures c.self.inside.patience)))
 
 pub invariant_of-self : goal.invariant_of-self
 invariant_of-self c =
-    rw c.begun-self-inside.ensures (rw c.min-verified.ensures (restart_kept _ c.args.kept c.self.invariant))
+    subst IsHost (sym (returns-clause-begun c)) (restart_kept c.args.self.now c.args.kept (subst IsHost c.self.view_is c.self.invariant))
 
 pub returns-clause-kept : goal.returns-clause-kept
 returns-clause-kept c = invariant_of-self c
 
-pub returns-clause-start : goal.returns-clause-start
-returns-clause-start c =
+pub returns-clause-whole_start : goal.returns-clause-whole_start
+returns-clause-whole_start c =
     let kept : IsHost (restarted c.args.self.now c.args.kept) = subst IsHost (returns-clause-begun c) (invariant_of-self c) in
     subst StartsOnlyWhole (sym (returns-clause-begun c)) (starts_only_whole c.args.self.now.plan (min c.args.kept c.args.self.now.verified) c.args.self.now.going c.args.self.now.patience kept)

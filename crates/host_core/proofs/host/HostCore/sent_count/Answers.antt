@@ -1,7 +1,10 @@
 use Rattle.std.proofs.Common.{subst}
 use Rattle.host_core.specs.Host.{IsHost}
-use Rattle.host_core.proofs.Lives.{keeps_bound}
+use Rattle.host_core.proofs.Lives.{keeps_bound, within_largest}
 use Rattle.host_core.proofs.host.HostCore.sent_count.Goals as goal
 
 pub returns-clause-later : goal.returns-clause-later
 returns-clause-later c = keeps_bound c.args.self.now (subst IsHost c.self.view_is c.self.invariant)
+
+pub returns-clause-most : goal.returns-clause-most
+returns-clause-most c = within_largest _ c.self.invariant

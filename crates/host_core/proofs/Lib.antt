@@ -1,4 +1,6 @@
 pub mod Frame
 pub mod Lives
+pub mod Readings
 pub mod Starts
 pub mod Turns
+pub mod Walk

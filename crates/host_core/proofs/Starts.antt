@@ -1,10 +1,9 @@
 -- `G` is typed only right after the whole start address: what a life has typed so far, phase by phase.
-use Rattle.std.proofs.Common.{◌≡◌, ℕ, zero, suc, ◌+◌, ◌<◌, ◌≤◌, ◌⊎◌, Bool, true, false, ◌==◌, ◌||◌, ◌&&◌, nat_lt, if◌then◌else◌, List, [], ◌∷◌, ◌++◌, length, take, Option, Some, None, refl, arith, subst, sym, ◌∙◌, ap, inl, inr, append_assoc, append-nil}
+use Rattle.std.proofs.Common.{◌≡◌, ℕ, zero, suc, ◌+◌, ◌<◌, ◌≤◌, ◌⊎◌, Bool, true, false, ◌==◌, ◌&&◌, nat_lt, if◌then◌else◌, List, [], ◌∷◌, ◌++◌, length, take, Option, Some, None, refl, arith, subst, sym, ◌∙◌, ap, inl, inr, append_assoc, append-nil}
 use Rattle.std.specs.List.{Contains}
 use Rattle.std.specs.Option.{is_none, unwrap_or}
 use Rattle.std.proofs.lemmas.List.Elements.{Contains-append_cases}
-use borrow.Author.Tests.{ltb-true, ltb-false}
-use Rattle.octal.specs.Octal.{digit_of, octal_text, is_digit}
+use Rattle.octal.specs.Octal.{digit_of, octal_text}
 use Rattle.tape_image.specs.Plan.{PlanValue}
 use Rattle.tape_image.specs.Word.{WordValue, merged}
 use Rattle.host_core.specs.declared.phase.Phase.{Phase}
@@ -23,8 +22,9 @@ use Rattle.host_core.specs.Core.{Core, begun, first_phase, word_under_way, start
 use Rattle.host_core.specs.Host.{IsHost, IsPlace, Basis, PhaseFits, basis_of}
 use Rattle.host_core.specs.Bound.{used_in}
 use Rattle.host_core.specs.Laws.{led, keys, replay, EndsWithStart, StartsOnlyWhole}
-use Rattle.host_core.specs.PhaseTable.{Move, move, listens, sends, taken, turn_of, hears, waits, sync_hears, address_hears, first_digit_hears, before_hears, differs, value_hears, deposit_hears, return_hears, returned, start_hears, after_words}
+use Rattle.host_core.specs.PhaseTable.{Move, move, listens, sends, taken, turn_of, hears, waits, differs, returned, start_hears, after_words}
 use Rattle.host_core.proofs.Frame.{on_test, on_move, IsMoved, moved, StaysStill, silent}
+use Rattle.host_core.proofs.Walk.{sync_walk, address_walk, slash_walk, before_walk, value_walk, deposit_walk, return_walk, start_walk, go_walk}
 use Rattle.host_core.proofs.Turns.{TurnFits, turn_fits, kept}
 use Rattle.host_core.proofs.Lives.{led_plan}
 
@@ -40,64 +40,16 @@ Types phase start (Key key next) = (go ≡ key → ⊥) × ((typed : List ℕ) �
 Types phase start Mark = (typed : List ℕ) → TypedFits phase start typed → (before : List ℕ) × (typed ≡ before ++ octal_text start)
 Types phase start _ = Unit {0}
 
-either : (phase : Phase) (start : ℕ) (test : Bool) (t u : Turn) → (test ≡ true → Types phase start t) → (test ≡ false → Types phase start u) → Types phase start (if test then t else u)
-either phase start test t u is isnt = on_test (λ v. Types phase start (if v then t else u)) test is isnt
-
 no_digit : (w k : ℕ) → go ≡ digit_of w k → ⊥
 no_digit w k e = omega arith
-
-sync_types : (p : Phase) (start place c : ℕ) → Types p start (sync_hears place c)
-sync_types p start place c =
-    either p start (place == 0) _ _ (λ _. either p start (c == 90) _ _ (λ _ _ _. tt) (λ _. either p start (c == 63) _ _ (λ _ _ _. tt) (λ _. tt)))
-    (λ _. either p start (place == 1) _ _ (λ _. either p start (c == 63) _ _ (λ _ _ _. tt) (λ _. tt))
-    (λ _. either p start (place == 2) _ _ (λ _. either p start (c == 13) _ _ (λ _ _ _. tt) (λ _. tt))
-    (λ _. either p start (place == 3) _ _ (λ _. either p start (c == 13) _ _ (λ _ _ _. tt) (λ _. either p start (c == 10) _ _ (λ _ _ _. tt) (λ _. tt)))
-    (λ _. either p start (place == 4) _ _ (λ _. either p start (c == 10) _ _ (λ _ _ _. tt) (λ _. tt))
-    (λ _. either p start (c == 64) _ _ (λ _. tt) (λ _. tt))))))
-
-address_types : (p : Phase) (start address : ℕ) (visit : Visit) (place c : ℕ) → Types p start (address_hears address visit place c)
-address_types p start address visit place c =
-    either p start (c == digit_of address place) _ _
-    (λ _. either p start (nat_lt place 6) _ _ (λ _. (no_digit address (place + 1), λ _ _. tt)) (λ _. ((λ e. omega arith), λ _ _. tt)))
-    (λ _. tt)
-
-first_digit_types : (p : Phase) (start : ℕ) (visit : Visit) (c : ℕ) → Types p start (first_digit_hears visit c)
-first_digit_types p start visit c = either p start (c == 48 || c == 49) _ _ (λ _ _ _. tt) (λ _. tt)
-
-before_types : (p : Phase) (start address : ℕ) (visit : Visit) (c : ℕ) → Types p start (before_hears address visit c)
-before_types p start address visit c =
-    either p start (c == 32) _ _ (λ _ _ _. tt)
-    (λ _. either p start (c == 63) _ _ (λ _. tt) (λ _. first_digit_types p start visit c))
 
 differs_types : (p : Phase) (start : ℕ) (word : WordValue) (visit : Visit) (value : ℕ) → Types p start (differs word visit value)
 differs_types p start word Look value = (no_digit (merged word value) 1, λ _ _. tt)
 differs_types p start word Check value = tt
 
-value_types : (p : Phase) (start : ℕ) (word : WordValue) (visit : Visit) (value place c : ℕ) → Types p start (value_hears word visit value place c)
-value_types p start word visit value place c =
-    either p start (place == 0) _ _ (λ _. first_digit_types p start visit c)
-    (λ _. either p start (nat_lt place 6) _ _
-    (λ _. either p start (is_digit c) _ _ (λ _ _ _. tt) (λ _. tt))
-    (λ _. either p start (c == 32) _ _
-    (λ _. either p start (merged word value == value) _ _ (λ _. tt) (λ _. differs_types p start word visit value))
-    (λ _. tt)))
-
-deposit_types : (p : Phase) (start value place c : ℕ) → Types p start (deposit_hears value place c)
-deposit_types p start value place c =
-    either p start (c == digit_of value place) _ _
-    (λ _. either p start (nat_lt place 6) _ _ (λ _. (no_digit value (place + 1), λ _ _. tt)) (λ _. ((λ e. omega arith), λ _ _. tt)))
-    (λ _. tt)
-
 returned_types : (p : Phase) (start : ℕ) (reason : Reason) → Types p start (returned reason)
 returned_types p start Store = tt
 returned_types p start Close = tt
-
-return_types : (p : Phase) (start : ℕ) (reason : Reason) (place c : ℕ) → Types p start (return_hears reason place c)
-return_types p start reason place c =
-    either p start (place == 0) _ _ (λ _. either p start (c == 13) _ _ (λ _ _ _. tt) (λ _. tt))
-    (λ _. either p start (place == 1) _ _ (λ _. either p start (c == 13) _ _ (λ _ _ _. tt) (λ _. either p start (c == 10) _ _ (λ _ _ _. tt) (λ _. tt)))
-    (λ _. either p start (place == 2) _ _ (λ _. either p start (c == 10) _ _ (λ _ _ _. tt) (λ _. tt))
-    (λ _. either p start (c == 64) _ _ (λ _. returned_types p start reason) (λ _. tt))))
 
 -- one digit more of the start address
 one_more : (start place : ℕ) → 1 ≤ place → place < 6 → take (place + 1) (octal_text start) ≡ take place (octal_text start) ++ digit_of start (place + 1) ∷ []
@@ -115,23 +67,24 @@ typed_more start place low high typed t =
 
 start_types : (start place c : ℕ) → IsPlace place → Types (Start place) start (start_hears start place c)
 start_types start place c p =
-    either (Start place) start (c == digit_of start place) _ _
-    (λ _. either (Start place) start (nat_lt place 6) _ _
-    (λ less. (no_digit start (place + 1), typed_more start place p.from (ltb-true _ _ less)))
-    (λ more typed t. (t.0, let six : place ≡ 6 = omega (arith, p.to, ltb-false _ _ more) in t.1 ∙ ap (λ k. t.0 ++ take k (octal_text start)) six)))
-    (λ _. tt)
+    start_walk (Types (Start place) start) start place c tt (λ less. (no_digit start (place + 1), typed_more start place p.from less))
+    (λ all typed t. (t.0, let six : place ≡ 6 = omega (arith, p.to) in t.1 ∙ ap (λ k. t.0 ++ take k (octal_text start)) six))
 
 hears_types : (word : WordValue) (start : ℕ) (phase : Phase) (c : ℕ) (b : Basis) → PhaseFits phase b → Types phase start (hears word start phase c)
 hears_types word start Settle c b f = λ _ _. tt
-hears_types word start (Sync place) c b f = sync_types (Sync place) start place c
-hears_types word start (Address visit place) c b f = address_types (Address visit place) start word.address visit place c
-hears_types word start (Slash visit) c b f = either (Slash visit) start (c == 47) _ _ (λ _ _ _. tt) (λ _. tt)
-hears_types word start (Before visit) c b f = before_types (Before visit) start word.address visit c
-hears_types word start (Value visit value place) c b f = value_types (Value visit value place) start word visit value place c
-hears_types word start (Deposit value place) c b f = deposit_types (Deposit value place) start value place c
-hears_types word start (Return reason place) c b f = return_types (Return reason place) start reason place c
+hears_types word start (Sync place) c b f = sync_walk (Types (Sync place) start) place c tt (λ _ _ _ _. tt) tt
+hears_types word start (Address visit place) c b f =
+    address_walk (Types (Address visit place) start) word.address visit place c tt (λ _. (no_digit word.address (place + 1), λ _ _. tt)) ((λ e. omega arith), λ _ _. tt)
+hears_types word start (Slash visit) c b f = slash_walk (Types (Slash visit) start) visit c tt (λ _ _. tt)
+hears_types word start (Before visit) c b f = before_walk (Types (Before visit) start) word.address visit c tt (λ _ _. tt) tt (λ _ _ _ _. tt)
+hears_types word start (Value visit value place) c b f =
+    value_walk (Types (Value visit value place) start) word visit value place c tt (λ _ _ _ _ _. tt) (λ _ _ _ _ _. tt) (λ _ _ _. tt) (λ _. differs_types (Value visit value place) start word visit value)
+hears_types word start (Deposit value place) c b f =
+    deposit_walk (Types (Deposit value place) start) value place c tt (λ _. (no_digit value (place + 1), λ _ _. tt)) ((λ e. omega arith), λ _ _. tt)
+hears_types word start (Return reason place) c b f =
+    return_walk (Types (Return reason place) start) reason place c tt (λ _ _ _ _. tt) (returned_types (Return reason place) start reason)
 hears_types word start (Start place) c b f = start_types start place c f.1
-hears_types word start Go c b f = either Go start (c == 71) _ _ (λ _. tt) (λ _. tt)
+hears_types word start Go c b f = go_walk (Types Go start) c tt tt
 hears_types word start (Ended end) c b f = λ _ _. tt
 
 waits_types : (start : ℕ) (phase : Phase) → Types phase start (waits phase)

@@ -5,8 +5,8 @@ use Rattle.std.proofs.lemmas.Bool.Decides.{nat_tests}
 use Rattle.std.proofs.lemmas.List.Elements.{All-get_or}
 use Rattle.tape_image.proofs.Halves.{merged_below}
 use borrow.Author.Tests.{ltb-true, ltb-false, eqb-true}
-use Rattle.octal.specs.Octal.{digit_of, is_digit}
-use Rattle.tape_image.specs.Word.{IsWord, merged}
+use Rattle.octal.specs.Octal.{is_digit}
+use Rattle.tape_image.specs.Word.{IsWord}
 use Rattle.tape_image.specs.Plan.{PlanValue, IsPlan}
 use Rattle.host_core.specs.declared.phase.Phase.{Phase}
 use Rattle.host_core.specs.declared.phase.Phase.TheVariants.{Settle, Sync, Address, Slash, Before, Value, Deposit, Return, Start, Go, Ended}
@@ -25,7 +25,9 @@ use Rattle.host_core.specs.Bound.{used_in, used_before, character_bound}
 use Rattle.host_core.specs.Host.{IsHost, Basis, basis_of, PhaseFits, EndFits, MarkFits, IsPastMark, HasWord, IsReady, value_room}
 use Rattle.host_core.specs.declared.progress.BadProgress.TheVariants.{TooMany, EarlyMark}
 use Rattle.host_core.specs.Opening.{refusal_of}
-use Rattle.host_core.specs.PhaseTable.{Move, move, taken, turn_of, hears, waits, sync_hears, address_hears, slash_hears, first_digit_hears, before_hears, differs, read, value_hears, deposit_hears, return_hears, returned, start_hears, go_hears, next_word, after_words}
+use Rattle.host_core.specs.PhaseTable.{Move, move, taken, turn_of, hears, waits, address_hears, before_hears, differs, value_hears, deposit_hears, return_hears, start_hears, go_hears, next_word, after_words}
+use Rattle.host_core.proofs.Frame.{on_test}
+use Rattle.host_core.proofs.Walk.{sync_walk, address_walk, slash_walk, before_walk, value_walk, deposit_walk, return_walk, start_walk, go_walk}
 
 -- what a turn needs of the core that takes it, `spent` being the characters that its phase has used
 abbrev pub TurnFits : Turn → Basis → ℕ → Type 0
@@ -42,14 +44,6 @@ TurnFits Timeout b n = (b.going ≡ false) × (n ≤ 22)
 no_mark : (going : Bool) (start : Option ℕ) (phase : Phase) → going ≡ false → MarkFits going start phase
 no_mark false start phase e = tt
 no_mark true start phase e = cc e
-
-on_test : (P : Bool → Type 0) (test : Bool) → (test ≡ true → P true) → (test ≡ false → P false) → P test
-on_test P true is isnt = is refl
-on_test P false is isnt = isnt refl
-
--- every test of the table has two outcomes
-pub either : (b : Basis) (n : ℕ) (test : Bool) (t u : Turn) → (test ≡ true → TurnFits t b n) → (test ≡ false → TurnFits u b n) → TurnFits (if test then t else u) b n
-either b n test t u is isnt = on_test (λ v. TurnFits (if v then t else u) b n) test is isnt
 
 either_move : (core : Core) (test : Bool) (m k : Move) → (test ≡ true → IsHost m.next) → (test ≡ false → IsHost k.next) → IsHost (if test then m else k).next
 either_move core test m k is isnt = on_test (λ v. IsHost (if v then m else k).next) test is isnt
@@ -98,55 +92,25 @@ unmarked true start phase m live = absurd (live m.1)
 on : (b : Basis) (n : ℕ) (phase : Phase) → b.going ≡ false → PhaseFits phase b → n ≤ used_in phase → TurnFits (Listen phase) b n
 on b n phase e fits le = (fits, no_mark b.going b.plan.start phase e, le)
 
-stray : (b : Basis) (n : ℕ) → b.going ≡ false → n ≤ 22 → TurnFits Stray b n
-stray b n e le = (e, le)
-
-sync_fits : (b : Basis) (place c : ℕ) → b.going ≡ false → TurnFits (sync_hears place c) b 1
-sync_fits b place c e =
-    let lost : TurnFits Stray b 1 = stray b 1 e (omega arith) in
-    let next : (k : ℕ) → k ≤ 5 → TurnFits (Listen (Sync k)) b 1 = λ k le. on b 1 (Sync k) e le (omega arith) in
-    either b 1 (place == 0) _ _ (λ _. either b 1 (c == 90) _ _ (λ _. next 1 (omega arith)) (λ _. either b 1 (c == 63) _ _ (λ _. next 2 (omega arith)) (λ _. lost)))
-    (λ _. either b 1 (place == 1) _ _ (λ _. either b 1 (c == 63) _ _ (λ _. next 2 (omega arith)) (λ _. lost))
-    (λ _. either b 1 (place == 2) _ _ (λ _. either b 1 (c == 13) _ _ (λ _. next 3 (omega arith)) (λ _. lost))
-    (λ _. either b 1 (place == 3) _ _ (λ _. either b 1 (c == 13) _ _ (λ _. next 4 (omega arith)) (λ _. either b 1 (c == 10) _ _ (λ _. next 5 (omega arith)) (λ _. lost)))
-    (λ _. either b 1 (place == 4) _ _ (λ _. either b 1 (c == 10) _ _ (λ _. next 5 (omega arith)) (λ _. lost))
-    (λ _. either b 1 (c == 64) _ _ (λ _. (e, omega arith)) (λ _. lost))))))
-
 visit_le : (visit : Visit) → used_before visit ≤ 15
 visit_le Look = omega arith
 visit_le Check = omega arith
 
 address_fits : (b : Basis) (address : ℕ) (visit : Visit) (place c : ℕ) → b.going ≡ false → PhaseFits (Address visit place) b → TurnFits (address_hears address visit place c) b (used_before visit + place)
 address_fits b address visit place c e f =
-    let n : ℕ = used_before visit + place in
-    either b n (c == digit_of address place) _ _
-    (λ _. either b n (nat_lt place 6) _ _
-    (λ less. ((f.0, record { from = omega arith; to = omega (arith, ltb-true _ _ less) }), e, omega arith))
-    (λ _. (f.0, e, omega (arith, f.1.to))))
-    (λ _. stray b n e (omega (arith, f.1.to, visit_le visit)))
+    address_walk (λ t. TurnFits t b (used_before visit + place)) address visit place c (e, omega (arith, f.1.to, visit_le visit))
+    (λ less. ((f.0, record { from = omega arith; to = omega arith }), e, omega arith)) (f.0, e, omega (arith, f.1.to))
 
-slash_fits : (b : Basis) (visit : Visit) (c : ℕ) → b.going ≡ false → HasWord b → TurnFits (slash_hears visit c) b (used_before visit + 7)
-slash_fits b visit c e f =
-    let n : ℕ = used_before visit + 7 in
-    either b n (c == 47) _ _ (λ _. on b n (Before visit) e f (omega arith)) (λ _. stray b n e (omega (arith, visit_le visit)))
-
-digit_below_two : (c : ℕ) → (c == 48 || c == 49) ≡ true → c - 48 < 2
-digit_below_two c h = grind (arith, nat_tests)
-
-first_digit_fits : (b : Basis) (visit : Visit) (c : ℕ) → b.going ≡ false → HasWord b → TurnFits (first_digit_hears visit c) b (used_before visit + 7)
-first_digit_fits b visit c e f =
-    let n : ℕ = used_before visit + 7 in
-    either b n (c == 48 || c == 49) _ _
-    (λ first. on b n (Value visit (c - 48) 1) e (f, omega arith, digit_below_two c first) (omega arith))
-    (λ _. stray b n e (omega (arith, visit_le visit)))
+-- a reading goes on
+reading : (b : Basis) (visit : Visit) (value place : ℕ) → b.going ≡ false → HasWord b → place ≤ 6 → value < value_room place → TurnFits (Listen (Value visit value place)) b (used_before visit + 7)
+reading b visit value place e f le room = on b (used_before visit + 7) (Value visit value place) e (f, le, room) (omega arith)
 
 before_fits : (b : Basis) (visit : Visit) (c : ℕ) → b.going ≡ false → HasWord b → TurnFits (before_hears (word_nr b.plan.words b.verified).address visit c) b (used_before visit + 7)
 before_fits b visit c e f =
-    let n : ℕ = used_before visit + 7 in
-    either b n (c == 32) _ _ (λ _. on b n (Value visit 0 0) e (f, omega arith, omega arith) (omega arith))
-    (λ _. either b n (c == 63) _ _
-    (λ _. ((f, refl), no_mark b.going b.plan.start (Ended (NoWord (word_nr b.plan.words b.verified).address)) e, omega (arith, visit_le visit)))
-    (λ _. first_digit_fits b visit c e f))
+    before_walk (λ t. TurnFits t b (used_before visit + 7)) (word_nr b.plan.words b.verified).address visit c (e, omega (arith, visit_le visit))
+    (reading b visit 0 0 e f (omega arith) (omega arith))
+    ((f, refl), no_mark b.going b.plan.start (Ended (NoWord (word_nr b.plan.words b.verified).address)) e, omega (arith, visit_le visit))
+    (λ low high. reading b visit (c - 48) 1 e f (omega arith) (omega arith))
 
 pub room_step : (place value d : ℕ) → (place == 0) ≡ false → place < 6 → value < value_room place → d < 8 → 8 * value + d < value_room (place + 1)
 room_step zero value d some less room digit = cc some
@@ -157,61 +121,46 @@ room_step (suc (suc (suc (suc zero)))) value d some less room digit = omega arit
 room_step (suc (suc (suc (suc (suc zero))))) value d some less room digit = omega arith
 room_step (suc (suc (suc (suc (suc (suc n)))))) value d some less room digit = absurd (omega arith)
 
-room_le : (place value : ℕ) → value < value_room place → value < 65536
+pub room_le : (place value : ℕ) → value < value_room place → value < 65536
 room_le place value room = grind (arith, nat_tests)
 
-digit_below_eight : (c : ℕ) → is_digit c ≡ true → c - 48 < 8
+pub digit_below_eight : (c : ℕ) → is_digit c ≡ true → c - 48 < 8
 digit_below_eight c h = grind (arith, nat_tests)
 
 differs_fits : (b : Basis) (visit : Visit) (value : ℕ) → IsPlan b.plan → b.going ≡ false → HasWord b → value < 65536 → TurnFits (differs (word_nr b.plan.words b.verified) visit value) b (used_before visit + 7)
-differs_fits b Look value p e f small = ((f, record { from = omega arith; to = omega arith }, merged_below (word_nr b.plan.words b.verified) value (All-get_or IsWord b.plan.words b.verified no_word f p.each).fits small), e, omega arith)
+differs_fits b Look value p e f small = (
+  (
+    f,
+    record { from = omega arith; to = omega arith },
+    merged_below (word_nr b.plan.words b.verified) value (All-get_or IsWord b.plan.words b.verified no_word f p.each).fits small,
+  ),
+  e,
+  omega arith,
+)
 differs_fits b Check value p e f small = ((f, refl), no_mark b.going b.plan.start (Ended (WontHold (word_nr b.plan.words b.verified).address)) e, omega arith)
-
-read_fits : (b : Basis) (visit : Visit) (value : ℕ) → IsPlan b.plan → b.going ≡ false → HasWord b → value < 65536 → TurnFits (read (word_nr b.plan.words b.verified) visit value) b (used_before visit + 7)
-read_fits b visit value p e f small =
-    either b (used_before visit + 7) (merged (word_nr b.plan.words b.verified) value == value) _ _
-    (λ _. (f, e, omega (arith, visit_le visit))) (λ _. differs_fits b visit value p e f small)
 
 value_fits : (b : Basis) (visit : Visit) (value place c : ℕ) → IsPlan b.plan → b.going ≡ false → PhaseFits (Value visit value place) b → TurnFits (value_hears (word_nr b.plan.words b.verified) visit value place c) b (used_before visit + 7)
 value_fits b visit value place c p e f =
-    let n : ℕ = used_before visit + 7 in
-    let lost : TurnFits Stray b n = stray b n e (omega (arith, visit_le visit)) in
-    either b n (place == 0) _ _ (λ _. first_digit_fits b visit c e f.0)
-    (λ some. either b n (nat_lt place 6) _ _
-    (λ less. either b n (is_digit c) _ _
-    (λ digit. on b n (Value visit (8 * value + (c - 48)) (place + 1)) e (f.0, omega (arith, ltb-true _ _ less), room_step place value (c - 48) some (ltb-true _ _ less) f.2 (digit_below_eight c digit)) (omega arith))
-    (λ _. lost))
-    (λ _. either b n (c == 32) _ _ (λ _. read_fits b visit value p e f.0 (room_le place value f.2)) (λ _. lost)))
+    value_walk (λ t. TurnFits t b (used_before visit + 7)) (word_nr b.plan.words b.verified) visit value place c (e, omega (arith, visit_le visit))
+    (λ _ low high. reading b visit (c - 48) 1 e f.0 (omega arith) (omega arith))
+    (λ some less digit. reading b visit (8 * value + (c - 48)) (place + 1) e f.0 (omega arith) (room_step place value (c - 48) some less f.2 (digit_below_eight c digit)))
+    (λ _ _ _. (f.0, e, omega (arith, visit_le visit))) (λ _. differs_fits b visit value p e f.0 (room_le place value f.2))
 
 deposit_fits : (b : Basis) (value place c : ℕ) → b.going ≡ false → PhaseFits (Deposit value place) b → TurnFits (deposit_hears value place c) b (8 + place)
 deposit_fits b value place c e f =
-    let n : ℕ = 8 + place in
-    either b n (c == digit_of value place) _ _
-    (λ _. either b n (nat_lt place 6) _ _
-    (λ less. ((f.0, record { from = omega arith; to = omega (arith, ltb-true _ _ less) }, f.2), e, omega arith))
-    (λ _. ((f.0, omega arith), e, omega (arith, f.1.to))))
-    (λ _. stray b n e (omega (arith, f.1.to)))
-
-return_step : (b : Basis) (n : ℕ) (reason : Reason) (place c : ℕ) → b.going ≡ false → n ≤ 22 → ((k : ℕ) → k ≤ 3 → TurnFits (Listen (Return reason k)) b n) → TurnFits (returned reason) b n → TurnFits (return_hears reason place c) b n
-return_step b n reason place c e le next done =
-    let lost : TurnFits Stray b n = stray b n e le in
-    either b n (place == 0) _ _ (λ _. either b n (c == 13) _ _ (λ _. next 1 (omega arith)) (λ _. lost))
-    (λ _. either b n (place == 1) _ _ (λ _. either b n (c == 13) _ _ (λ _. next 2 (omega arith)) (λ _. either b n (c == 10) _ _ (λ _. next 3 (omega arith)) (λ _. lost)))
-    (λ _. either b n (place == 2) _ _ (λ _. either b n (c == 10) _ _ (λ _. next 3 (omega arith)) (λ _. lost))
-    (λ _. either b n (c == 64) _ _ (λ _. done) (λ _. lost))))
+    deposit_walk (λ t. TurnFits t b (8 + place)) value place c (e, omega (arith, f.1.to))
+    (λ less. ((f.0, record { from = omega arith; to = omega arith }, f.2), e, omega arith)) ((f.0, omega arith), e, omega (arith, f.1.to))
 
 return_fits : (b : Basis) (reason : Reason) (place c : ℕ) → b.going ≡ false → PhaseFits (Return reason place) b → TurnFits (return_hears reason place c) b (used_in (Return reason place))
-return_fits b Store place c e f = return_step b 15 Store place c e (omega arith) (λ k le. on b 15 (Return Store k) e (f.0, le) (omega arith)) (f.0, e, omega arith)
-return_fits b Close place c e f = return_step b 1 Close place c e (omega arith) (λ k le. on b 1 (Return Close k) e le (omega arith)) (e, omega arith)
+return_fits b Store place c e f =
+    return_walk (λ t. TurnFits t b 15) Store place c (e, omega arith) (λ k le. on b 15 (Return Store k) e (f.0, le) (omega arith)) (f.0, e, omega arith)
+return_fits b Close place c e f =
+    return_walk (λ t. TurnFits t b 1) Close place c (e, omega arith) (λ k le. on b 1 (Return Close k) e le (omega arith)) (e, omega arith)
 
 start_fits : (b : Basis) (start place c : ℕ) → b.going ≡ false → PhaseFits (Start place) b → TurnFits (start_hears start place c) b (1 + place)
 start_fits b start place c e f =
-    let n : ℕ = 1 + place in
-    either b n (c == digit_of start place) _ _
-    (λ _. either b n (nat_lt place 6) _ _
-    (λ less. ((f.0, record { from = omega arith; to = omega (arith, ltb-true _ _ less) }), e, omega arith))
-    (λ _. (f.0, e, omega (arith, f.1.to))))
-    (λ _. stray b n e (omega (arith, f.1.to)))
+    start_walk (λ t. TurnFits t b (1 + place)) start place c (e, omega (arith, f.1.to))
+    (λ less. ((f.0, record { from = omega arith; to = omega arith }), e, omega arith)) (λ _. (f.0, e, omega (arith, f.1.to)))
 
 ended_mark : (going : Bool) (start : Option ℕ) (end : End) → IsSome start → MarkFits going start (Ended end)
 ended_mark false start end some = tt
@@ -219,15 +168,18 @@ ended_mark true start end some = (some, tt)
 
 go_fits : (b : Basis) (c : ℕ) → PhaseFits Go b → TurnFits (go_hears c) b 8
 go_fits b c f =
-    either b 8 (c == 71) _ _
-    (λ _. (f.1, ended_mark b.going b.plan.start Started f.0.has_start, omega arith))
-    (λ _. (f.1, ended_mark b.going b.plan.start Uncertain f.0.has_start, omega arith))
+    go_walk (λ t. TurnFits t b 8) c (f.1, ended_mark b.going b.plan.start Started f.0.has_start, omega arith)
+    (f.1, ended_mark b.going b.plan.start Uncertain f.0.has_start, omega arith)
 
 pub hears_fits : (b : Basis) (start : ℕ) (phase : Phase) (c : ℕ) → IsPlan b.plan → PhaseFits phase b → MarkFits b.going b.plan.start phase → TurnFits (hears (word_nr b.plan.words b.verified) start phase c) b (used_in phase)
 hears_fits b start Settle c p f m = (tt, m, omega arith)
-hears_fits b start (Sync place) c p f m = sync_fits b place c (unmarked b.going b.plan.start (Sync place) m (λ x. x))
+hears_fits b start (Sync place) c p f m =
+    let e : b.going ≡ false = unmarked b.going b.plan.start (Sync place) m (λ x. x) in
+    sync_walk (λ t. TurnFits t b 1) place c (e, omega arith) (λ k le. on b 1 (Sync k) e le (omega arith)) (e, omega arith)
 hears_fits b start (Address visit place) c p f m = address_fits b _ visit place c (unmarked b.going b.plan.start (Address visit place) m (λ x. x)) f
-hears_fits b start (Slash visit) c p f m = slash_fits b visit c (unmarked b.going b.plan.start (Slash visit) m (λ x. x)) f
+hears_fits b start (Slash visit) c p f m =
+    let e : b.going ≡ false = unmarked b.going b.plan.start (Slash visit) m (λ x. x) in
+    slash_walk (λ t. TurnFits t b (used_before visit + 7)) visit c (e, omega (arith, visit_le visit)) (on b (used_before visit + 7) (Before visit) e f (omega arith))
 hears_fits b start (Before visit) c p f m = before_fits b visit c (unmarked b.going b.plan.start (Before visit) m (λ x. x)) f
 hears_fits b start (Value visit value place) c p f m = value_fits b visit value place c p (unmarked b.going b.plan.start (Value visit value place) m (λ x. x)) f
 hears_fits b start (Deposit value place) c p f m = deposit_fits b value place c (unmarked b.going b.plan.start (Deposit value place) m (λ x. x)) f

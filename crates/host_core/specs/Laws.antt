@@ -1,10 +1,12 @@
 -- What holds of a host over everything that it may ever hear.
-use Rattle.std.specs.Prelude.{◌≡◌, ℕ, ◌+◌, ◌≤◌, List, [], ◌∷◌, ◌++◌, length, Option, Some, None}
+use Rattle.std.specs.Prelude.{◌≡◌, ◌≢◌, ℕ, ◌+◌, ◌≤◌, List, [], ◌∷◌, ◌++◌, length, map, Option, Some, None}
 use Rattle.std.specs.List.{Contains}
 use Rattle.octal.specs.Octal.{octal_text}
+use Rattle.tape_image.specs.Word.{WordValue, Stands}
 use Rattle.host_core.specs.declared.heard.Heard.{Heard}
-use Rattle.host_core.specs.Console.{go}
-use Rattle.host_core.specs.Core.{Core, start_of}
+use Rattle.host_core.specs.declared.heard.Heard.TheVariants.{Got}
+use Rattle.host_core.specs.Console.{go, space}
+use Rattle.host_core.specs.Core.{Core, start_of, word_under_way}
 use Rattle.host_core.specs.Bound.{character_bound}
 use Rattle.host_core.specs.PhaseTable.{move}
 
@@ -41,3 +43,13 @@ abbrev pub StartsOnlyWhole : Core → Type 0
 StartsOnlyWhole core =
     (heard : List Heard) → Contains (replay core heard) go →
     EndsWithStart (start_of core) (replay core heard) × ((led core heard).verified ≡ length core.plan.words)
+
+-- the last that was heard are the six octal digits of a number and a space, and the word stands in that number
+abbrev pub HasRead : WordValue → List Heard → Type 0
+HasRead word heard = (value : ℕ) × (before : List Heard) × (heard ≡ before ++ map Got (octal_text value ++ space ∷ [])) × Stands word value
+
+-- whatever is heard, one more word is verified only where it has just been read and stands
+abbrev pub VerifiesOnlyRead : Core → Type 0
+VerifiesOnlyRead core =
+    (heard : List Heard) (last : Heard) → (move (led core heard) last).next.verified ≢ (led core heard).verified →
+    HasRead (word_under_way (led core heard)) (heard ++ last ∷ [])

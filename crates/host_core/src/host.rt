@@ -2,7 +2,7 @@ ghost use Rattle.std.specs.Prelude.{◌≡◌, ℕ, ◌≤◌, ◌⊎◌, ◌↔
 ghost use Rattle.host_core.specs.Bound.{character_bound};
 ghost use Rattle.host_core.specs.Core.{IsFresh, begun, ended, first_phase, restarted};
 ghost use Rattle.host_core.specs.Host.{IsHost};
-ghost use Rattle.host_core.specs.Laws.{KeepsBound, IsSilent, StartsOnlyWhole};
+ghost use Rattle.host_core.specs.Laws.{KeepsBound, IsSilent, StartsOnlyWhole, VerifiesOnlyRead};
 ghost use Rattle.host_core.specs.Opening.{refusal_of};
 ghost use Rattle.host_core.specs.PhaseTable.{move};
 ghost use Rattle.host_core.specs.Steps.{IsVerifying, IsMarking};
@@ -64,6 +64,7 @@ impl HostCore {
         ensures refused { IfErr result (λ err. refusal_of plan progress.verified progress.going ≡ Some err.1) }
         ensures given_back { IfErr result (λ err. err.0 ≡ plan) }
         ensures whole_start { IfOk result StartsOnlyWhole }
+        ensures read_first { IfOk result VerifiesOnlyRead }
         ensures kept { IfOk result IsHost }
     {
         if let Some(why) = progress.refusal(&plan) {
@@ -170,6 +171,7 @@ impl HostCore {
     pub fn restart(&mut self, kept: u32)
         ensures begun { self.new ≡ restarted self.old kept }
         ensures whole_start { StartsOnlyWhole self.new }
+        ensures read_first { VerifiesOnlyRead self.new }
         ensures kept { IsHost self.new }
     {
         let Progress { verified, going } = self.progress();

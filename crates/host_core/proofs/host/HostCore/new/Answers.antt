@@ -1,6 +1,7 @@
 use Rattle.std.proofs.Common.{sym, ◌∙◌, subst}
 use Rattle.host_core.specs.Host.{IsHost}
-use Rattle.host_core.specs.Laws.{StartsOnlyWhole}
+use Rattle.host_core.specs.Laws.{StartsOnlyWhole, VerifiesOnlyRead}
+use Rattle.host_core.proofs.Readings.{verifies_only_read}
 use Rattle.host_core.proofs.Starts.{starts_only_whole}
 use Rattle.host_core.proofs.Turns.{begun_kept, accepted}
 use Rattle.host_core.proofs.host.HostCore.new.Goals as goal
@@ -19,3 +20,8 @@ returns-clause-kept c = invariant_of-result c
 
 pub returns-clause-whole_start : goal.returns-clause-whole_start
 returns-clause-whole_start c = subst StartsOnlyWhole (sym (c.begun-life.ensures c.args.patience)) (starts_only_whole c.args.plan c.args.progress.verified c.args.progress.going c.args.patience (subst IsHost (c.begun-life.ensures c.args.patience) (invariant_of-result c)))
+
+pub returns-clause-read_first : goal.returns-clause-read_first
+returns-clause-read_first c =
+    subst VerifiesOnlyRead (sym (c.begun-life.ensures c.args.patience))
+    (verifies_only_read c.args.plan c.args.progress.verified c.args.progress.going c.args.patience (subst IsHost (c.begun-life.ensures c.args.patience) (invariant_of-result c)))

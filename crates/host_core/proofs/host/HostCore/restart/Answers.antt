@@ -2,7 +2,8 @@ use Rattle.std.proofs.Common.{◌≡◌, min, subst, sym}
 use Rattle.host_core.specs.Core.{Core, begun, restarted}
 use Rattle.host_core.specs.Life.{core_of}
 use Rattle.host_core.specs.Host.{IsHost}
-use Rattle.host_core.specs.Laws.{StartsOnlyWhole}
+use Rattle.host_core.specs.Laws.{StartsOnlyWhole, VerifiesOnlyRead}
+use Rattle.host_core.proofs.Readings.{verifies_only_read}
 use Rattle.host_core.proofs.Starts.{starts_only_whole}
 use Rattle.host_core.proofs.Turns.{restart_kept}
 use Rattle.host_core.proofs.host.HostCore.restart.Goals as goal
@@ -20,7 +21,13 @@ invariant_of-self c =
 pub returns-clause-kept : goal.returns-clause-kept
 returns-clause-kept c = invariant_of-self c
 
+kept_now : (c : goal.After-self-1) → IsHost (restarted c.args.self.now c.args.kept)
+kept_now c = subst IsHost (returns-clause-begun c) (invariant_of-self c)
+
 pub returns-clause-whole_start : goal.returns-clause-whole_start
 returns-clause-whole_start c =
-    let kept : IsHost (restarted c.args.self.now c.args.kept) = subst IsHost (returns-clause-begun c) (invariant_of-self c) in
-    subst StartsOnlyWhole (sym (returns-clause-begun c)) (starts_only_whole c.args.self.now.plan (min c.args.kept c.args.self.now.verified) c.args.self.now.going c.args.self.now.patience kept)
+    subst StartsOnlyWhole (sym (returns-clause-begun c)) (starts_only_whole c.args.self.now.plan (min c.args.kept c.args.self.now.verified) c.args.self.now.going c.args.self.now.patience (kept_now c))
+
+pub returns-clause-read_first : goal.returns-clause-read_first
+returns-clause-read_first c =
+    subst VerifiesOnlyRead (sym (returns-clause-begun c)) (verifies_only_read c.args.self.now.plan (min c.args.kept c.args.self.now.verified) c.args.self.now.going c.args.self.now.patience (kept_now c))

@@ -13,3 +13,4 @@ pub mod Reports
 pub mod Plays
 pub mod Openings
 pub mod Rehearsals
+pub mod Dialogues

@@ -12,3 +12,4 @@ pub mod Failure
 pub mod Report
 pub mod Played
 pub mod Rehearsal
+pub mod Dialogue

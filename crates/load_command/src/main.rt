@@ -3,8 +3,9 @@
 
 mod check;
 mod command_line;
-#[cfg(test)]
 mod devices;
+mod dialogue;
+mod exchange;
 mod failure;
 mod fault;
 mod input;
@@ -21,6 +22,7 @@ mod tape_file;
 mod text;
 mod type_keys;
 mod waiting;
+#[cfg(test)]
 
 use failure::Failure;
 use std::process::ExitCode;

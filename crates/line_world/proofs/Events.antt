@@ -119,7 +119,7 @@ steps_then : (a b c : Scene) → Steps a b → Steps b c → Steps a c
 steps_then a b c x y = record {
   plan = y.plan ∙ x.plan;
   bytes = only_then a.core.plan.image a.machine.memory b.machine.memory c.machine.memory x.bytes
-    (subst (λ (p : PlanValue). OnlyImage b.machine.memory p.image c.machine.memory) x.plan y.bytes);
+      (subst (λ (p : PlanValue). OnlyImage b.machine.memory p.image c.machine.memory) x.plan y.bytes);
 }
 
 pub steps_events : (w : Scene) (events : List Event) → IsKept w → Steps w (after w events)
@@ -140,8 +140,8 @@ loaded : (before : List ℕ) (w : Scene) → IsPlan w.core.plan → ((i : ℕ) �
 loaded before w fits words only = record {
   lies = λ i below. (words i below).0;
   overlay = IsOverlay-standing w.core.plan before w.machine.memory fits only.size
-    (λ k d below. subst (λ v. Stands v (slice_index w.machine.memory (v.address / 2))) (rest_default w.core.plan.words k no_word d below) (Stands-unchanged (word_nr w.core.plan.words k) _ (words k below).1))
-    (λ b below none. elim (only.bytes b below) [ inl same ↦ same | inr now ↦ absurd (cc) ]);
+      (λ k d below. subst (λ v. Stands v (slice_index w.machine.memory (v.address / 2))) (rest_default w.core.plan.words k no_word d below) (Stands-unchanged (word_nr w.core.plan.words k) _ (words k below).1))
+      (λ b below none. elim (only.bytes b below) [ inl same ↦ same | inr now ↦ absurd (cc) ]);
 }
 
 -- a world is safe from every memory that differs from its own by the image alone

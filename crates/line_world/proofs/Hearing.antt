@@ -128,6 +128,7 @@ not_first w c small e same = not_early c (w / 32768) e (omega arith) (same ∙ l
   where
     low : (n : ℕ) → n < 2 → 48 + n % 8 ≡ 48 + n
     low n h = omega arith
+
     not_early : (c n : ℕ) → (eqb c 48 || eqb c 49) ≡ false → n < 2 → c ≡ 48 + n → ⊥
     not_early c n e h same = grind (arith, nat_tests)
 
@@ -189,33 +190,33 @@ module _ (m : Machine) (core : Core) (c : ℕ) (u : List ℕ) (lost : ℕ) where
   sync_fits : (k : ℕ) → k < 6 → Holds (Sync k) → Fits (sync_hears k c)
   sync_fits = below_six (λ k. Holds (Sync k) → Fits (sync_hears k c))
       (λ h. let x = hears_in (Sync 0) here m.mode c u core.spent lost h in
-        fits_if m core u lost (eqb c 90) _ _
-        (λ e. step_on (Sync 1) here _ m.mode c u core.spent lost x (follows_at c 90 _ _ (equal c 90 e) (echo_z m.style.echo_illegal _)) tt)
-        (λ z. fits_if m core u lost (eqb c 63) _ _
-          (λ e. step_on (Sync 2) here _ m.mode c u core.spent lost x (follows_at c 63 _ _ (equal c 63 e) (echo_question m.style.echo_illegal _)) tt)
-          (λ q. missed _ _ m.mode c u core.spent lost x (miss_echo m.style.echo_illegal c _ (differ c 90 z) (differ c 63 q)))))
+      fits_if m core u lost (eqb c 90) _ _
+      (λ e. step_on (Sync 1) here _ m.mode c u core.spent lost x (follows_at c 90 _ _ (equal c 90 e) (echo_z m.style.echo_illegal _)) tt)
+      (λ z. fits_if m core u lost (eqb c 63) _ _
+      (λ e. step_on (Sync 2) here _ m.mode c u core.spent lost x (follows_at c 63 _ _ (equal c 63 e) (echo_question m.style.echo_illegal _)) tt)
+      (λ q. missed _ _ m.mode c u core.spent lost x (miss_echo m.style.echo_illegal c _ (differ c 90 z) (differ c 63 q)))))
       (λ h. let x = hears_in (Sync 1) here m.mode c u core.spent lost h in
-        fits_if m core u lost (eqb c 63) _ _
-        (λ e. step_on (Sync 2) here _ m.mode c u core.spent lost x (follows_next c 63 _) tt)
-        (λ q. missed _ _ m.mode c u core.spent lost x (misses c 63 _ (differ c 63 q))))
+      fits_if m core u lost (eqb c 63) _ _
+      (λ e. step_on (Sync 2) here _ m.mode c u core.spent lost x (follows_next c 63 _) tt)
+      (λ q. missed _ _ m.mode c u core.spent lost x (misses c 63 _ (differ c 63 q))))
       (λ h. let x = hears_in (Sync 2) here m.mode c u core.spent lost h in
-        fits_if m core u lost (eqb c 13) _ _
-        (λ e. step_on (Sync 3) here _ m.mode c u core.spent lost x (follows_at c 13 _ _ (equal c 13 e) (cr_first m.style.two_returns)) tt)
-        (λ q. missed _ _ m.mode c u core.spent lost x (miss_first m.style.two_returns c (differ c 13 q))))
+      fits_if m core u lost (eqb c 13) _ _
+      (λ e. step_on (Sync 3) here _ m.mode c u core.spent lost x (follows_at c 13 _ _ (equal c 13 e) (cr_first m.style.two_returns)) tt)
+      (λ q. missed _ _ m.mode c u core.spent lost x (miss_first m.style.two_returns c (differ c 13 q))))
       (λ h. let x = hears_in (Sync 3) here m.mode c u core.spent lost h in
-        fits_if m core u lost (eqb c 13) _ _
-        (λ e. step_on (Sync 4) here _ m.mode c u core.spent lost x (follows_at c 13 _ _ (equal c 13 e) (cr_second m.style.two_returns)) tt)
-        (λ q. fits_if m core u lost (eqb c 10) _ _
-          (λ e. step_on (Sync 5) here _ m.mode c u core.spent lost x (follows_at c 10 _ _ (equal c 10 e) (lf_first m.style.two_returns)) tt)
-          (λ l. missed _ _ m.mode c u core.spent lost x (miss_second m.style.two_returns c (differ c 13 q) (differ c 10 l)))))
+      fits_if m core u lost (eqb c 13) _ _
+      (λ e. step_on (Sync 4) here _ m.mode c u core.spent lost x (follows_at c 13 _ _ (equal c 13 e) (cr_second m.style.two_returns)) tt)
+      (λ q. fits_if m core u lost (eqb c 10) _ _
+      (λ e. step_on (Sync 5) here _ m.mode c u core.spent lost x (follows_at c 10 _ _ (equal c 10 e) (lf_first m.style.two_returns)) tt)
+      (λ l. missed _ _ m.mode c u core.spent lost x (miss_second m.style.two_returns c (differ c 13 q) (differ c 10 l)))))
       (λ h. let x = hears_in (Sync 4) here m.mode c u core.spent lost h in
-        fits_if m core u lost (eqb c 10) _ _
-        (λ e. step_on (Sync 5) here _ m.mode c u core.spent lost x (follows_next c 10 _) tt)
-        (λ q. missed _ _ m.mode c u core.spent lost x (misses c 10 _ (differ c 10 q))))
+      fits_if m core u lost (eqb c 10) _ _
+      (λ e. step_on (Sync 5) here _ m.mode c u core.spent lost x (follows_next c 10 _) tt)
+      (λ q. missed _ _ m.mode c u core.spent lost x (misses c 10 _ (differ c 10 q))))
       (λ h. let x = hears_in (Sync 5) here m.mode c u core.spent lost h in
-        fits_if m core u lost (eqb c 64) _ _
-        (λ e. ((part_one c 64 u x.part).1, x.after))
-        (λ q. missed _ _ m.mode c u core.spent lost x (misses c 64 _ (differ c 64 q))))
+      fits_if m core u lost (eqb c 64) _ _
+      (λ e. ((part_one c 64 u x.part).1, x.after))
+      (λ q. missed _ _ m.mode c u core.spent lost x (misses c 64 _ (differ c 64 q))))
 
   -- a key goes down after the last character
   key_down : (next : Phase) (key : ℕ) → Facts next here [] → MeetsKey next here m.mode key → Live next here m.mode (key ∷ []) [] core.spent lost
@@ -233,8 +234,8 @@ module _ (m : Machine) (core : Core) (c : ℕ) (u : List ℕ) (lost : ℕ) where
       let x = hears_in (Address visit k) here m.mode c u core.spent lost h in
       fits_if m core u lost (eqb c (digit_of a k)) _ _
       (λ e. fits_if m core u lost (ltb k 6) _ _
-        (λ less. ((part_one c (digit_of a k) u x.part).1, key_down (Address visit (k + 1)) (digit_of a (k + 1)) h.facts (refl, x.after ∙ ap (number_mode a) (same_place k))))
-        (λ last. ((part_one c (digit_of a k) u x.part).1, key_down (Slash visit) 47 h.facts (refl, x.after ∙ ap (number_mode a) (last_place k place last)))))
+      (λ less. ((part_one c (digit_of a k) u x.part).1, key_down (Address visit (k + 1)) (digit_of a (k + 1)) h.facts (refl, x.after ∙ ap (number_mode a) (same_place k))))
+      (λ last. ((part_one c (digit_of a k) u x.part).1, key_down (Slash visit) 47 h.facts (refl, x.after ∙ ap (number_mode a) (last_place k place last)))))
       (λ other. missed _ _ m.mode c u core.spent lost x (misses c (digit_of a k) _ (differ c (digit_of a k) other)))
 
   slash_fits : (visit : Visit) → Holds (Slash visit) → Fits (slash_hears visit c)
@@ -250,9 +251,11 @@ module _ (m : Machine) (core : Core) (c : ℕ) (u : List ℕ) (lost : ℕ) where
       let x = hears_in (Deposit v k) here m.mode c u core.spent lost h in
       fits_if m core u lost (eqb c (digit_of v k)) _ _
       (λ e. fits_if m core u lost (ltb k 6) _ _
-        (λ less. ((part_one c (digit_of v k) u x.part).1, key_down (Deposit v (k + 1)) (digit_of v (k + 1)) h.facts (refl, x.after ∙ ap (typing_mode a v) (same_place k))))
-        (λ last. ((part_one c (digit_of v k) u x.part).1,
-          key_down (Return Store 0) 13 tt (refl, refl, x.after ∙ ap (typing_mode a v) (last_place k place last) ∙ ap (λ y. typing_mode a y 6) h.facts.1))))
+      (λ less. ((part_one c (digit_of v k) u x.part).1, key_down (Deposit v (k + 1)) (digit_of v (k + 1)) h.facts (refl, x.after ∙ ap (typing_mode a v) (same_place k))))
+      (λ last. (
+        (part_one c (digit_of v k) u x.part).1,
+        key_down (Return Store 0) 13 tt (refl, refl, x.after ∙ ap (typing_mode a v) (last_place k place last) ∙ ap (λ y. typing_mode a y 6) h.facts.1),
+      )))
       (λ other. missed _ _ m.mode c u core.spent lost x (misses c (digit_of v k) _ (differ c (digit_of v k) other)))
 
   start_fits : (k : ℕ) → IsPlace k → core.verified ≡ length core.plan.words → Holds (Start k) → Fits (start_hears here.start k c)
@@ -261,8 +264,8 @@ module _ (m : Machine) (core : Core) (c : ℕ) (u : List ℕ) (lost : ℕ) where
       let x = hears_in (Start k) here m.mode c u core.spent lost h in
       fits_if m core u lost (eqb c (digit_of s k)) _ _
       (λ e. fits_if m core u lost (ltb k 6) _ _
-        (λ less. ((part_one c (digit_of s k) u x.part).1, key_down (Start (k + 1)) (digit_of s (k + 1)) tt (refl, x.after ∙ ap (number_mode s) (same_place k))))
-        (λ last. ((part_one c (digit_of s k) u x.part).1, all, x.after ∙ ap (number_mode s) (last_place k place last))))
+      (λ less. ((part_one c (digit_of s k) u x.part).1, key_down (Start (k + 1)) (digit_of s (k + 1)) tt (refl, x.after ∙ ap (number_mode s) (same_place k))))
+      (λ last. ((part_one c (digit_of s k) u x.part).1, all, x.after ∙ ap (number_mode s) (last_place k place last))))
       (λ other. missed _ _ m.mode c u core.spent lost x (misses c (digit_of s k) _ (differ c (digit_of s k) other)))
 
   go_fits : Holds Go → Fits (go_hears c)
@@ -282,23 +285,23 @@ module _ (m : Machine) (core : Core) (c : ℕ) (u : List ℕ) (lost : ℕ) where
   return_fits : (why : Reason) (k : ℕ) → k < 4 → Holds (Return why k) → Fits (return_hears why k c)
   return_fits why = below_four (λ k. Holds (Return why k) → Fits (return_hears why k c))
       (λ h. let x = hears_in (Return why 0) here m.mode c u core.spent lost h in
-        fits_if m core u lost (eqb c 13) _ _
-        (λ e. step_on (Return why 1) here _ m.mode c u core.spent lost x (follows_at c 13 _ _ (equal c 13 e) (cr_first m.style.two_returns)) (return_facts why 0 1 h.facts))
-        (λ q. missed _ _ m.mode c u core.spent lost x (miss_first m.style.two_returns c (differ c 13 q))))
+      fits_if m core u lost (eqb c 13) _ _
+      (λ e. step_on (Return why 1) here _ m.mode c u core.spent lost x (follows_at c 13 _ _ (equal c 13 e) (cr_first m.style.two_returns)) (return_facts why 0 1 h.facts))
+      (λ q. missed _ _ m.mode c u core.spent lost x (miss_first m.style.two_returns c (differ c 13 q))))
       (λ h. let x = hears_in (Return why 1) here m.mode c u core.spent lost h in
-        fits_if m core u lost (eqb c 13) _ _
-        (λ e. step_on (Return why 2) here _ m.mode c u core.spent lost x (follows_at c 13 _ _ (equal c 13 e) (cr_second m.style.two_returns)) (return_facts why 1 2 h.facts))
-        (λ q. fits_if m core u lost (eqb c 10) _ _
-          (λ e. step_on (Return why 3) here _ m.mode c u core.spent lost x (follows_at c 10 _ _ (equal c 10 e) (lf_first m.style.two_returns)) (return_facts why 1 3 h.facts))
-          (λ l. missed _ _ m.mode c u core.spent lost x (miss_second m.style.two_returns c (differ c 13 q) (differ c 10 l)))))
+      fits_if m core u lost (eqb c 13) _ _
+      (λ e. step_on (Return why 2) here _ m.mode c u core.spent lost x (follows_at c 13 _ _ (equal c 13 e) (cr_second m.style.two_returns)) (return_facts why 1 2 h.facts))
+      (λ q. fits_if m core u lost (eqb c 10) _ _
+      (λ e. step_on (Return why 3) here _ m.mode c u core.spent lost x (follows_at c 10 _ _ (equal c 10 e) (lf_first m.style.two_returns)) (return_facts why 1 3 h.facts))
+      (λ l. missed _ _ m.mode c u core.spent lost x (miss_second m.style.two_returns c (differ c 13 q) (differ c 10 l)))))
       (λ h. let x = hears_in (Return why 2) here m.mode c u core.spent lost h in
-        fits_if m core u lost (eqb c 10) _ _
-        (λ e. step_on (Return why 3) here _ m.mode c u core.spent lost x (follows_next c 10 _) (return_facts why 2 3 h.facts))
-        (λ q. missed _ _ m.mode c u core.spent lost x (misses c 10 _ (differ c 10 q))))
+      fits_if m core u lost (eqb c 10) _ _
+      (λ e. step_on (Return why 3) here _ m.mode c u core.spent lost x (follows_next c 10 _) (return_facts why 2 3 h.facts))
+      (λ q. missed _ _ m.mode c u core.spent lost x (misses c 10 _ (differ c 10 q))))
       (λ h. let x = hears_in (Return why 3) here m.mode c u core.spent lost h in
-        fits_if m core u lost (eqb c 64) _ _
-        (λ e. returned_fits why h.facts (part_one c 64 u x.part).1 x.after)
-        (λ q. missed _ _ m.mode c u core.spent lost x (misses c 64 _ (differ c 64 q))))
+      fits_if m core u lost (eqb c 64) _ _
+      (λ e. returned_fits why h.facts (part_one c 64 u x.part).1 x.after)
+      (λ q. missed _ _ m.mode c u core.spent lost x (misses c 64 _ (differ c 64 q))))
     where
       below_four : (P : ℕ → Type 0) → P 0 → P 1 → P 2 → P 3 → (k : ℕ) → k < 4 → P k
       below_four P a b d e zero h = a
@@ -314,9 +317,9 @@ module _ (m : Machine) (core : Core) (c : ℕ) (u : List ℕ) (lost : ℕ) where
   first_fits visit rest x checked lies wide follows part other =
       fits_if m core u lost (eqb c 48 || eqb c 49) _ _
       (λ e.
-        let no_space = early_other c 32 e (differ 32 48 refl) (differ 32 49 refl) in
-        step_on (Value visit (c - 48) 1) here rest m.mode c u core.spent lost x (follows no_space)
-        (checked, lies, λ whole. first_value (held here) c wide (part_next c (digit_of (held here) 1) u (subst (λ y. IsPart (c ∷ u) (digit_of (held here) 1 ∷ y)) (sym whole) (part no_space x.part)))))
+      let no_space = early_other c 32 e (differ 32 48 refl) (differ 32 49 refl) in
+      step_on (Value visit (c - 48) 1) here rest m.mode c u core.spent lost x (follows no_space)
+      (checked, lies, λ whole. first_value (held here) c wide (part_next c (digit_of (held here) 1) u (subst (λ y. IsPart (c ∷ u) (digit_of (held here) 1 ∷ y)) (sym whole) (part no_space x.part)))))
       (λ e. missed _ rest m.mode c u core.spent lost x (other (not_first (held here) c wide e)))
 
   before_lies : (visit : Visit) → Lies here → held here < 65536 → Holds (Before visit) → Fits (before_hears here.word.address visit c)
@@ -325,12 +328,12 @@ module _ (m : Machine) (core : Core) (c : ℕ) (u : List ℕ) (lost : ℕ) where
       let space = m.style.space_before in
       let is : reading here ≡ (if space then 32 ∷ last_digits w 6 else last_digits w 6) = ap (λ b. if b then (if space then 32 ∷ last_digits w 6 else last_digits w 6) else 63 ∷ prompt_from m.style.two_returns 0) lies in
       let x : Hears (opened_mode here) (if space then 32 ∷ last_digits w 6 else last_digits w 6) m.mode c u core.spent lost =
-        subst (λ r. Hears (opened_mode here) r m.mode c u core.spent lost) is (hears_in (Before visit) here m.mode c u core.spent lost h) in
+      subst (λ r. Hears (opened_mode here) r m.mode c u core.spent lost) is (hears_in (Before visit) here m.mode c u core.spent lost h) in
       fits_if m core u lost (eqb c 32) _ _
       (λ e. step_on (Value visit 0 0) here _ m.mode c u core.spent lost x (follows_at c 32 _ _ (equal c 32 e) (space_reading space w)) (h.facts, lies, λ whole. refl))
       (λ no_space. fits_if m core u lost (eqb c 63) _ _
-        (λ e. absurd (part_absent 63 u _ (absent_reading space w) (subst (λ d. IsPart (d ∷ u) (if space then 32 ∷ last_digits w 6 else last_digits w 6)) (equal c 63 e) x.part)))
-        (λ q. first_fits visit _ x h.facts lies wide (λ other. digit_reading space w c other) (λ other part. part_reading space w c u other part) (λ other. miss_reading space w c (differ c 32 no_space) other)))
+      (λ e. absurd (part_absent 63 u _ (absent_reading space w) (subst (λ d. IsPart (d ∷ u) (if space then 32 ∷ last_digits w 6 else last_digits w 6)) (equal c 63 e) x.part)))
+      (λ q. first_fits visit _ x h.facts lies wide (λ other. digit_reading space w c other) (λ other part. part_reading space w c u other part) (λ other. miss_reading space w c (differ c 32 no_space) other)))
 
   before_past : (visit : Visit) → is_word m.memory here.word.address ≡ false → here.word.address % 2 ≡ 0 → Holds (Before visit) → Fits (before_hears here.word.address visit c)
   before_past visit past even h =
@@ -338,14 +341,14 @@ module _ (m : Machine) (core : Core) (c : ℕ) (u : List ℕ) (lost : ℕ) where
       let w = held here in
       let is : reading here ≡ 63 ∷ prompt_from two 0 = ap (λ b. if b then (if m.style.space_before then 32 ∷ last_digits w 6 else last_digits w 6) else 63 ∷ prompt_from two 0) past in
       let x : Hears (opened_mode here) (63 ∷ prompt_from two 0) m.mode c u core.spent lost =
-        subst (λ r. Hears (opened_mode here) r m.mode c u core.spent lost) is (hears_in (Before visit) here m.mode c u core.spent lost h) in
+      subst (λ r. Hears (opened_mode here) r m.mode c u core.spent lost) is (hears_in (Before visit) here m.mode c u core.spent lost h) in
       fits_if m core u lost (eqb c 32) _ _
       (λ e. absurd (part_absent c u (63 ∷ prompt_from two 0) (absent_refused two c (elsewhere c 32 63 e refl) (elsewhere c 32 13 e refl) (elsewhere c 32 10 e refl) (elsewhere c 32 64 e refl)) x.part))
       (λ no_space. fits_if m core u lost (eqb c 63) _ _
-        (λ e. past_top m.memory here.word.address even past)
-        (λ q. fits_if m core u lost (eqb c 48 || eqb c 49) _ _
-          (λ e. absurd (part_absent c u (63 ∷ prompt_from two 0) (absent_refused two c (differ c 63 q) (early_other c 13 e (differ 13 48 refl) (differ 13 49 refl)) (early_other c 10 e (differ 10 48 refl) (differ 10 49 refl)) (early_other c 64 e (differ 64 48 refl) (differ 64 49 refl))) x.part))
-          (λ e. missed _ _ m.mode c u core.spent lost x (misses c 63 _ (differ c 63 q)))))
+      (λ e. past_top m.memory here.word.address even past)
+      (λ q. fits_if m core u lost (eqb c 48 || eqb c 49) _ _
+      (λ e. absurd (part_absent c u (63 ∷ prompt_from two 0) (absent_refused two c (differ c 63 q) (early_other c 13 e (differ 13 48 refl) (differ 13 49 refl)) (early_other c 10 e (differ 10 48 refl) (differ 10 49 refl)) (early_other c 64 e (differ 64 48 refl) (differ 64 49 refl))) x.part))
+      (λ e. missed _ _ m.mode c u core.spent lost x (misses c 63 _ (differ c 63 q)))))
     where
       elsewhere : (c d e : ℕ) → eqb c d ≡ true → eqb d e ≡ false → c ≢ e
       elsewhere c d e same other is = differ d e other (sym (equal c d same) ∙ is)
@@ -353,7 +356,9 @@ module _ (m : Machine) (core : Core) (c : ℕ) (u : List ℕ) (lost : ℕ) where
   before_fits : (visit : Visit) → here.word.address % 2 ≡ 0 → held here < 65536 → Holds (Before visit) → Fits (before_hears here.word.address visit c)
   before_fits visit even wide h =
       elim (is_word m.memory here.word.address) as (λ b. is_word m.memory here.word.address ≡ b → Fits (before_hears here.word.address visit c)) [
-        true ↦ λ lies. before_lies visit lies wide h | false ↦ λ past. before_past visit past even h ] refl
+        | true ↦ λ lies. before_lies visit lies wide h
+        | false ↦ λ past. before_past visit past even h
+      ] refl
 
   -- a whole reading that differs
   differs_fits : (visit : Visit) (v : ℕ) → Checked visit here → Lies here → v ≡ held here → u ≡ [] → m.mode ≡ Opened here.word.address → eqb (merged here.word v) v ≡ false → Fits (differs here.word visit v)
@@ -367,12 +372,12 @@ module _ (m : Machine) (core : Core) (c : ℕ) (u : List ℕ) (lost : ℕ) where
   read_fits visit v x checked lies value =
       fits_if m core u lost (eqb c 32) _ _
       (λ e.
-        let none : u ≡ [] = (part_one c 32 u x.part).1 in
-        let is : v ≡ held here = value (whole c u (equal c 32 e) none) in
-        let opened : m.mode ≡ Opened here.word.address = x.after ∙ ap (λ b. if b then Opened here.word.address else Prompt) lies in
-        fits_if m core u lost (eqb (merged here.word v) v) _ _
-        (λ same. (none, (lies, ap (merged here.word) (sym is) ∙ equal (merged here.word v) v same ∙ is), opened_is m.mode here.word.address opened))
-        (λ other. differs_fits visit v checked lies is none opened other))
+      let none : u ≡ [] = (part_one c 32 u x.part).1 in
+      let is : v ≡ held here = value (whole c u (equal c 32 e) none) in
+      let opened : m.mode ≡ Opened here.word.address = x.after ∙ ap (λ b. if b then Opened here.word.address else Prompt) lies in
+      fits_if m core u lost (eqb (merged here.word v) v) _ _
+      (λ same. (none, (lies, ap (merged here.word) (sym is) ∙ equal (merged here.word v) v same ∙ is), opened_is m.mode here.word.address opened))
+      (λ other. differs_fits visit v checked lies is none opened other))
       (λ other. missed _ _ m.mode c u core.spent lost x (misses c 32 _ (differ c 32 other)))
     where
       whole : (c : ℕ) (u : List ℕ) → c ≡ 32 → u ≡ [] → c ∷ u ≡ 32 ∷ []
@@ -386,26 +391,31 @@ module _ (m : Machine) (core : Core) (c : ℕ) (u : List ℕ) (lost : ℕ) where
       let x : Hears (opened_mode here) (last_digits w (6 - j)) m.mode c u core.spent lost = hears_in (Value visit v j) here m.mode c u core.spent lost h in
       fits_if m core u lost (eqb j 0) _ _
       (λ z. first_fits visit (last_digits w 6) (subst (λ k. Hears (opened_mode here) (last_digits w (6 - k)) m.mode c u core.spent lost) (equal j 0 z) x) checked lies wide
-        (λ other. follows_next c (digit_of w 1) (last_digits w 5)) (λ other part. part) (λ other. misses c (digit_of w 1) _ other))
+      (λ other. follows_next c (digit_of w 1) (last_digits w 5)) (λ other part. part) (λ other. misses c (digit_of w 1) _ other))
       (λ later. fits_if m core u lost (ltb j 6) _ _
-        (λ less.
-          let below : j < 6 = under j less in
-          let y : Hears (opened_mode here) (digit_of w (j + 1) ∷ last_digits w (6 - (j + 1))) m.mode c u core.spent lost = subst (λ r. Hears (opened_mode here) r m.mode c u core.spent lost) (last_step w j below) x in
-          fits_if m core u lost (is_digit c) _ _
-          (λ e. step_on (Value visit (8 * v + (c - 48)) (j + 1)) here _ m.mode c u core.spent lost y (follows_next c (digit_of w (j + 1)) _)
-            (checked, lies, λ whole.
-              let now : c ≡ digit_of w (j + 1) = part_next c (digit_of w (j + 1)) u (subst (λ r. IsPart (c ∷ u) (digit_of w (j + 1) ∷ r)) (sym whole) y.part) in
-              next_value w v c j wide below (h.facts.2 (joined c (digit_of w (j + 1)) u (last_digits w (6 - (j + 1))) now whole ∙ sym (last_step w j below))) now))
-          (λ e. missed _ _ m.mode c u core.spent lost y (misses c (digit_of w (j + 1)) _ (not_next w c (j + 1) e))))
-        (λ last.
-          let all : j ≡ 6 = at_end j within last in
-          read_fits visit v (subst (λ k. Hears (opened_mode here) (last_digits w (6 - k)) m.mode c u core.spent lost) all x) checked lies
-          (subst (λ k. c ∷ u ≡ last_digits w (6 - k) → v ≡ head w k) all h.facts.2)))
+      (λ less.
+      let below : j < 6 = under j less in
+      let y : Hears (opened_mode here) (digit_of w (j + 1) ∷ last_digits w (6 - (j + 1))) m.mode c u core.spent lost = subst (λ r. Hears (opened_mode here) r m.mode c u core.spent lost) (last_step w j below) x in
+      fits_if m core u lost (is_digit c) _ _
+      (λ e. step_on (Value visit (8 * v + (c - 48)) (j + 1)) here _ m.mode c u core.spent lost y (follows_next c (digit_of w (j + 1)) _) (
+        checked,
+        lies,
+        λ whole.
+            let now : c ≡ digit_of w (j + 1) = part_next c (digit_of w (j + 1)) u (subst (λ r. IsPart (c ∷ u) (digit_of w (j + 1) ∷ r)) (sym whole) y.part) in
+            next_value w v c j wide below (h.facts.2 (joined c (digit_of w (j + 1)) u (last_digits w (6 - (j + 1))) now whole ∙ sym (last_step w j below))) now,
+      ))
+      (λ e. missed _ _ m.mode c u core.spent lost y (misses c (digit_of w (j + 1)) _ (not_next w c (j + 1) e))))
+      (λ last.
+      let all : j ≡ 6 = at_end j within last in
+      read_fits visit v (subst (λ k. Hears (opened_mode here) (last_digits w (6 - k)) m.mode c u core.spent lost) all x) checked lies
+      (subst (λ k. c ∷ u ≡ last_digits w (6 - k) → v ≡ head w k) all h.facts.2)))
     where
       under : (j : ℕ) → ltb j 6 ≡ true → j < 6
       under j e = grind (arith, nat_tests)
+
       at_end : (j : ℕ) → j ≤ 6 → ltb j 6 ≡ false → j ≡ 6
       at_end j within e = grind (arith, nat_tests)
+
       joined : (c d : ℕ) (u r : List ℕ) → c ≡ d → u ≡ r → c ∷ u ≡ d ∷ r
       joined c d u r e f = cc
 

@@ -14,7 +14,6 @@ pub mod Events
 pub mod Tame
 pub mod Starts
 pub mod Work
-pub mod CleanEnds
-pub mod KeysLeft
-pub mod CleanKeys
-pub mod CleanLine
+pub mod Opening
+pub mod Fields
+pub mod InTurn

@@ -84,4 +84,4 @@ machine_taken m core c down up lost k =
     wide_stores m core down up lost memory k (inr (i, below, lies, same)) =
         let w = word_nr core.plan.words i in
         subst IsWide (sym same) (wide_set m.memory (w.address / 2) (wanted (site_in (ground (scene m core down up lost)) i)) k.machine.wide
-          (merged_below w _ (plan_site m core down up lost i k.host.image).value (k.machine.wide (w.address / 2))))
+        (merged_below w _ (plan_site m core down up lost i k.host.image).value (k.machine.wide (w.address / 2))))

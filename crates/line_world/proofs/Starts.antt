@@ -74,13 +74,16 @@ pub starts_join : (a b c : Core) (xs ys : List ℕ) → StartsOnce a b xs → St
 starts_join a b c xs ys x y = record {
   last = ends_join xs ys x.last y.last (λ h. y.silent (x.marked.0 h).1);
   silent = λ e. none_left xs ys (x.silent e) (y.silent (x.stays e));
-  marked = (λ h. elim (has_either 71 xs ys h) [
+  marked = (
+    λ h. elim (has_either 71 xs ys h) [
       | inl left ↦ ((x.marked.0 left).0, y.stays (x.marked.0 left).1)
       | inr right ↦ (unset a.going b.going x.stays (y.marked.0 right).0, (y.marked.0 right).1)
-    ], λ (e, f). elim b.going as (λ v. b.going ≡ v → Contains (xs ++ ys) 71) [
+    ],
+    λ (e, f). elim b.going as (λ v. b.going ≡ v → Contains (xs ++ ys) 71) [
       | true ↦ λ now. has_left 71 xs ys (x.marked.1 (e, now))
       | false ↦ λ later. has_right 71 xs ys (y.marked.1 (later, f))
-    ] refl);
+    ] refl,
+  );
   stays = λ e. y.stays (x.stays e);
 }
 
@@ -105,6 +108,7 @@ mark_sends core Next e f = absurd (not_both core.going e (next_same core f))
     words_same : (core : Core) (start : Option ℕ) → (after_words core start).next.going ≡ core.going
     words_same core None = refl
     words_same core (Some s) = refl
+
     next_same : (core : Core) → (taken core Next).next.going ≡ true → core.going ≡ true
     next_same core f = sym (on_move (λ m. m.next.going ≡ core.going) (ltb core.verified (length core.plan.words)) (sends core (digit_of (word_under_way core).address 1) (Address Look 1)) (after_words core core.plan.start) (λ _. refl) (λ _. words_same core core.plan.start)) ∙ f
 mark_sends core Mark e f = refl
@@ -150,9 +154,11 @@ key_list before after (Some c) silent sent marks stays = record {
     only : (c : ℕ) → Contains (c ∷ []) 71 → c ≡ 71
     only c (zero, below, here) = here
     only c (suc k, below, here) = absurd (omega arith)
+
     unmarked : (b : Bool) → (b ≡ true → ⊥) → b ≡ false
     unmarked true h = absurd (h refl)
     unmarked false h = refl
+
     here : (c : ℕ) → Some c ≡ Some 71 → Contains (c ∷ []) 71
     here c e = (zero, omega arith, (cc))
 

@@ -9,4 +9,3 @@ pub mod CleanText
 pub mod Promises
 pub mod Opening
 pub mod Runs
-pub mod CleanLine

@@ -8,9 +8,13 @@ use Rattle.line_world.specs.World.{after, typed, IsCleanRun}
 use Rattle.line_world.specs.Promises.{StartsOnce}
 
 -- the events of a line that loses nothing, up to the first end, lead from one world to another that has this end
-pub record RunsClean (before now : Scene) (end : End) : Type 0 where
+pub record RunsTo (before now : Scene) (end : End) : Type 0 where
   pub events : List Event
   pub clean : IsCleanRun before events
   pub world : now ≡ after before events
   pub end_is : ended now.core.phase ≡ Some end
-  pub start : StartsOnce before.core now.core (typed before events)
+
+-- the same, and the program is started at most once on the way
+pub record RunsClean (before now : Scene) (end : End) : Type 0 where
+  pub run : RunsTo before now end
+  pub start : StartsOnce before.core now.core (typed before run.events)

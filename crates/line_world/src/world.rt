@@ -1,4 +1,4 @@
-ghost use Rattle.std.specs.Prelude.{◌≡◌, ℕ, ◌<◌, ◌≤◌, true, List, length, is_some, None, IfOk, IfErr, OnOk};
+ghost use Rattle.std.specs.Prelude.{◌≡◌, ℕ, ◌<◌, ◌≤◌, true, List, length, is_some, [], option_to_list, None, IfOk, IfErr, OnOk};
 ghost use Rattle.std.specs.Bool.{OnFalse};
 ghost use Rattle.host_core.specs.Core.{ended};
 ghost use Rattle.host_core.specs.Host.{IsHost};
@@ -7,14 +7,17 @@ ghost use Rattle.line_world.specs.World.{occurs, happens, after, possible_count,
 ghost use Rattle.line_world.specs.Safe.{IsSafe};
 ghost use Rattle.line_world.specs.Promises.{IsTame, StartsOnce};
 ghost use Rattle.line_world.specs.Opening.{opened, IsAccepted, IsRefused};
-ghost use Rattle.line_world.specs.Runs.{RunsClean};
+ghost use Rattle.line_world.specs.Runs.{RunsClean, RunsTo};
 
 use crate::event::Event;
 use crate::setup::Setup;
 use arrayvec::ArrayVec;
-use host_core::{End, HostCore};
-use odt_machine::Odt;
+use host_core::{End, Heard, HostCore};
+use odt_machine::{Mode, Odt};
 use std::marker::Model;
+
+/// The most answer characters that may wait when a world opens; no more ever wait at once.
+pub const MOST_WAITING: usize = 32;
 
 /// A host and a machine on one line, with the characters that are under way.
 #[derive(Drop)]
@@ -22,7 +25,7 @@ pub struct World {
     odt: Odt,
     core: HostCore,
     down: ArrayVec<u8, 1>,
-    up: ArrayVec<u8, 48>,
+    up: ArrayVec<u8, MOST_WAITING>,
     lost: u64,
 }
 
@@ -38,7 +41,7 @@ impl Model for World {
 
     ghost view = { λ w. record { machine = w.odt; core = w.core; down = w.down.items; up = w.up.items; lost = w.lost } };
 
-    ghost invariant = { λ w. IsKept (record { machine = w.odt; core = w.core; down = w.down.items; up = w.up.items; lost = w.lost }) × ⊥ };
+    ghost invariant = { λ w. IsKept (record { machine = w.odt; core = w.core; down = w.down.items; up = w.up.items; lost = w.lost }) };
 }
 
 impl World {
@@ -50,10 +53,27 @@ impl World {
         ensures opened { IfOk result (λ world. world ≡ opened odt core waiting.now) }
         ensures safe { IfOk result (λ world. IsSafe odt.memory world) }
         ensures tame { IfOk result IsTame }
+        ensures refused { IfErr result (λ err. IsRefused odt core waiting.now err.2) }
         ensures given_back { IfErr result (λ err. (err.0 ≡ odt) × (err.1 ≡ core)) }
     {
-        let _ = waiting;
-        Err((odt, core, Setup::NotFresh))
+        if waiting.len() > MOST_WAITING {
+            return Err((odt, core, Setup::TooMuchWaiting));
+        }
+        if matches!(odt.mode(), Mode::Running(_)) {
+            return Err((odt, core, Setup::Running));
+        }
+        if !core.is_fresh() {
+            return Err((odt, core, Setup::NotFresh));
+        }
+        let mut up = ArrayVec::new();
+        let _ = up.try_extend_from_slice(waiting);
+        Ok(World {
+            odt,
+            core,
+            down: ArrayVec::new(),
+            up,
+            lost: 0,
+        })
     }
 
     /// One event. False exactly where it is not possible, and then nothing changes.
@@ -71,8 +91,78 @@ impl World {
         ensures work { event ≡ first_event self.old → ended self.old.core.phase ≡ None → work_left self.new < work_left self.old }
     {
         let _ = &self.lost;
-        let _ = event;
-        false
+        self.happen(event)
+    }
+
+    fn happen(&mut self, event: Event) -> bool
+        ensures possible { result ≡ is_some (occurs self.old event) }
+        ensures world { self.new ≡ happens self.old event }
+    {
+        match event {
+            Event::Take => self.take(),
+            Event::Hear => self.hear(),
+            Event::LoseDown(place) => self.lose_down(place),
+            Event::LoseUp(place) => self.lose_up(place),
+            Event::Quiet => self.time_out(),
+        }
+    }
+
+    fn take(&mut self) -> bool
+        ensures possible { result ≡ is_some (occurs self.old Event.Take) }
+        ensures world { self.new ≡ happens self.old Event.Take }
+    {
+        let Some(key) = self.down.pop_at(0) else {
+            return false;
+        };
+        let answer = self.odt.take(key);
+        let _ = self.up.try_extend_from_slice(answer.as_slice());
+        true
+    }
+
+    fn hear(&mut self) -> bool
+        ensures possible { result ≡ is_some (occurs self.old Event.Hear) }
+        ensures world { self.new ≡ happens self.old Event.Hear }
+    {
+        let Some(character) = self.up.pop_at(0) else {
+            return false;
+        };
+        let key = self.core.step(Heard::Got(character));
+        send(&mut self.down, key);
+        true
+    }
+
+    fn lose_down(&mut self, place: u8) -> bool
+        ensures possible { result ≡ is_some (occurs self.old (Event.LoseDown place)) }
+        ensures world { self.new ≡ happens self.old (Event.LoseDown place) }
+    {
+        let Some(_) = self.down.pop_at(usize::from(place)) else {
+            return false;
+        };
+        self.lost += 1;
+        true
+    }
+
+    fn lose_up(&mut self, place: u8) -> bool
+        ensures possible { result ≡ is_some (occurs self.old (Event.LoseUp place)) }
+        ensures world { self.new ≡ happens self.old (Event.LoseUp place) }
+    {
+        let Some(_) = self.up.pop_at(usize::from(place)) else {
+            return false;
+        };
+        self.lost += 1;
+        true
+    }
+
+    fn time_out(&mut self) -> bool
+        ensures possible { result ≡ is_some (occurs self.old Event.Quiet) }
+        ensures world { self.new ≡ happens self.old Event.Quiet }
+    {
+        if !self.down.as_slice().is_empty() || !self.up.as_slice().is_empty() {
+            return false;
+        }
+        let key = self.core.step(Heard::Quiet);
+        send(&mut self.down, key);
+        true
     }
 
     /// The events in order, the impossible ones skipped; the answer is how many were possible.
@@ -87,8 +177,20 @@ impl World {
         ensures silent { had_timeout self.old events.now ≡ true → length self.new.up ≤ 9 }
     {
         let _ = &self.lost;
-        let _ = events;
-        0
+        self.happen_in_turn(events)
+    }
+
+    fn happen_in_turn(&mut self, events: &[Event]) -> u64
+        ensures count { result ≡ possible_count self.old events.now }
+        ensures world { self.new ≡ after self.old events.now }
+    {
+        let mut possible = 0;
+        for event in events {
+            if self.happen(*event) {
+                possible += 1;
+            }
+        }
+        possible
     }
 
     /// The line loses nothing: Take where that is possible, else Hear, else Quiet, until the host has
@@ -100,15 +202,32 @@ impl World {
         ensures tame { IsTame self.new }
     {
         let _ = &self.lost;
-        End::Loaded
+        self.run_to_end()
+    }
+
+    fn run_to_end(&mut self) -> End
+        ensures { RunsTo self.old self.new result }
+    {
+        loop {
+            if let Some(end) = self.core().end() {
+                return end;
+            }
+            let event = self.next_event();
+            self.apply(event);
+        }
     }
 
     /// The event that comes next on a line that loses nothing.
     pub fn next_event(&self) -> Event
         ensures { result ≡ first_event self.now }
     {
-        let _ = &self.lost;
-        Event::Take
+        if !self.down.as_slice().is_empty() {
+            Event::Take
+        } else if !self.up.as_slice().is_empty() {
+            Event::Hear
+        } else {
+            Event::Quiet
+        }
     }
 
     /// The machine.
@@ -151,5 +270,15 @@ impl World {
         ensures tame { IsTame self.now }
     {
         self.lost
+    }
+}
+
+// A key that the host sends goes down the line, where no other is under way.
+fn send(down: &mut ArrayVec<u8, 1>, key: Option<u8>)
+    requires { down.old.items ≡ [] }
+    ensures { down.new.items ≡ option_to_list key }
+{
+    if let Some(key) = key {
+        down.push(key);
     }
 }

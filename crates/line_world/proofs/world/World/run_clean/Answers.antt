@@ -1,0 +1,21 @@
+use Rattle.std.proofs.Common.{subst}
+use Rattle.line_world.specs.Invariant.{IsKept}
+use Rattle.line_world.proofs.Events.{kept_events, safe_events, since_events}
+use Rattle.line_world.proofs.Starts.{starts_events}
+use Rattle.line_world.proofs.Tame.{tame_of}
+use Rattle.line_world.proofs.world.World.run_clean.Goals as goal
+
+pub returns-clause-run : goal.returns-clause-run
+returns-clause-run c = record {
+  run = c.run_to_end.ensures;
+  start = rw c.run_to_end.ensures.world (starts_events c.args.self.now c.run_to_end.ensures.events (subst IsKept c.self.view_is c.self.invariant));
+}
+
+pub returns-clause-safe : goal.returns-clause-safe
+returns-clause-safe c = rw c.run_to_end.ensures.world (safe_events c.args.self.now c.run_to_end.ensures.events (subst IsKept c.self.view_is c.self.invariant))
+
+pub returns-clause-since : goal.returns-clause-since
+returns-clause-since c = rw c.run_to_end.ensures.world (λ earlier safe. since_events earlier c.args.self.now c.run_to_end.ensures.events (subst IsKept c.self.view_is c.self.invariant) safe)
+
+pub returns-clause-tame : goal.returns-clause-tame
+returns-clause-tame c = rw c.run_to_end.ensures.world (tame_of _ (kept_events c.args.self.now c.run_to_end.ensures.events (subst IsKept c.self.view_is c.self.invariant)))

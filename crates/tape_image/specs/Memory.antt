@@ -1,5 +1,5 @@
--- A machine's memory as a list of words, and the bytes in it. A word lies at an even
--- address, its low byte there and its high byte at the next (RT-11 Software Support Manual).
+-- A machine's memory as a list of words, and the bytes in it. As on every PDP-11 a word lies at an even address,
+-- its low byte there and its high byte at the next.
 use Rattle.std.specs.Prelude.{ℕ, ◌*◌, ◌/◌, ◌%◌, ◌==◌, if◌then◌else◌, List, length, slice_index}
 
 -- the byte of a word at the address b: the low one for an even b, the high one for an odd b

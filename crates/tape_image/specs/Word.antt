@@ -50,7 +50,7 @@ pub record IsInside (mask value : ℕ) : Type 0 where
   pub low : covers 0 mask ≡ false → half 0 value ≡ 0
   pub high : covers 1 mask ≡ false → half 1 value ≡ 0
 
--- an even address below 160000, and a value of 16 bits inside the mask
+-- an even address below 160000 (this project's choice), and a value of 16 bits inside the mask
 pub record IsWord (w : WordValue) : Type 0 where
   pub even : w.address % 2 ≡ 0
   pub below : w.address < 0o160000

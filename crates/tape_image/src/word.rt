@@ -14,7 +14,7 @@ const HIGH_BYTE: u16 = 0o177400;
 /// The mask of both bytes.
 const BOTH_BYTES: u16 = 0o177777;
 
-/// 160000 octal, where memory ends and the I/O page begins.
+/// 160000 octal, where memory ends and the I/O page begins: no image reaches it (this project's choice).
 const TOP: u16 = 0o160000;
 
 /// How many values a byte has: a word is its low byte plus so many times its high byte.

@@ -3,6 +3,7 @@
 
 mod check;
 mod command_line;
+#[cfg(test)]
 mod devices;
 mod dialogue;
 mod exchange;
@@ -22,7 +23,6 @@ mod tape_file;
 mod text;
 mod type_keys;
 mod waiting;
-#[cfg(test)]
 
 use failure::Failure;
 use std::process::ExitCode;

@@ -9,6 +9,8 @@
 #![tactic(auto)]
 
 mod event;
+#[cfg(test)]
+mod losses_tests;
 mod setup;
 mod world;
 

@@ -1,0 +1,302 @@
+//! Every single loss at every place in a load of two words, in all eight styles of a console,
+//! against a slow model.
+
+mod slow_model;
+
+use crate::{Event, World};
+use host_core::{End, HostCore, Progress};
+use odt_machine::{Odt, Style};
+use slow_model::{SlowConsole, SlowHost, SlowLine, SlowWord};
+use std::alloc::{AllocError, Global};
+use std::process::Abort;
+use std::test::Fail;
+use tape_blocks::read_tape;
+use tape_image::Plan;
+
+/// Two blocks, the second over a byte of the first, and the start 001000.
+const TAPE: &[u8] = b"\x01\x00\x08\x00\x00\x02\x11\x22\xC2\
+    \x01\x00\x08\x00\x01\x02\x33\x44\x7D\
+    \x01\x00\x06\x00\x00\x02\xF7";
+
+const START: u16 = 0o001000;
+
+/// The words of that tape. Of the second it gives the low byte alone.
+const WORDS: &[SlowWord] = &[
+    SlowWord {
+        address: 0o001000,
+        mask: 0o177777,
+        value: 0o031421,
+    },
+    SlowWord {
+        address: 0o001002,
+        mask: 0o000377,
+        value: 0o000104,
+    },
+];
+
+/// More events than any of these loads has.
+const PLENTY: usize = 1000;
+
+/// How many mishaps a host forgives: more than one loss makes, none, and one.
+const PATIENCES: [u32; 3] = [8, 0, 1];
+
+/// A machine whose words all hold the same, and what a load of the tape into it is on a line that
+/// loses nothing, counted by hand.
+#[derive(Debug)]
+struct Load {
+    reason: &'static str,
+    /// The size of memory. With 258 words it ends right after the second word of the tape.
+    words: u16,
+    filler: u16,
+    end: End,
+    /// What the second word is in the end.
+    second_word: Option<u16>,
+    /// The keys that the host sends.
+    keys: usize,
+    /// The characters that a console of the plainest style answers.
+    answers: usize,
+    /// How many words it shows, each with a space before the digits in some styles.
+    shown: usize,
+    /// How many prompts it prints, each after a second return in some styles.
+    prompts: usize,
+}
+
+const LOADS: [Load; 4] = [
+    Load {
+        reason: "each word is read, deposited and read back",
+        words: 258,
+        filler: 0,
+        end: End::Started,
+        second_word: Some(0o000104),
+        keys: 52,
+        answers: 91,
+        shown: 4,
+        prompts: 5,
+    },
+    Load {
+        reason: "the byte that the tape leaves alone is not zero",
+        words: 258,
+        filler: 0o125252,
+        end: End::Started,
+        second_word: Some(0o125104),
+        keys: 52,
+        answers: 91,
+        shown: 4,
+        prompts: 5,
+    },
+    Load {
+        reason: "the first word stands before it is loaded",
+        words: 258,
+        filler: 0o031421,
+        end: End::Started,
+        second_word: Some(0o031504),
+        keys: 38,
+        answers: 68,
+        shown: 3,
+        prompts: 4,
+    },
+    Load {
+        reason: "memory ends before the second word",
+        words: 257,
+        filler: 0,
+        end: End::NoWord(0o001002),
+        second_word: None,
+        keys: 30,
+        answers: 55,
+        shown: 2,
+        prompts: 4,
+    },
+];
+
+/// The two ways that a character can go.
+#[derive(Clone, Copy, Debug)]
+enum Way {
+    /// A key, to the console.
+    Down,
+    /// A character of an answer, to the host.
+    Up,
+}
+
+/// The one character that the line loses: so many went its way before it.
+#[derive(Clone, Copy, Debug)]
+struct Loss {
+    way: Way,
+    number: usize,
+}
+
+/// A load into a console of one style, by a host of one patience.
+#[derive(Clone, Copy, Debug)]
+struct Setting<'a> {
+    load: &'a Load,
+    style: Style,
+    patience: u32,
+}
+
+impl Setting<'_> {
+    // How many characters go this way on a line that loses nothing. The key for resynchronising is
+    // the one key that some styles echo before they refuse it.
+    fn length(&self, way: Way) -> usize {
+        let load = self.load;
+        let Style {
+            space_before,
+            two_returns,
+            echo_illegal,
+        } = self.style;
+        match way {
+            Way::Down => load.keys,
+            Way::Up => load
+                .answers
+                .saturating_add(if space_before { load.shown } else { 0 })
+                .saturating_add(if two_returns { load.prompts } else { 0 })
+                .saturating_add(if echo_illegal { 1 } else { 0 }),
+        }
+    }
+
+    fn slow_line(&self, alloc: Global) -> Result<SlowLine, AllocError> {
+        let console = SlowConsole::new(alloc, self.load.words, self.load.filler, self.style)?;
+        let host = SlowHost::new(alloc, WORDS, Some(START), self.patience);
+        Ok(SlowLine::new(alloc, console, host))
+    }
+
+    fn world(&self, rt: &impl Abort, alloc: Global) -> Result<World, Fail> {
+        let mut odt = Odt::new(alloc, self.load.words, self.style)?;
+        for word in 0..self.load.words {
+            assert!(rt; odt.put(word.wrapping_mul(2), self.load.filler));
+        }
+        let (tape, _) = read_tape(alloc, TAPE)?;
+        let plan = Plan::of(alloc, &tape)?;
+        let progress = Progress {
+            verified: 0,
+            going: false,
+        };
+        let Ok(core) = HostCore::new(plan, progress, self.patience) else {
+            panic!(rt; "a host with nothing verified is refused");
+        };
+        let Ok(world) = World::new(odt, core, &[]) else {
+            panic!(rt; "a world at its opening is refused");
+        };
+        Ok(world)
+    }
+
+    // Plays the load to its end, and tells whether the loss fell in it. After each event the world
+    // is as the slow model says, and a load without a loss ends as it does by hand.
+    fn play(&self, rt: &impl Abort, alloc: Global, loss: Loss) -> Result<bool, Fail> {
+        let mut line = self.slow_line(alloc)?;
+        let mut world = self.world(rt, alloc)?;
+        for _ in 0..PLENTY {
+            if line.host.end.is_some() {
+                break;
+            }
+            let event = next_event(&line, loss);
+            assert!(rt;
+                line.apply(event)? && world.apply(event),
+                "{event:?} at {loss:?} of {self:?}"
+            );
+            if let Some(what) = difference(&world, &line) {
+                panic!(rt; "{what} after {event:?} at {loss:?} of {self:?}");
+            }
+        }
+        if line.lost == 0 {
+            assert_eq!(rt; line.host.end, Some(self.load.end), "{self:?}");
+            assert_eq!(rt;
+                line.console.word(0o001002),
+                self.load.second_word,
+                "{self:?}"
+            );
+        }
+        assert!(rt; line.host.end.is_some(), "no end at {loss:?} of {self:?}");
+        Ok(line.lost > 0)
+    }
+
+    // Loses each character in turn, and at last none.
+    fn lose_each(&self, rt: &impl Abort, alloc: Global, way: Way) -> Result<(), Fail> {
+        let length = self.length(way);
+        for number in 0..=length {
+            let fell = self.play(rt, alloc, Loss { way, number })?;
+            assert_eq!(rt;
+                fell,
+                number < length,
+                "character {number} {way:?} of {self:?}"
+            );
+        }
+        Ok(())
+    }
+}
+
+// What happens next: the loss, as soon as its character is under way, and else the clean order.
+fn next_event(line: &SlowLine, loss: Loss) -> Event {
+    if line.lost == 0
+        && let Some(event) = loss_under_way(line, loss)
+    {
+        return event;
+    }
+    if !line.down.is_empty() {
+        Event::Take
+    } else if !line.up.is_empty() {
+        Event::Hear
+    } else {
+        Event::Quiet
+    }
+}
+
+fn loss_under_way(line: &SlowLine, loss: Loss) -> Option<Event> {
+    let (gone, queue) = match loss.way {
+        Way::Down => (line.taken, &line.down),
+        Way::Up => (line.heard, &line.up),
+    };
+    let place = loss.number.checked_sub(gone)?;
+    if place >= queue.len() {
+        return None;
+    }
+    let place = u8::try_from(place).ok()?;
+    Some(match loss.way {
+        Way::Down => Event::LoseDown(place),
+        Way::Up => Event::LoseUp(place),
+    })
+}
+
+// What of the world is not as the slow model says.
+fn difference(world: &World, line: &SlowLine) -> Option<&'static str> {
+    let (odt, core) = (world.odt(), world.core());
+    let (console, host) = (&line.console, &line.host);
+    let progress = core.progress();
+    for (is_same, what) in [
+        (world.down() == line.down.as_slice(), "keys under way"),
+        (world.up() == line.up.as_slice(), "answers under way"),
+        (world.lost() == line.lost, "losses"),
+        (odt.mode() == console.mode(), "mode"),
+        (odt.peek(0o001000) == console.word(0o001000), "first word"),
+        (odt.peek(0o001002) == console.word(0o001002), "second word"),
+        (core.end() == host.end, "end"),
+        (core.sent_count() == host.sent, "keys sent"),
+        (core.spent() == host.spent, "patience spent"),
+        (progress.verified == host.verified, "words verified"),
+        (progress.going == host.going, "mark"),
+    ] {
+        if !is_same {
+            return Some(what);
+        }
+    }
+    None
+}
+
+#[test]
+fn single_losses_end_as_the_slow_model_says(rt: HostRuntime) -> Result<(), Fail> {
+    for load in &LOADS {
+        for patience in PATIENCES {
+            for number in 0..8 {
+                let Some(style) = Style::from_number(number) else {
+                    panic!(rt; "no style has the number {number}");
+                };
+                let setting = Setting {
+                    load,
+                    style,
+                    patience,
+                };
+                setting.lose_each(&rt, rt.alloc(), Way::Down)?;
+                setting.lose_each(&rt, rt.alloc(), Way::Up)?;
+            }
+        }
+    }
+    Ok(())
+}

@@ -17,3 +17,7 @@ pub mod Work
 pub mod Opening
 pub mod Fields
 pub mod InTurn
+pub mod KeysLeft
+pub mod CleanKeys
+pub mod CleanEnds
+pub mod CleanLine

@@ -59,7 +59,7 @@ stopped going (Running p) runs unmarked = unmarked runs
 pub past_mark : (core : Core) → MarkFits core.going core.plan.start core.phase → core.going ≡ true → IsPastMark core.phase
 past_mark core mark going = (subst (λ b. MarkFits b core.plan.start core.phase) going mark).1
 
-fits_silence : (m : Machine) (core : Core) (lost : ℕ) (phase : Phase) → PhaseHolds phase m core [] [] lost → RunsWith core.going m.mode → (core.going ≡ true → IsPastMark phase) → TurnFits m core [] lost (waits phase)
+pub fits_silence : (m : Machine) (core : Core) (lost : ℕ) (phase : Phase) → PhaseHolds phase m core [] [] lost → RunsWith core.going m.mode → (core.going ≡ true → IsPastMark phase) → TurnFits m core [] lost (waits phase)
 fits_silence m core lost Settle h runs past = (refl, record { key = (refl, refl, stopped core.going m.mode runs past); rest = tt; paid = tt; facts = tt })
 fits_silence m core lost (Sync k) h runs past = (refl, broken _ core.spent lost (filled_refusal m.style k) h.paid, stopped core.going m.mode runs past)
 fits_silence m core lost (Address visit k) h runs past = (refl, broken _ core.spent lost tt h.paid, stopped core.going m.mode runs past)

@@ -23,7 +23,7 @@ lies_below memory a h = grind (arith, nat_tests)
 abbrev pub with_memory : Site → List ℕ → Site
 with_memory t memory = record t { memory = memory }
 
-lies_same : (memory other : List ℕ) (a : ℕ) → length other ≡ length memory → is_word memory a ≡ true → is_word other a ≡ true
+pub lies_same : (memory other : List ℕ) (a : ℕ) → length other ≡ length memory → is_word memory a ≡ true → is_word other a ≡ true
 lies_same memory other a same h = rw same h
 
 -- a word that is stored stands

@@ -8,4 +8,5 @@ pub mod Safe
 pub mod CleanText
 pub mod Promises
 pub mod Opening
+pub mod CleanLine
 pub mod Runs

@@ -6,6 +6,7 @@ use Rattle.line_world.specs.declared.event.Event.{Event}
 use Rattle.line_world.specs.Scene.{Scene}
 use Rattle.line_world.specs.World.{after, typed, IsCleanRun}
 use Rattle.line_world.specs.Promises.{StartsOnce}
+use Rattle.line_world.specs.CleanLine.{IsOpening, LoadsClean}
 
 -- the events of a line that loses nothing, up to the first end, lead from one world to another that has this end
 pub record RunsTo (before now : Scene) (end : End) : Type 0 where
@@ -14,7 +15,8 @@ pub record RunsTo (before now : Scene) (end : End) : Type 0 where
   pub world : now ≡ after before events
   pub end_is : ended now.core.phase ≡ Some end
 
--- the same, and the program is started at most once on the way
+-- the same, the program is started at most once on the way, and a world as it was opened is loaded whole where its memory has every word
 pub record RunsClean (before now : Scene) (end : End) : Type 0 where
   pub run : RunsTo before now end
   pub start : StartsOnce before.core now.core (typed before run.events)
+  pub loads : IsOpening before → LoadsClean before now (typed before run.events) end

@@ -1,5 +1,6 @@
 use Rattle.std.proofs.Common.{subst}
 use Rattle.line_world.specs.Invariant.{IsKept}
+use Rattle.line_world.proofs.CleanLine.{loads_clean}
 use Rattle.line_world.proofs.Events.{kept_events, safe_events, since_events}
 use Rattle.line_world.proofs.Starts.{starts_events}
 use Rattle.line_world.proofs.Tame.{tame_of}
@@ -9,6 +10,8 @@ pub returns-clause-run : goal.returns-clause-run
 returns-clause-run c = record {
   run = c.run_to_end.ensures;
   start = rw c.run_to_end.ensures.world (starts_events c.args.self.now c.run_to_end.ensures.events (subst IsKept c.self.view_is c.self.invariant));
+  loads = λ opening. rw c.run_to_end.ensures.world
+  (loads_clean c.args.self.now c.run_to_end.ensures.events c.run_to_end.result opening (subst IsKept c.self.view_is c.self.invariant) c.run_to_end.ensures.clean (rw c.run_to_end.ensures.world at c.run_to_end.ensures.end_is));
 }
 
 pub returns-clause-safe : goal.returns-clause-safe

@@ -1,0 +1,238 @@
+-- The keys that are still to be typed on a line that loses nothing, phase by phase.
+use Rattle.std.proofs.Common.{◌≡◌, ◌≢◌, ℕ, zero, suc, ◌+◌, ◌-◌, ◌*◌, ◌%◌, ◌/◌, ◌<◌, ◌≤◌, ◌⊎◌, Bool, true, false, cond, eqb, ltb, List, [], ◌∷◌, ◌++◌, length, inl, inr, refl, arith, ap, sym, subst, ◌∙◌, lit<, lit≤}
+use Rattle.std.specs.Prelude.{◌==◌, if◌then◌else◌, ◌||◌}
+use Rattle.std.proofs.lemmas.Bool.Decides.{nat_tests}
+use Rattle.octal.specs.Octal.{is_digit, digit_of, head, octal_text}
+use Rattle.tape_image.specs.Word.{WordValue, merged}
+use Rattle.odt_machine.specs.declared.style.Style.{Style}
+use Rattle.odt_machine.specs.Machine.{is_word}
+use Rattle.host_core.specs.declared.phase.Visit.{Visit}
+use Rattle.host_core.specs.declared.phase.Visit.TheVariants.{Look, Check}
+use Rattle.host_core.specs.declared.phase.Reason.{Reason}
+use Rattle.host_core.specs.declared.phase.Reason.TheVariants.{Store, Close}
+use Rattle.host_core.specs.declared.phase.End.TheVariants.{Started, NoWord}
+use Rattle.host_core.specs.declared.phase.Phase.{Phase}
+use Rattle.host_core.specs.declared.phase.Phase.TheVariants.{Settle, Sync, Address, Slash, Before, Value, Deposit, Return, Start, Go, Ended}
+use Rattle.host_core.specs.declared.turn.Turn.{Turn}
+use Rattle.host_core.specs.declared.turn.Turn.TheVariants.{Listen, Key, Verified, ReadBack, Next, Mark, Stop, Stray, Timeout}
+use Rattle.host_core.specs.Host.{IsPlace, PhaseFits, HasWord, Basis}
+use Rattle.host_core.specs.PhaseTable.{hears, sync_hears, address_hears, slash_hears, first_digit_hears, before_hears, differs, read, value_hears, deposit_hears, return_hears, start_hears, go_hears}
+use Rattle.line_world.specs.Site.{Site, held, Lies, wanted, IsThere, prompt_from, last_digits, reading, refusal_from}
+use Rattle.line_world.specs.Pending.{Checked, Facts, rest_of}
+use Rattle.line_world.proofs.Parts.{differ}
+use Rattle.line_world.proofs.Digits.{below_six, at_place, digit_is, first_digit}
+
+-- the digits of a number behind the k-th, and what follows them
+abbrev pub digits_behind : ℕ → ℕ → List ℕ → List ℕ
+digits_behind n k more =
+    if k == 1 then digit_of n 2 ∷ digit_of n 3 ∷ digit_of n 4 ∷ digit_of n 5 ∷ digit_of n 6 ∷ more
+    else if k == 2 then digit_of n 3 ∷ digit_of n 4 ∷ digit_of n 5 ∷ digit_of n 6 ∷ more
+    else if k == 3 then digit_of n 4 ∷ digit_of n 5 ∷ digit_of n 6 ∷ more
+    else if k == 4 then digit_of n 5 ∷ digit_of n 6 ∷ more
+    else if k == 5 then digit_of n 6 ∷ more
+    else more
+
+-- the keys of a check: the address, `/` and CR, and what follows them
+abbrev pub check_keys : ℕ → List ℕ → List ℕ
+check_keys address more = octal_text address ++ 47 ∷ 13 ∷ more
+
+-- the keys of a visit behind its `/`: a word that stands is closed, another is deposited and checked
+abbrev pub visit_keys : Visit → WordValue → ℕ → List ℕ → List ℕ
+visit_keys Look w old more = if merged w old == old then 13 ∷ more else octal_text (merged w old) ++ 13 ∷ check_keys w.address more
+visit_keys Check w old more = 13 ∷ more
+
+-- the keys that are left in a phase: `here` from the word under way on, `later` from the next word on
+abbrev pub left : Phase → Site → (here later : List ℕ) → List ℕ
+left Settle t here later = 90 ∷ here
+left (Sync k) t here later = here
+left (Address visit k) t here later = digits_behind t.word.address k (47 ∷ visit_keys visit t.word (held t) later)
+left (Slash visit) t here later = visit_keys visit t.word (held t) later
+left (Before visit) t here later = visit_keys visit t.word (held t) later
+left (Value visit v j) t here later = visit_keys visit t.word (held t) later
+left (Deposit x k) t here later = digits_behind x k (13 ∷ check_keys t.word.address later)
+left (Return Store k) t here later = check_keys t.word.address later
+left (Return Close k) t here later = here
+left (Start k) t here later = digits_behind t.start k (71 ∷ [])
+left Go t here later = []
+left (Ended end) t here later = []
+
+-- a phase in which the host waits for an answer
+abbrev pub IsBusy : Phase → Type 0
+IsBusy Settle = ⊥
+IsBusy (Ended end) = ⊥
+IsBusy phase = Unit {0}
+
+-- what a turn of the host sends, and then the keys that are left, are these keys; no mishap is met
+abbrev pub Leads : Site → (here later : List ℕ) → Turn → List ℕ → Type 0
+Leads t here later (Listen phase) keys = left phase t here later ≡ keys
+Leads t here later (Key key phase) keys = (key ∷ left phase t here later ≡ keys) × IsBusy phase
+Leads t here later Verified keys = 13 ∷ later ≡ keys
+Leads t here later ReadBack keys = check_keys t.word.address later ≡ keys
+Leads t here later Next keys = here ≡ keys
+Leads t here later Mark keys = 71 ∷ [] ≡ keys
+Leads t here later (Stop end) keys = [] ≡ keys
+Leads t here later Stray keys = ⊥
+Leads t here later Timeout keys = ⊥
+
+leads_if : (t : Site) (here later : List ℕ) (test : Bool) (x y : Turn) (keys : List ℕ) → (test ≡ true → Leads t here later x keys) → (test ≡ false → Leads t here later y keys) → Leads t here later (if test then x else y) keys
+leads_if t here later true x y keys f g = f refl
+leads_if t here later false x y keys f g = g refl
+
+same_self : (n : ℕ) → eqb n n ≡ true
+same_self n = grind (arith, nat_tests)
+
+first_of : {c d : ℕ} {u more : List ℕ} → c ∷ u ≡ d ∷ more → c ≡ d
+first_of e = cc
+
+module _ (t : Site) (here later : List ℕ) (c : ℕ) (u : List ℕ) where
+  abbrev Goes : Turn → List ℕ → Type 0
+  Goes turn keys = Leads t here later turn keys
+
+  -- the character heard is the next of the exact answer
+  at_first : (d : ℕ) (more keys : List ℕ) (turn : ℕ → Turn) → c ∷ u ≡ d ∷ more → Goes (turn d) keys → Goes (turn c) keys
+  at_first d more keys turn e h = subst (λ x. Goes (turn x) keys) (sym (first_of e)) h
+
+  sync_zero : (echo : Bool) (more : List ℕ) → c ∷ u ≡ (if echo then 90 ∷ 63 ∷ more else 63 ∷ more) → Goes (sync_hears 0 c) here
+  sync_zero true more e = at_first 90 _ here (λ x. sync_hears 0 x) e refl
+  sync_zero false more e = at_first 63 _ here (λ x. sync_hears 0 x) e refl
+
+  sync_three : (two : Bool) → c ∷ u ≡ prompt_from two 1 → Goes (sync_hears 3 c) here
+  sync_three true e = at_first 13 _ here (λ x. sync_hears 3 x) e refl
+  sync_three false e = at_first 10 _ here (λ x. sync_hears 3 x) e refl
+
+  sync_two : (two : Bool) → c ∷ u ≡ prompt_from two 0 → Goes (sync_hears 2 c) here
+  sync_two true e = at_first 13 _ here (λ x. sync_hears 2 x) e refl
+  sync_two false e = at_first 13 _ here (λ x. sync_hears 2 x) e refl
+
+  sync_leads : (k : ℕ) → k < 6 → c ∷ u ≡ refusal_from t.style k → Goes (sync_hears k c) here
+  sync_leads = below_six (λ k. c ∷ u ≡ refusal_from t.style k → Goes (sync_hears k c) here)
+      (λ e. sync_zero t.style.echo_illegal _ e)
+      (λ e. at_first 63 _ here (λ x. sync_hears 1 x) e refl)
+      (λ e. sync_two t.style.two_returns e)
+      (λ e. sync_three t.style.two_returns e)
+      (λ e. at_first 10 _ here (λ x. sync_hears 4 x) e refl)
+      (λ e. at_first 64 _ here (λ x. sync_hears 5 x) e refl)
+
+  address_leads : (visit : Visit) (k : ℕ) → IsPlace k → c ∷ u ≡ digit_of t.word.address k ∷ [] → Goes (address_hears t.word.address visit k c) (left (Address visit k) t here later)
+  address_leads visit k place e =
+      let a = t.word.address in
+      at_first (digit_of a k) [] (left (Address visit k) t here later) (λ x. address_hears a visit k x) e
+      (at_place (λ j. Goes (address_hears a visit j (digit_of a j)) (left (Address visit j) t here later))
+      (rw (same_self (digit_of a 1)) (refl, tt)) (rw (same_self (digit_of a 2)) (refl, tt)) (rw (same_self (digit_of a 3)) (refl, tt))
+      (rw (same_self (digit_of a 4)) (refl, tt)) (rw (same_self (digit_of a 5)) (refl, tt)) (rw (same_self (digit_of a 6)) (refl, tt)) k place)
+
+  deposit_leads : (v k : ℕ) → IsPlace k → c ∷ u ≡ digit_of v k ∷ [] → Goes (deposit_hears v k c) (left (Deposit v k) t here later)
+  deposit_leads v k place e =
+      at_first (digit_of v k) [] (left (Deposit v k) t here later) (λ x. deposit_hears v k x) e
+      (at_place (λ j. Goes (deposit_hears v j (digit_of v j)) (left (Deposit v j) t here later))
+      (rw (same_self (digit_of v 1)) (refl, tt)) (rw (same_self (digit_of v 2)) (refl, tt)) (rw (same_self (digit_of v 3)) (refl, tt))
+      (rw (same_self (digit_of v 4)) (refl, tt)) (rw (same_self (digit_of v 5)) (refl, tt)) (rw (same_self (digit_of v 6)) (refl, tt)) k place)
+
+  start_leads : (k : ℕ) → IsPlace k → c ∷ u ≡ digit_of t.start k ∷ [] → Goes (start_hears t.start k c) (left (Start k) t here later)
+  start_leads k place e =
+      let s = t.start in
+      at_first (digit_of s k) [] (left (Start k) t here later) (λ x. start_hears s k x) e
+      (at_place (λ j. Goes (start_hears s j (digit_of s j)) (left (Start j) t here later))
+      (rw (same_self (digit_of s 1)) (refl, tt)) (rw (same_self (digit_of s 2)) (refl, tt)) (rw (same_self (digit_of s 3)) (refl, tt))
+      (rw (same_self (digit_of s 4)) (refl, tt)) (rw (same_self (digit_of s 5)) (refl, tt)) (rw (same_self (digit_of s 6)) refl) k place)
+
+  return_two : (why : Reason) (two : Bool) (keys : List ℕ) → ((k : ℕ) → Goes (Listen (Return why k)) keys) → c ∷ u ≡ prompt_from two 0 → Goes (return_hears why 0 c) keys
+  return_two why true keys stay e = at_first 13 _ keys (λ x. return_hears why 0 x) e (stay 1)
+  return_two why false keys stay e = at_first 13 _ keys (λ x. return_hears why 0 x) e (stay 1)
+
+  return_one : (why : Reason) (two : Bool) (keys : List ℕ) → ((k : ℕ) → Goes (Listen (Return why k)) keys) → c ∷ u ≡ prompt_from two 1 → Goes (return_hears why 1 c) keys
+  return_one why true keys stay e = at_first 13 _ keys (λ x. return_hears why 1 x) e (stay 2)
+  return_one why false keys stay e = at_first 10 _ keys (λ x. return_hears why 1 x) e (stay 3)
+
+  return_leads : (why : Reason) (keys : List ℕ) → ((k : ℕ) → Goes (Listen (Return why k)) keys) → Goes (return_hears why 3 64) keys → (k : ℕ) → k < 4 → c ∷ u ≡ prompt_from t.style.two_returns k → Goes (return_hears why k c) keys
+  return_leads why keys stay last zero below e = return_two why t.style.two_returns keys stay e
+  return_leads why keys stay last (suc zero) below e = return_one why t.style.two_returns keys stay e
+  return_leads why keys stay last (suc (suc zero)) below e = at_first 10 _ keys (λ x. return_hears why 2 x) e (stay 3)
+  return_leads why keys stay last (suc (suc (suc zero))) below e = at_first 64 _ keys (λ x. return_hears why 3 x) e last
+  return_leads why keys stay last (suc (suc (suc (suc k)))) below e = absurd (omega arith)
+
+  slash_leads : (visit : Visit) (more : List ℕ) → c ∷ u ≡ 47 ∷ more → Goes (slash_hears visit c) (visit_keys visit t.word (held t) later)
+  slash_leads visit more e = at_first 47 more (visit_keys visit t.word (held t) later) (λ x. slash_hears visit x) e refl
+
+  -- the first digit of a word is 0 or 1
+  first_leads : (visit : Visit) (more : List ℕ) → held t < 65536 → c ∷ u ≡ digit_of (held t) 1 ∷ more → Goes (first_digit_hears visit c) (visit_keys visit t.word (held t) later)
+  first_leads visit more wide e =
+      leads_if t here later (eqb c 48 || eqb c 49) _ _ _ (λ yes. refl)
+      (λ other. absurd (not_first (held t) c wide other (first_of e)))
+    where
+      not_first : (w c : ℕ) → w < 65536 → (eqb c 48 || eqb c 49) ≡ false → c ≡ digit_of w 1 → ⊥
+      not_first w c small e same = not_early c (w / 32768) e (omega arith) (same ∙ low (w / 32768) (omega arith))
+        where
+          low : (n : ℕ) → n < 2 → 48 + n % 8 ≡ 48 + n
+          low n h = omega arith
+
+          not_early : (c n : ℕ) → (eqb c 48 || eqb c 49) ≡ false → n < 2 → c ≡ 48 + n → ⊥
+          not_early c n e h same = grind (arith, nat_tests)
+
+  -- a digit is neither a space nor `?`
+  digit_other : (h d c : ℕ) → (d ≡ 32) ⊎ (d ≡ 63) → c ≡ 48 + h % 8 → eqb c d ≡ true → ⊥
+  digit_other h d c (inl is) same e = space c (h % 8) (subst (λ x. eqb c x ≡ true) is e) same
+    where
+      space : (c n : ℕ) → eqb c 32 ≡ true → c ≡ 48 + n → ⊥
+      space c n e same = grind (arith, nat_tests)
+  digit_other h d c (inr is) same e = question c (h % 8) (omega arith) (subst (λ x. eqb c x ≡ true) is e) same
+    where
+      question : (c n : ℕ) → n < 8 → eqb c 63 ≡ true → c ≡ 48 + n → ⊥
+      question c n small e same = grind (arith, nat_tests)
+
+  before_leads : (visit : Visit) (space : Bool) → held t < 65536 → c ∷ u ≡ (if space then 32 ∷ last_digits (held t) 6 else last_digits (held t) 6) → Goes (before_hears t.word.address visit c) (visit_keys visit t.word (held t) later)
+  before_leads visit true wide e = at_first 32 _ (visit_keys visit t.word (held t) later) (λ x. before_hears t.word.address visit x) e refl
+  before_leads visit false wide e =
+      leads_if t here later (eqb c 32) _ _ _ (λ yes. refl)
+      (λ other. leads_if t here later (eqb c 63) _ _ _
+      (λ question. absurd (digit_other (head (held t) 1) 63 c (inr refl) (first_of e) question))
+      (λ no_question. first_leads visit _ wide e))
+
+  -- a whole reading
+  read_leads : (visit : Visit) (v : ℕ) → Checked visit t → v ≡ held t → Goes (read t.word visit v) (visit_keys visit t.word (held t) later)
+  read_leads Look v checked is = subst (λ x. Goes (read t.word Look x) (visit_keys Look t.word (held t) later)) (sym is) (look t.word (held t) (eqb (merged t.word (held t)) (held t)))
+    where
+      look : (w : _) (old : ℕ) (test : Bool) → Goes (if test then Verified else differs w Look old) (if test then 13 ∷ later else octal_text (merged w old) ++ 13 ∷ check_keys t.word.address later)
+      look w old true = refl
+      look w old false = (refl, tt)
+  read_leads Check v checked is =
+      leads_if t here later (eqb (merged t.word v) v) _ _ _ (λ yes. refl)
+      (λ other. absurd (differ (merged t.word v) v other (ap (merged t.word) is ∙ checked.1 ∙ sym is)))
+
+  -- a further digit
+  digit_leads : (visit : Visit) (v j h : ℕ) (more : List ℕ) → c ∷ u ≡ (48 + h % 8) ∷ more → Goes (if is_digit c then Listen (Value visit (8 * v + (c - 48)) (j + 1)) else Stray) (visit_keys visit t.word (held t) later)
+  digit_leads visit v j h more e =
+      leads_if t here later (is_digit c) _ _ _ (λ yes. refl)
+      (λ other. absurd (not_digit (sym (ap is_digit (first_of e)) ∙ other) (digit_is h)))
+    where
+      not_digit : {b : Bool} → b ≡ false → b ≡ true → ⊥
+      not_digit e f = cc
+
+  value_leads : (visit : Visit) (v j : ℕ) → j ≤ 6 → held t < 65536 → Facts (Value visit v j) t (c ∷ u) → c ∷ u ≡ last_digits (held t) (6 - j) → Goes (value_hears t.word visit v j c) (visit_keys visit t.word (held t) later)
+  value_leads visit v zero small wide facts e = first_leads visit _ wide e
+  value_leads visit v (suc zero) small wide facts e = digit_leads visit v 1 (head (held t) 2) _ e
+  value_leads visit v (suc (suc zero)) small wide facts e = digit_leads visit v 2 (head (held t) 3) _ e
+  value_leads visit v (suc (suc (suc zero))) small wide facts e = digit_leads visit v 3 (head (held t) 4) _ e
+  value_leads visit v (suc (suc (suc (suc zero)))) small wide facts e = digit_leads visit v 4 (head (held t) 5) _ e
+  value_leads visit v (suc (suc (suc (suc (suc zero))))) small wide facts e = digit_leads visit v 5 (head (held t) 6) _ e
+  value_leads visit v (suc (suc (suc (suc (suc (suc zero)))))) small wide facts e =
+      at_first 32 _ (visit_keys visit t.word (held t) later) (λ x. value_hears t.word visit v 6 x) e (read_leads visit v facts.0 (facts.2 e))
+  value_leads visit v (suc (suc (suc (suc (suc (suc (suc j))))))) small wide facts e = absurd (omega arith)
+
+  reading_is : Lies t → reading t ≡ (if t.style.space_before then 32 ∷ last_digits (held t) 6 else last_digits (held t) 6)
+  reading_is lies = ap (λ b. if b then (if t.style.space_before then 32 ∷ last_digits (held t) 6 else last_digits (held t) 6) else 63 ∷ prompt_from t.style.two_returns 0) lies
+
+  -- a character of the exact answer leads on, in every phase
+  pub hears_leads : (phase : Phase) (b : Basis) → PhaseFits phase b → held t < 65536 → (HasWord b → Lies t) → Facts phase t (c ∷ u) → c ∷ u ≡ rest_of phase t → Goes (hears t.word t.start phase c) (left phase t here later)
+  hears_leads Settle b fits wide lies facts e = refl
+  hears_leads (Sync k) b fits wide lies facts e = sync_leads k (omega arith) e
+  hears_leads (Address visit k) b fits wide lies facts e = address_leads visit k fits.1 e
+  hears_leads (Slash visit) b fits wide lies facts e = slash_leads visit _ e
+  hears_leads (Before visit) b fits wide lies facts e = before_leads visit t.style.space_before wide (e ∙ reading_is (lies fits))
+  hears_leads (Value visit v j) b fits wide lies facts e = value_leads visit v j fits.1 wide facts e
+  hears_leads (Deposit x k) b fits wide lies facts e = deposit_leads x k fits.1 e
+  hears_leads (Return Store k) b fits wide lies facts e = let to = fits.1 in return_leads Store (check_keys t.word.address later) (λ k. refl) refl k (omega arith) e
+  hears_leads (Return Close k) b fits wide lies facts e = return_leads Close here (λ k. refl) refl k (omega arith) e
+  hears_leads (Start k) b fits wide lies facts e = start_leads k fits.1 e
+  hears_leads Go b fits wide lies facts e = at_first 71 [] [] (λ x. go_hears x) e refl
+  hears_leads (Ended end) b fits wide lies facts e = refl

@@ -18,8 +18,11 @@ ldaodt: toolchain
 test: toolchain
 	rt ci
 
+# The main jobs: a tape that is a real program, its load character by character, and a lost digit.
 demo: ldaodt
-	./ldaodt < examples/hello.lda
+	./ldaodt check examples/hello.lda
+	./ldaodt dialogue examples/hello.lda
+	./ldaodt rehearse examples/first.lda examples/losses/third-digit-lost.script
 
 # Times, for a reader to judge: nothing here fails for being slow.
 bench: ldaodt

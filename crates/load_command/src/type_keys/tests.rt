@@ -1,6 +1,7 @@
 use super::*;
 use crate::devices::{BrokenInput, BrokenOutput};
 use odt_machine::{Mode, Style};
+use std::alloc::Global;
 use std::test::Fail;
 
 /// A deposit at 001000, a look at it, and an illegal key.
@@ -26,9 +27,14 @@ fn keys_are_answered(rt: HostRuntime) -> Result<(), Fail> {
     Ok(())
 }
 
+/// So many digits.
+fn digits(alloc: Global, length: usize) -> Result<Vec<u8>, Fail> {
+    Ok(vec![in alloc; b'1'; length]?)
+}
+
 #[test]
 fn the_keys_past_the_limit_stay_unread(rt: HostRuntime) -> Result<(), Fail> {
-    let many = vec![in rt.alloc(); b'1'; 1_048_579]?;
+    let many = digits(rt.alloc(), 1_048_579)?;
     let mut odt = Odt::new(rt.alloc(), 0, PLAIN)?;
     let mut keys = many.as_slice();
     let mut out = Vec::new(rt.alloc());

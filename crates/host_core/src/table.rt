@@ -1,3 +1,5 @@
+// The phase table: for each phase, what the host does on a character.
+
 ghost use Rattle.std.specs.Prelude.{◌≡◌, ℕ, ◌<◌, ◌≤◌};
 ghost use Rattle.octal.specs.Octal.{digit_of};
 ghost use Rattle.host_core.specs.PhaseTable.{sync_hears, address_hears, slash_hears, first_digit_hears, before_hears, read, value_hears, deposit_hears, return_hears, start_hears, go_hears, waits};
@@ -12,6 +14,7 @@ use tape_image::{Word, merge};
 /// How many octal digits the host types of every number.
 const DIGITS: u8 = 6;
 
+/// The answer to `Z`: its echo or none, `?`, one CR or two, LF, and the prompt.
 pub fn sync(place: u8, c: u8) -> Turn
     ensures { result ≡ sync_hears place c }
 {
@@ -26,6 +29,7 @@ pub fn sync(place: u8, c: u8) -> Turn
     }
 }
 
+/// The echo of each digit of the address, then `/` is typed.
 pub fn address(address: u16, visit: Visit, place: u8, c: u8) -> Turn
     requires { IsPlace place }
     ensures { result ≡ address_hears address visit place c }
@@ -39,6 +43,7 @@ pub fn address(address: u16, visit: Visit, place: u8, c: u8) -> Turn
     }
 }
 
+/// The echo of `/`.
 pub fn slash(visit: Visit, c: u8) -> Turn
     ensures { result ≡ slash_hears visit c }
 {
@@ -48,6 +53,7 @@ pub fn slash(visit: Visit, c: u8) -> Turn
     }
 }
 
+/// The beginning of a reading, with or without a space, or `?` where no memory answers.
 pub fn before(address: u16, visit: Visit, c: u8) -> Turn
     ensures { result ≡ before_hears address visit c }
 {
@@ -68,6 +74,8 @@ fn first_digit(visit: Visit, c: u8) -> Turn
     }
 }
 
+/// The rest of a reading: six digits in all, and the space after them. With five digits and a space
+/// one of six may have been lost, so that is a mishap.
 pub fn value(word: Word, visit: Visit, value: u16, place: u8, c: u8) -> Turn
     requires { value < value_room place }
     ensures { result ≡ value_hears word visit value place c }
@@ -98,6 +106,7 @@ fn whole_reading(word: Word, visit: Visit, value: u16) -> Turn
     }
 }
 
+/// The echo of each digit of the number that is stored, then CR is typed.
 pub fn deposit(value: u16, place: u8, c: u8) -> Turn
     requires { IsPlace place }
     ensures { result ≡ deposit_hears value place c }
@@ -111,6 +120,7 @@ pub fn deposit(value: u16, place: u8, c: u8) -> Turn
     }
 }
 
+/// The answer to CR: one CR or two, LF, and the prompt.
 pub fn after_return(reason: Reason, place: u8, c: u8) -> Turn
     ensures { result ≡ return_hears reason place c }
 {
@@ -126,6 +136,7 @@ pub fn after_return(reason: Reason, place: u8, c: u8) -> Turn
     }
 }
 
+/// The echo of each digit of the start address, then `G` is typed.
 pub fn start(start: u16, place: u8, c: u8) -> Turn
     requires { IsPlace place }
     ensures { result ≡ start_hears start place c }
@@ -139,6 +150,7 @@ pub fn start(start: u16, place: u8, c: u8) -> Turn
     }
 }
 
+/// The echo of `G`. It is never sent again: the program may be running.
 pub fn go(c: u8) -> Turn
     ensures { result ≡ go_hears c }
 {
@@ -160,7 +172,7 @@ pub fn quiet(phase: Phase) -> Turn
     }
 }
 
-// The digit of `number` at a place from 1 to 6, as a character.
+/// The digit of `number` at a place from 1 to 6, as a character.
 pub fn digit(number: u16, place: u8) -> u8
     requires { IsPlace place }
     ensures { result ≡ digit_of number place }

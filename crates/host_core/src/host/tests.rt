@@ -150,80 +150,87 @@ fn peers_that_never_answer_rightly(rt: HostRuntime) -> Result<(), Fail> {
     Ok(())
 }
 
+/// How a host begins with this progress: what is refused or its end, whether it is fresh, and how many
+/// words its plan has, or the one that comes back.
+fn beginning(
+    alloc: Global,
+    tape: &[u8],
+    progress: Progress,
+) -> Result<(Result<Option<End>, BadProgress>, bool, usize), Fail> {
+    match HostCore::new(plan_of(alloc, tape)?, progress, 3) {
+        Ok(host) => Ok((Ok(host.end()), host.is_fresh(), host.plan().words().len())),
+        Err((plan, why)) => Ok((Err(why), false, plan.words().len())),
+    }
+}
+
 #[test]
 fn progress_to_begin_with(rt: HostRuntime) -> Result<(), Fail> {
-    let rows: [(&[u8], u32, bool, Result<Option<End>, BadProgress>, &str); 9] = [
-        (&ONE_WORD, 0, false, Ok(None), "a fresh load"),
+    let maybe_started = Ok(Some(End::MaybeStarted));
+    let loaded = Ok(Some(End::Loaded));
+    let too_many = Err(BadProgress::TooMany);
+    let early_mark = Err(BadProgress::EarlyMark);
+    let rows: [(
+        &[u8],
+        u32,
+        bool,
+        (Result<Option<End>, BadProgress>, bool, usize),
+        &str,
+    ); 9] = [
+        (&ONE_WORD, 0, false, (Ok(None), true, 1), "a fresh load"),
         (
             &ONE_WORD,
             1,
             false,
-            Ok(None),
-            "all is verified, the start is left",
+            (Ok(None), false, 1),
+            "the start is left",
         ),
         (
             &ONE_WORD,
             2,
             false,
-            Err(BadProgress::TooMany),
+            (too_many, false, 1),
             "more than the plan has",
         ),
         (
             &ONE_WORD,
             2,
             true,
-            Err(BadProgress::TooMany),
+            (too_many, false, 1),
             "the number is judged before the mark",
         ),
         (
             &ONE_WORD,
             0,
             true,
-            Err(BadProgress::EarlyMark),
+            (early_mark, false, 1),
             "the mark before the last word",
         ),
         (
             &ONE_WORD,
             1,
             true,
-            Ok(Some(End::MaybeStarted)),
+            (maybe_started, false, 1),
             "an earlier life sent G",
         ),
         (
             &HIGH_BYTE,
             1,
             true,
-            Err(BadProgress::EarlyMark),
+            (early_mark, false, 1),
             "the mark without a start",
         ),
         (
             &HIGH_BYTE,
             1,
             false,
-            Ok(Some(End::Loaded)),
-            "all is verified and there is no start",
+            (loaded, false, 1),
+            "all is verified, there is no start",
         ),
-        (&NOTHING, 0, false, Ok(Some(End::Loaded)), "nothing to load"),
+        (&NOTHING, 0, false, (loaded, true, 0), "nothing to load"),
     ];
     for (tape, verified, going, wanted, reason) in rows {
-        let plan = plan_of(rt.alloc(), tape)?;
-        let words = plan.words().len();
-        match HostCore::new(plan, Progress { verified, going }, 3) {
-            Ok(host) => {
-                assert_eq!(rt; Ok(host.end()), wanted, "{reason}");
-                assert_eq!(rt; host.progress(), Progress { verified, going }, "{reason}");
-                assert_eq!(rt; host.is_fresh(), verified == 0, "{reason}");
-                assert_eq!(rt;
-                    (host.patience(), host.plan().words().len()),
-                    (3, words),
-                    "{reason}"
-                );
-            }
-            Err((plan, why)) => {
-                assert_eq!(rt; Err(why), wanted, "{reason}");
-                assert_eq!(rt; plan.words().len(), words, "{reason}");
-            }
-        }
+        let begun = beginning(rt.alloc(), tape, Progress { verified, going })?;
+        assert_eq!(rt; begun, wanted, "{reason}");
     }
     Ok(())
 }

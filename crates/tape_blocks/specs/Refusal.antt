@@ -20,7 +20,7 @@ pub record Test : Type 0 where
   pub passes : Bool
   pub fault : Fault
 
--- a fault of a block, so many bytes behind the place of the block
+-- the fault at this place of the input, for this reason
 abbrev pub fault_at : ℕ → Why → Fault
 fault_at n w = record { at = n; why = w }
 

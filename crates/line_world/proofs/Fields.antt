@@ -1,5 +1,5 @@
 -- The invariant of a world's fields after each event.
-use Rattle.std.proofs.Common.{◌≡◌, ℕ, ◌+◌, ◌*◌, ◌^◌, ◌<◌, ◌≤◌, Bool, true, false, eqb, Some, None, Ok, Err, Option, Result, List, [], ◌∷◌, ◌++◌, length, refl, arith, ap, sym, subst, ◌∙◌}
+use Rattle.std.proofs.Common.{◌≡◌, ℕ, suc, ◌+◌, ◌*◌, ◌^◌, ◌<◌, ◌≤◌, Bool, true, false, eqb, Some, None, Ok, Err, Option, Result, List, [], ◌∷◌, ◌++◌, length, refl, arith, ap, sym, subst, ◌∙◌}
 use Rattle.std.proofs.lemmas.Bool.Decides.{nat_tests}
 use Rattle.std.specs.Prelude.{option_to_list, slice_get, IsOk, OnOk}
 use Rattle.std.specs.List.{remove}
@@ -66,9 +66,10 @@ losses_fit m core down up lost k =
     let before = k.characters in
     omega arith
 
-pub nothing_there : (xs now : List ℕ) (b : Bool) → now ≡ xs → b ≡ eqb (length now) 0 → b ≡ true → xs ≡ []
-nothing_there [] now b same is empty = refl
-nothing_there (x ∷ xs) now b same is empty = absurd (filled (length now) b (ap length same) is empty)
+-- a list that is found empty is
+pub nothing_there : (xs : List ℕ) (b : Bool) → b ≡ eqb (length xs) 0 → b ≡ true → xs ≡ []
+nothing_there [] b is empty = refl
+nothing_there (x ∷ xs) b is empty = absurd (filled (length xs) b is empty)
   where
-    filled : (n : ℕ) (b : Bool) → n ≡ length (x ∷ xs) → b ≡ eqb n 0 → b ≡ true → ⊥
-    filled n b size is empty = grind (arith, nat_tests)
+    filled : (n : ℕ) (b : Bool) → b ≡ eqb (suc n) 0 → b ≡ true → ⊥
+    filled n b is empty = grind (arith, nat_tests)

@@ -157,7 +157,7 @@ impl World {
         ensures possible { result ≡ is_some (occurs self.old Event.Quiet) }
         ensures world { self.new ≡ happens self.old Event.Quiet }
     {
-        if !self.down.as_slice().is_empty() || !self.up.as_slice().is_empty() {
+        if !self.down.is_empty() || !self.up.is_empty() {
             return false;
         }
         let key = self.core.step(Heard::Quiet);
@@ -221,9 +221,9 @@ impl World {
     pub fn next_event(&self) -> Event
         ensures { result ≡ first_event self.now }
     {
-        if !self.down.as_slice().is_empty() {
+        if !self.down.is_empty() {
             Event::Take
-        } else if !self.up.as_slice().is_empty() {
+        } else if !self.up.is_empty() {
             Event::Hear
         } else {
             Event::Quiet
@@ -282,3 +282,6 @@ fn send(down: &mut ArrayVec<u8, 1>, key: Option<u8>)
         down.push(key);
     }
 }
+
+#[cfg(test)]
+mod tests;

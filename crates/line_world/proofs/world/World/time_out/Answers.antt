@@ -1,4 +1,4 @@
-use Rattle.std.proofs.Common.{◌≡◌, [], ◌∙◌, ap}
+use Rattle.std.proofs.Common.{◌≡◌, [], ◌∙◌, ap, refl}
 use Rattle.std.specs.Prelude.{option_to_list}
 use Rattle.line_world.proofs.Fields.{silent_fields, nothing_there}
 use Rattle.line_world.proofs.world.World.time_out.Goals as goal
@@ -6,7 +6,7 @@ use Rattle.line_world.proofs.world.World.time_out.Goals as goal
 pub invariant_of-self : goal.invariant_of-self
 invariant_of-self c =
     let w = c.self.inside in
-    let none : w.down.items ≡ [] = nothing_there w.down.items c.as_slice.result.now c.is_empty.result c.as_slice.ensures.value c.is_empty.ensures c.if-not-is_empty.false in
-    let empty : w.up.items ≡ [] = nothing_there w.up.items c.as_slice-else-not-is_empty.result.now c.is_empty-else-not-is_empty.result c.as_slice-else-not-is_empty.ensures.value c.is_empty-else-not-is_empty.ensures c.if-not-is_empty-2.false in
+    let none : w.down.items ≡ [] = nothing_there w.down.items c.is_empty.result c.is_empty.ensures c.if-not-is_empty.false in
+    let empty : w.up.items ≡ [] = nothing_there w.up.items c.is_empty-else-not-is_empty.result c.is_empty-else-not-is_empty.ensures c.if-not-is_empty-2.false in
     silent_fields w.odt w.core w.down.items w.up.items w.lost _ _ c.self.invariant none empty c.step-key.ensures.next
     (c.send.ensures ∙ ap option_to_list c.step-key.ensures.key)

@@ -1,3 +1,4 @@
+-- Why no machine was made, in words.
 use Rattle.std.specs.Prelude.{ℕ, List, codes}
 use Rattle.odt_machine.specs.declared.machine.OdtError.{OdtError}
 use Rattle.odt_machine.specs.declared.machine.OdtError.TheVariants.{TooLarge, Memory}

@@ -1,4 +1,5 @@
 pub mod Style
+pub mod Character
 pub mod Key
 pub mod Error
 pub mod Machine

@@ -1,3 +1,4 @@
+-- A console's style: where consoles differ (this project's choice).
 use Rattle.std.specs.Prelude.{ℕ, ◌+◌, if◌then◌else◌}
 use Rattle.odt_machine.specs.declared.style.Style.{Style}
 

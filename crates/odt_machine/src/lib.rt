@@ -1,4 +1,5 @@
-//! A simulated LSI-11 console: the machine's memory and its console ODT, key by key.
+//! A simulated LSI-11 console: the machine's memory and its console ODT, key by key, after the console
+//! ODT chapter of DEC's Microcomputer Processor Handbook.
 //!
 //! `Odt::take` is one typed key: it changes the mode, stores a word where a carriage return ends a
 //! deposit, and answers what the console prints. Its contract is the key table of
@@ -7,7 +8,7 @@
 //! running machine answers nothing; an answer has at most nine characters.
 //!
 //! Contracts see a machine as its style, its memory as a list of words, and its mode. Only
-//! `Odt::new` takes memory. Used by the simulated line and by the program's rehearsals.
+//! `Odt::new` takes memory. Used by `line_world` and `load_command`.
 
 #![tactic(auto)]
 

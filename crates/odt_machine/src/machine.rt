@@ -69,7 +69,7 @@ impl Odt {
     /// where that was refused.
     pub fn new(alloc: Global, words: u16, style: Style) -> Result<Odt, OdtError>
         ensures ok { IfOk result (λ odt. odt ≡ record { style = style; memory = replicate words 0; mode = Mode.Prompt }) }
-        ensures too_large { (result ≡ Err OdtError.TooLarge) ↔ (LARGEST_WORDS < words) }
+        ensures too_large { (result ≡ Err OdtError.TooLarge) ↔ (28672 < words) }
         ensures machine { IfOk result IsMachine }
     {
         if words > LARGEST_WORDS {
@@ -87,8 +87,8 @@ impl Odt {
 
     /// The same machine in another mode.
     ///
-    /// Refused exactly where a digit count is 0 or above 7, or an open word's address is odd or
-    /// not below `top()`; the machine comes back unchanged.
+    /// A mode that no typing could reach is refused, and the machine comes back as it was: no digit
+    /// or more than 7 counted, or an open word that does not lie in memory.
     pub fn with_mode(self, mode: Mode) -> Result<Odt, Odt>
         ensures accepted { IsOk result ↔ ModeFits self.memory mode }
         ensures ok { IfOk result (λ odt. odt ≡ record self { mode = mode }) }

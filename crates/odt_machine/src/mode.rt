@@ -1,6 +1,6 @@
 /// What the console is in the middle of.
 ///
-/// A digit count is 1 to 7, where 7 stands for seven digits or more.
+/// Digits are counted from 1, and the count stays at 7 however many more are typed.
 #[derive(Clone, Copy, Debug, PartialEq, Eq)]
 pub enum Mode {
     /// At the prompt, with nothing typed.

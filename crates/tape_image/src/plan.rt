@@ -57,8 +57,8 @@ impl Plan {
         })
     }
 
-    /// The words, one for each even address with a byte of the image at it or after it, addresses
-    /// rising; at most 28,672. Merged into a memory in any order they lay the image over it.
+    /// The words that have a byte of the image or two, in the order of their addresses; at most
+    /// 28,672. Merged into a memory in any order they lay the image over it.
     pub fn words(&self) -> &[Word]
         ensures value { result.now ≡ self.now.words }
         ensures overlay { MakesOverlay self.now.image self.now.words }

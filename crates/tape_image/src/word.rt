@@ -15,7 +15,7 @@ const HIGH_BYTE: u16 = 0o177400;
 const BOTH_BYTES: u16 = 0o177777;
 
 /// 160000 octal, where memory ends and the I/O page begins: no image reaches it (this project's choice).
-const TOP: u16 = 0o160000;
+pub(crate) const TOP: u16 = 0o160000;
 
 /// How many values a byte has: a word is its low byte plus so many times its high byte.
 const BYTE: u16 = 256;
@@ -187,59 +187,63 @@ mod tests {
         }
     }
 
+    /// A word's mask and value, an old word, the two merged, whether the word stood in it, and why
+    /// the row is there.
+    const WORDS: [(u16, u16, u16, u16, bool, &str); 7] = [
+        (
+            0o377,
+            0o104,
+            0o123456,
+            0o123504,
+            false,
+            "the high byte stays",
+        ),
+        (
+            0o377,
+            0o104,
+            0o123504,
+            0o123504,
+            true,
+            "it stands, whatever the high byte",
+        ),
+        (
+            0o177400,
+            0o52400,
+            0o125252,
+            0o52652,
+            false,
+            "the low byte stays",
+        ),
+        (
+            0o177400,
+            0o52400,
+            0o52652,
+            0o52652,
+            true,
+            "it stands, whatever the low byte",
+        ),
+        (0o177777, 0o11064, 0o177777, 0o11064, false, "no byte stays"),
+        (
+            0o177777,
+            0o11064,
+            0o11064,
+            0o11064,
+            true,
+            "the whole word stands",
+        ),
+        (
+            0o177777,
+            0o11064,
+            0o11065,
+            0o11064,
+            false,
+            "one bit differs",
+        ),
+    ];
+
     #[test]
     fn merged_and_standing(rt: HostRuntime) {
-        for (mask, value, old, new, stood, reason) in [
-            (
-                0o377,
-                0o104,
-                0o123456,
-                0o123504,
-                false,
-                "the high byte stays",
-            ),
-            (
-                0o377,
-                0o104,
-                0o123504,
-                0o123504,
-                true,
-                "it stands, whatever the high byte",
-            ),
-            (
-                0o177400,
-                0o52400,
-                0o125252,
-                0o52652,
-                false,
-                "the low byte stays",
-            ),
-            (
-                0o177400,
-                0o52400,
-                0o52652,
-                0o52652,
-                true,
-                "it stands, whatever the low byte",
-            ),
-            (0o177777, 0o11064, 0o177777, 0o11064, false, "no byte stays"),
-            (
-                0o177777,
-                0o11064,
-                0o11064,
-                0o11064,
-                true,
-                "the whole word stands",
-            ),
-            (
-                0o177777,
-                0o11064,
-                0o11065,
-                0o11064,
-                false,
-                "one bit differs",
-            ),
-        ] {
+        for (mask, value, old, new, stood, reason) in WORDS {
             let Some(word) = Word::new(0o1000, mask, value) else {
                 panic!(rt; "{reason}");
             };

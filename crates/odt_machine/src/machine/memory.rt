@@ -13,7 +13,7 @@ impl Odt {
         2 * self.memory.len() as u32
     }
 
-    /// The word at `address`. `None` exactly at an odd address or one not below `top()`.
+    /// The word at an even address below `top()`; `None` at every other address.
     pub fn peek(&self, address: u16) -> Option<u16>
         ensures { result ≡ (if is_word self.now.memory address then Some (word_at self.now.memory address) else None) }
     {
@@ -23,8 +23,8 @@ impl Odt {
         Some(self.memory[usize::from(address / 2)])
     }
 
-    /// Writes the word at `address`. False exactly at an odd address or one not below `top()`, and
-    /// then nothing changes.
+    /// Stores a word at an even address below `top()` and answers true; at any other address it
+    /// answers false and changes nothing.
     pub fn put(&mut self, address: u16, value: u16) -> bool
         ensures judged { result ≡ is_word self.old.memory address }
         ensures done { OnTrue result (self.new ≡ record self.old { memory = stored self.old.memory address value }) }

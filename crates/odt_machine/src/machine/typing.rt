@@ -47,7 +47,7 @@ impl Odt {
     {
         match Key::of(key) {
             Key::Digit => {
-                self.mode = Mode::Number(u16::from(key - b'0'), 1);
+                self.mode = Mode::Number(pushed(0, key), 1);
                 echo(key)
             }
             Key::Return => prompt(self.style),
@@ -91,7 +91,7 @@ impl Odt {
         self.mode = Mode::Prompt;
         match Key::of(key) {
             Key::Digit => {
-                self.mode = Mode::Typing(address, u16::from(key - b'0'), 1);
+                self.mode = Mode::Typing(address, pushed(0, key), 1);
                 echo(key)
             }
             Key::Return => prompt(self.style),

@@ -1,10 +1,8 @@
 use super::*;
+use crate::word::TOP;
 use std::process::Abort;
 use std::test::Fail;
 use tape_blocks::read_tape;
-
-/// The end of memory, 160000 octal.
-const TOP: u16 = 0o160000;
 
 /// A tape of these blocks, each an address and its bytes, and this start address.
 fn tape(alloc: Global, blocks: &[(u16, &[u8])], start: u16) -> Result<Tape, Fail> {
@@ -44,66 +42,68 @@ fn assert_words(rt: &impl Abort, plan: &Plan, wanted: &[(u16, u16, u16)], reason
     }
 }
 
+/// Blocks of a tape, the words of its plan (address, mask and value of each), and why the row is there.
+const TAPES: [(&[(u16, &[u8])], &[(u16, u16, u16)], &str); 11] = [
+    (&[], &[], "a tape with no block has no words"),
+    (
+        &[(0o1000, &[0x34, 0x12])],
+        &[(0o1000, 0o177777, 0o011064)],
+        "a whole word, low byte first",
+    ),
+    (
+        &[(0o157777, &[0x55])],
+        &[(0o157776, 0o177400, 0o052400)],
+        "the last byte of memory is the high one of its word",
+    ),
+    (
+        &[(0o1001, &[0x55])],
+        &[(0o1000, 0o177400, 0o052400)],
+        "an odd byte leaves the one before it alone",
+    ),
+    (
+        &[(0, &[0xFF])],
+        &[(0, 0o377, 0o377)],
+        "the first byte of memory",
+    ),
+    (
+        &[(0o1000, &[0, 0])],
+        &[(0o1000, 0o177777, 0)],
+        "bytes 00 are bytes of the image",
+    ),
+    (
+        &[(0o1000, &[0x11, 0x22]), (0o1001, &[0x33, 0x44])],
+        &[(0o1000, 0o177777, 0o031421), (0o1002, 0o377, 0o104)],
+        "where blocks overlap the later byte counts",
+    ),
+    (
+        &[(0o1001, &[0x11, 0x22]), (0o1000, &[0x33])],
+        &[(0o1000, 0o177777, 0o010463), (0o1002, 0o377, 0o42)],
+        "two blocks give the two bytes of one word",
+    ),
+    (
+        &[
+            (0o1000, &[0xAA, 0xBB, 0xCC]),
+            (0o1003, &[0xDD]),
+            (0o1001, &[0x11, 0x22]),
+        ],
+        &[(0o1000, 0o177777, 0o010652), (0o1002, 0o177777, 0o156442)],
+        "a later block crosses into two words that have bytes already",
+    ),
+    (
+        &[(0o1000, &[1]), (0o1005, &[2])],
+        &[(0o1000, 0o377, 1), (0o1004, 0o177400, 0o1000)],
+        "a word between two blocks is none of the plan's",
+    ),
+    (
+        &[(0o2000, &[7, 0]), (0o1000, &[5, 0])],
+        &[(0o1000, 0o177777, 5), (0o2000, 0o177777, 7)],
+        "addresses rise whatever the order of the blocks",
+    ),
+];
+
 #[test]
 fn words_of_tapes(rt: HostRuntime) -> Result<(), Fail> {
-    let rows: [(&[(u16, &[u8])], &[(u16, u16, u16)], &str); 11] = [
-        (&[], &[], "a tape with no block has no words"),
-        (
-            &[(0o1000, &[0x34, 0x12])],
-            &[(0o1000, 0o177777, 0o011064)],
-            "a whole word, low byte first",
-        ),
-        (
-            &[(0o157777, &[0x55])],
-            &[(0o157776, 0o177400, 0o052400)],
-            "the last byte of memory is the high one of its word",
-        ),
-        (
-            &[(0o1001, &[0x55])],
-            &[(0o1000, 0o177400, 0o052400)],
-            "an odd byte leaves the one before it alone",
-        ),
-        (
-            &[(0, &[0xFF])],
-            &[(0, 0o377, 0o377)],
-            "the first byte of memory",
-        ),
-        (
-            &[(0o1000, &[0, 0])],
-            &[(0o1000, 0o177777, 0)],
-            "bytes 00 are bytes of the image",
-        ),
-        (
-            &[(0o1000, &[0x11, 0x22]), (0o1001, &[0x33, 0x44])],
-            &[(0o1000, 0o177777, 0o031421), (0o1002, 0o377, 0o104)],
-            "where blocks overlap the later byte counts",
-        ),
-        (
-            &[(0o1001, &[0x11, 0x22]), (0o1000, &[0x33])],
-            &[(0o1000, 0o177777, 0o010463), (0o1002, 0o377, 0o42)],
-            "two blocks give the two bytes of one word",
-        ),
-        (
-            &[
-                (0o1000, &[0xAA, 0xBB, 0xCC]),
-                (0o1003, &[0xDD]),
-                (0o1001, &[0x11, 0x22]),
-            ],
-            &[(0o1000, 0o177777, 0o010652), (0o1002, 0o177777, 0o156442)],
-            "a later block crosses into two words that have bytes already",
-        ),
-        (
-            &[(0o1000, &[1]), (0o1005, &[2])],
-            &[(0o1000, 0o377, 1), (0o1004, 0o177400, 0o1000)],
-            "a word between two blocks is none of the plan's",
-        ),
-        (
-            &[(0o2000, &[7, 0]), (0o1000, &[5, 0])],
-            &[(0o1000, 0o177777, 5), (0o2000, 0o177777, 7)],
-            "addresses rise whatever the order of the blocks",
-        ),
-    ];
-    for (blocks, words, reason) in rows {
+    for (blocks, words, reason) in TAPES {
         let plan = Plan::of(rt.alloc(), &tape(rt.alloc(), blocks, 1)?)?;
         assert_words(&rt, &plan, words, reason);
     }
@@ -123,10 +123,7 @@ fn padding_changes_no_word(rt: HostRuntime) -> Result<(), Fail> {
     padded.extend_from_slice(&[0; 3])?;
     padded.extend_from_slice(&transfer)?;
     padded.extend_from_slice(&[0xFF, 0xFF])?;
-    for (bytes, reason) in [
-        (plain, "the first worked tape"),
-        (padded, "the same, padded"),
-    ] {
+    for (bytes, reason) in [(plain, "one word at 001000"), (padded, "the same, padded")] {
         let (tape, _length) = read_tape(rt.alloc(), &bytes)?;
         let plan = Plan::of(rt.alloc(), &tape)?;
         assert_words(&rt, &plan, &[(0o1000, 0o177777, 0o011064)], reason);

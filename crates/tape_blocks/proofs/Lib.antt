@@ -7,4 +7,4 @@ mod Plain
 mod Progress
 mod Readings
 mod Totality
-mod Worked
+mod SixteenBytes

@@ -7,7 +7,7 @@ use std::fmt;
 /// Why an input is no tape. `s` is the place of the block's 01, and places count from 0.
 #[derive(Clone, Copy, Debug, PartialEq, Eq)]
 pub enum Why {
-    /// Where a block or a 00 should stand, another byte stands: at that byte.
+    /// A byte that is not 00 and begins no block: at that byte.
     Stray,
     /// The byte behind the 01 is not 00: at `s + 1`.
     BadMark,
@@ -19,9 +19,10 @@ pub enum Why {
     BadSum,
     /// A data block with a good sum ends above 160000 (octal): at `s + 4`.
     PastTop,
-    /// The input ends where a block or a 00 could stand: at the length of the input.
+    /// The input is over between blocks, and no transfer block came: at its length.
     NoTransfer,
-    /// The byte at place 1,048,576 is needed and is there: at 1,048,576.
+    /// The tape goes on behind its last possible byte (the limit is this project's choice): at
+    /// 1,048,576.
     TooLong,
 }
 

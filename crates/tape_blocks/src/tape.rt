@@ -64,8 +64,8 @@ impl Model for Tape {
 impl Tape {
     /// The tape of these blocks and this start address.
     ///
-    /// The first bad block decides, and each is judged as empty before past the top; `TooMuch` comes
-    /// only where no block is bad. The blocks come back in each refusal. Takes no memory.
+    /// Blocks are judged in order, each for being empty and then for its end; only good blocks can be
+    /// too much. A refusal hands the blocks back. Takes no memory.
     pub fn new(blocks: Vec<Block>, start: u16) -> Result<Tape, (Vec<Block>, BadTape)>
         ensures made { IfOk result (λ tape. tape ≡ record { blocks = blocks.items; start = start }) }
         ensures sound { IfOk result (λ tape. IsSound tape) }
@@ -97,7 +97,7 @@ impl Tape {
         &self.blocks
     }
 
-    /// The start address. An even one starts the program, and an odd one means: do not start.
+    /// Where the program begins, if even; an odd address asks for no start.
     pub fn start(&self) -> u16
         ensures value { result ≡ self.now.start }
         ensures sound { IsSound self.now }

@@ -10,7 +10,7 @@ use std::process::Abort;
 use std::test::Fail;
 
 /// Two bytes at 001000, and a start at 001000.
-const WORKED: &[u8] = &[
+const ONE_BLOCK: &[u8] = &[
     0x01, 0x00, 0x08, 0x00, 0x00, 0x02, 0x34, 0x12, 0xAF, 0x01, 0x00, 0x06, 0x00, 0x00, 0x02, 0xF7,
 ];
 
@@ -36,40 +36,48 @@ const LAST_BYTE: &[u8] = &[
     0x01, 0x00, 0x07, 0x00, 0xFF, 0xDF, 0x55, 0xC5, 0x01, 0x00, 0x06, 0x00, 0x01, 0x00, 0xF8,
 ];
 
+/// Why the row is there, an input, the bytes that its tape has, the start, and the blocks.
+const TAPES: [(&str, &[u8], u32, u16, &[(u16, &[u8])]); 5] = [
+    (
+        "one block",
+        ONE_BLOCK,
+        16,
+        0o1000,
+        &[(0o1000, &[0x34, 0x12])],
+    ),
+    (
+        "bytes 00 stand before and between, and what follows is not read",
+        PADDED,
+        59,
+        0o1000,
+        &[(0o1000, &[0x34, 0x12])],
+    ),
+    (
+        "blocks keep their order and may overlap",
+        OVERLAPPING,
+        25,
+        0o1000,
+        &[(0o1000, &[0x11, 0x22]), (0o1001, &[0x33, 0x44])],
+    ),
+    (
+        "a transfer block alone, with an odd start",
+        ODD_START,
+        7,
+        1,
+        &[],
+    ),
+    (
+        "a block may end at 160000 exactly",
+        LAST_BYTE,
+        15,
+        1,
+        &[(0o157777, &[0x55])],
+    ),
+];
+
 #[test]
 fn tapes_are_read(rt: HostRuntime) -> Result<(), Fail> {
-    let rows: [(&str, &[u8], u32, u16, &[(u16, &[u8])]); 5] = [
-        ("one block", WORKED, 16, 0o1000, &[(0o1000, &[0x34, 0x12])]),
-        (
-            "bytes 00 stand before and between, and what follows is not read",
-            PADDED,
-            59,
-            0o1000,
-            &[(0o1000, &[0x34, 0x12])],
-        ),
-        (
-            "blocks keep their order and may overlap",
-            OVERLAPPING,
-            25,
-            0o1000,
-            &[(0o1000, &[0x11, 0x22]), (0o1001, &[0x33, 0x44])],
-        ),
-        (
-            "a transfer block alone, with an odd start",
-            ODD_START,
-            7,
-            1,
-            &[],
-        ),
-        (
-            "a block may end at 160000 exactly",
-            LAST_BYTE,
-            15,
-            1,
-            &[(0o157777, &[0x55])],
-        ),
-    ];
-    for (reason, input, taken, start, blocks) in rows {
+    for (reason, input, taken, start, blocks) in TAPES {
         let (tape, used) = read_tape(rt.alloc(), input)?;
         assert_eq!(rt; used, taken, "{reason}");
         assert_eq!(rt; tape.start(), start, "{reason}");
@@ -82,95 +90,97 @@ fn tapes_are_read(rt: HostRuntime) -> Result<(), Fail> {
     Ok(())
 }
 
+/// Why the row is there, an input, the place of its fault, and the reason.
+const FAULTS: [(&str, &[u8], u32, Why); 19] = [
+    (
+        "the checksum of the transfer block counts",
+        &[1, 0, 8, 0, 0, 2, 0x34, 0x12, 0xAF, 1, 0, 6, 0, 0, 2, 0xF6],
+        9,
+        Why::BadSum,
+    ),
+    (
+        "an empty input has no transfer block",
+        &[],
+        0,
+        Why::NoTransfer,
+    ),
+    ("bytes 00 alone have none", &[0, 0, 0], 3, Why::NoTransfer),
+    ("the input ends behind the 01", &[1], 0, Why::Cut),
+    ("the second byte of a mark is 00", &[1, 1], 1, Why::BadMark),
+    (
+        "a bad mark is seen before the count is there",
+        &[0, 1, 2, 3],
+        2,
+        Why::BadMark,
+    ),
+    ("neither a block nor a 00", &[0, 0, 0x41], 2, Why::Stray),
+    (
+        "a stray byte between blocks",
+        &[1, 0, 7, 0, 0xFF, 0xDF, 0x55, 0xC5, 0xC5],
+        8,
+        Why::Stray,
+    ),
+    (
+        "the input ends between blocks",
+        &[1, 0, 8, 0, 0, 2, 0x34, 0x12, 0xAF],
+        9,
+        Why::NoTransfer,
+    ),
+    (
+        "the last checksum is missing",
+        &[1, 0, 8, 0, 0, 2, 0x34, 0x12, 0xAF, 1, 0, 6, 0, 0, 2],
+        9,
+        Why::Cut,
+    ),
+    ("half a count is no count yet", &[1, 0, 5], 0, Why::Cut),
+    (
+        "a count below 6 is seen as soon as it is there",
+        &[1, 0, 5, 0],
+        2,
+        Why::BadCount,
+    ),
+    (
+        "a count below 6 comes before the sum",
+        &[1, 0, 5, 0, 0, 0, 0xFA],
+        2,
+        Why::BadCount,
+    ),
+    ("a count of 0", &[1, 0, 0, 0, 0, 0, 0xFF], 2, Why::BadCount),
+    (
+        "the high byte of the count counts",
+        &[1, 0, 6, 1, 0, 0, 0xF8],
+        0,
+        Why::Cut,
+    ),
+    (
+        "a block that ends at 160001",
+        &[1, 0, 8, 0, 0xFF, 0xDF, 0x55, 0x55, 0x6F],
+        4,
+        Why::PastTop,
+    ),
+    (
+        "a bad sum comes before past the top",
+        &[1, 0, 8, 0, 0xFF, 0xDF, 0x55, 0x55, 0x6E],
+        0,
+        Why::BadSum,
+    ),
+    (
+        "past the top is judged at the block's own place",
+        &[0, 1, 0, 7, 0, 0xFF, 0xFF, 0, 0xFA],
+        5,
+        Why::PastTop,
+    ),
+    (
+        "address and length pass 16 bits",
+        &[1, 0, 8, 0, 0xFF, 0xFF, 0, 0, 0xF9],
+        4,
+        Why::PastTop,
+    ),
+];
+
 #[test]
 fn faults_are_placed(rt: HostRuntime) -> Result<(), Fail> {
-    let rows: [(&str, &[u8], u32, Why); 19] = [
-        (
-            "the checksum of the transfer block counts",
-            &[1, 0, 8, 0, 0, 2, 0x34, 0x12, 0xAF, 1, 0, 6, 0, 0, 2, 0xF6],
-            9,
-            Why::BadSum,
-        ),
-        (
-            "an empty input has no transfer block",
-            &[],
-            0,
-            Why::NoTransfer,
-        ),
-        ("bytes 00 alone have none", &[0, 0, 0], 3, Why::NoTransfer),
-        ("the input ends behind the 01", &[1], 0, Why::Cut),
-        ("the second byte of a mark is 00", &[1, 1], 1, Why::BadMark),
-        (
-            "a bad mark is seen before the count is there",
-            &[0, 1, 2, 3],
-            2,
-            Why::BadMark,
-        ),
-        ("neither a block nor a 00", &[0, 0, 0x41], 2, Why::Stray),
-        (
-            "a stray byte between blocks",
-            &[1, 0, 7, 0, 0xFF, 0xDF, 0x55, 0xC5, 0xC5],
-            8,
-            Why::Stray,
-        ),
-        (
-            "the input ends between blocks",
-            &[1, 0, 8, 0, 0, 2, 0x34, 0x12, 0xAF],
-            9,
-            Why::NoTransfer,
-        ),
-        (
-            "the last checksum is missing",
-            &[1, 0, 8, 0, 0, 2, 0x34, 0x12, 0xAF, 1, 0, 6, 0, 0, 2],
-            9,
-            Why::Cut,
-        ),
-        ("half a count is no count yet", &[1, 0, 5], 0, Why::Cut),
-        (
-            "a count below 6 is seen as soon as it is there",
-            &[1, 0, 5, 0],
-            2,
-            Why::BadCount,
-        ),
-        (
-            "a count below 6 comes before the sum",
-            &[1, 0, 5, 0, 0, 0, 0xFA],
-            2,
-            Why::BadCount,
-        ),
-        ("a count of 0", &[1, 0, 0, 0, 0, 0, 0xFF], 2, Why::BadCount),
-        (
-            "the high byte of the count counts",
-            &[1, 0, 6, 1, 0, 0, 0xF8],
-            0,
-            Why::Cut,
-        ),
-        (
-            "a block that ends at 160001",
-            &[1, 0, 8, 0, 0xFF, 0xDF, 0x55, 0x55, 0x6F],
-            4,
-            Why::PastTop,
-        ),
-        (
-            "a bad sum comes before past the top",
-            &[1, 0, 8, 0, 0xFF, 0xDF, 0x55, 0x55, 0x6E],
-            0,
-            Why::BadSum,
-        ),
-        (
-            "past the top is judged at the block's own place",
-            &[0, 1, 0, 7, 0, 0xFF, 0xFF, 0, 0xFA],
-            5,
-            Why::PastTop,
-        ),
-        (
-            "address and length pass 16 bits",
-            &[1, 0, 8, 0, 0xFF, 0xFF, 0, 0, 0xF9],
-            4,
-            Why::PastTop,
-        ),
-    ];
-    for (reason, input, at, why) in rows {
+    for (reason, input, at, why) in FAULTS {
         let fault = fault_of(rt.alloc(), input);
         assert_eq!(rt; fault, Some((at, why)), "{reason}");
     }
@@ -192,60 +202,62 @@ fn zeros_and(alloc: Global, zeros: usize, end: &[u8]) -> Result<Vec<u8>, AllocEr
     Ok(input)
 }
 
+/// Why the row is there, so many bytes 00 and then these, and the fault, if there is one.
+const LAST_PLACES: [(&str, usize, &[u8], Option<(u32, Why)>); 9] = [
+    (
+        "the input ends at the last place",
+        1_048_576,
+        &[],
+        Some((1_048_576, Why::NoTransfer)),
+    ),
+    (
+        "the byte behind it is needed",
+        1_048_577,
+        &[],
+        Some((1_048_576, Why::TooLong)),
+    ),
+    ("a tape that ends there", 1_048_569, ODD_START, None),
+    (
+        "a tape that ends a byte later",
+        1_048_570,
+        ODD_START,
+        Some((1_048_576, Why::TooLong)),
+    ),
+    (
+        "a block that goes on where the input ends",
+        1_048_570,
+        &[1, 0, 16, 0, 0, 2],
+        Some((1_048_570, Why::Cut)),
+    ),
+    (
+        "a block that goes on where the input does",
+        1_048_570,
+        &[1, 0, 16, 0, 0, 2, 0x41],
+        Some((1_048_576, Why::TooLong)),
+    ),
+    (
+        "a block that is whole past the limit",
+        1_048_570,
+        &[1, 0, 8, 0, 0, 2, 0x34, 0x12, 0xAF],
+        Some((1_048_576, Why::TooLong)),
+    ),
+    (
+        "a bad byte before the limit comes first",
+        1_048_574,
+        &[1, 1, 0, 0],
+        Some((1_048_575, Why::BadMark)),
+    ),
+    (
+        "a stray byte behind the limit is not judged",
+        1_048_576,
+        &[0x41],
+        Some((1_048_576, Why::TooLong)),
+    ),
+];
+
 #[test]
 fn a_tape_has_a_last_place(rt: HostRuntime) -> Result<(), Fail> {
-    let rows: [(&str, usize, &[u8], Option<(u32, Why)>); 9] = [
-        (
-            "the input ends at the last place",
-            1_048_576,
-            &[],
-            Some((1_048_576, Why::NoTransfer)),
-        ),
-        (
-            "the byte behind it is needed",
-            1_048_577,
-            &[],
-            Some((1_048_576, Why::TooLong)),
-        ),
-        ("a tape that ends there", 1_048_569, ODD_START, None),
-        (
-            "a tape that ends a byte later",
-            1_048_570,
-            ODD_START,
-            Some((1_048_576, Why::TooLong)),
-        ),
-        (
-            "a block that goes on where the input ends",
-            1_048_570,
-            &[1, 0, 16, 0, 0, 2],
-            Some((1_048_570, Why::Cut)),
-        ),
-        (
-            "a block that goes on where the input does",
-            1_048_570,
-            &[1, 0, 16, 0, 0, 2, 0x41],
-            Some((1_048_576, Why::TooLong)),
-        ),
-        (
-            "a block that is whole past the limit",
-            1_048_570,
-            &[1, 0, 8, 0, 0, 2, 0x34, 0x12, 0xAF],
-            Some((1_048_576, Why::TooLong)),
-        ),
-        (
-            "a bad byte before the limit comes first",
-            1_048_574,
-            &[1, 1, 0, 0],
-            Some((1_048_575, Why::BadMark)),
-        ),
-        (
-            "a stray byte behind the limit is not judged",
-            1_048_576,
-            &[0x41],
-            Some((1_048_576, Why::TooLong)),
-        ),
-    ];
-    for (reason, zeros, end, fault) in rows {
+    for (reason, zeros, end, fault) in LAST_PLACES {
         let input = zeros_and(rt.alloc(), zeros, end)?;
         assert_eq!(rt; fault_of(rt.alloc(), &input), fault, "{reason}");
     }
@@ -283,53 +295,55 @@ fn are_blocks(blocks: &[Block], runs: &[Run]) -> bool {
     left.next().is_none()
 }
 
+/// Why the row is there, blocks, and the length of the tape in bytes or what is wrong.
+const LISTS: [(&str, &[Run], Result<usize, BadTape>); 10] = [
+    ("no block at all", &[], Ok(7)),
+    (
+        "a good block and then an empty one",
+        &[(1, 0o1000, 2), (1, 0o1000, 0)],
+        Err(BadTape::EmptyBlock(1)),
+    ),
+    (
+        "two bytes at 157777",
+        &[(1, 0o157777, 2)],
+        Err(BadTape::BlockPastTop(0)),
+    ),
+    ("one byte there", &[(1, 0o157777, 1)], Ok(15)),
+    (
+        "an empty block past the top is empty",
+        &[(1, 0o177777, 0)],
+        Err(BadTape::EmptyBlock(0)),
+    ),
+    (
+        "the first bad block decides",
+        &[(2, 0, 1), (1, 0o160000, 1), (1, 0, 0)],
+        Err(BadTape::BlockPastTop(2)),
+    ),
+    (
+        "past 16 bits",
+        &[(1, 0o177777, 57_344)],
+        Err(BadTape::BlockPastTop(0)),
+    ),
+    (
+        "as much as a tape holds",
+        &[(18, 0, 57_344), (1, 0, 16_244)],
+        Ok(1_048_576),
+    ),
+    (
+        "a byte more",
+        &[(18, 0, 57_344), (1, 0, 16_245)],
+        Err(BadTape::TooMuch),
+    ),
+    (
+        "too much, and a bad block behind it",
+        &[(19, 0, 57_344), (1, 0, 0)],
+        Err(BadTape::EmptyBlock(19)),
+    ),
+];
+
 #[test]
 fn tapes_are_made_of_good_blocks(rt: HostRuntime) -> Result<(), Fail> {
-    let rows: [(&str, &[Run], Result<usize, BadTape>); 10] = [
-        ("no block at all", &[], Ok(7)),
-        (
-            "a good block and then an empty one",
-            &[(1, 0o1000, 2), (1, 0o1000, 0)],
-            Err(BadTape::EmptyBlock(1)),
-        ),
-        (
-            "two bytes at 157777",
-            &[(1, 0o157777, 2)],
-            Err(BadTape::BlockPastTop(0)),
-        ),
-        ("one byte there", &[(1, 0o157777, 1)], Ok(15)),
-        (
-            "an empty block past the top is empty",
-            &[(1, 0o177777, 0)],
-            Err(BadTape::EmptyBlock(0)),
-        ),
-        (
-            "the first bad block decides",
-            &[(2, 0, 1), (1, 0o160000, 1), (1, 0, 0)],
-            Err(BadTape::BlockPastTop(2)),
-        ),
-        (
-            "past 16 bits",
-            &[(1, 0o177777, 57_344)],
-            Err(BadTape::BlockPastTop(0)),
-        ),
-        (
-            "as much as a tape holds",
-            &[(18, 0, 57_344), (1, 0, 16_244)],
-            Ok(1_048_576),
-        ),
-        (
-            "a byte more",
-            &[(18, 0, 57_344), (1, 0, 16_245)],
-            Err(BadTape::TooMuch),
-        ),
-        (
-            "too much, and a bad block behind it",
-            &[(19, 0, 57_344), (1, 0, 0)],
-            Err(BadTape::EmptyBlock(19)),
-        ),
-    ];
-    for (reason, runs, expected) in rows {
+    for (reason, runs, expected) in LISTS {
         let blocks = blocks_of(rt.alloc(), runs)?;
         let made = match Tape::new(blocks, 0o1000) {
             Ok(tape) => {
@@ -349,8 +363,8 @@ fn tapes_are_made_of_good_blocks(rt: HostRuntime) -> Result<(), Fail> {
 #[test]
 fn what_is_written_is_the_plain_text(rt: HostRuntime) -> Result<(), Fail> {
     let rows: [(&str, &[u8], &[u8]); 4] = [
-        ("a plain tape comes back", WORKED, WORKED),
-        ("padding goes", PADDED, WORKED),
+        ("a plain tape comes back", ONE_BLOCK, ONE_BLOCK),
+        ("padding goes", PADDED, ONE_BLOCK),
         ("blocks are not merged", OVERLAPPING, OVERLAPPING),
         ("an odd start stays", LAST_BYTE, LAST_BYTE),
     ];
@@ -386,7 +400,7 @@ fn faults_are_printed(rt: HostRuntime) -> Result<(), Fail> {
 
 #[test]
 fn each_prefix_is_read_as_the_definitions_say(rt: HostRuntime) -> Result<(), Fail> {
-    for tape in [WORKED, PADDED, OVERLAPPING, ODD_START, LAST_BYTE] {
+    for tape in [ONE_BLOCK, PADDED, OVERLAPPING, ODD_START, LAST_BYTE] {
         for length in 0..tape.len() + 1 {
             assert_agrees(&rt, rt.alloc(), &tape[..length])?;
         }
@@ -396,7 +410,7 @@ fn each_prefix_is_read_as_the_definitions_say(rt: HostRuntime) -> Result<(), Fai
 
 #[test]
 fn each_changed_byte_is_read_as_the_definitions_say(rt: HostRuntime) -> Result<(), Fail> {
-    for tape in [WORKED, PADDED, OVERLAPPING, ODD_START, LAST_BYTE] {
+    for tape in [ONE_BLOCK, PADDED, OVERLAPPING, ODD_START, LAST_BYTE] {
         let mut changed = Vec::from_slice(rt.alloc(), tape)?;
         for place in 0..tape.len() {
             for byte in 0..=255 {

@@ -56,7 +56,7 @@ fn is_piece(alloc: Global, piece: &[u8]) -> Result<bool, AllocError> {
     }
     match block_of(alloc, piece)? {
         Some((address, length)) => Ok(
-            length > 0 && usize::from(address) <= TOP.saturating_sub(length),
+            0 < length && length <= TOP && usize::from(address) <= TOP - length,
         ),
         None => Ok(false),
     }

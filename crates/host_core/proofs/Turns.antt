@@ -29,7 +29,7 @@ use Rattle.host_core.specs.PhaseTable.{Move, move, taken, turn_of, hears, waits,
 use Rattle.host_core.proofs.Frame.{on_test}
 use Rattle.host_core.proofs.Walk.{sync_walk, address_walk, slash_walk, before_walk, value_walk, deposit_walk, return_walk, start_walk, go_walk}
 
--- what a turn needs of the core that takes it, `spent` being the characters that its phase has used
+-- what a turn needs of the core that takes it, n being the characters that its phase may have used
 abbrev pub TurnFits : Turn → Basis → ℕ → Type 0
 TurnFits (Listen phase) b n = PhaseFits phase b × MarkFits b.going b.plan.start phase × (n ≤ used_in phase)
 TurnFits (Key key phase) b n = PhaseFits phase b × (b.going ≡ false) × (n + 1 ≤ used_in phase)

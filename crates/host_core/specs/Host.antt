@@ -27,6 +27,7 @@ pub record Basis : Type 0 where
   pub patience : ℕ
   pub spent : ℕ
 
+-- a core without its phase and the characters that it has sent
 abbrev pub basis_of : Core → Basis
 basis_of core = record {
   plan = core.plan;

@@ -5,9 +5,11 @@
 //! start. It is told what was heard, a character or that nothing came, and answers the character
 //! to send. There is no line, no clock and no memory here: the crate `line_world` has those.
 //!
-//! The contract of `step` is the phase table. Above it stand the laws: no life sends more than the
-//! character bound, nothing is sent once the mark is set, and `G` is sent only after the whole
-//! start address with every word verified.
+//! The contract of `step` is the phase table. Above it stand the laws of every life, whatever it
+//! hears: no more characters are sent than the character bound (`sent_count`), nothing is sent once
+//! the mark is set (`progress`), and, of every life that `new` or `restart` begins, `G` is sent only
+//! after the whole start address with every word verified, and a word is verified only where it has
+//! just been read and stands.
 #![tactic(auto)]
 
 mod console;

@@ -1,12 +1,22 @@
 -- A load on a line that loses nothing, event by event, and what is written of it.
-use Rattle.std.proofs.Common.{◌≡◌, List, [], ◌∷◌, ◌++◌, ℕ, Option, Some, None, IsSome, refl, sym, ap, ◌∙◌, subst}
+use Rattle.std.proofs.Common.{◌≡◌, List, [], ◌∷◌, ◌++◌, ℕ, Option, Some, None, IsSome, replicate, false, refl, sym, ap, ◌∙◌, subst}
 use Rattle.std.proofs.KnownBytes.{Appends-trans}
+use Rattle.std.specs.Io.KnownBytes.{Appends}
+use Rattle.tape_blocks.specs.Tape.{TapeValue}
+use Rattle.tape_image.specs.Plan.{plan_of}
+use Rattle.odt_machine.specs.declared.style.Style.{Style}
+use Rattle.odt_machine.specs.Machine.{Machine}
 use Rattle.host_core.specs.declared.phase.End.{End}
-use Rattle.host_core.specs.Core.{ended}
+use Rattle.host_core.specs.Core.{ended, begun}
 use Rattle.line_world.specs.declared.event.Event.{Event}
 use Rattle.line_world.specs.Scene.{Scene}
+use Rattle.line_world.specs.Opening.{opened}
 use Rattle.line_world.specs.World.{happens, after, first_event, IsCleanRun}
-use Rattle.load_command.specs.Dialogue.{WritesSome, LeadsClean}
+use Rattle.load_command.specs.Dialogue.{WritesSome, LeadsClean, IsDialogue, dialogue_opening, dialogue_patience}
+use Rattle.load_command.specs.Output.{WritesPrefix}
+use Rattle.load_command.specs.Rehearsal.{machine_of}
+use Rattle.load_command.specs.Report.{report}
+use Rattle.load_command.specs.TapeFile.{BeginsWithTape}
 
 -- events that end from one world on end from an earlier one on, and lead to the same world
 abbrev pub GoesOn : Scene → Scene → Type 0
@@ -27,3 +37,25 @@ goes_to_end start w end so is =
 
 pub writes_more : (before between after : Option (List ℕ)) → WritesSome before between → WritesSome between after → WritesSome before after
 writes_more before between after first second = (first.0 ++ second.0, Appends-trans before between after first.0 second.0 first.1 second.1)
+
+-- a prefix of a text is some text
+pub writes_prefix : (before after : Option (List ℕ)) (text : List ℕ) → WritesPrefix before after text → WritesSome before after
+writes_prefix before after text w = (w.1.written, w.1.appended)
+
+-- a dialogue from its parts
+pub dialogue_made : (input before between now : Option (List ℕ)) (words : ℕ) (style : Style) (end : End) (text : List ℕ) (tape : TapeValue) (odt : Machine) (world last : Scene) (waiting start told shown : List ℕ)
+    → BeginsWithTape input text tape → odt ≡ machine_of style (replicate words 0) → waiting ≡ [] → world ≡ opened odt (begun (plan_of tape) 0 false dialogue_patience) waiting
+    → LeadsClean world last end → WritesSome before between → start ≡ [] → told ≡ start ++ report last → shown ≡ told → Appends between now shown → IsDialogue input before now words style end
+dialogue_made input before between now words style end text tape odt world last waiting start told shown begins odt_is waits world_is leads front none told_is shown_is written =
+    let opens : world ≡ dialogue_opening tape words style = world_is ∙ ap (λ m. opened m (begun (plan_of tape) 0 false dialogue_patience) waiting) odt_is
+    ∙ ap (λ ws. opened (machine_of style (replicate words 0)) (begun (plan_of tape) 0 false dialogue_patience) ws) waits in
+    let all : shown ≡ report last = shown_is ∙ told_is ∙ ap (λ s. s ++ report last) none in
+    record {
+      text = text;
+      tape = tape;
+      begins = begins;
+      last = last;
+      leads = subst (λ w. LeadsClean w last end) opens leads;
+      front = front.0;
+      written = Appends-trans before between now front.0 (report last) front.1 (subst (Appends between now) all written);
+    }

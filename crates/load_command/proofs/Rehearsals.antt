@@ -1,11 +1,23 @@
 -- What a script's input says, by the bytes that were taken of it.
-use Rattle.std.proofs.Common.{◌≡◌, ℕ, ◌+◌, ◌<◌, ◌≤◌, ◌⊎◌, inl, inr, ⊎_elim, List, [], ◌++◌, length, Option, Some, None, arith, ap, sym, refl, ◌∙◌, subst, append-nil}
+use Rattle.std.proofs.Common.{◌≡◌, ℕ, ◌+◌, ◌<◌, ◌≤◌, ◌⊎◌, inl, inr, ⊎_elim, List, [], ◌++◌, length, Option, Some, None, [], replicate, false, arith, ap, sym, refl, ◌∙◌, subst, append-nil}
 use Rattle.std.specs.Io.KnownBytes.{Consumes, IsAtEnd, Keeps}
-use Rattle.std.proofs.lemmas.List.{length-append}
+use Rattle.std.proofs.lemmas.List.{length-append, length-replicate}
+use Rattle.tape_blocks.specs.Tape.{TapeValue}
+use Rattle.tape_image.specs.Plan.{plan_of}
+use Rattle.odt_machine.specs.declared.style.Style.{Style}
+use Rattle.odt_machine.specs.Style.{style_number}
+use Rattle.odt_machine.specs.Machine.{Machine}
+use Rattle.host_core.specs.Core.{begun}
+use Rattle.line_world.specs.Scene.{Scene}
+use Rattle.line_world.specs.Opening.{opened}
+use Rattle.load_command.specs.declared.script.PutLine.{PutLine}
+use Rattle.load_command.specs.declared.script.StepLine.{StepLine}
+use Rattle.load_command.specs.Played.{Played, not_possible_lines}
+use Rattle.load_command.specs.Report.{report}
 use Rattle.load_command.specs.Input.{IsTaken}
 use Rattle.load_command.specs.TapeFile.{IsInput, input_limit}
 use Rattle.load_command.specs.Script.{IsScript, IsRefusedScript, IsRefusedLine}
-use Rattle.load_command.specs.Rehearsal.{IsScriptInput, IsPlayFault, IsRehearseFault}
+use Rattle.load_command.specs.Rehearsal.{IsScriptInput, IsPlayFault, IsRehearseFault, IsRehearsal, AllLie, after_puts, machine_of, opening}
 use Rattle.load_command.specs.declared.fault.CommandFault.{CommandFault}
 use Rattle.load_command.specs.declared.fault.CommandFault.TheVariants as fault
 use Rattle.load_command.specs.declared.script.Script.{Script}
@@ -44,3 +56,39 @@ play_fault tape script out played fault.ReadTape is keeps refused = absurd refus
 play_fault tape script out played fault.ReadScript is keeps refused = absurd refused
 play_fault tape script out played fault.ReadKeys is keeps refused = absurd refused
 play_fault tape script out played fault.Write is keeps refused = absurd refused
+
+-- a machine after puts
+abbrev machine_with : Machine → List PutLine → Machine
+machine_with m puts = record m { memory = after_puts m.memory puts }
+
+-- the machine after the puts
+put_is : (style : Style) (size : ℕ) (odt put : Machine) (puts all : List PutLine) → odt ≡ machine_of style (replicate size 0) → puts ≡ all
+    → put ≡ record odt { memory = after_puts odt.memory puts } → put ≡ machine_of style (after_puts (replicate size 0) all)
+put_is style size odt put puts all odt_is puts_are is =
+    is ∙ ap (λ (m : Machine). machine_with m puts) odt_is ∙ ap (λ ps. machine_of style (after_puts (replicate size 0) ps)) puts_are
+
+size_is : (style : Style) (size : ℕ) (odt : Machine) → odt ≡ machine_of style (replicate size 0) → length odt.memory ≡ size
+size_is style size odt is = ap (λ (m : Machine). length m.memory) is ∙ length-replicate size 0
+
+lie_is : (m n : ℕ) (puts all : List PutLine) → m ≡ n → puts ≡ all → AllLie m puts → AllLie n all
+lie_is m n puts all same puts_are lie = subst (λ k. AllLie k all) same (subst (AllLie m) puts_are lie)
+
+-- a rehearsal from its parts
+pub rehearsal_made : (tape : TapeValue) (script : Script) (style : Style) (odt put : Machine) (world last : Scene) (puts : List PutLine) (steps : List StepLine) (waiting start told text : List ℕ)
+    → style_number style ≡ script.style → odt ≡ machine_of style (replicate script.words 0) → puts ≡ script.puts.items
+    → put ≡ record odt { memory = after_puts odt.memory puts } → AllLie (length odt.memory) puts → waiting ≡ script.waiting
+    → world ≡ opened put (begun (plan_of tape) 0 false script.patience) waiting → steps ≡ script.steps.items → start ≡ []
+    → (numbers : List ℕ) × Played world steps last numbers × (told ≡ start ++ not_possible_lines numbers) → text ≡ told ++ report last → IsRehearsal tape script text
+rehearsal_made tape script style odt put world last puts steps waiting start told text style_is odt_is puts_are is lie waits world_is steps_are none played text_is =
+    let machine = put_is style script.words odt put puts script.puts.items odt_is puts_are is in
+    let opens : world ≡ opening tape script style = world_is ∙ ap (λ m. opened m (begun (plan_of tape) 0 false script.patience) waiting) machine
+    ∙ ap (λ ws. opened (machine_of style (after_puts (replicate script.words 0) script.puts.items)) (begun (plan_of tape) 0 false script.patience) ws) waits in
+    record {
+      style = style;
+      style_is = style_is;
+      lie = lie_is (length odt.memory) script.words puts script.puts.items (size_is style script.words odt odt_is) puts_are lie;
+      last = last;
+      numbers = played.0;
+      played = subst (λ w. Played w script.steps.items last played.0) opens (subst (λ ls. Played world ls last played.0) steps_are played.1);
+      told = text_is ∙ ap (λ t. t ++ report last) (played.2 ∙ ap (λ s. s ++ not_possible_lines played.0) none);
+    }

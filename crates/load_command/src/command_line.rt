@@ -12,6 +12,10 @@ pub enum Request<'a> {
     CheckInput,
     /// Check the tape in a file.
     Check(&'a str),
+    /// Show the load of a tape into a simulated console.
+    Dialogue(&'a str, Console),
+    /// Rehearse, with the tape in the first file, the script in the second.
+    Rehearse(&'a str, &'a str),
     /// Type standard input into a simulated console.
     Type(Console),
 }
@@ -26,6 +30,8 @@ pub struct Console {
 }
 
 const TAPE: &str = "TAPE";
+
+const SCRIPT: &str = "SCRIPT";
 
 const WORDS: &str = "words";
 
@@ -49,6 +55,10 @@ pub fn parse<'a>(alloc: Global, words: &'a [String]) -> Result<Request<'a>, Erro
     let matches = ldaodt(alloc)?.try_get_matches_from(words)?;
     Ok(match matches.subcommand() {
         Some(("check", found)) => Request::Check(text_of(found, TAPE)),
+        Some(("dialogue", found)) => Request::Dialogue(text_of(found, TAPE), console_of(found)),
+        Some(("rehearse", found)) => {
+            Request::Rehearse(text_of(found, TAPE), text_of(found, SCRIPT))
+        }
         Some(("type", found)) => Request::Type(console_of(found)),
         // One of the subcommands above is required, so this is no words.
         _ => Request::CheckInput,
@@ -79,6 +89,8 @@ fn ldaodt<'a>(alloc: Global) -> Result<Command<'a>, AllocError> {
         .after_help("With no command the tape on standard input is checked.")
         .subcommand_required(true)
         .subcommand(check_command(alloc)?)?
+        .subcommand(dialogue_command(alloc)?)?
+        .subcommand(rehearse_command(alloc)?)?
         .subcommand(type_command(alloc)?)
 }
 
@@ -86,6 +98,21 @@ fn check_command<'a>(alloc: Global) -> Result<Command<'a>, AllocError> {
     Command::new(alloc, "check")
         .about("Checks a tape and lists its words")
         .arg(tape_argument(alloc))
+}
+
+fn dialogue_command<'a>(alloc: Global) -> Result<Command<'a>, AllocError> {
+    Command::new(alloc, "dialogue")
+        .about("Loads a tape into a simulated zeroed machine and shows all that passes")
+        .arg(tape_argument(alloc))?
+        .arg(words_option(alloc))?
+        .arg(style_option(alloc))
+}
+
+fn rehearse_command<'a>(alloc: Global) -> Result<Command<'a>, AllocError> {
+    Command::new(alloc, "rehearse")
+        .about("Rehearses a script of what the line loses")
+        .arg(tape_argument(alloc))?
+        .arg(script_argument(alloc))
 }
 
 fn type_command<'a>(alloc: Global) -> Result<Command<'a>, AllocError> {
@@ -97,6 +124,12 @@ fn type_command<'a>(alloc: Global) -> Result<Command<'a>, AllocError> {
 
 fn tape_argument<'a>(alloc: Global) -> Arg<'a> {
     Arg::new(alloc, TAPE).required(true).help("The tape's file")
+}
+
+fn script_argument<'a>(alloc: Global) -> Arg<'a> {
+    Arg::new(alloc, SCRIPT)
+        .required(true)
+        .help("The script's file")
 }
 
 fn words_option<'a>(alloc: Global) -> Arg<'a> {

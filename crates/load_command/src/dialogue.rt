@@ -84,3 +84,6 @@ fn turn<W: Write>(
         None => Ok(()),
     }
 }
+
+#[cfg(test)]
+mod tests;

@@ -37,10 +37,10 @@ pub fn open(
     let Ok(core) = HostCore::new(plan, nothing, patience) else {
         unreachable!()
     };
-    match World::new(odt, core, waiting) {
-        Ok(world) => Ok(world),
-        Err(_) => Err(CommandFault::Memory),
-    }
+    let Ok(world) = World::new(odt, core, waiting) else {
+        unreachable!()
+    };
+    Ok(world)
 }
 
 /// A zeroed machine. `TooLarge` exactly above 28,672 words, else `Memory`.

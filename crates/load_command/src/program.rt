@@ -7,8 +7,10 @@ ghost use Rattle.load_command.specs.Failure.{status_of, IsCheckFailure};
 
 use crate::check::check_to;
 use crate::command_line::{Console, Request, parse};
+use crate::dialogue::dialogue_to;
 use crate::failure::{Failure, STANDARD_INPUT};
 use crate::fault::CommandFault;
+use crate::rehearse::rehearse_to;
 use crate::status::Status;
 use crate::type_keys::type_to;
 use clap::Error;
@@ -104,6 +106,18 @@ fn perform<'a, F: Files, R: Read, W: Write>(
             let mut file = open(rt, tape)?;
             check(alloc, tape, &mut file, out)?
         }
+        Request::Dialogue(tape, console) => {
+            let mut file = open(rt, tape)?;
+            dialogue(alloc, tape, &mut file, console, out)?
+        }
+        Request::Rehearse(tape, script) => {
+            let mut tape_file = open(rt, tape)?;
+            let mut script_file = open(rt, script)?;
+            match rehearse_to(alloc, &mut tape_file, &mut script_file, out) {
+                Ok(()) => Status::Done,
+                Err(fault) => return Err(Failure::of(fault, tape, script)),
+            }
+        }
         Request::Type(console) => type_input(alloc, console, input, out)?,
     };
     if out.flush().is_err() {
@@ -131,6 +145,19 @@ fn check<'a, R: Read, W: Write>(
 {
     match check_to(alloc, tape, out) {
         Ok(()) => Ok(Status::Done),
+        Err(fault) => Err(Failure::of(fault, name, name)),
+    }
+}
+
+fn dialogue<'a, R: Read, W: Write>(
+    alloc: Global,
+    name: &'a str,
+    tape: &mut R,
+    console: Console,
+    out: &mut W,
+) -> Result<Status, Failure<'a>> {
+    match dialogue_to(alloc, tape, console.words, console.style, out) {
+        Ok(end) => Ok(Status::of_end(end)),
         Err(fault) => Err(Failure::of(fault, name, name)),
     }
 }

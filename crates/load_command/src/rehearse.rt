@@ -83,3 +83,6 @@ fn rehearsal(alloc: Global, tape: &Tape, script: &Script) -> Result<Vec<u8>, Com
     put_report(&mut text, &world)?;
     Ok(text)
 }
+
+#[cfg(test)]
+mod tests;

@@ -239,3 +239,6 @@ pub fn read_script(alloc: Global, text: &[u8]) -> Result<Script, ScriptError>
     }
     Ok(draft.finish())
 }
+
+#[cfg(test)]
+mod tests;

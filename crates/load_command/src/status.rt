@@ -1,3 +1,5 @@
+use host_core::End;
+
 /// How the program ended, as its exit status says.
 #[derive(Clone, Copy, Debug, PartialEq, Eq)]
 pub enum Status {
@@ -19,7 +21,18 @@ pub enum Status {
 
 impl Status {
     ghost use Rattle.std.specs.Prelude.{◌≡◌};
-    ghost use Rattle.load_command.specs.Status.{status_code};
+    ghost use Rattle.load_command.specs.Status.{status_code, end_status};
+
+    /// The status after a load that ended so.
+    pub fn of_end(end: End) -> Status
+        ensures { result ≡ end_status end }
+    {
+        match end {
+            End::Loaded | End::Started => Status::Done,
+            End::GaveUp | End::NoWord(_) | End::WontHold(_) => Status::NotLoaded,
+            End::Uncertain | End::MaybeStarted => Status::Uncertain,
+        }
+    }
 
     /// The number that the process ends with.
     pub fn code(self) -> u8

@@ -1,0 +1,202 @@
+use super::*;
+use crate::devices::{BrokenInput, BrokenOutput};
+use std::test::Fail;
+
+/// The smallest tape with a word: 011064 at 001000, where it starts.
+const ONE_WORD: [u8; 16] = [
+    0x01, 0x00, 0x08, 0x00, 0x00, 0x02, 0x34, 0x12, 0xAF, 0x01, 0x00, 0x06, 0x00, 0x00, 0x02, 0xF7,
+];
+
+/// A tape with nothing to load and nothing to start.
+const NOTHING: [u8; 7] = [0x01, 0x00, 0x06, 0x00, 0x01, 0x00, 0xF8];
+
+/// A tape with the high byte of the word at 001000, and no start.
+const HIGH_BYTE: [u8; 15] = [
+    0x01, 0x00, 0x07, 0x00, 0x01, 0x02, 0x55, 0xA0, 0x01, 0x00, 0x06, 0x00, 0x01, 0x00, 0xF8,
+];
+
+/// Characters of an earlier session wait, and look like echoes.
+const STALE: &str =
+    "wait 78 3F 0D 0A 40 30 30 31\nhear\ndown 0\nhear 4\ndown 0\nhear\ndown 0\nhear\ndown 0\nhear\nclean\n";
+
+/// The stories of what a line can lose: the tape, the script, and what must be printed.
+const STORIES: [(&str, &[u8], &str, &str); 10] = [
+    (
+        "the third digit is lost",
+        &ONE_WORD,
+        "to 4\ndown 0\nquiet\nclean\n",
+        "sent 34 lost 1 spent 1 verified 1 of 1\nend Started\nodt Running 001000\n001000 011064 stands\n",
+    ),
+    (
+        "the prompt after the deposit is lost",
+        &ONE_WORD,
+        "to 15\ntake\nup 2\nhear 2\nquiet\nclean\n",
+        "sent 31 lost 1 spent 1 verified 1 of 1\nend Started\nodt Running 001000\n001000 011064 stands\n",
+    ),
+    (
+        "the start's key is lost",
+        &ONE_WORD,
+        "to 30\ndown 0\nquiet\n",
+        "sent 30 lost 1 spent 0 verified 1 of 1\nend Uncertain\nodt Number 001000 6\n001000 011064 stands\n",
+    ),
+    (
+        "there is nothing to load",
+        &NOTHING,
+        "clean",
+        "sent 0 lost 0 spent 0 verified 0 of 0\nend Loaded\nodt Prompt\n",
+    ),
+    (
+        "the tape has one byte of a word",
+        &HIGH_BYTE,
+        "put 001000 125252\nclean\n",
+        "sent 23 lost 0 spent 0 verified 1 of 1\nend Loaded\nodt Prompt\n001000 052652 stands\n",
+    ),
+    (
+        "the machine has no memory there",
+        &ONE_WORD,
+        "words 256\nclean\n",
+        "sent 8 lost 0 spent 0 verified 0 of 1\nend NoWord 001000\nodt Prompt\n001000 ------ absent\n",
+    ),
+    (
+        "an echo is lost and nothing may go wrong",
+        &ONE_WORD,
+        "patience 0\nto 2\ntake\nup 0\nquiet\n",
+        "sent 2 lost 1 spent 0 verified 0 of 1\nend GaveUp\nodt Number 000000 1\n001000 000000 differs\n",
+    ),
+    (
+        "an echo is lost and one thing may go wrong",
+        &ONE_WORD,
+        "patience 1\nto 2\ntake\nup 0\nquiet\nclean\n",
+        "sent 32 lost 1 spent 1 verified 1 of 1\nend Started\nodt Running 001000\n001000 011064 stands\n",
+    ),
+    (
+        "stale characters look like echoes",
+        &ONE_WORD,
+        STALE,
+        "line 3: not possible\nline 5: not possible\nline 7: not possible\nline 9: not possible\nsent 30 lost 0 spent 0 verified 1 of 1\nend Started\nodt Running 001000\n001000 011064 stands\n",
+    ),
+    (
+        "no event happens",
+        &ONE_WORD,
+        "# nothing\r\n",
+        "sent 0 lost 0 spent 0 verified 0 of 1\nend none\nodt Prompt\n001000 000000 differs\n",
+    ),
+];
+
+#[test]
+fn stories_of_losses(rt: HostRuntime) -> Result<(), Fail> {
+    for (story, tape, script, expected) in STORIES {
+        let (mut tape, mut script) = (tape, script.as_bytes());
+        let mut out = Vec::new(rt.alloc());
+        let done = rehearse_to(rt.alloc(), &mut tape, &mut script, &mut out);
+        assert_eq!(rt; done, Ok(()), "{story}");
+        assert!(rt; out.as_slice() == expected.as_bytes(), "{story}");
+    }
+    Ok(())
+}
+
+/// Scripts that are refused, with the line and the reason. The tape and the form of each line come first.
+const REFUSED: [(&str, u32, &str); 7] = [
+    ("put 001001 000000\n", 1, "an odd address"),
+    (
+        "words 0\nput 000000 000000\n",
+        2,
+        "past a memory of no words",
+    ),
+    (
+        "put 000000 000000\nwords 0\n",
+        1,
+        "the size may stand after the put",
+    ),
+    (
+        "put 000776 000001\nput 001000 000001\nwords 256\n",
+        2,
+        "the first put past memory",
+    ),
+    ("put 001001 000000\ntak\n", 2, "a form before a put"),
+    ("take\nwords 1\n", 2, "a setup line after an event line"),
+    ("restart 1\n", 1, "no form"),
+];
+
+#[test]
+fn refused_scripts_print_nothing(rt: HostRuntime) {
+    for (script, line, reason) in REFUSED {
+        let (mut tape, mut script) = (ONE_WORD.as_slice(), script.as_bytes());
+        let mut out = Vec::new(rt.alloc());
+        let done = rehearse_to(rt.alloc(), &mut tape, &mut script, &mut out);
+        assert_eq!(rt; done, Err(CommandFault::Script(line)), "{reason}");
+        assert!(rt; out.is_empty(), "{reason}");
+    }
+}
+
+#[test]
+fn a_script_that_is_too_long(rt: HostRuntime) -> Result<(), Fail> {
+    let text = vec![in rt.alloc(); b'\n'; SCRIPT_LIMIT + 9]?;
+    let (mut tape, mut script) = (ONE_WORD.as_slice(), text.as_slice());
+    let mut out = Vec::new(rt.alloc());
+    let done = rehearse_to(rt.alloc(), &mut tape, &mut script, &mut out);
+    assert_eq!(rt; done, Err(CommandFault::Script(0)));
+    assert!(rt; out.is_empty());
+    assert_eq!(rt;
+        script.len(),
+        8,
+        "what stands behind 1,048,577 bytes is not taken"
+    );
+    Ok(())
+}
+
+#[test]
+fn a_script_cut_at_each_byte(rt: HostRuntime) {
+    for length in 0..STALE.len() {
+        let (mut tape, mut script) = (ONE_WORD.as_slice(), &STALE.as_bytes()[..length]);
+        let mut out = Vec::new(rt.alloc());
+        let done = rehearse_to(rt.alloc(), &mut tape, &mut script, &mut out);
+        let told = match done {
+            Ok(()) => !out.is_empty(),
+            Err(CommandFault::Script(line)) => out.is_empty() && 1 <= line && line <= 11,
+            Err(_) => false,
+        };
+        assert!(rt; told, "the first {length} bytes");
+    }
+}
+
+#[test]
+fn a_device_fails_once(rt: HostRuntime) -> Result<(), Fail> {
+    let (story, bytes, text, expected) = STORIES[8];
+    for place in 0..bytes.len() {
+        let mut tape = BrokenInput::new(bytes, place);
+        let mut script = text.as_bytes();
+        let mut out = Vec::new(rt.alloc());
+        let done = rehearse_to(rt.alloc(), &mut tape, &mut script, &mut out);
+        assert_eq!(rt;
+            (done, out.len()),
+            (Err(CommandFault::ReadTape), 0),
+            "{story}"
+        );
+        assert_eq!(rt; (tape.failures, tape.later_reads), (1, 0), "{story}");
+    }
+    for place in 0..=text.len() {
+        let mut tape = bytes;
+        let mut script = BrokenInput::new(text.as_bytes(), place);
+        let mut out = Vec::new(rt.alloc());
+        let done = rehearse_to(rt.alloc(), &mut tape, &mut script, &mut out);
+        assert_eq!(rt;
+            (done, out.len()),
+            (Err(CommandFault::ReadScript), 0),
+            "{story}"
+        );
+        assert_eq!(rt; (script.failures, script.later_reads), (1, 0), "{story}");
+    }
+    for place in 1..=expected.len().div_ceil(7) as u32 {
+        let (mut tape, mut script) = (bytes, text.as_bytes());
+        let mut out = BrokenOutput::new(Vec::new(rt.alloc()), place);
+        let done = rehearse_to(rt.alloc(), &mut tape, &mut script, &mut out);
+        assert_eq!(rt; done, Err(CommandFault::Write), "write {place}");
+        assert_eq!(rt; (out.failures, out.later_writes), (1, 0), "write {place}");
+        assert!(rt;
+            expected.as_bytes().starts_with(&out.written),
+            "write {place}"
+        );
+    }
+    Ok(())
+}

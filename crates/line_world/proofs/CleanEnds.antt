@@ -86,11 +86,11 @@ marked_move core Silence past none = marked_waits core core.phase past none
 
 no_maybe : (core : Core) (heard : Heard) → IsHost core → NoMaybe core.phase → NoMaybe (move core heard).next.phase
 no_maybe core heard h none = elim core.going as (λ v. core.going ≡ v → NoMaybe (move core heard).next.phase) [
-    | true ↦ λ e. marked_move core heard (past_mark core h.mark e) none
-    | false ↦ λ e over.
-        let going : (move core heard).next.going ≡ true = subst (λ p. PhaseFits p (basis_of (move core heard).next)) over (kept core heard h).fits in
-        apart (move core heard).next.phase over (mark_goes core (turn_of core heard) e going)
-  ] refl
+  | true ↦ λ e. marked_move core heard (past_mark core h.mark e) none
+  | false ↦ λ e over.
+      let going : (move core heard).next.going ≡ true = subst (λ p. PhaseFits p (basis_of (move core heard).next)) over (kept core heard h).fits in
+      apart (move core heard).next.phase over (mark_goes core (turn_of core heard) e going)
+] refl
   where
     apart : (phase : Phase) → phase ≡ Ended MaybeStarted → phase ≡ Go → ⊥
     apart phase e f = cc
@@ -221,7 +221,7 @@ whole_ends : (w now : Scene) (end : End) → Ending w now end → AllStand now �
 whole_ends w now end e stand is = record {
   end_is = is ∙ ap (λ (p : PlanValue). full_end p.start) e.steps.plan;
   overlay = subst (λ (p : PlanValue). IsOverlay w.machine.memory p.image now.machine.memory) e.steps.plan
-    (all_overlay w.machine.memory now e.kept.host.image stand (subst (λ (p : PlanValue). OnlyImage w.machine.memory p.image now.machine.memory) (sym e.steps.plan) e.steps.bytes));
+      (all_overlay w.machine.memory now e.kept.host.image stand (subst (λ (p : PlanValue). OnlyImage w.machine.memory p.image now.machine.memory) (sym e.steps.plan) e.steps.bytes));
   spent = let spent = e.kept.spent in let lost = e.lost in omega arith;
 }
 
@@ -248,8 +248,8 @@ clean_missing w events end o k run is i inside past before =
       | inl whole ↦ absurd (past (sym (lies_same w now i e.steps) ∙ (whole.1 i (omega arith)).0))
       | inr missing ↦
           let at : now.core.verified ≡ i = place now.core.verified i
-            (λ less. missing.2 (lies_same w now now.core.verified e.steps ∙ before now.core.verified less))
-            (λ more. past (sym (lies_same w now i e.steps) ∙ (e.kept.words i (standing_below now.core.going now.core.verified (length now.core.plan.words) i e.kept.host.within more)).0)) in
+          (λ less. missing.2 (lies_same w now now.core.verified e.steps ∙ before now.core.verified less))
+          (λ more. past (sym (lies_same w now i e.steps) ∙ (e.kept.words i (standing_below now.core.going now.core.verified (length now.core.plan.words) i e.kept.host.within more)).0)) in
           record {
             end_is = missing.0 ∙ ap (λ (p : PlanValue). NoWord (word_nr p.words now.core.verified).address) e.steps.plan ∙ ap (λ (j : ℕ). NoWord (word_nr w.core.plan.words j).address) at;
             verified = at;

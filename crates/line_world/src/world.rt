@@ -90,6 +90,7 @@ impl World {
         ensures next { event ≡ first_event self.old → result ≡ true }
         ensures work { event ≡ first_event self.old → ended self.old.core.phase ≡ None → work_left self.new < work_left self.old }
     {
+        // A field's use, so that the invariant is known here.
         let _ = &self.lost;
         self.happen(event)
     }
@@ -115,6 +116,7 @@ impl World {
             return false;
         };
         let answer = self.odt.take(key);
+        // It has room: no answer waits where a key is under way.
         let _ = self.up.try_extend_from_slice(answer.as_slice());
         true
     }
@@ -176,6 +178,7 @@ impl World {
         ensures short { length self.old.up ≤ 9 → length self.new.up ≤ 9 }
         ensures silent { had_timeout self.old events.now ≡ true → length self.new.up ≤ 9 }
     {
+        // A field's use, so that the invariant is known here.
         let _ = &self.lost;
         self.happen_in_turn(events)
     }
@@ -201,6 +204,7 @@ impl World {
         ensures since { (earlier : List ℕ) → IsSafe earlier self.old → IsSafe earlier self.new }
         ensures tame { IsTame self.new }
     {
+        // A field's use, so that the invariant is known here.
         let _ = &self.lost;
         self.run_to_end()
     }

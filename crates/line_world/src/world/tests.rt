@@ -1,9 +1,9 @@
 use super::*;
 use host_core::{BadProgress, Progress};
-use odt_machine::Style;
+use odt_machine::{LARGEST_WORDS, Style};
 use std::alloc::Global;
 use std::test::Fail;
-use tape_blocks::{read_tape, Block, Tape};
+use tape_blocks::{Block, Tape, read_tape};
 use tape_image::Plan;
 
 /// A tape of one block, the word 011064 at 001000, that starts at 001000.
@@ -42,8 +42,6 @@ const FULL: Style = Style {
     echo_illegal: true,
 };
 
-const LARGEST: u16 = 28672;
-
 fn host_of(plan: Plan, verified: u32) -> Result<HostCore, BadProgress> {
     let progress = Progress {
         verified,
@@ -67,24 +65,60 @@ fn world_of(odt: Odt, core: HostCore, waiting: &[u8]) -> Result<World, Setup> {
     }
 }
 
-/// How many characters wait, the machine's mode, the verified words; the refusal; and why the row
-/// is here. The tape has one word.
-const OPENINGS: [(usize, Mode, u32, Option<Setup>, &str); 7] = [
-    (0, Mode::Prompt, 0, None, "nothing waits"),
-    (32, Mode::Typing(0o1000, 5, 3), 0, None, "32 characters, in the middle of a deposit"),
-    (33, Mode::Prompt, 0, Some(Setup::TooMuchWaiting), "a character too many"),
-    (0, Mode::Running(0o1000), 0, Some(Setup::Running), "a program runs"),
-    (0, Mode::Prompt, 1, Some(Setup::NotFresh), "a word is verified already"),
-    (33, Mode::Running(0o1000), 1, Some(Setup::TooMuchWaiting), "what waits is judged first"),
-    (0, Mode::Running(0o1000), 1, Some(Setup::Running), "the machine is judged before the host"),
+/// What waits, the machine's mode, the verified words; the refusal; and why the row is here. The
+/// tape has one word.
+const OPENINGS: [(&[u8], Mode, u32, Option<Setup>, &str); 7] = [
+    (&[], Mode::Prompt, 0, None, "nothing waits"),
+    (
+        &[b'@'; 32],
+        Mode::Typing(0o1000, 5, 3),
+        0,
+        None,
+        "32 characters, in the middle of a deposit",
+    ),
+    (
+        &[b'@'; 33],
+        Mode::Prompt,
+        0,
+        Some(Setup::TooMuchWaiting),
+        "a character too many",
+    ),
+    (
+        &[],
+        Mode::Running(0o1000),
+        0,
+        Some(Setup::Running),
+        "a program runs",
+    ),
+    (
+        &[],
+        Mode::Prompt,
+        1,
+        Some(Setup::NotFresh),
+        "a word is verified already",
+    ),
+    (
+        &[b'@'; 33],
+        Mode::Running(0o1000),
+        1,
+        Some(Setup::TooMuchWaiting),
+        "what waits is judged first",
+    ),
+    (
+        &[],
+        Mode::Running(0o1000),
+        1,
+        Some(Setup::Running),
+        "the machine is judged before the host",
+    ),
 ];
 
 #[test]
 fn what_a_world_begins_with(rt: HostRuntime) -> Result<(), Fail> {
     for (waiting, mode, verified, refusal, reason) in OPENINGS {
-        let odt = Odt::new(rt.alloc(), LARGEST, PLAIN)?.with_mode(mode)?;
+        let odt = Odt::new(rt.alloc(), LARGEST_WORDS, PLAIN)?.with_mode(mode)?;
         let core = host_of(plan_of(rt.alloc(), &ONE_WORD)?, verified)?;
-        let made = world_of(odt, core, &[b'@'; 40][..waiting]);
+        let made = world_of(odt, core, waiting);
         assert_eq!(rt; made.err(), refusal, "{reason}");
     }
     Ok(())
@@ -92,16 +126,116 @@ fn what_a_world_begins_with(rt: HostRuntime) -> Result<(), Fail> {
 
 /// A tape, the machine's words and style, and a word put into it; then the keys, the end, the mode
 /// and the word at 001000; and why the row is here.
-const CLEAN_LINES: [(&[u8], u16, Style, Option<u16>, u64, End, Mode, Option<u16>, &str); 9] = [
-    (&ONE_WORD, LARGEST, PLAIN, None, 30, End::Started, Mode::Running(0o1000), Some(0o11064), "a word is deposited, read back and started"),
-    (&ONE_WORD, LARGEST, FULL, None, 30, End::Started, Mode::Running(0o1000), Some(0o11064), "a style changes no key"),
-    (&ONE_WORD, LARGEST, PLAIN, Some(0o11064), 16, End::Started, Mode::Running(0o1000), Some(0o11064), "a machine that holds the tape is only looked at"),
-    (&ONE_WORD, 256, PLAIN, None, 8, End::NoWord(0o1000), Mode::Prompt, None, "the word lies past 256 words"),
-    (&OVERLAP, LARGEST, PLAIN, None, 52, End::Started, Mode::Running(0o1000), Some(0o31421), "the later block wins where two overlap"),
-    (&HIGH_BYTE, LARGEST, PLAIN, Some(0o125252), 23, End::Loaded, Mode::Prompt, Some(0o52652), "the other half of an edge byte stays"),
-    (&HIGH_BYTE, LARGEST, PLAIN, Some(0o52652), 9, End::Loaded, Mode::Prompt, Some(0o52652), "an edge byte that stands is only looked at"),
-    (&NOTHING, LARGEST, PLAIN, None, 0, End::Loaded, Mode::Prompt, Some(0), "nothing to load"),
-    (&START_ALONE, 0, PLAIN, None, 8, End::Started, Mode::Running(0o1000), None, "a start and no words, on a machine without memory"),
+const CLEAN_LINES: [(
+    &[u8],
+    u16,
+    Style,
+    Option<u16>,
+    u64,
+    End,
+    Mode,
+    Option<u16>,
+    &str,
+); 9] = [
+    (
+        &ONE_WORD,
+        LARGEST_WORDS,
+        PLAIN,
+        None,
+        30,
+        End::Started,
+        Mode::Running(0o1000),
+        Some(0o11064),
+        "a word is deposited, read back and started",
+    ),
+    (
+        &ONE_WORD,
+        LARGEST_WORDS,
+        FULL,
+        None,
+        30,
+        End::Started,
+        Mode::Running(0o1000),
+        Some(0o11064),
+        "a style changes no key",
+    ),
+    (
+        &ONE_WORD,
+        LARGEST_WORDS,
+        PLAIN,
+        Some(0o11064),
+        16,
+        End::Started,
+        Mode::Running(0o1000),
+        Some(0o11064),
+        "a machine that holds the tape is only looked at",
+    ),
+    (
+        &ONE_WORD,
+        256,
+        PLAIN,
+        None,
+        8,
+        End::NoWord(0o1000),
+        Mode::Prompt,
+        None,
+        "the word lies past 256 words",
+    ),
+    (
+        &OVERLAP,
+        LARGEST_WORDS,
+        PLAIN,
+        None,
+        52,
+        End::Started,
+        Mode::Running(0o1000),
+        Some(0o31421),
+        "the later block wins where two overlap",
+    ),
+    (
+        &HIGH_BYTE,
+        LARGEST_WORDS,
+        PLAIN,
+        Some(0o125252),
+        23,
+        End::Loaded,
+        Mode::Prompt,
+        Some(0o52652),
+        "the other half of an edge byte stays",
+    ),
+    (
+        &HIGH_BYTE,
+        LARGEST_WORDS,
+        PLAIN,
+        Some(0o52652),
+        9,
+        End::Loaded,
+        Mode::Prompt,
+        Some(0o52652),
+        "an edge byte that stands is only looked at",
+    ),
+    (
+        &NOTHING,
+        LARGEST_WORDS,
+        PLAIN,
+        None,
+        0,
+        End::Loaded,
+        Mode::Prompt,
+        Some(0),
+        "nothing to load",
+    ),
+    (
+        &START_ALONE,
+        0,
+        PLAIN,
+        None,
+        8,
+        End::Started,
+        Mode::Running(0o1000),
+        None,
+        "a start and no words, on a machine without memory",
+    ),
 ];
 
 #[test]
@@ -117,21 +251,36 @@ fn what_a_clean_line_types(rt: HostRuntime) -> Result<(), Fail> {
         assert_eq!(rt; world.core().spent(), 0, "{reason}");
         assert_eq!(rt; world.odt().mode(), mode, "{reason}");
         assert_eq!(rt; world.odt().peek(0o1000), after, "{reason}");
-        assert_eq!(rt; world.run_clean(), end, "a life that is over stays over: {reason}");
+        assert_eq!(rt;
+            world.run_clean(),
+            end,
+            "a life that is over stays over: {reason}"
+        );
     }
     Ok(())
 }
 
 #[test]
 fn an_impossible_event_changes_nothing(rt: HostRuntime) -> Result<(), Fail> {
-    let odt = Odt::new(rt.alloc(), LARGEST, PLAIN)?;
+    let odt = Odt::new(rt.alloc(), LARGEST_WORDS, PLAIN)?;
     let mut world = world_of(odt, host_of(plan_of(rt.alloc(), &ONE_WORD)?, 0)?, b"@")?;
     assert_eq!(rt; world.next_event(), Event::Hear);
-    for event in [Event::Take, Event::Quiet, Event::LoseDown(0), Event::LoseUp(1)] {
+    for event in [
+        Event::Take,
+        Event::Quiet,
+        Event::LoseDown(0),
+        Event::LoseUp(1),
+    ] {
         assert!(rt; !world.apply(event));
         assert_eq!(rt; world.up(), b"@".as_slice());
     }
-    let events = [Event::LoseUp(0), Event::LoseUp(0), Event::Quiet, Event::Quiet, Event::Take];
+    let events = [
+        Event::LoseUp(0),
+        Event::LoseUp(0),
+        Event::Quiet,
+        Event::Quiet,
+        Event::Take,
+    ];
     assert_eq!(rt; world.run(&events), 3);
     assert_eq!(rt; world.lost(), 1);
     assert!(rt; world.down().is_empty());
@@ -153,7 +302,11 @@ fn a_full_image(rt: HostRuntime) -> Result<(), Fail> {
         Err((_, why)) => return Err(why)?,
     };
     let plan = Plan::of(rt.alloc(), &tape)?;
-    let mut world = world_of(Odt::new(rt.alloc(), LARGEST, PLAIN)?, host_of(plan, 0)?, &[])?;
+    let mut world = world_of(
+        Odt::new(rt.alloc(), LARGEST_WORDS, PLAIN)?,
+        host_of(plan, 0)?,
+        &[],
+    )?;
     assert_eq!(rt; world.run_clean(), End::Started);
     assert_eq!(rt; world.core().sent_count(), 22 * 28672 + 1 + 7);
     Ok(())

@@ -11,7 +11,7 @@ returns-clause-run c = record {
   run = c.run_to_end.ensures;
   start = rw c.run_to_end.ensures.world (starts_events c.args.self.now c.run_to_end.ensures.events (subst IsKept c.self.view_is c.self.invariant));
   loads = λ opening. rw c.run_to_end.ensures.world
-  (loads_clean c.args.self.now c.run_to_end.ensures.events c.run_to_end.result opening (subst IsKept c.self.view_is c.self.invariant) c.run_to_end.ensures.clean (rw c.run_to_end.ensures.world at c.run_to_end.ensures.end_is));
+      (loads_clean c.args.self.now c.run_to_end.ensures.events c.run_to_end.result opening (subst IsKept c.self.view_is c.self.invariant) c.run_to_end.ensures.clean (rw c.run_to_end.ensures.world at c.run_to_end.ensures.end_is));
 }
 
 pub returns-clause-safe : goal.returns-clause-safe

@@ -129,9 +129,14 @@ fn refused_scripts_print_nothing(rt: HostRuntime) {
     }
 }
 
+/// So many empty lines.
+fn empty_lines(alloc: Global, count: usize) -> Result<Vec<u8>, Fail> {
+    Ok(vec![in alloc; b'\n'; count]?)
+}
+
 #[test]
 fn a_script_that_is_too_long(rt: HostRuntime) -> Result<(), Fail> {
-    let text = vec![in rt.alloc(); b'\n'; SCRIPT_LIMIT + 9]?;
+    let text = empty_lines(rt.alloc(), 1_048_585)?;
     let (mut tape, mut script) = (ONE_WORD.as_slice(), text.as_slice());
     let mut out = Vec::new(rt.alloc());
     let done = rehearse_to(rt.alloc(), &mut tape, &mut script, &mut out);

@@ -101,11 +101,7 @@ fn texts_are_read_or_refused_at_a_line(rt: HostRuntime) {
             Ok(_) => None,
             Err(error) => Some(error),
         };
-        assert_eq!(rt;
-            refused,
-            line.map(ScriptError::Refused),
-            "{reason}: {text:?}"
-        );
+        assert_eq!(rt; refused, line.map(ScriptError::Refused), "{reason}");
     }
 }
 
@@ -174,15 +170,21 @@ fn what_no_line_sets_has_its_default(rt: HostRuntime) -> Result<(), Fail> {
     Ok(())
 }
 
+/// So many empty lines.
+fn empty_lines(alloc: Global, count: usize) -> Result<Vec<u8>, Fail> {
+    Ok(vec![in alloc; b'\n'; count]?)
+}
+
 #[test]
 fn the_longest_script(rt: HostRuntime) -> Result<(), Fail> {
-    let mut text = vec![in rt.alloc(); b'\n'; SCRIPT_LIMIT]?;
-    assert!(rt;
-        read_script(rt.alloc(), &text).is_ok(),
-        "a line feed in each byte"
-    );
-    text.push(b'\n')?;
-    let refused = read_script(rt.alloc(), &text).err();
-    assert_eq!(rt; refused, Some(ScriptError::Refused(0)));
+    let rows = [
+        (1_048_576, None),
+        (1_048_577, Some(ScriptError::Refused(0))),
+    ];
+    for (length, refused) in rows {
+        let text = empty_lines(rt.alloc(), length)?;
+        let error = read_script(rt.alloc(), &text).err();
+        assert_eq!(rt; error, refused, "{length} bytes");
+    }
     Ok(())
 }

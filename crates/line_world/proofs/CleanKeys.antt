@@ -1,8 +1,8 @@
 -- On a line that loses nothing, each event types the next of the keys that are left.
-use Rattle.std.proofs.Common.{◌≡◌, ◌≢◌, ℕ, zero, suc, ◌+◌, ◌-◌, ◌*◌, ◌%◌, ◌/◌, ◌<◌, ◌≤◌, ◌⊎◌, Bool, true, false, cond, eqb, ltb, List, [], ◌∷◌, ◌++◌, length, drop, get_or, Option, Some, None, unwrap_or, inl, inr, refl, arith, ap, sym, subst, ◌∙◌, drop-cons, add-one, length-drop, get_or-drop, get_or-set_other}
+use Rattle.std.proofs.Common.{◌≡◌, ◌≢◌, ℕ, suc, ◌+◌, ◌/◌, ◌<◌, ◌≤◌, Bool, true, false, cond, eqb, ltb, List, [], ◌∷◌, ◌++◌, length, drop, Option, Some, None, unwrap_or, inl, inr, refl, arith, ap, sym, subst, ◌∙◌, drop-cons, add-one, length-drop, get_or-drop, get_or-set_other}
 use Rattle.std.proofs.lemmas.List.{drop_all}
 use Rattle.std.specs.Option.{is_none}
-use Rattle.std.specs.Prelude.{◌==◌, ◌&&◌, if◌then◌else◌, option_to_list, IsSome, slice_index}
+use Rattle.std.specs.Prelude.{◌==◌, ◌&&◌, if◌then◌else◌, option_to_list, IsSome}
 use Rattle.std.proofs.lemmas.Bool.Decides.{nat_tests}
 use Rattle.octal.specs.Octal.{digit_of, octal_text}
 use Rattle.tape_image.specs.Word.{WordValue, merged}
@@ -10,11 +10,11 @@ use Rattle.tape_image.specs.Plan.{IsPlan}
 use Rattle.tape_image.proofs.Standing.{places_apart}
 use Rattle.odt_machine.specs.Machine.{Machine, word_at, stored}
 use Rattle.odt_machine.specs.KeyTable.{Taken, take_of}
-use Rattle.host_core.specs.declared.phase.Visit.TheVariants.{Look, Check}
-use Rattle.host_core.specs.declared.phase.Reason.TheVariants.{Store, Close}
+use Rattle.host_core.specs.declared.phase.Visit.TheVariants.{Look}
+use Rattle.host_core.specs.declared.phase.Reason.TheVariants.{Store}
 use Rattle.host_core.specs.declared.phase.End.TheVariants.{Loaded}
 use Rattle.host_core.specs.declared.phase.Phase.{Phase}
-use Rattle.host_core.specs.declared.phase.Phase.TheVariants.{Settle, Sync, Address, Slash, Before, Value, Deposit, Return, Start, Go, Ended}
+use Rattle.host_core.specs.declared.phase.Phase.TheVariants.{Settle, Address, Return, Go, Ended}
 use Rattle.host_core.specs.declared.turn.Turn.{Turn}
 use Rattle.host_core.specs.declared.turn.Turn.TheVariants.{Listen, Key, Verified, ReadBack, Next, Mark, Stop, Stray, Timeout}
 use Rattle.host_core.specs.Core.{Core, word_nr, no_word, word_under_way, start_of, ended, begun}
@@ -29,7 +29,7 @@ use Rattle.line_world.specs.Pending.{Live, BrokenIsPaid, rest_of}
 use Rattle.line_world.specs.Invariant.{IsKept}
 use Rattle.line_world.specs.CleanLine.{LiesIn, IsOpening}
 use Rattle.line_world.specs.Site.{Site, site, held, wanted, Lies}
-use Rattle.line_world.specs.CleanText.{word_keys, words_keys, start_keys, clean_text}
+use Rattle.line_world.specs.CleanText.{words_keys, start_keys, clean_text}
 use Rattle.line_world.proofs.Frame.{scene, PhaseHolds, TurnFits}
 use Rattle.line_world.proofs.Silence.{fits_silence, past_mark}
 use Rattle.line_world.proofs.Sites.{plan_site}

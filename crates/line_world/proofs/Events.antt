@@ -1,32 +1,26 @@
 -- Every event keeps the invariant, and does to memory what is safe.
-use Rattle.std.proofs.Common.{◌≡◌, ◌≢◌, ℕ, ◌+◌, ◌/◌, ◌<◌, ◌≤◌, ◌⊎◌, Bool, true, false, cond, ltb, Some, None, Option, List, [], ◌∷◌, ◌++◌, length, unwrap_or, inl, inr, refl, arith, ap, sym, subst, ◌∙◌}
+use Rattle.std.proofs.Common.{◌≡◌, ℕ, ◌/◌, ◌<◌, ◌≤◌, Bool, true, false, ltb, Some, None, List, [], ◌∷◌, length, unwrap_or, inl, inr, refl, arith, ap, sym, subst, ◌∙◌}
 use Rattle.std.specs.Prelude.{if◌then◌else◌, slice_index}
-use Rattle.std.specs.FinMap.{get}
-use Rattle.std.specs.List.{remove}
 use Rattle.std.proofs.lemmas.Bool.Decides.{nat_tests}
-use Rattle.tape_image.specs.Memory.{byte_of, top_of}
 use Rattle.tape_image.specs.Word.{Stands}
 use Rattle.tape_image.specs.Image.{Image}
 use Rattle.tape_image.specs.Plan.{PlanValue, IsPlan}
-use Rattle.tape_image.specs.Overlay.{IsOverlay}
 use Rattle.tape_image.proofs.Halves.{Stands-unchanged}
 use Rattle.tape_image.proofs.Standing.{IsOverlay-standing}
 use Rattle.odt_machine.specs.Machine.{Machine}
 use Rattle.odt_machine.specs.KeyTable.{take_of}
-use Rattle.host_core.specs.declared.heard.Heard.{Heard}
 use Rattle.host_core.specs.declared.heard.Heard.TheVariants.{Got, Quiet as Silence}
 use Rattle.host_core.specs.Core.{Core, word_nr, no_word}
-use Rattle.host_core.specs.PhaseTable.{move}
 use Rattle.host_core.proofs.Turns.{kept}
 use Rattle.host_core.proofs.Frame.{moved}
 use Rattle.line_world.specs.declared.event.Event.{Event}
 use Rattle.line_world.specs.declared.event.Event.TheVariants.{Take, Hear, LoseDown, LoseUp, Quiet}
 use Rattle.line_world.specs.Scene.{Scene}
-use Rattle.line_world.specs.World.{takes, hears, times_out, occurs, happens, after}
+use Rattle.line_world.specs.World.{takes, hears, times_out, happens, after}
 use Rattle.line_world.specs.Site.{site_of, IsThere}
-use Rattle.line_world.specs.Invariant.{IsKept, standing}
+use Rattle.line_world.specs.Invariant.{IsKept}
 use Rattle.line_world.specs.Lawful.{ground}
-use Rattle.line_world.specs.Safe.{WordLies, OnlyImage, IsLoaded, IsSafe}
+use Rattle.line_world.specs.Safe.{OnlyImage, IsLoaded, IsSafe}
 use Rattle.line_world.proofs.Frame.{scene}
 use Rattle.line_world.proofs.Losses.{kept_lose_down, kept_lose_up}
 use Rattle.line_world.proofs.Silence.{kept_silence}

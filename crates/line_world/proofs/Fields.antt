@@ -1,15 +1,14 @@
 -- The invariant of a world's fields after each event.
-use Rattle.std.proofs.Common.{◌≡◌, ℕ, suc, ◌+◌, ◌*◌, ◌^◌, ◌<◌, ◌≤◌, Bool, true, false, eqb, Some, None, Ok, Err, Option, Result, List, [], ◌∷◌, ◌++◌, length, refl, arith, ap, sym, subst, ◌∙◌}
+use Rattle.std.proofs.Common.{◌≡◌, ℕ, suc, ◌+◌, ◌^◌, ◌<◌, ◌≤◌, Bool, true, eqb, Some, Ok, Err, Result, List, [], ◌∷◌, ◌++◌, length, refl, arith}
 use Rattle.std.proofs.lemmas.Bool.Decides.{nat_tests}
 use Rattle.std.specs.Prelude.{option_to_list, slice_get, IsOk, OnOk}
 use Rattle.std.specs.List.{remove}
 use Rattle.odt_machine.specs.Machine.{Machine}
-use Rattle.odt_machine.specs.KeyTable.{Taken, take_of, after_key}
+use Rattle.odt_machine.specs.KeyTable.{take_of, after_key}
 use Rattle.host_core.specs.declared.heard.Heard.TheVariants.{Got, Quiet as Silence}
 use Rattle.host_core.specs.Core.{Core}
-use Rattle.host_core.specs.PhaseTable.{Move, move}
+use Rattle.host_core.specs.PhaseTable.{move}
 use Rattle.host_core.proofs.Turns.{kept, within_bound}
-use Rattle.line_world.specs.World.{answered, stepped}
 use Rattle.line_world.specs.Invariant.{IsKept}
 use Rattle.line_world.proofs.Frame.{scene}
 use Rattle.line_world.proofs.Taking.{kept_take, key_takes}

@@ -1,5 +1,5 @@
 -- What a turn of the host leaves alone.
-use Rattle.std.proofs.Common.{◌≡◌, ◌≢◌, ℕ, ◌+◌, ◌-◌, ◌*◌, ◌<◌, ◌≤◌, ◌⊎◌, Bool, true, false, cond, List, [], ◌∷◌, ◌++◌, length, Option, Some, None, inl, inr, refl, arith, ap, sym, subst, ltb, unwrap_or}
+use Rattle.std.proofs.Common.{◌≡◌, ℕ, ◌+◌, ◌<◌, ◌≤◌, ◌⊎◌, Bool, true, false, cond, List, [], ◌∷◌, length, Option, Some, None, inl, inr, refl, arith, ap, sym, subst, ltb, unwrap_or}
 use Rattle.std.proofs.lemmas.Bool.Decides.{nat_tests}
 use Rattle.std.specs.Prelude.{if◌then◌else◌}
 use Rattle.octal.specs.Octal.{digit_of}
@@ -7,22 +7,21 @@ use Rattle.odt_machine.specs.declared.mode.Mode.{Mode}
 use Rattle.odt_machine.specs.declared.mode.Mode.TheVariants.{Prompt, Number, Opened, Typing, Running}
 use Rattle.odt_machine.specs.Machine.{Machine}
 use Rattle.host_core.specs.declared.phase.Visit.TheVariants.{Look, Check}
-use Rattle.host_core.specs.declared.phase.Reason.TheVariants.{Store, Close}
-use Rattle.host_core.specs.declared.phase.End.{End}
+use Rattle.host_core.specs.declared.phase.Reason.TheVariants.{Close}
 use Rattle.host_core.specs.declared.phase.End.TheVariants.{Loaded, GaveUp}
 use Rattle.host_core.specs.declared.phase.Phase.{Phase}
-use Rattle.host_core.specs.declared.phase.Phase.TheVariants.{Settle, Sync, Address, Slash, Before, Value, Deposit, Return, Start, Go, Ended}
+use Rattle.host_core.specs.declared.phase.Phase.TheVariants.{Settle, Sync, Address, Return, Start, Go, Ended}
 use Rattle.host_core.specs.declared.turn.Turn.{Turn}
 use Rattle.host_core.specs.declared.turn.Turn.TheVariants.{Listen, Key, Verified, ReadBack, Next, Mark, Stop, Stray, Timeout}
 use Rattle.host_core.specs.Core.{Core, word_under_way, start_of}
-use Rattle.host_core.specs.Host.{IsHost, MarkFits, IsPastMark}
-use Rattle.host_core.specs.PhaseTable.{Move, taken, next_word, after_words, sends, listens}
+use Rattle.host_core.specs.Host.{IsHost}
+use Rattle.host_core.specs.PhaseTable.{taken, after_words, sends, listens}
 use Rattle.line_world.specs.Scene.{Scene}
 use Rattle.line_world.specs.World.{stepped}
-use Rattle.line_world.specs.Site.{Site, site, site_of, IsThere, number_mode}
-use Rattle.line_world.specs.Pending.{IsStopped, IsOpened, Live}
-use Rattle.line_world.specs.Lawful.{Ground, ground}
-use Rattle.line_world.specs.Invariant.{IsKept, InPhase, EndIsPaid, OneWay, RunsWith, standing}
+use Rattle.line_world.specs.Site.{site, site_of, IsThere, number_mode}
+use Rattle.line_world.specs.Pending.{IsStopped, IsOpened}
+use Rattle.line_world.specs.Lawful.{ground}
+use Rattle.line_world.specs.Invariant.{IsKept, InPhase, EndIsPaid, RunsWith, standing}
 
 -- a world by its parts
 abbrev pub scene : Machine → Core → List ℕ → List ℕ → ℕ → Scene

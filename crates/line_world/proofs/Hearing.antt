@@ -1,29 +1,27 @@
 -- Hear keeps the invariant: what each phase makes of the next character.
-use Rattle.std.proofs.Common.{◌≡◌, ◌≢◌, ℕ, zero, suc, ◌+◌, ◌-◌, ◌*◌, ◌%◌, ◌/◌, ◌<◌, ◌≤◌, ◌⊎◌, Bool, true, false, cond, eqb, ltb, List, [], ◌∷◌, length, inl, inr, refl, arith, ap, sym, subst, ◌∙◌}
+use Rattle.std.proofs.Common.{◌≡◌, ◌≢◌, ℕ, zero, suc, ◌+◌, ◌-◌, ◌*◌, ◌%◌, ◌/◌, ◌<◌, ◌≤◌, ◌⊎◌, Bool, true, false, eqb, ltb, List, [], ◌∷◌, length, inl, inr, refl, arith, ap, sym, subst, ◌∙◌}
 use Rattle.std.specs.Prelude.{if◌then◌else◌, ◌||◌}
 use Rattle.std.proofs.lemmas.Bool.Decides.{nat_tests}
 use Rattle.octal.specs.Octal.{is_digit, digit_of, head}
 use Rattle.tape_image.specs.Memory.{top_of}
 use Rattle.tape_image.specs.Word.{merged}
-use Rattle.odt_machine.specs.declared.style.Style.{Style}
 use Rattle.odt_machine.specs.declared.mode.Mode.{Mode}
-use Rattle.odt_machine.specs.declared.mode.Mode.TheVariants.{Prompt, Number, Opened, Typing, Running}
+use Rattle.odt_machine.specs.declared.mode.Mode.TheVariants.{Prompt, Opened}
 use Rattle.odt_machine.specs.Machine.{Machine, is_word}
 use Rattle.host_core.specs.declared.phase.Visit.{Visit}
 use Rattle.host_core.specs.declared.phase.Visit.TheVariants.{Look, Check}
 use Rattle.host_core.specs.declared.phase.Reason.{Reason}
 use Rattle.host_core.specs.declared.phase.Reason.TheVariants.{Store, Close}
-use Rattle.host_core.specs.declared.phase.End.TheVariants.{Started, Uncertain, NoWord, WontHold}
 use Rattle.host_core.specs.declared.phase.Phase.{Phase}
 use Rattle.host_core.specs.declared.phase.Phase.TheVariants.{Settle, Sync, Address, Slash, Before, Value, Deposit, Return, Start, Go, Ended}
 use Rattle.host_core.specs.declared.turn.Turn.{Turn}
-use Rattle.host_core.specs.declared.turn.Turn.TheVariants.{Listen, Key, Verified, ReadBack, Next, Mark, Stop, Stray}
+use Rattle.host_core.specs.declared.turn.Turn.TheVariants.{Stray}
 use Rattle.host_core.specs.declared.heard.Heard.TheVariants.{Got}
-use Rattle.host_core.specs.Core.{Core, word_nr, word_under_way, start_of}
+use Rattle.host_core.specs.Core.{Core, word_under_way, start_of}
 use Rattle.host_core.specs.Host.{IsHost, PhaseFits, IsPlace, basis_of}
 use Rattle.host_core.specs.PhaseTable.{move, hears, sync_hears, address_hears, slash_hears, first_digit_hears, before_hears, differs, read, value_hears, deposit_hears, returned, return_hears, start_hears, go_hears}
 use Rattle.line_world.specs.World.{stepped}
-use Rattle.line_world.specs.Site.{Site, site, held, Lies, wanted, IsThere, number_mode, typing_mode, opened_mode, prompt_from, last_digits, reading, refusal_from}
+use Rattle.line_world.specs.Site.{Site, site, held, Lies, number_mode, typing_mode, opened_mode, prompt_from, last_digits, reading}
 use Rattle.line_world.specs.Pending.{Live, Fits as MeetsKey, IsPart, IsOpened, Checked, Facts, after_of, rest_of}
 use Rattle.line_world.specs.Invariant.{IsKept}
 use Rattle.line_world.proofs.Parts.{Follows, follows_next, follows_skip, follows_stay, follows_at, Misses, misses, IsAbsent, part_absent, part_past, part_one, part_next, differ}

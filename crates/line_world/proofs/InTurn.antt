@@ -1,5 +1,5 @@
 -- Events one after another: one more at the end of a list.
-use Rattle.std.proofs.Common.{◌≡◌, ℕ, subst, ◌+◌, ◌≤◌, Bool, true, false, cond, Some, None, Option, List, [], ◌∷◌, ◌++◌, length, refl, arith, ap, sym, ◌∙◌, ◌<◌, get_or, take}
+use Rattle.std.proofs.Common.{◌≡◌, ℕ, subst, ◌+◌, ◌≤◌, Bool, true, false, Some, None, Option, List, [], ◌∷◌, ◌++◌, length, refl, arith, ap, sym, ◌∙◌, ◌<◌, get_or, take}
 use Rattle.std.proofs.lemmas.List.{take_more}
 use Rattle.std.specs.Prelude.{if◌then◌else◌, is_some, IsSome}
 use Rattle.host_core.specs.declared.phase.Phase.{Phase}

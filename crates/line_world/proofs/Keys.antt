@@ -1,7 +1,6 @@
 -- Lawful keys: a phase's own key is lawful, and ODT takes a lawful key without harm.
-use Rattle.std.proofs.Common.{◌≡◌, ◌≢◌, ℕ, zero, suc, ◌+◌, ◌-◌, ◌*◌, ◌%◌, ◌<◌, ◌≤◌, ◌⊎◌, Bool, true, false, cond, eqb, List, [], ◌∷◌, ◌++◌, length, unwrap_or, inl, inr, refl, arith, ap, sym, subst, lit<, lit≤}
+use Rattle.std.proofs.Common.{◌≡◌, ℕ, ◌-◌, ◌%◌, ◌<◌, ◌≤◌, ◌⊎◌, Bool, true, false, List, [], ◌∷◌, length, unwrap_or, inl, inr, refl, sym, subst, lit<, lit≤}
 use Rattle.std.specs.Prelude.{if◌then◌else◌}
-use Rattle.std.proofs.lemmas.Bool.Decides.{nat_tests}
 use Rattle.octal.specs.Octal.{is_digit, digit_of, head}
 use Rattle.odt_machine.specs.declared.style.Style.{Style}
 use Rattle.odt_machine.specs.declared.mode.Mode.{Mode}
@@ -9,17 +8,16 @@ use Rattle.odt_machine.specs.declared.mode.Mode.TheVariants.{Prompt, Number, Ope
 use Rattle.odt_machine.specs.declared.key.Key.TheVariants.{Digit}
 use Rattle.odt_machine.specs.Key.{key_of}
 use Rattle.odt_machine.specs.Machine.{Machine, IsMachine, ModeFits, is_word, word_at, stored}
-use Rattle.odt_machine.specs.Answer.{prompt_text, word_text, refused_text, illegal_text}
+use Rattle.odt_machine.specs.Answer.{prompt_text, word_text, illegal_text}
 use Rattle.odt_machine.specs.KeyTable.{Taken, row, take_of}
-use Rattle.host_core.specs.declared.phase.Visit.TheVariants.{Look, Check}
 use Rattle.host_core.specs.declared.phase.Reason.TheVariants.{Store, Close}
 use Rattle.host_core.specs.declared.phase.Phase.{Phase}
 use Rattle.host_core.specs.declared.phase.Phase.TheVariants.{Settle, Sync, Address, Slash, Before, Value, Deposit, Return, Start, Go, Ended}
 use Rattle.host_core.specs.Core.{Core, word_nr, start_of}
-use Rattle.host_core.specs.Host.{IsHost, basis_of, PhaseFits, MarkFits, IsPastMark, IsPlace}
-use Rattle.line_world.specs.Site.{Site, site, wanted, Lies, number_mode, typing_mode}
-use Rattle.line_world.specs.Pending.{Live, Fits, IsStopped, IsOpened}
-use Rattle.line_world.specs.Lawful.{Ground, ground, site_in, TakesDigit, TakesSlash, TakesReturn, LawfulBefore, LawfulKey, Lawful}
+use Rattle.host_core.specs.Host.{basis_of, PhaseFits, IsPastMark, IsPlace}
+use Rattle.line_world.specs.Site.{wanted, Lies, number_mode, typing_mode}
+use Rattle.line_world.specs.Pending.{IsStopped, IsOpened}
+use Rattle.line_world.specs.Lawful.{Ground, ground, site_in, TakesDigit, TakesSlash, TakesReturn, LawfulBefore, LawfulKey}
 use Rattle.line_world.specs.Invariant.{IsKept, RunsWith}
 use Rattle.line_world.proofs.Digits.{digit_is, at_place}
 use Rattle.line_world.proofs.Frame.{scene, PhaseHolds}

@@ -1,26 +1,23 @@
 -- The keys that are still to be typed on a line that loses nothing, phase by phase.
-use Rattle.std.proofs.Common.{◌≡◌, ◌≢◌, ℕ, zero, suc, ◌+◌, ◌-◌, ◌*◌, ◌%◌, ◌/◌, ◌<◌, ◌≤◌, ◌⊎◌, Bool, true, false, cond, eqb, ltb, List, [], ◌∷◌, ◌++◌, length, inl, inr, refl, arith, ap, sym, subst, ◌∙◌, lit<, lit≤}
+use Rattle.std.proofs.Common.{◌≡◌, ℕ, zero, suc, ◌+◌, ◌-◌, ◌*◌, ◌%◌, ◌/◌, ◌<◌, ◌≤◌, ◌⊎◌, Bool, true, false, eqb, List, [], ◌∷◌, ◌++◌, inl, inr, refl, arith, ap, sym, subst, ◌∙◌}
 use Rattle.std.specs.Prelude.{◌==◌, if◌then◌else◌, ◌||◌}
 use Rattle.std.proofs.lemmas.Bool.Decides.{nat_tests}
 use Rattle.octal.specs.Octal.{is_digit, digit_of, head, octal_text}
 use Rattle.tape_image.specs.Word.{WordValue, merged}
-use Rattle.odt_machine.specs.declared.style.Style.{Style}
-use Rattle.odt_machine.specs.Machine.{is_word}
 use Rattle.host_core.specs.declared.phase.Visit.{Visit}
 use Rattle.host_core.specs.declared.phase.Visit.TheVariants.{Look, Check}
 use Rattle.host_core.specs.declared.phase.Reason.{Reason}
 use Rattle.host_core.specs.declared.phase.Reason.TheVariants.{Store, Close}
-use Rattle.host_core.specs.declared.phase.End.TheVariants.{Started, NoWord}
 use Rattle.host_core.specs.declared.phase.Phase.{Phase}
 use Rattle.host_core.specs.declared.phase.Phase.TheVariants.{Settle, Sync, Address, Slash, Before, Value, Deposit, Return, Start, Go, Ended}
 use Rattle.host_core.specs.declared.turn.Turn.{Turn}
 use Rattle.host_core.specs.declared.turn.Turn.TheVariants.{Listen, Key, Verified, ReadBack, Next, Mark, Stop, Stray, Timeout}
 use Rattle.host_core.specs.Host.{IsPlace, PhaseFits, HasWord, Basis}
 use Rattle.host_core.specs.PhaseTable.{hears, sync_hears, address_hears, slash_hears, first_digit_hears, before_hears, differs, read, value_hears, deposit_hears, return_hears, start_hears, go_hears}
-use Rattle.line_world.specs.Site.{Site, held, Lies, wanted, IsThere, prompt_from, last_digits, reading, refusal_from}
+use Rattle.line_world.specs.Site.{Site, held, Lies, prompt_from, last_digits, reading, refusal_from}
 use Rattle.line_world.specs.Pending.{Checked, Facts, rest_of}
 use Rattle.line_world.proofs.Parts.{differ}
-use Rattle.line_world.proofs.Digits.{below_six, at_place, digit_is, first_digit}
+use Rattle.line_world.proofs.Digits.{below_six, at_place, digit_is}
 
 -- the digits of a number behind the k-th, and what follows them
 abbrev pub digits_behind : ℕ → ℕ → List ℕ → List ℕ

@@ -1,18 +1,17 @@
 -- A lost character keeps the invariant.
-use Rattle.std.proofs.Common.{◌≡◌, ◌≢◌, ℕ, zero, suc, ◌+◌, ◌-◌, ◌*◌, ◌<◌, ◌≤◌, ◌⊎◌, Bool, true, false, cond, List, [], ◌∷◌, ◌++◌, length, inl, inr, refl, arith, ap, sym, subst}
+use Rattle.std.proofs.Common.{◌≡◌, ℕ, zero, suc, ◌+◌, ◌<◌, ◌≤◌, List, [], ◌∷◌, length, inr, arith, ap}
 use Rattle.std.specs.List.{remove}
 use Rattle.std.proofs.lemmas.List.Edits.{length-remove}
 use Rattle.odt_machine.specs.declared.mode.Mode.{Mode}
 use Rattle.odt_machine.specs.Machine.{Machine}
-use Rattle.host_core.specs.declared.phase.Visit.TheVariants.{Look, Check}
 use Rattle.host_core.specs.declared.phase.Reason.TheVariants.{Store, Close}
 use Rattle.host_core.specs.declared.phase.End.{End}
 use Rattle.host_core.specs.declared.phase.End.TheVariants.{Loaded, Started, Uncertain, MaybeStarted, GaveUp, NoWord, WontHold}
 use Rattle.host_core.specs.declared.phase.Phase.{Phase}
 use Rattle.host_core.specs.declared.phase.Phase.TheVariants.{Settle, Sync, Address, Slash, Before, Value, Deposit, Return, Start, Go, Ended}
 use Rattle.host_core.specs.Core.{Core}
-use Rattle.line_world.specs.Site.{Site, held, last_digits, IsThere}
-use Rattle.line_world.specs.Pending.{Live, IsPart, KeyFits, RestFits, BrokenIsPaid, Facts, StandsWhere, after_of, rest_of}
+use Rattle.line_world.specs.Site.{Site, IsThere}
+use Rattle.line_world.specs.Pending.{Live, IsPart, RestFits, Facts, StandsWhere, after_of, rest_of}
 use Rattle.line_world.specs.Lawful.{Ground}
 use Rattle.line_world.specs.Invariant.{IsKept, InPhase, EndIsPaid}
 use Rattle.line_world.proofs.Parts.{part_remove, part_length}

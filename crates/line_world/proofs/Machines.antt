@@ -1,9 +1,8 @@
 -- A lawful key leaves a machine what every machine is.
-use Rattle.std.proofs.Common.{◌≡◌, ℕ, ◌+◌, ◌/◌, ◌%◌, ◌<◌, ◌≤◌, ◌⊎◌, Bool, true, false, cond, eqb, min, List, ◌∷◌, length, get_or, set, inl, inr, refl, arith, ap, sym, subst, get_or-set_other, lit<, lit≤}
+use Rattle.std.proofs.Common.{◌≡◌, ℕ, ◌+◌, ◌/◌, ◌%◌, ◌<◌, ◌≤◌, ◌⊎◌, Bool, true, false, eqb, min, List, ◌∷◌, length, get_or, set, inl, inr, refl, arith, ap, sym, subst, get_or-set_other, lit≤}
 use Rattle.std.proofs.lemmas.Grind.{get_or-set_at}
 use Rattle.std.proofs.lemmas.List.{set_past}
 use Rattle.std.specs.Prelude.{if◌then◌else◌}
-use Rattle.std.proofs.lemmas.Bool.Decides.{nat_tests}
 use Rattle.tape_image.proofs.Halves.{merged_below}
 use Rattle.odt_machine.specs.declared.style.Style.{Style}
 use Rattle.odt_machine.specs.declared.mode.Mode.{Mode}
@@ -11,11 +10,11 @@ use Rattle.odt_machine.specs.declared.mode.Mode.TheVariants.{Prompt, Number, Ope
 use Rattle.odt_machine.specs.declared.key.Key.{Key}
 use Rattle.odt_machine.specs.declared.key.Key.TheVariants.{Digit, Return, Slash, Go, Other}
 use Rattle.odt_machine.specs.Key.{key_of}
-use Rattle.odt_machine.specs.Machine.{Machine, IsMachine, IsWide, ModeFits, is_word, stored}
+use Rattle.odt_machine.specs.Machine.{Machine, IsMachine, IsWide, ModeFits, is_word}
 use Rattle.odt_machine.specs.KeyTable.{Taken, row, take_of, after_key}
 use Rattle.host_core.specs.Core.{Core, word_nr}
 use Rattle.line_world.specs.Site.{wanted}
-use Rattle.line_world.specs.Lawful.{Ground, ground, site_in}
+use Rattle.line_world.specs.Lawful.{ground, site_in}
 use Rattle.line_world.specs.Invariant.{IsKept}
 use Rattle.line_world.proofs.Frame.{scene}
 use Rattle.line_world.proofs.Keys.{Stores, Takes}

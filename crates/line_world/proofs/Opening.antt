@@ -1,5 +1,5 @@
 -- The invariant holds at every opening.
-use Rattle.std.proofs.Common.{◌≡◌, ℕ, ◌+◌, ◌*◌, ◌<◌, ◌≤◌, Bool, true, false, cond, eqb, Option, List, [], length, refl, arith, ap, sym, subst}
+use Rattle.std.proofs.Common.{◌≡◌, ℕ, ◌≤◌, Bool, true, false, eqb, List, [], length, arith, sym, subst}
 use Rattle.std.specs.Prelude.{if◌then◌else◌, ◌&&◌}
 use Rattle.std.specs.Option.{is_none}
 use Rattle.tape_image.specs.Plan.{PlanValue}
@@ -7,10 +7,9 @@ use Rattle.odt_machine.specs.declared.mode.Mode.{Mode}
 use Rattle.odt_machine.specs.declared.mode.Mode.TheVariants.{Prompt, Number, Opened, Typing, Running}
 use Rattle.odt_machine.specs.Machine.{Machine, IsMachine}
 use Rattle.odt_machine.specs.Laws.{is_running}
-use Rattle.host_core.specs.declared.phase.Phase.{Phase}
 use Rattle.host_core.specs.declared.phase.Phase.TheVariants.{Settle, Ended}
 use Rattle.host_core.specs.declared.phase.End.TheVariants.{Loaded}
-use Rattle.host_core.specs.Core.{Core, begun, first_phase}
+use Rattle.host_core.specs.Core.{Core, begun}
 use Rattle.host_core.specs.Host.{IsHost}
 use Rattle.line_world.specs.Site.{site}
 use Rattle.line_world.specs.Lawful.{ground}

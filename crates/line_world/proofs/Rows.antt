@@ -1,18 +1,15 @@
 -- The answers of ODT to the keys that the host waits for.
-use Rattle.std.proofs.Common.{◌≡◌, ◌≢◌, ℕ, ◌+◌, ◌-◌, ◌*◌, ◌%◌, ◌/◌, ◌<◌, ◌≤◌, Bool, true, false, cond, eqb, List, [], ◌∷◌, ◌++◌, refl, arith, ap, sym, ◌∙◌, lit<, min}
-use Rattle.std.proofs.lemmas.Bool.Decides.{nat_tests}
+use Rattle.std.proofs.Common.{◌≡◌, ℕ, ◌+◌, ◌-◌, ◌%◌, ◌<◌, Bool, true, false, cond, List, [], ◌∷◌, refl, arith, lit<, min}
 use Rattle.std.specs.Prelude.{if◌then◌else◌}
-use Rattle.octal.specs.Octal.{head, digit_of, is_digit, pushed, digit_value}
-use Rattle.tape_image.specs.Plan.{PlanValue}
+use Rattle.octal.specs.Octal.{head, digit_of, pushed, digit_value}
 use Rattle.odt_machine.specs.declared.style.Style.{Style}
 use Rattle.odt_machine.specs.declared.mode.Mode.{Mode}
 use Rattle.odt_machine.specs.declared.mode.Mode.TheVariants.{Prompt, Number, Opened, Typing, Running}
 use Rattle.odt_machine.specs.declared.key.Key.TheVariants.{Digit}
 use Rattle.odt_machine.specs.Key.{key_of}
-use Rattle.odt_machine.specs.Machine.{Machine, is_word, word_at, stored}
+use Rattle.odt_machine.specs.Machine.{is_word, stored}
 use Rattle.odt_machine.specs.Answer.{prompt_text, word_text, refused_text}
 use Rattle.odt_machine.specs.KeyTable.{Taken, row}
-use Rattle.host_core.specs.declared.phase.Visit.TheVariants.{Look, Check}
 use Rattle.host_core.specs.declared.phase.Reason.TheVariants.{Store, Close}
 use Rattle.host_core.specs.declared.phase.Phase.{Phase}
 use Rattle.host_core.specs.declared.phase.Phase.TheVariants.{Settle, Sync, Address, Slash, Before, Value, Deposit, Return, Start, Go, Ended}
@@ -20,7 +17,7 @@ use Rattle.host_core.specs.Core.{Core}
 use Rattle.host_core.specs.Host.{PhaseFits, IsPlace, basis_of}
 use Rattle.line_world.specs.Site.{Site, held, wanted, number_mode, typing_mode, opened_mode, reading, refusal_from, prompt_from}
 use Rattle.line_world.specs.Pending.{Fits, IsStopped, IsOpened, after_of, rest_of}
-use Rattle.line_world.proofs.Digits.{digit_key, pushed_head, digit_back, at_place}
+use Rattle.line_world.proofs.Digits.{digit_key, pushed_head, at_place}
 
 -- what the plan says of a site's word and start
 pub record IsSite (t : Site) : Type 0 where

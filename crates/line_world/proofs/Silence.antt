@@ -1,23 +1,19 @@
 -- A timeout keeps the invariant.
-use Rattle.std.proofs.Common.{◌≡◌, ◌≢◌, ℕ, zero, suc, ◌+◌, ◌-◌, ◌*◌, ◌<◌, ◌≤◌, ◌⊎◌, Bool, true, false, cond, eqb, List, [], ◌∷◌, ◌++◌, length, inl, inr, refl, arith, ap, sym, subst}
+use Rattle.std.proofs.Common.{◌≡◌, ℕ, zero, suc, ◌-◌, ◌<◌, Bool, true, false, eqb, List, [], ◌∷◌, inl, inr, refl, arith, subst}
 use Rattle.std.specs.Prelude.{if◌then◌else◌}
 use Rattle.odt_machine.specs.declared.style.Style.{Style}
 use Rattle.odt_machine.specs.declared.mode.Mode.{Mode}
 use Rattle.odt_machine.specs.declared.mode.Mode.TheVariants.{Prompt, Number, Opened, Typing, Running}
 use Rattle.odt_machine.specs.Machine.{Machine, is_word}
-use Rattle.host_core.specs.declared.phase.Visit.TheVariants.{Look, Check}
-use Rattle.host_core.specs.declared.phase.Reason.TheVariants.{Store, Close}
 use Rattle.host_core.specs.declared.phase.Phase.{Phase}
 use Rattle.host_core.specs.declared.phase.Phase.TheVariants.{Settle, Sync, Address, Slash, Before, Value, Deposit, Return, Start, Go, Ended}
-use Rattle.host_core.specs.declared.turn.Turn.{Turn}
-use Rattle.host_core.specs.declared.turn.Turn.TheVariants.{Listen, Key, Verified, ReadBack, Next, Mark, Stop, Stray, Timeout}
 use Rattle.host_core.specs.declared.heard.Heard.TheVariants.{Quiet}
 use Rattle.host_core.specs.Core.{Core}
 use Rattle.host_core.specs.Host.{IsHost, MarkFits, IsPastMark}
 use Rattle.host_core.specs.PhaseTable.{move, waits}
 use Rattle.line_world.specs.World.{stepped}
 use Rattle.line_world.specs.Site.{Site, site, held, reading, refusal_from, prompt_from, last_digits}
-use Rattle.line_world.specs.Pending.{Live, IsStopped, BrokenIsPaid, rest_of}
+use Rattle.line_world.specs.Pending.{IsStopped, BrokenIsPaid}
 use Rattle.line_world.specs.Invariant.{IsKept, RunsWith}
 use Rattle.line_world.proofs.Frame.{scene, TurnFits, PhaseHolds, kept_turn}
 

@@ -1,12 +1,12 @@
 -- What the plan says of its words and of its start.
-use Rattle.std.proofs.Common.{◌≡◌, ℕ, ◌+◌, ◌*◌, ◌%◌, ◌/◌, ◌<◌, ◌≤◌, ◌⊎◌, Bool, true, false, Option, Some, None, List, length, unwrap_or, inl, inr, refl, arith, sym, subst, lit<}
+use Rattle.std.proofs.Common.{◌≡◌, ℕ, ◌%◌, ◌<◌, ◌≤◌, ◌⊎◌, Option, Some, None, List, length, unwrap_or, inl, inr, refl, arith, sym, subst, lit<}
 use Rattle.std.specs.Prelude.{IfSome}
 use Rattle.std.proofs.lemmas.List.{get_or_past}
 use Rattle.tape_image.specs.Word.{WordValue, IsWord}
 use Rattle.tape_image.specs.Plan.{PlanValue, IsPlan}
 use Rattle.odt_machine.specs.Machine.{Machine}
 use Rattle.host_core.specs.Core.{Core, word_nr, no_word}
-use Rattle.line_world.specs.Site.{site, site_of}
+use Rattle.line_world.specs.Site.{site_of}
 use Rattle.line_world.proofs.Frame.{scene}
 use Rattle.line_world.proofs.Rows.{IsSite}
 

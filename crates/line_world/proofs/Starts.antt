@@ -1,6 +1,6 @@
 -- `G` is typed at most once, and exactly where the mark is set.
-use Rattle.std.proofs.Common.{◌≡◌, ◌≢◌, ℕ, zero, suc, ◌+◌, ◌<◌, ◌≤◌, ◌⊎◌, Bool, true, false, cond, ltb, Some, None, Option, List, [], ◌∷◌, ◌++◌, length, get_or, unwrap_or, inl, inr, refl, arith, ap, sym, subst, ◌∙◌}
-use Rattle.std.specs.Prelude.{if◌then◌else◌, option_to_list, Contains, ◌↔◌}
+use Rattle.std.proofs.Common.{◌≡◌, ℕ, zero, suc, ◌+◌, ◌⊎◌, Bool, true, false, ltb, Some, None, Option, List, [], ◌∷◌, ◌++◌, length, unwrap_or, inl, inr, refl, arith, ap, sym, ◌∙◌}
+use Rattle.std.specs.Prelude.{option_to_list, Contains}
 use Rattle.std.proofs.lemmas.Bool.Decides.{nat_tests}
 use Rattle.octal.specs.Octal.{digit_of, is_digit}
 use Rattle.odt_machine.specs.Machine.{Machine}
@@ -18,7 +18,7 @@ use Rattle.host_core.proofs.Frame.{moved, silent, on_move}
 use Rattle.line_world.specs.declared.event.Event.{Event}
 use Rattle.line_world.specs.declared.event.Event.TheVariants.{Take, Hear, LoseDown, LoseUp, Quiet}
 use Rattle.line_world.specs.Scene.{Scene}
-use Rattle.line_world.specs.World.{takes, hears, times_out, stepped, occurs, happens, after, typed_hearing, typed_timeout, typed_in, typed}
+use Rattle.line_world.specs.World.{takes, hears, times_out, stepped, happens, after, typed_hearing, typed_timeout, typed_in, typed}
 use Rattle.line_world.specs.Lawful.{Ground, ground, LawfulBefore, LawfulKey}
 use Rattle.line_world.specs.Invariant.{IsKept}
 use Rattle.line_world.specs.Promises.{EndsAtGo, StartsOnce}

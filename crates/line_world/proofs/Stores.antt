@@ -1,14 +1,12 @@
 -- What a stored word of the plan does to the words of the plan, and to the bytes.
-use Rattle.std.proofs.Common.{◌≡◌, ◌≢◌, ℕ, zero, suc, [], ◌∷◌, get_or, ◌+◌, ◌*◌, ◌%◌, ◌/◌, ◌<◌, ◌≤◌, ◌⊎◌, Bool, true, false, cond, eqb, ltb, Some, List, length, inl, inr, refl, arith, ap, sym, subst, ◌∙◌, get_or-set_other, get_or-set_same, length-set}
+use Rattle.std.proofs.Common.{◌≡◌, ◌≢◌, ℕ, zero, suc, [], ◌∷◌, get_or, ◌/◌, ◌<◌, ◌⊎◌, true, false, eqb, List, length, inl, inr, refl, arith, sym, subst, get_or-set_other, get_or-set_same, length-set}
 use Rattle.std.specs.Prelude.{slice_index, slice_set}
-use Rattle.std.specs.FinMap.{get}
 use Rattle.std.proofs.lemmas.Bool.Decides.{nat_tests}
-use Rattle.tape_image.specs.Memory.{byte_of, top_of}
-use Rattle.tape_image.specs.Word.{WordValue, merged}
-use Rattle.tape_image.specs.Plan.{PlanValue, IsPlan}
+use Rattle.tape_image.specs.Word.{WordValue}
+use Rattle.tape_image.specs.Plan.{IsPlan}
 use Rattle.tape_image.proofs.Halves.{Stands-merged, merged-Stands}
 use Rattle.tape_image.proofs.Standing.{places_apart, byte_of-with_word_cases}
-use Rattle.odt_machine.specs.Machine.{Machine, is_word, stored}
+use Rattle.odt_machine.specs.Machine.{is_word, stored}
 use Rattle.host_core.specs.Core.{word_nr, no_word}
 use Rattle.line_world.specs.Site.{Site, held, wanted, Lies, IsThere}
 use Rattle.line_world.specs.Lawful.{Ground, site_in}

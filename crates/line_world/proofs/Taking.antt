@@ -1,25 +1,23 @@
 -- Take keeps the invariant.
-use Rattle.std.proofs.Common.{◌≡◌, ◌≢◌, ℕ, zero, suc, ◌+◌, ◌-◌, ◌*◌, ◌<◌, ◌≤◌, ◌⊎◌, Bool, true, false, cond, List, [], ◌∷◌, ◌++◌, length, inl, inr, refl, arith, ap, sym, subst, ◌∙◌, length-set}
+use Rattle.std.proofs.Common.{◌≡◌, ℕ, ◌<◌, ◌≤◌, Bool, true, false, List, [], ◌∷◌, length, inl, inr, refl, arith, ap, sym, subst, ◌∙◌, length-set}
 use Rattle.std.specs.Prelude.{if◌then◌else◌}
-use Rattle.tape_image.specs.Memory.{top_of}
 use Rattle.odt_machine.specs.declared.mode.Mode.{Mode}
 use Rattle.odt_machine.specs.Machine.{Machine, IsMachine, stored}
 use Rattle.odt_machine.specs.KeyTable.{Taken, take_of, after_key}
-use Rattle.host_core.specs.declared.phase.Visit.TheVariants.{Look, Check}
-use Rattle.host_core.specs.declared.phase.Reason.TheVariants.{Store, Close}
+use Rattle.host_core.specs.declared.phase.Reason.TheVariants.{Store}
 use Rattle.host_core.specs.declared.phase.End.{End}
 use Rattle.host_core.specs.declared.phase.End.TheVariants.{Loaded, Started, Uncertain, MaybeStarted, GaveUp, NoWord, WontHold}
 use Rattle.host_core.specs.declared.phase.Phase.{Phase}
-use Rattle.host_core.specs.declared.phase.Phase.TheVariants.{Settle, Sync, Address, Slash, Before, Value, Deposit, Return, Start, Go, Ended}
+use Rattle.host_core.specs.declared.phase.Phase.TheVariants.{Settle, Value, Return, Ended}
 use Rattle.host_core.specs.Core.{Core}
-use Rattle.host_core.specs.Host.{IsHost, PhaseFits, basis_of}
+use Rattle.host_core.specs.Host.{PhaseFits, basis_of}
 use Rattle.line_world.specs.World.{answered}
-use Rattle.line_world.specs.Site.{Site, site, site_of, wanted, Lies, IsThere, prompt_from}
-use Rattle.line_world.specs.Pending.{Live, IsPart, RestFits, Facts, Fits, after_of, rest_of}
-use Rattle.line_world.specs.Lawful.{Ground, ground, site_in}
-use Rattle.line_world.specs.Invariant.{IsKept, InPhase, EndIsPaid, standing}
+use Rattle.line_world.specs.Site.{Site, site, wanted, Lies, prompt_from}
+use Rattle.line_world.specs.Pending.{Live, RestFits, Facts, after_of, rest_of}
+use Rattle.line_world.specs.Lawful.{Ground, ground}
+use Rattle.line_world.specs.Invariant.{IsKept, EndIsPaid}
 use Rattle.line_world.proofs.Parts.{part_same}
-use Rattle.line_world.proofs.Rows.{IsSite, taken_in, memory_after, row_live}
+use Rattle.line_world.proofs.Rows.{IsSite, taken_in, row_live}
 use Rattle.line_world.proofs.Frame.{scene, PhaseHolds}
 use Rattle.line_world.proofs.Losses.{stands_made}
 use Rattle.line_world.proofs.Keys.{Stores, Takes, lawful, takes_lawful, typing_lies}

@@ -1,27 +1,24 @@
 -- What the invariant says of every world in plain words.
-use Rattle.std.proofs.Common.{◌≡◌, ◌≢◌, ℕ, zero, suc, ◌+◌, ◌*◌, ◌%◌, ◌<◌, ◌≤◌, ◌⊎◌, Bool, true, false, cond, ltb, Some, None, Option, List, [], ◌∷◌, ◌++◌, length, unwrap_or, inl, inr, refl, arith, ap, sym, subst, ◌∙◌, lit≤}
-use Rattle.std.specs.Prelude.{if◌then◌else◌, is_some, ◌||◌}
-use Rattle.std.specs.List.{remove}
+use Rattle.std.proofs.Common.{◌≡◌, ◌≢◌, ℕ, ◌+◌, ◌*◌, ◌%◌, ◌≤◌, Bool, true, false, ltb, List, [], ◌∷◌, length, unwrap_or, inl, inr, refl, arith, ap, sym, subst, ◌∙◌, lit≤}
+use Rattle.std.specs.Prelude.{is_some, ◌||◌}
 use Rattle.std.proofs.lemmas.List.Edits.{length-remove}
 use Rattle.std.proofs.lemmas.Bool.Decides.{nat_tests}
 use Rattle.octal.specs.Octal.{is_digit}
-use Rattle.tape_image.specs.Plan.{PlanValue}
 use Rattle.odt_machine.specs.declared.mode.Mode.{Mode}
 use Rattle.odt_machine.specs.declared.mode.Mode.TheVariants.{Prompt, Number, Opened, Typing, Running}
 use Rattle.odt_machine.specs.Machine.{Machine}
-use Rattle.odt_machine.specs.KeyTable.{take_of}
 use Rattle.odt_machine.specs.Described.{IsDescribed}
 use Rattle.host_core.specs.declared.phase.Phase.{Phase}
-use Rattle.host_core.specs.declared.phase.Phase.TheVariants.{Settle, Sync, Address, Slash, Before, Value, Deposit, Return, Start, Go, Ended}
+use Rattle.host_core.specs.declared.phase.Phase.TheVariants.{Ended}
 use Rattle.host_core.specs.Core.{Core}
 use Rattle.line_world.specs.declared.event.Event.{Event}
 use Rattle.line_world.specs.declared.event.Event.TheVariants.{Take, Hear, LoseDown, LoseUp, Quiet}
 use Rattle.line_world.specs.Scene.{Scene}
-use Rattle.line_world.specs.World.{takes, hears, times_out, occurs, happens, after, is_timeout, had_timeout}
-use Rattle.line_world.specs.Site.{site, number_mode}
+use Rattle.line_world.specs.World.{takes, hears, times_out, happens, after, is_timeout, had_timeout}
+use Rattle.line_world.specs.Site.{site}
 use Rattle.line_world.specs.Pending.{IsStopped}
 use Rattle.line_world.specs.Lawful.{Ground, ground, TakesDigit, TakesSlash, TakesReturn, LawfulBefore, LawfulKey}
-use Rattle.line_world.specs.Invariant.{IsKept, InPhase, OneWay, EndIsPaid}
+use Rattle.line_world.specs.Invariant.{IsKept, InPhase, OneWay}
 use Rattle.line_world.specs.Promises.{HasAddress, KeysAreDescribed, QueuesAreShort, HasCause, IsTame}
 use Rattle.line_world.proofs.Frame.{scene}
 use Rattle.line_world.proofs.Parts.{differ}

@@ -1,25 +1,23 @@
 -- On a line that loses nothing the next event is possible, and what is left to happen falls.
-use Rattle.std.proofs.Common.{◌≡◌, ◌≢◌, ℕ, zero, suc, ◌+◌, ◌-◌, ◌*◌, ◌<◌, ◌≤◌, ◌⊎◌, Bool, true, false, cond, ltb, Some, None, Option, List, [], ◌∷◌, ◌++◌, length, unwrap_or, inl, inr, refl, arith, ap, sym, subst, ◌∙◌, length-append}
-use Rattle.std.specs.Prelude.{if◌then◌else◌, option_to_list, is_some, IsSome}
+use Rattle.std.proofs.Common.{◌≡◌, ℕ, ◌+◌, ◌-◌, ◌*◌, ◌<◌, ◌≤◌, true, ltb, Some, None, Option, List, [], ◌∷◌, length, refl, arith, ap, subst, length-append}
+use Rattle.std.specs.Prelude.{if◌then◌else◌, option_to_list, is_some}
 use Rattle.odt_machine.specs.Machine.{Machine}
 use Rattle.odt_machine.specs.KeyTable.{take_of}
 use Rattle.host_core.specs.declared.heard.Heard.{Heard}
 use Rattle.host_core.specs.declared.heard.Heard.TheVariants.{Got, Quiet as Silence}
 use Rattle.host_core.specs.declared.phase.Phase.{Phase}
 use Rattle.host_core.specs.declared.phase.Phase.TheVariants.{Settle, Sync, Address, Slash, Before, Value, Deposit, Return, Start, Go, Ended}
-use Rattle.host_core.specs.declared.phase.End.{End}
 use Rattle.host_core.specs.declared.phase.End.TheVariants.{GaveUp}
 use Rattle.host_core.specs.declared.turn.Turn.TheVariants.{Timeout}
 use Rattle.host_core.specs.Bound.{character_bound}
 use Rattle.host_core.specs.Core.{Core, ended}
 use Rattle.host_core.specs.Laws.{keys}
-use Rattle.host_core.specs.PhaseTable.{Move, move, taken, waits, sends, listens}
+use Rattle.host_core.specs.PhaseTable.{move, taken, waits, sends, listens}
 use Rattle.host_core.proofs.Turns.{kept, within_bound}
 use Rattle.host_core.proofs.Frame.{moved, on_move}
 use Rattle.line_world.specs.declared.event.Event.{Event}
-use Rattle.line_world.specs.declared.event.Event.TheVariants.{Take, Hear, LoseDown, LoseUp, Quiet}
 use Rattle.line_world.specs.Scene.{Scene}
-use Rattle.line_world.specs.World.{takes, hears, times_out, answered, stepped, occurs, happens, first_of, first_event, work_left}
+use Rattle.line_world.specs.World.{stepped, occurs, happens, first_of, first_event, work_left}
 use Rattle.line_world.specs.Invariant.{IsKept}
 use Rattle.line_world.proofs.Frame.{scene}
 use Rattle.line_world.proofs.Taking.{key_takes}

@@ -2,12 +2,12 @@
 use Rattle.std.specs.Prelude.{ℕ, ◌≡◌, ◌<◌, ◌≤◌, ◌+◌, ◌*◌, Bool, true, if◌then◌else◌, List, [], ◌∷◌, length}
 use Rattle.tape_image.specs.Memory.{top_of}
 use Rattle.odt_machine.specs.declared.mode.Mode.{Mode}
-use Rattle.odt_machine.specs.declared.mode.Mode.TheVariants.{Prompt, Number, Opened, Typing, Running}
+use Rattle.odt_machine.specs.declared.mode.Mode.TheVariants.{Running}
 use Rattle.odt_machine.specs.Machine.{IsMachine}
 use Rattle.host_core.specs.declared.phase.End.{End}
-use Rattle.host_core.specs.declared.phase.End.TheVariants.{Loaded, Started, Uncertain, MaybeStarted, GaveUp, NoWord, WontHold}
+use Rattle.host_core.specs.declared.phase.End.TheVariants.{Uncertain, GaveUp, NoWord, WontHold}
 use Rattle.host_core.specs.declared.phase.Phase.{Phase}
-use Rattle.host_core.specs.declared.phase.Phase.TheVariants.{Settle, Sync, Address, Slash, Before, Value, Deposit, Return, Start, Go, Ended}
+use Rattle.host_core.specs.declared.phase.Phase.TheVariants.{Settle, Ended}
 use Rattle.host_core.specs.Core.{Core}
 use Rattle.host_core.specs.Host.{IsHost}
 use Rattle.line_world.specs.Scene.{Scene}

@@ -1,15 +1,13 @@
 -- The phases in which the host waits for an answer: the key that it sent last, the mode in which ODT takes it, the mode after it, and what the answer still holds.
-use Rattle.std.specs.Prelude.{ℕ, ◌≡◌, ◌≢◌, ◌<◌, ◌≤◌, ◌+◌, ◌-◌, ◌==◌, ◌⊎◌, Bool, true, false, if◌then◌else◌, List, [], ◌∷◌}
+use Rattle.std.specs.Prelude.{ℕ, ◌≡◌, ◌<◌, ◌-◌, ◌⊎◌, List, [], ◌∷◌}
 use Rattle.octal.specs.Octal.{head, digit_of}
-use Rattle.tape_image.specs.Word.{merged}
 use Rattle.odt_machine.specs.declared.mode.Mode.{Mode}
-use Rattle.odt_machine.specs.declared.mode.Mode.TheVariants.{Prompt, Number, Opened, Typing, Running}
+use Rattle.odt_machine.specs.declared.mode.Mode.TheVariants.{Prompt, Opened, Running}
 use Rattle.host_core.specs.declared.phase.Visit.{Visit}
 use Rattle.host_core.specs.declared.phase.Visit.TheVariants.{Look, Check}
-use Rattle.host_core.specs.declared.phase.Reason.{Reason}
 use Rattle.host_core.specs.declared.phase.Reason.TheVariants.{Store, Close}
 use Rattle.host_core.specs.declared.phase.Phase.{Phase}
-use Rattle.host_core.specs.declared.phase.Phase.TheVariants.{Settle, Sync, Address, Slash, Before, Value, Deposit, Return, Start, Go, Ended}
+use Rattle.host_core.specs.declared.phase.Phase.TheVariants.{Sync, Address, Slash, Before, Value, Deposit, Return, Start, Go}
 use Rattle.line_world.specs.Site.{Site, held, Lies, wanted, IsThere, number_mode, typing_mode, opened_mode, prompt_from, last_digits, reading, refusal_from}
 
 -- no program runs

@@ -1,14 +1,11 @@
 -- What holds of every world, and what the keys typed in some events say of the program's start.
-use Rattle.std.specs.Prelude.{ℕ, ◌≡◌, ◌<◌, ◌≤◌, ◌+◌, ◌*◌, ◌⊎◌, ◌↔◌, Bool, true, false, List, [], ◌∷◌, length, Contains}
-use Rattle.tape_image.specs.Memory.{top_of}
+use Rattle.std.specs.Prelude.{ℕ, ◌≡◌, ◌<◌, ◌≤◌, ◌+◌, ◌*◌, ◌⊎◌, ◌↔◌, true, false, List, [], ◌∷◌, length, Contains}
 use Rattle.tape_image.specs.Plan.{PlanValue}
 use Rattle.odt_machine.specs.declared.mode.Mode.{Mode}
-use Rattle.odt_machine.specs.declared.mode.Mode.TheVariants.{Prompt, Number, Opened, Typing, Running}
+use Rattle.odt_machine.specs.declared.mode.Mode.TheVariants.{Number}
 use Rattle.odt_machine.specs.Described.{IsDescribed}
-use Rattle.host_core.specs.declared.phase.End.{End}
-use Rattle.host_core.specs.declared.phase.End.TheVariants.{Loaded, Started, Uncertain, MaybeStarted, GaveUp, NoWord, WontHold}
 use Rattle.host_core.specs.declared.phase.Phase.{Phase}
-use Rattle.host_core.specs.declared.phase.Phase.TheVariants.{Settle, Sync, Address, Slash, Before, Value, Deposit, Return, Start, Go, Ended}
+use Rattle.host_core.specs.declared.phase.Phase.TheVariants.{Ended}
 use Rattle.host_core.specs.Core.{Core, word_nr}
 use Rattle.line_world.specs.Scene.{Scene}
 use Rattle.line_world.specs.Invariant.{EndIsPaid}

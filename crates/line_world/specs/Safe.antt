@@ -1,5 +1,5 @@
 -- Safety against an earlier memory: it speaks of memory, the host's record and the mark alone.
-use Rattle.std.specs.Prelude.{ℕ, ◌≡◌, ◌<◌, ◌⊎◌, Bool, true, List, length, Option, Some}
+use Rattle.std.specs.Prelude.{ℕ, ◌≡◌, ◌<◌, ◌⊎◌, true, List, length, Some}
 use Rattle.std.specs.FinMap.{get}
 use Rattle.tape_image.specs.Memory.{byte_of, top_of}
 use Rattle.tape_image.specs.Word.{Stands}

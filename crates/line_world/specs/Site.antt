@@ -1,12 +1,12 @@
 -- What the machine's mode is after so many typed digits, and what its exact answer still holds.
-use Rattle.std.specs.Prelude.{ℕ, zero, suc, ◌≡◌, ◌+◌, ◌-◌, ◌==◌, Bool, true, if◌then◌else◌, List, [], ◌∷◌, Option, unwrap_or}
+use Rattle.std.specs.Prelude.{ℕ, zero, suc, ◌≡◌, ◌-◌, ◌==◌, Bool, true, if◌then◌else◌, List, [], ◌∷◌, unwrap_or}
 use Rattle.octal.specs.Octal.{head, digit_of}
 use Rattle.tape_image.specs.Word.{WordValue}
 use Rattle.tape_image.specs.Word.{merged}
 use Rattle.host_core.specs.Core.{word_nr}
 use Rattle.odt_machine.specs.declared.style.Style.{Style}
 use Rattle.odt_machine.specs.declared.mode.Mode.{Mode}
-use Rattle.odt_machine.specs.declared.mode.Mode.TheVariants.{Prompt, Number, Opened, Typing, Running}
+use Rattle.odt_machine.specs.declared.mode.Mode.TheVariants.{Prompt, Number, Opened, Typing}
 use Rattle.odt_machine.specs.Machine.{is_word, word_at as memory_word}
 use Rattle.line_world.specs.Scene.{Scene}
 

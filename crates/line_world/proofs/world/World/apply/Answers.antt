@@ -1,5 +1,4 @@
-use Rattle.std.proofs.Common.{◌∙◌, sym, ap, subst}
-use Rattle.line_world.specs.Scene.{Scene}
+use Rattle.std.proofs.Common.{◌∙◌, subst}
 use Rattle.line_world.specs.Invariant.{IsKept}
 use Rattle.line_world.proofs.Events.{kept_event, safe_event, since_event}
 use Rattle.line_world.proofs.Starts.{starts_event}

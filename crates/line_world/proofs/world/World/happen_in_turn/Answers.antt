@@ -1,4 +1,4 @@
-use Rattle.std.proofs.Common.{◌≡◌, ◌≤◌, ◌<◌, ◌∙◌, sym, ap, subst, length, take, arith, cond, length-take}
+use Rattle.std.proofs.Common.{◌≡◌, ◌≤◌, ◌∙◌, ap, length, take, arith, length-take}
 use Rattle.std.proofs.lemmas.List.{take_all}
 use Rattle.line_world.specs.World.{after, possible_count}
 use Rattle.line_world.proofs.InTurn.{more_world, more_count, count_length, one_more, none_more}

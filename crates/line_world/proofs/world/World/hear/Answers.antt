@@ -1,6 +1,6 @@
 use Rattle.std.proofs.Common.{◌∙◌, ap}
 use Rattle.std.specs.Prelude.{option_to_list}
-use Rattle.line_world.proofs.Fields.{heard_fields, none_down}
+use Rattle.line_world.proofs.Fields.{heard_fields}
 use Rattle.line_world.proofs.world.World.hear.Goals as goal
 
 pub invariant_of-self-2 : goal.invariant_of-self-2

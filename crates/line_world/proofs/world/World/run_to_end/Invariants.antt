@@ -1,5 +1,3 @@
-use Rattle.std.proofs.Common.{◌≡◌, List}
-use Rattle.line_world.specs.declared.event.Event.{Event}
 use Rattle.line_world.specs.World.{work_left}
 use Rattle.line_world.proofs.InTurn.{CleanStretch}
 use Rattle.line_world.proofs.world.World.run_to_end.Given as goal

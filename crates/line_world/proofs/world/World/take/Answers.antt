@@ -1,4 +1,4 @@
-use Rattle.std.proofs.Common.{◌≡◌, ◌+◌, ◌≤◌, ◌∙◌, sym, ap, ◌++◌, length}
+use Rattle.std.proofs.Common.{◌≡◌, ◌+◌, ◌≤◌, ◌∙◌, ap, ◌++◌, length}
 use Rattle.odt_machine.specs.KeyTable.{take_of}
 use Rattle.line_world.proofs.Fields.{taken_fields, answer_fits, from_ok}
 use Rattle.line_world.proofs.world.World.take.Goals as goal

@@ -1,4 +1,4 @@
-use Rattle.std.proofs.Common.{◌≡◌, [], ◌∙◌, ap, refl}
+use Rattle.std.proofs.Common.{◌≡◌, [], ◌∙◌, ap}
 use Rattle.std.specs.Prelude.{option_to_list}
 use Rattle.line_world.proofs.Fields.{silent_fields, nothing_there}
 use Rattle.line_world.proofs.world.World.time_out.Goals as goal

@@ -3,7 +3,7 @@ use Rattle.line_world.specs.Invariant.{IsKept}
 use Rattle.line_world.proofs.CleanLine.{loads_clean}
 use Rattle.line_world.proofs.Events.{kept_events, safe_events, since_events}
 use Rattle.line_world.proofs.Starts.{starts_events}
-use Rattle.line_world.proofs.Tame.{tame_of}
+use Rattle.line_world.proofs.Tame.{tame_of, short_events, silent_events}
 use Rattle.line_world.proofs.world.World.run_clean.Goals as goal
 
 pub returns-clause-run : goal.returns-clause-run
@@ -12,6 +12,8 @@ returns-clause-run c = record {
   start = rw c.run_to_end.ensures.world (starts_events c.args.self.now c.run_to_end.ensures.events (subst IsKept c.self.view_is c.self.invariant));
   loads = λ opening. rw c.run_to_end.ensures.world
       (loads_clean c.args.self.now c.run_to_end.ensures.events c.run_to_end.result opening (subst IsKept c.self.view_is c.self.invariant) c.run_to_end.ensures.clean (rw c.run_to_end.ensures.world at c.run_to_end.ensures.end_is));
+  short = rw c.run_to_end.ensures.world (short_events c.args.self.now c.run_to_end.ensures.events (subst IsKept c.self.view_is c.self.invariant));
+  silent = rw c.run_to_end.ensures.world (silent_events c.args.self.now c.run_to_end.ensures.events (subst IsKept c.self.view_is c.self.invariant));
 }
 
 pub returns-clause-safe : goal.returns-clause-safe

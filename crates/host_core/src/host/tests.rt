@@ -10,6 +10,13 @@ const ONE_WORD: [u8; 16] = [
     0x01, 0x00, 0x08, 0x00, 0x00, 0x02, 0x34, 0x12, 0xAF, 0x01, 0x00, 0x06, 0x00, 0x00, 0x02, 0xF7,
 ];
 
+/// A tape of two blocks, the second over the end of the first: the word 031421 at 001000 and the byte 104
+/// at 001002. It starts at 001000.
+const TWO_WORDS: [u8; 25] = [
+    0x01, 0x00, 0x08, 0x00, 0x00, 0x02, 0x11, 0x22, 0xC2, 0x01, 0x00, 0x08, 0x00, 0x01, 0x02, 0x33,
+    0x44, 0x7D, 0x01, 0x00, 0x06, 0x00, 0x00, 0x02, 0xF7,
+];
+
 /// A tape with one byte, 125 at 001001, and no start.
 const HIGH_BYTE: [u8; 15] = [
     0x01, 0x00, 0x07, 0x00, 0x01, 0x02, 0x55, 0xA0, 0x01, 0x00, 0x06, 0x00, 0x01, 0x00, 0xF8,
@@ -59,53 +66,62 @@ fn typed(alloc: Global, host: &mut HostCore, text: &str) -> Result<Vec<u8>, Fail
     Ok(keys)
 }
 
+/// Whole loads: the tape, what is heard, the keys that answer it, and how the load ends.
+const LOADS: [(&[u8], &str, &str, Option<End>, &str); 7] = [
+    (
+        &ONE_WORD,
+        "~?\r\n@001000/000000 011064\r\n@001000/011064 \r\n@001000G",
+        "Z001000/011064\r001000/\r001000G",
+        Some(End::Started),
+        "a word is looked at, stored, checked, closed, and the program is started",
+    ),
+    (
+        &ONE_WORD,
+        "~Z?\r\r\n@001000/ 000000 011064\r\r\n@001000/ 011064 \r\r\n@001000G",
+        "Z001000/011064\r001000/\r001000G",
+        Some(End::Started),
+        "a console that echoes Z, prints a space before the digits and two returns",
+    ),
+    (
+        &ONE_WORD,
+        "~?\r\n@001000/011064 \r\n@001000G",
+        "Z001000/\r001000G",
+        Some(End::Started),
+        "a word that stands is not stored again",
+    ),
+    (
+        &ONE_WORD,
+        "~?\r\n@001000/?\r\n@",
+        "Z001000/",
+        Some(End::NoWord(0o1000)),
+        "no memory at the address",
+    ),
+    (
+        &TWO_WORDS,
+        "~?\r\n@001000/000000 031421\r\n@001000/031421 \r\n@001002/000000 000104\r\n@001002/000104 \r\n@001000G",
+        "Z001000/031421\r001000/\r001002/000104\r001002/\r001000G",
+        Some(End::Started),
+        "after a closed word the next one is looked at",
+    ),
+    (
+        &HIGH_BYTE,
+        "~?\r\n@001000/125252 052652\r\n@001000/052652 \r\n@",
+        "Z001000/052652\r001000/\r",
+        Some(End::Loaded),
+        "only the byte of the tape changes, and without a start nothing is started",
+    ),
+    (
+        &NOTHING,
+        "~?\r\n@",
+        "",
+        Some(End::Loaded),
+        "nothing to load",
+    ),
+];
+
 #[test]
 fn whole_loads(rt: HostRuntime) -> Result<(), Fail> {
-    let rows: [(&[u8], &str, &str, Option<End>, &str); 6] = [
-        (
-            &ONE_WORD,
-            "~?\r\n@001000/000000 011064\r\n@001000/011064 \r\n@001000G",
-            "Z001000/011064\r001000/\r001000G",
-            Some(End::Started),
-            "a word is looked at, stored, checked, closed, and the program is started",
-        ),
-        (
-            &ONE_WORD,
-            "~Z?\r\r\n@001000/ 000000 011064\r\r\n@001000/ 011064 \r\r\n@001000G",
-            "Z001000/011064\r001000/\r001000G",
-            Some(End::Started),
-            "a console that echoes Z, prints a space before the digits and two returns",
-        ),
-        (
-            &ONE_WORD,
-            "~?\r\n@001000/011064 \r\n@001000G",
-            "Z001000/\r001000G",
-            Some(End::Started),
-            "a word that stands is not stored again",
-        ),
-        (
-            &ONE_WORD,
-            "~?\r\n@001000/?\r\n@",
-            "Z001000/",
-            Some(End::NoWord(0o1000)),
-            "no memory at the address",
-        ),
-        (
-            &HIGH_BYTE,
-            "~?\r\n@001000/125252 052652\r\n@001000/052652 \r\n@",
-            "Z001000/052652\r001000/\r",
-            Some(End::Loaded),
-            "only the byte of the tape changes, and without a start nothing is started",
-        ),
-        (
-            &NOTHING,
-            "~?\r\n@",
-            "",
-            Some(End::Loaded),
-            "nothing to load",
-        ),
-    ];
-    for (tape, heard, wanted, end, reason) in rows {
+    for (tape, heard, wanted, end, reason) in LOADS {
         let mut host = host_of(rt.alloc(), tape, 8)?;
         let keys = typed(rt.alloc(), &mut host, heard)?;
         assert_eq!(rt; keys.as_slice(), wanted.as_bytes(), "{reason}");
@@ -150,85 +166,82 @@ fn peers_that_never_answer_rightly(rt: HostRuntime) -> Result<(), Fail> {
     Ok(())
 }
 
-/// How a host begins with this progress: what is refused or its end, whether it is fresh, and how many
-/// words its plan has, or the one that comes back.
-fn beginning(
-    alloc: Global,
-    tape: &[u8],
-    progress: Progress,
-) -> Result<(Result<Option<End>, BadProgress>, bool, usize), Fail> {
+/// How a host begins: what is refused or its end, whether it is fresh, and how many words its plan has,
+/// or the one that comes back.
+type Beginning = (Result<Option<End>, BadProgress>, bool, usize);
+
+/// How a host begins with this progress.
+fn beginning(alloc: Global, tape: &[u8], progress: Progress) -> Result<Beginning, Fail> {
     match HostCore::new(plan_of(alloc, tape)?, progress, 3) {
         Ok(host) => Ok((Ok(host.end()), host.is_fresh(), host.plan().words().len())),
         Err((plan, why)) => Ok((Err(why), false, plan.words().len())),
     }
 }
 
+/// The tape, how many words are verified, the mark, and how a host begins with them.
+const BEGINNINGS: [(&[u8], u32, bool, Beginning, &str); 9] = [
+    (&ONE_WORD, 0, false, (Ok(None), true, 1), "a fresh load"),
+    (
+        &ONE_WORD,
+        1,
+        false,
+        (Ok(None), false, 1),
+        "the start is left",
+    ),
+    (
+        &ONE_WORD,
+        2,
+        false,
+        (Err(BadProgress::TooMany), false, 1),
+        "more than the plan has",
+    ),
+    (
+        &ONE_WORD,
+        2,
+        true,
+        (Err(BadProgress::TooMany), false, 1),
+        "the number is judged before the mark",
+    ),
+    (
+        &ONE_WORD,
+        0,
+        true,
+        (Err(BadProgress::EarlyMark), false, 1),
+        "the mark before the last word",
+    ),
+    (
+        &ONE_WORD,
+        1,
+        true,
+        (Ok(Some(End::MaybeStarted)), false, 1),
+        "an earlier life sent G",
+    ),
+    (
+        &HIGH_BYTE,
+        1,
+        true,
+        (Err(BadProgress::EarlyMark), false, 1),
+        "the mark without a start",
+    ),
+    (
+        &HIGH_BYTE,
+        1,
+        false,
+        (Ok(Some(End::Loaded)), false, 1),
+        "all is verified, there is no start",
+    ),
+    (
+        &NOTHING,
+        0,
+        false,
+        (Ok(Some(End::Loaded)), true, 0),
+        "nothing to load",
+    ),
+];
+
 #[test]
 fn progress_to_begin_with(rt: HostRuntime) -> Result<(), Fail> {
-    let maybe_started = Ok(Some(End::MaybeStarted));
-    let loaded = Ok(Some(End::Loaded));
-    let too_many = Err(BadProgress::TooMany);
-    let early_mark = Err(BadProgress::EarlyMark);
-    let rows: [(
-        &[u8],
-        u32,
-        bool,
-        (Result<Option<End>, BadProgress>, bool, usize),
-        &str,
-    ); 9] = [
-        (&ONE_WORD, 0, false, (Ok(None), true, 1), "a fresh load"),
-        (
-            &ONE_WORD,
-            1,
-            false,
-            (Ok(None), false, 1),
-            "the start is left",
-        ),
-        (
-            &ONE_WORD,
-            2,
-            false,
-            (too_many, false, 1),
-            "more than the plan has",
-        ),
-        (
-            &ONE_WORD,
-            2,
-            true,
-            (too_many, false, 1),
-            "the number is judged before the mark",
-        ),
-        (
-            &ONE_WORD,
-            0,
-            true,
-            (early_mark, false, 1),
-            "the mark before the last word",
-        ),
-        (
-            &ONE_WORD,
-            1,
-            true,
-            (maybe_started, false, 1),
-            "an earlier life sent G",
-        ),
-        (
-            &HIGH_BYTE,
-            1,
-            true,
-            (early_mark, false, 1),
-            "the mark without a start",
-        ),
-        (
-            &HIGH_BYTE,
-            1,
-            false,
-            (loaded, false, 1),
-            "all is verified, there is no start",
-        ),
-        (&NOTHING, 0, false, (loaded, true, 0), "nothing to load"),
-    ];
-    for (tape, verified, going, wanted, reason) in rows {
+    for (tape, verified, going, wanted, reason) in BEGINNINGS {
         let begun = beginning(rt.alloc(), tape, Progress { verified, going })?;
         assert_eq!(rt; begun, wanted, "{reason}");
     }

@@ -20,7 +20,7 @@ abbrev pub keys : Option ℕ → List ℕ
 keys None = []
 keys (Some key) = key ∷ []
 
--- what a core sends over a list of heard things
+-- the characters that answer a list of heard things
 abbrev pub replay : Core → List Heard → List ℕ
 replay core [] = []
 replay core (heard ∷ more) = keys (move core heard).key ++ replay (move core heard).next more

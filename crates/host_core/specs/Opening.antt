@@ -6,7 +6,7 @@ use Rattle.host_core.specs.declared.progress.BadProgress.{BadProgress}
 use Rattle.host_core.specs.declared.progress.BadProgress.TheVariants.{TooMany, EarlyMark}
 
 -- what is wrong with a progress: more words are verified than the plan has; else the mark is set
--- with words missing or without a start
+-- and a word is not verified, or the plan has no start
 abbrev pub refusal_of : PlanValue → ℕ → Bool → Option BadProgress
 refusal_of plan verified going =
     if nat_lt (length plan.words) verified then Some TooMany

@@ -9,6 +9,7 @@ pub const QUESTION: u8 = b'?';
 /// Closes the open word.
 pub const CARRIAGE_RETURN: u8 = b'\r';
 
+/// Comes before each prompt.
 pub const LINE_FEED: u8 = b'\n';
 
 /// The console waits for a command.
@@ -17,6 +18,7 @@ pub const PROMPT: u8 = b'@';
 /// Opens the word at the address before it.
 pub const SLASH: u8 = b'/';
 
+/// Ends a reading, and with some consoles begins it too.
 pub const SPACE: u8 = b' ';
 
 /// Starts the program at the address before it.

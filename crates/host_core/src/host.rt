@@ -20,8 +20,8 @@ use tape_image::Plan;
 
 /// A host that loads one plan: it says which character to type next.
 ///
-/// A life is what lies between two beginnings, `new` or `restart`. Contracts see a record of the
-/// plan, the progress, the patience, the mishaps spent, the characters sent and the phase.
+/// Each `new` and each `restart` begins a life. Contracts see a record of the plan, the progress,
+/// the patience, the mishaps spent, the characters sent and the phase.
 #[derive(Drop)]
 pub struct HostCore {
     plan: Plan,
@@ -51,9 +51,9 @@ impl HostCore {
     /// `patience` mishaps.
     ///
     /// The plan comes back where the progress is refused: `TooMany` exactly where more words are
-    /// verified than the plan has, else `EarlyMark` exactly where the mark is set with words missing
-    /// or without a start. A life that begins with the mark has ended already, as `MaybeStarted`; one
-    /// with every word verified and no start as `Loaded`.
+    /// verified than the plan has, else `EarlyMark` exactly where the mark is set and a word is not
+    /// verified, or the plan has no start. A life that begins with the mark has ended already, as
+    /// `MaybeStarted`; one with every word verified and no start as `Loaded`.
     pub fn new(
         plan: Plan,
         progress: Progress,

@@ -7,7 +7,7 @@ use tape_image::Plan;
 /// How far a load has come.
 #[derive(Clone, Copy, Debug, PartialEq, Eq)]
 pub struct Progress {
-    /// How many of the plan's words are verified, counted from its first.
+    /// So many words from the beginning of the plan are verified.
     pub verified: u32,
 
     /// The mark: `G` was sent, or is about to be.

@@ -16,6 +16,7 @@ pub record Ground : Type 0 where
   pub plan : PlanValue
   pub going : Bool
 
+-- what a key can meet in a world
 abbrev pub ground : Scene → Ground
 ground w = record { machine = w.machine; plan = w.core.plan; going = w.core.going }
 

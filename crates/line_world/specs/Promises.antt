@@ -15,7 +15,7 @@ abbrev pub HasAddress : PlanValue → Mode → Type 0
 HasAddress plan (Number v n) = (i : ℕ) × (i < length plan.words) × (v ≡ (word_nr plan.words i).address)
 HasAddress plan mode = ⊥
 
--- each key under way is described in the mode that the machine then has, and `/` stands after the address of a word of the plan
+-- a key under way finds the machine in a mode in which it is described, and a `/` opens an address that the plan has a word for
 abbrev pub KeysAreDescribed : PlanValue → Mode → List ℕ → Type 0
 KeysAreDescribed plan mode [] = Unit {0}
 KeysAreDescribed plan mode (c ∷ down) = IsDescribed mode c × (c ≡ 47 → HasAddress plan mode)

@@ -19,7 +19,7 @@ pub record OnlyImage (before : List ℕ) (image : Image) (now : List ℕ) : Type
   pub size : length now ≡ length before
   pub bytes : (b : ℕ) → b < top_of before → (byte_of now b ≡ byte_of before b) ⊎ (get image b ≡ Some (byte_of now b))
 
--- every word of the plan lies in memory, and memory is the overlay
+-- memory has a word at each of the plan's addresses, and is the overlay of the image
 pub record IsLoaded (before : List ℕ) (plan : PlanValue) (now : List ℕ) : Type 0 where
   pub lies : (i : ℕ) → i < length plan.words → WordLies plan now i
   pub overlay : IsOverlay before plan.image now

@@ -37,7 +37,7 @@ Lies t = is_word t.memory t.word.address ≡ true
 abbrev pub wanted : Site → ℕ
 wanted t = merged t.word (held t)
 
--- the word lies in memory, and memory has its bits inside its mask
+-- memory has the word's address, and holds there what is wanted
 abbrev pub IsThere : Site → Type 0
 IsThere t = Lies t × (wanted t ≡ held t)
 

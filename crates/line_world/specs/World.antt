@@ -71,7 +71,7 @@ typed_in w Hear = typed_hearing w w.up
 typed_in w Quiet = typed_timeout w w.down w.up
 typed_in w event = []
 
--- all keys that the host sends on the way
+-- the keys of all the events, in the order in which they are sent
 abbrev pub typed : Scene → List Event → List ℕ
 typed w [] = []
 typed w (event ∷ events) = typed_in w event ++ typed (happens w event) events

@@ -1,11 +1,11 @@
 //! A host and a simulated console on one line: what can happen to them, and why nothing of it does harm.
 //!
 //! `World` holds a machine, a host core and a queue of characters in each direction. Its events are
-//! deliveries, losses in either direction, and timeouts. The contract of `apply`, `run` and
-//! `run_clean` is the promise of the whole project: after every list of events each word that the
-//! host counts as verified stands in memory, every byte outside the tape's image is as it was, and
-//! `G` is typed at most once, over the whole image. Behind it stands the invariant of
-//! `specs/Invariant.antt`. The commands `dialogue` and `rehearse` of `load_command` use it.
+//! deliveries, losses in either direction, and timeouts. The contracts of `apply`, `run` and
+//! `run_clean` carry the promise of the whole project: whatever happens, a word counted as verified
+//! is in memory, bytes that the tape does not name are as they were, and `G` goes out once at most,
+//! over the whole image. Behind it stands the invariant of `specs/Invariant.antt`. The commands
+//! `dialogue` and `rehearse` of `load_command` use it.
 #![tactic(auto)]
 
 mod event;

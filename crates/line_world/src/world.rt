@@ -17,7 +17,7 @@ use odt_machine::{Mode, Odt};
 use std::marker::Model;
 
 /// The most answer characters that may wait when a world opens; no more ever wait at once.
-pub const MOST_WAITING: usize = 32;
+const MOST_WAITING: usize = 32;
 
 /// A host and a machine on one line, with the characters that are under way.
 #[derive(Drop)]
@@ -196,8 +196,8 @@ impl World {
         possible
     }
 
-    /// The line loses nothing: Take where that is possible, else Hear, else Quiet, until the host has
-    /// an end. Where it has one, nothing happens.
+    /// Runs to the host's end on a line that loses nothing: each event is the first possible one of
+    /// `Take`, `Hear` and `Quiet`. After an end no event follows. The answer is the end.
     pub fn run_clean(&mut self) -> End
         ensures run { RunsClean self.old self.new result }
         ensures safe { IsSafe self.old.machine.memory self.new }

@@ -37,5 +37,6 @@ Played w (l ∷ lines) next numbers =
 abbrev pub not_possible_text : ℕ → List ℕ
 not_possible_text number = line (codes "line " ++ decimal number ++ codes ": not possible")
 
+-- what is told of all that were not possible, in order
 abbrev pub not_possible_lines : List ℕ → List ℕ
 not_possible_lines numbers = flat_map not_possible_text numbers

@@ -46,6 +46,7 @@ held_text w (Some now) = codes " " ++ octal_text now ++ (if merged w now == now 
 abbrev pub held_at : List ℕ → ℕ → Option ℕ
 held_at memory address = if is_word memory address then Some (word_at memory address) else None
 
+-- a word's address, and what memory holds there
 abbrev pub word_text : List ℕ → WordValue → List ℕ
 word_text memory w = octal_text w.address ++ held_text w (held_at memory w.address)
 

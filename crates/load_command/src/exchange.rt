@@ -10,7 +10,7 @@ use std::io::Write;
 
 /// Keys that were typed since the last line, and the answers to them.
 ///
-/// Keys whose answer is the key itself are gathered; a line ends after a key with any other answer.
+/// While the console merely echoes, keys are collected; the first other answer ends the line.
 #[derive(Drop)]
 pub struct Exchange {
     keys: Vec<u8>,

@@ -1,3 +1,4 @@
+//! The lines of a script: what each says, by its form.
 ghost use Rattle.std.specs.Prelude.{◌≡◌, ℕ, ◌+◌, ◌-◌, ◌*◌, ◌<◌, ◌≤◌, ◌++◌, ◌∷◌, List, [], length, take, IfSome, IfNone, IsTrue, ◌↔◌, codes};
 ghost use Rattle.std.specs.Char.{digit_value};
 ghost use Rattle.load_command.specs.Line.{IsNumber, HasNumber, AreCodes, IsWait, IsPut, IsSetting, IsCounted, BeginsWithCode, IsStep, IsBlank, IsLine};
@@ -9,6 +10,9 @@ use octal::read_oct6;
 
 // A number has one to ten digits.
 const MOST_DIGITS: usize = 10;
+
+// A word of memory is written as so many octal digits.
+const OCTAL_DIGITS: usize = 6;
 
 const MOST_WORDS: u32 = 28_672;
 
@@ -163,11 +167,11 @@ fn put(text: &[u8]) -> Option<(u16, u16)>
     ensures none { IfNone result ((address value : ℕ) → IsPut text.now address value → ⊥) }
 {
     let rest = rest_after(text, b"put ")?;
-    if rest.len() != 13 || rest[6] != b' ' {
+    if rest.len() != 2 * OCTAL_DIGITS + 1 || rest[OCTAL_DIGITS] != b' ' {
         return None;
     }
-    let address = word(&rest[..6])?;
-    let value = word(&rest[7..])?;
+    let address = word(&rest[..OCTAL_DIGITS])?;
+    let value = word(&rest[OCTAL_DIGITS + 1..])?;
     Some((address, value))
 }
 

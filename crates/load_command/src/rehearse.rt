@@ -35,6 +35,7 @@ pub fn rehearse_to<R: Read, S: Read, W: Write>(
     ensures ok { OnOk result ((text : List ℕ) × IsRehearsed (R.remaining tape.old) (S.remaining script.old) text × Appends (W.contents out.old) (W.contents out.new) text) }
     ensures err { IfErr result (IsRehearseFault (R.remaining tape.old) (S.remaining script.old) (W.contents out.old) (W.contents out.new)) }
     ensures taken { TakesAtMost (S.remaining script.old) (S.remaining script.new) input_limit }
+    ensures tape_taken { TakesAtMost (R.remaining tape.old) (R.remaining tape.new) input_limit }
 {
     let file = take_tape(alloc, tape)?;
     let script = take_script(alloc, script)?;

@@ -1,3 +1,4 @@
+//! Scripts of rehearsals, read whole or refused at a line.
 ghost use Rattle.std.specs.Prelude.{◌≡◌, ℕ, ◌+◌, ◌*◌, ◌<◌, ◌≤◌, ◌++◌, ◌∷◌, List, [], length, IfSome, IfNone, IfOk, OnErr, IsTrue, MatchResult, MatchBool, position, ◌==◌};
 ghost use Rattle.std.specs.List.{AllZip};
 ghost use Rattle.std.specs.Str.Lines.{lines, strip_carriage_return};

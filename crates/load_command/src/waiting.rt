@@ -1,3 +1,4 @@
+//! The characters that wait for the host at an opening.
 ghost use Rattle.std.specs.Prelude.{◌≡◌, ℕ, ◌+◌, ◌-◌, ◌*◌, ◌<◌, ◌≤◌, ◌++◌, ◌∷◌, List, [], length, take, IsTrue, ◌↔◌};
 
 use std::marker::Model;

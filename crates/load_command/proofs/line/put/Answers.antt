@@ -19,7 +19,7 @@ returns-in_err-value-clause-none c =
 pub returns-clause-found : goal.returns-clause-found
 returns-clause-found c =
     parts_put c.args.text.now c.in_ok-rest.rest.now _ _ c.in_ok-rest.ensures.found (record {
-      length = c.if-rest-ne13.false;
+      length = c.if-rest.false;
       space = c.if-rest-ne32.false;
       address_is = (c.in_ok-address.ensures c.in_ok-address.address).0 refl;
       value_is = subst (IsOct6 c.in_ok-value.value) (take_rest c.in_ok-rest.rest.now 7) ((c.in_ok-value.ensures c.in_ok-value.value).0 refl);

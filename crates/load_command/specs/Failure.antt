@@ -3,7 +3,7 @@ use Rattle.std.specs.Prelude.{◌≡◌, ℕ, List, ◌++◌, Option, codes, dec
 use Rattle.tape_blocks.specs.Fault.{why_text}
 use Rattle.load_command.specs.TapeFile.{IsRefusedInput}
 use Rattle.load_command.specs.declared.failure.Failure.{Failure}
-use Rattle.load_command.specs.declared.failure.Failure.TheVariants.{CannotRead, CannotWrite, TapeRefused, ScriptRefused, TooLarge, NoMemory}
+use Rattle.load_command.specs.declared.failure.Failure.TheVariants.{CannotRead, CannotWrite, TapeRefused, ScriptRefused, TooLarge, BadWord, NoMemory}
 use Rattle.load_command.specs.declared.fault.CommandFault.{CommandFault}
 use Rattle.load_command.specs.declared.fault.CommandFault.TheVariants as fault
 use Rattle.load_command.specs.declared.status.Status.{Status}
@@ -16,6 +16,7 @@ status_of CannotWrite = DeviceFailed
 status_of (TapeRefused refusal) = Refused
 status_of (ScriptRefused line) = Refused
 status_of TooLarge = BadCommandLine
+status_of BadWord = BadCommandLine
 status_of NoMemory = OutOfMemory
 
 -- what a failure's line says, after the program's name
@@ -25,6 +26,7 @@ failure_text CannotWrite = codes "cannot write output"
 failure_text (TapeRefused refusal) = codes "tape refused at " ++ decimal refusal.at ++ codes ": " ++ why_text refusal.why
 failure_text (ScriptRefused line) = codes "script refused at line " ++ decimal line
 failure_text TooLarge = codes "machine too large"
+failure_text BadWord = codes "a word of the command line is not UTF-8"
 failure_text NoMemory = codes "out of memory"
 
 -- the failure is that a file of this name can't be read
@@ -34,6 +36,7 @@ NamesFile text CannotWrite = ⊥
 NamesFile text (TapeRefused refusal) = ⊥
 NamesFile text (ScriptRefused line) = ⊥
 NamesFile text TooLarge = ⊥
+NamesFile text BadWord = ⊥
 NamesFile text NoMemory = ⊥
 
 -- the failure that a command's fault is, where its tape and its script have these names
@@ -54,4 +57,5 @@ IsCheckFailure input (ScriptRefused line) = ⊥
 IsCheckFailure input (CannotRead name) = ⊤
 IsCheckFailure input CannotWrite = ⊤
 IsCheckFailure input TooLarge = ⊤
+IsCheckFailure input BadWord = ⊤
 IsCheckFailure input NoMemory = ⊤

@@ -16,6 +16,8 @@ pub enum Failure<'a> {
     ScriptRefused(u32),
     /// The machine is larger than an LSI-11's memory.
     TooLarge,
+    /// A word of the command line is no text, so it names nothing.
+    BadWord,
     /// A growth of memory was refused.
     NoMemory,
 }
@@ -47,7 +49,7 @@ impl<'a> Failure<'a> {
         match self {
             Failure::CannotRead(_) | Failure::CannotWrite => Status::DeviceFailed,
             Failure::TapeRefused(_) | Failure::ScriptRefused(_) => Status::Refused,
-            Failure::TooLarge => Status::BadCommandLine,
+            Failure::TooLarge | Failure::BadWord => Status::BadCommandLine,
             Failure::NoMemory => Status::NoMemory,
         }
     }
@@ -73,6 +75,7 @@ impl fmt::Display for Failure<'_> {
             }
             Failure::ScriptRefused(line) => write!(f, "script refused at line {line}"),
             Failure::TooLarge => f.write_str("machine too large"),
+            Failure::BadWord => f.write_str("a word of the command line is not UTF-8"),
             Failure::NoMemory => f.write_str("out of memory"),
         }
     }

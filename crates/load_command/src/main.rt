@@ -25,6 +25,7 @@ mod type_keys;
 mod waiting;
 
 use failure::Failure;
+use std::io::ErrorKind;
 use std::process::ExitCode;
 use std::{env, io};
 
@@ -32,8 +33,9 @@ fn main(rt: HostRuntime) -> ExitCode {
     let mut input = rt.stdin();
     let mut out = rt.stdout();
     let mut err = rt.stderr();
-    let Ok(words) = words(&rt) else {
-        return ExitCode::from(program::tell(Failure::NoMemory, &mut err).code());
+    let words = match words(&rt) {
+        Ok(words) => words,
+        Err(error) => return ExitCode::from(program::tell(failure_of(&error), &mut err).code()),
     };
     let alloc = rt.alloc();
     ExitCode::from(program::program(&rt, alloc, &words, &mut input, &mut out, &mut err))
@@ -46,4 +48,12 @@ fn words(rt: &HostRuntime) -> io::Result<Vec<String>> {
         words.push(word)?;
     }
     Ok(words)
+}
+
+/// Why the words can't be had: one of them is no text, or want of memory.
+fn failure_of(error: &io::Error) -> Failure<'static> {
+    match error.kind() {
+        ErrorKind::InvalidData => Failure::BadWord,
+        _ => Failure::NoMemory,
+    }
 }

@@ -1,9 +1,6 @@
 -- Words put into a machine, one after another.
-use Rattle.std.proofs.Common.{◌≡◌, ℕ, ◌+◌, ◌*◌, ◌%◌, ◌<◌, ◌≤◌, Bool, true, false, ◌==◌, ◌&&◌, List, [], ◌∷◌, ◌++◌, length, ap, sym, refl, ◌∙◌, subst}
-use Rattle.std.specs.Prelude.{nat_lt, slice_set}
-use Rattle.std.specs.List.{AllByRecursion}
-use Rattle.std.proofs.lemmas.List.{length-set}
-use Rattle.odt_machine.specs.Machine.{Machine, is_word, stored}
+use Rattle.std.proofs.Common.{◌≡◌, ℕ, Bool, false, List, ◌∷◌, ◌++◌, length, ap, sym, refl, ◌∙◌}
+use Rattle.odt_machine.specs.Machine.{Machine, is_word}
 use Rattle.load_command.specs.declared.script.PutLine.{PutLine}
 use Rattle.load_command.specs.Rehearsal.{lies_in, after_puts, AllLie, IsRefusedPut}
 

@@ -1,5 +1,5 @@
 -- Texts that are gathered piece by piece.
-use Rattle.std.proofs.Common.{◌≡◌, ℕ, List, [], ◌∷◌, ◌++◌, Result, Ok, Err, OnOk, Option, ap, sym, subst, ◌∙◌, append_assoc, codes, decimal}
+use Rattle.std.proofs.Common.{◌≡◌, ℕ, List, ◌++◌, Result, Ok, Err, OnOk, Option, ap, ◌∙◌, append_assoc, codes, decimal}
 use Rattle.std.specs.List.{flat_map}
 use Rattle.octal.specs.Octal.{octal_text}
 use Rattle.tape_image.specs.Word.{WordValue}
@@ -7,7 +7,7 @@ use Rattle.odt_machine.specs.declared.mode.Mode.{Mode}
 use Rattle.odt_machine.specs.declared.mode.Mode.TheVariants.{Number, Typing}
 use Rattle.odt_machine.specs.Machine.{Machine}
 use Rattle.host_core.specs.declared.phase.End.{End}
-use Rattle.host_core.specs.Core.{Core, ended}
+use Rattle.host_core.specs.Core.{ended}
 use Rattle.line_world.specs.Scene.{Scene}
 use Rattle.load_command.specs.CheckText.{line}
 use Rattle.load_command.specs.Report.{counts_text, end_name, mode_name, word_text, report}

@@ -6,12 +6,11 @@ use Rattle.std.specs.Str.Lines.{lines}
 use Rattle.std.proofs.lemmas.List.{length-append}
 use Rattle.load_command.specs.declared.line.Line.{Line}
 use Rattle.load_command.specs.declared.line.Line.TheVariants as line
-use Rattle.load_command.specs.declared.line.Setting.{Setting}
 use Rattle.load_command.specs.declared.line.Setting.TheVariants.{Words, OfStyle, Patience, Wait, Put}
 use Rattle.load_command.specs.declared.script.Script.{Script}
 use Rattle.load_command.specs.declared.script.Draft.{Draft}
 use Rattle.load_command.specs.Line.{IsLine}
-use Rattle.load_command.specs.Script.{MayCome, IsInOrder, first_in, words_in, style_in, IsScript, IsRefusedLine, IsRefusedScript}
+use Rattle.load_command.specs.Script.{MayCome, IsInOrder, first_in, words_in, style_in, IsScript, IsRefusedScript}
 use Rattle.load_command.specs.Draft.{Holds, Joins}
 use Rattle.load_command.proofs.Drafts.{order_more}
 

@@ -1,5 +1,5 @@
 -- The report of a world, as `dialogue` and `rehearse` print it (this project's own). Counts are those of the host's life.
-use Rattle.std.specs.Prelude.{ℕ, ◌==◌, if◌then◌else◌, List, [], ◌∷◌, ◌++◌, length, codes, decimal, Option, Some, None}
+use Rattle.std.specs.Prelude.{ℕ, ◌==◌, if◌then◌else◌, List, ◌++◌, length, codes, decimal, Option, Some, None}
 use Rattle.std.specs.List.{flat_map}
 use Rattle.octal.specs.Octal.{octal_text}
 use Rattle.tape_image.specs.Word.{WordValue, merged}

@@ -12,41 +12,43 @@ const ONE_WORD: [u8; 16] = [
 const ONE_WORD_TEXT: &[u8] =
     b"blocks 1 data 2 read 16\nstart 001000\ncanonical yes\nwords 1\n001000 177777 011064\n";
 
+/// A tape, what is printed of it, and why the row is there.
+const TAPES: [(&[u8], &[u8], &str); 5] = [
+    (&ONE_WORD, ONE_WORD_TEXT, "one word, and a start"),
+    (
+        &[0x01, 0x00, 0x06, 0x00, 0x01, 0x00, 0xF8],
+        b"blocks 0 data 0 read 7\nno start 000001\ncanonical yes\nwords 0\n",
+        "no block, and an odd start",
+    ),
+    (
+        &[
+            0x01, 0x00, 0x07, 0x00, 0xFF, 0xDF, 0x55, 0xC5, 0x01, 0x00, 0x06, 0x00, 0x01, 0x00,
+            0xF8,
+        ],
+        b"blocks 1 data 1 read 15\nno start 000001\ncanonical yes\nwords 1\n157776 177400 052400\n",
+        "the last byte of memory is the high one of its word",
+    ),
+    (
+        &[
+            0x01, 0x00, 0x07, 0x00, 0x01, 0x02, 0x55, 0xA0, 0x01, 0x00, 0x06, 0x00, 0x01, 0x00,
+            0xF8,
+        ],
+        b"blocks 1 data 1 read 15\nno start 000001\ncanonical yes\nwords 1\n001000 177400 052400\n",
+        "an odd byte leaves the one before it alone",
+    ),
+    (
+        &[
+            0x01, 0x00, 0x08, 0x00, 0x00, 0x02, 0x11, 0x22, 0xC2, 0x01, 0x00, 0x08, 0x00, 0x01,
+            0x02, 0x33, 0x44, 0x7D, 0x01, 0x00, 0x06, 0x00, 0x00, 0x02, 0xF7,
+        ],
+        b"blocks 2 data 4 read 25\nstart 001000\ncanonical yes\nwords 2\n001000 177777 031421\n001002 000377 000104\n",
+        "the later of two blocks wins where they overlap",
+    ),
+];
+
 #[test]
 fn a_tape_is_printed(rt: HostRuntime) -> Result<(), Fail> {
-    let rows: [(&[u8], &[u8], &str); 5] = [
-        (&ONE_WORD, ONE_WORD_TEXT, "one word, and a start"),
-        (
-            &[0x01, 0x00, 0x06, 0x00, 0x01, 0x00, 0xF8],
-            b"blocks 0 data 0 read 7\nno start 000001\ncanonical yes\nwords 0\n",
-            "no block, and an odd start",
-        ),
-        (
-            &[
-                0x01, 0x00, 0x07, 0x00, 0xFF, 0xDF, 0x55, 0xC5, 0x01, 0x00, 0x06, 0x00, 0x01, 0x00,
-                0xF8,
-            ],
-            b"blocks 1 data 1 read 15\nno start 000001\ncanonical yes\nwords 1\n157776 177400 052400\n",
-            "the last byte of memory is the high one of its word",
-        ),
-        (
-            &[
-                0x01, 0x00, 0x07, 0x00, 0x01, 0x02, 0x55, 0xA0, 0x01, 0x00, 0x06, 0x00, 0x01, 0x00,
-                0xF8,
-            ],
-            b"blocks 1 data 1 read 15\nno start 000001\ncanonical yes\nwords 1\n001000 177400 052400\n",
-            "an odd byte leaves the one before it alone",
-        ),
-        (
-            &[
-                0x01, 0x00, 0x08, 0x00, 0x00, 0x02, 0x11, 0x22, 0xC2, 0x01, 0x00, 0x08, 0x00, 0x01,
-                0x02, 0x33, 0x44, 0x7D, 0x01, 0x00, 0x06, 0x00, 0x00, 0x02, 0xF7,
-            ],
-            b"blocks 2 data 4 read 25\nstart 001000\ncanonical yes\nwords 2\n001000 177777 031421\n001002 000377 000104\n",
-            "the later of two blocks wins where they overlap",
-        ),
-    ];
-    for (tape, wanted, reason) in rows {
+    for (tape, wanted, reason) in TAPES {
         let mut input = tape;
         let mut out = Vec::new(rt.alloc());
         assert_eq!(rt;

@@ -10,6 +10,34 @@ const KEYS: &[u8] = b"001000/011064\n001000/\n9";
 /// What the console answers to them.
 const ANSWERS: &[u8] = b"001000/000000 011064\r\n@001000/011064 \r\n@?\r\n@";
 
+/// The mode that the keys before each place leave, and at the end the mode after all of them.
+const MODES: [Mode; 24] = [
+    Mode::Prompt,
+    Mode::Number(0, 1),
+    Mode::Number(0, 2),
+    Mode::Number(0o1, 3),
+    Mode::Number(0o10, 4),
+    Mode::Number(0o100, 5),
+    Mode::Number(0o1000, 6),
+    Mode::Opened(0o1000),
+    Mode::Typing(0o1000, 0, 1),
+    Mode::Typing(0o1000, 0o1, 2),
+    Mode::Typing(0o1000, 0o11, 3),
+    Mode::Typing(0o1000, 0o110, 4),
+    Mode::Typing(0o1000, 0o1106, 5),
+    Mode::Typing(0o1000, 0o11064, 6),
+    Mode::Prompt,
+    Mode::Number(0, 1),
+    Mode::Number(0, 2),
+    Mode::Number(0o1, 3),
+    Mode::Number(0o10, 4),
+    Mode::Number(0o100, 5),
+    Mode::Number(0o1000, 6),
+    Mode::Opened(0o1000),
+    Mode::Prompt,
+    Mode::Prompt,
+];
+
 const PLAIN: Style = Style {
     space_before: false,
     two_returns: false,
@@ -45,14 +73,7 @@ fn the_keys_past_the_limit_stay_unread(rt: HostRuntime) -> Result<(), Fail> {
 
 #[test]
 fn a_device_fails_once(rt: HostRuntime) -> Result<(), Fail> {
-    // The mode that the keys before the place leave, at the first, a middle and the last place.
-    let rows = [
-        (0, Mode::Prompt),
-        (6, Mode::Number(0o1000, 6)),
-        (13, Mode::Typing(0o1000, 0o11064, 6)),
-        (23, Mode::Prompt),
-    ];
-    for (place, mode) in rows {
+    for (place, mode) in MODES.iter().enumerate() {
         let mut odt = Odt::new(rt.alloc(), 28672, PLAIN)?;
         let mut keys = BrokenInput::new(KEYS, place);
         let mut out = Vec::new(rt.alloc());
@@ -62,7 +83,7 @@ fn a_device_fails_once(rt: HostRuntime) -> Result<(), Fail> {
             "before key {place}"
         );
         assert_eq!(rt; (keys.failures, keys.later_reads), (1, 0), "{place}");
-        assert_eq!(rt; odt.mode(), mode, "{place}");
+        assert_eq!(rt; odt.mode(), *mode, "{place}");
         assert!(rt; ANSWERS.starts_with(out.as_slice()), "{place}");
     }
     for number in 1..8 {

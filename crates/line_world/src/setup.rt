@@ -15,6 +15,11 @@ pub enum Setup {
 }
 
 impl fmt::Display for Setup {
+    ghost use Rattle.std.specs.Prelude.{Some};
+    ghost use Rattle.line_world.specs.Setup.{setup_text};
+
+    ghost output = { λ setup. Some (setup_text setup) };
+
     fn fmt<W: fmt::Write>(&self, f: &mut fmt::Formatter<W>) -> fmt::Result {
         f.write_str(match self {
             Setup::TooMuchWaiting => "more than 32 characters wait",

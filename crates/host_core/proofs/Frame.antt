@@ -10,7 +10,7 @@ use Rattle.host_core.specs.declared.heard.Heard.{Heard}
 use Rattle.host_core.specs.declared.heard.Heard.TheVariants.{Got, Quiet}
 use Rattle.host_core.specs.declared.turn.Turn.{Turn}
 use Rattle.host_core.specs.declared.turn.Turn.TheVariants.{Listen, Key, Verified, ReadBack, Next, Mark, Stop, Stray, Timeout}
-use Rattle.host_core.specs.Console.{resync}
+use Rattle.host_core.specs.Console.{resynchronise}
 use Rattle.host_core.specs.Core.{Core, word_under_way, start_of}
 use Rattle.host_core.specs.Host.{IsHost, MarkFits, IsPastMark}
 use Rattle.host_core.specs.Laws.{keys}
@@ -57,7 +57,7 @@ taken_moved core Stray =
     (λ _. record { plan = refl; patience = refl; sent = not_sent core.sent; going = λ e. e; start = refl })
     (λ _. record { plan = refl; patience = refl; sent = not_sent core.sent; going = λ e. e; start = refl })
 taken_moved core Timeout =
-    on_move (IsMoved core) (nat_lt core.spent core.patience) (sends (record core { spent = core.spent + 1 }) resync (Sync 0)) (listens core (Ended GaveUp))
+    on_move (IsMoved core) (nat_lt core.spent core.patience) (sends (record core { spent = core.spent + 1 }) resynchronise (Sync 0)) (listens core (Ended GaveUp))
     (λ _. record { plan = refl; patience = refl; sent = refl; going = λ e. e; start = refl })
     (λ _. record { plan = refl; patience = refl; sent = not_sent core.sent; going = λ e. e; start = refl })
 

@@ -22,7 +22,7 @@ use Rattle.host_core.specs.declared.heard.Heard.{Heard}
 use Rattle.host_core.specs.declared.heard.Heard.TheVariants.{Got, Quiet}
 use Rattle.host_core.specs.declared.turn.Turn.{Turn}
 use Rattle.host_core.specs.declared.turn.Turn.TheVariants.{Listen, Key, Verified, ReadBack, Next, Mark, Stop, Stray, Timeout}
-use Rattle.host_core.specs.Console.{resync, space}
+use Rattle.host_core.specs.Console.{resynchronise, space}
 use Rattle.host_core.specs.Core.{Core, begun, first_phase, word_under_way, start_of}
 use Rattle.host_core.specs.Host.{IsHost, Basis, PhaseFits, basis_of, value_room}
 use Rattle.host_core.specs.Laws.{led, HasRead, VerifiesOnlyRead}
@@ -158,7 +158,7 @@ taken_heard core (Stop end) heard t = tt
 taken_heard core Stray heard t =
     on_move (λ m. HeardFits m.next.phase heard) (nat_lt core.spent core.patience) (listens (record core { spent = core.spent + 1 }) Settle) (listens core (Ended GaveUp)) (λ _. tt) (λ _. tt)
 taken_heard core Timeout heard t =
-    on_move (λ m. HeardFits m.next.phase heard) (nat_lt core.spent core.patience) (sends (record core { spent = core.spent + 1 }) resync (Sync 0)) (listens core (Ended GaveUp)) (λ _. tt) (λ _. tt)
+    on_move (λ m. HeardFits m.next.phase heard) (nat_lt core.spent core.patience) (sends (record core { spent = core.spent + 1 }) resynchronise (Sync 0)) (listens core (Ended GaveUp)) (λ _. tt) (λ _. tt)
 
 led_heard : (core : Core) (more before : List Heard) → IsHost core → HeardFits core.phase before → HeardFits (led core more).phase (before ++ more)
 led_heard core [] before h f = subst (HeardFits core.phase) (sym (append-nil before)) f
@@ -189,7 +189,7 @@ taken_verified core Stray heard t other =
 taken_verified core Timeout heard t other =
     absurd
     (other
-    (on_move (λ m. m.next.verified ≡ core.verified) (nat_lt core.spent core.patience) (sends (record core { spent = core.spent + 1 }) resync (Sync 0)) (listens core (Ended GaveUp)) (λ _. refl) (λ _. refl)))
+    (on_move (λ m. m.next.verified ≡ core.verified) (nat_lt core.spent core.patience) (sends (record core { spent = core.spent + 1 }) resynchronise (Sync 0)) (listens core (Ended GaveUp)) (λ _. refl) (λ _. refl)))
 
 first_heard : (plan : PlanValue) (verified : ℕ) (going : Bool) → HeardFits (first_phase plan verified going) []
 first_heard plan verified true = tt

@@ -17,7 +17,7 @@ use Rattle.host_core.specs.declared.heard.Heard.{Heard}
 use Rattle.host_core.specs.declared.heard.Heard.TheVariants.{Got, Quiet}
 use Rattle.host_core.specs.declared.turn.Turn.{Turn}
 use Rattle.host_core.specs.declared.turn.Turn.TheVariants.{Listen, Key, Verified, ReadBack, Next, Mark, Stop, Stray, Timeout}
-use Rattle.host_core.specs.Console.{resync, carriage_return, go}
+use Rattle.host_core.specs.Console.{resynchronise, carriage_return, go}
 use Rattle.host_core.specs.Core.{Core, begun, first_phase, word_under_way, start_of}
 use Rattle.host_core.specs.Host.{IsHost, IsPlace, Basis, PhaseFits, basis_of}
 use Rattle.host_core.specs.Bound.{used_in}
@@ -140,8 +140,8 @@ taken_typed core Stray typed f t none past =
     (λ _. not_typed (listens (record core { spent = core.spent + 1 }) Settle).next typed (inl (none, tt)))
     (λ _. not_typed (listens core (Ended GaveUp)).next typed (inl (none, tt)))
 taken_typed core Timeout typed f t none past =
-    on_move (λ m. IsTyped m.next (typed ++ keys m.key)) (nat_lt core.spent core.patience) (sends (record core { spent = core.spent + 1 }) resync (Sync 0)) (listens core (Ended GaveUp))
-    (λ _. inl (no_more typed resync none (λ e. omega arith), tt))
+    on_move (λ m. IsTyped m.next (typed ++ keys m.key)) (nat_lt core.spent core.patience) (sends (record core { spent = core.spent + 1 }) resynchronise (Sync 0)) (listens core (Ended GaveUp))
+    (λ _. inl (no_more typed resynchronise none (λ e. omega arith), tt))
     (λ _. not_typed (listens core (Ended GaveUp)).next typed (inl (none, tt)))
 
 stays_whole : (core : Core) (m : Move) (typed : List ℕ) → StaysStill core m → IsMoved core m → EndsWithStart (start_of core) typed → core.verified ≡ length core.plan.words → core.going ≡ true → IsTyped m.next (typed ++ keys m.key)

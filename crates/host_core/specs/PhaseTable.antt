@@ -4,7 +4,7 @@
 use Rattle.std.specs.Prelude.{ℕ, ◌+◌, ◌-◌, ◌*◌, true, ◌==◌, ◌||◌, nat_lt, if◌then◌else◌, length, Option, Some, None}
 use Rattle.octal.specs.Octal.{digit_of, is_digit}
 use Rattle.tape_image.specs.Word.{WordValue, merged}
-use Rattle.host_core.specs.Console.{resync, question, carriage_return, line_feed, prompt, slash, space, go}
+use Rattle.host_core.specs.Console.{resynchronise, question_mark, carriage_return, line_feed, prompt, slash, space, go}
 use Rattle.host_core.specs.Core.{Core, word_under_way, start_of}
 use Rattle.host_core.specs.declared.phase.Phase.{Phase}
 use Rattle.host_core.specs.declared.phase.Phase.TheVariants.{Settle, Sync, Address, Slash, Before, Value, Deposit, Return, Start, Go, Ended}
@@ -21,18 +21,22 @@ use Rattle.host_core.specs.declared.turn.Turn.TheVariants.{Listen, Key, Verified
 -- Sync: the answer to `Z`, with or without its echo, with one CR or two, up to the prompt
 abbrev pub sync_hears : ℕ → ℕ → Turn
 sync_hears place c =
-    if place == 0 then (if c == resync then Listen (Sync 1) else (if c == question then Listen (Sync 2) else Stray))
-    else (if place == 1 then (if c == question then Listen (Sync 2) else Stray)
+    if place == 0 then (if c == resynchronise then Listen (Sync 1) else (if c == question_mark then Listen (Sync 2) else Stray))
+    else (if place == 1 then (if c == question_mark then Listen (Sync 2) else Stray)
     else (if place == 2 then (if c == carriage_return then Listen (Sync 3) else Stray)
     else (if place == 3 then (if c == carriage_return then Listen (Sync 4) else (if c == line_feed then Listen (Sync 5) else Stray))
     else (if place == 4 then (if c == line_feed then Listen (Sync 5) else Stray)
     else (if c == prompt then Next else Stray)))))
 
+-- the echo of one of a number's six digits: the next is typed, to go on in phase `next`; after the sixth comes `last`
+abbrev pub echo_hears : ℕ → ℕ → ℕ → Phase → Turn → Turn
+echo_hears number place c next last =
+    if c == digit_of number place then (if nat_lt place 6 then Key (digit_of number (place + 1)) next else last)
+    else Stray
+
 -- Address: the echo of each of the six digits, then `/`
 abbrev pub address_hears : ℕ → Visit → ℕ → ℕ → Turn
-address_hears address visit place c =
-    if c == digit_of address place then (if nat_lt place 6 then Key (digit_of address (place + 1)) (Address visit (place + 1)) else Key slash (Slash visit))
-    else Stray
+address_hears address visit place c = echo_hears address place c (Address visit (place + 1)) (Key slash (Slash visit))
 
 -- Slash: the echo of `/`
 abbrev pub slash_hears : Visit → ℕ → Turn
@@ -46,7 +50,7 @@ first_digit_hears visit c = if c == 48 || c == 49 then Listen (Value visit (c - 
 abbrev pub before_hears : ℕ → Visit → ℕ → Turn
 before_hears address visit c =
     if c == space then Listen (Value visit 0 0)
-    else (if c == question then Stop (NoWord address)
+    else (if c == question_mark then Stop (NoWord address)
     else first_digit_hears visit c)
 
 -- a whole reading that is not the tape's word: on the first visit it is mended, after the deposit the memory doesn't hold it
@@ -67,9 +71,7 @@ value_hears word visit value place c =
 
 -- Deposit: the echo of each of the six digits, then CR
 abbrev pub deposit_hears : ℕ → ℕ → ℕ → Turn
-deposit_hears value place c =
-    if c == digit_of value place then (if nat_lt place 6 then Key (digit_of value (place + 1)) (Deposit value (place + 1)) else Key carriage_return (Return Store 0))
-    else Stray
+deposit_hears value place c = echo_hears value place c (Deposit value (place + 1)) (Key carriage_return (Return Store 0))
 
 -- at the prompt after a CR: a stored word is read back, after a verified word comes the next
 abbrev pub returned : Reason → Turn
@@ -86,9 +88,7 @@ return_hears reason place c =
 
 -- Start: the echo of each of the start address's six digits, then `G`
 abbrev pub start_hears : ℕ → ℕ → ℕ → Turn
-start_hears start place c =
-    if c == digit_of start place then (if nat_lt place 6 then Key (digit_of start (place + 1)) (Start (place + 1)) else Mark)
-    else Stray
+start_hears start place c = echo_hears start place c (Start (place + 1)) Mark
 
 -- Go: the echo of `G`
 abbrev pub go_hears : ℕ → Turn
@@ -110,7 +110,7 @@ hears word start (Ended end) c = Listen (Ended end)
 
 -- nothing is heard for the quiet time
 abbrev pub waits : Phase → Turn
-waits Settle = Key resync (Sync 0)
+waits Settle = Key resynchronise (Sync 0)
 waits Go = Stop Uncertain
 waits (Ended end) = Listen (Ended end)
 waits _ = Timeout
@@ -158,7 +158,7 @@ taken core Stray =
     if nat_lt core.spent core.patience then listens (record core { spent = core.spent + 1 }) Settle
     else listens core (Ended GaveUp)
 taken core Timeout =
-    if nat_lt core.spent core.patience then sends (record core { spent = core.spent + 1 }) resync (Sync 0)
+    if nat_lt core.spent core.patience then sends (record core { spent = core.spent + 1 }) resynchronise (Sync 0)
     else listens core (Ended GaveUp)
 
 -- the turn that the table gives for a core

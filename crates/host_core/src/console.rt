@@ -1,10 +1,10 @@
 // The characters of the console that are no digits.
 
 /// Makes the console forget what was typed: no command of the console uses it.
-pub const RESYNC: u8 = b'Z';
+pub const RESYNCHRONISE: u8 = b'Z';
 
 /// The console can't do what was typed.
-pub const QUESTION: u8 = b'?';
+pub const QUESTION_MARK: u8 = b'?';
 
 /// Closes the open word.
 pub const CARRIAGE_RETURN: u8 = b'\r';

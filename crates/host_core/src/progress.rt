@@ -2,6 +2,8 @@ ghost use Rattle.std.specs.Prelude.{◌≡◌, ℕ};
 ghost use Rattle.tape_image.specs.Plan.{IsPlan};
 ghost use Rattle.host_core.specs.Opening.{refusal_of};
 
+use std::error::Error;
+use std::fmt;
 use tape_image::Plan;
 
 /// How far a load has come.
@@ -23,6 +25,22 @@ pub enum BadProgress {
     /// The mark is set with words missing, or with no start.
     EarlyMark,
 }
+
+impl fmt::Display for BadProgress {
+    ghost use Rattle.std.specs.Prelude.{Some};
+    ghost use Rattle.host_core.specs.Opening.{bad_progress_text};
+
+    ghost output = { λ bad. Some (bad_progress_text bad) };
+
+    fn fmt<W: fmt::Write>(&self, f: &mut fmt::Formatter<W>) -> fmt::Result {
+        f.write_str(match self {
+            BadProgress::TooMany => "more words are verified than the plan has",
+            BadProgress::EarlyMark => "the start is marked with a word missing or without a start",
+        })
+    }
+}
+
+impl Error for BadProgress {}
 
 impl Progress {
     /// What is wrong with this progress in a load of the plan, if anything.

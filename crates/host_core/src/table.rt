@@ -2,10 +2,12 @@
 
 ghost use Rattle.std.specs.Prelude.{◌≡◌, ℕ, ◌<◌, ◌≤◌};
 ghost use Rattle.octal.specs.Octal.{digit_of};
-ghost use Rattle.host_core.specs.PhaseTable.{sync_hears, address_hears, slash_hears, first_digit_hears, before_hears, read, value_hears, deposit_hears, return_hears, start_hears, go_hears, waits};
+ghost use Rattle.host_core.specs.PhaseTable.{sync_hears, echo_hears, address_hears, slash_hears, first_digit_hears, before_hears, read, value_hears, deposit_hears, return_hears, start_hears, go_hears, waits};
 ghost use Rattle.host_core.specs.Host.{IsPlace, value_room};
 
-use crate::console::{CARRIAGE_RETURN, GO, LINE_FEED, PROMPT, QUESTION, RESYNC, SLASH, SPACE};
+use crate::console::{
+    CARRIAGE_RETURN, GO, LINE_FEED, PROMPT, QUESTION_MARK, RESYNCHRONISE, SLASH, SPACE,
+};
 use crate::phase::{End, Phase, Reason, Visit};
 use crate::turn::Turn;
 use octal::oct6;
@@ -19,8 +21,8 @@ pub fn sync(place: u8, c: u8) -> Turn
     ensures { result ≡ sync_hears place c }
 {
     match (place, c) {
-        (0, RESYNC) => Turn::Listen(Phase::Sync(1)),
-        (0 | 1, QUESTION) => Turn::Listen(Phase::Sync(2)),
+        (0, RESYNCHRONISE) => Turn::Listen(Phase::Sync(1)),
+        (0 | 1, QUESTION_MARK) => Turn::Listen(Phase::Sync(2)),
         (2, CARRIAGE_RETURN) => Turn::Listen(Phase::Sync(3)),
         (3, CARRIAGE_RETURN) => Turn::Listen(Phase::Sync(4)),
         (3 | 4, LINE_FEED) => Turn::Listen(Phase::Sync(5)),
@@ -29,18 +31,28 @@ pub fn sync(place: u8, c: u8) -> Turn
     }
 }
 
+// The echo of a digit of `number`: the next digit is typed, to go on in phase `next`; after the sixth
+// comes `last`.
+fn digit_echo(number: u16, place: u8, c: u8, next: Phase, last: Turn) -> Turn
+    requires { IsPlace place }
+    ensures { result ≡ echo_hears number place c next last }
+{
+    if c != digit(number, place) {
+        Turn::Stray
+    } else if place < DIGITS {
+        Turn::Key(digit(number, place + 1), next)
+    } else {
+        last
+    }
+}
+
 /// The echo of each digit of the address, then `/` is typed.
 pub fn address(address: u16, visit: Visit, place: u8, c: u8) -> Turn
     requires { IsPlace place }
     ensures { result ≡ address_hears address visit place c }
 {
-    if c != digit(address, place) {
-        Turn::Stray
-    } else if place < DIGITS {
-        Turn::Key(digit(address, place + 1), Phase::Address(visit, place + 1))
-    } else {
-        Turn::Key(SLASH, Phase::Slash(visit))
-    }
+    let opens = Turn::Key(SLASH, Phase::Slash(visit));
+    digit_echo(address, place, c, Phase::Address(visit, place + 1), opens)
 }
 
 /// The echo of `/`.
@@ -59,7 +71,7 @@ pub fn before(address: u16, visit: Visit, c: u8) -> Turn
 {
     match c {
         SPACE => Turn::Listen(Phase::Value(visit, 0, 0)),
-        QUESTION => Turn::Stop(End::NoWord(address)),
+        QUESTION_MARK => Turn::Stop(End::NoWord(address)),
         _ => first_digit(visit, c),
     }
 }
@@ -111,13 +123,8 @@ pub fn deposit(value: u16, place: u8, c: u8) -> Turn
     requires { IsPlace place }
     ensures { result ≡ deposit_hears value place c }
 {
-    if c != digit(value, place) {
-        Turn::Stray
-    } else if place < DIGITS {
-        Turn::Key(digit(value, place + 1), Phase::Deposit(value, place + 1))
-    } else {
-        Turn::Key(CARRIAGE_RETURN, Phase::Return(Reason::Store, 0))
-    }
+    let stores = Turn::Key(CARRIAGE_RETURN, Phase::Return(Reason::Store, 0));
+    digit_echo(value, place, c, Phase::Deposit(value, place + 1), stores)
 }
 
 /// The answer to CR: one CR or two, LF, and the prompt.
@@ -141,13 +148,7 @@ pub fn start(start: u16, place: u8, c: u8) -> Turn
     requires { IsPlace place }
     ensures { result ≡ start_hears start place c }
 {
-    if c != digit(start, place) {
-        Turn::Stray
-    } else if place < DIGITS {
-        Turn::Key(digit(start, place + 1), Phase::Start(place + 1))
-    } else {
-        Turn::Mark
-    }
+    digit_echo(start, place, c, Phase::Start(place + 1), Turn::Mark)
 }
 
 /// The echo of `G`. It is never sent again: the program may be running.
@@ -165,7 +166,7 @@ pub fn quiet(phase: Phase) -> Turn
     ensures { result ≡ waits phase }
 {
     match phase {
-        Phase::Settle => Turn::Key(RESYNC, Phase::Sync(0)),
+        Phase::Settle => Turn::Key(RESYNCHRONISE, Phase::Sync(0)),
         Phase::Go => Turn::Stop(End::Uncertain),
         Phase::Ended(_) => Turn::Listen(phase),
         _ => Turn::Timeout,

@@ -1,15 +1,13 @@
 -- How a load ends on a line that loses nothing: what the host then says, and what memory holds.
-use Rattle.std.proofs.Common.{◌≡◌, ◌≢◌, ℕ, ◌+◌, ◌/◌, ◌<◌, ◌≤◌, ◌⊎◌, Bool, true, false, ltb, Some, None, Option, List, [], ◌∷◌, length, inl, inr, refl, arith, ap, sym, subst, ◌∙◌}
-use Rattle.std.specs.Prelude.{◌==◌, ◌&&◌, if◌then◌else◌, slice_index, IsSome}
+use Rattle.std.proofs.Common.{◌≡◌, ◌≢◌, ℕ, ◌+◌, ◌<◌, ◌≤◌, ◌⊎◌, Bool, true, false, ltb, Some, None, Option, List, [], ◌∷◌, length, inl, inr, refl, arith, ap, sym, subst, ◌∙◌}
+use Rattle.std.specs.Prelude.{◌==◌, ◌&&◌, if◌then◌else◌, IsSome}
 use Rattle.std.specs.Option.{is_none}
 use Rattle.std.proofs.lemmas.Bool.Decides.{nat_tests}
 use Rattle.octal.specs.Octal.{digit_of}
 use Rattle.tape_image.specs.Memory.{top_of}
-use Rattle.tape_image.specs.Word.{WordValue, Stands}
-use Rattle.tape_image.specs.Plan.{PlanValue, IsPlan}
+use Rattle.tape_image.specs.Word.{WordValue}
+use Rattle.tape_image.specs.Plan.{PlanValue}
 use Rattle.tape_image.specs.Overlay.{IsOverlay}
-use Rattle.tape_image.proofs.Halves.{Stands-unchanged}
-use Rattle.tape_image.proofs.Standing.{IsOverlay-standing}
 use Rattle.odt_machine.specs.Machine.{Machine, is_word}
 use Rattle.host_core.specs.declared.heard.Heard.{Heard}
 use Rattle.host_core.specs.declared.heard.Heard.TheVariants.{Got, Quiet as Silence}
@@ -20,7 +18,7 @@ use Rattle.host_core.specs.declared.phase.Phase.{Phase}
 use Rattle.host_core.specs.declared.phase.Phase.TheVariants.{Settle, Sync, Address, Go, Ended}
 use Rattle.host_core.specs.declared.turn.Turn.{Turn}
 use Rattle.host_core.specs.declared.turn.Turn.TheVariants.{Next, Mark, Stop, Stray, Timeout}
-use Rattle.host_core.specs.Core.{Core, word_nr, no_word, word_under_way, start_of, first_phase, ended}
+use Rattle.host_core.specs.Core.{Core, word_nr, word_under_way, start_of, first_phase, ended}
 use Rattle.host_core.specs.Host.{IsHost, EndFits, MarkFits, PhaseFits, IsPastMark, basis_of}
 use Rattle.host_core.specs.PhaseTable.{Move, move, taken, turn_of, hears, waits, sends, listens, after_words}
 use Rattle.host_core.proofs.Turns.{kept}
@@ -36,8 +34,7 @@ use Rattle.line_world.specs.CleanText.{clean_text}
 use Rattle.line_world.specs.CleanLine.{IsOpening, LiesIn, full_end, StopsAt, LoadsClean}
 use Rattle.line_world.proofs.Frame.{scene}
 use Rattle.line_world.proofs.Silence.{past_mark}
-use Rattle.line_world.proofs.Stores.{rest_default}
-use Rattle.line_world.proofs.Events.{Steps, kept_event, kept_events, steps_events}
+use Rattle.line_world.proofs.Events.{Steps, kept_event, kept_events, steps_events, all_standing, under_mark, loaded}
 
 -- ---- no step ends a life as one that began with the mark set
 
@@ -168,26 +165,19 @@ mark_start : (going : Bool) (start : Option ℕ) (phase : Phase) → going ≡ t
 mark_start true start phase e h = h.0
 mark_start false start phase e h = absurd (not_both false refl e)
 
-standing_all : (going : Bool) (verified n i : ℕ) → verified ≡ n → i < n → i < (if going then n else verified)
-standing_all true verified n i all below = below
-standing_all false verified n i all below = omega arith
-
-standing_marked : (going : Bool) (verified n i : ℕ) → going ≡ true → i < n → i < (if going then n else verified)
-standing_marked going verified n i e below = rw e below
-
-standing_below : (going : Bool) (verified n i : ℕ) → verified ≤ n → i < verified → i < (if going then n else verified)
-standing_below true verified n i within below = omega arith
-standing_below false verified n i within below = below
+standing_loaded : (going : Bool) (verified n i : ℕ) → verified ≡ n → i < n → i < (if going then n else verified)
+standing_loaded true verified n i all below = below
+standing_loaded false verified n i all below = omega arith
 
 -- every word of the plan stands
 abbrev AllStand : Scene → Type 0
 AllStand now = (i : ℕ) → i < length now.core.plan.words → IsThere (site_of now i)
 
 loaded_stand : (now : Scene) → IsKept now → now.core.verified ≡ length now.core.plan.words → AllStand now
-loaded_stand now k all i below = k.words i (standing_all now.core.going now.core.verified (length now.core.plan.words) i all below)
+loaded_stand now k all i below = k.words i (standing_loaded now.core.going now.core.verified (length now.core.plan.words) i all below)
 
 marked_stand : (now : Scene) → IsKept now → now.core.going ≡ true → AllStand now
-marked_stand now k e i below = k.words i (standing_marked now.core.going now.core.verified (length now.core.plan.words) i e below)
+marked_stand now k e i below = k.words i (under_mark now.core.going now.core.verified (length now.core.plan.words) i e below)
 
 -- the end of a load whose plan is this one: all words were loaded, or the word under way does not lie in memory
 abbrev EndIsOf : Scene → End → Type 0
@@ -204,13 +194,6 @@ end_is_of w now GaveUp e = absurd (let paid = e.paid in let lost = e.lost in ome
 end_is_of w now (NoWord a) e = inr (ap NoWord e.fits.1, e.fits.0, λ lies. past_lies now.machine.memory a e.paid (ap (is_word now.machine.memory) e.fits.1 ∙ lies))
 end_is_of w now (WontHold a) e = absurd e.paid
 
--- every word stands, so memory is the overlay
-all_overlay : (before : List ℕ) (now : Scene) → IsPlan now.core.plan → AllStand now → OnlyImage before now.core.plan.image now.machine.memory → IsOverlay before now.core.plan.image now.machine.memory
-all_overlay before now fits words only =
-    IsOverlay-standing now.core.plan before now.machine.memory fits only.size
-    (λ k d below. subst (λ (v : WordValue). Stands v (slice_index now.machine.memory (v.address / 2))) (rest_default now.core.plan.words k no_word d below) (Stands-unchanged (word_nr now.core.plan.words k) _ (words k below).1))
-    (λ b below none. elim (only.bytes b below) [ inl same ↦ same | inr image ↦ absurd (cc) ])
-
 -- every word was loaded: memory is the overlay, and no mishap was met
 pub record EndsWhole (before now : Scene) (end : End) : Type 0 where
   pub end_is : end ≡ full_end before.core.plan.start
@@ -221,7 +204,7 @@ whole_ends : (w now : Scene) (end : End) → Ending w now end → AllStand now �
 whole_ends w now end e stand is = record {
   end_is = is ∙ ap (λ (p : PlanValue). full_end p.start) e.steps.plan;
   overlay = subst (λ (p : PlanValue). IsOverlay w.machine.memory p.image now.machine.memory) e.steps.plan
-      (all_overlay w.machine.memory now e.kept.host.image stand (subst (λ (p : PlanValue). OnlyImage w.machine.memory p.image now.machine.memory) (sym e.steps.plan) e.steps.bytes));
+      (loaded w.machine.memory now e.kept.host.image stand (subst (λ (p : PlanValue). OnlyImage w.machine.memory p.image now.machine.memory) (sym e.steps.plan) e.steps.bytes)).overlay;
   spent = let spent = e.kept.spent in let lost = e.lost in omega arith;
 }
 
@@ -249,7 +232,7 @@ clean_missing w events end o k run is i inside past before =
       | inr missing ↦
           let at : now.core.verified ≡ i = place now.core.verified i
           (λ less. missing.2 (lies_same w now now.core.verified e.steps ∙ before now.core.verified less))
-          (λ more. past (sym (lies_same w now i e.steps) ∙ (e.kept.words i (standing_below now.core.going now.core.verified (length now.core.plan.words) i e.kept.host.within more)).0)) in
+          (λ more. past (sym (lies_same w now i e.steps) ∙ (e.kept.words i (all_standing now.core.going now.core.verified (length now.core.plan.words) i e.kept.host.within more)).0)) in
           record {
             end_is = missing.0 ∙ ap (λ (p : PlanValue). NoWord (word_nr p.words now.core.verified).address) e.steps.plan ∙ ap (λ (j : ℕ). NoWord (word_nr w.core.plan.words j).address) at;
             verified = at;

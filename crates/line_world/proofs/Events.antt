@@ -122,15 +122,15 @@ steps_events w (event ∷ events) k = steps_then w (happens w event) (after (hap
 
 -- ---- safety
 
-all_standing : (going : Bool) (verified n i : ℕ) → verified ≤ n → i < verified → i < (if going then n else verified)
+pub all_standing : (going : Bool) (verified n i : ℕ) → verified ≤ n → i < verified → i < (if going then n else verified)
 all_standing true verified n i within below = omega arith
 all_standing false verified n i within below = below
 
-under_mark : (going : Bool) (verified n i : ℕ) → going ≡ true → i < n → i < (if going then n else verified)
+pub under_mark : (going : Bool) (verified n i : ℕ) → going ≡ true → i < n → i < (if going then n else verified)
 under_mark going verified n i e below = rw e below
 
 -- every word of the plan stands, so memory is the overlay
-loaded : (before : List ℕ) (w : Scene) → IsPlan w.core.plan → ((i : ℕ) → i < length w.core.plan.words → IsThere (site_of w i)) → OnlyImage before w.core.plan.image w.machine.memory → IsLoaded before w.core.plan w.machine.memory
+pub loaded : (before : List ℕ) (w : Scene) → IsPlan w.core.plan → ((i : ℕ) → i < length w.core.plan.words → IsThere (site_of w i)) → OnlyImage before w.core.plan.image w.machine.memory → IsLoaded before w.core.plan w.machine.memory
 loaded before w fits words only = record {
   lies = λ i below. (words i below).0;
   overlay = IsOverlay-standing w.core.plan before w.machine.memory fits only.size

@@ -16,4 +16,4 @@ mod world;
 
 pub use event::Event;
 pub use setup::Setup;
-pub use world::World;
+pub use world::{MOST_WAITING, World};

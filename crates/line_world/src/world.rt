@@ -17,7 +17,7 @@ use odt_machine::{Mode, Odt};
 use std::marker::Model;
 
 /// The most answer characters that may wait when a world opens; no more ever wait at once.
-const MOST_WAITING: usize = 32;
+pub const MOST_WAITING: usize = 32;
 
 /// A host and a machine on one line, with the characters that are under way.
 #[derive(Drop)]

@@ -84,3 +84,14 @@ empty_by_test (x ∷ xs) test is on = absurd (grind (arith, nat_tests))
 pub some_by_test : (xs : List ℕ) (test : Bool) → test ≡ (length xs == 0) → test ≡ false → length xs ≡ 0 → ⊥
 some_by_test [] test is off none = false≢true (sym off ∙ is)
 some_by_test (x ∷ xs) test is off none = omega arith
+
+pub some_if_not : (xs : List ℕ) (test : Bool) → test ≡ (length xs == 0) → test ≡ false → 0 < length xs
+some_if_not [] test is off = absurd (some_by_test [] test is off refl)
+some_if_not (x ∷ xs) test is off = omega arith
+
+pub length_by_test : (xs : List ℕ) → true ≡ (length xs == 0) → length xs ≡ 0
+length_by_test [] is = refl
+length_by_test (x ∷ xs) is = absurd (grind (arith, nat_tests))
+
+pub room_by_test : (xs : List ℕ) (test : Bool) → test ≡ (length xs == 32) → test ≡ false → length xs ≤ 32 → length xs < 32
+room_by_test xs test is off few = grind (arith, nat_tests)

@@ -32,7 +32,7 @@ count_in text = if length text == 4 then 1 else digits_value 10 (drop 5 text)
 abbrev by_letter : ℕ → ℕ → List ℕ → Line
 by_letter first second text =
     if first == 35 then line.Blank else (
-    if first == 119 then (if second == 111 then line.Setting (Words (digits_value 10 (drop 6 text))) else line.Setting (Wait (codes_in (drop 4 text)))) else (
+    if first == 119 then (if second == 111 then line.Setting (Words (digits_value 10 (drop 6 text))) else line.Setting (Wait (record { items = codes_in (drop 4 text) }))) else (
     if first == 115 then line.Setting (OfStyle (digits_value 10 (drop 6 text))) else (
     if first == 112 then (if second == 97 then line.Setting (Patience (digits_value 10 (drop 9 text))) else line.Setting (Put (octal_value (take 6 (drop 4 text))) (octal_value (drop 11 text)))) else (
     if first == 116 then (if second == 97 then line.Step (Times Take (count_in text)) else line.Step (Until (digits_value 10 (drop 3 text)))) else (
@@ -73,7 +73,7 @@ settings : (text : List ℕ) (said : Setting) → IsSetting text said → meanin
 settings text (Words n) h = numbered text (codes "words ") 0 28672 n (λ m. line.Setting (Words m)) (λ rest. refl) h
 settings text (OfStyle n) h = numbered text (codes "style ") 0 7 n (λ m. line.Setting (OfStyle m)) (λ rest. refl) h
 settings text (Patience n) h = numbered text (codes "patience ") 0 4294967295 n (λ m. line.Setting (Patience m)) (λ rest. refl) h
-settings text (Wait characters) h = ap meaning h.spelled ∙ ap (λ cs. line.Setting (Wait cs)) (codes_are h.rest characters h.codes)
+settings text (Wait waiting) h = ap meaning h.spelled ∙ ap (λ cs. line.Setting (Wait (record { items = cs }))) (codes_are h.rest waiting.items h.codes)
 settings text (Put address value) h =
     let rest = h.first ++ 32 ∷ h.second in
     let parts = put_parts text rest address value h.spelled h in

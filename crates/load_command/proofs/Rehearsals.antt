@@ -76,7 +76,7 @@ lie_is m n puts all same puts_are lie = subst (λ k. AllLie k all) same (subst (
 -- a rehearsal from its parts
 pub rehearsal_made : (tape : TapeValue) (script : Script) (style : Style) (odt put : Machine) (world last : Scene) (puts : List PutLine) (steps : List StepLine) (waiting start told text : List ℕ)
     → style_number style ≡ script.style → odt ≡ machine_of style (replicate script.words 0) → puts ≡ script.puts.items
-    → put ≡ record odt { memory = after_puts odt.memory puts } → AllLie (length odt.memory) puts → waiting ≡ script.waiting
+    → put ≡ record odt { memory = after_puts odt.memory puts } → AllLie (length odt.memory) puts → waiting ≡ script.waiting.items
     → world ≡ opened put (begun (plan_of tape) 0 false script.patience) waiting → steps ≡ script.steps.items → start ≡ []
     → (numbers : List ℕ) × Played world steps last numbers × (told ≡ start ++ not_possible_lines numbers) → text ≡ told ++ report last → IsRehearsal tape script text
 rehearsal_made tape script style odt put world last puts steps waiting start told text style_is odt_is puts_are is lie waits world_is steps_are none played text_is =

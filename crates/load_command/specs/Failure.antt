@@ -1,6 +1,7 @@
 -- How the program's failures are named, told and ended with (this project's own).
 use Rattle.std.specs.Prelude.{◌≡◌, ℕ, List, ◌++◌, Option, codes, decimal, ⊤}
-use Rattle.tape_blocks.specs.Fault.{why_text}
+use Rattle.tape_blocks.specs.Fault.{read_error_text}
+use Rattle.tape_blocks.specs.declared.fault.ReadError.TheVariants as reading
 use Rattle.load_command.specs.TapeFile.{IsRefusedInput}
 use Rattle.load_command.specs.declared.failure.Failure.{Failure}
 use Rattle.load_command.specs.declared.failure.Failure.TheVariants.{CannotRead, CannotWrite, TapeRefused, ScriptRefused, TooLarge, BadWord, NoMemory}
@@ -23,21 +24,16 @@ status_of NoMemory = OutOfMemory
 abbrev pub failure_text : Failure → List ℕ
 failure_text (CannotRead name) = codes "cannot read " ++ name.now
 failure_text CannotWrite = codes "cannot write output"
-failure_text (TapeRefused refusal) = codes "tape refused at " ++ decimal refusal.at ++ codes ": " ++ why_text refusal.why
+failure_text (TapeRefused refusal) = read_error_text (reading.Tape refusal)
 failure_text (ScriptRefused line) = codes "script refused at line " ++ decimal line
 failure_text TooLarge = codes "machine too large"
 failure_text BadWord = codes "a word of the command line is not UTF-8"
-failure_text NoMemory = codes "out of memory"
+failure_text NoMemory = read_error_text reading.Memory
 
 -- the failure is that a file of this name can't be read
 abbrev pub NamesFile : List ℕ → Failure → Type 0
 NamesFile text (CannotRead name) = name.now ≡ text
-NamesFile text CannotWrite = ⊥
-NamesFile text (TapeRefused refusal) = ⊥
-NamesFile text (ScriptRefused line) = ⊥
-NamesFile text TooLarge = ⊥
-NamesFile text BadWord = ⊥
-NamesFile text NoMemory = ⊥
+NamesFile text other = ⊥
 
 -- the failure that a command's fault is, where its tape and its script have these names
 abbrev pub IsFailureOf : CommandFault → List ℕ → List ℕ → Failure → Type 0
@@ -54,8 +50,4 @@ IsFailureOf fault.Memory tape script failure = failure ≡ NoMemory
 abbrev pub IsCheckFailure : Option (List ℕ) → Failure → Type 0
 IsCheckFailure input (TapeRefused refusal) = IsRefusedInput input refusal
 IsCheckFailure input (ScriptRefused line) = ⊥
-IsCheckFailure input (CannotRead name) = ⊤
-IsCheckFailure input CannotWrite = ⊤
-IsCheckFailure input TooLarge = ⊤
-IsCheckFailure input BadWord = ⊤
-IsCheckFailure input NoMemory = ⊤
+IsCheckFailure input other = ⊤

@@ -61,7 +61,7 @@ abbrev pub IsSetting : List ℕ → Setting → Type 0
 IsSetting text (Words n) = HasNumber text (codes "words ") 0 28672 n
 IsSetting text (OfStyle n) = HasNumber text (codes "style ") 0 7 n
 IsSetting text (Patience n) = HasNumber text (codes "patience ") 0 4294967295 n
-IsSetting text (Wait characters) = IsWait text characters
+IsSetting text (Wait waiting) = IsWait text waiting.items
 IsSetting text (Put address value) = IsPut text address value
 
 -- an event so many times: the keyword alone for once, or with a count

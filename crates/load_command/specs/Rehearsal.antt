@@ -51,7 +51,7 @@ machine_of style memory = record { style = style; memory = memory; mode = Prompt
 -- the world that a tape and a script open: the words are put into a zeroed machine, the host has done nothing yet
 abbrev pub opening : TapeValue → Script → Style → Scene
 opening tape script style =
-    opened (machine_of style (after_puts (replicate script.words 0) script.puts.items)) (begun (plan_of tape) 0 false script.patience) script.waiting
+    opened (machine_of style (after_puts (replicate script.words 0) script.puts.items)) (begun (plan_of tape) 0 false script.patience) script.waiting.items
 
 -- the text of a rehearsal: the lines that were not possible, and then the report
 pub record IsRehearsal (tape : TapeValue) (script : Script) (text : List ℕ) : Type 0 where

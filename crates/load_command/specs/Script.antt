@@ -2,6 +2,7 @@
 use Rattle.std.specs.Prelude.{◌≡◌, ℕ, ◌+◌, ◌<◌, ◌≤◌, ◌⊎◌, List, [], ◌∷◌, ◌++◌, length, take, filter_map, Option, Some, None, unwrap_or, slice_get, slice_index_or, ⊤}
 use Rattle.std.specs.List.{AllZip, enumerate_from}
 use Rattle.std.specs.Str.Lines.{lines}
+use Rattle.arrayvec.specs.ArrayVec.{ArrayVec}
 use Rattle.load_command.specs.declared.line.Line.{Line}
 use Rattle.load_command.specs.declared.line.Line.TheVariants as line
 use Rattle.load_command.specs.declared.line.Setting.{Setting}
@@ -29,8 +30,8 @@ patience_in (line.Setting (Patience n)) = Some n
 patience_in said = None
 
 -- the characters that a line lets wait
-abbrev pub waiting_in : Line → Option (List ℕ)
-waiting_in (line.Setting (Wait characters)) = Some characters
+abbrev pub waiting_in : Line → Option (ArrayVec ℕ)
+waiting_in (line.Setting (Wait waiting)) = Some waiting
 waiting_in said = None
 
 -- the word that a line, by its number, puts into memory
@@ -64,7 +65,7 @@ abbrev pub IsNew : List Line → Setting → Type 0
 IsNew before (Words n) = first_in words_in before ≡ None
 IsNew before (OfStyle n) = first_in style_in before ≡ None
 IsNew before (Patience n) = first_in patience_in before ≡ None
-IsNew before (Wait characters) = first_in waiting_in before ≡ None
+IsNew before (Wait waiting) = first_in waiting_in before ≡ None
 IsNew before (Put address value) = ⊤
 
 -- a line may come after these: a setup line only before all event lines, and where it repeats none
@@ -85,7 +86,7 @@ pub record IsScript (text : List ℕ) (script : Script) : Type 0 where
   pub words : script.words ≡ unwrap_or (first_in words_in said) 28672
   pub style : script.style ≡ unwrap_or (first_in style_in said) 0
   pub patience : script.patience ≡ unwrap_or (first_in patience_in said) 8
-  pub waiting : script.waiting ≡ unwrap_or (first_in waiting_in said) []
+  pub waiting : script.waiting ≡ unwrap_or (first_in waiting_in said) (record { items = [] })
   pub puts : script.puts.items ≡ puts_of said
   pub steps : script.steps.items ≡ steps_of said
 

@@ -1,7 +1,7 @@
 use crate::fault::CommandFault;
 use crate::status::Status;
 use std::fmt;
-use tape_blocks::Fault;
+use tape_blocks::{Fault, ReadError};
 
 /// Why the program did not do what it was asked, in the words of its line on standard error.
 #[derive(Clone, Copy, Debug, PartialEq, Eq)]
@@ -68,15 +68,11 @@ impl fmt::Display for Failure<'_> {
         match self {
             Failure::CannotRead(name) => write!(f, "cannot read {name}"),
             Failure::CannotWrite => f.write_str("cannot write output"),
-            Failure::TapeRefused(fault) => {
-                let at = fault.at;
-                let why = fault.why;
-                write!(f, "tape refused at {at}: {why}")
-            }
+            Failure::TapeRefused(fault) => write!(f, "{}", ReadError::Tape(*fault)),
             Failure::ScriptRefused(line) => write!(f, "script refused at line {line}"),
             Failure::TooLarge => f.write_str("machine too large"),
             Failure::BadWord => f.write_str("a word of the command line is not UTF-8"),
-            Failure::NoMemory => f.write_str("out of memory"),
+            Failure::NoMemory => write!(f, "{}", ReadError::Memory),
         }
     }
 }

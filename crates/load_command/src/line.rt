@@ -4,9 +4,10 @@ ghost use Rattle.std.specs.Char.{digit_value};
 ghost use Rattle.load_command.specs.Line.{IsNumber, HasNumber, AreCodes, IsWait, IsPut, IsSetting, IsCounted, BeginsWithCode, IsStep, IsBlank, IsLine};
 ghost use Rattle.octal.specs.Octal.{IsOct6};
 
-use crate::waiting::Waiting;
-use line_world::Event;
+use arrayvec::ArrayVec;
+use line_world::{Event, MOST_WAITING};
 use octal::read_oct6;
+use odt_machine::LARGEST_WORDS;
 
 // A number has one to ten digits.
 const MOST_DIGITS: usize = 10;
@@ -14,13 +15,14 @@ const MOST_DIGITS: usize = 10;
 // A word of memory is written as so many octal digits.
 const OCTAL_DIGITS: usize = 6;
 
-const MOST_WORDS: u32 = 28_672;
-
 const LAST_STYLE: u32 = 7;
 
 const LAST_PLACE: u32 = 255;
 
 const MOST_TIMES: u32 = 1_000_000;
+
+/// The characters that wait for the host at the opening, the oldest first.
+pub type Waiting = ArrayVec<u8, MOST_WAITING>;
 
 /// What a setup line says.
 #[derive(Drop)]
@@ -132,7 +134,7 @@ fn code(text: &[u8]) -> Option<(u8, &[u8])>
 
 // The characters of a line that lets characters wait.
 fn waiting(text: &[u8]) -> Option<Waiting>
-    ensures found { IfSome result (IsWait text.now) }
+    ensures found { IfSome result (λ waiting. IsWait text.now waiting.items) }
     ensures none { IfNone result ((characters : List ℕ) → IsWait text.now characters → ⊥) }
 {
     let mut rest = rest_after(text, b"wait")?;
@@ -180,7 +182,7 @@ fn read_setting(text: &[u8]) -> Option<Setting>
     ensures found { IfSome result (IsSetting text.now) }
     ensures none { IfNone result ((said : Setting) → IsSetting text.now said → ⊥) }
 {
-    if let Some(n) = number_after(text, b"words ", 0, MOST_WORDS) {
+    if let Some(n) = number_after(text, b"words ", 0, u32::from(LARGEST_WORDS)) {
         return Some(Setting::Words(n as u16));
     }
     if let Some(n) = number_after(text, b"style ", 0, LAST_STYLE) {

@@ -22,7 +22,6 @@ mod status;
 mod tape_file;
 mod text;
 mod type_keys;
-mod waiting;
 
 use failure::Failure;
 use std::io::ErrorKind;

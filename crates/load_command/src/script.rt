@@ -7,14 +7,12 @@ ghost use Rattle.load_command.specs.Line.{IsLine};
 ghost use Rattle.load_command.specs.Script.{MayCome, IsInOrder, IsScript, IsScriptError};
 ghost use Rattle.load_command.specs.Draft.{Holds, Joins};
 
-use crate::line::{Line, Setting, Step, read_line};
-use crate::waiting::Waiting;
+use crate::line::{Line, Setting, Step, Waiting, read_line};
+use odt_machine::LARGEST_WORDS;
 use std::alloc::{AllocError, AllocFailed, Global};
 
 /// The most bytes that a script may have.
 pub const SCRIPT_LIMIT: usize = 1_048_576;
-
-const DEFAULT_WORDS: u16 = 28_672;
 
 const DEFAULT_STYLE: u8 = 0;
 
@@ -127,26 +125,10 @@ impl Draft {
         ensures { IfOk result (λ added. (before : List Line) → Holds before self.old → number ≡ length before + 1 → MatchBool added (Joins before (Line.Setting setting) self.new) (MayCome before (Line.Setting setting) → ⊥)) }
     {
         match setting {
-            Setting::Words(n) => {
-                let is_new = self.words.is_none();
-                self.words = Some(n);
-                Ok(is_new)
-            }
-            Setting::OfStyle(n) => {
-                let is_new = self.style.is_none();
-                self.style = Some(n);
-                Ok(is_new)
-            }
-            Setting::Patience(n) => {
-                let is_new = self.patience.is_none();
-                self.patience = Some(n);
-                Ok(is_new)
-            }
-            Setting::Wait(characters) => {
-                let is_new = self.waiting.is_none();
-                self.waiting = Some(characters);
-                Ok(is_new)
-            }
+            Setting::Words(n) => Ok(self.words.replace(n).is_none()),
+            Setting::OfStyle(n) => Ok(self.style.replace(n).is_none()),
+            Setting::Patience(n) => Ok(self.patience.replace(n).is_none()),
+            Setting::Wait(characters) => Ok(self.waiting.replace(characters).is_none()),
             Setting::Put(address, value) => {
                 self.puts.push(PutLine {
                     line: number,
@@ -171,10 +153,10 @@ impl Draft {
             steps,
         } = self;
         Script {
-            words: words.unwrap_or(DEFAULT_WORDS),
+            words: words.unwrap_or(LARGEST_WORDS),
             style: style.unwrap_or(DEFAULT_STYLE),
             patience: patience.unwrap_or(DEFAULT_PATIENCE),
-            waiting: waiting.unwrap_or(Waiting::new()),
+            waiting: waiting.unwrap_or_default(),
             puts,
             steps,
         }

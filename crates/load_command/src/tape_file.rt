@@ -7,11 +7,11 @@ use crate::fault::CommandFault;
 use crate::input::{InputFault, read_up_to};
 use std::alloc::Global;
 use std::io::Read;
-use tape_blocks::{ReadError, Tape, read_tape};
+use tape_blocks::{ReadError, TAPE_LIMIT, Tape, read_tape};
 
 /// The most bytes that are taken of an input for a tape: one more than a tape may have, so that
 /// a longer one is seen to be too long.
-const INPUT_LIMIT: usize = 1_048_577;
+const INPUT_LIMIT: usize = TAPE_LIMIT + 1;
 
 /// A tape, and the bytes that it was read from.
 #[derive(Drop)]

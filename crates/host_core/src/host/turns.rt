@@ -6,7 +6,7 @@ ghost use Rattle.host_core.specs.Life.{core_of};
 ghost use Rattle.host_core.specs.PhaseTable.{next_word, taken, turn_of};
 
 use super::HostCore;
-use crate::console::{CARRIAGE_RETURN, GO, RESYNC};
+use crate::console::{CARRIAGE_RETURN, GO, RESYNCHRONISE};
 use crate::heard::Heard;
 use crate::life::Outcome;
 use crate::phase::{End, Phase, Reason, Visit};
@@ -82,7 +82,7 @@ impl HostCore {
             Turn::Stray if life.spent < self.patience => life.with_mishap().listens(Phase::Settle),
             Turn::Timeout if life.spent < self.patience => life
                 .with_mishap()
-                .sends(RESYNC, Phase::Sync(0)),
+                .sends(RESYNCHRONISE, Phase::Sync(0)),
             Turn::Stray | Turn::Timeout => life.listens(Phase::Ended(End::GaveUp)),
         }
     }

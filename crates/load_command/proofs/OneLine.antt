@@ -1,9 +1,11 @@
 -- A line says one thing.
-use Rattle.std.proofs.Common.{◌≡◌, ℕ, ◌+◌, ◌*◌, ◌==◌, if◌then◌else◌, List, [], ◌∷◌, ◌++◌, length, take, drop, get_or, arith, ap, sym, refl, ◌∙◌, codes, ⊎_elim, false, ◌<◌}
+use Rattle.std.proofs.Common.{◌≡◌, ℕ, ◌+◌, ◌*◌, ◌/◌, ◌%◌, ◌==◌, Bool, true, if◌then◌else◌, List, [], ◌∷◌, ◌++◌, length, take, drop, get_or, arith, ap, sym, refl, ◌∙◌, codes, ⊎_elim, false, ◌<◌}
 use Rattle.std.specs.Char.{digit_value}
 use Rattle.std.specs.Str.Parse.{digits_value}
 use Rattle.std.proofs.lemmas.Bool.Decides.{nat_tests}
 use Rattle.octal.specs.Octal.{octal_value}
+use Rattle.odt_machine.specs.declared.style.Style.{Style}
+use Rattle.odt_machine.specs.Style.{style_number}
 use Rattle.line_world.specs.declared.event.Event.TheVariants.{Take, Hear, LoseDown, LoseUp, Quiet}
 use Rattle.load_command.specs.declared.line.Step.{Step}
 use Rattle.load_command.specs.declared.line.Step.TheVariants.{Times, Until, Clean}
@@ -24,6 +26,23 @@ codes_are text [] are = ap codes_in are
 codes_are text (c ∷ cs) are =
     ap codes_in are.1.spelled ∙ ap (λ d. d ∷ codes_in are.0) (sym are.1.value) ∙ ap (λ ds. c ∷ ds) (codes_are are.0 cs are.2)
 
+-- the style of a number
+abbrev style_of : ℕ → Style
+style_of n = record { space_before = n % 2 == 1; two_returns = n / 2 % 2 == 1; echo_illegal = n / 4 == 1 }
+
+style_back : (s : Style) → style_of (style_number s) ≡ s
+style_back s = back s.space_before s.two_returns s.echo_illegal
+  where
+    back : (a b c : Bool) → style_of (style_number (record { space_before = a; two_returns = b; echo_illegal = c })) ≡ record { space_before = a; two_returns = b; echo_illegal = c }
+    back true true true = refl
+    back true true false = refl
+    back true false true = refl
+    back true false false = refl
+    back false true true = refl
+    back false true false = refl
+    back false false true = refl
+    back false false false = refl
+
 -- how often: once where nothing follows the keyword
 abbrev count_in : List ℕ → ℕ
 count_in text = if length text == 4 then 1 else digits_value 10 (drop 5 text)
@@ -33,7 +52,7 @@ abbrev by_letter : ℕ → ℕ → List ℕ → Line
 by_letter first second text =
     if first == 35 then line.Blank else (
     if first == 119 then (if second == 111 then line.Setting (Words (digits_value 10 (drop 6 text))) else line.Setting (Wait (record { items = codes_in (drop 4 text) }))) else (
-    if first == 115 then line.Setting (OfStyle (digits_value 10 (drop 6 text))) else (
+    if first == 115 then line.Setting (OfStyle (style_of (digits_value 10 (drop 6 text)))) else (
     if first == 112 then (if second == 97 then line.Setting (Patience (digits_value 10 (drop 9 text))) else line.Setting (Put (octal_value (take 6 (drop 4 text))) (octal_value (drop 11 text)))) else (
     if first == 116 then (if second == 97 then line.Step (Times Take (count_in text)) else line.Step (Until (digits_value 10 (drop 3 text)))) else (
     if first == 104 then line.Step (Times Hear (count_in text)) else (
@@ -71,7 +90,8 @@ steps text Clean h = ap meaning h
 
 settings : (text : List ℕ) (said : Setting) → IsSetting text said → meaning text ≡ line.Setting said
 settings text (Words n) h = numbered text (codes "words ") 0 28672 n (λ m. line.Setting (Words m)) (λ rest. refl) h
-settings text (OfStyle n) h = numbered text (codes "style ") 0 7 n (λ m. line.Setting (OfStyle m)) (λ rest. refl) h
+settings text (OfStyle style) h =
+    numbered text (codes "style ") 0 7 (style_number style) (λ m. line.Setting (OfStyle (style_of m))) (λ rest. refl) h ∙ ap (λ s. line.Setting (OfStyle s)) (style_back style)
 settings text (Patience n) h = numbered text (codes "patience ") 0 4294967295 n (λ m. line.Setting (Patience m)) (λ rest. refl) h
 settings text (Wait waiting) h = ap meaning h.spelled ∙ ap (λ cs. line.Setting (Wait (record { items = cs }))) (codes_are h.rest waiting.items h.codes)
 settings text (Put address value) h =

@@ -5,7 +5,6 @@ use Rattle.std.proofs.lemmas.List.{length-append, length-replicate}
 use Rattle.tape_blocks.specs.Tape.{TapeValue}
 use Rattle.tape_image.specs.Plan.{plan_of}
 use Rattle.odt_machine.specs.declared.style.Style.{Style}
-use Rattle.odt_machine.specs.Style.{style_number}
 use Rattle.odt_machine.specs.Machine.{Machine}
 use Rattle.host_core.specs.Core.{begun}
 use Rattle.line_world.specs.Scene.{Scene}
@@ -74,19 +73,17 @@ lie_is : (m n : ℕ) (puts all : List PutLine) → m ≡ n → puts ≡ all → 
 lie_is m n puts all same puts_are lie = subst (λ k. AllLie k all) same (subst (AllLie m) puts_are lie)
 
 -- a rehearsal from its parts
-pub rehearsal_made : (tape : TapeValue) (script : Script) (style : Style) (odt put : Machine) (world last : Scene) (puts : List PutLine) (steps : List StepLine) (waiting start told text : List ℕ)
-    → style_number style ≡ script.style → odt ≡ machine_of style (replicate script.words 0) → puts ≡ script.puts.items
+pub rehearsal_made : (tape : TapeValue) (script : Script) (odt put : Machine) (world last : Scene) (puts : List PutLine) (steps : List StepLine) (waiting start told text : List ℕ)
+    → odt ≡ machine_of script.style (replicate script.words 0) → puts ≡ script.puts.items
     → put ≡ record odt { memory = after_puts odt.memory puts } → AllLie (length odt.memory) puts → waiting ≡ script.waiting.items
     → world ≡ opened put (begun (plan_of tape) 0 false script.patience) waiting → steps ≡ script.steps.items → start ≡ []
     → (numbers : List ℕ) × Played world steps last numbers × (told ≡ start ++ not_possible_lines numbers) → text ≡ told ++ report last → IsRehearsal tape script text
-rehearsal_made tape script style odt put world last puts steps waiting start told text style_is odt_is puts_are is lie waits world_is steps_are none played text_is =
-    let machine = put_is style script.words odt put puts script.puts.items odt_is puts_are is in
-    let opens : world ≡ opening tape script style = world_is ∙ ap (λ m. opened m (begun (plan_of tape) 0 false script.patience) waiting) machine
-    ∙ ap (λ ws. opened (machine_of style (after_puts (replicate script.words 0) script.puts.items)) (begun (plan_of tape) 0 false script.patience) ws) waits in
+rehearsal_made tape script odt put world last puts steps waiting start told text odt_is puts_are is lie waits world_is steps_are none played text_is =
+    let machine = put_is script.style script.words odt put puts script.puts.items odt_is puts_are is in
+    let opens : world ≡ opening tape script = world_is ∙ ap (λ m. opened m (begun (plan_of tape) 0 false script.patience) waiting) machine
+    ∙ ap (λ ws. opened (machine_of script.style (after_puts (replicate script.words 0) script.puts.items)) (begun (plan_of tape) 0 false script.patience) ws) waits in
     record {
-      style = style;
-      style_is = style_is;
-      lie = lie_is (length odt.memory) script.words puts script.puts.items (size_is style script.words odt odt_is) puts_are lie;
+      lie = lie_is (length odt.memory) script.words puts script.puts.items (size_is script.style script.words odt odt_is) puts_are lie;
       last = last;
       numbers = played.0;
       played = subst (λ w. Played w script.steps.items last played.0) opens (subst (λ ls. Played world ls last played.0) steps_are played.1);

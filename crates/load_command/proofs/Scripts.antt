@@ -10,7 +10,7 @@ use Rattle.load_command.specs.declared.line.Setting.TheVariants.{Words, OfStyle,
 use Rattle.load_command.specs.declared.script.Script.{Script}
 use Rattle.load_command.specs.declared.script.Draft.{Draft}
 use Rattle.load_command.specs.Line.{IsLine}
-use Rattle.load_command.specs.Script.{MayCome, IsInOrder, first_in, words_in, style_in, IsScript, IsRefusedScript}
+use Rattle.load_command.specs.Script.{MayCome, IsInOrder, first_in, words_in, IsScript, IsRefusedScript}
 use Rattle.load_command.specs.Draft.{Holds, Joins}
 use Rattle.load_command.proofs.Drafts.{order_more}
 
@@ -111,24 +111,5 @@ size_below (l ∷ ls) (line.Setting (Patience n) ∷ said) are = size_below ls s
 size_below (l ∷ ls) (line.Setting (Wait characters) ∷ said) are = size_below ls said are.1
 size_below (l ∷ ls) (line.Setting (Put address value) ∷ said) are = size_below ls said are.1
 
--- no line names a style that there is not
-style_below : (ls : List (List ℕ)) (said : List Line) → AllZip IsLine ls said → unwrap_or (first_in style_in said) 0 ≤ 7
-style_below [] [] are = omega arith
-style_below [] (s ∷ said) are = absurd are
-style_below (l ∷ ls) [] are = absurd are
-style_below (l ∷ ls) (line.Blank ∷ said) are = style_below ls said are.1
-style_below (l ∷ ls) (line.Step step ∷ said) are = style_below ls said are.1
-style_below (l ∷ ls) (line.Setting (Words n) ∷ said) are = style_below ls said are.1
-style_below (l ∷ ls) (line.Setting (OfStyle n) ∷ said) are = are.0.below
-style_below (l ∷ ls) (line.Setting (Patience n) ∷ said) are = style_below ls said are.1
-style_below (l ∷ ls) (line.Setting (Wait characters) ∷ said) are = style_below ls said are.1
-style_below (l ∷ ls) (line.Setting (Put address value) ∷ said) are = style_below ls said are.1
-
 pub size_of : (text : List ℕ) (script : Script) → IsScript text script → script.words ≤ 28672
 size_of text script is = subst (λ n. n ≤ 28672) (sym is.words) (size_below (lines text) is.said is.spelled)
-
-pub style_of : (text : List ℕ) (script : Script) → IsScript text script → script.style < 8
-style_of text script is =
-    let below = style_below (lines text) is.said is.spelled in
-    let same = is.style in
-    omega arith

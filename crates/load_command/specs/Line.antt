@@ -3,6 +3,7 @@ use Rattle.std.specs.Prelude.{◌≡◌, ℕ, ◌+◌, ◌*◌, ◌<◌, ◌≤�
 use Rattle.std.specs.Char.{digit_value}
 use Rattle.std.specs.Str.Parse.{AllDigits, digits_value}
 use Rattle.octal.specs.Octal.{IsOct6}
+use Rattle.odt_machine.specs.Style.{style_number}
 use Rattle.line_world.specs.declared.event.Event.TheVariants.{Take, Hear, LoseDown, LoseUp, Quiet}
 use Rattle.load_command.specs.declared.line.Line.{Line}
 use Rattle.load_command.specs.declared.line.Line.TheVariants as line
@@ -59,7 +60,7 @@ pub record IsPut (text : List ℕ) (address value : ℕ) : Type 0 where
 -- what a setup line says, one row for each form
 abbrev pub IsSetting : List ℕ → Setting → Type 0
 IsSetting text (Words n) = HasNumber text (codes "words ") 0 28672 n
-IsSetting text (OfStyle n) = HasNumber text (codes "style ") 0 7 n
+IsSetting text (OfStyle style) = HasNumber text (codes "style ") 0 7 (style_number style)
 IsSetting text (Patience n) = HasNumber text (codes "patience ") 0 4294967295 n
 IsSetting text (Wait waiting) = IsWait text waiting.items
 IsSetting text (Put address value) = IsPut text address value

@@ -6,7 +6,6 @@ use Rattle.tape_blocks.specs.Tape.{TapeValue}
 use Rattle.tape_image.specs.Plan.{plan_of}
 use Rattle.odt_machine.specs.declared.style.Style.{Style}
 use Rattle.odt_machine.specs.declared.mode.Mode.TheVariants.{Prompt}
-use Rattle.odt_machine.specs.Style.{style_number}
 use Rattle.odt_machine.specs.Machine.{Machine, stored}
 use Rattle.host_core.specs.Core.{begun}
 use Rattle.line_world.specs.Scene.{Scene}
@@ -49,18 +48,16 @@ abbrev pub machine_of : Style → List ℕ → Machine
 machine_of style memory = record { style = style; memory = memory; mode = Prompt }
 
 -- the world that a tape and a script open: the words are put into a zeroed machine, the host has done nothing yet
-abbrev pub opening : TapeValue → Script → Style → Scene
-opening tape script style =
-    opened (machine_of style (after_puts (replicate script.words 0) script.puts.items)) (begun (plan_of tape) 0 false script.patience) script.waiting.items
+abbrev pub opening : TapeValue → Script → Scene
+opening tape script =
+    opened (machine_of script.style (after_puts (replicate script.words 0) script.puts.items)) (begun (plan_of tape) 0 false script.patience) script.waiting.items
 
 -- the text of a rehearsal: the lines that were not possible, and then the report
 pub record IsRehearsal (tape : TapeValue) (script : Script) (text : List ℕ) : Type 0 where
-  pub style : Style
-  pub style_is : style_number style ≡ script.style
   pub lie : AllLie script.words script.puts.items
   pub last : Scene
   pub numbers : List ℕ
-  pub played : Played (opening tape script style) script.steps.items last numbers
+  pub played : Played (opening tape script) script.steps.items last numbers
   pub told : text ≡ not_possible_lines numbers ++ report last
 
 -- the input is this script

@@ -3,6 +3,8 @@ use Rattle.std.specs.Prelude.{◌≡◌, ℕ, ◌+◌, ◌<◌, ◌≤◌, ◌�
 use Rattle.std.specs.List.{AllZip, enumerate_from}
 use Rattle.std.specs.Str.Lines.{lines}
 use Rattle.arrayvec.specs.ArrayVec.{ArrayVec}
+use Rattle.odt_machine.specs.declared.style.Style.{Style}
+use Rattle.odt_machine.specs.Style.{plain_style}
 use Rattle.load_command.specs.declared.line.Line.{Line}
 use Rattle.load_command.specs.declared.line.Line.TheVariants as line
 use Rattle.load_command.specs.declared.line.Setting.{Setting}
@@ -19,9 +21,9 @@ abbrev pub words_in : Line → Option ℕ
 words_in (line.Setting (Words n)) = Some n
 words_in said = None
 
--- the number of the style that a line names
-abbrev pub style_in : Line → Option ℕ
-style_in (line.Setting (OfStyle n)) = Some n
+-- the style that a line names
+abbrev pub style_in : Line → Option Style
+style_in (line.Setting (OfStyle style)) = Some style
 style_in said = None
 
 -- the patience that a line names
@@ -63,7 +65,7 @@ first_in named said = slice_get (filter_map named said) 0
 -- each setup line but that of a word stands at most once
 abbrev pub IsNew : List Line → Setting → Type 0
 IsNew before (Words n) = first_in words_in before ≡ None
-IsNew before (OfStyle n) = first_in style_in before ≡ None
+IsNew before (OfStyle style) = first_in style_in before ≡ None
 IsNew before (Patience n) = first_in patience_in before ≡ None
 IsNew before (Wait waiting) = first_in waiting_in before ≡ None
 IsNew before (Put address value) = ⊤
@@ -84,7 +86,7 @@ pub record IsScript (text : List ℕ) (script : Script) : Type 0 where
   pub spelled : AllZip IsLine (lines text) said
   pub in_order : IsInOrder said
   pub words : script.words ≡ unwrap_or (first_in words_in said) 28672
-  pub style : script.style ≡ unwrap_or (first_in style_in said) 0
+  pub style : script.style ≡ unwrap_or (first_in style_in said) plain_style
   pub patience : script.patience ≡ unwrap_or (first_in patience_in said) 8
   pub waiting : script.waiting ≡ unwrap_or (first_in waiting_in said) (record { items = [] })
   pub puts : script.puts.items ≡ puts_of said

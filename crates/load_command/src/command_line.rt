@@ -2,7 +2,7 @@
 ghost use Rattle.std.specs.Prelude.{◌≡◌, []};
 
 use clap::{Arg, ArgAction, ArgMatches, Command, Error, value_parser};
-use odt_machine::{LARGEST_WORDS, Style};
+use odt_machine::{LARGEST_WORDS, PLAIN_STYLE, Style};
 use std::alloc::{AllocError, Global};
 
 /// What the words after the program's name ask for.
@@ -36,13 +36,6 @@ const SCRIPT: &str = "SCRIPT";
 const WORDS: &str = "words";
 
 const STYLE: &str = "style";
-
-/// The style of number 0.
-const PLAIN_STYLE: Style = Style {
-    space_before: false,
-    two_returns: false,
-    echo_illegal: false,
-};
 
 /// Reads the words after the program's name. The error's text is for standard output where help or
 /// the version was asked for, else for standard error.

@@ -3,11 +3,12 @@ ghost use Rattle.std.specs.Prelude.{◌≡◌, ℕ, ◌+◌, ◌-◌, ◌*◌, �
 ghost use Rattle.std.specs.Char.{digit_value};
 ghost use Rattle.load_command.specs.Line.{IsNumber, HasNumber, AreCodes, IsWait, IsPut, IsSetting, IsCounted, BeginsWithCode, IsStep, IsBlank, IsLine};
 ghost use Rattle.octal.specs.Octal.{IsOct6};
+ghost use Rattle.odt_machine.specs.Style.{style_number};
 
 use arrayvec::ArrayVec;
 use line_world::{Event, MOST_WAITING};
 use octal::read_oct6;
-use odt_machine::LARGEST_WORDS;
+use odt_machine::{LARGEST_WORDS, Style};
 
 // A number has one to ten digits.
 const MOST_DIGITS: usize = 10;
@@ -29,8 +30,8 @@ pub type Waiting = ArrayVec<u8, MOST_WAITING>;
 pub enum Setting {
     /// `words N`: the size of the machine.
     Words(u16),
-    /// `style N`: the number of its style.
-    OfStyle(u8),
+    /// `style N`: its style, by its number.
+    OfStyle(Style),
     /// `patience N`: the host's patience.
     Patience(u32),
     /// `wait HH ..`: the characters that wait at the opening.
@@ -177,6 +178,15 @@ fn put(text: &[u8]) -> Option<(u16, u16)>
     Some((address, value))
 }
 
+// The style of a line that names it.
+fn style(text: &[u8]) -> Option<Style>
+    ensures found { IfSome result (λ style. HasNumber text.now (codes "style ") 0 7 (style_number style)) }
+    ensures none { IfNone result ((n : ℕ) → HasNumber text.now (codes "style ") 0 7 n → ⊥) }
+{
+    let number = number_after(text, b"style ", 0, LAST_STYLE)?;
+    Style::from_number(number as u8)
+}
+
 // What a setup line says.
 fn read_setting(text: &[u8]) -> Option<Setting>
     ensures found { IfSome result (IsSetting text.now) }
@@ -185,8 +195,8 @@ fn read_setting(text: &[u8]) -> Option<Setting>
     if let Some(n) = number_after(text, b"words ", 0, u32::from(LARGEST_WORDS)) {
         return Some(Setting::Words(n as u16));
     }
-    if let Some(n) = number_after(text, b"style ", 0, LAST_STYLE) {
-        return Some(Setting::OfStyle(n as u8));
+    if let Some(style) = style(text) {
+        return Some(Setting::OfStyle(style));
     }
     if let Some(n) = number_after(text, b"patience ", 0, u32::MAX) {
         return Some(Setting::Patience(n));

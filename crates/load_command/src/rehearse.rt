@@ -13,7 +13,6 @@ use crate::play::play;
 use crate::report::put_report;
 use crate::script::{SCRIPT_LIMIT, Script, ScriptError, read_script};
 use crate::tape_file::take_tape;
-use odt_machine::Style;
 use std::alloc::Global;
 use std::io::{Read, Write};
 use tape_blocks::Tape;
@@ -48,7 +47,6 @@ pub fn rehearse_to<R: Read, S: Read, W: Write>(
 fn take_script<S: Read>(alloc: Global, input: &mut S) -> Result<Script, CommandFault>
     ensures ok { IfOk result (IsScriptInput (S.remaining input.old)) }
     ensures size { IfOk result (λ script. script.words ≤ 28672) }
-    ensures style { IfOk result (λ script. script.style < 8) }
     ensures err { IfErr result (IsScriptInputFault (S.remaining input.old)) }
     ensures taken { TakesAtMost (S.remaining input.old) (S.remaining input.new) input_limit }
 {
@@ -67,14 +65,10 @@ fn take_script<S: Read>(alloc: Global, input: &mut S) -> Result<Script, CommandF
 // What is printed of a rehearsal.
 fn rehearsal(alloc: Global, tape: &Tape, script: &Script) -> Result<Vec<u8>, CommandFault>
     requires size { script.now.words ≤ 28672 }
-    requires style { script.now.style < 8 }
     ensures ok { IfOk result (λ text. IsRehearsal tape.now script.now text.items) }
     ensures err { IfErr result (IsPlayFault script.now.words script.now.puts.items) }
 {
-    let Some(style) = Style::from_number(script.style) else {
-        unreachable!()
-    };
-    let mut odt = zeroed(alloc, script.words, style)?;
+    let mut odt = zeroed(alloc, script.words, script.style)?;
     if let Err(line) = put_words(&mut odt, &script.puts) {
         return Err(CommandFault::Script(line));
     }

@@ -8,13 +8,11 @@ ghost use Rattle.load_command.specs.Script.{MayCome, IsInOrder, IsScript, IsScri
 ghost use Rattle.load_command.specs.Draft.{Holds, Joins};
 
 use crate::line::{Line, Setting, Step, Waiting, read_line};
-use odt_machine::LARGEST_WORDS;
+use odt_machine::{LARGEST_WORDS, PLAIN_STYLE, Style};
 use std::alloc::{AllocError, AllocFailed, Global};
 
 /// The most bytes that a script may have.
 pub const SCRIPT_LIMIT: usize = 1_048_576;
-
-const DEFAULT_STYLE: u8 = 0;
 
 const DEFAULT_PATIENCE: u32 = 8;
 
@@ -43,8 +41,8 @@ pub struct StepLine {
 pub struct Script {
     /// The size of the machine, in words.
     pub words: u16,
-    /// The number of the machine's style.
-    pub style: u8,
+    /// The machine's style.
+    pub style: Style,
     /// The host's patience.
     pub patience: u32,
     /// The characters that wait for the host at the opening.
@@ -79,7 +77,7 @@ impl From<AllocError> for ScriptError {
 #[derive(Drop)]
 struct Draft {
     words: Option<u16>,
-    style: Option<u8>,
+    style: Option<Style>,
     patience: Option<u32>,
     waiting: Option<Waiting>,
     puts: Vec<PutLine>,
@@ -126,7 +124,7 @@ impl Draft {
     {
         match setting {
             Setting::Words(n) => Ok(self.words.replace(n).is_none()),
-            Setting::OfStyle(n) => Ok(self.style.replace(n).is_none()),
+            Setting::OfStyle(style) => Ok(self.style.replace(style).is_none()),
             Setting::Patience(n) => Ok(self.patience.replace(n).is_none()),
             Setting::Wait(characters) => Ok(self.waiting.replace(characters).is_none()),
             Setting::Put(address, value) => {
@@ -154,7 +152,7 @@ impl Draft {
         } = self;
         Script {
             words: words.unwrap_or(LARGEST_WORDS),
-            style: style.unwrap_or(DEFAULT_STYLE),
+            style: style.unwrap_or(PLAIN_STYLE),
             patience: patience.unwrap_or(DEFAULT_PATIENCE),
             waiting: waiting.unwrap_or_default(),
             puts,
@@ -200,7 +198,6 @@ fn first_line(text: &[u8]) -> (&[u8], &[u8])
 pub fn read_script(alloc: Global, text: &[u8]) -> Result<Script, ScriptError>
     ensures read { MatchResult result (IsScript text.now) (IsScriptError text.now) }
     ensures size { IfOk result (λ script. script.words ≤ 28672) }
-    ensures style { IfOk result (λ script. script.style < 8) }
 {
     if text.len() > SCRIPT_LIMIT {
         return Err(ScriptError::Refused(0));

@@ -26,7 +26,7 @@ pub use character::{
 pub use key::Key;
 pub use machine::{LARGEST_WORDS, Odt, OdtError};
 pub use mode::Mode;
-pub use style::Style;
+pub use style::{PLAIN_STYLE, Style};
 
 #[cfg(test)]
 mod tests;

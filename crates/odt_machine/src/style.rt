@@ -12,6 +12,13 @@ pub struct Style {
     pub echo_illegal: bool,
 }
 
+/// The style of number 0: the answers have nothing that a style may add.
+pub const PLAIN_STYLE: Style = Style {
+    space_before: false,
+    two_returns: false,
+    echo_illegal: false,
+};
+
 impl Style {
     /// The style with this number: 1 for `space_before`, plus 2 for `two_returns`, plus 4 for
     /// `echo_illegal`. `None` exactly above 7.

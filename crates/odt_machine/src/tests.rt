@@ -1,13 +1,6 @@
 use super::*;
 use std::test::Fail;
 
-/// The style whose answers have nothing that a style may add.
-const PLAIN: Style = Style {
-    space_before: false,
-    two_returns: false,
-    echo_illegal: false,
-};
-
 /// A mode and the key typed in it; then the mode after it, the answer and the word at 000002; and
 /// why the row is here. The machine has four words, so that 000010 is the first address past them,
 /// and 000002 holds 123456.
@@ -185,7 +178,7 @@ const ROWS: [(Mode, u8, Mode, &str, u16, &str); 21] = [
 #[test]
 fn each_line_of_the_key_table(rt: HostRuntime) -> Result<(), Fail> {
     for (mode, key, after, answer, word, reason) in ROWS {
-        let mut odt = Odt::new(rt.alloc(), 4, PLAIN)?;
+        let mut odt = Odt::new(rt.alloc(), 4, PLAIN_STYLE)?;
         assert!(rt; odt.put(2, 0o123456));
         let mut odt = odt.with_mode(mode)?;
         assert_eq!(rt; odt.take(key).as_slice(), answer.as_bytes(), "{reason}");
@@ -227,11 +220,11 @@ fn eight_styles(rt: HostRuntime) -> Result<(), Fail> {
 #[test]
 fn machines_of_each_size(rt: HostRuntime) -> Result<(), Fail> {
     assert_eq!(rt;
-        Odt::new(rt.alloc(), 28673, PLAIN).err(),
+        Odt::new(rt.alloc(), 28673, PLAIN_STYLE).err(),
         Some(OdtError::TooLarge)
     );
 
-    let mut odt = Odt::new(rt.alloc(), 28672, PLAIN)?;
+    let mut odt = Odt::new(rt.alloc(), 28672, PLAIN_STYLE)?;
     assert_eq!(rt; odt.top(), 57344);
     assert!(rt; odt.put(0o157776, 1), "the last word below the I/O page");
     assert!(rt; !odt.put(0o157777, 1), "an odd address");
@@ -259,7 +252,7 @@ fn machines_of_each_size(rt: HostRuntime) -> Result<(), Fail> {
     let odt = odt.with_mode(Mode::Number(0, 7))?;
     assert_eq!(rt; odt.mode(), Mode::Number(0, 7));
 
-    let mut empty = Odt::new(rt.alloc(), 0, PLAIN)?;
+    let mut empty = Odt::new(rt.alloc(), 0, PLAIN_STYLE)?;
     assert_eq!(rt; empty.top(), 0);
     assert!(rt; !empty.put(0, 1), "no word at all");
     assert_eq!(rt; empty.take(b'0').as_slice(), b"0".as_slice());
@@ -290,7 +283,7 @@ fn every_key_in_every_mode(rt: HostRuntime) -> Result<(), Fail> {
 
 #[test]
 fn a_person_types(rt: HostRuntime) -> Result<(), Fail> {
-    let mut odt = Odt::new(rt.alloc(), 28672, PLAIN)?;
+    let mut odt = Odt::new(rt.alloc(), 28672, PLAIN_STYLE)?;
     let mut printed = Vec::new(rt.alloc());
     for key in b"001000/011064\r001000/\r9" {
         for character in odt.take(*key) {

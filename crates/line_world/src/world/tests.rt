@@ -1,6 +1,6 @@
 use super::*;
 use host_core::{BadProgress, Progress};
-use odt_machine::{LARGEST_WORDS, Style};
+use odt_machine::{LARGEST_WORDS, PLAIN_STYLE, Style};
 use std::alloc::Global;
 use std::test::Fail;
 use tape_blocks::{Block, Tape, read_tape};
@@ -27,13 +27,6 @@ const NOTHING: [u8; 7] = [0x01, 0x00, 0x06, 0x00, 0x01, 0x00, 0xF8];
 
 /// A tape with a start alone, at 001000.
 const START_ALONE: [u8; 7] = [0x01, 0x00, 0x06, 0x00, 0x00, 0x02, 0xF7];
-
-/// The style whose answers have nothing that a style may add.
-const PLAIN: Style = Style {
-    space_before: false,
-    two_returns: false,
-    echo_illegal: false,
-};
 
 /// The style whose answers have all that a style may add.
 const FULL: Style = Style {
@@ -116,7 +109,7 @@ const OPENINGS: [(&[u8], Mode, u32, Option<Setup>, &str); 7] = [
 #[test]
 fn what_a_world_begins_with(rt: HostRuntime) -> Result<(), Fail> {
     for (waiting, mode, verified, refusal, reason) in OPENINGS {
-        let odt = Odt::new(rt.alloc(), LARGEST_WORDS, PLAIN)?.with_mode(mode)?;
+        let odt = Odt::new(rt.alloc(), LARGEST_WORDS, PLAIN_STYLE)?.with_mode(mode)?;
         let core = host_of(plan_of(rt.alloc(), &ONE_WORD)?, verified)?;
         let made = world_of(odt, core, waiting);
         assert_eq!(rt; made.err(), refusal, "{reason}");
@@ -140,7 +133,7 @@ const CLEAN_LINES: [(
     (
         &ONE_WORD,
         LARGEST_WORDS,
-        PLAIN,
+        PLAIN_STYLE,
         None,
         30,
         End::Started,
@@ -162,7 +155,7 @@ const CLEAN_LINES: [(
     (
         &ONE_WORD,
         LARGEST_WORDS,
-        PLAIN,
+        PLAIN_STYLE,
         Some(0o11064),
         16,
         End::Started,
@@ -173,7 +166,7 @@ const CLEAN_LINES: [(
     (
         &ONE_WORD,
         256,
-        PLAIN,
+        PLAIN_STYLE,
         None,
         8,
         End::NoWord(0o1000),
@@ -184,7 +177,7 @@ const CLEAN_LINES: [(
     (
         &OVERLAP,
         LARGEST_WORDS,
-        PLAIN,
+        PLAIN_STYLE,
         None,
         52,
         End::Started,
@@ -195,7 +188,7 @@ const CLEAN_LINES: [(
     (
         &HIGH_BYTE,
         LARGEST_WORDS,
-        PLAIN,
+        PLAIN_STYLE,
         Some(0o125252),
         23,
         End::Loaded,
@@ -206,7 +199,7 @@ const CLEAN_LINES: [(
     (
         &HIGH_BYTE,
         LARGEST_WORDS,
-        PLAIN,
+        PLAIN_STYLE,
         Some(0o52652),
         9,
         End::Loaded,
@@ -217,7 +210,7 @@ const CLEAN_LINES: [(
     (
         &NOTHING,
         LARGEST_WORDS,
-        PLAIN,
+        PLAIN_STYLE,
         None,
         0,
         End::Loaded,
@@ -228,7 +221,7 @@ const CLEAN_LINES: [(
     (
         &START_ALONE,
         0,
-        PLAIN,
+        PLAIN_STYLE,
         None,
         8,
         End::Started,
@@ -262,7 +255,7 @@ fn what_a_clean_line_types(rt: HostRuntime) -> Result<(), Fail> {
 
 #[test]
 fn an_impossible_event_changes_nothing(rt: HostRuntime) -> Result<(), Fail> {
-    let odt = Odt::new(rt.alloc(), LARGEST_WORDS, PLAIN)?;
+    let odt = Odt::new(rt.alloc(), LARGEST_WORDS, PLAIN_STYLE)?;
     let mut world = world_of(odt, host_of(plan_of(rt.alloc(), &ONE_WORD)?, 0)?, b"@")?;
     assert_eq!(rt; world.next_event(), Event::Hear);
     for event in [
@@ -303,7 +296,7 @@ fn a_full_image(rt: HostRuntime) -> Result<(), Fail> {
     };
     let plan = Plan::of(rt.alloc(), &tape)?;
     let mut world = world_of(
-        Odt::new(rt.alloc(), LARGEST_WORDS, PLAIN)?,
+        Odt::new(rt.alloc(), LARGEST_WORDS, PLAIN_STYLE)?,
         host_of(plan, 0)?,
         &[],
     )?;

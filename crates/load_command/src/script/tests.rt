@@ -131,7 +131,10 @@ fn a_script_sets_up_and_lets_happen(rt: HostRuntime) -> Result<(), Fail> {
     let Ok(script) = read_script(rt.alloc(), text) else {
         return Err(Fail::from("the script is refused"));
     };
-    assert_eq!(rt; (script.words, script.style, script.patience), (9, 5, 2));
+    assert_eq!(rt;
+        (script.words, script.style.number(), script.patience),
+        (9, 5, 2)
+    );
     assert_eq!(rt; script.waiting.as_slice(), [0x40, 0x0D].as_slice());
     let mut lines = Vec::new(rt.alloc());
     for put in &script.puts {
@@ -162,7 +165,7 @@ fn what_no_line_sets_has_its_default(rt: HostRuntime) -> Result<(), Fail> {
         return Err(Fail::from("the script is refused"));
     };
     assert_eq!(rt;
-        (script.words, script.style, script.patience),
+        (script.words, script.style.number(), script.patience),
         (28672, 0, 8)
     );
     assert!(rt; script.waiting.as_slice().is_empty());

@@ -1,6 +1,6 @@
 use super::*;
 use crate::devices::{BrokenInput, BrokenOutput};
-use odt_machine::{Mode, Style};
+use odt_machine::{Mode, PLAIN_STYLE};
 use std::alloc::Global;
 use std::test::Fail;
 
@@ -38,15 +38,9 @@ const MODES: [Mode; 24] = [
     Mode::Prompt,
 ];
 
-const PLAIN: Style = Style {
-    space_before: false,
-    two_returns: false,
-    echo_illegal: false,
-};
-
 #[test]
 fn keys_are_answered(rt: HostRuntime) -> Result<(), Fail> {
-    let mut odt = Odt::new(rt.alloc(), 28672, PLAIN)?;
+    let mut odt = Odt::new(rt.alloc(), 28672, PLAIN_STYLE)?;
     let mut keys = KEYS;
     let mut out = Vec::new(rt.alloc());
     assert_eq!(rt; type_to(&mut odt, &mut keys, &mut out), Ok(23));
@@ -63,7 +57,7 @@ fn digits(alloc: Global, length: usize) -> Result<Vec<u8>, Fail> {
 #[test]
 fn the_keys_past_the_limit_stay_unread(rt: HostRuntime) -> Result<(), Fail> {
     let many = digits(rt.alloc(), 1_048_579)?;
-    let mut odt = Odt::new(rt.alloc(), 0, PLAIN)?;
+    let mut odt = Odt::new(rt.alloc(), 0, PLAIN_STYLE)?;
     let mut keys = many.as_slice();
     let mut out = Vec::new(rt.alloc());
     assert_eq!(rt; type_to(&mut odt, &mut keys, &mut out), Ok(1_048_576));
@@ -74,7 +68,7 @@ fn the_keys_past_the_limit_stay_unread(rt: HostRuntime) -> Result<(), Fail> {
 #[test]
 fn a_device_fails_once(rt: HostRuntime) -> Result<(), Fail> {
     for (place, mode) in MODES.iter().enumerate() {
-        let mut odt = Odt::new(rt.alloc(), 28672, PLAIN)?;
+        let mut odt = Odt::new(rt.alloc(), 28672, PLAIN_STYLE)?;
         let mut keys = BrokenInput::new(KEYS, place);
         let mut out = Vec::new(rt.alloc());
         assert_eq!(rt;
@@ -87,7 +81,7 @@ fn a_device_fails_once(rt: HostRuntime) -> Result<(), Fail> {
         assert!(rt; ANSWERS.starts_with(out.as_slice()), "{place}");
     }
     for number in 1..8 {
-        let mut odt = Odt::new(rt.alloc(), 28672, PLAIN)?;
+        let mut odt = Odt::new(rt.alloc(), 28672, PLAIN_STYLE)?;
         let mut keys = KEYS;
         let mut out = BrokenOutput::new(Vec::new(rt.alloc()), number);
         assert_eq!(rt;

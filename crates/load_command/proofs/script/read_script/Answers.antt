@@ -2,7 +2,7 @@ use Rattle.std.proofs.Common.{subst}
 use Rattle.load_command.specs.Script.{MayCome}
 use Rattle.load_command.specs.Draft.{Joins}
 use Rattle.load_command.proofs.OneLine.{one_meaning}
-use Rattle.load_command.proofs.Scripts.{reading_none, reading_more, reading_wrong, reading_all, next_number, joins_by, comes_not_by, size_of, style_of}
+use Rattle.load_command.proofs.Scripts.{reading_none, reading_more, reading_wrong, reading_all, next_number, joins_by, comes_not_by, size_of}
 use Rattle.load_command.proofs.Codes.{empty_by_test}
 use Rattle.load_command.proofs.script.read_script.Goals as goal
 
@@ -28,9 +28,3 @@ returns-clause-size c =
     let so = c.loop-rest.invariant in
     let lines = reading_all c.args.text.now c.loop-rest.rest.now c.loop-rest.draft c.loop-rest.number so (empty_by_test _ _ c.is_empty.ensures c.loop-rest-test.false) in
     size_of c.args.text.now c.finish.result (c.finish.ensures c.args.text.now so.said c.if-text-gt-SCRIPT_LIMIT.false lines so.in_order so.holds)
-
-pub returns-clause-style : goal.returns-clause-style
-returns-clause-style c =
-    let so = c.loop-rest.invariant in
-    let lines = reading_all c.args.text.now c.loop-rest.rest.now c.loop-rest.draft c.loop-rest.number so (empty_by_test _ _ c.is_empty.ensures c.loop-rest-test.false) in
-    style_of c.args.text.now c.finish.result (c.finish.ensures c.args.text.now so.said c.if-text-gt-SCRIPT_LIMIT.false lines so.in_order so.holds)

@@ -12,7 +12,7 @@ returns-in-Words c before holds is =
 pub returns-in-OfStyle : goal.returns-in-OfStyle
 returns-in-OfStyle c before holds is =
     let next = record c.args.self.now { style = c.replace-in-OfStyle.new.self } in
-    rw c.in-OfStyle.is (taken before (setting.OfStyle c.in-OfStyle.n) c.args.self.now next _ holds c.requires (is_new _ _ _ c.is_none-in-OfStyle.ensures (c.replace-in-OfStyle.ensures.value ∙ holds.style))
+    rw c.in-OfStyle.is (taken before (setting.OfStyle c.in-OfStyle.style) c.args.self.now next _ holds c.requires (is_new _ _ _ c.is_none-in-OfStyle.ensures (c.replace-in-OfStyle.ensures.value ∙ holds.style))
     (λ new. joined before _ c.args.number c.args.self.now next is holds refl (c.replace-in-OfStyle.ensures.after ∙ named_first _ _ _ holds.style new) refl refl refl refl))
 
 pub returns-in-Patience : goal.returns-in-Patience

@@ -1,5 +1,6 @@
 -- The digits of a word, one after another.
-use Rattle.std.proofs.Common.{◌≡◌, ℕ, zero, suc, ◌+◌, ◌-◌, ◌*◌, ◌%◌, ◌<◌, true, ◌∷◌, refl, arith}
+use Rattle.std.proofs.Common.{◌≡◌, ◌≢◌, ℕ, zero, suc, ◌+◌, ◌-◌, ◌*◌, ◌/◌, ◌%◌, ◌<◌, true, false, eqb, ◌∷◌, refl, arith, ◌∙◌}
+use Rattle.std.specs.Prelude.{◌||◌}
 use Rattle.std.proofs.lemmas.Bool.Decides.{nat_tests}
 use Rattle.octal.specs.Octal.{head, digit_of, is_digit, pushed, digit_value}
 use Rattle.odt_machine.specs.declared.key.Key.TheVariants.{Digit}
@@ -60,3 +61,13 @@ at_place P a b c d e f (suc (suc (suc (suc zero)))) h = d
 at_place P a b c d e f (suc (suc (suc (suc (suc zero))))) h = e
 at_place P a b c d e f (suc (suc (suc (suc (suc (suc zero)))))) h = f
 at_place P a b c d e f (suc (suc (suc (suc (suc (suc (suc k))))))) h = absurd (omega (arith, h.to))
+
+-- the first digit of a word is 0 or 1
+pub not_first : (w c : ℕ) → w < 65536 → (eqb c 48 || eqb c 49) ≡ false → c ≢ digit_of w 1
+not_first w c small e same = not_early c (w / 32768) e (omega arith) (same ∙ low (w / 32768) (omega arith))
+  where
+    low : (n : ℕ) → n < 2 → 48 + n % 8 ≡ 48 + n
+    low n h = omega arith
+
+    not_early : (c n : ℕ) → (eqb c 48 || eqb c 49) ≡ false → n < 2 → c ≡ 48 + n → ⊥
+    not_early c n e h same = grind (arith, nat_tests)

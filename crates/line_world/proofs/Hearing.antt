@@ -25,7 +25,7 @@ use Rattle.line_world.specs.Site.{Site, site, held, Lies, number_mode, typing_mo
 use Rattle.line_world.specs.Pending.{Live, Fits as MeetsKey, IsPart, IsOpened, Checked, Facts, after_of, rest_of}
 use Rattle.line_world.specs.Invariant.{IsKept}
 use Rattle.line_world.proofs.Parts.{Follows, follows_next, follows_skip, follows_stay, follows_at, Misses, misses, IsAbsent, part_absent, part_past, part_one, part_next, differ}
-use Rattle.line_world.proofs.Digits.{below_six, head_step, last_step}
+use Rattle.line_world.proofs.Digits.{below_six, head_step, last_step, not_first}
 use Rattle.line_world.proofs.Rows.{IsSite}
 use Rattle.line_world.proofs.Frame.{scene, TurnFits, PhaseHolds, kept_turn}
 use Rattle.line_world.proofs.Losses.{rest_made, stands_made}
@@ -120,15 +120,6 @@ early c e = grind (arith, nat_tests)
 
 early_other : (c d : ℕ) → (eqb c 48 || eqb c 49) ≡ true → d ≢ 48 → d ≢ 49 → c ≢ d
 early_other c d e a b same = elim (early c e) [ inl is ↦ a (sym same ∙ is) | inr is ↦ b (sym same ∙ is) ]
-
-not_first : (w c : ℕ) → w < 65536 → (eqb c 48 || eqb c 49) ≡ false → c ≢ digit_of w 1
-not_first w c small e same = not_early c (w / 32768) e (omega arith) (same ∙ low (w / 32768) (omega arith))
-  where
-    low : (n : ℕ) → n < 2 → 48 + n % 8 ≡ 48 + n
-    low n h = omega arith
-
-    not_early : (c n : ℕ) → (eqb c 48 || eqb c 49) ≡ false → n < 2 → c ≡ 48 + n → ⊥
-    not_early c n e h same = grind (arith, nat_tests)
 
 first_value : (w c : ℕ) → w < 65536 → c ≡ digit_of w 1 → c - 48 ≡ head w 1
 first_value w c small same = omega arith

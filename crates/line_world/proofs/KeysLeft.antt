@@ -17,7 +17,7 @@ use Rattle.host_core.specs.PhaseTable.{hears, sync_hears, address_hears, slash_h
 use Rattle.line_world.specs.Site.{Site, held, Lies, prompt_from, last_digits, reading, refusal_from}
 use Rattle.line_world.specs.Pending.{Checked, Facts, rest_of}
 use Rattle.line_world.proofs.Parts.{differ}
-use Rattle.line_world.proofs.Digits.{below_six, at_place, digit_is}
+use Rattle.line_world.proofs.Digits.{below_six, at_place, digit_is, not_first}
 
 -- the digits of a number behind the k-th, and what follows them
 abbrev pub digits_behind : ℕ → ℕ → List ℕ → List ℕ
@@ -156,15 +156,6 @@ module _ (t : Site) (here later : List ℕ) (c : ℕ) (u : List ℕ) where
   first_leads visit more wide e =
       leads_if t here later (eqb c 48 || eqb c 49) _ _ _ (λ yes. refl)
       (λ other. absurd (not_first (held t) c wide other (first_of e)))
-    where
-      not_first : (w c : ℕ) → w < 65536 → (eqb c 48 || eqb c 49) ≡ false → c ≡ digit_of w 1 → ⊥
-      not_first w c small e same = not_early c (w / 32768) e (omega arith) (same ∙ low (w / 32768) (omega arith))
-        where
-          low : (n : ℕ) → n < 2 → 48 + n % 8 ≡ 48 + n
-          low n h = omega arith
-
-          not_early : (c n : ℕ) → (eqb c 48 || eqb c 49) ≡ false → n < 2 → c ≡ 48 + n → ⊥
-          not_early c n e h same = grind (arith, nat_tests)
 
   -- a digit is neither a space nor `?`
   digit_other : (h d c : ℕ) → (d ≡ 32) ⊎ (d ≡ 63) → c ≡ 48 + h % 8 → eqb c d ≡ true → ⊥

@@ -14,9 +14,9 @@ use Rattle.load_command.specs.declared.script.StepLine.{StepLine}
 use Rattle.load_command.specs.Played.{Played, not_possible_lines}
 use Rattle.load_command.specs.Report.{report}
 use Rattle.load_command.specs.Input.{IsTaken}
-use Rattle.load_command.specs.TapeFile.{IsInput, input_limit}
+use Rattle.load_command.specs.TapeFile.{IsInput, BeginsWithTape, input_limit}
 use Rattle.load_command.specs.Script.{IsScript, IsRefusedScript, IsRefusedLine}
-use Rattle.load_command.specs.Rehearsal.{IsScriptInput, IsPlayFault, IsRehearseFault, IsRehearsal, AllLie, after_puts, machine_of, opening}
+use Rattle.load_command.specs.Rehearsal.{IsScriptInput, IsPlayFault, IsRehearseFault, IsRehearsal, IsRehearsed, AllLie, after_puts, machine_of, opening}
 use Rattle.load_command.specs.declared.fault.CommandFault.{CommandFault}
 use Rattle.load_command.specs.declared.fault.CommandFault.TheVariants as fault
 use Rattle.load_command.specs.declared.script.Script.{Script}
@@ -89,3 +89,15 @@ rehearsal_made tape script odt put world last puts steps waiting start told text
       played = subst (λ w. Played w script.steps.items last played.0) opens (subst (λ ls. Played world ls last played.0) steps_are played.1);
       told = text_is ∙ ap (λ t. t ++ report last) (played.2 ∙ ap (λ s. s ++ not_possible_lines played.0) none);
     }
+
+-- what the two inputs say, and the text of it
+pub rehearsed : (tape_input script_input : Option (List ℕ)) (tape_text text : List ℕ) (tape : TapeValue) (script : Script)
+    → BeginsWithTape tape_input tape_text tape → IsScriptInput script_input script → IsRehearsal tape script text → IsRehearsed tape_input script_input text
+rehearsed tape_input script_input tape_text text tape script begins is_script rehearsal = record {
+  tape_text = tape_text;
+  tape = tape;
+  begins = begins;
+  script = script;
+  is_script = is_script;
+  rehearsal = rehearsal;
+}

@@ -5,7 +5,7 @@ use Rattle.load_command.specs.Output.{WritesPrefix}
 use Rattle.load_command.specs.Rehearsal.{IsRehearseFault}
 use Rattle.load_command.specs.declared.fault.CommandFault.TheVariants.{Write}
 use Rattle.load_command.proofs.Faults.{fault_is}
-use Rattle.load_command.proofs.Rehearsals.{play_fault}
+use Rattle.load_command.proofs.Rehearsals.{play_fault, rehearsed}
 use Rattle.load_command.proofs.rehearse.rehearse_to.Goals as goal
 
 pub returns-in_err-text-clause-err : goal.returns-in_err-text-clause-err
@@ -21,27 +21,13 @@ returns-in_err-write_whole-clause-err g c =
     (IsRehearseFault (g.R.Read.remaining c.args.tape.now) (g.S.Read.remaining c.args.script.now) (g.W.Write.contents c.args.out.now) (g.W.Write.contents c.write_whole.new.out))
     c.from_residual-in_err-write_whole.ensures.1 (
       c.in_ok-text.text.items,
-      record {
-        tape_text = c.in_ok-file.file.text.items;
-        tape = c.in_ok-file.file.tape;
-        begins = c.in_ok-file.ensures.ok;
-        script = c.in_ok-script.script;
-        is_script = c.in_ok-script.ensures.ok;
-        rehearsal = c.in_ok-text.ensures.ok;
-      },
+      rehearsed _ _ _ _ _ _ c.in_ok-file.ensures.ok c.in_ok-script.ensures.ok c.in_ok-text.ensures.ok,
       subst (WritesPrefix (g.W.Write.contents c.args.out.now) (g.W.Write.contents c.write_whole.new.out)) c.deref.ensures.value c.in_err-write_whole.ensures.err,
     )
 
 pub returns-clause-ok : goal.returns-clause-ok
 returns-clause-ok g c = (
   c.in_ok-text.text.items,
-  record {
-    tape_text = c.in_ok-file.file.text.items;
-    tape = c.in_ok-file.file.tape;
-    begins = c.in_ok-file.ensures.ok;
-    script = c.in_ok-script.script;
-    is_script = c.in_ok-script.ensures.ok;
-    rehearsal = c.in_ok-text.ensures.ok;
-  },
+  rehearsed _ _ _ _ _ _ c.in_ok-file.ensures.ok c.in_ok-script.ensures.ok c.in_ok-text.ensures.ok,
   subst (Appends (g.W.Write.contents c.args.out.now) (g.W.Write.contents c.write_whole.new.out)) c.deref.ensures.value c.in_ok-write_whole.ensures.ok,
 )

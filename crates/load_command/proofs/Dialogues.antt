@@ -40,7 +40,7 @@ writes_more before between after first second = (first.0 ++ second.0, Appends-tr
 
 -- a prefix of a text is some text
 pub writes_prefix : (before after : Option (List ℕ)) (text : List ℕ) → WritesPrefix before after text → WritesSome before after
-writes_prefix before after text w = (w.1.written, w.1.appended)
+writes_prefix before after text w = (w.2.written, w.2.appended)
 
 -- a dialogue from its parts
 pub dialogue_made : (input before between now : Option (List ℕ)) (words : ℕ) (style : Style) (end : End) (text : List ℕ) (tape : TapeValue) (odt : Machine) (world last : Scene) (waiting start told shown : List ℕ)

@@ -53,11 +53,12 @@ module _ (input rest next : Option (List ℕ)) (machine mid after : Machine) (be
   -- the next characters typed, and answered in part
   pub in_part : IsTypedSoFar input rest machine mid before written count → Typed → WritesPrefix written now (answers_of mid more)
       → IsTypedInPart input next machine after before now
-  in_part so_far typed (left, part) = record {
+  in_part so_far typed (left, missing, part) = record {
     keys = so_far.keys ++ more;
     typed = typed_more so_far.keys so_far.counted so_far.typed typed;
     answered = (
       left,
+      missing,
       record {
         written = answers_of machine so_far.keys ++ part.written;
         whole = answers_of-append so_far.keys more machine ∙ ap (λ m. answers_of machine so_far.keys ++ answers_of m more) (sym so_far.typed.typed)

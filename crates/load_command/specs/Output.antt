@@ -1,5 +1,5 @@
 -- What reaches an output, where the writer tells its bytes.
-use Rattle.std.specs.Prelude.{◌≡◌, ℕ, List, Option, ◌++◌}
+use Rattle.std.specs.Prelude.{◌≡◌, ℕ, ◌<◌, List, Option, ◌++◌, length}
 use Rattle.std.specs.Io.KnownBytes.{Appends}
 
 -- a text was written but for what is left of it, and nothing else was
@@ -8,6 +8,6 @@ pub record WritesAllBut (before after : Option (List ℕ)) (text left : List ℕ
   pub whole : text ≡ written ++ left
   pub appended : Appends before after written
 
--- a prefix of the text was written, and nothing else
+-- a prefix of the text was written and nothing else, and something of the text is missing
 abbrev pub WritesPrefix : Option (List ℕ) → Option (List ℕ) → List ℕ → Type 0
-WritesPrefix before after text = (left : List ℕ) × WritesAllBut before after text left
+WritesPrefix before after text = (left : List ℕ) × (0 < length left) × WritesAllBut before after text left

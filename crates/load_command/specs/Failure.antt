@@ -46,8 +46,11 @@ IsFailureOf fault.ReadKeys tape script failure = NamesFile (codes "standard inpu
 IsFailureOf fault.Write tape script failure = failure ≡ CannotWrite
 IsFailureOf fault.Memory tape script failure = failure ≡ NoMemory
 
--- a tape is refused only where the input is, and no script is
-abbrev pub IsCheckFailure : Option (List ℕ) → Failure → Type 0
-IsCheckFailure input (TapeRefused refusal) = IsRefusedInput input refusal
-IsCheckFailure input (ScriptRefused line) = ⊥
-IsCheckFailure input other = ⊤
+-- how a check fails: a tape is refused only where the input is, what can't be read has this name, the output can't be
+-- written, or want of memory
+abbrev pub IsCheckFailure : Option (List ℕ) → List ℕ → Failure → Type 0
+IsCheckFailure input name (TapeRefused refusal) = IsRefusedInput input refusal
+IsCheckFailure input name (CannotRead file) = file.now ≡ name
+IsCheckFailure input name CannotWrite = ⊤
+IsCheckFailure input name NoMemory = ⊤
+IsCheckFailure input name other = ⊥

@@ -1,5 +1,5 @@
 -- The exit status of the program (this project's own).
-use Rattle.std.specs.Prelude.{ℕ}
+use Rattle.std.specs.Prelude.{ℕ, ⊤}
 use Rattle.host_core.specs.declared.phase.End.{End}
 use Rattle.host_core.specs.declared.phase.End.TheVariants as end
 use Rattle.load_command.specs.declared.status.Status.{Status}
@@ -24,3 +24,11 @@ end_status (end.WontHold address) = NotLoaded
 end_status end.GaveUp = NotLoaded
 end_status end.Uncertain = Uncertain
 end_status end.MaybeStarted = Uncertain
+
+-- the statuses that a check ends with
+abbrev pub IsCheckStatus : Status → Type 0
+IsCheckStatus Done = ⊤
+IsCheckStatus Refused = ⊤
+IsCheckStatus DeviceFailed = ⊤
+IsCheckStatus NoMemory = ⊤
+IsCheckStatus other = ⊥

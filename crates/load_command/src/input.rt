@@ -16,13 +16,23 @@ pub enum InputFault {
 }
 
 impl From<io::Error> for InputFault {
-    fn from(_: io::Error) -> InputFault {
+    ghost use Rattle.std.specs.Prelude.{◌≡◌};
+    ghost use Rattle.load_command.specs.declared.input.InputFault.TheVariants.{Read as ReadFailed};
+
+    ghost from_gives = { λ _ fault. fault ≡ ReadFailed };
+
+    fn from(_error: io::Error) -> InputFault {
         InputFault::Read
     }
 }
 
 impl From<AllocError> for InputFault {
-    fn from(_: AllocError) -> InputFault {
+    ghost use Rattle.std.specs.Prelude.{◌≡◌};
+    ghost use Rattle.load_command.specs.declared.input.InputFault.TheVariants.{Memory};
+
+    ghost from_gives = { λ _ fault. fault ≡ Memory };
+
+    fn from(_refused: AllocError) -> InputFault {
         InputFault::Memory
     }
 }

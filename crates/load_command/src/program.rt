@@ -1,9 +1,10 @@
 //! The body of `main`, over any files, input and outputs.
-ghost use Rattle.std.specs.Prelude.{◌≡◌, [], OnOk, IfOk, IfErr};
+ghost use Rattle.std.specs.Prelude.{◌≡◌, [], OnOk, IfOk, IfErr, codes};
 ghost use Rattle.tape_blocks.specs.declared.fault.Fault.{Fault as TapeFault};
 ghost use Rattle.load_command.specs.TapeFile.{IsRefusedInput};
 ghost use Rattle.load_command.specs.CheckText.{IsChecked};
 ghost use Rattle.load_command.specs.Failure.{status_of, IsCheckFailure};
+ghost use Rattle.load_command.specs.Status.{status_code, IsCheckStatus};
 
 use crate::check::check_to;
 use crate::command_line::{Console, Request, parse};
@@ -36,6 +37,7 @@ pub fn program<F: Files, R: Read, W: Write, E: Write>(
     // With no words, the tape on the input is checked.
     ensures checked { words.now ≡ [] → result ≡ 0 → IsChecked (R.remaining input.old) (W.contents out.old) (W.contents out.new) }
     ensures refused { words.now ≡ [] → result ≡ 3 → (fault : TapeFault) × IsRefusedInput (R.remaining input.old) fault }
+    ensures status { words.now ≡ [] → (status : Status) × IsCheckStatus status × (result ≡ status_code status) }
 {
     let status = match parse(alloc, words) {
         Ok(request) => attempt(rt, alloc, request, input, out, err),
@@ -55,6 +57,7 @@ fn attempt<F: Files, R: Read, W: Write, E: Write>(
 ) -> Status
     ensures checked { request.entry ≡ Request.CheckInput → result ≡ Status.Done → IsChecked (R.remaining input.old) (W.contents out.old) (W.contents out.new) }
     ensures refused { request.entry ≡ Request.CheckInput → result ≡ Status.Refused → (fault : TapeFault) × IsRefusedInput (R.remaining input.old) fault }
+    ensures status { request.entry ≡ Request.CheckInput → IsCheckStatus result }
 {
     match perform(rt, alloc, request, input, out) {
         Ok(status) => status,
@@ -98,7 +101,7 @@ fn perform<'a, F: Files, R: Read, W: Write>(
 ) -> Result<Status, Failure<'a>>
     ensures ok { OnOk result (request.entry ≡ Request.CheckInput → IsChecked (R.remaining input.old) (W.contents out.old) (W.contents out.new)) }
     ensures done { IfOk result (λ status. request.entry ≡ Request.CheckInput → status ≡ Status.Done) }
-    ensures err { IfErr result (λ failure. request.entry ≡ Request.CheckInput → IsCheckFailure (R.remaining input.old) failure) }
+    ensures err { IfErr result (λ failure. request.entry ≡ Request.CheckInput → IsCheckFailure (R.remaining input.old) (codes "standard input") failure) }
 {
     let status = match request {
         Request::CheckInput => check(alloc, STANDARD_INPUT, input, out)?,
@@ -141,7 +144,7 @@ fn check<'a, R: Read, W: Write>(
 ) -> Result<Status, Failure<'a>>
     ensures ok { OnOk result (IsChecked (R.remaining tape.old) (W.contents out.old) (W.contents out.new)) }
     ensures done { IfOk result (λ status. status ≡ Status.Done) }
-    ensures err { IfErr result (IsCheckFailure (R.remaining tape.old)) }
+    ensures err { IfErr result (IsCheckFailure (R.remaining tape.old) name.entry.now) }
 {
     match check_to(alloc, tape, out) {
         Ok(()) => Ok(Status::Done),

@@ -1,0 +1,4 @@
+pub mod Dialogue
+pub mod Failures
+pub mod KeepTable
+pub mod Told

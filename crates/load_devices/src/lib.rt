@@ -1,0 +1,18 @@
+//! What a load needs of the world: a line to the console, and a keeper of the progress.
+//!
+//! `Line` and `Keep` are devices as traits. Each tells how often it failed and whether its last call
+//! did, and where its type tells it, what was sent and heard or what is kept. `MemoryKeep` keeps in
+//! memory. The crates above bring lines and keepers of their own, and lend them to the engine.
+#![tactic(auto)]
+
+mod fault;
+mod item;
+mod keep;
+mod line;
+mod memory_keep;
+
+pub use fault::{KeepFault, LineFault};
+pub use item::{Item, Kept};
+pub use keep::Keep;
+pub use line::Line;
+pub use memory_keep::MemoryKeep;

@@ -2,9 +2,14 @@ pub mod Halves
 pub mod Stores
 pub mod Blocks
 pub mod Images
+pub mod Parts
+pub mod PageBytes
+pub mod Tables
+pub mod Laying
 pub mod Words
 pub mod Given
 pub mod Standing
 pub mod Plans
+pub mod Tapes
 pub mod SameWords
 pub mod OverlayLaw

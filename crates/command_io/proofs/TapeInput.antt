@@ -1,6 +1,6 @@
 -- What the bytes that were taken say of the whole input.
-use Rattle.std.proofs.Common.{◌≡◌, ◌<◌, ◌+◌, ℕ, List, [], ◌++◌, Option, Some, None, Err, inl, inr, take, drop, length, nat_lt, true, refl, sym, ap, ◌∙◌, subst, arith, append_assoc, append-nil, take-append-drop}
-use Rattle.std.proofs.lemmas.List.{take-append-le, length-append}
+use Rattle.std.proofs.Common.{◌≡◌, ◌≤◌, ◌<◌, ◌+◌, ℕ, List, [], ◌++◌, Option, Some, None, Err, inl, inr, take, drop, length, nat_lt, true, refl, sym, ap, ◌∙◌, subst, arith, append_assoc, append-nil, take-append-drop}
+use Rattle.std.proofs.lemmas.List.{take-append-le, length-append, length-take-le}
 use Rattle.std.proofs.lemmas.Bool.{cases_lt, lt-ltb}
 use Rattle.std.specs.Io.KnownBytes.{Consumes, IsAtEnd}
 use Rattle.tape_blocks.specs.Tape.{TapeValue, IsTape, tape_limit}
@@ -40,6 +40,10 @@ begins before after limit n bytes read text tape taken same is_tape e = record {
       (whole before after bytes taken.consumed);
   is_tape = subst (λ l. IsTape l tape.blocks tape.start) (ap (take n) same ∙ sym e) is_tape;
 }
+
+-- how long the front of the bytes taken is
+pub front_length : (n : ℕ) (read bytes : List ℕ) → read ≡ bytes → n ≤ length read → n ≡ length (take n bytes)
+front_length n read bytes same within = let long = ap length same in sym (length-take-le n bytes (omega arith))
 
 too_long : (input : List ℕ) (s : ℕ) → tape_limit < length input → missing_fault input s ≡ fault_at tape_limit TooLong
 too_long input s h = let over : nat_lt tape_limit (length input) ≡ true = lt-ltb tape_limit (length input) h in rw over refl

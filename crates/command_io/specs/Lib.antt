@@ -1,4 +1,5 @@
 pub mod Input
 pub mod Output
 pub mod TapeFile
+pub mod Tapes
 pub mod Text

@@ -3,8 +3,8 @@ use Rattle.std.specs.Prelude.{◌≡◌, ℕ, List, Option, Some, None, ◌++◌
 use Rattle.tape_blocks.specs.Tape.{TapeValue, IsTape}
 use Rattle.tape_blocks.specs.Refusal.{IsRefused}
 use Rattle.tape_blocks.specs.declared.fault.Fault.{Fault}
-use Rattle.command_io.specs.declared.fault.CommandFault.{CommandFault}
-use Rattle.command_io.specs.declared.fault.CommandFault.TheVariants.{Tape, Script, TooLarge, ReadTape, ReadScript, ReadKeys, Write, Memory}
+use Rattle.command_io.specs.declared.tape_file.TapeFault.{TapeFault}
+use Rattle.command_io.specs.declared.tape_file.TapeFault.TheVariants.{Refused, Unread, Memory}
 
 -- the most bytes that are taken of an input for a tape: one more than a tape may have
 abbrev pub input_limit : ℕ
@@ -28,12 +28,7 @@ pub record IsRefusedInput (known : Option (List ℕ)) (fault : Fault) : Type 0 w
   pub refused : IsRefused input fault.at fault.why
 
 -- the faults that taking a tape may meet: a refusal only where it is the input's, a failed read, want of memory
-abbrev pub IsTapeFault : Option (List ℕ) → CommandFault → Type 0
-IsTapeFault known (Tape fault) = IsRefusedInput known fault
-IsTapeFault known ReadTape = ⊤
+abbrev pub IsTapeFault : Option (List ℕ) → TapeFault → Type 0
+IsTapeFault known (Refused fault) = IsRefusedInput known fault
+IsTapeFault known Unread = ⊤
 IsTapeFault known Memory = ⊤
-IsTapeFault known (Script line) = ⊥
-IsTapeFault known TooLarge = ⊥
-IsTapeFault known ReadScript = ⊥
-IsTapeFault known ReadKeys = ⊥
-IsTapeFault known Write = ⊥

@@ -6,14 +6,14 @@ use tape_blocks::{Fault, Memory};
 /// Why a command did not do what it was asked.
 #[derive(Clone, Copy, Debug, PartialEq, Eq)]
 pub enum CommandFault {
-    /// The input for the tape is no tape: what is wrong with it, and at which byte.
-    Tape(Fault),
+    /// An input for a tape is no tape: its number, from 1, what is wrong with it, and at which byte.
+    Tape(usize, Fault),
     /// The script is refused at this line, counted from 1; 0 is a script that is too long.
     Script(u32),
     /// A machine of more than 28,672 words was asked for.
     TooLarge,
-    /// A read of the tape failed.
-    ReadTape,
+    /// A read of a tape failed: its number, from 1.
+    ReadTape(usize),
     /// A read of the script failed.
     ReadScript,
     /// A read of the keys failed.

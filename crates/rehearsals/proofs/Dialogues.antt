@@ -7,7 +7,7 @@ use Rattle.std.proofs.Math.Seq.{drop-append_seam}
 use Rattle.std.proofs.KnownBytes.{Appends-nil, Appends-trans}
 use Rattle.std.specs.Io.KnownBytes.{Appends}
 use Rattle.tape_blocks.specs.Tape.{TapeValue}
-use Rattle.tape_image.specs.Plan.{plan_of}
+use Rattle.tape_image.specs.Plan.{plan_of_all}
 use Rattle.odt_machine.specs.declared.style.Style.{Style}
 use Rattle.odt_machine.specs.Machine.{Machine}
 use Rattle.odt_machine.specs.KeyTable.{take_of}
@@ -24,7 +24,7 @@ use Rattle.rehearsals.specs.KeyLines.{Answered, Gathers, Holds, Notes, answered_
 use Rattle.rehearsals.specs.Rehearsal.{machine_of}
 use Rattle.rehearsals.proofs.KeyTexts.{gathered_text}
 use Rattle.load_reports.specs.Report.{report}
-use Rattle.command_io.specs.TapeFile.{BeginsWithTape}
+use Rattle.command_io.specs.Tapes.{AreTapes, tapes_of}
 
 -- events that end from one world on end from an earlier one on, lead to the same world and tell the same; what was told so far is written
 pub record Conversation (start w : Scene) (exchange : Exchange) (before now : Option (List ℕ)) : Type 0 where
@@ -112,19 +112,19 @@ pub writes_prefix : (before after : Option (List ℕ)) (text : List ℕ) → Wri
 writes_prefix before after text w = (w.2.written, w.2.appended)
 
 -- a dialogue from its parts
-pub dialogue_made : (input before between now : Option (List ℕ)) (words : ℕ) (style : Style) (end : End) (text : List ℕ) (tape : TapeValue) (odt : Machine) (world last : Scene) (waiting start told shown : List ℕ)
-    → BeginsWithTape input text tape → odt ≡ machine_of style (replicate words 0) → waiting ≡ [] → world ≡ opened odt (begun (plan_of tape) 0 false dialogue_patience) waiting
-    → Talks world last end before between → start ≡ [] → told ≡ start ++ report last → shown ≡ told → Appends between now shown → IsDialogue input before now words style end
-dialogue_made input before between now words style end text tape odt world last waiting start told shown begins odt_is waits world_is talks none told_is shown_is written =
-    let opens : world ≡ dialogue_opening tape words style = world_is ∙ ap (λ m. opened m (begun (plan_of tape) 0 false dialogue_patience) waiting) odt_is
-    ∙ ap (λ ws. opened (machine_of style (replicate words 0)) (begun (plan_of tape) 0 false dialogue_patience) ws) waits in
+pub dialogue_made : (inputs rests : List (Option (List ℕ))) (before between now : Option (List ℕ)) (words : ℕ) (style : Style) (end : End) (tapes opened_tapes : List TapeValue) (lengths : List ℕ) (odt : Machine) (world last : Scene) (waiting start told shown : List ℕ)
+    → AreTapes inputs rests tapes lengths → opened_tapes ≡ tapes → odt ≡ machine_of style (replicate words 0) → waiting ≡ [] → world ≡ opened odt (begun (plan_of_all opened_tapes) 0 false dialogue_patience) waiting
+    → Talks world last end before between → start ≡ [] → told ≡ start ++ report last → shown ≡ told → Appends between now shown → IsDialogue inputs rests before now words style end
+dialogue_made inputs rests before between now words style end tapes opened_tapes lengths odt world last waiting start told shown are same odt_is waits world_is talks none told_is shown_is written =
+    let opens : world ≡ dialogue_opening (tapes_of are.texts) words style = world_is ∙ ap (λ m. opened m (begun (plan_of_all opened_tapes) 0 false dialogue_patience) waiting) odt_is
+    ∙ ap (λ ws. opened (machine_of style (replicate words 0)) (begun (plan_of_all opened_tapes) 0 false dialogue_patience) ws) waits
+    ∙ ap (λ ts. dialogue_opening ts words style) (same ∙ are.tapes_are) in
     let all : shown ≡ report last = shown_is ∙ told_is ∙ ap (λ s. s ++ report last) none in
     let spoken = subst (λ w. Talks w last end before between) opens talks in
     record {
-      text = text;
-      tape = tape;
-      begins = begins;
+      texts = are.texts;
+      taken = are.taken;
       last = last;
       run = spoken.run;
-      written = Appends-trans before between now (key_text (answered_keys (dialogue_opening tape words style) spoken.run.events)) (report last) spoken.told (subst (Appends between now) all written);
+      written = Appends-trans before between now (key_text (answered_keys (dialogue_opening (tapes_of are.texts) words style) spoken.run.events)) (report last) spoken.told (subst (Appends between now) all written);
     }

@@ -3,7 +3,7 @@ use Rattle.std.proofs.Common.{◌≡◌, ℕ, ◌<◌, ◌≤◌, inl, inr, ⊎_
 use Rattle.std.specs.Io.KnownBytes.{Keeps}
 use Rattle.std.proofs.lemmas.List.{length-append}
 use Rattle.tape_blocks.specs.Tape.{TapeValue}
-use Rattle.tape_image.specs.Plan.{plan_of}
+use Rattle.tape_image.specs.Plan.{plan_of_all}
 use Rattle.odt_machine.specs.declared.style.Style.{Style}
 use Rattle.odt_machine.specs.Machine.{Machine}
 use Rattle.host_core.specs.Core.{begun}
@@ -14,7 +14,8 @@ use Rattle.loss_scripts.specs.declared.script.StepLine.{StepLine}
 use Rattle.rehearsals.specs.Played.{Played, not_possible_lines}
 use Rattle.load_reports.specs.Report.{report}
 use Rattle.command_io.specs.Input.{IsTaken}
-use Rattle.command_io.specs.TapeFile.{IsInput, BeginsWithTape, input_limit}
+use Rattle.command_io.specs.TapeFile.{IsInput, input_limit}
+use Rattle.command_io.specs.Tapes.{AreTapes}
 use Rattle.loss_scripts.specs.Script.{IsScript, IsRefusedScript, IsRefusedLine}
 use Rattle.rehearsals.specs.Rehearsal.{IsScriptInput, IsPlayFault, IsRehearseFault, IsRehearsal, IsRehearsed, AllLie, after_puts, machine_of, opening}
 use Rattle.command_io.specs.declared.fault.CommandFault.{CommandFault}
@@ -44,17 +45,17 @@ refused_input before after bytes read number taken same refused =
     refused
 
 -- what a rehearsal that was not played says of the inputs
-pub play_fault : (tape script out : Option (List ℕ)) (played : Script) (why : CommandFault) → IsScriptInput script played → Keeps out out → IsPlayFault (replicate played.words 0) played.puts.items why
-    → IsRehearseFault tape script out out why
-play_fault tape script out played (fault.Script number) is keeps refused =
+pub play_fault : (inputs rests : List (Option (List ℕ))) (script out : Option (List ℕ)) (played : Script) (why : CommandFault) → IsScriptInput script played → Keeps out out → IsPlayFault (replicate played.words 0) played.puts.items why
+    → IsRehearseFault inputs rests script out out why
+play_fault inputs rests script out played (fault.Script number) is keeps refused =
     (record { text = is.text; is_input = is.is_input; refused = inr (played, is.is_script, refused) }, keeps)
-play_fault tape script out played fault.Memory is keeps refused = keeps
-play_fault tape script out played (fault.Tape refusal) is keeps refused = absurd refused
-play_fault tape script out played fault.TooLarge is keeps refused = absurd refused
-play_fault tape script out played fault.ReadTape is keeps refused = absurd refused
-play_fault tape script out played fault.ReadScript is keeps refused = absurd refused
-play_fault tape script out played fault.ReadKeys is keeps refused = absurd refused
-play_fault tape script out played fault.Write is keeps refused = absurd refused
+play_fault inputs rests script out played fault.Memory is keeps refused = keeps
+play_fault inputs rests script out played (fault.Tape number refusal) is keeps refused = absurd refused
+play_fault inputs rests script out played fault.TooLarge is keeps refused = absurd refused
+play_fault inputs rests script out played (fault.ReadTape number) is keeps refused = absurd refused
+play_fault inputs rests script out played fault.ReadScript is keeps refused = absurd refused
+play_fault inputs rests script out played fault.ReadKeys is keeps refused = absurd refused
+play_fault inputs rests script out played fault.Write is keeps refused = absurd refused
 
 -- a machine after puts
 abbrev machine_with : Machine → List PutLine → Machine
@@ -70,15 +71,15 @@ lie_is : (m n : List ℕ) (puts all : List PutLine) → m ≡ n → puts ≡ all
 lie_is m n puts all same puts_are lie = subst (λ k. AllLie k all) same (subst (AllLie m) puts_are lie)
 
 -- a rehearsal from its parts
-pub rehearsal_made : (tape : TapeValue) (script : Script) (odt put : Machine) (world last : Scene) (puts : List PutLine) (steps : List StepLine) (waiting start told text : List ℕ)
+pub rehearsal_made : (tapes : List TapeValue) (script : Script) (odt put : Machine) (world last : Scene) (puts : List PutLine) (steps : List StepLine) (waiting start told text : List ℕ)
     → odt ≡ machine_of script.style (replicate script.words 0) → puts ≡ script.puts.items
     → put ≡ record odt { memory = after_puts odt.memory puts } → AllLie odt.memory puts → waiting ≡ script.waiting.items
-    → world ≡ opened put (begun (plan_of tape) 0 false script.patience) waiting → steps ≡ script.steps.items → start ≡ []
-    → (numbers : List ℕ) × Played world steps last numbers × (told ≡ start ++ not_possible_lines numbers) → text ≡ told ++ report last → IsRehearsal tape script text
-rehearsal_made tape script odt put world last puts steps waiting start told text odt_is puts_are is lie waits world_is steps_are none played text_is =
+    → world ≡ opened put (begun (plan_of_all tapes) 0 false script.patience) waiting → steps ≡ script.steps.items → start ≡ []
+    → (numbers : List ℕ) × Played world steps last numbers × (told ≡ start ++ not_possible_lines numbers) → text ≡ told ++ report last → IsRehearsal tapes script text
+rehearsal_made tapes script odt put world last puts steps waiting start told text odt_is puts_are is lie waits world_is steps_are none played text_is =
     let machine = put_is script.style script.words odt put puts script.puts.items odt_is puts_are is in
-    let opens : world ≡ opening tape script = world_is ∙ ap (λ m. opened m (begun (plan_of tape) 0 false script.patience) waiting) machine
-    ∙ ap (λ ws. opened (machine_of script.style (after_puts (replicate script.words 0) script.puts.items)) (begun (plan_of tape) 0 false script.patience) ws) waits in
+    let opens : world ≡ opening tapes script = world_is ∙ ap (λ m. opened m (begun (plan_of_all tapes) 0 false script.patience) waiting) machine
+    ∙ ap (λ ws. opened (machine_of script.style (after_puts (replicate script.words 0) script.puts.items)) (begun (plan_of_all tapes) 0 false script.patience) ws) waits in
     record {
       lie = lie_is odt.memory (replicate script.words 0) puts script.puts.items (ap (λ (m : Machine). m.memory) odt_is) puts_are lie;
       last = last;
@@ -87,14 +88,13 @@ rehearsal_made tape script odt put world last puts steps waiting start told text
       told = text_is ∙ ap (λ t. t ++ report last) (played.2 ∙ ap (λ s. s ++ not_possible_lines played.0) none);
     }
 
--- what the two inputs say, and the text of it
-pub rehearsed : (tape_input script_input : Option (List ℕ)) (tape_text text : List ℕ) (tape : TapeValue) (script : Script)
-    → BeginsWithTape tape_input tape_text tape → IsScriptInput script_input script → IsRehearsal tape script text → IsRehearsed tape_input script_input text
-rehearsed tape_input script_input tape_text text tape script begins is_script rehearsal = record {
-  tape_text = tape_text;
-  tape = tape;
-  begins = begins;
+-- what the inputs say, and the text of it
+pub rehearsed : (inputs rests : List (Option (List ℕ))) (script_input : Option (List ℕ)) (tapes played : List TapeValue) (lengths text : List ℕ) (script : Script)
+    → AreTapes inputs rests tapes lengths → played ≡ tapes → IsScriptInput script_input script → IsRehearsal played script text → IsRehearsed inputs rests script_input text
+rehearsed inputs rests script_input tapes played lengths text script are same is_script rehearsal = record {
+  texts = are.texts;
+  taken = are.taken;
   script = script;
   is_script = is_script;
-  rehearsal = rehearsal;
+  rehearsal = subst (λ ts. IsRehearsal ts script text) (same ∙ are.tapes_are) rehearsal;
 }

@@ -3,7 +3,7 @@ use Rattle.std.specs.Prelude.{◌≡◌, ℕ, ◌<◌, ◌⊎◌, true, false, L
 use Rattle.std.specs.List.{AllByRecursion}
 use Rattle.std.specs.Io.KnownBytes.{Keeps}
 use Rattle.tape_blocks.specs.Tape.{TapeValue}
-use Rattle.tape_image.specs.Plan.{plan_of}
+use Rattle.tape_image.specs.Plan.{plan_of_all}
 use Rattle.odt_machine.specs.declared.style.Style.{Style}
 use Rattle.odt_machine.specs.declared.mode.Mode.TheVariants.{Prompt}
 use Rattle.odt_machine.specs.Machine.{Machine, is_word, stored}
@@ -18,7 +18,8 @@ use Rattle.command_io.specs.Output.{WritesPrefix}
 use Rattle.rehearsals.specs.Played.{Played, not_possible_lines}
 use Rattle.load_reports.specs.Report.{report}
 use Rattle.loss_scripts.specs.Script.{IsScript, IsRefusedScript}
-use Rattle.command_io.specs.TapeFile.{IsInput, BeginsWithTape, IsRefusedInput}
+use Rattle.command_io.specs.TapeFile.{IsInput}
+use Rattle.command_io.specs.Tapes.{TapeText, AreTaken, AreTapesFault, tapes_of}
 
 -- the memory after these words are put into it, in order
 abbrev pub after_puts : List ℕ → List PutLine → List ℕ
@@ -43,17 +44,17 @@ pub record IsRefusedPut (memory : List ℕ) (puts : List PutLine) (number : ℕ)
 abbrev pub machine_of : Style → List ℕ → Machine
 machine_of style memory = record { style = style; memory = memory; mode = Prompt }
 
--- the world that a tape and a script open: the words are put into a zeroed machine, the host has done nothing yet
-abbrev pub opening : TapeValue → Script → Scene
-opening tape script =
-    opened (machine_of script.style (after_puts (replicate script.words 0) script.puts.items)) (begun (plan_of tape) 0 false script.patience) script.waiting.items
+-- the world that tapes and a script open: the words are put into a zeroed machine, the host has done nothing yet
+abbrev pub opening : List TapeValue → Script → Scene
+opening tapes script =
+    opened (machine_of script.style (after_puts (replicate script.words 0) script.puts.items)) (begun (plan_of_all tapes) 0 false script.patience) script.waiting.items
 
 -- the text of a rehearsal: the lines that were not possible, and then the report
-pub record IsRehearsal (tape : TapeValue) (script : Script) (text : List ℕ) : Type 0 where
+pub record IsRehearsal (tapes : List TapeValue) (script : Script) (text : List ℕ) : Type 0 where
   pub lie : AllLie (replicate script.words 0) script.puts.items
   pub last : Scene
   pub numbers : List ℕ
-  pub played : Played (opening tape script) script.steps.items last numbers
+  pub played : Played (opening tapes script) script.steps.items last numbers
   pub told : text ≡ not_possible_lines numbers ++ report last
 
 -- the input is this script
@@ -68,26 +69,25 @@ pub record IsRefusedScriptInput (known : Option (List ℕ)) (number : ℕ) : Typ
   pub is_input : IsInput known text
   pub refused : IsRefusedScript text number ⊎ ((script : Script) × IsScript text script × IsRefusedPut (replicate script.words 0) script.puts.items number)
 
--- the tape's input begins with a tape, the other is a script, and this is the text of their rehearsal
-pub record IsRehearsed (tape_input script_input : Option (List ℕ)) (text : List ℕ) : Type 0 where
-  pub tape_text : List ℕ
-  pub tape : TapeValue
-  pub begins : BeginsWithTape tape_input tape_text tape
+-- tapes were taken of the inputs, the other input is a script, and this is the text of their rehearsal
+pub record IsRehearsed (inputs rests : List (Option (List ℕ))) (script_input : Option (List ℕ)) (text : List ℕ) : Type 0 where
+  pub texts : List TapeText
+  pub taken : AreTaken inputs rests texts
   pub script : Script
   pub is_script : IsScriptInput script_input script
-  pub rehearsal : IsRehearsal tape script text
+  pub rehearsal : IsRehearsal (tapes_of texts) script text
 
--- how a rehearsal fails: a refusal only where it is the tape's or the script's, a failed read, or want of memory, before
+-- how a rehearsal fails: a refusal only where it is that of a tape's input, by its number, or the script's, a failed read, or want of memory, before
 -- anything is written; or a failed write, with a prefix of the text written
-abbrev pub IsRehearseFault : Option (List ℕ) → Option (List ℕ) → Option (List ℕ) → Option (List ℕ) → CommandFault → Type 0
-IsRehearseFault tape script before after (fault.Tape refusal) = IsRefusedInput tape refusal × Keeps before after
-IsRehearseFault tape script before after (fault.Script number) = IsRefusedScriptInput script number × Keeps before after
-IsRehearseFault tape script before after fault.ReadTape = Keeps before after
-IsRehearseFault tape script before after fault.ReadScript = Keeps before after
-IsRehearseFault tape script before after fault.Memory = Keeps before after
-IsRehearseFault tape script before after fault.Write = (text : List ℕ) × IsRehearsed tape script text × WritesPrefix before after text
-IsRehearseFault tape script before after fault.TooLarge = ⊥
-IsRehearseFault tape script before after fault.ReadKeys = ⊥
+abbrev pub IsRehearseFault : List (Option (List ℕ)) → List (Option (List ℕ)) → Option (List ℕ) → Option (List ℕ) → Option (List ℕ) → CommandFault → Type 0
+IsRehearseFault inputs rests script before after (fault.Tape number refusal) = AreTapesFault inputs rests (fault.Tape number refusal) × Keeps before after
+IsRehearseFault inputs rests script before after (fault.Script number) = IsRefusedScriptInput script number × Keeps before after
+IsRehearseFault inputs rests script before after (fault.ReadTape number) = AreTapesFault inputs rests (fault.ReadTape number) × Keeps before after
+IsRehearseFault inputs rests script before after fault.ReadScript = Keeps before after
+IsRehearseFault inputs rests script before after fault.Memory = Keeps before after
+IsRehearseFault inputs rests script before after fault.Write = (text : List ℕ) × IsRehearsed inputs rests script text × WritesPrefix before after text
+IsRehearseFault inputs rests script before after fault.TooLarge = ⊥
+IsRehearseFault inputs rests script before after fault.ReadKeys = ⊥
 
 -- a machine was not made: it would be too large, or want of memory
 abbrev pub IsMachineFault : ℕ → CommandFault → Type 0

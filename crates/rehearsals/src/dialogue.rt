@@ -1,5 +1,5 @@
 //! The command `dialogue`: a load into a simulated machine, shown as it goes.
-ghost use Rattle.std.specs.Prelude.{◌≡◌, ◌<◌, List, OnOk, IfOk, IfErr};
+ghost use Rattle.std.specs.Prelude.{◌≡◌, ◌<◌, List, map, OnOk, IfOk, IfErr};
 ghost use Rattle.host_core.specs.Core.{ended};
 ghost use Rattle.line_world.specs.World.{happens, first_event, work_left};
 ghost use Rattle.rehearsals.specs.Dialogue.{IsDialogue, IsDialogueFault, Talks, WritesSome, IsTalkFault};
@@ -7,7 +7,7 @@ ghost use Rattle.rehearsals.specs.KeyLines.{Answered, Gathers, Notes, answered_i
 
 use crate::exchange::Exchange;
 use crate::opening::{open, zeroed};
-use command_io::{CommandFault, take_tape, write_whole};
+use command_io::{CommandFault, take_tapes, write_whole};
 use host_core::End;
 use line_world::World;
 use load_reports::put_report;
@@ -18,25 +18,25 @@ use std::io::{Read, Write};
 /// How many mishaps the host survives.
 const PATIENCE: u32 = 8;
 
-/// Loads a tape into a zeroed machine on a line that loses nothing, and prints what is typed and
-/// answered as it goes, and at the end the report. Answers how the load ended.
+/// Loads tapes, one from each input, as one into a zeroed machine on a line that loses nothing, and
+/// prints what is typed and answered as it goes, and at the end the report. Answers how the load ended.
 ///
-/// `Tape` is the refusal of the tape, `ReadTape` a failed read, and `TooLarge` a machine of more than
-/// 28,672 words: these come before the first byte of output. `Write` is a failed write. `Memory`
-/// comes only where a growth was refused.
+/// `Tape` is the refusal of an input, `ReadTape` a failed read, by the input's number from 1, and
+/// `TooLarge` a machine of more than 28,672 words: these come in this order, before the first byte of
+/// output. `Write` is a failed write. `Memory` comes only where a growth was refused.
 pub fn dialogue_to<R: Read, W: Write>(
     alloc: Global,
-    tape: &mut R,
+    tapes: &mut [R],
     words: u16,
     style: Style,
     out: &mut W,
 ) -> Result<End, CommandFault>
-    ensures ok { IfOk result (IsDialogue (R.remaining tape.old) (W.contents out.old) (W.contents out.new) words style) }
-    ensures err { IfErr result (IsDialogueFault (R.remaining tape.old) (W.contents out.old) (W.contents out.new) words) }
+    ensures ok { IfOk result (IsDialogue (map R.remaining tapes.old) (map R.remaining tapes.new) (W.contents out.old) (W.contents out.new) words style) }
+    ensures err { IfErr result (IsDialogueFault (map R.remaining tapes.old) (map R.remaining tapes.new) (W.contents out.old) (W.contents out.new) words) }
 {
-    let file = take_tape(alloc, tape)?;
+    let taken = take_tapes(alloc, tapes)?;
     let odt = zeroed(alloc, words, style)?;
-    let mut world = open(alloc, &file.tape, odt, PATIENCE, &[])?;
+    let mut world = open(alloc, &taken.tapes, odt, PATIENCE, &[])?;
     let end = talk(alloc, &mut world, out)?;
     let mut report = Vec::new(alloc);
     put_report(&mut report, &world)?;

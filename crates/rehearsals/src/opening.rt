@@ -1,7 +1,7 @@
 //! The worlds that commands open.
 ghost use Rattle.std.specs.Prelude.{◌≡◌, ℕ, ◌≤◌, false, length, replicate, IfOk, IfErr, [], OnOk};
 ghost use Rattle.odt_machine.specs.declared.mode.Mode.TheVariants.{Prompt};
-ghost use Rattle.tape_image.specs.Plan.{plan_of};
+ghost use Rattle.tape_image.specs.Plan.{plan_of_all};
 ghost use Rattle.host_core.specs.Core.{begun};
 ghost use Rattle.line_world.specs.Opening.{opened};
 ghost use Rattle.rehearsals.specs.Rehearsal.{after_puts, AllLie, IsRefusedPut, IsMachineFault, machine_of};
@@ -15,21 +15,21 @@ use std::alloc::Global;
 use tape_blocks::Tape;
 use tape_image::Plan;
 
-/// A host that has done nothing yet, with a tape to load into a machine at its prompt, while
+/// A host that has done nothing yet, with tapes to load as one into a machine at its prompt, while
 /// `waiting` answers wait for it. `Memory` is the only fault.
 pub fn open(
     alloc: Global,
-    tape: &Tape,
+    tapes: &[Tape],
     odt: Odt,
     patience: u32,
     waiting: &[u8],
 ) -> Result<World, CommandFault>
     requires prompt { odt.mode ≡ Prompt }
     requires few { length waiting.now ≤ 32 }
-    ensures ok { IfOk result (λ world. world ≡ opened odt (begun (plan_of tape.now) 0 false patience) waiting.now) }
+    ensures ok { IfOk result (λ world. world ≡ opened odt (begun (plan_of_all tapes.now) 0 false patience) waiting.now) }
     ensures err { IfErr result (λ fault. fault ≡ CommandFault.Memory) }
 {
-    let plan = Plan::of(alloc, tape)?;
+    let plan = Plan::of_all(alloc, tapes)?;
     let nothing = Progress {
         verified: 0,
         going: false,

@@ -1,41 +1,43 @@
 //! The command `rehearse`: a script of losses, played over a simulated machine.
-ghost use Rattle.std.specs.Prelude.{◌≡◌, ◌<◌, ◌≤◌, replicate, OnOk, IfOk, IfErr, List, ℕ};
+ghost use Rattle.std.specs.Prelude.{◌≡◌, ◌<◌, ◌≤◌, replicate, map, OnOk, IfOk, IfErr, List, ℕ};
 ghost use Rattle.std.specs.Io.KnownBytes.{Appends};
 ghost use Rattle.command_io.specs.Input.{TakesAtMost};
 ghost use Rattle.rehearsals.specs.Rehearsal.{IsRehearsal, IsRehearsed, IsRehearseFault, IsScriptInput, IsScriptInputFault, IsPlayFault};
 ghost use Rattle.command_io.specs.TapeFile.{input_limit};
+ghost use Rattle.command_io.specs.Tapes.{TakeAtMost};
 
 use crate::opening::{open, put_words, zeroed};
 use crate::play::play;
-use command_io::{CommandFault, InputFault, read_up_to, take_tape, write_whole};
+use command_io::{CommandFault, InputFault, read_up_to, take_tapes, write_whole};
 use load_reports::put_report;
 use loss_scripts::{SCRIPT_LIMIT, Script, ScriptError, read_script};
 use std::alloc::Global;
 use std::io::{Read, Write};
 use tape_blocks::Tape;
 
-/// Rehearses a script with a tape: opens the world that both set up, lets the script's lines happen,
-/// and prints the lines that were not possible and then the report.
+/// Rehearses a script with tapes, one from each input, as one: opens the world that they set up, lets
+/// the script's lines happen, and prints the lines that were not possible and then the report.
 ///
-/// The tape is taken first, then the script, of which at most 1,048,577 bytes are taken. `Tape` is
-/// the refusal of the tape. `Script` is that of the script: 0 where it is too long, the first line
-/// that is wrong, or where all lines are in order that of the first word that does not lie in memory.
-/// `ReadTape` and `ReadScript` are failed reads. All these come before the first byte of output;
+/// The tapes are taken first, in order, then the script, of which at most 1,048,577 bytes are taken.
+/// `Tape` is the refusal of an input for a tape, by its number from 1. `Script` is that of the script: 0
+/// where it is too long, the first line that is wrong, or where all lines are in order that of the first
+/// word that does not lie in memory. `ReadTape`, by the input's number, and `ReadScript` are failed
+/// reads. All these come before the first byte of output;
 /// `Write` is a failed write. `Memory` comes only where a growth was refused.
 pub fn rehearse_to<R: Read, S: Read, W: Write>(
     alloc: Global,
-    tape: &mut R,
+    tapes: &mut [R],
     script: &mut S,
     out: &mut W,
 ) -> Result<(), CommandFault>
-    ensures ok { OnOk result ((text : List ℕ) × IsRehearsed (R.remaining tape.old) (S.remaining script.old) text × Appends (W.contents out.old) (W.contents out.new) text) }
-    ensures err { IfErr result (IsRehearseFault (R.remaining tape.old) (S.remaining script.old) (W.contents out.old) (W.contents out.new)) }
+    ensures ok { OnOk result ((text : List ℕ) × IsRehearsed (map R.remaining tapes.old) (map R.remaining tapes.new) (S.remaining script.old) text × Appends (W.contents out.old) (W.contents out.new) text) }
+    ensures err { IfErr result (IsRehearseFault (map R.remaining tapes.old) (map R.remaining tapes.new) (S.remaining script.old) (W.contents out.old) (W.contents out.new)) }
     ensures taken { TakesAtMost (S.remaining script.old) (S.remaining script.new) input_limit }
-    ensures tape_taken { TakesAtMost (R.remaining tape.old) (R.remaining tape.new) input_limit }
+    ensures at_most { TakeAtMost (map R.remaining tapes.old) (map R.remaining tapes.new) }
 {
-    let file = take_tape(alloc, tape)?;
+    let taken = take_tapes(alloc, tapes)?;
     let script = take_script(alloc, script)?;
-    let text = rehearsal(alloc, &file.tape, &script)?;
+    let text = rehearsal(alloc, &taken.tapes, &script)?;
     write_whole(out, &text)?;
     Ok(())
 }
@@ -60,16 +62,16 @@ fn take_script<S: Read>(alloc: Global, input: &mut S) -> Result<Script, CommandF
 }
 
 // What is printed of a rehearsal.
-fn rehearsal(alloc: Global, tape: &Tape, script: &Script) -> Result<Vec<u8>, CommandFault>
+fn rehearsal(alloc: Global, tapes: &[Tape], script: &Script) -> Result<Vec<u8>, CommandFault>
     requires size { script.now.words ≤ 28672 }
-    ensures ok { IfOk result (λ text. IsRehearsal tape.now script.now text.items) }
+    ensures ok { IfOk result (λ text. IsRehearsal tapes.now script.now text.items) }
     ensures err { IfErr result (IsPlayFault (replicate script.now.words 0) script.now.puts.items) }
 {
     let mut odt = zeroed(alloc, script.words, script.style)?;
     if let Err(line) = put_words(&mut odt, &script.puts) {
         return Err(CommandFault::Script(line));
     }
-    let mut world = open(alloc, tape, odt, script.patience, script.waiting.as_slice())?;
+    let mut world = open(alloc, tapes, odt, script.patience, script.waiting.as_slice())?;
     let mut text = Vec::new(alloc);
     play(&mut world, &script.steps, &mut text)?;
     put_report(&mut text, &world)?;

@@ -1,1 +1,3 @@
 pub mod TapeSize
+pub mod Canonical
+pub mod Texts

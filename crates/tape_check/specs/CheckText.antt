@@ -1,27 +1,26 @@
--- The text that `check` prints of a tape (this project's own).
-use Rattle.std.specs.Prelude.{ℕ, ◌%◌, ◌==◌, if◌then◌else◌, Bool, nat_eq, List, [], ◌∷◌, ◌++◌, length, sum_by, codes, decimal, Option}
-use Rattle.std.specs.List.{flat_map}
+-- The text that `check` prints of tapes (this project's own).
+use Rattle.std.specs.Prelude.{◌≡◌, ℕ, ◌%◌, ◌==◌, if◌then◌else◌, Bool, nat_eq, List, [], ◌∷◌, ◌++◌, length, sum_by, codes, decimal, Option}
+use Rattle.std.specs.List.{flat_map, AllByRecursion}
 use Rattle.std.specs.Cmp.Lexicographic.{pointwise}
 use Rattle.std.specs.Io.KnownBytes.{Appends}
 use Rattle.octal.specs.Octal.{octal_text}
 use Rattle.tape_blocks.specs.Block.{BlockValue}
-use Rattle.tape_blocks.specs.Tape.{TapeValue, plain_text}
+use Rattle.tape_blocks.specs.Tape.{TapeValue, IsTape, plain_text}
 use Rattle.tape_image.specs.Word.{WordValue}
-use Rattle.tape_image.specs.Image.{image_of}
-use Rattle.tape_image.specs.Plan.{words_of}
+use Rattle.tape_image.specs.Plan.{plan_of_all}
 use Rattle.command_io.specs.Text.{line}
 use Rattle.command_io.specs.Output.{WritesPrefix}
-use Rattle.command_io.specs.TapeFile.{BeginsWithTape}
+use Rattle.command_io.specs.Tapes.{TapeText, AreTaken, tapes_of, lengths_of}
 
 -- how many data bytes the blocks have together
 abbrev pub data_count : List BlockValue → ℕ
 data_count blocks = sum_by (λ b. length b.bytes) blocks
 
 -- how many blocks there are, how many data bytes in them, and how many bytes the tape has
-abbrev pub counts_text : List ℕ → TapeValue → List ℕ
-counts_text text tape =
+abbrev pub counts_text : TapeValue → ℕ → List ℕ
+counts_text tape count =
     codes "blocks " ++ decimal (length tape.blocks) ++ codes " data " ++ decimal (data_count tape.blocks)
-    ++ codes " read " ++ decimal (length text)
+    ++ codes " read " ++ decimal count
 
 -- the start address; an odd one starts nothing
 abbrev pub start_text : ℕ → List ℕ
@@ -32,8 +31,8 @@ abbrev pub is_same : List ℕ → List ℕ → Bool
 is_same = pointwise nat_eq
 
 -- whether the tape's bytes are its plain text
-abbrev pub canonical_text : List ℕ → TapeValue → List ℕ
-canonical_text text tape = codes "canonical " ++ (if is_same text (plain_text tape) then codes "yes" else codes "no")
+abbrev pub canonical_text : Bool → List ℕ
+canonical_text is_canonical = codes "canonical " ++ (if is_canonical then codes "yes" else codes "no")
 
 -- a word's address, mask and value
 abbrev pub word_fields : WordValue → List ℕ
@@ -43,22 +42,28 @@ word_fields w = octal_text w.address ++ 32 ∷ [] ++ octal_text w.mask ++ 32 ∷
 abbrev pub words_text : List WordValue → List ℕ
 words_text words = line (codes "words " ++ decimal (length words)) ++ flat_map (λ w. line (word_fields w)) words
 
--- what `check` prints of a tape and the bytes that it was read from
-abbrev pub check_text : List ℕ → TapeValue → List ℕ
-check_text text tape =
-    line (counts_text text tape) ++ line (start_text tape.start) ++ line (canonical_text text tape)
-    ++ words_text (words_of (image_of tape.blocks))
+-- the three lines of a tape
+abbrev pub tape_text : TapeText → List ℕ
+tape_text t = line (counts_text t.tape (length t.text)) ++ line (start_text t.tape.start) ++ line (canonical_text (is_same t.text (plain_text t.tape)))
 
--- the input begins with a tape, and the tape's text for `check` was written, and nothing else
-pub record IsChecked (input before after : Option (List ℕ)) : Type 0 where
-  pub text : List ℕ
-  pub tape : TapeValue
-  pub begins : BeginsWithTape input text tape
-  pub written : Appends before after (check_text text tape)
+-- what `check` prints of tapes and the bytes that they were read from: three lines of each, and then once the words of all
+abbrev pub check_text : List TapeText → List ℕ
+check_text texts = flat_map tape_text texts ++ words_text (plan_of_all (tapes_of texts)).words
 
--- the same, but only a prefix of the tape's text for `check` was written
-pub record IsCheckedInPart (input before after : Option (List ℕ)) : Type 0 where
-  pub text : List ℕ
-  pub tape : TapeValue
-  pub begins : BeginsWithTape input text tape
-  pub written : WritesPrefix before after (check_text text tape)
+-- tapes were taken of the inputs, and their text for `check` was written, and nothing else
+pub record IsChecked (inputs rests : List (Option (List ℕ))) (before after : Option (List ℕ)) : Type 0 where
+  pub texts : List TapeText
+  pub taken : AreTaken inputs rests texts
+  pub written : Appends before after (check_text texts)
+
+-- the same, but only a prefix of the text for `check` was written
+pub record IsCheckedInPart (inputs rests : List (Option (List ℕ))) (before after : Option (List ℕ)) : Type 0 where
+  pub texts : List TapeText
+  pub taken : AreTaken inputs rests texts
+  pub written : WritesPrefix before after (check_text texts)
+
+-- tapes of these texts, which are so long
+pub record AreTexts (tapes : List TapeValue) (lengths : List ℕ) (texts : List TapeText) : Type 0 where
+  pub tapes_are : tapes ≡ tapes_of texts
+  pub lengths_are : lengths ≡ lengths_of texts
+  pub each : AllByRecursion (λ t. IsTape t.text t.tape.blocks t.tape.start) texts

@@ -1,66 +1,78 @@
-//! The command `check`: what a tape holds.
-ghost use Rattle.std.specs.Prelude.{◌≡◌, ◌≤◌, ◌++◌, if◌then◌else◌, codes, [], ◌∷◌, OnOk, IfOk, IfErr};
+//! The command `check`: what tapes hold.
+ghost use Rattle.std.specs.Prelude.{◌≡◌, ◌≤◌, ◌++◌, ℕ, List, length, map, [], ◌∷◌, OnOk, IfOk, IfErr};
 ghost use Rattle.std.specs.List.{flat_map};
 ghost use Rattle.octal.specs.Octal.{octal_text};
-ghost use Rattle.tape_blocks.specs.Tape.{plain_text, tape_limit};
-ghost use Rattle.command_io.specs.Input.{TakesAtMost};
-ghost use Rattle.command_io.specs.TapeFile.{input_limit};
+ghost use Rattle.tape_blocks.specs.Tape.{IsTape, plain_text, tape_limit};
+ghost use Rattle.command_io.specs.Tapes.{TapeText, TakeAtMost};
 ghost use Rattle.command_io.specs.Text.{line};
-ghost use Rattle.tape_check.specs.CheckText.{data_count, counts_text, start_text, canonical_text, words_text, word_fields, check_text as text_of_check, IsChecked};
+ghost use Rattle.tape_check.specs.CheckText.{data_count, counts_text, start_text, canonical_text, is_same, tape_text, words_text, word_fields, check_text as text_of_check, AreTexts, IsChecked};
 ghost use Rattle.tape_check.specs.CheckFault.{IsCheckFault};
 
-use command_io::{CommandFault, TapeFile, put_decimal, put_octal, take_tape, write_whole};
+use command_io::{CommandFault, Tapes, put_decimal, put_octal, take_tapes, write_whole};
 use std::alloc::{AllocError, Global};
 use std::io::{Read, Write};
-use tape_blocks::{Block, write_tape};
+use tape_blocks::{Block, Tape};
 use tape_image::{Plan, Word};
 
-/// Checks the tape that begins an input, and prints its blocks, its start, whether it is canonical,
-/// and the words of its image.
+/// How many bytes a block has beside its data.
+const FRAME: usize = 7;
+
+/// Checks tapes, one from each input, and prints of each its blocks, its start and whether it is
+/// canonical, and then the words of the image that they make together.
 ///
-/// At most 1,048,577 bytes are taken. `Tape` is the refusal of the input and `ReadTape` a failed
-/// read, both before the first byte of output; `Write` is a failed write. Neither is tried again.
+/// The inputs are read in order, and of each at most 1,048,577 bytes are taken. `Tape` is the refusal
+/// of an input and `ReadTape` a failed read, by the input's number from 1: the first decides, later
+/// inputs are not read, and nothing is written. `Write` is a failed write. Neither is tried again.
 /// `Memory` comes only where a growth was refused.
 pub fn check_to<R: Read, W: Write>(
     alloc: Global,
-    tape: &mut R,
+    tapes: &mut [R],
     out: &mut W,
 ) -> Result<(), CommandFault>
-    ensures ok { OnOk result (IsChecked (R.remaining tape.old) (W.contents out.old) (W.contents out.new)) }
-    ensures err { IfErr result (IsCheckFault (R.remaining tape.old) (W.contents out.old) (W.contents out.new)) }
-    ensures taken { TakesAtMost (R.remaining tape.old) (R.remaining tape.new) input_limit }
+    ensures ok { OnOk result (IsChecked (map R.remaining tapes.old) (map R.remaining tapes.new) (W.contents out.old) (W.contents out.new)) }
+    ensures err { IfErr result (IsCheckFault (map R.remaining tapes.old) (map R.remaining tapes.new) (W.contents out.old) (W.contents out.new)) }
+    ensures at_most { TakeAtMost (map R.remaining tapes.old) (map R.remaining tapes.new) }
 {
-    let file = take_tape(alloc, tape)?;
-    let report = check_text(alloc, &file)?;
+    let taken = take_tapes(alloc, tapes)?;
+    let report = check_text(alloc, &taken)?;
     write_whole(out, &report)?;
     Ok(())
 }
 
-/// What is printed of a tape.
-fn check_text(alloc: Global, file: &TapeFile) -> Result<Vec<u8>, CommandFault>
-    ensures ok { IfOk result (λ report. report.items ≡ text_of_check file.now.text.items file.now.tape) }
+/// What is printed of tapes.
+fn check_text(alloc: Global, taken: &Tapes) -> Result<Vec<u8>, CommandFault>
+    requires { length taken.now.lengths.items ≡ length taken.now.tapes.items }
+    ensures ok { IfOk result (λ report. (texts : List TapeText) → AreTexts taken.now.tapes.items taken.now.lengths.items texts → report.items ≡ text_of_check texts) }
     ensures err { IfErr result (λ fault. fault ≡ CommandFault.Memory) }
 {
-    let plan = Plan::of(alloc, &file.tape)?;
-    let plain = write_tape(alloc, &file.tape)?;
+    let plan = Plan::of_all(alloc, &taken.tapes)?;
     let mut report = Vec::new(alloc);
-    put_counts(&mut report, file)?;
-    put_start(&mut report, file.tape.start())?;
-    put_canonical(&mut report, file.text.as_slice() == plain.as_slice())?;
+    for place in 0..taken.tapes.len() {
+        put_tape(&mut report, &taken.tapes[place], taken.lengths[place])?;
+    }
     put_words(&mut report, plan.words())?;
     Ok(report)
 }
 
-fn put_counts(report: &mut Vec<u8>, file: &TapeFile) -> Result<(), AllocError>
-    ensures { OnOk result (report.new.items ≡ report.old.items ++ line (counts_text file.now.text.items file.now.tape)) }
+/// The lines of one tape, which has so many bytes.
+fn put_tape(report: &mut Vec<u8>, tape: &Tape, size: u32) -> Result<(), AllocError>
+    ensures { OnOk result ((text : List ℕ) → IsTape text tape.now.blocks tape.now.start → size ≡ length text → report.new.items ≡ report.old.items ++ tape_text (record { text = text; tape = tape.now })) }
 {
-    let blocks = file.tape.blocks();
+    put_counts(report, tape, size)?;
+    put_start(report, tape.start())?;
+    put_canonical(report, is_canonical(tape, size))
+}
+
+fn put_counts(report: &mut Vec<u8>, tape: &Tape, size: u32) -> Result<(), AllocError>
+    ensures { OnOk result (report.new.items ≡ report.old.items ++ line (counts_text tape.now size)) }
+{
+    let blocks = tape.blocks();
     report.extend_from_slice(b"blocks ")?;
     put_decimal(report, blocks.len())?;
     report.extend_from_slice(b" data ")?;
     put_decimal(report, data_count(blocks))?;
     report.extend_from_slice(b" read ")?;
-    put_decimal(report, file.text.len())?;
+    put_decimal(report, size as usize)?;
     report.extend_from_slice(b"\n")
 }
 
@@ -69,6 +81,16 @@ fn data_count(blocks: &[Block]) -> usize
     ensures { result ≡ data_count blocks.now }
 {
     blocks.iter().map(|block| block.bytes.len()).sum()
+}
+
+/// Whether the bytes that the tape was read from, so many, are its plain text: whether nothing stands
+/// between its blocks.
+fn is_canonical(tape: &Tape, size: u32) -> bool
+    ensures { (text : List ℕ) → IsTape text tape.now.blocks tape.now.start → size ≡ length text → result ≡ is_same text (plain_text tape.now) }
+{
+    let blocks = tape.blocks();
+    let written = data_count(blocks) + FRAME * (blocks.len() + 1);
+    size as usize == written
 }
 
 fn put_start(report: &mut Vec<u8>, start: u16) -> Result<(), AllocError>
@@ -83,7 +105,7 @@ fn put_start(report: &mut Vec<u8>, start: u16) -> Result<(), AllocError>
 }
 
 fn put_canonical(report: &mut Vec<u8>, is_canonical: bool) -> Result<(), AllocError>
-    ensures { OnOk result (report.new.items ≡ report.old.items ++ line (codes "canonical " ++ (if is_canonical then codes "yes" else codes "no"))) }
+    ensures { OnOk result (report.new.items ≡ report.old.items ++ line (canonical_text is_canonical)) }
 {
     report.extend_from_slice(b"canonical ")?;
     report.extend_from_slice(if is_canonical { b"yes\n" } else { b"no\n" })

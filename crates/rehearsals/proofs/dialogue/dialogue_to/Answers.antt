@@ -1,4 +1,4 @@
-use Rattle.std.proofs.Common.{refl}
+use Rattle.std.proofs.Common.{refl, map}
 use Rattle.rehearsals.specs.Dialogue.{IsDialogueFault}
 use Rattle.command_io.specs.declared.fault.CommandFault.TheVariants.{Write}
 use Rattle.command_io.proofs.Faults.{fault_is}
@@ -8,12 +8,12 @@ use Rattle.rehearsals.proofs.dialogue.dialogue_to.Goals as goal
 pub returns-in_err-write_whole-clause-err : goal.returns-in_err-write_whole-clause-err
 returns-in_err-write_whole-clause-err g c =
     fault_is c.from_residual-in_err-write_whole.result Write
-    (IsDialogueFault (g.R.Read.remaining c.args.tape.now) (g.W.Write.contents c.args.out.now) (g.W.Write.contents c.write_whole.new.out) c.args.words)
+    (IsDialogueFault (map g.R.Read.remaining c.args.tapes.now) (map g.R.Read.remaining c.take_tapes.new.inputs) (g.W.Write.contents c.args.out.now) (g.W.Write.contents c.write_whole.new.out) c.args.words)
     c.from_residual-in_err-write_whole.ensures.1
     (writes_more (g.W.Write.contents c.args.out.now) (g.W.Write.contents c.talk.new.out) (g.W.Write.contents c.write_whole.new.out) c.talk.ensures.written (writes_prefix _ _ _ c.in_err-write_whole.ensures.err))
 
 pub returns-clause-ok : goal.returns-clause-ok
 returns-clause-ok g c =
-    dialogue_made (g.R.Read.remaining c.args.tape.now) (g.W.Write.contents c.args.out.now) (g.W.Write.contents c.talk.new.out) (g.W.Write.contents c.write_whole.new.out) c.args.words c.args.style c.in_ok-end.end
-    _ c.in_ok-file.file.tape c.in_ok-odt.odt c.in_ok-world.world c.talk.new.world _ _ _ _
-    c.in_ok-file.ensures.ok c.in_ok-odt.ensures.ok refl c.in_ok-world.ensures.ok c.in_ok-end.ensures.ok c.new-report.ensures.items c.in_ok-put_report.ensures c.deref.ensures.value c.in_ok-write_whole.ensures.ok
+    dialogue_made (map g.R.Read.remaining c.args.tapes.now) (map g.R.Read.remaining c.take_tapes.new.inputs) (g.W.Write.contents c.args.out.now) (g.W.Write.contents c.talk.new.out) (g.W.Write.contents c.write_whole.new.out) c.args.words c.args.style c.in_ok-end.end
+    c.in_ok-taken.taken.tapes.items c.deref.result.now c.in_ok-taken.taken.lengths.items c.in_ok-odt.odt c.in_ok-world.world c.talk.new.world _ _ _ _
+    c.in_ok-taken.ensures.ok c.deref.ensures.value c.in_ok-odt.ensures.ok refl c.in_ok-world.ensures.ok c.in_ok-end.ensures.ok c.new-report.ensures.items c.in_ok-put_report.ensures c.deref-2.ensures.value c.in_ok-write_whole.ensures.ok

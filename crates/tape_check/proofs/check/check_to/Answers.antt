@@ -1,17 +1,30 @@
-use Rattle.std.proofs.Common.{◌∙◌, subst}
-use Rattle.tape_check.specs.CheckFault.{IsCheckFault}
+use Rattle.std.proofs.Common.{map, ◌∙◌, subst}
+use Rattle.std.specs.Io.KnownBytes.{Appends}
 use Rattle.command_io.specs.Output.{WritesPrefix}
 use Rattle.command_io.specs.declared.fault.CommandFault.TheVariants.{Write}
 use Rattle.command_io.proofs.Faults.{fault_is}
+use Rattle.tape_check.specs.CheckFault.{IsCheckFault}
+use Rattle.tape_check.proofs.Texts.{are_texts}
 use Rattle.tape_check.proofs.check.check_to.Goals as goal
 
 pub returns-in_err-write_whole-clause-err : goal.returns-in_err-write_whole-clause-err
 returns-in_err-write_whole-clause-err g c =
-    fault_is c.from_residual-in_err-write_whole.result Write (IsCheckFault (g.R.Read.remaining c.args.tape.now) (g.W.Write.contents c.args.out.now) (g.W.Write.contents c.write_whole.new.out))
+    let are = c.in_ok-taken.ensures.ok in
+    fault_is c.from_residual-in_err-write_whole.result Write
+    (IsCheckFault (map g.R.Read.remaining c.args.tapes.now) (map g.R.Read.remaining c.take_tapes.new.inputs) (g.W.Write.contents c.args.out.now) (g.W.Write.contents c.write_whole.new.out))
     c.from_residual-in_err-write_whole.ensures.1 (record {
-      text = c.in_ok-file.file.text.items;
-      tape = c.in_ok-file.file.tape;
-      begins = c.in_ok-file.ensures.ok;
-      written = subst (λ l. WritesPrefix (g.W.Write.contents c.args.out.now) (g.W.Write.contents c.write_whole.new.out) l)
-          (c.deref.ensures.value ∙ c.in_ok-report.ensures.ok) c.in_err-write_whole.ensures.err;
+      texts = are.texts;
+      taken = are.taken;
+      written = subst (WritesPrefix (g.W.Write.contents c.args.out.now) (g.W.Write.contents c.write_whole.new.out))
+          (c.deref.ensures.value ∙ c.in_ok-report.ensures.ok are.texts (are_texts _ _ _ _ are)) c.in_err-write_whole.ensures.err;
     })
+
+pub returns-clause-ok : goal.returns-clause-ok
+returns-clause-ok g c =
+    let are = c.in_ok-taken.ensures.ok in
+    record {
+      texts = are.texts;
+      taken = are.taken;
+      written = subst (Appends (g.W.Write.contents c.args.out.now) (g.W.Write.contents c.write_whole.new.out))
+          (c.deref.ensures.value ∙ c.in_ok-report.ensures.ok are.texts (are_texts _ _ _ _ are)) c.in_ok-write_whole.ensures.ok;
+    }

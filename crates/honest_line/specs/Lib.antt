@@ -1,0 +1,3 @@
+pub mod Honest
+pub mod Moves
+pub mod Trust

@@ -14,7 +14,7 @@ use Rattle.host_core.specs.Core.{Core, word_nr, no_word}
 use Rattle.host_core.proofs.Turns.{kept}
 use Rattle.host_core.proofs.Frame.{moved}
 use Rattle.line_world.specs.declared.event.Event.{Event}
-use Rattle.line_world.specs.declared.event.Event.TheVariants.{Take, Hear, LoseDown, LoseUp, Quiet}
+use Rattle.line_world.specs.declared.event.Event.TheVariants.{Take, Hear, LoseDown, LoseUp, Quiet, Restart}
 use Rattle.line_world.specs.Scene.{Scene}
 use Rattle.line_world.specs.World.{takes, hears, times_out, happens, after}
 use Rattle.line_world.specs.Site.{site_of, IsThere}
@@ -24,6 +24,7 @@ use Rattle.line_world.specs.Safe.{OnlyImage, IsLoaded, IsSafe}
 use Rattle.line_world.proofs.Frame.{scene}
 use Rattle.line_world.proofs.Losses.{kept_lose_down, kept_lose_up}
 use Rattle.line_world.proofs.Silence.{kept_silence}
+use Rattle.line_world.proofs.NewLives.{kept_restart}
 use Rattle.line_world.proofs.Taking.{kept_take, key_takes}
 use Rattle.line_world.proofs.Machines.{machine_taken}
 use Rattle.line_world.proofs.Stores.{bytes_after, rest_default}
@@ -58,6 +59,7 @@ kept_event w Hear k = hears_kept w.machine w.core w.down w.up w.lost k
 kept_event w (LoseDown n) k = lost_if IsKept w _ (ltb n (length w.down)) k (λ e. kept_lose_down w.machine w.core w.down w.up w.lost n (under n _ e) k)
 kept_event w (LoseUp n) k = lost_if IsKept w _ (ltb n (length w.up)) k (λ e. kept_lose_up w.machine w.core w.down w.up w.lost n (under n _ e) k)
 kept_event w Quiet k = silence_kept w.machine w.core w.down w.up w.lost k
+kept_event w (Restart kept) k = kept_restart w.machine w.core w.down w.up w.lost kept k
 
 pub kept_events : (w : Scene) (events : List Event) → IsKept w → IsKept (after w events)
 kept_events w [] k = k
@@ -98,6 +100,7 @@ steps_event w Hear k = hears_steps w.machine w.core w.down w.up w.lost
 steps_event w (LoseDown n) k = lost_if (Steps w) w _ (ltb n (length w.down)) (stays w) (λ e. record { plan = refl; bytes = same_bytes w.core.plan.image w.machine.memory })
 steps_event w (LoseUp n) k = lost_if (Steps w) w _ (ltb n (length w.up)) (stays w) (λ e. record { plan = refl; bytes = same_bytes w.core.plan.image w.machine.memory })
 steps_event w Quiet k = silence_steps w.machine w.core w.down w.up w.lost
+steps_event w (Restart kept) k = record { plan = refl; bytes = same_bytes w.core.plan.image w.machine.memory }
 
 -- first one thing, then another
 only_then : (image : Image) (a b c : List ℕ) → OnlyImage a image b → OnlyImage b image c → OnlyImage a image c
@@ -139,7 +142,7 @@ loaded before w fits words only = record {
 }
 
 -- a world is safe from every memory that differs from its own by the image alone
-pub safe_of : (before : List ℕ) (w : Scene) → IsKept w → OnlyImage before w.core.plan.image w.machine.memory → IsSafe before w
+pub safe_of : (before : List ℕ) (w : Scene) → IsKept w → OnlyImage before w.core.plan.image w.machine.memory → IsSafe before w.core w.machine.memory
 safe_of before w k only = record {
   lies = λ i below. (k.words i (all_standing w.core.going w.core.verified (length w.core.plan.words) i k.host.within below)).0;
   stands = λ i below. Stands-unchanged (word_nr w.core.plan.words i) _ (k.words i (all_standing w.core.going w.core.verified (length w.core.plan.words) i k.host.within below)).1;
@@ -147,21 +150,25 @@ safe_of before w k only = record {
   going = λ e. loaded before w k.host.image (λ i below. k.words i (under_mark w.core.going w.core.verified (length w.core.plan.words) i e below)) only;
 }
 
-pub safe_here : (w : Scene) → IsKept w → IsSafe w.machine.memory w
+-- the world's memory is safe against an earlier one
+abbrev pub SafeIn : List ℕ → Scene → Type 0
+SafeIn before w = IsSafe before w.core w.machine.memory
+
+pub safe_here : (w : Scene) → IsKept w → SafeIn w.machine.memory w
 safe_here w k = safe_of w.machine.memory w k (same_bytes w.core.plan.image w.machine.memory)
 
-safe_step : (before : List ℕ) (w next : Scene) → OnlyImage before w.core.plan.image w.machine.memory → IsKept next → Steps w next → IsSafe before next
+safe_step : (before : List ℕ) (w next : Scene) → OnlyImage before w.core.plan.image w.machine.memory → IsKept next → Steps w next → SafeIn before next
 safe_step before w next only k s =
     safe_of before next k (subst (λ (p : PlanValue). OnlyImage before p.image next.machine.memory) (sym s.plan) (only_then w.core.plan.image before w.machine.memory next.machine.memory only s.bytes))
 
-pub safe_event : (w : Scene) (event : Event) → IsKept w → IsSafe w.machine.memory (happens w event)
+pub safe_event : (w : Scene) (event : Event) → IsKept w → SafeIn w.machine.memory (happens w event)
 safe_event w event k = safe_step w.machine.memory w (happens w event) (same_bytes w.core.plan.image w.machine.memory) (kept_event w event k) (steps_event w event k)
 
-pub since_event : (before : List ℕ) (w : Scene) (event : Event) → IsKept w → IsSafe before w → IsSafe before (happens w event)
+pub since_event : (before : List ℕ) (w : Scene) (event : Event) → IsKept w → SafeIn before w → SafeIn before (happens w event)
 since_event before w event k safe = safe_step before w (happens w event) safe.bytes (kept_event w event k) (steps_event w event k)
 
-pub safe_events : (w : Scene) (events : List Event) → IsKept w → IsSafe w.machine.memory (after w events)
+pub safe_events : (w : Scene) (events : List Event) → IsKept w → SafeIn w.machine.memory (after w events)
 safe_events w events k = safe_step w.machine.memory w (after w events) (same_bytes w.core.plan.image w.machine.memory) (kept_events w events k) (steps_events w events k)
 
-pub since_events : (before : List ℕ) (w : Scene) (events : List Event) → IsKept w → IsSafe before w → IsSafe before (after w events)
+pub since_events : (before : List ℕ) (w : Scene) (events : List Event) → IsKept w → SafeIn before w → SafeIn before (after w events)
 since_events before w events k safe = safe_step before w (after w events) safe.bytes (kept_events w events k) (steps_events w events k)

@@ -8,6 +8,7 @@ pub mod Keys
 pub mod Sites
 pub mod Stores
 pub mod Taking
+pub mod NewLives
 pub mod Hearing
 pub mod Machines
 pub mod Events

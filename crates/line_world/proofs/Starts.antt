@@ -11,12 +11,12 @@ use Rattle.host_core.specs.declared.phase.End.TheVariants.{GaveUp}
 use Rattle.host_core.specs.declared.phase.Phase.TheVariants.{Settle, Sync, Address, Ended}
 use Rattle.host_core.specs.declared.turn.Turn.{Turn}
 use Rattle.host_core.specs.declared.turn.Turn.TheVariants.{Listen, Key, Verified, ReadBack, Next, Mark, Stop, Stray, Timeout}
-use Rattle.host_core.specs.Core.{Core, word_under_way}
+use Rattle.host_core.specs.Core.{Core, word_under_way, restarted}
 use Rattle.host_core.specs.PhaseTable.{Move, move, taken, turn_of, sends, listens, after_words}
 use Rattle.host_core.proofs.Turns.{kept}
 use Rattle.host_core.proofs.Frame.{moved, silent, on_move}
 use Rattle.line_world.specs.declared.event.Event.{Event}
-use Rattle.line_world.specs.declared.event.Event.TheVariants.{Take, Hear, LoseDown, LoseUp, Quiet}
+use Rattle.line_world.specs.declared.event.Event.TheVariants.{Take, Hear, LoseDown, LoseUp, Quiet, Restart}
 use Rattle.line_world.specs.Scene.{Scene}
 use Rattle.line_world.specs.World.{takes, hears, times_out, stepped, happens, after, typed_hearing, typed_timeout, typed_in, typed}
 use Rattle.line_world.specs.Lawful.{Ground, ground, LawfulBefore, LawfulKey}
@@ -89,13 +89,17 @@ starts_join a b c xs ys x y = record {
 
 -- ---- one event
 
-nothing_typed : (core : Core) → StartsOnce core core []
-nothing_typed core = record {
+-- nothing is typed, and the mark stays
+mark_kept : (before after : Core) → after.going ≡ before.going → StartsOnce before after []
+mark_kept before after same = record {
   last = tt;
   silent = λ e. refl;
-  marked = (λ h. absurd (let below = h.1 in omega arith), λ (e, f). absurd (not_both core.going e f));
-  stays = λ e. e;
+  marked = (λ h. absurd (let below = h.1 in omega arith), λ (e, f). absurd (not_both before.going e (sym same ∙ f)));
+  stays = λ e. same ∙ e;
 }
+
+nothing_typed : (core : Core) → StartsOnce core core []
+nothing_typed core = mark_kept core core refl
 
 -- the mark is set by the turn that sends `G`
 mark_sends : (core : Core) (turn : Turn) → core.going ≡ false → (taken core turn).next.going ≡ true → (taken core turn).key ≡ Some 71
@@ -190,6 +194,7 @@ starts_event w Hear k = hearing_starts w.machine w.core w.down w.up w.lost k
 starts_event w (LoseDown n) k = lost_if (λ x. StartsOnce w.core x.core []) w _ (ltb n (length w.down)) (nothing_typed w.core) (λ e. nothing_typed w.core)
 starts_event w (LoseUp n) k = lost_if (λ x. StartsOnce w.core x.core []) w _ (ltb n (length w.up)) (nothing_typed w.core) (λ e. nothing_typed w.core)
 starts_event w Quiet k = timeout_starts w.machine w.core w.down w.up w.lost k
+starts_event w (Restart kept) k = mark_kept w.core (restarted w.core kept) refl
 
 pub starts_events : (w : Scene) (events : List Event) → IsKept w → StartsOnce w.core (after w events).core (typed w events)
 starts_events w [] k = nothing_typed w.core

@@ -12,7 +12,7 @@ use Rattle.host_core.specs.declared.phase.Phase.{Phase}
 use Rattle.host_core.specs.declared.phase.Phase.TheVariants.{Ended}
 use Rattle.host_core.specs.Core.{Core}
 use Rattle.line_world.specs.declared.event.Event.{Event}
-use Rattle.line_world.specs.declared.event.Event.TheVariants.{Take, Hear, LoseDown, LoseUp, Quiet}
+use Rattle.line_world.specs.declared.event.Event.TheVariants.{Take, Hear, LoseDown, LoseUp, Quiet, Restart}
 use Rattle.line_world.specs.Scene.{Scene}
 use Rattle.line_world.specs.World.{takes, hears, times_out, happens, after, is_timeout, had_timeout}
 use Rattle.line_world.specs.Site.{site}
@@ -129,6 +129,7 @@ short_event w Hear k short = hears_short w w.up short short
 short_event w (LoseDown n) k short = lost_if (λ x. length x.up ≤ 9) w _ (ltb n (length w.down)) short (λ e. short)
 short_event w (LoseUp n) k short = lost_if (λ x. length x.up ≤ 9) w _ (ltb n (length w.up)) short (λ e. omega (arith, length-remove w.up n (under n _ e)))
 short_event w Quiet k short = silence_short w w.down w.up short
+short_event w (Restart kept) k short = short
 
 pub short_events : (w : Scene) (events : List Event) → IsKept w → length w.up ≤ 9 → length (after w events).up ≤ 9
 short_events w [] k short = short
@@ -145,6 +146,7 @@ silent_event w Hear e = absurd (cc)
 silent_event w (LoseDown n) e = absurd (cc)
 silent_event w (LoseUp n) e = absurd (cc)
 silent_event w Quiet e = timed_out w w.down w.up e
+silent_event w (Restart kept) e = absurd (cc)
 
 pub silent_events : (w : Scene) (events : List Event) → IsKept w → had_timeout w events ≡ true → length (after w events).up ≤ 9
 silent_events w [] k e = absurd (cc)

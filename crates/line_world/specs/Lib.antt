@@ -1,3 +1,4 @@
+pub mod Wire
 pub mod Scene
 pub mod World
 pub mod Site

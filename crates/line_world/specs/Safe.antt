@@ -1,14 +1,13 @@
--- Safety against an earlier memory: it speaks of memory, the host's record and the mark alone.
+-- Safety of a memory against an earlier one: of the host it speaks of the plan, the record and the mark alone.
 use Rattle.std.specs.Prelude.{ℕ, ◌≡◌, ◌<◌, ◌⊎◌, true, List, length, Some}
 use Rattle.std.specs.FinMap.{get}
 use Rattle.tape_image.specs.Memory.{byte_of, top_of}
 use Rattle.tape_image.specs.Word.{Stands}
 use Rattle.tape_image.specs.Plan.{PlanValue}
 use Rattle.tape_image.specs.Image.{Image}
-use Rattle.host_core.specs.Core.{word_nr}
+use Rattle.host_core.specs.Core.{Core, word_nr}
 use Rattle.tape_image.specs.Overlay.{IsOverlay}
 use Rattle.odt_machine.specs.Machine.{is_word, word_at as memory_word}
-use Rattle.line_world.specs.Scene.{Scene}
 
 -- the plan's word numbered i lies in memory
 abbrev pub WordLies : PlanValue → List ℕ → ℕ → Type 0
@@ -24,9 +23,9 @@ pub record IsLoaded (before : List ℕ) (plan : PlanValue) (now : List ℕ) : Ty
   pub lies : (i : ℕ) → i < length plan.words → WordLies plan now i
   pub overlay : IsOverlay before plan.image now
 
--- safe against an earlier memory
-pub record IsSafe (before : List ℕ) (w : Scene) : Type 0 where
-  pub lies : (i : ℕ) → i < w.core.verified → WordLies w.core.plan w.machine.memory i
-  pub stands : (i : ℕ) → i < w.core.verified → Stands (word_nr w.core.plan.words i) (memory_word w.machine.memory (word_nr w.core.plan.words i).address)
-  pub bytes : OnlyImage before w.core.plan.image w.machine.memory
-  pub going : w.core.going ≡ true → IsLoaded before w.core.plan w.machine.memory
+-- a host's record is true of a memory, and safe against an earlier memory
+pub record IsSafe (before : List ℕ) (core : Core) (now : List ℕ) : Type 0 where
+  pub lies : (i : ℕ) → i < core.verified → WordLies core.plan now i
+  pub stands : (i : ℕ) → i < core.verified → Stands (word_nr core.plan.words i) (memory_word now (word_nr core.plan.words i).address)
+  pub bytes : OnlyImage before core.plan.image now
+  pub going : core.going ≡ true → IsLoaded before core.plan now

@@ -2,6 +2,7 @@
 use Rattle.std.specs.Prelude.{ℕ, List}
 use Rattle.odt_machine.specs.Machine.{Machine}
 use Rattle.host_core.specs.Core.{Core}
+use Rattle.line_world.specs.Wire.{Wire}
 
 -- a machine, a host, the keys under way (`down`), the answers under way (`up`), and how many characters the line has lost in this life
 pub record Scene : Type 0 where
@@ -10,3 +11,11 @@ pub record Scene : Type 0 where
   pub down : List ℕ
   pub up : List ℕ
   pub lost : ℕ
+
+-- a world without its host
+abbrev pub wire_of : Scene → Wire
+wire_of w = record { machine = w.machine; down = w.down; up = w.up; lost = w.lost }
+
+-- a host at the end of a line
+abbrev pub over : Core → Wire → Scene
+over core x = record { machine = x.machine; core = core; down = x.down; up = x.up; lost = x.lost }

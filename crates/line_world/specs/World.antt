@@ -1,22 +1,22 @@
 -- The events of the world, the world after them, and the keys that the host types on the way.
 use Rattle.std.specs.Prelude.{◌≡◌, ℕ, ◌+◌, ◌-◌, ◌*◌, Bool, false, nat_lt, if◌then◌else◌, ◌||◌, List, [], ◌∷◌, ◌++◌, length, Option, Some, None, unwrap_or, option_to_list, is_some, IsSome}
-use Rattle.std.specs.List.{remove}
 use Rattle.odt_machine.specs.KeyTable.{Taken, take_of}
 use Rattle.host_core.specs.declared.heard.Heard.TheVariants.{Got, Quiet as Silence}
-use Rattle.host_core.specs.Core.{ended}
+use Rattle.host_core.specs.Core.{ended, restarted}
 use Rattle.host_core.specs.Bound.{character_bound}
 use Rattle.host_core.specs.PhaseTable.{Move, move}
 use Rattle.line_world.specs.declared.event.Event.{Event}
-use Rattle.line_world.specs.declared.event.Event.TheVariants.{Take, Hear, LoseDown, LoseUp, Quiet}
-use Rattle.line_world.specs.Scene.{Scene}
+use Rattle.line_world.specs.declared.event.Event.TheVariants.{Take, Hear, LoseDown, LoseUp, Quiet, Restart}
+use Rattle.line_world.specs.Scene.{Scene, wire_of, over}
+use Rattle.line_world.specs.Wire.{with_answer, without_down, without_up, heard, sent, forgiven}
 
--- the world after ODT took the first of `down`: its answer stands at the end of `up`
+-- the world after ODT took the first of `down`, of which `rest` is left
 abbrev pub answered : Scene → List ℕ → Taken → Scene
-answered w rest t = record w { machine = record w.machine { mode = t.mode; memory = t.memory }; down = rest; up = w.up ++ t.answer }
+answered w rest t = over w.core (with_answer (wire_of w) rest t)
 
 -- the world after a step of the host: what it sends stands at the end of `down`
 abbrev pub stepped : Scene → List ℕ → Move → Scene
-stepped w rest m = record w { core = m.next; down = w.down ++ option_to_list m.key; up = rest }
+stepped w rest m = over m.next (sent (heard (wire_of w) rest) (option_to_list m.key))
 
 -- Take, where a key is under way
 abbrev pub takes : Scene → List ℕ → Option Scene
@@ -37,9 +37,10 @@ times_out w down up = None
 abbrev pub occurs : Scene → Event → Option Scene
 occurs w Take = takes w w.down
 occurs w Hear = hears w w.up
-occurs w (LoseDown k) = if nat_lt k (length w.down) then Some (record w { down = remove w.down k; lost = w.lost + 1 }) else None
-occurs w (LoseUp k) = if nat_lt k (length w.up) then Some (record w { up = remove w.up k; lost = w.lost + 1 }) else None
+occurs w (LoseDown k) = if nat_lt k (length w.down) then Some (over w.core (without_down (wire_of w) k)) else None
+occurs w (LoseUp k) = if nat_lt k (length w.up) then Some (over w.core (without_up (wire_of w) k)) else None
 occurs w Quiet = times_out w w.down w.up
+occurs w (Restart kept) = Some (over (restarted w.core kept) (forgiven (wire_of w)))
 
 -- the world after an event, an impossible one skipped
 abbrev pub happens : Scene → Event → Scene

@@ -15,4 +15,8 @@ pub enum Event {
 
     /// Nothing is under way in either direction, and the host's quiet time passes.
     Quiet,
+
+    /// The host begins a new life: at most so many of its verified words still count, and the mark
+    /// stays as it was. Queues and machine stay, and losses are counted anew.
+    Restart(u32),
 }

@@ -1,5 +1,5 @@
 //! Every single loss at every place in a load of two words, in all eight styles of a console,
-//! against a slow model.
+//! alone and with a restart of the host at every place before it or after it, against a slow model.
 
 mod slow_model;
 
@@ -124,6 +124,45 @@ struct Loss {
     number: usize,
 }
 
+/// A new life of the host, which keeps so many verified words: so many events happened before it.
+#[derive(Clone, Copy, Debug)]
+struct Restart {
+    place: usize,
+    kept: u32,
+}
+
+/// What happens in a load that would not happen on a line that loses nothing.
+#[derive(Clone, Copy, Debug)]
+struct Story {
+    loss: Loss,
+    restart: Option<Restart>,
+}
+
+impl Story {
+    // What happens after so many events: the restart in its place, the loss as soon as its character
+    // is under way, and else the clean order up to the host's end.
+    fn event(&self, line: &SlowLine, count: usize, fell: bool) -> Option<Event> {
+        if let Some(Restart { place, kept }) = self.restart
+            && place == count
+        {
+            return Some(Event::Restart(kept));
+        }
+        if line.host.end.is_some() {
+            return None;
+        }
+        if !fell && let Some(event) = loss_under_way(line, self.loss) {
+            return Some(event);
+        }
+        Some(if !line.down.is_empty() {
+            Event::Take
+        } else if !line.up.is_empty() {
+            Event::Hear
+        } else {
+            Event::Quiet
+        })
+    }
+}
+
 /// A load into a console of one style, by a host of one patience.
 #[derive(Clone, Copy, Debug)]
 struct Setting<'a> {
@@ -179,24 +218,26 @@ impl Setting<'_> {
     }
 
     // Plays the load to its end, and tells whether the loss fell in it. After each event the world
-    // is as the slow model says, and a load without a loss ends as it does by hand.
-    fn play(&self, rt: &impl Abort, alloc: Global, loss: Loss) -> Result<bool, Fail> {
+    // is as the slow model says.
+    fn play(&self, rt: &impl Abort, alloc: Global, story: Story) -> Result<bool, Fail> {
         let mut line = self.slow_line(alloc)?;
         let mut world = self.world(rt, alloc)?;
-        for _ in 0..PLENTY {
-            if line.host.end.is_some() {
+        let mut fell = false;
+        for count in 0..PLENTY {
+            let Some(event) = story.event(&line, count, fell) else {
                 break;
-            }
-            let event = next_event(&line, loss);
+            };
             assert!(rt;
                 line.apply(event)? && world.apply(event),
-                "{event:?} at {loss:?} of {self:?}"
+                "{event:?} in {story:?} of {self:?}"
             );
             if let Some(what) = difference(&world, &line) {
-                panic!(rt; "{what} after {event:?} at {loss:?} of {self:?}");
+                panic!(rt; "{what} after {event:?} in {story:?} of {self:?}");
             }
+            fell = fell || matches!(event, Event::LoseDown(_) | Event::LoseUp(_));
         }
-        if line.lost == 0 {
+        assert!(rt; line.host.end.is_some(), "no end in {story:?} of {self:?}");
+        if !fell && story.restart.is_none() {
             assert_eq!(rt; line.host.end, Some(self.load.end), "{self:?}");
             assert_eq!(rt;
                 line.console.word(0o001002),
@@ -204,15 +245,18 @@ impl Setting<'_> {
                 "{self:?}"
             );
         }
-        assert!(rt; line.host.end.is_some(), "no end at {loss:?} of {self:?}");
-        Ok(line.lost > 0)
+        Ok(fell)
     }
 
     // Loses each character in turn, and at last none.
     fn lose_each(&self, rt: &impl Abort, alloc: Global, way: Way) -> Result<(), Fail> {
         let length = self.length(way);
         for number in 0..=length {
-            let fell = self.play(rt, alloc, Loss { way, number })?;
+            let story = Story {
+                loss: Loss { way, number },
+                restart: None,
+            };
+            let fell = self.play(rt, alloc, story)?;
             assert_eq!(rt;
                 fell,
                 number < length,
@@ -221,21 +265,29 @@ impl Setting<'_> {
         }
         Ok(())
     }
-}
 
-// What happens next: the loss, as soon as its character is under way, and else the clean order.
-fn next_event(line: &SlowLine, loss: Loss) -> Event {
-    if line.lost == 0
-        && let Some(event) = loss_under_way(line, loss)
-    {
-        return event;
-    }
-    if !line.down.is_empty() {
-        Event::Take
-    } else if !line.up.is_empty() {
-        Event::Hear
-    } else {
-        Event::Quiet
+    // Loses each character in turn, and restarts the host after each number of events that a load
+    // without a loss has. With a later loss more words are kept, up to both of them.
+    fn restart_each(&self, rt: &impl Abort, alloc: Global, way: Way) -> Result<(), Fail> {
+        let timeout = 1;
+        let events = self
+            .length(Way::Down)
+            .saturating_add(self.length(Way::Up))
+            .saturating_add(timeout);
+        for place in 0..=events {
+            for number in 0..self.length(way) {
+                let restart = Restart {
+                    place,
+                    kept: (number % 3) as u32,
+                };
+                let story = Story {
+                    loss: Loss { way, number },
+                    restart: Some(restart),
+                };
+                self.play(rt, alloc, story)?;
+            }
+        }
+        Ok(())
     }
 }
 
@@ -297,6 +349,25 @@ fn single_losses_end_as_the_slow_model_says(rt: HostRuntime) -> Result<(), Fail>
                 setting.lose_each(&rt, rt.alloc(), Way::Up)?;
             }
         }
+    }
+    Ok(())
+}
+
+#[test]
+fn restarts_end_as_the_slow_model_says(rt: HostRuntime) -> Result<(), Fail> {
+    // The first word stands before it is loaded, the second is deposited.
+    let load = &LOADS[2];
+    for number in 0..8 {
+        let Some(style) = Style::from_number(number) else {
+            panic!(rt; "no style has the number {number}");
+        };
+        let setting = Setting {
+            load,
+            style,
+            patience: 8,
+        };
+        setting.restart_each(&rt, rt.alloc(), Way::Down)?;
+        setting.restart_each(&rt, rt.alloc(), Way::Up)?;
     }
     Ok(())
 }

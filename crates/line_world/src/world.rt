@@ -51,7 +51,7 @@ impl World {
     pub fn new(odt: Odt, core: HostCore, waiting: &[u8]) -> Result<World, (Odt, HostCore, Setup)>
         ensures accepted { OnOk result (IsAccepted odt core waiting.now) }
         ensures opened { IfOk result (λ world. world ≡ opened odt core waiting.now) }
-        ensures safe { IfOk result (λ world. IsSafe odt.memory world) }
+        ensures safe { IfOk result (λ world. IsSafe odt.memory world.core world.machine.memory) }
         ensures tame { IfOk result IsTame }
         ensures refused { IfErr result (λ err. IsRefused odt core waiting.now err.2) }
         ensures given_back { IfErr result (λ err. (err.0 ≡ odt) × (err.1 ≡ core)) }
@@ -81,8 +81,8 @@ impl World {
         ensures possible { result ≡ is_some (occurs self.old event) }
         ensures world { self.new ≡ happens self.old event }
         ensures unchanged { OnFalse result (self.new ≡ self.old) }
-        ensures safe { IsSafe self.old.machine.memory self.new }
-        ensures since { (earlier : List ℕ) → IsSafe earlier self.old → IsSafe earlier self.new }
+        ensures safe { IsSafe self.old.machine.memory self.new.core self.new.machine.memory }
+        ensures since { (earlier : List ℕ) → IsSafe earlier self.old.core self.old.machine.memory → IsSafe earlier self.new.core self.new.machine.memory }
         ensures start { StartsOnce self.old.core self.new.core (typed_in self.old event) }
         ensures tame { IsTame self.new }
         ensures short { length self.old.up ≤ 9 → length self.new.up ≤ 9 }
@@ -105,6 +105,7 @@ impl World {
             Event::LoseDown(place) => self.lose_down(place),
             Event::LoseUp(place) => self.lose_up(place),
             Event::Quiet => self.time_out(),
+            Event::Restart(kept) => self.restart(kept),
         }
     }
 
@@ -167,12 +168,21 @@ impl World {
         true
     }
 
+    fn restart(&mut self, kept: u32) -> bool
+        ensures possible { result ≡ is_some (occurs self.old (Event.Restart kept)) }
+        ensures world { self.new ≡ happens self.old (Event.Restart kept) }
+    {
+        self.core.restart(kept);
+        self.lost = 0;
+        true
+    }
+
     /// The events in order, the impossible ones skipped; the answer is how many were possible.
     pub fn run(&mut self, events: &[Event]) -> u64
         ensures count { result ≡ possible_count self.old events.now }
         ensures world { self.new ≡ after self.old events.now }
-        ensures safe { IsSafe self.old.machine.memory self.new }
-        ensures since { (earlier : List ℕ) → IsSafe earlier self.old → IsSafe earlier self.new }
+        ensures safe { IsSafe self.old.machine.memory self.new.core self.new.machine.memory }
+        ensures since { (earlier : List ℕ) → IsSafe earlier self.old.core self.old.machine.memory → IsSafe earlier self.new.core self.new.machine.memory }
         ensures start { StartsOnce self.old.core self.new.core (typed self.old events.now) }
         ensures tame { IsTame self.new }
         ensures short { length self.old.up ≤ 9 → length self.new.up ≤ 9 }
@@ -200,8 +210,8 @@ impl World {
     /// `Take`, `Hear` and `Quiet`. After an end no event follows. The answer is the end.
     pub fn run_clean(&mut self) -> End
         ensures run { RunsClean self.old self.new result }
-        ensures safe { IsSafe self.old.machine.memory self.new }
-        ensures since { (earlier : List ℕ) → IsSafe earlier self.old → IsSafe earlier self.new }
+        ensures safe { IsSafe self.old.machine.memory self.new.core self.new.machine.memory }
+        ensures since { (earlier : List ℕ) → IsSafe earlier self.old.core self.old.machine.memory → IsSafe earlier self.new.core self.new.machine.memory }
         ensures tame { IsTame self.new }
     {
         // A field's use, so that the invariant is known here.

@@ -281,6 +281,52 @@ fn an_impossible_event_changes_nothing(rt: HostRuntime) -> Result<(), Fail> {
     Ok(())
 }
 
+/// How many keys are sent before the story begins, what happens then, and what a clean line makes of
+/// it: the keys and the verified words of the last life, the end and the mode. The tape has one word.
+const LIVES: [(u64, &[Event], u64, u32, End, Mode, &str); 2] = [
+    (
+        15,
+        &[Event::Restart(0), Event::Take],
+        16,
+        1,
+        End::Started,
+        Mode::Running(0o1000),
+        "the return that stores the word is under way, and the new life finds it stored",
+    ),
+    (
+        30,
+        &[Event::LoseDown(0), Event::Restart(1)],
+        0,
+        1,
+        End::MaybeStarted,
+        Mode::Number(0o1000, 6),
+        "the starting key is lost, and the new life can't know it",
+    ),
+];
+
+#[test]
+fn what_a_new_life_does(rt: HostRuntime) -> Result<(), Fail> {
+    for (sent, story, keys, verified, end, mode, reason) in &LIVES {
+        let odt = Odt::new(rt.alloc(), LARGEST_WORDS, PLAIN_STYLE)?;
+        let mut world = world_of(odt, host_of(plan_of(rt.alloc(), &ONE_WORD)?, 0)?, &[])?;
+        for _ in 0..1000 {
+            if world.core().sent_count() < *sent {
+                let event = world.next_event();
+                world.apply(event);
+            }
+        }
+        assert_eq!(rt; world.run(story), story.len() as u64, "{reason}");
+        assert_eq!(rt; world.run_clean(), *end, "{reason}");
+        assert_eq!(rt; world.core().sent_count(), *keys, "{reason}");
+        assert_eq!(rt; world.core().progress().verified, *verified, "{reason}");
+        assert_eq!(rt; world.core().spent(), 0, "{reason}");
+        assert_eq!(rt; world.lost(), 0, "{reason}");
+        assert_eq!(rt; world.odt().mode(), *mode, "{reason}");
+        assert_eq!(rt; world.odt().peek(0o1000), Some(0o11064), "{reason}");
+    }
+    Ok(())
+}
+
 /// The longest tape that there is: every byte below 160000, no word zero.
 #[test]
 fn a_full_image(rt: HostRuntime) -> Result<(), Fail> {

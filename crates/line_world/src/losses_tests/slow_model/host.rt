@@ -75,6 +75,24 @@ impl SlowHost {
         }
     }
 
+    /// Begins a new life: it forgets what it was about and what it heard, and counts anew. Of the
+    /// words that stand it remembers the first `kept`, and the mark stays.
+    pub fn restart(&mut self, kept: u32) {
+        self.errand = Errand::Waits;
+        self.heard.clear();
+        self.spent = 0;
+        self.sent = 0;
+        self.verified = self.verified.min(kept);
+        let is_done = self.verified as usize == self.words.len() && self.start.is_none();
+        self.end = if self.going {
+            Some(End::MaybeStarted)
+        } else if is_done {
+            Some(End::Loaded)
+        } else {
+            None
+        };
+    }
+
     /// The key that it sends when it hears an ASCII character, or nothing for a while.
     pub fn hear(&mut self, heard: Option<u8>) -> Result<Option<u8>, AllocError> {
         if self.end.is_some() {

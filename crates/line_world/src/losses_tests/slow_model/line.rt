@@ -17,7 +17,7 @@ pub struct SlowLine {
     pub taken: usize,
     /// How many characters of answers the host heard.
     pub heard: usize,
-    /// How many characters were lost.
+    /// How many characters were lost in this life of the host.
     pub lost: u64,
 }
 
@@ -43,6 +43,7 @@ impl SlowLine {
             Event::LoseDown(place) => pulled(&mut self.down, place),
             Event::LoseUp(place) => pulled(&mut self.up, place),
             Event::Quiet if self.down.is_empty() && self.up.is_empty() => Some(0),
+            Event::Restart(_) => Some(0),
             Event::Quiet => None,
         };
         let Some(character) = happened else {
@@ -62,6 +63,11 @@ impl SlowLine {
             Event::Quiet => self.host.hear(None)?,
             Event::LoseDown(_) | Event::LoseUp(_) => {
                 self.lost = self.lost.saturating_add(1);
+                None
+            }
+            Event::Restart(kept) => {
+                self.host.restart(kept);
+                self.lost = 0;
                 None
             }
         };

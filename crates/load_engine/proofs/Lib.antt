@@ -1,0 +1,4 @@
+pub mod Marks
+pub mod News
+pub mod Sessions
+pub mod Turns

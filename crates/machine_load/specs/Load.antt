@@ -38,36 +38,42 @@ pub record IsDriven (old new : Core) (stop : Stop) : Type 0 where
   pub session : Session 10000000 (Some stop) old new line line_after keeper keeper_after
   pub end : TellsEnd stop new
 
--- the life is over before it has begun: nobody is called
-pub record IsOverAtOnce (old new : Core) (stop : Stop) (steps steps_after : Option (List Step)) : Type 0 where
+-- the life is over before it has begun
+pub record IsOverAtOnce (old new : Core) (stop : Stop) : Type 0 where
   pub end : End
   pub over : ended old.phase ≡ Some end
   pub stop_is : stop ≡ Ended end
   pub same : new ≡ old
-  pub steps_are : Gains steps steps_after (ReadRecord ∷ [])
 
--- the life goes on: a connection is made, then the record is begun anew, then the engine drives
-pub record IsLoadedOver (old new : Core) (stop : Stop) (steps steps_after : Option (List Step)) : Type 0 where
+-- the life goes on, and the engine drives it
+pub record IsDrivenOn (old new : Core) (stop : Stop) : Type 0 where
   pub goes_on : ended old.phase ≡ None
   pub driven : IsDriven old new stop
-  pub steps_are : Gains steps steps_after (ReadRecord ∷ Connect ∷ BeginRecord ∷ [])
 
--- the life of a load, from what the record says to the core that it ended with
-pub record IsLife (record_told : Option (List ℕ)) (plan : PlanValue) (patience : ℕ) (steps steps_after : Option (List Step)) (last : Core) (stop : Stop) : Type 0 where
-  pub opening : Core
-  pub opened : IsOpening record_told plan patience opening
-  pub life : IsOverAtOnce opening last stop steps steps_after ⊎ IsLoadedOver opening last stop steps steps_after
+-- a life, once it has opened: one that is over calls nobody; else a connection is made, and then the record is begun anew
+abbrev pub IsLife : Core → Core → Stop → Option (List Step) → Option (List Step) → Type 0
+IsLife old new stop steps steps' =
+    (IsOverAtOnce old new stop × Gains steps steps' [])
+    ⊎ (IsDrivenOn old new stop × Gains steps steps' (Connect ∷ BeginRecord ∷ []))
+
+-- a load: first the record is read, which says where the life begins; then the life
+pub record IsLoad (record_told : Option (List ℕ)) (plan : PlanValue) (patience : ℕ) (steps steps_after : Option (List Step)) (last : Core) (stop : Stop) : Type 0 where
+  pub first : Core
+  pub steps_between : Option (List Step)
+  pub read_first : Gains steps steps_between (ReadRecord ∷ [])
+  pub opened : IsOpening record_told plan patience first
+  pub life : IsLife first last stop steps_between steps_after
 
 -- a load and its report, which is of the core that the life ended with
 pub record IsReported (record_told : Option (List ℕ)) (plan : PlanValue) (patience : ℕ) (steps steps_after : Option (List Step)) (out out_after : Option (List ℕ)) (stop : Stop) : Type 0 where
   pub last : Core
-  pub life : IsLife record_told plan patience steps steps_after last stop
+  pub load : IsLoad record_told plan patience steps steps_after last stop
   pub reported : Appends out out_after (load_report last stop)
 
 -- a load whose report may be cut short
 pub record IsCutShort (record_told : Option (List ℕ)) (plan : PlanValue) (patience : ℕ) (steps steps_after : Option (List Step)) (out out_after : Option (List ℕ)) : Type 0 where
   pub last : Core
   pub stop : Stop
-  pub life : IsLife record_told plan patience steps steps_after last stop
+  pub load : IsLoad record_told plan patience steps steps_after last stop
   pub missing : List ℕ
   pub reported : WritesAllBut out out_after (load_report last stop) missing

@@ -9,6 +9,7 @@ use Rattle.command_io.specs.declared.input.InputFault.{InputFault}
 use Rattle.command_io.specs.declared.input.InputFault.TheVariants as input
 use Rattle.machine_load.specs.declared.begin_fault.BeginFault.{BeginFault}
 use Rattle.machine_load.specs.declared.begin_fault.BeginFault.TheVariants as begin
+use Rattle.command_io.specs.Output.{WritesAllBut}
 use Rattle.machine_load.specs.Load.{IsRecordText, IsCutShort}
 use Rattle.machine_load.specs.Step.{Step, ReadRecord, Connect, BeginRecord}
 use Rattle.machine_load.specs.declared.fault.LoadFault.{LoadFault}
@@ -46,6 +47,15 @@ IsDrivingFault steps steps' told told' Memory = ⊤
 IsDrivingFault steps steps' told told' RecordNotRead = ⊥
 IsDrivingFault steps steps' told told' (Record why) = ⊥
 IsDrivingFault steps steps' told told' WriteOutput = ⊥
+
+-- how a report fails: something of it may be missing, or there was no memory for it
+abbrev pub IsReportFault : Option (List ℕ) → Option (List ℕ) → List ℕ → LoadFault → Type 0
+IsReportFault out out' report WriteOutput = (missing : List ℕ) × WritesAllBut out out' report missing
+IsReportFault out out' report Memory = ⊤
+IsReportFault out out' report RecordNotRead = ⊥
+IsReportFault out out' report (Record why) = ⊥
+IsReportFault out out' report NotConnected = ⊥
+IsReportFault out out' report WriteRecord = ⊥
 
 -- so far was gone, with nothing reported, and with the record as it was
 pub record StopsAfter (steps steps_after : Option (List Step)) (record_told record_after : Option (List ℕ)) (out out_after : Option (List ℕ)) (done : List Step) : Type 0 where

@@ -4,7 +4,7 @@
 mod begin_fault;
 mod durable;
 mod fault;
-mod load;
+mod loading;
 mod pace;
 mod progress_line;
 mod report;
@@ -14,7 +14,7 @@ mod watched;
 pub use begin_fault::BeginFault;
 pub use durable::{DurableWriter, SyncWrite};
 pub use fault::LoadFault;
-pub use load::load;
+pub use loading::load;
 pub use progress_line::ProgressLine;
 pub use surroundings::Surroundings;
 pub use watched::{Onlooker, Unwatched, WatchedKeeper, WatchedLine};

@@ -3,11 +3,11 @@ ghost use Rattle.std.specs.Prelude.{◌≡◌, ◌++◌, codes, OnOk};
 ghost use Rattle.command_io.specs.Text.{line};
 ghost use Rattle.machine_load.specs.LoadReport.{counts_text, load_report, stop_name};
 
-use command_io::put_decimal;
 use host_core::HostCore;
 use load_engine::Stop;
 use load_reports::put_end_name;
 use std::alloc::AllocError;
+use std::io::Write;
 
 /// Puts the report of a load at the end of a text: the counts of the host's life, and how the load
 /// stopped. The error is want of memory.
@@ -15,22 +15,25 @@ pub fn put_load_report(text: &mut Vec<u8>, core: &HostCore, stop: Stop) -> Resul
     ensures { OnOk result (text.new.items ≡ text.old.items ++ load_report core.now stop) }
 {
     put_counts(text, core)?;
-    text.extend_from_slice(b"end ")?;
-    put_stop_name(text, stop)?;
-    text.extend_from_slice(b"\n")
+    put_stop(text, stop)
 }
 
 fn put_counts(text: &mut Vec<u8>, core: &HostCore) -> Result<(), AllocError>
     ensures { OnOk result (text.new.items ≡ text.old.items ++ line (counts_text core.now)) }
 {
-    text.extend_from_slice(b"sent ")?;
-    put_decimal(text, core.sent_count() as usize)?;
-    text.extend_from_slice(b" spent ")?;
-    put_decimal(text, core.spent() as usize)?;
-    text.extend_from_slice(b" verified ")?;
-    put_decimal(text, core.progress().verified as usize)?;
-    text.extend_from_slice(b" of ")?;
-    put_decimal(text, core.plan().words().len())?;
+    let (sent, spent) = (core.sent_count(), core.spent());
+    let (verified, words) = (core.progress().verified, core.plan().words().len());
+    match writeln!(text, "sent {sent} spent {spent} verified {verified} of {words}") {
+        Ok(()) => Ok(()),
+        Err(_) => Err(AllocError),
+    }
+}
+
+fn put_stop(text: &mut Vec<u8>, stop: Stop) -> Result<(), AllocError>
+    ensures { OnOk result (text.new.items ≡ text.old.items ++ line (codes "end " ++ stop_name stop)) }
+{
+    text.extend_from_slice(b"end ")?;
+    put_stop_name(text, stop)?;
     text.extend_from_slice(b"\n")
 }
 

@@ -1,10 +1,11 @@
 //! The load itself.
-ghost use Rattle.std.specs.Prelude.{◌≡◌, [], ◌∷◌, None, IfOk, IfErr};
-ghost use Rattle.std.specs.Io.KnownBytes.{Keeps};
+ghost use Rattle.std.specs.Prelude.{◌≡◌, [], ◌∷◌, None, IfOk, IfErr, OnOk};
+ghost use Rattle.std.specs.Io.KnownBytes.{Appends, Keeps};
 ghost use Rattle.host_core.specs.Core.{ended};
 ghost use Rattle.load_devices.specs.Told.{Gains};
-ghost use Rattle.machine_load.specs.Load.{IsDriven, IsOpening, IsReported};
-ghost use Rattle.machine_load.specs.LoadFault.{IsLoadFault, IsOpeningFault, IsDrivingFault};
+ghost use Rattle.machine_load.specs.Load.{IsDriven, IsLife, IsOpening, IsReported};
+ghost use Rattle.machine_load.specs.LoadFault.{IsLoadFault, IsOpeningFault, IsDrivingFault, IsReportFault};
+ghost use Rattle.machine_load.specs.LoadReport.{load_report};
 ghost use Rattle.machine_load.specs.Step.{ReadRecord, Connect, BeginRecord};
 
 use crate::fault::LoadFault;
@@ -47,17 +48,10 @@ pub fn load<S: Surroundings, W: Write, O: Onlooker>(
     ensures fault { IfErr result (IsLoadFault plan patience (S.steps around.old) (S.steps around.new) (S.record_text around.old) (S.record_text around.new) (W.contents out.old) (W.contents out.new)) }
 {
     let core = open(alloc, plan, patience, around)?;
-    let mut report = Vec::with_capacity(alloc, REPORT_ROOM)?;
-    let (core, stop) = match core.end() {
-        Some(end) => (core, Stop::Ended(end)),
-        None => drive_over(alloc, core, around, onlooker)?,
-    };
-    put_load_report(&mut report, &core, stop)?;
-    write_whole(out, &report)?;
-    match out.flush() {
-        Ok(()) => Ok(stop),
-        Err(_) => Err(LoadFault::WriteOutput),
-    }
+    let report = Vec::with_capacity(alloc, REPORT_ROOM)?;
+    let (core, stop) = live(alloc, core, around, onlooker)?;
+    tell(report, &core, stop, out)?;
+    Ok(stop)
 }
 
 // The life that begins with what the record says.
@@ -77,6 +71,22 @@ fn open<S: Surroundings>(
     Ok(HostCore::new(plan, progress, patience).unwrap())
 }
 
+// The life, once it has opened.
+fn live<S: Surroundings, O: Onlooker>(
+    alloc: Global,
+    core: HostCore,
+    around: &mut S,
+    onlooker: &O,
+) -> Result<(HostCore, Stop), LoadFault>
+    ensures life { IfOk result (λ lived. IsLife core lived.0 lived.1 (S.steps around.old) (S.steps around.new)) }
+    ensures fault { IfErr result (IsDrivingFault (S.steps around.old) (S.steps around.new) (S.record_text around.old) (S.record_text around.new)) }
+{
+    match core.end() {
+        Some(end) => Ok((core, Stop::Ended(end))),
+        None => drive_over(alloc, core, around, onlooker),
+    }
+}
+
 // A life that goes on, over a new connection.
 fn drive_over<S: Surroundings, O: Onlooker>(
     alloc: Global,
@@ -84,7 +94,8 @@ fn drive_over<S: Surroundings, O: Onlooker>(
     around: &mut S,
     onlooker: &O,
 ) -> Result<(HostCore, Stop), LoadFault>
-    ensures driven { IfOk result (λ driven. IsDriven core driven.0 driven.1 × Gains (S.steps around.old) (S.steps around.new) (Connect ∷ BeginRecord ∷ [])) }
+    ensures driven { IfOk result (λ driven. IsDriven core driven.0 driven.1) }
+    ensures steps { OnOk result (Gains (S.steps around.old) (S.steps around.new) (Connect ∷ BeginRecord ∷ [])) }
     ensures fault { IfErr result (IsDrivingFault (S.steps around.old) (S.steps around.new) (S.record_text around.old) (S.record_text around.new)) }
 {
     let line = around.connect()?;
@@ -97,4 +108,23 @@ fn drive_over<S: Surroundings, O: Onlooker>(
     let driven = drive(core, &mut line, &mut keeper, TURNS);
     onlooker.ends();
     Ok(driven)
+}
+
+// Reports a life, in a text that has the room.
+fn tell<W: Write>(
+    mut report: Vec<u8>,
+    core: &HostCore,
+    stop: Stop,
+    out: &mut W,
+) -> Result<(), LoadFault>
+    requires { report.items ≡ [] }
+    ensures ok { OnOk result (Appends (W.contents out.old) (W.contents out.new) (load_report core.now stop)) }
+    ensures err { IfErr result (IsReportFault (W.contents out.old) (W.contents out.new) (load_report core.now stop)) }
+{
+    put_load_report(&mut report, core, stop)?;
+    write_whole(out, &report)?;
+    match out.flush() {
+        Ok(()) => Ok(()),
+        Err(_) => Err(LoadFault::WriteOutput),
+    }
 }

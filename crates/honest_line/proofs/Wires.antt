@@ -15,7 +15,7 @@ use Rattle.honest_line.specs.Honest.{resting, MovesJoin, MovedIsHonest}
 pub none_moves : (x : Wire) → MovesOn x x
 none_moves x = (zero, refl)
 
-one_first : (x z y : Wire) → Moves x z → MovesOn z y → MovesOn x y
+pub one_first : (x z y : Wire) → Moves x z → MovesOn z y → MovesOn x y
 one_first x z y move more = (suc more.0, (z, move, more.1))
 
 times_then : (n : ℕ) (x y z : Wire) → MovesTimes n x y → MovesOn y z → MovesOn x z

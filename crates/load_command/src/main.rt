@@ -1,29 +1,12 @@
-//! The program `ldaodt`.
+//! The program `ldaodt`: the words of its command line become a request, and how the request ended
+//! becomes the exit status. All that it does stands in `requests` and below; this is the only crate
+//! over `clap`.
 #![tactic(auto)]
 
-mod check;
 mod command_line;
-#[cfg(test)]
-mod devices;
-mod dialogue;
-mod exchange;
-mod failure;
-mod fault;
-mod input;
-mod line;
-mod opening;
-mod output;
-mod play;
 mod program;
-mod rehearse;
-mod report;
-mod script;
-mod status;
-mod tape_file;
-mod text;
-mod type_keys;
 
-use failure::Failure;
+use requests::{Failure, tell};
 use std::io::ErrorKind;
 use std::process::ExitCode;
 use std::{env, io};
@@ -34,7 +17,7 @@ fn main(rt: HostRuntime) -> ExitCode {
     let mut err = rt.stderr();
     let words = match words(&rt) {
         Ok(words) => words,
-        Err(error) => return ExitCode::from(program::tell(failure_of(&error), &mut err).code()),
+        Err(error) => return ExitCode::from(tell(failure_of(&error), &mut err).code()),
     };
     let alloc = rt.alloc();
     ExitCode::from(program::program(&rt, alloc, &words, &mut input, &mut out, &mut err))

@@ -1,0 +1,23 @@
+use Rattle.std.proofs.Common.{rules, ℕ, ◌≤◌, ◌+◌, List, Option, Result, Ok, Err, OnErr, ◌++◌, length, take, arith}
+use Rattle.std.proofs.lemmas.List.{length-append, length-take}
+use Rattle.std.proofs.KnownBytes.{Consumes-trans}
+use Rattle.std.specs.Io.KnownBytes.{Consumes}
+use Rattle.command_io.specs.Input.{TakesAtMost}
+use Rattle.command_io.proofs.input.read_up_to.Goals as goal
+
+on_err : {T E : Type 0} (r : Result T E) (P : Type 0) → P → OnErr r P
+on_err (Ok x) P h = tt
+on_err (Err e) P h = h
+
+-- bytes that were gathered, and then those of a read within the room that was left
+taken_more : (a b d : Option (List ℕ)) (bytes piece : List ℕ) (n limit : ℕ) → Consumes a b bytes → Consumes b d (take n piece)
+    → n + length bytes ≤ limit → TakesAtMost a d limit
+taken_more a b d bytes piece n limit before read fits = record {
+  taken = bytes ++ take n piece;
+  consumed = Consumes-trans a b d bytes (take n piece) before read;
+  within = omega (arith, length-append bytes (take n piece), length-take n piece);
+}
+
+pub returns-in_err-extend_from_slice-clause-err : goal.returns-in_err-extend_from_slice-clause-err
+returns-in_err-extend_from_slice-clause-err g c =
+    on_err _ _ (taken_more _ _ _ c.loop-piece.bytes.items _ c.in_ok-count.count _ c.loop-piece.invariant.taken c.in_ok-count.ensures.bytes.0 (search rules))

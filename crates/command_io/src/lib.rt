@@ -1,0 +1,22 @@
+//! What the commands of `ldaodt` share: taking an input, writing a text, a tape taken of a file, and
+//! why a command did not do what it was asked.
+//!
+//! `read_up_to` takes the first bytes of an input and no others, `write_whole` writes a text or says
+//! that something of it is missing, and neither asks a device again that has failed. `take_tape`
+//! answers the tape that begins an input, or the input's refusal; `put_decimal` and `put_octal` put
+//! numbers at the end of a text that is being gathered.
+//!
+//! The crates of the commands stand on this one: `tape_check`, `console_typing`, `rehearsals`.
+#![tactic(auto)]
+
+mod fault;
+mod input;
+mod output;
+mod tape_file;
+mod text;
+
+pub use fault::CommandFault;
+pub use input::{InputFault, read_up_to};
+pub use output::{WriteFailed, write_whole};
+pub use tape_file::{TapeFile, take_tape};
+pub use text::{put_decimal, put_octal};

@@ -1,0 +1,25 @@
+//! Writing a text whole, or a prefix of it.
+ghost use Rattle.std.specs.Prelude.{OnOk, OnErr};
+ghost use Rattle.std.specs.Io.KnownBytes.{Appends};
+ghost use Rattle.command_io.specs.Output.{WritesPrefix};
+
+use std::io::Write;
+
+/// A write failed, or took nothing. It was not tried again, whatever its error says.
+#[derive(Clone, Copy, Debug, PartialEq, Eq)]
+pub struct WriteFailed;
+
+/// Writes a text. At the first write that fails it stops, with what was written before.
+pub fn write_whole<W: Write>(out: &mut W, text: &[u8]) -> Result<(), WriteFailed>
+    ensures ok { OnOk result (Appends (W.contents out.old) (W.contents out.new) text.now) }
+    ensures err { OnErr result (WritesPrefix (W.contents out.old) (W.contents out.new) text.now) }
+{
+    let mut left = text;
+    while !left.is_empty() {
+        match out.write(left) {
+            Ok(0) | Err(_) => return Err(WriteFailed),
+            Ok(count) => left = &left[count..],
+        }
+    }
+    Ok(())
+}

@@ -1,0 +1,4 @@
+pub mod Lines
+pub mod RecordText
+pub mod Reading
+pub mod Law

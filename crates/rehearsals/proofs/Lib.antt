@@ -1,0 +1,4 @@
+pub mod Plays
+pub mod Openings
+pub mod Rehearsals
+pub mod Dialogues

@@ -1,0 +1,103 @@
+-- What a script's input says, by the bytes that were taken of it.
+use Rattle.std.proofs.Common.{◌≡◌, ℕ, ◌<◌, ◌≤◌, inl, inr, ⊎_elim, List, [], ◌++◌, length, Option, [], replicate, false, arith, ap, ◌∙◌, subst, append-nil}
+use Rattle.std.specs.Io.KnownBytes.{Keeps}
+use Rattle.std.proofs.lemmas.List.{length-append, length-replicate}
+use Rattle.tape_blocks.specs.Tape.{TapeValue}
+use Rattle.tape_image.specs.Plan.{plan_of}
+use Rattle.odt_machine.specs.declared.style.Style.{Style}
+use Rattle.odt_machine.specs.Machine.{Machine}
+use Rattle.host_core.specs.Core.{begun}
+use Rattle.line_world.specs.Scene.{Scene}
+use Rattle.line_world.specs.Opening.{opened}
+use Rattle.loss_scripts.specs.declared.script.PutLine.{PutLine}
+use Rattle.loss_scripts.specs.declared.script.StepLine.{StepLine}
+use Rattle.rehearsals.specs.Played.{Played, not_possible_lines}
+use Rattle.load_reports.specs.Report.{report}
+use Rattle.command_io.specs.Input.{IsTaken}
+use Rattle.command_io.specs.TapeFile.{IsInput, BeginsWithTape, input_limit}
+use Rattle.loss_scripts.specs.Script.{IsScript, IsRefusedScript, IsRefusedLine}
+use Rattle.rehearsals.specs.Rehearsal.{IsScriptInput, IsPlayFault, IsRehearseFault, IsRehearsal, IsRehearsed, AllLie, after_puts, machine_of, opening}
+use Rattle.command_io.specs.declared.fault.CommandFault.{CommandFault}
+use Rattle.command_io.specs.declared.fault.CommandFault.TheVariants as fault
+use Rattle.loss_scripts.specs.declared.script.Script.{Script}
+use Rattle.command_io.proofs.TapeInput.{left_of, whole, ends}
+
+-- an input of which fewer bytes were taken than the limit is just these
+pub all_taken : (before after : Option (List ℕ)) (bytes : List ℕ) → IsTaken before after input_limit bytes → length bytes ≤ 1048576 → IsInput before bytes
+all_taken before after bytes taken few =
+    subst (IsInput before) (ap (λ rest. bytes ++ rest) (ends after (taken.to_end (omega arith))) ∙ append-nil bytes) (whole before after bytes taken.consumed)
+
+pub script_input : (before after : Option (List ℕ)) (bytes read : List ℕ) (script : Script) → IsTaken before after input_limit bytes → read ≡ bytes → IsScript read script → IsScriptInput before script
+script_input before after bytes read script taken same is = record {
+  text = bytes;
+  is_input = all_taken before after bytes taken (subst (λ t. length t ≤ 1048576) same is.within);
+  is_script = subst (λ t. IsScript t script) same is;
+}
+
+-- what is refused of the bytes taken is refused of the input
+pub refused_input : (before after : Option (List ℕ)) (bytes read : List ℕ) (number : ℕ) → IsTaken before after input_limit bytes → read ≡ bytes → IsRefusedScript read number
+    → (text : List ℕ) × IsInput before text × IsRefusedScript text number
+refused_input before after bytes read number taken same refused =
+    ⊎_elim
+    (λ long. (bytes ++ left_of after, whole before after bytes taken.consumed, inl (long.0, let longer = subst (λ t. 1048576 < length t) same long.1 in omega (arith, length-append bytes (left_of after)))))
+    (λ short. (bytes, all_taken before after bytes taken (subst (λ t. length t ≤ 1048576) same short.0), inr (subst (λ t. (length t ≤ 1048576) × IsRefusedLine t number) same short)))
+    refused
+
+-- what a rehearsal that was not played says of the inputs
+pub play_fault : (tape script out : Option (List ℕ)) (played : Script) (why : CommandFault) → IsScriptInput script played → Keeps out out → IsPlayFault played.words played.puts.items why
+    → IsRehearseFault tape script out out why
+play_fault tape script out played (fault.Script number) is keeps refused =
+    (record { text = is.text; is_input = is.is_input; refused = inr (played, is.is_script, refused) }, keeps)
+play_fault tape script out played fault.Memory is keeps refused = keeps
+play_fault tape script out played (fault.Tape refusal) is keeps refused = absurd refused
+play_fault tape script out played fault.TooLarge is keeps refused = absurd refused
+play_fault tape script out played fault.ReadTape is keeps refused = absurd refused
+play_fault tape script out played fault.ReadScript is keeps refused = absurd refused
+play_fault tape script out played fault.ReadKeys is keeps refused = absurd refused
+play_fault tape script out played fault.Write is keeps refused = absurd refused
+
+-- a machine after puts
+abbrev machine_with : Machine → List PutLine → Machine
+machine_with m puts = record m { memory = after_puts m.memory puts }
+
+-- the machine after the puts
+put_is : (style : Style) (size : ℕ) (odt put : Machine) (puts all : List PutLine) → odt ≡ machine_of style (replicate size 0) → puts ≡ all
+    → put ≡ record odt { memory = after_puts odt.memory puts } → put ≡ machine_of style (after_puts (replicate size 0) all)
+put_is style size odt put puts all odt_is puts_are is =
+    is ∙ ap (λ (m : Machine). machine_with m puts) odt_is ∙ ap (λ ps. machine_of style (after_puts (replicate size 0) ps)) puts_are
+
+size_is : (style : Style) (size : ℕ) (odt : Machine) → odt ≡ machine_of style (replicate size 0) → length odt.memory ≡ size
+size_is style size odt is = ap (λ (m : Machine). length m.memory) is ∙ length-replicate size 0
+
+lie_is : (m n : ℕ) (puts all : List PutLine) → m ≡ n → puts ≡ all → AllLie m puts → AllLie n all
+lie_is m n puts all same puts_are lie = subst (λ k. AllLie k all) same (subst (AllLie m) puts_are lie)
+
+-- a rehearsal from its parts
+pub rehearsal_made : (tape : TapeValue) (script : Script) (odt put : Machine) (world last : Scene) (puts : List PutLine) (steps : List StepLine) (waiting start told text : List ℕ)
+    → odt ≡ machine_of script.style (replicate script.words 0) → puts ≡ script.puts.items
+    → put ≡ record odt { memory = after_puts odt.memory puts } → AllLie (length odt.memory) puts → waiting ≡ script.waiting.items
+    → world ≡ opened put (begun (plan_of tape) 0 false script.patience) waiting → steps ≡ script.steps.items → start ≡ []
+    → (numbers : List ℕ) × Played world steps last numbers × (told ≡ start ++ not_possible_lines numbers) → text ≡ told ++ report last → IsRehearsal tape script text
+rehearsal_made tape script odt put world last puts steps waiting start told text odt_is puts_are is lie waits world_is steps_are none played text_is =
+    let machine = put_is script.style script.words odt put puts script.puts.items odt_is puts_are is in
+    let opens : world ≡ opening tape script = world_is ∙ ap (λ m. opened m (begun (plan_of tape) 0 false script.patience) waiting) machine
+    ∙ ap (λ ws. opened (machine_of script.style (after_puts (replicate script.words 0) script.puts.items)) (begun (plan_of tape) 0 false script.patience) ws) waits in
+    record {
+      lie = lie_is (length odt.memory) script.words puts script.puts.items (size_is script.style script.words odt odt_is) puts_are lie;
+      last = last;
+      numbers = played.0;
+      played = subst (λ w. Played w script.steps.items last played.0) opens (subst (λ ls. Played world ls last played.0) steps_are played.1);
+      told = text_is ∙ ap (λ t. t ++ report last) (played.2 ∙ ap (λ s. s ++ not_possible_lines played.0) none);
+    }
+
+-- what the two inputs say, and the text of it
+pub rehearsed : (tape_input script_input : Option (List ℕ)) (tape_text text : List ℕ) (tape : TapeValue) (script : Script)
+    → BeginsWithTape tape_input tape_text tape → IsScriptInput script_input script → IsRehearsal tape script text → IsRehearsed tape_input script_input text
+rehearsed tape_input script_input tape_text text tape script begins is_script rehearsal = record {
+  tape_text = tape_text;
+  tape = tape;
+  begins = begins;
+  script = script;
+  is_script = is_script;
+  rehearsal = rehearsal;
+}

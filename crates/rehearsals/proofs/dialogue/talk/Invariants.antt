@@ -1,0 +1,14 @@
+-- Events that end from here on end from the start on; some text was written.
+use Rattle.line_world.specs.World.{work_left}
+use Rattle.rehearsals.specs.Dialogue.{WritesSome}
+use Rattle.rehearsals.proofs.Dialogues.{GoesOn}
+use Rattle.rehearsals.proofs.dialogue.talk.Given as goal
+
+abbrev pub invariant-loop-end : goal.invariant-loop-end
+invariant-loop-end g l = record {
+  clean : GoesOn l.initial.world l.world;
+  written : WritesSome (g.W.Write.contents l.initial.out) (g.W.Write.contents l.out);
+}
+
+abbrev pub decreases-loop-end : goal.decreases-loop-end
+decreases-loop-end g l = work_left l.world

@@ -1,0 +1,113 @@
+-- A rehearsal: the world that a tape and a script open, what the script's lines do to it, and the text of all that.
+use Rattle.std.specs.Prelude.{◌≡◌, ℕ, ◌*◌, ◌%◌, ◌<◌, ◌==◌, ◌&&◌, ◌⊎◌, nat_lt, Bool, true, false, List, [], ◌∷◌, ◌++◌, replicate, Option, ⊤}
+use Rattle.std.specs.List.{AllByRecursion}
+use Rattle.std.specs.Io.KnownBytes.{Keeps}
+use Rattle.tape_blocks.specs.Tape.{TapeValue}
+use Rattle.tape_image.specs.Plan.{plan_of}
+use Rattle.odt_machine.specs.declared.style.Style.{Style}
+use Rattle.odt_machine.specs.declared.mode.Mode.TheVariants.{Prompt}
+use Rattle.odt_machine.specs.Machine.{Machine, stored}
+use Rattle.host_core.specs.Core.{begun}
+use Rattle.line_world.specs.Scene.{Scene}
+use Rattle.line_world.specs.Opening.{opened}
+use Rattle.loss_scripts.specs.declared.script.PutLine.{PutLine}
+use Rattle.loss_scripts.specs.declared.script.Script.{Script}
+use Rattle.command_io.specs.declared.fault.CommandFault.{CommandFault}
+use Rattle.command_io.specs.declared.fault.CommandFault.TheVariants as fault
+use Rattle.command_io.specs.Output.{WritesPrefix}
+use Rattle.rehearsals.specs.Played.{Played, not_possible_lines}
+use Rattle.load_reports.specs.Report.{report}
+use Rattle.loss_scripts.specs.Script.{IsScript, IsRefusedScript}
+use Rattle.command_io.specs.TapeFile.{IsInput, BeginsWithTape, IsRefusedInput}
+
+-- a word lies at the address in a memory of so many words: it is even and below the top
+abbrev pub lies_in : ℕ → ℕ → Bool
+lies_in size address = address % 2 == 0 && nat_lt address (2 * size)
+
+-- the memory after these words are put into it, in order
+abbrev pub after_puts : List ℕ → List PutLine → List ℕ
+after_puts memory [] = memory
+after_puts memory (put ∷ puts) = after_puts (stored memory put.address put.value) puts
+
+-- all these words lie in the memory
+abbrev pub AllLie : ℕ → List PutLine → Type 0
+AllLie size puts = AllByRecursion (λ put. lies_in size put.address ≡ true) puts
+
+-- the first of the words that does not lie in the memory stands on this line
+pub record IsRefusedPut (size : ℕ) (puts : List PutLine) (number : ℕ) : Type 0 where
+  pub before : List PutLine
+  pub put : PutLine
+  pub others : List PutLine
+  pub all : puts ≡ before ++ put ∷ others
+  pub lie : AllLie size before
+  pub refused : lies_in size put.address ≡ false
+  pub number_is : number ≡ put.line
+
+-- a machine at its prompt with this memory
+abbrev pub machine_of : Style → List ℕ → Machine
+machine_of style memory = record { style = style; memory = memory; mode = Prompt }
+
+-- the world that a tape and a script open: the words are put into a zeroed machine, the host has done nothing yet
+abbrev pub opening : TapeValue → Script → Scene
+opening tape script =
+    opened (machine_of script.style (after_puts (replicate script.words 0) script.puts.items)) (begun (plan_of tape) 0 false script.patience) script.waiting.items
+
+-- the text of a rehearsal: the lines that were not possible, and then the report
+pub record IsRehearsal (tape : TapeValue) (script : Script) (text : List ℕ) : Type 0 where
+  pub lie : AllLie script.words script.puts.items
+  pub last : Scene
+  pub numbers : List ℕ
+  pub played : Played (opening tape script) script.steps.items last numbers
+  pub told : text ≡ not_possible_lines numbers ++ report last
+
+-- the input is this script
+pub record IsScriptInput (known : Option (List ℕ)) (script : Script) : Type 0 where
+  pub text : List ℕ
+  pub is_input : IsInput known text
+  pub is_script : IsScript text script
+
+-- the input is refused at this line: its text is, or it is a script and one of its puts is
+pub record IsRefusedScriptInput (known : Option (List ℕ)) (number : ℕ) : Type 0 where
+  pub text : List ℕ
+  pub is_input : IsInput known text
+  pub refused : IsRefusedScript text number ⊎ ((script : Script) × IsScript text script × IsRefusedPut script.words script.puts.items number)
+
+-- the tape's input begins with a tape, the other is a script, and this is the text of their rehearsal
+pub record IsRehearsed (tape_input script_input : Option (List ℕ)) (text : List ℕ) : Type 0 where
+  pub tape_text : List ℕ
+  pub tape : TapeValue
+  pub begins : BeginsWithTape tape_input tape_text tape
+  pub script : Script
+  pub is_script : IsScriptInput script_input script
+  pub rehearsal : IsRehearsal tape script text
+
+-- how a rehearsal fails: a refusal only where it is the tape's or the script's, a failed read, or want of memory, before
+-- anything is written; or a failed write, with a prefix of the text written
+abbrev pub IsRehearseFault : Option (List ℕ) → Option (List ℕ) → Option (List ℕ) → Option (List ℕ) → CommandFault → Type 0
+IsRehearseFault tape script before after (fault.Tape refusal) = IsRefusedInput tape refusal × Keeps before after
+IsRehearseFault tape script before after (fault.Script number) = IsRefusedScriptInput script number × Keeps before after
+IsRehearseFault tape script before after fault.ReadTape = Keeps before after
+IsRehearseFault tape script before after fault.ReadScript = Keeps before after
+IsRehearseFault tape script before after fault.Memory = Keeps before after
+IsRehearseFault tape script before after fault.Write = (text : List ℕ) × IsRehearsed tape script text × WritesPrefix before after text
+IsRehearseFault tape script before after fault.TooLarge = ⊥
+IsRehearseFault tape script before after fault.ReadKeys = ⊥
+
+-- a machine was not made: it would be too large, or want of memory
+abbrev pub IsMachineFault : ℕ → CommandFault → Type 0
+IsMachineFault words fault.TooLarge = 28672 < words
+IsMachineFault words fault.Memory = ⊤
+IsMachineFault words other = ⊥
+
+-- a script was not taken: the text of the input is refused, a failed read, or want of memory
+abbrev pub IsScriptInputFault : Option (List ℕ) → CommandFault → Type 0
+IsScriptInputFault known (fault.Script number) = (text : List ℕ) × IsInput known text × IsRefusedScript text number
+IsScriptInputFault known fault.ReadScript = ⊤
+IsScriptInputFault known fault.Memory = ⊤
+IsScriptInputFault known other = ⊥
+
+-- a script was not played: one of its puts is refused, or want of memory
+abbrev pub IsPlayFault : ℕ → List PutLine → CommandFault → Type 0
+IsPlayFault size puts (fault.Script number) = IsRefusedPut size puts number
+IsPlayFault size puts fault.Memory = ⊤
+IsPlayFault size puts other = ⊥

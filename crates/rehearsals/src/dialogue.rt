@@ -1,0 +1,84 @@
+//! The command `dialogue`: a load into a simulated machine, shown as it goes.
+ghost use Rattle.std.specs.Prelude.{◌≡◌, ◌<◌, IfOk, IfErr};
+ghost use Rattle.host_core.specs.Core.{ended};
+ghost use Rattle.line_world.specs.World.{happens, first_event, work_left};
+ghost use Rattle.rehearsals.specs.Dialogue.{IsDialogue, IsDialogueFault, LeadsClean, WritesSome, IsTalkFault};
+
+use crate::exchange::Exchange;
+use crate::opening::{open, zeroed};
+use command_io::{CommandFault, take_tape, write_whole};
+use host_core::End;
+use line_world::World;
+use load_reports::put_report;
+use odt_machine::Style;
+use std::alloc::Global;
+use std::io::{Read, Write};
+
+/// How many mishaps the host survives.
+const PATIENCE: u32 = 8;
+
+/// Loads a tape into a zeroed machine on a line that loses nothing, and prints what is typed and
+/// answered as it goes, and at the end the report. Answers how the load ended.
+///
+/// `Tape` is the refusal of the tape, `ReadTape` a failed read, and `TooLarge` a machine of more than
+/// 28,672 words: these come before the first byte of output. `Write` is a failed write. `Memory`
+/// comes only where a growth was refused.
+pub fn dialogue_to<R: Read, W: Write>(
+    alloc: Global,
+    tape: &mut R,
+    words: u16,
+    style: Style,
+    out: &mut W,
+) -> Result<End, CommandFault>
+    ensures ok { IfOk result (IsDialogue (R.remaining tape.old) (W.contents out.old) (W.contents out.new) words style) }
+    ensures err { IfErr result (IsDialogueFault (R.remaining tape.old) (W.contents out.old) (W.contents out.new) words) }
+{
+    let file = take_tape(alloc, tape)?;
+    let odt = zeroed(alloc, words, style)?;
+    let mut world = open(alloc, &file.tape, odt, PATIENCE, &[])?;
+    let end = talk(alloc, &mut world, out)?;
+    let mut report = Vec::new(alloc);
+    put_report(&mut report, &world)?;
+    write_whole(out, &report)?;
+    Ok(end)
+}
+
+// A clean line up to the first end, each exchange written when it is over.
+fn talk<W: Write>(alloc: Global, world: &mut World, out: &mut W) -> Result<End, CommandFault>
+    ensures ok { IfOk result (LeadsClean world.old world.new) }
+    ensures written { WritesSome (W.contents out.old) (W.contents out.new) }
+    ensures err { IfErr result IsTalkFault }
+{
+    let mut exchange = Exchange::new(alloc);
+    loop {
+        if let Some(end) = world.core().end() {
+            exchange.finish(out)?;
+            return Ok(end);
+        }
+        turn(world, &mut exchange, out)?;
+    }
+}
+
+// The next event of a clean line. Where the machine takes a key, the key and its answer are noted.
+fn turn<W: Write>(
+    world: &mut World,
+    exchange: &mut Exchange,
+    out: &mut W,
+) -> Result<(), CommandFault>
+    ensures world { world.new ≡ happens world.old (first_event world.old) }
+    ensures work { ended world.old.core.phase ≡ None → work_left world.new < work_left world.old }
+    ensures written { WritesSome (W.contents out.old) (W.contents out.new) }
+    ensures err { IfErr result IsTalkFault }
+{
+    let event = world.next_event();
+    let key = world.down().first().copied();
+    let waiting = world.up().len();
+    world.apply(event);
+    let Some(key) = key else {
+        return Ok(());
+    };
+    match world.up().get(waiting..) {
+        Some(answer) => exchange.note(key, answer, out),
+        None => Ok(()),
+    }
+}

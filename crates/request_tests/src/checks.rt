@@ -1,0 +1,180 @@
+//! What `check` prints of tapes, and what it refuses.
+
+use crate::tapes::{ONE_WORD, ONE_WORD_TEXT};
+use command_io::CommandFault;
+use failing_devices::{BrokenInput, BrokenOutput};
+use std::alloc::Global;
+use std::test::Fail;
+use tape_blocks::{Fault, Why};
+use tape_check::check_to;
+
+/// A tape, what is printed of it, and why the row is there.
+const TAPES: [(&[u8], &str, &str); 5] = [
+    (&ONE_WORD, ONE_WORD_TEXT, "one word, and a start"),
+    (
+        &[0x01, 0x00, 0x06, 0x00, 0x01, 0x00, 0xF8],
+        "blocks 0 data 0 read 7\nno start 000001\ncanonical yes\nwords 0\n",
+        "no block, and an odd start",
+    ),
+    (
+        &[
+            0x01, 0x00, 0x07, 0x00, 0xFF, 0xDF, 0x55, 0xC5, 0x01, 0x00, 0x06, 0x00, 0x01, 0x00,
+            0xF8,
+        ],
+        "blocks 1 data 1 read 15\nno start 000001\ncanonical yes\nwords 1\n157776 177400 052400\n",
+        "the last byte of memory is the high one of its word",
+    ),
+    (
+        &[
+            0x01, 0x00, 0x07, 0x00, 0x01, 0x02, 0x55, 0xA0, 0x01, 0x00, 0x06, 0x00, 0x01, 0x00,
+            0xF8,
+        ],
+        "blocks 1 data 1 read 15\nno start 000001\ncanonical yes\nwords 1\n001000 177400 052400\n",
+        "an odd byte leaves the one before it alone",
+    ),
+    (
+        &[
+            0x01, 0x00, 0x08, 0x00, 0x00, 0x02, 0x11, 0x22, 0xC2, 0x01, 0x00, 0x08, 0x00, 0x01,
+            0x02, 0x33, 0x44, 0x7D, 0x01, 0x00, 0x06, 0x00, 0x00, 0x02, 0xF7,
+        ],
+        "blocks 2 data 4 read 25\nstart 001000\ncanonical yes\nwords 2\n001000 177777 031421\n001002 000377 000104\n",
+        "the later of two blocks wins where they overlap",
+    ),
+];
+
+#[test]
+fn a_tape_is_printed(rt: HostRuntime) -> Result<(), Fail> {
+    for row in &TAPES {
+        let (mut input, wanted, reason) = *row;
+        let mut out = Vec::new(rt.alloc());
+        assert_eq!(rt;
+            check_to(rt.alloc(), &mut input, &mut out),
+            Ok(()),
+            "{reason}"
+        );
+        assert!(rt; out.as_slice() == wanted.as_bytes(), "{reason}");
+    }
+    Ok(())
+}
+
+#[test]
+fn what_pads_a_tape_is_seen(rt: HostRuntime) -> Result<(), Fail> {
+    let mut tape = vec![in rt.alloc(); 0u8; 40]?;
+    tape.extend_from_slice(&ONE_WORD[..9])?;
+    tape.extend_from_slice(&[0, 0, 0])?;
+    tape.extend_from_slice(&ONE_WORD[9..])?;
+    tape.extend_from_slice(&[0xFF, 0xFF])?;
+    let mut input = tape.as_slice();
+    let mut out = Vec::new(rt.alloc());
+    assert_eq!(rt; check_to(rt.alloc(), &mut input, &mut out), Ok(()));
+    let wanted: &[u8] =
+        b"blocks 1 data 2 read 59\nstart 001000\ncanonical no\nwords 1\n001000 177777 011064\n";
+    assert!(rt; out.as_slice() == wanted);
+    Ok(())
+}
+
+#[test]
+fn a_refusal_prints_nothing(rt: HostRuntime) {
+    let rows: [(&[u8], u32, Why, &str); 10] = [
+        (&[], 0, Why::NoTransfer, "an empty input"),
+        (&[1], 0, Why::Cut, "a mark alone"),
+        (&[1, 1], 1, Why::BadMark, "the mark's second byte"),
+        (&[0, 0, 0x41], 2, Why::Stray, "a letter between blocks"),
+        (&ONE_WORD[..9], 9, Why::NoTransfer, "no transfer block"),
+        (&ONE_WORD[..15], 9, Why::Cut, "no last checksum"),
+        (&[1, 0, 5], 0, Why::Cut, "half of a count"),
+        (&[1, 0, 5, 0], 2, Why::BadCount, "a count below 6"),
+        (
+            &[0x01, 0x00, 0x08, 0x00, 0xFF, 0xDF, 0x55, 0x55, 0x6F],
+            4,
+            Why::PastTop,
+            "a block past the top",
+        ),
+        (
+            &[0x01, 0x00, 0x08, 0x00, 0xFF, 0xDF, 0x55, 0x55, 0x6E],
+            0,
+            Why::BadSum,
+            "a wrong sum comes before the top",
+        ),
+    ];
+    for row in &rows {
+        let (mut input, at, why, reason) = *row;
+        let mut out = Vec::new(rt.alloc());
+        let refused = CommandFault::Tape(Fault { at, why });
+        assert_eq!(rt;
+            check_to(rt.alloc(), &mut input, &mut out),
+            Err(refused),
+            "{reason}"
+        );
+        assert!(rt; out.is_empty(), "{reason}");
+    }
+}
+
+/// So many bytes 00.
+fn zeros(alloc: Global, length: usize) -> Result<Vec<u8>, Fail> {
+    Ok(vec![in alloc; 0u8; length]?)
+}
+
+#[test]
+fn the_longest_input_is_judged(rt: HostRuntime) -> Result<(), Fail> {
+    let rows: [(usize, usize, Why, &str); 3] = [
+        (
+            1_048_576,
+            0,
+            Why::NoTransfer,
+            "as many bytes 00 as a tape may have",
+        ),
+        (1_048_577, 0, Why::TooLong, "one more"),
+        (
+            1_048_578,
+            1,
+            Why::TooLong,
+            "two more: the last stays in the input",
+        ),
+    ];
+    for (length, left, why, reason) in rows {
+        let tape = zeros(rt.alloc(), length)?;
+        let mut input = tape.as_slice();
+        let mut out = Vec::new(rt.alloc());
+        let refused = CommandFault::Tape(Fault { at: 1_048_576, why });
+        assert_eq!(rt;
+            check_to(rt.alloc(), &mut input, &mut out),
+            Err(refused),
+            "{reason}"
+        );
+        assert_eq!(rt; input.len(), left, "{reason}");
+    }
+    Ok(())
+}
+
+#[test]
+fn the_tape_fails_once(rt: HostRuntime) {
+    for place in 0..17 {
+        let mut input = BrokenInput::new(&ONE_WORD, place);
+        let mut out = Vec::new(rt.alloc());
+        assert_eq!(rt;
+            check_to(rt.alloc(), &mut input, &mut out),
+            Err(CommandFault::ReadTape),
+            "a read before byte {place}"
+        );
+        assert_eq!(rt; (input.failures, input.later_reads), (1, 0), "{place}");
+        assert!(rt; out.is_empty());
+    }
+}
+
+#[test]
+fn the_output_fails_once(rt: HostRuntime) {
+    // Twelve writes of seven bytes hold the text: a thirteenth would be one too many.
+    for number in 1..13 {
+        let mut input = ONE_WORD.as_slice();
+        let mut out = BrokenOutput::new(Vec::new(rt.alloc()), number);
+        assert_eq!(rt;
+            check_to(rt.alloc(), &mut input, &mut out),
+            Err(CommandFault::Write),
+            "write {number}"
+        );
+        assert_eq!(rt; (out.failures, out.later_writes), (1, 0), "{number}");
+        assert_eq!(rt; out.written.len(), 7 * (number as usize).saturating_sub(1));
+        assert!(rt; ONE_WORD_TEXT.as_bytes().starts_with(out.written.as_slice()));
+    }
+}

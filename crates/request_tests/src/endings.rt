@@ -1,0 +1,243 @@
+//! How requests end: the status, what is printed, and the line on standard error.
+
+use crate::tapes::{ONE_WORD, ONE_WORD_TEXT};
+use failing_devices::{BrokenInput, UnflushedOutput};
+use odt_machine::{LARGEST_WORDS, PLAIN_STYLE, Style};
+use requests::{Console, Request, Status, attempt};
+use std::fs;
+use std::test::Fail;
+
+/// What the load of the smallest tape into a zeroed machine looks like, and what is then reported.
+const DIALOGUE: &str =
+    "Z -> ?<CR><LF>@\n001000/ -> 001000/000000_\n011064<CR> -> 011064<CR><LF>@\n001000/ -> 001000/011064_\n<CR> -> <CR><LF>@\n001000G -> 001000G\nsent 30 lost 0 spent 0 verified 1 of 1\nend Started\nodt Running 001000\n001000 011064 stands\n";
+
+/// The same on a machine of 256 words, which ends below 001000.
+const SMALL_MACHINE: &str =
+    "Z -> ?<CR><LF>@\n001000/ -> 001000/?<CR><LF>@\nsent 8 lost 0 spent 0 verified 0 of 1\nend NoWord 001000\nodt Prompt\n001000 ------ absent\n";
+
+/// What is reported where the key that starts the program was lost.
+const START_LOST: &str =
+    "sent 30 lost 1 spent 0 verified 1 of 1\nend Uncertain\nodt Number 001000 6\n001000 011064 stands\n";
+
+/// A transfer block with a wrong sum.
+const BAD_SUM: [u8; 7] = [1, 0, 6, 0, 0, 2, 0xF6];
+
+/// The files that the requests name.
+const FILES: [(&str, &[u8]); 4] = [
+    ("one-word.lda", &ONE_WORD),
+    ("bad-sum.lda", &BAD_SUM),
+    ("start-lost.script", b"to 30\ndown 0\nquiet\n"),
+    ("misspelled.script", b"tak\n"),
+];
+
+/// A console over all the memory that there may be.
+const LARGEST: Console = Console {
+    words: LARGEST_WORDS,
+    style: PLAIN_STYLE,
+};
+
+/// A console whose machine ends below 001000.
+const SMALL: Console = Console {
+    words: 256,
+    style: PLAIN_STYLE,
+};
+
+/// A console with no memory.
+const NO_MEMORY: Console = Console {
+    words: 0,
+    style: PLAIN_STYLE,
+};
+
+/// A request, what stands on standard input, and what must come: how it ends, the output and the line
+/// on standard error.
+type Row<'a> = (Request<'a>, &'a [u8], Status, &'a str, &'a str);
+
+/// Requests, first those that are done and then those that can't be.
+const REQUESTS: [Row<'static>; 15] = [
+    (
+        Request::CheckInput,
+        &ONE_WORD,
+        Status::Done,
+        ONE_WORD_TEXT,
+        "",
+    ),
+    (
+        Request::Check("one-word.lda"),
+        &[],
+        Status::Done,
+        ONE_WORD_TEXT,
+        "",
+    ),
+    (
+        Request::Type(LARGEST),
+        b"001000/\n",
+        Status::Done,
+        "001000/000000 \r\n@",
+        "",
+    ),
+    (
+        Request::Type(NO_MEMORY),
+        b"0/",
+        Status::Done,
+        "0/?\r\n@",
+        "",
+    ),
+    (
+        Request::Dialogue("one-word.lda", LARGEST),
+        &[],
+        Status::Done,
+        DIALOGUE,
+        "",
+    ),
+    (
+        Request::Dialogue("one-word.lda", SMALL),
+        &[],
+        Status::NotLoaded,
+        SMALL_MACHINE,
+        "",
+    ),
+    (
+        Request::Rehearse("one-word.lda", "start-lost.script"),
+        &[],
+        Status::Done,
+        START_LOST,
+        "",
+    ),
+    (
+        Request::CheckInput,
+        &BAD_SUM,
+        Status::Refused,
+        "",
+        "ldaodt: tape refused at 0: BadSum\n",
+    ),
+    (
+        Request::Check("no-such.lda"),
+        &ONE_WORD,
+        Status::DeviceFailed,
+        "",
+        "ldaodt: cannot read no-such.lda\n",
+    ),
+    (
+        Request::Check("."),
+        &ONE_WORD,
+        Status::DeviceFailed,
+        "",
+        "ldaodt: cannot read .\n",
+    ),
+    (
+        Request::Rehearse("one-word.lda", "misspelled.script"),
+        &[],
+        Status::Refused,
+        "",
+        "ldaodt: script refused at line 1\n",
+    ),
+    (
+        Request::Rehearse("bad-sum.lda", "misspelled.script"),
+        &[],
+        Status::Refused,
+        "",
+        "ldaodt: tape refused at 0: BadSum\n",
+    ),
+    (
+        Request::Rehearse("one-word.lda", "no-such.script"),
+        &[],
+        Status::DeviceFailed,
+        "",
+        "ldaodt: cannot read no-such.script\n",
+    ),
+    (
+        Request::Rehearse("bad-sum.lda", "no-such.script"),
+        &[],
+        Status::DeviceFailed,
+        "",
+        "ldaodt: cannot read no-such.script\n",
+    ),
+    (
+        Request::Rehearse("no-such.lda", "no-such.script"),
+        &[],
+        Status::DeviceFailed,
+        "",
+        "ldaodt: cannot read no-such.lda\n",
+    ),
+];
+
+/// What a request left.
+#[derive(Drop)]
+struct Ended {
+    status: Status,
+    out: Vec<u8>,
+    err: Vec<u8>,
+}
+
+/// Does a request with this on standard input.
+fn run(rt: &HostRuntime, request: Request<'_>, mut input: &[u8]) -> Ended {
+    let mut out = Vec::new(rt.alloc());
+    let mut err = Vec::new(rt.alloc());
+    let status = attempt(rt, rt.alloc(), request, &mut input, &mut out, &mut err);
+    Ended { status, out, err }
+}
+
+#[test]
+fn requests_end_with_their_status(rt: HostRuntime) -> Result<(), Fail> {
+    for (name, bytes) in FILES {
+        fs::write(&rt, name, bytes)?;
+    }
+    for row in &REQUESTS {
+        let (request, input, status, out, err) = *row;
+        let ended = run(&rt, request, input);
+        assert_eq!(rt; ended.status, status, "{request:?}");
+        assert!(rt; ended.out.as_slice() == out.as_bytes(), "{request:?}");
+        assert!(rt; ended.err.as_slice() == err.as_bytes(), "{request:?}");
+    }
+    for (name, _) in FILES {
+        fs::remove_file(&rt, name)?;
+    }
+    Ok(())
+}
+
+#[test]
+fn a_lavish_console_answers_lavishly(rt: HostRuntime) -> Result<(), Fail> {
+    let Some(style) = Style::from_number(7) else {
+        return Err(Fail::from("no style has this number"));
+    };
+    let words = LARGEST_WORDS;
+    let ended = run(&rt, Request::Type(Console { words, style }), b"Z");
+    assert_eq!(rt; ended.status, Status::Done);
+    assert!(rt; ended.out.as_slice() == b"Z?\r\r\n@".as_slice());
+    Ok(())
+}
+
+#[test]
+fn standard_input_fails(rt: HostRuntime) {
+    let mut input = BrokenInput::new(&ONE_WORD, 0);
+    let mut out = Vec::new(rt.alloc());
+    let mut err = Vec::new(rt.alloc());
+    let ended = attempt(
+        &rt,
+        rt.alloc(),
+        Request::CheckInput,
+        &mut input,
+        &mut out,
+        &mut err,
+    );
+    assert_eq!(rt; ended, Status::DeviceFailed);
+    assert!(rt; out.is_empty());
+    assert!(rt; err.as_slice() == b"ldaodt: cannot read standard input\n".as_slice());
+}
+
+#[test]
+fn standard_output_fails_to_flush(rt: HostRuntime) {
+    let mut input = ONE_WORD.as_slice();
+    let mut out = UnflushedOutput;
+    let mut err = Vec::new(rt.alloc());
+    let ended = attempt(
+        &rt,
+        rt.alloc(),
+        Request::CheckInput,
+        &mut input,
+        &mut out,
+        &mut err,
+    );
+    assert_eq!(rt; ended, Status::DeviceFailed);
+    assert!(rt; err.as_slice() == b"ldaodt: cannot write output\n".as_slice());
+}

@@ -1,0 +1,104 @@
+//! What the console answers to keys that are typed.
+
+use command_io::CommandFault;
+use console_typing::type_to;
+use failing_devices::{BrokenInput, BrokenOutput};
+use odt_machine::{Mode, Odt, PLAIN_STYLE};
+use std::alloc::Global;
+use std::test::Fail;
+
+/// A deposit at 001000, a look at it, and an illegal key.
+const KEYS: &[u8] = b"001000/011064\n001000/\n9";
+
+/// What the console answers to them.
+const ANSWERS: &[u8] = b"001000/000000 011064\r\n@001000/011064 \r\n@?\r\n@";
+
+/// The mode that the keys before each place leave, and at the end the mode after all of them.
+const MODES: [Mode; 24] = [
+    Mode::Prompt,
+    Mode::Number(0, 1),
+    Mode::Number(0, 2),
+    Mode::Number(0o1, 3),
+    Mode::Number(0o10, 4),
+    Mode::Number(0o100, 5),
+    Mode::Number(0o1000, 6),
+    Mode::Opened(0o1000),
+    Mode::Typing(0o1000, 0, 1),
+    Mode::Typing(0o1000, 0o1, 2),
+    Mode::Typing(0o1000, 0o11, 3),
+    Mode::Typing(0o1000, 0o110, 4),
+    Mode::Typing(0o1000, 0o1106, 5),
+    Mode::Typing(0o1000, 0o11064, 6),
+    Mode::Prompt,
+    Mode::Number(0, 1),
+    Mode::Number(0, 2),
+    Mode::Number(0o1, 3),
+    Mode::Number(0o10, 4),
+    Mode::Number(0o100, 5),
+    Mode::Number(0o1000, 6),
+    Mode::Opened(0o1000),
+    Mode::Prompt,
+    Mode::Prompt,
+];
+
+#[test]
+fn keys_are_answered(rt: HostRuntime) -> Result<(), Fail> {
+    let mut odt = Odt::new(rt.alloc(), 28672, PLAIN_STYLE)?;
+    let mut keys = KEYS;
+    let mut out = Vec::new(rt.alloc());
+    assert_eq!(rt; type_to(&mut odt, &mut keys, &mut out), Ok(23));
+    assert!(rt; out.as_slice() == ANSWERS);
+    assert_eq!(rt; odt.peek(0o1000), Some(0o11064));
+    Ok(())
+}
+
+/// So many digits.
+fn digits(alloc: Global, length: usize) -> Result<Vec<u8>, Fail> {
+    Ok(vec![in alloc; b'1'; length]?)
+}
+
+#[test]
+fn the_keys_past_the_limit_stay_unread(rt: HostRuntime) -> Result<(), Fail> {
+    let many = digits(rt.alloc(), 1_048_579)?;
+    let mut odt = Odt::new(rt.alloc(), 0, PLAIN_STYLE)?;
+    let mut keys = many.as_slice();
+    let mut out = Vec::new(rt.alloc());
+    assert_eq!(rt; type_to(&mut odt, &mut keys, &mut out), Ok(1_048_576));
+    assert_eq!(rt; (keys.len(), out.len()), (3, 1_048_576));
+    Ok(())
+}
+
+#[test]
+fn the_keys_fail_once(rt: HostRuntime) -> Result<(), Fail> {
+    for (place, mode) in MODES.iter().enumerate() {
+        let mut odt = Odt::new(rt.alloc(), 28672, PLAIN_STYLE)?;
+        let mut keys = BrokenInput::new(KEYS, place);
+        let mut out = Vec::new(rt.alloc());
+        assert_eq!(rt;
+            type_to(&mut odt, &mut keys, &mut out),
+            Err(CommandFault::ReadKeys),
+            "before key {place}"
+        );
+        assert_eq!(rt; (keys.failures, keys.later_reads), (1, 0), "{place}");
+        assert_eq!(rt; odt.mode(), *mode, "{place}");
+        assert!(rt; ANSWERS.starts_with(out.as_slice()), "{place}");
+    }
+    Ok(())
+}
+
+#[test]
+fn the_output_fails_once(rt: HostRuntime) -> Result<(), Fail> {
+    for number in 1..8 {
+        let mut odt = Odt::new(rt.alloc(), 28672, PLAIN_STYLE)?;
+        let mut keys = KEYS;
+        let mut out = BrokenOutput::new(Vec::new(rt.alloc()), number);
+        assert_eq!(rt;
+            type_to(&mut odt, &mut keys, &mut out),
+            Err(CommandFault::Write),
+            "write {number}"
+        );
+        assert_eq!(rt; (out.failures, out.later_writes), (1, 0), "{number}");
+        assert!(rt; ANSWERS.starts_with(out.written.as_slice()), "{number}");
+    }
+    Ok(())
+}

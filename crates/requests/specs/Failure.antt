@@ -1,0 +1,56 @@
+-- How the program's failures are named, told and ended with (this project's own).
+use Rattle.std.specs.Prelude.{◌≡◌, ℕ, List, ◌++◌, Option, codes, decimal, ⊤}
+use Rattle.tape_blocks.specs.Fault.{read_error_text}
+use Rattle.tape_blocks.specs.declared.fault.ReadError.TheVariants as reading
+use Rattle.command_io.specs.TapeFile.{IsRefusedInput}
+use Rattle.requests.specs.declared.failure.Failure.{Failure}
+use Rattle.requests.specs.declared.failure.Failure.TheVariants.{CannotRead, CannotWrite, TapeRefused, ScriptRefused, TooLarge, BadWord, NoMemory}
+use Rattle.command_io.specs.declared.fault.CommandFault.{CommandFault}
+use Rattle.command_io.specs.declared.fault.CommandFault.TheVariants as fault
+use Rattle.requests.specs.declared.status.Status.{Status}
+use Rattle.requests.specs.declared.status.Status.TheVariants.{BadCommandLine, Refused, DeviceFailed, NoMemory as OutOfMemory}
+
+-- the exit status that tells of a failure
+abbrev pub status_of : Failure → Status
+status_of (CannotRead name) = DeviceFailed
+status_of CannotWrite = DeviceFailed
+status_of (TapeRefused refusal) = Refused
+status_of (ScriptRefused line) = Refused
+status_of TooLarge = BadCommandLine
+status_of BadWord = BadCommandLine
+status_of NoMemory = OutOfMemory
+
+-- what a failure's line says, after the program's name
+abbrev pub failure_text : Failure → List ℕ
+failure_text (CannotRead name) = codes "cannot read " ++ name.now
+failure_text CannotWrite = codes "cannot write output"
+failure_text (TapeRefused refusal) = read_error_text (reading.Tape refusal)
+failure_text (ScriptRefused line) = codes "script refused at line " ++ decimal line
+failure_text TooLarge = codes "machine too large"
+failure_text BadWord = codes "a word of the command line is not UTF-8"
+failure_text NoMemory = read_error_text reading.Memory
+
+-- the failure is that a file of this name can't be read
+abbrev pub NamesFile : List ℕ → Failure → Type 0
+NamesFile text (CannotRead name) = name.now ≡ text
+NamesFile text other = ⊥
+
+-- the failure that a command's fault is, where its tape and its script have these names
+abbrev pub IsFailureOf : CommandFault → List ℕ → List ℕ → Failure → Type 0
+IsFailureOf (fault.Tape refusal) tape script failure = failure ≡ TapeRefused refusal
+IsFailureOf (fault.Script line) tape script failure = failure ≡ ScriptRefused line
+IsFailureOf fault.TooLarge tape script failure = failure ≡ TooLarge
+IsFailureOf fault.ReadTape tape script failure = NamesFile tape failure
+IsFailureOf fault.ReadScript tape script failure = NamesFile script failure
+IsFailureOf fault.ReadKeys tape script failure = NamesFile (codes "standard input") failure
+IsFailureOf fault.Write tape script failure = failure ≡ CannotWrite
+IsFailureOf fault.Memory tape script failure = failure ≡ NoMemory
+
+-- how a check fails: a tape is refused only where the input is, what can't be read has this name, the output can't be
+-- written, or want of memory
+abbrev pub IsCheckFailure : Option (List ℕ) → List ℕ → Failure → Type 0
+IsCheckFailure input name (TapeRefused refusal) = IsRefusedInput input refusal
+IsCheckFailure input name (CannotRead file) = file.now ≡ name
+IsCheckFailure input name CannotWrite = ⊤
+IsCheckFailure input name NoMemory = ⊤
+IsCheckFailure input name other = ⊥

@@ -1,0 +1,25 @@
+use odt_machine::Style;
+
+/// What the words after the program's name ask for.
+#[derive(Clone, Copy, Debug, PartialEq, Eq)]
+pub enum Request<'a> {
+    /// Check the tape on standard input: there were no words.
+    CheckInput,
+    /// Check the tape in a file.
+    Check(&'a str),
+    /// Show the load of a tape into a simulated console.
+    Dialogue(&'a str, Console),
+    /// Rehearse, with the tape in the first file, the script in the second.
+    Rehearse(&'a str, &'a str),
+    /// Type standard input into a simulated console.
+    Type(Console),
+}
+
+/// A simulated console: how many words its machine has, and how it answers.
+#[derive(Clone, Copy, Debug, PartialEq, Eq)]
+pub struct Console {
+    /// The words of the machine, 0 to 28,672.
+    pub words: u16,
+    /// What its answers look like.
+    pub style: Style,
+}

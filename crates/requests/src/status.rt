@@ -1,0 +1,51 @@
+use host_core::End;
+
+/// How the program ended, as its exit status says.
+#[derive(Clone, Copy, Debug, PartialEq, Eq)]
+pub enum Status {
+    /// The command was done, or help was asked for.
+    Done,
+    /// The command line was refused.
+    BadCommandLine,
+    /// The tape or the script was refused.
+    Refused,
+    /// A file, standard input or standard output failed.
+    DeviceFailed,
+    /// The load gave up, or a word was not there or did not hold.
+    NotLoaded,
+    /// The load may have started the program, or not.
+    Uncertain,
+    /// A growth of memory was refused.
+    NoMemory,
+}
+
+impl Status {
+    ghost use Rattle.std.specs.Prelude.{◌≡◌};
+    ghost use Rattle.requests.specs.Status.{status_code, end_status};
+
+    /// The status after a load that ended so.
+    pub fn of_end(end: End) -> Status
+        ensures { result ≡ end_status end }
+    {
+        match end {
+            End::Loaded | End::Started => Status::Done,
+            End::GaveUp | End::NoWord(_) | End::WontHold(_) => Status::NotLoaded,
+            End::Uncertain | End::MaybeStarted => Status::Uncertain,
+        }
+    }
+
+    /// The number that the process ends with.
+    pub fn code(self) -> u8
+        ensures { result ≡ status_code self }
+    {
+        match self {
+            Status::Done => 0,
+            Status::BadCommandLine => 2,
+            Status::Refused => 3,
+            Status::DeviceFailed => 4,
+            Status::NotLoaded => 5,
+            Status::Uncertain => 6,
+            Status::NoMemory => 7,
+        }
+    }
+}

@@ -4,6 +4,8 @@ use std::process::Abort;
 use std::test::Fail;
 use tape_blocks::{Block, read_tape};
 
+mod famine;
+
 /// A tape of these blocks, each an address and its bytes, and this start address.
 fn tape(alloc: Global, blocks: &[(u16, &[u8])], start: u16) -> Result<Tape, Fail> {
     let mut made = Vec::new(alloc);

@@ -1,9 +1,14 @@
-# What a person does here: make, make test, make demo, make bench.
-# All of it needs rt, the command of the Rattle toolchain, on the PATH.
+# What a person does here: make, make demo, make install, make test, make bench.
+# All but install and uninstall need rt, the command of the Rattle toolchain, on the PATH.
 
 built := crates/load_command/out/load_command
 
-.PHONY: all ldaodt test demo bench toolchain
+# Where make install puts the program and its manual page; DESTDIR goes before it, for packagers.
+PREFIX ?= /usr/local
+program := $(DESTDIR)$(PREFIX)/bin/ldaodt
+manual := $(DESTDIR)$(PREFIX)/share/man/man1/ldaodt.1
+
+.PHONY: all ldaodt test demo bench install uninstall toolchain
 
 all: ldaodt
 
@@ -14,9 +19,10 @@ ldaodt: toolchain
 	@cmp -s $(built) $@ || cp -f $(built) $@
 	@echo "./$@ is proved and built"
 
-# The merge gate: every proof from nothing, the must-fail edits, the tests, the program's stored run.
+# The merge gate: every proof from nothing, the must-fail edits, the tests, the program's stored run;
+# then the examples, and each transcript of the documents, against the program that was just built.
 test: toolchain
-	rt ci
+	@tools/gate
 
 # The main jobs: a tape that is a real program, its load character by character, and a lost digit.
 demo: ldaodt
@@ -27,6 +33,15 @@ demo: ldaodt
 # Times, for a reader to judge: nothing here fails for being slow.
 bench: ldaodt
 	@tools/bench
+
+# It builds nothing, so that it can be run as another user than make was.
+install:
+	$(if $(wildcard ldaodt),,$(error there is no ./ldaodt yet: run make first))
+	install -D -m 755 ldaodt $(program)
+	install -D -m 644 docs/ldaodt.1 $(manual)
+
+uninstall:
+	rm -f $(program) $(manual)
 
 toolchain:
 	$(if $(shell command -v rt 2> /dev/null),,$(error the command rt is not on the PATH: the Rattle toolchain proves and builds ldaodt))

@@ -1,3 +1,4 @@
+pub mod Beliefs
 pub mod Marks
 pub mod News
 pub mod Sessions

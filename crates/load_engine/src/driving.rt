@@ -7,6 +7,7 @@ ghost use Rattle.host_core.specs.PhaseTable.{move};
 ghost use Rattle.load_devices.specs.Dialogue.{news_between};
 ghost use Rattle.load_devices.specs.Failures.{count_after, fault_of};
 ghost use Rattle.load_devices.specs.Told.{Gains, Keeps};
+ghost use Rattle.load_engine.specs.Belief.{IsBelievableOver};
 ghost use Rattle.load_engine.specs.Failing.{Counts, NamesFault};
 ghost use Rattle.load_engine.specs.Session.{Session, KeepsMarkFirst, TellsEnd, IsFailure};
 
@@ -31,6 +32,7 @@ pub fn drive<L: Line, K: Keep>(
     ensures counted { Counts (Some result.1) (L.fault_count line.old) (L.fault_count line.new) (K.fault_count keep.old) (K.fault_count keep.new) }
     ensures fault { NamesFault (Some result.1) (L.last_fault line.new) (K.last_fault keep.new) }
     ensures mark_first { KeepsMarkFirst (L.told line.old) (L.told line.new) (K.told keep.old) (K.told keep.new) }
+    ensures honest { IsBelievableOver result.1 core result.0 (L.told line.old) (L.told line.new) }
     ensures same_plan { result.0.plan ≡ core.plan }
     ensures same_patience { result.0.patience ≡ core.patience }
     ensures bound { result.0.sent ≤ character_bound (length result.0.plan.words) result.0.patience }

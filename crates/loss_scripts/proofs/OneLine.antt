@@ -6,7 +6,7 @@ use Rattle.std.proofs.lemmas.Bool.Decides.{nat_tests}
 use Rattle.octal.specs.Octal.{octal_value}
 use Rattle.odt_machine.specs.declared.style.Style.{Style}
 use Rattle.odt_machine.specs.Style.{style_number}
-use Rattle.line_world.specs.declared.event.Event.TheVariants.{Take, Hear, LoseDown, LoseUp, Quiet}
+use Rattle.line_world.specs.declared.event.Event.TheVariants.{Take, Hear, LoseDown, LoseUp, Quiet, Restart}
 use Rattle.loss_scripts.specs.declared.line.Step.{Step}
 use Rattle.loss_scripts.specs.declared.line.Step.TheVariants.{Times, Until, Clean}
 use Rattle.loss_scripts.specs.declared.line.Setting.{Setting}
@@ -58,7 +58,8 @@ by_letter first second text =
     if first == 104 then line.Step (Times Hear (count_in text)) else (
     if first == 100 then line.Step (Times (LoseDown (digits_value 10 (drop 5 text))) 1) else (
     if first == 117 then line.Step (Times (LoseUp (digits_value 10 (drop 3 text))) 1) else (
-    if first == 113 then line.Step (Times Quiet 1) else line.Step Clean))))))))
+    if first == 114 then line.Step (Times (Restart (digits_value 10 (drop 8 text))) 1) else (
+    if first == 113 then line.Step (Times Quiet 1) else line.Step Clean)))))))))
 
 abbrev meaning : List ℕ → Line
 meaning text = by_letter (get_or text 0 35) (get_or text 1 0) text
@@ -85,6 +86,7 @@ steps text (Times Hear n) h = ⊎_elim (λ once. ap meaning once.0 ∙ ap (λ m.
 steps text (Times (LoseDown k) n) h = numbered text (codes "down ") 0 255 k (λ j. line.Step (Times (LoseDown j) 1)) (λ rest. refl) h.0 ∙ ap (λ m. line.Step (Times (LoseDown k) m)) (sym h.1)
 steps text (Times (LoseUp k) n) h = numbered text (codes "up ") 0 255 k (λ j. line.Step (Times (LoseUp j) 1)) (λ rest. refl) h.0 ∙ ap (λ m. line.Step (Times (LoseUp k) m)) (sym h.1)
 steps text (Times Quiet n) h = ap meaning h.0 ∙ ap (λ m. line.Step (Times Quiet m)) (sym h.1)
+steps text (Times (Restart k) n) h = numbered text (codes "restart ") 0 4294967295 k (λ j. line.Step (Times (Restart j) 1)) (λ rest. refl) h.0 ∙ ap (λ m. line.Step (Times (Restart k) m)) (sym h.1)
 steps text (Until n) h = numbered text (codes "to ") 1 4294967295 n (λ m. line.Step (Until m)) (λ rest. refl) h
 steps text Clean h = ap meaning h
 

@@ -4,7 +4,7 @@ use Rattle.std.specs.Char.{digit_value}
 use Rattle.std.specs.Str.Parse.{AllDigits, digits_value}
 use Rattle.octal.specs.Octal.{IsOct6}
 use Rattle.odt_machine.specs.Style.{style_number}
-use Rattle.line_world.specs.declared.event.Event.TheVariants.{Take, Hear, LoseDown, LoseUp, Quiet}
+use Rattle.line_world.specs.declared.event.Event.TheVariants.{Take, Hear, LoseDown, LoseUp, Quiet, Restart}
 use Rattle.loss_scripts.specs.declared.line.Line.{Line}
 use Rattle.loss_scripts.specs.declared.line.Line.TheVariants as line
 use Rattle.loss_scripts.specs.declared.line.Setting.{Setting}
@@ -76,6 +76,7 @@ IsStep text (Times Hear n) = IsCounted text (codes "hear") (codes "hear ") n
 IsStep text (Times (LoseDown k) n) = HasNumber text (codes "down ") 0 255 k × (n ≡ 1)
 IsStep text (Times (LoseUp k) n) = HasNumber text (codes "up ") 0 255 k × (n ≡ 1)
 IsStep text (Times Quiet n) = (text ≡ codes "quiet") × (n ≡ 1)
+IsStep text (Times (Restart k) n) = HasNumber text (codes "restart ") 0 4294967295 k × (n ≡ 1)
 IsStep text (Until n) = HasNumber text (codes "to ") 1 4294967295 n
 IsStep text Clean = text ≡ codes "clean"
 

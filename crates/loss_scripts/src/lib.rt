@@ -1,7 +1,7 @@
 //! Scripts of losses: what a rehearsal sets up, and what it lets happen, line by line.
 //!
 //!     words N   style N   patience N   wait HH ..   put AAAAAA VVVVVV
-//!     take [N]  hear [N]  down K  up K  quiet  to N  clean
+//!     take [N]  hear [N]  down K  up K  quiet  restart K  to N  clean
 //!
 //! `read_script` answers the script that a text is, or the first line that is wrong. Each line has
 //! one meaning, by its form alone; setup lines stand before all others, and all but `put` at most

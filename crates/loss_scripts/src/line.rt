@@ -227,6 +227,9 @@ fn read_step(text: &[u8]) -> Option<Step>
     if let Some(k) = number_after(text, b"up ", 0, LAST_PLACE) {
         return Some(Step::Times(Event::LoseUp(k as u8), 1));
     }
+    if let Some(k) = number_after(text, b"restart ", 0, u32::MAX) {
+        return Some(Step::Times(Event::Restart(k), 1));
+    }
     if let Some(n) = number_after(text, b"to ", 1, u32::MAX) {
         return Some(Step::Until(n));
     }

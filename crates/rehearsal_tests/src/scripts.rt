@@ -6,7 +6,7 @@ use std::alloc::Global;
 use std::test::Fail;
 
 /// Texts, the line at which they are refused if they are, and why they are here.
-const TEXTS: [(&str, Option<u32>, &str); 68] = [
+const TEXTS: [(&str, Option<u32>, &str); 71] = [
     ("", None, "no line at all"),
     ("\n\n", None, "empty lines"),
     ("# anything  at all\n", None, "a comment"),
@@ -40,7 +40,14 @@ const TEXTS: [(&str, Option<u32>, &str); 68] = [
     ("up 256", Some(1), "a place above the last"),
     ("quiet", None, "a timeout"),
     ("quiet 1", Some(1), "a count where none may stand"),
-    ("restart 0", Some(1), "a form that is not there yet"),
+    ("restart 0", None, "a life that forgets every word"),
+    (
+        "restart 4294967295",
+        None,
+        "the most words that can be kept",
+    ),
+    ("restart 4294967296", Some(1), "one above it"),
+    ("restart", Some(1), "a restart without its number"),
     ("to 0", Some(1), "a count of sent characters below 1"),
     (
         "to 4294967295",

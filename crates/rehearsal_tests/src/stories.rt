@@ -15,7 +15,7 @@ pub const STALE_REPORT: &str =
     "line 3: not possible\nline 5: not possible\nline 7: not possible\nline 9: not possible\nsent 30 lost 0 spent 0 verified 1 of 1\nend Started\nodt Running 001000\n001000 011064 stands\n";
 
 /// The stories of what a line can lose: the tape, the script, and what must be printed.
-const STORIES: [(&str, &[u8], &str, &str); 10] = [
+const STORIES: [(&str, &[u8], &str, &str); 13] = [
     (
         "the third digit is lost",
         &ONE_WORD,
@@ -71,6 +71,24 @@ const STORIES: [(&str, &[u8], &str, &str); 10] = [
         STALE_REPORT,
     ),
     (
+        "the host begins anew while a deposit's return is under way",
+        &ONE_WORD,
+        "to 15\nrestart 0\ntake\nclean\n",
+        "sent 16 lost 0 spent 0 verified 1 of 1\nend Started\nodt Running 001000\n001000 011064 stands\n",
+    ),
+    (
+        "the start's key is lost, and the host begins anew",
+        &ONE_WORD,
+        "to 30\ndown 0\nquiet\nrestart 1\nclean\n",
+        "sent 0 lost 0 spent 0 verified 1 of 1\nend MaybeStarted\nodt Number 001000 6\n001000 011064 stands\n",
+    ),
+    (
+        "no verified word is remembered, and the mark is",
+        &ONE_WORD,
+        "to 30\ndown 0\nquiet\nrestart 0\nclean\n",
+        "sent 0 lost 0 spent 0 verified 0 of 1\nend MaybeStarted\nodt Number 001000 6\n001000 011064 stands\n",
+    ),
+    (
         "no event happens",
         &ONE_WORD,
         "# nothing\r\n",
@@ -92,7 +110,7 @@ fn stories_of_losses(rt: HostRuntime) -> Result<(), Fail> {
 }
 
 /// Scripts that are refused, with the line and the reason. The tape and the form of each line come first.
-const REFUSED: [(&str, u32, &str); 7] = [
+const REFUSED: [(&str, u32, &str); 6] = [
     ("put 001001 000000\n", 1, "an odd address"),
     (
         "words 0\nput 000000 000000\n",
@@ -111,7 +129,6 @@ const REFUSED: [(&str, u32, &str); 7] = [
     ),
     ("put 001001 000000\ntak\n", 2, "a form before a put"),
     ("take\nwords 1\n", 2, "a setup line after an event line"),
-    ("restart 1\n", 1, "no form"),
 ];
 
 #[test]

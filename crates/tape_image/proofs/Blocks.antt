@@ -1,11 +1,13 @@
 -- The last of the blocks that has a byte for an address.
-use Rattle.std.proofs.Common.{◌≡◌, ℕ, zero, suc, ◌-◌, ◌^◌, ◌<◌, ◌≤◌, true, false, cond, leb, List, [], ◌∷◌, length, get_or, drop, Option, Some, None, refl, arith, ap, sym, ◌∙◌}
+use Rattle.std.proofs.Common.{◌≡◌, ℕ, zero, suc, ◌-◌, ◌+◌, ◌^◌, ◌<◌, ◌≤◌, true, false, cond, leb, ltb, List, [], ◌∷◌, length, get_or, drop, Option, Some, None, refl, arith, ap, sym, ◌∙◌}
 use Rattle.std.specs.Prelude.{All, IfSome, slice_get}
 use Rattle.std.specs.Option.{option_or}
-use Rattle.std.proofs.lemmas.Bool.{leb-true}
+use Rattle.std.proofs.lemmas.Bool.{leb-true, le-leb, ltb-true, ltb-false}
+use Rattle.std.proofs.lemmas.Bool.Decides.{nat_tests}
+use Rattle.std.proofs.lemmas.Option.{slice_get-get_or, slice_get_past}
 use Rattle.std.proofs.Math.Seq.{drop-cons}
 use Rattle.std.proofs.lemmas.List.Elements.{All-tail, All-head}
-use Rattle.tape_blocks.specs.Block.{BlockValue, IsBlock, HoldsBytes, top}
+use Rattle.tape_blocks.specs.Block.{BlockValue, IsBlock, HoldsBytes, block_at, top}
 use Rattle.tape_image.specs.Image.{byte_in, byte_at}
 
 -- a byte that the later blocks have is the byte of all the blocks
@@ -55,6 +57,14 @@ byte_in-byte block a holds =
       | false ↦ tt
     ]
 
+pub option_or-none : (o : Option ℕ) → option_or o None ≡ o
+option_or-none None = refl
+option_or-none (Some x) = refl
+
+pub option_or-assoc : (o p r : Option ℕ) → option_or (option_or o p) r ≡ option_or o (option_or p r)
+option_or-assoc None p r = refl
+option_or-assoc (Some x) p r = refl
+
 either : (o p : Option ℕ) (P : ℕ → Type 0) → IfSome o P → IfSome p P → IfSome (option_or o p) P
 either None p P h k = k
 either (Some x) p P h k = h
@@ -66,3 +76,26 @@ byte_at-within (block ∷ blocks) a all = either (byte_at blocks a) (byte_in blo
 pub byte_at-byte : (blocks : List BlockValue) (a : ℕ) → All HoldsBytes blocks → IfSome (byte_at blocks a) (λ byte. byte < 2 ^ 8)
 byte_at-byte [] a all = tt
 byte_at-byte (block ∷ blocks) a all = either (byte_at blocks a) (byte_in block a) (λ byte. byte < 2 ^ 8) (byte_at-byte blocks a (All-tail HoldsBytes block blocks all)) (byte_in-byte block a (All-head HoldsBytes block blocks all))
+
+-- a block's byte by its place: none before the first, then each of its own, none behind the last
+pub byte_in-before : (a : ℕ) (bytes : List ℕ) (q : ℕ) → q < a → byte_in (block_at a bytes) q ≡ None
+byte_in-before a bytes q l = grind (arith, nat_tests)
+
+pub byte_in-inside : (a : ℕ) (bytes : List ℕ) (q : ℕ) → a ≤ q → q < a + length bytes → byte_in (block_at a bytes) q ≡ Some (get_or bytes (q - a) 0)
+byte_in-inside a bytes q m l = ap (λ t. cond t (slice_get bytes (q - a)) None) (le-leb a q m) ∙ slice_get-get_or bytes (q - a) 0 (omega arith)
+
+pub byte_in-behind : (a : ℕ) (bytes : List ℕ) (q : ℕ) → a + length bytes ≤ q → byte_in (block_at a bytes) q ≡ None
+byte_in-behind a bytes q l = ap (λ t. cond t (slice_get bytes (q - a)) None) (le-leb a q (omega arith)) ∙ slice_get_past bytes (q - a) (omega arith)
+
+-- so q lies in one of three parts
+pub data Part (a n q : ℕ) : Type 0 where
+  before : q < a → Part a n q
+  inside : a ≤ q → q < a + n → Part a n q
+  behind : a + n ≤ q → Part a n q
+
+pub part_of : (a n q : ℕ) → Part a n q
+part_of a n q =
+    elim (ltb q a) as (λ t. ltb q a ≡ t → Part a n q) [
+      | true ↦ λ e. before (ltb-true q a e)
+      | false ↦ λ e. elim (ltb q (a + n)) as (λ t. ltb q (a + n) ≡ t → Part a n q) [ true ↦ λ f. inside (ltb-false q a e) (ltb-true q (a + n) f) | false ↦ λ f. behind (ltb-false q (a + n) f) ] refl
+    ] refl

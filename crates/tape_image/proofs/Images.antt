@@ -3,7 +3,7 @@ use Rattle.std.proofs.Common.{◌≡◌, ℕ, zero, suc, ◌<◌, ◌≤◌, tru
 use Rattle.std.specs.Prelude.{All, IfSome}
 use Rattle.std.specs.Ordering.{nat_cmp, eq_by_cmp}
 use Rattle.std.specs.Cmp.{nat_cmp_total}
-use Rattle.std.specs.FinMap.{get, get-insert, get-empty}
+use Rattle.std.specs.FinMap.{get, empty, get-insert, get-empty, same_map, nat_cmp-IsAntisymmetric}
 use Rattle.std.proofs.lemmas.Bool.{cases_order, eq-eqb, ne_eqb, lt-ltb, le-ltb, ltb-false}
 use Rattle.std.proofs.lemmas.Bool.Decides.{nat_tests}
 use Rattle.tape_image.specs.Image.{Image, IsImageOf, with_byte, image_below, image_of, byte_at}
@@ -47,15 +47,24 @@ get-image_below f (suc n) q =
       ]
     ]
 
+-- where f answers nothing from n on, the image below n answers as f does everywhere
+pub get-image_below_all : (f : ℕ → Option ℕ) (n a : ℕ) → (n ≤ a → f a ≡ None) → get (image_below f n) a ≡ f a
+get-image_below_all f n a none =
+    get-image_below f n a
+    ∙ elim (ltb a n) as (λ t. ltb a n ≡ t → cond t (f a) None ≡ f a) [ true ↦ λ e. refl | false ↦ λ e. sym (none (ltb-false a n e)) ] refl
+
+-- and where it answers nothing at all, the image is empty
+pub image_below-none : (f : ℕ → Option ℕ) (n : ℕ) → ((a : ℕ) → f a ≡ None) → image_below f n ≡ empty
+image_below-none f n none =
+    same_map nat_cmp_total nat_cmp-IsAntisymmetric (image_below f n) empty (λ a. get-image_below_all f n a (λ l. none a) ∙ none a ∙ sym (get-empty nat_cmp a))
+
 -- the image of good blocks has at each address the byte that they have
 pub get-image_of : (blocks : List BlockValue) → All IsBlock blocks → IsImageOf blocks (image_of blocks)
 unfolding image_of
 get-image_of blocks good a =
-    get-image_below (byte_at blocks) top a
-    ∙ elim (ltb a top) as (λ t. ltb a top ≡ t → cond t (byte_at blocks a) None ≡ byte_at blocks a) [
-      | true ↦ λ e. refl
-      | false ↦ λ e. elim (byte_at blocks a) as (λ o. IfSome o (λ _. a < top) → None ≡ o) [
-        | None ↦ λ h. refl
-        | Some x ↦ λ h. absurd (let above : top ≤ a = ltb-false a top e in omega arith)
-      ] (byte_at-within blocks a good)
-    ] refl
+    get-image_below_all (byte_at blocks) top a (λ above.
+    elim (byte_at blocks a) as (λ o. IfSome o (λ _. a < top) → o ≡ None) [ None ↦ λ h. refl | Some x ↦ λ h. absurd (omega arith) ] (byte_at-within blocks a good))
+
+-- an image that answers as the good blocks do is theirs
+pub image_of-same : (blocks : List BlockValue) (image : Image) → All IsBlock blocks → IsImageOf blocks image → image ≡ image_of blocks
+image_of-same blocks image good is = same_map nat_cmp_total nat_cmp-IsAntisymmetric image (image_of blocks) (λ a. is a ∙ sym (get-image_of blocks good a))

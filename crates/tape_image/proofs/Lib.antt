@@ -2,6 +2,10 @@ pub mod Halves
 pub mod Stores
 pub mod Blocks
 pub mod Images
+pub mod Parts
+pub mod PageBytes
+pub mod Tables
+pub mod Laying
 pub mod Words
 pub mod Given
 pub mod Standing

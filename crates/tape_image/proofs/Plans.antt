@@ -1,19 +1,22 @@
--- The plan of a tape keeps what every plan keeps.
-use Rattle.std.proofs.Common.{◌≡◌, ℕ, suc, ◌+◌, ◌*◌, ◌%◌, ◌<◌, true, false, cond, eqb, ltb, ◌++◌, List, [], Option, Some, None, refl, arith, ap, sym, ◌∙◌, subst}
-use Rattle.std.specs.Prelude.{All, IfSome}
-use Rattle.std.specs.Option.{option_to_list}
-use Rattle.std.specs.FinMap.{get}
+-- The plan of blocks keeps what every plan keeps.
+use Rattle.std.proofs.Common.{◌≡◌, ℕ, zero, suc, ◌+◌, ◌*◌, ◌%◌, ◌<◌, ◌≤◌, true, false, cond, eqb, ltb, ◌++◌, List, [], Option, Some, None, refl, arith, ap, sym, ◌∙◌, subst}
+use Rattle.std.specs.Prelude.{All, IfSome, IfOk, Result}
+use Rattle.tape_blocks.specs.declared.fault.Memory.{Memory}
+use Rattle.std.specs.Option.{option_or, option_to_list}
+use Rattle.std.specs.Ordering.{nat_cmp}
+use Rattle.std.specs.FinMap.{get, empty, get-empty}
 use Rattle.std.proofs.lemmas.Bool.{eqb-true, lt-ltb}
-use Rattle.tape_blocks.specs.Block.{BlockValue, IsBlock, top}
-use Rattle.tape_blocks.specs.Tape.{TapeValue, IsSound}
-use Rattle.tape_image.specs.Word.{WordValue}
-use Rattle.tape_image.specs.Image.{Image, image_of, byte_at}
-use Rattle.tape_image.specs.Plan.{word_of, words_below, words_of, given_byte, program_start, PlanValue, plan_of, IsPlan}
-use Rattle.tape_image.proofs.Blocks.{byte_at-within, byte_at-byte}
-use Rattle.tape_image.proofs.Images.{get-image_of}
+use Rattle.std.proofs.lemmas.List.{append-nil}
+use Rattle.std.proofs.lemmas.Result.{IfOk-weaker}
+use Rattle.tape_blocks.specs.Block.{BlockValue, IsBlock, HoldsBytes, top}
+use Rattle.tape_image.specs.Image.{Image, IsImageOf, image_of, byte_at}
+use Rattle.tape_image.specs.Plan.{word_of, words_below, words_of, given_byte, program_start, PlanValue, plan_with, IsPlan}
+use Rattle.tape_image.specs.Pages.{IsLaid}
+use Rattle.tape_image.proofs.Blocks.{option_or-none, byte_at-within, byte_at-byte}
+use Rattle.tape_image.proofs.Images.{get-image_of, image_of-same}
 use Rattle.tape_image.proofs.Words.{IsByte, AreWords, AreWords-words_below, given_byte-words_below}
 
--- the words for no address, and for one more
+-- the words for no address, for one more, and for some more without a byte
 pub words_below-none : (image : Image) → words_below image 0 ≡ []
 unfolding words_below
 words_below-none image = refl
@@ -22,40 +25,55 @@ words_below-suc : (image : Image) (n : ℕ) → words_below image (suc n) ≡ wo
 unfolding words_below
 words_below-suc image n = refl
 
-pub words_below-more : (blocks : List BlockValue) (n : ℕ) (low high : Option ℕ) → All IsBlock blocks → low ≡ byte_at blocks (2 * n) → high ≡ byte_at blocks (2 * n + 1) → words_below (image_of blocks) (n + 1) ≡ words_below (image_of blocks) n ++ option_to_list (word_of (2 * n) low high)
-words_below-more blocks n low high good l h =
-    (let next : n + 1 ≡ suc n = omega arith in ap (words_below (image_of blocks)) next)
-    ∙ words_below-suc (image_of blocks) n
-    ∙ ap (λ o. words_below (image_of blocks) n ++ option_to_list (word_of (2 * n) o (get (image_of blocks) (2 * n + 1)))) (get-image_of blocks good (2 * n) ∙ sym l)
-    ∙ ap (λ o. words_below (image_of blocks) n ++ option_to_list (word_of (2 * n) low o)) (get-image_of blocks good (2 * n + 1) ∙ sym h)
+pub words_below-more : (image : Image) (n a : ℕ) (low high : Option ℕ) → a ≡ 2 * n → get image a ≡ low → get image (a + 1) ≡ high → words_below image (n + 1) ≡ words_below image n ++ option_to_list (word_of a low high)
+words_below-more image n a low high same l h =
+    (let next : n + 1 ≡ suc n = omega arith in ap (words_below image) next)
+    ∙ words_below-suc image n
+    ∙ ap (λ i. words_below image n ++ option_to_list (word_of i (get image i) (get image (i + 1)))) (sym same)
+    ∙ ap (λ o. words_below image n ++ option_to_list (word_of a o (get image (a + 1)))) l
+    ∙ ap (λ o. words_below image n ++ option_to_list (word_of a low o)) h
+
+pub words_below-same : (image : Image) (n k : ℕ) → ((a : ℕ) → 2 * n ≤ a → a < 2 * (n + k) → get image a ≡ None) → words_below image (n + k) ≡ words_below image n
+words_below-same image n zero none = let same : n + 0 ≡ n = omega arith in ap (words_below image) same
+words_below-same image n (suc k) none =
+    (let next : n + suc k ≡ n + k + 1 = omega arith in ap (words_below image) next)
+    ∙ words_below-more image (n + k) (2 * (n + k)) None None refl (none (2 * (n + k)) (omega arith) (omega arith)) (none (2 * (n + k) + 1) (omega arith) (omega arith))
+    ∙ append-nil (words_below image (n + k))
+    ∙ words_below-same image n k (λ a l u. none a l (omega arith))
 
 pub words_below-all : (image : Image) → words_below image 28672 ≡ words_of image
 unfolding words_of
 words_below-all image = refl
 
 -- the bytes of an image are bytes
-image_bytes : (tape : TapeValue) → IsSound tape → (a : ℕ) → IsByte (get (image_of tape.blocks) a)
-image_bytes tape sound a = subst IsByte (sym (get-image_of tape.blocks sound.each_block a)) (byte_at-byte tape.blocks a sound.each_byte)
+image_bytes : (blocks : List BlockValue) → All IsBlock blocks → All HoldsBytes blocks → (a : ℕ) → IsByte (get (image_of blocks) a)
+image_bytes blocks good bytes a = subst IsByte (sym (get-image_of blocks good a)) (byte_at-byte blocks a bytes)
 
 -- and lie below the top
-image_within : (tape : TapeValue) → IsSound tape → (a : ℕ) → IfSome (get (image_of tape.blocks) a) (λ _. a < top)
-image_within tape sound a = subst (λ o. IfSome o (λ _. a < top)) (sym (get-image_of tape.blocks sound.each_block a)) (byte_at-within tape.blocks a sound.each_block)
+image_within : (blocks : List BlockValue) → All IsBlock blocks → (a : ℕ) → IfSome (get (image_of blocks) a) (λ _. a < top)
+image_within blocks good a = subst (λ o. IfSome o (λ _. a < top)) (sym (get-image_of blocks good a)) (byte_at-within blocks a good)
 
 -- so that the words below it give them all
 within_is_all : (b : ℕ) (o : Option ℕ) → IfSome o (λ _. b < 57344) → o ≡ cond (ltb b 57344) o None
 within_is_all b None h = elim (ltb b 57344) as (λ t. None ≡ cond {A = Option ℕ} t None None) [ true ↦ refl | false ↦ refl ]
 within_is_all b (Some x) h = ap (λ t. cond t (Some x) None) (sym (lt-ltb b 57344 h))
 
-start_even : (start : ℕ) → start < 65536 → IfSome (program_start start) (λ s. (s % 2 ≡ 0) × (s < 65536))
-start_even start l = elim (eqb (start % 2) 0) as (λ t. eqb (start % 2) 0 ≡ t → IfSome (cond t (Some start) None) (λ s. (s % 2 ≡ 0) × (s < 65536))) [ true ↦ λ e. (eqb-true _ _ e, l) | false ↦ λ e. tt ] refl
+-- a start that a plan may have
+abbrev pub IsStart : Option ℕ → Type 0
+IsStart o = IfSome o (λ start. (start % 2 ≡ 0) × (start < 65536))
+
+pub program_start-even : (start : ℕ) → start < 65536 → IsStart (program_start start)
+program_start-even start l = elim (eqb (start % 2) 0) as (λ t. eqb (start % 2) 0 ≡ t → IsStart (cond t (Some start) None)) [ true ↦ λ e. (eqb-true _ _ e, l) | false ↦ λ e. tt ] refl
 
 AreWords-words_of : (image : Image) → ((a : ℕ) → IsByte (get image a)) → AreWords 28672 (words_of image)
 AreWords-words_of image bytes = subst (AreWords 28672) (words_below-all image) (AreWords-words_below image 28672 (omega arith) bytes)
 
-pub IsPlan-plan_of : (tape : TapeValue) → IsSound tape → IsPlan (plan_of tape)
-IsPlan-plan_of tape sound =
-    let image : Image = image_of tape.blocks in
-    let bytes : ((a : ℕ) → IsByte (get image a)) = image_bytes tape sound in
+-- the plan of blocks and a start
+pub IsPlan-of_blocks : (blocks : List BlockValue) (start : Option ℕ) → All IsBlock blocks → All HoldsBytes blocks → IsStart start
+    → IsPlan (plan_with (image_of blocks) start)
+IsPlan-of_blocks blocks start good holds even =
+    let image : Image = image_of blocks in
+    let bytes : ((a : ℕ) → IsByte (get image a)) = image_bytes blocks good holds in
     let words : AreWords 28672 (words_of image) = AreWords-words_of image bytes in
     record {
       words_of_image = refl;
@@ -63,18 +81,29 @@ IsPlan-plan_of tape sound =
       rising = words.rising;
       few = words.few;
       image_of_words = λ b.
-          within_is_all b (get image b) (image_within tape sound b)
+          within_is_all b (get image b) (image_within blocks good b)
           ∙ sym (given_byte-words_below image 28672 b bytes)
           ∙ ap (λ ws. given_byte ws b) (words_below-all image);
-      within = image_within tape sound;
+      within = image_within blocks good;
       bytes = bytes;
-      start_even = start_even tape.start sound.start_word;
+      start_even = even;
     }
 
--- a plan whose parts are made from a tape
-pub IsPlan-made : (tape : TapeValue) (blocks : List BlockValue) (words : List WordValue) (start : Option ℕ) → IsSound tape → tape.blocks ≡ blocks → words_of (image_of blocks) ≡ words → program_start tape.start ≡ start → IsPlan (record { image = image_of blocks; words = words; start = start })
-IsPlan-made tape blocks words start sound b w s =
-    let each : words_of (image_of tape.blocks) ≡ words = ap (λ bs. words_of (image_of bs)) b ∙ w in
-    let made : ◌≡◌ {A = PlanValue} (plan_of tape) (record { image = image_of blocks; words = words; start = start }) =
-    λ i. record { image = image_of (b i); words = each i; start = s i } in
-    subst IsPlan made (IsPlan-plan_of tape sound)
+-- the image of blocks that are laid over nothing
+pub laid-image_of : (blocks : List BlockValue) (nothing image : Image) → All IsBlock blocks → nothing ≡ empty → IsLaid (byte_at blocks) nothing image → image ≡ image_of blocks
+laid-image_of blocks nothing image good none laid =
+    image_of-same blocks image good (λ a. laid a ∙ ap (option_or (byte_at blocks a)) (ap (λ (m : Image). get m a) none ∙ get-empty nat_cmp a) ∙ option_or-none (byte_at blocks a))
+
+-- plans of the same image and start
+pub plan_with-same : (m n : Image) (s t : Option ℕ) → m ≡ n → s ≡ t → plan_with m s ≡ plan_with n t
+plan_with-same m n s t e f = λ i. plan_with (e i) (f i)
+
+-- what was made of an image and a start is the plan of the blocks that the image is of
+pub plan_of_blocks : (r : Result PlanValue Memory) (blocks : List BlockValue) (image : Image) (start begins : Option ℕ) → image ≡ image_of blocks → start ≡ begins
+    → IfOk r (λ plan. plan ≡ plan_with image start) → IfOk r (λ plan. plan ≡ plan_with (image_of blocks) begins)
+plan_of_blocks r blocks image start begins e f = IfOk-weaker r (λ plan. plan ≡ plan_with image start) (λ plan. plan ≡ plan_with (image_of blocks) begins) (λ plan is. is ∙ plan_with-same image (image_of blocks) start begins e f)
+
+pub image_of_blocks : (r : Result PlanValue Memory) (blocks : List BlockValue) (begins : Option ℕ) → All IsBlock blocks
+    → IfOk r (λ plan. plan ≡ plan_with (image_of blocks) begins) → IfOk r (λ plan. IsImageOf blocks plan.image)
+image_of_blocks r blocks begins good = IfOk-weaker r (λ plan. plan ≡ plan_with (image_of blocks) begins) (λ plan. IsImageOf blocks plan.image)
+    (λ plan is. subst (λ (p : PlanValue). IsImageOf blocks p.image) (sym is) (get-image_of blocks good))

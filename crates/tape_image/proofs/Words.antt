@@ -13,6 +13,7 @@ use Rattle.tape_image.specs.Word.{WordValue, IsWord, gives}
 use Rattle.tape_image.specs.Image.{Image}
 use Rattle.tape_image.specs.Plan.{word_of, words_below, given_byte}
 use Rattle.tape_image.proofs.Given.{Rises, gives-address}
+use Rattle.tape_image.proofs.Blocks.{option_or-none}
 
 -- a byte, if there is one, is below 256
 abbrev pub IsByte : Option ℕ → Type 0
@@ -58,10 +59,6 @@ given_elsewhere (Some w) a b here apart =
 given_byte-append : (xs ys : List WordValue) (b : ℕ) → given_byte (xs ++ ys) b ≡ option_or (given_byte xs b) (given_byte ys b)
 given_byte-append [] ys b = refl
 given_byte-append (w ∷ xs) ys b = elim (gives w b) as (λ t. cond t (Some (half b w.value)) (given_byte (xs ++ ys) b) ≡ option_or (cond t (Some (half b w.value)) (given_byte xs b)) (given_byte ys b)) [ true ↦ refl | false ↦ given_byte-append xs ys b ]
-
-option_or-none : (o : Option ℕ) → option_or o None ≡ o
-option_or-none None = refl
-option_or-none (Some x) = refl
 
 -- what the lower words and the next one give together
 more_given : (image : Image) (n b : ℕ) → IsByte (get image (2 * n)) → option_or (cond (ltb b (2 * n)) (get image b) None) (byte_given (word_of (2 * n) (get image (2 * n)) (get image (2 * n + 1))) b) ≡ cond (ltb b (2 * suc n)) (get image b) None

@@ -56,6 +56,10 @@ plan_code =
     code_by (Image × (List WordValue × Option ℕ)) (coded× (code coded_ℕ coded_ℕ) (coded× (coded_list word_code) (coded_option coded_ℕ)))
     (λ p. (p.image, (p.words, p.start))) (λ p. record { image = p.0; words = p.1.0; start = p.1.1 }) (λ _. refl)
 
+-- the plan of an image and a start
+abbrev pub plan_with : Image → Option ℕ → PlanValue
+plan_with image start = record { image = image; words = words_of image; start = start }
+
 -- the plan of a tape
 abbrev pub plan_of : TapeValue → PlanValue
 plan_of tape = record { image = image_of tape.blocks; words = words_of (image_of tape.blocks); start = program_start tape.start }

@@ -10,6 +10,8 @@
 //! program `load_command` lists them.
 #![tactic(auto)]
 
+mod page;
+mod pages;
 mod plan;
 mod word;
 

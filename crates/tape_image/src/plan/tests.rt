@@ -2,7 +2,7 @@ use super::*;
 use crate::word::TOP;
 use std::process::Abort;
 use std::test::Fail;
-use tape_blocks::read_tape;
+use tape_blocks::{Block, read_tape};
 
 /// A tape of these blocks, each an address and its bytes, and this start address.
 fn tape(alloc: Global, blocks: &[(u16, &[u8])], start: u16) -> Result<Tape, Fail> {
@@ -43,7 +43,7 @@ fn assert_words(rt: &impl Abort, plan: &Plan, wanted: &[(u16, u16, u16)], reason
 }
 
 /// Blocks of a tape, the words of its plan (address, mask and value of each), and why the row is there.
-const TAPES: [(&[(u16, &[u8])], &[(u16, u16, u16)], &str); 11] = [
+const TAPES: [(&[(u16, &[u8])], &[(u16, u16, u16)], &str); 13] = [
     (&[], &[], "a tape with no block has no words"),
     (
         &[(0o1000, &[0x34, 0x12])],
@@ -99,6 +99,20 @@ const TAPES: [(&[(u16, &[u8])], &[(u16, u16, u16)], &str); 11] = [
         &[(0o1000, 0o177777, 5), (0o2000, 0o177777, 7)],
         "addresses rise whatever the order of the blocks",
     ),
+    (
+        &[(0o776, &[1, 2, 3, 4]), (0o777, &[5, 6])],
+        &[(0o776, 0o177777, 0o2401), (0o1000, 0o177777, 0o2006)],
+        "a later block overlaps an earlier one on both sides of a page's border",
+    ),
+    (
+        &[(0o157774, &[1, 2, 3, 4]), (0, &[5]), (0o157777, &[6])],
+        &[
+            (0, 0o377, 5),
+            (0o157774, 0o177777, 0o1001),
+            (0o157776, 0o177777, 0o3003),
+        ],
+        "the first byte of the first page and the last of the last",
+    ),
 ];
 
 #[test]
@@ -106,6 +120,45 @@ fn words_of_tapes(rt: HostRuntime) -> Result<(), Fail> {
     for (blocks, words, reason) in TAPES {
         let plan = Plan::of(rt.alloc(), &tape(rt.alloc(), blocks, 1)?)?;
         assert_words(&rt, &plan, words, reason);
+    }
+    Ok(())
+}
+
+#[test]
+fn blocks_meet_at_a_page_border(rt: HostRuntime) -> Result<(), Fail> {
+    let bytes = [
+        0x01, 0, 0x08, 0, 0xFF, 0x01, 0x11, 0x22, 0xC4, // at 000777
+        0x01, 0, 0x08, 0, 0x00, 0x02, 0x33, 0x44, 0x7E, // at 001000
+        0x01, 0, 0x06, 0, 0x01, 0x00, 0xF8,
+    ];
+    let (tape, _length) = read_tape(rt.alloc(), &bytes)?;
+    let plan = Plan::of(rt.alloc(), &tape)?;
+    let words = [(0o776, 0o177400, 0o010400), (0o1000, 0o177777, 0o042063)];
+    assert_words(&rt, &plan, &words, "the later byte at 001000 counts");
+    Ok(())
+}
+
+#[test]
+fn block_over_three_pages(rt: HostRuntime) -> Result<(), Fail> {
+    let mut bytes = Vec::new(rt.alloc());
+    for address in 0o777..0o2001 {
+        bytes.push(full_byte(address))?;
+    }
+    let plan = Plan::of(rt.alloc(), &tape(rt.alloc(), &[(0o777, &bytes)], 1)?)?;
+    assert_eq!(rt; plan.words().len(), 258);
+    for word in plan.words() {
+        let mask = match word.address() {
+            0o776 => 0o177400,
+            0o2000 => 0o377,
+            _ => 0o177777,
+        };
+        assert_eq!(rt; word.mask(), mask, "at {}", word.address());
+    }
+    for address in 0o776..0o2002 {
+        let byte = (0o777..0o2001)
+            .contains(&address)
+            .then_some(full_byte(address));
+        assert_eq!(rt; plan.byte_at(address), byte, "at {address}");
     }
     Ok(())
 }

@@ -1,7 +1,10 @@
-use Rattle.std.proofs.Common.{◌+◌, Some, None, refl, ap, ◌∙◌, arith}
+use Rattle.std.proofs.Common.{◌≡◌, ◌+◌, Some, None, refl, ap, subst, ◌∙◌, arith}
 use Rattle.host_core.proofs.Lives.{led_plan, led_patience}
-use Rattle.load_engine.proofs.Sessions.{session_none, session_join, session_wider, session_marks}
+use Rattle.load_engine.proofs.Sessions.{session_none, session_join, session_wider, session_marks, session_ended, session_over}
+use Rattle.load_engine.specs.Session.{Session}
+use Rattle.load_engine.proofs.Beliefs.{session_believable}
 use Rattle.load_engine.proofs.driving.drive.Goals as goal
+use Rattle.load_engine.proofs.driving.drive.Goals.{in-Some-end, in-None}
 
 pub loop-init : goal.loop-init
 loop-init g c = record {
@@ -14,6 +17,12 @@ loop-init g c = record {
 
 pub returns-in-Some-clause-mark_first : goal.returns-in-Some-clause-mark_first
 returns-in-Some-clause-mark_first g c = session_marks _ _ _ _ _ _ _ _ c.loop.invariant.session
+
+pub returns-in-Some-clause-turns : goal.returns-in-Some-clause-turns
+returns-in-Some-clause-turns g c = session_ended c.in-Some.end c.loop.counter c.args.turns c.args.core c.loop.core (g.L.Line.told c.args.line.now) (g.L.Line.told c.loop.line) (g.K.Keep.told c.args.keep.now) (g.K.Keep.told c.loop.keep) c.loop.auto.counter-end c.loop.invariant.session
+
+pub returns-in-Some-clause-honest : goal.returns-in-Some-clause-honest
+returns-in-Some-clause-honest g c = session_believable _ _ _ _ _ _ _ _ c.loop.invariant.first (returns-in-Some-clause-turns g c)
 
 pub returns-in-Some-clause-same_plan : goal.returns-in-Some-clause-same_plan
 returns-in-Some-clause-same_plan g c = let s = c.loop.invariant.session in ap (λ core. core.plan) s.core ∙ led_plan c.args.core s.heard
@@ -31,6 +40,9 @@ returns-in-Err-clause-turns g c =
 
 pub returns-in-Err-clause-mark_first : goal.returns-in-Err-clause-mark_first
 returns-in-Err-clause-mark_first g c = session_marks _ _ _ _ _ _ _ _ (returns-in-Err-clause-turns g c)
+
+pub returns-in-Err-clause-honest : goal.returns-in-Err-clause-honest
+returns-in-Err-clause-honest g c = session_believable _ _ _ _ _ _ _ _ c.loop.invariant.first (returns-in-Err-clause-turns g c)
 
 pub returns-in-Err-clause-same_plan : goal.returns-in-Err-clause-same_plan
 returns-in-Err-clause-same_plan g c = let s = returns-in-Err-clause-turns g c in ap (λ core. core.plan) s.core ∙ led_plan c.args.core s.heard
@@ -52,6 +64,18 @@ loop-preserved g c =
 
 pub returns-clause-mark_first : goal.returns-clause-mark_first
 returns-clause-mark_first g c = session_marks _ _ _ _ _ _ _ _ c.loop.invariant.session
+
+pub returns-clause-turns : goal.returns-clause-turns
+returns-clause-turns g c =
+    let all : c.loop.counter ≡ c.args.turns = omega (arith, c.loop-test.false, c.loop.auto.counter-end) in
+    elim c.match-end-2.branch [
+      | in-Some-end w ↦ rw w.stop-is (session_ended w.in-Some-end.end c.loop.counter c.args.turns c.args.core c.loop.core (g.L.Line.told c.args.line.now) (g.L.Line.told c.loop.line) (g.K.Keep.told c.args.keep.now) (g.K.Keep.told c.loop.keep) c.loop.auto.counter-end c.loop.invariant.session)
+      | in-None w ↦ rw w.stop-is (session_over c.args.turns c.args.core c.loop.core (g.L.Line.told c.args.line.now) (g.L.Line.told c.loop.line) (g.K.Keep.told c.args.keep.now) (g.K.Keep.told c.loop.keep)
+          (subst (λ n. Session n None c.args.core c.loop.core (g.L.Line.told c.args.line.now) (g.L.Line.told c.loop.line) (g.K.Keep.told c.args.keep.now) (g.K.Keep.told c.loop.keep)) all c.loop.invariant.session))
+    ]
+
+pub returns-clause-honest : goal.returns-clause-honest
+returns-clause-honest g c = session_believable _ _ _ _ _ _ _ _ c.loop.invariant.first (returns-clause-turns g c)
 
 pub returns-clause-same_plan : goal.returns-clause-same_plan
 returns-clause-same_plan g c = let s = c.loop.invariant.session in ap (λ core. core.plan) s.core ∙ led_plan c.args.core s.heard

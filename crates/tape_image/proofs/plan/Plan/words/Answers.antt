@@ -5,4 +5,4 @@ use Rattle.tape_image.proofs.OverlayLaw.{merged_words-overlay}
 use Rattle.tape_image.proofs.plan.Plan.words.Goals as goal
 
 pub returns-clause-overlay : goal.returns-clause-overlay
-returns-clause-overlay c = subst (λ (p : PlanValue). MakesOverlay p.image p.words) c.self.view_is (merged_words-overlay _ c.self.invariant.0)
+returns-clause-overlay c = subst (λ (p : PlanValue). MakesOverlay p.image p.words) c.self.view_is (merged_words-overlay _ c.self.invariant)

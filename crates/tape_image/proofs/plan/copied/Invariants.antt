@@ -1,6 +1,0 @@
-use Rattle.std.proofs.Common.{◌≡◌, take}
-use Rattle.tape_image.proofs.plan.copied.Given as goal
-
--- the blocks so far are copied
-abbrev pub invariant-loop-block : goal.invariant-loop-block
-invariant-loop-block l = l.copy.items ≡ take l.block-index l.blocks

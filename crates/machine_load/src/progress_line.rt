@@ -159,3 +159,6 @@ fn put_time(text: &mut LineText, seconds: u64) -> fmt::Result {
         write!(text, ", {minutes}:{seconds:02} left")
     }
 }
+
+#[cfg(test)]
+mod tests;

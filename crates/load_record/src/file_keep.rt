@@ -128,3 +128,6 @@ impl<W: Write> Keep for FileKeep<W> {
         self.failures > 0
     }
 }
+
+#[cfg(test)]
+mod tests;

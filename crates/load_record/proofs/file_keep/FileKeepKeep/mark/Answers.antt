@@ -1,5 +1,3 @@
-use Rattle.std.proofs.Common.{ap, arith}
-use Rattle.load_record.specs.Keeper.{Keeper}
 use Rattle.load_record.proofs.Keeping.{failed_before}
 use Rattle.load_record.proofs.file_keep.FileKeepKeep.mark.Goals as goal
 

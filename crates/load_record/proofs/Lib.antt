@@ -10,3 +10,6 @@ pub mod Fronts
 pub mod Written
 pub mod RecordLaws
 pub mod FirstLines
+pub mod Writing
+pub mod Pieces
+pub mod Keeping

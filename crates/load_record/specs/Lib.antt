@@ -2,3 +2,4 @@ pub mod Lines
 pub mod RecordText
 pub mod Reading
 pub mod Law
+pub mod Keeper

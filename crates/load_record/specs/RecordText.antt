@@ -20,11 +20,15 @@ begun_text w = if is_full w then run_text (w ∷ []) else half_line w ++ 10 ∷ 
 abbrev pub begun_run : WordValue → Option OpenRun
 begun_run w = if is_full w then Some (longer (run_at w.address)) else None
 
--- what is written of a word in version 2, where this run line stands open: a word that goes on it adds its value,
--- another ends it
+-- the word goes on the run line that stands open, if one does
+abbrev pub joins : Option OpenRun → WordValue → Bool
+joins None w = false
+joins (Some run) w = goes_on run w
+
+-- what is written of a word in version 2: its value, where it goes on the run line that stands open; else that line is
+-- ended first
 abbrev pub second_piece : Option OpenRun → WordValue → List ℕ
-second_piece None w = begun_text w
-second_piece (Some run) w = if goes_on run w then value_text w else 10 ∷ begun_text w
+second_piece run w = if joins run w then value_text w else ending run ++ begun_text w
 
 -- the run line that stands open after that word
 abbrev pub second_run : Option OpenRun → WordValue → Option OpenRun

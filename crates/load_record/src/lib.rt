@@ -9,12 +9,17 @@
 //! `load_command` uses it.
 #![tactic(auto)]
 
+mod file_keep;
 mod law;
 mod line;
+mod output;
+#[cfg(test)]
+mod plans;
 mod reader;
 mod run;
 mod version;
 
+pub use file_keep::FileKeep;
 pub use law::{cut_record, first_lines, whole_record};
 pub use reader::{RECORD_LIMIT, RecordError, read_record};
 pub use version::Version;

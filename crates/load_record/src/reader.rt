@@ -184,3 +184,6 @@ fn held(begun: OpenRun, next: &[Word], text: &[u8]) -> u8
     }
     run.count
 }
+
+#[cfg(test)]
+mod tests;

@@ -13,6 +13,8 @@ pub enum Request<'a> {
     Rehearse(&'a str, &'a str),
     /// Type standard input into a simulated console.
     Type(Console),
+    /// Load a tape into the machine behind a port.
+    Load(Load<'a>),
 }
 
 /// A simulated console: how many words its machine has, and how it answers.
@@ -22,4 +24,19 @@ pub struct Console {
     pub words: u16,
     /// What its answers look like.
     pub style: Style,
+}
+
+/// A load into a real machine.
+#[derive(Clone, Copy, Debug, PartialEq, Eq)]
+pub struct Load<'a> {
+    /// The tape's file.
+    pub tape: &'a str,
+    /// The console's HOST:PORT.
+    pub address: &'a str,
+    /// The record's file, where there is to be one.
+    pub record: Option<&'a str>,
+    /// How many mishaps the host survives.
+    pub patience: u32,
+    /// The quiet time in milliseconds.
+    pub quiet_ms: u32,
 }

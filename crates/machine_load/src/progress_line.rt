@@ -160,5 +160,3 @@ fn put_time(text: &mut LineText, seconds: u64) -> fmt::Result {
     }
 }
 
-#[cfg(test)]
-mod tests;

@@ -5,6 +5,7 @@ use failing_devices::{BrokenInput, UnflushedOutput};
 use odt_machine::{LARGEST_WORDS, PLAIN_STYLE, Style};
 use requests::{Console, Request, Status, attempt};
 use std::fs;
+use std::io::Stderr;
 use std::test::Fail;
 
 /// What the load of the smallest tape into a zeroed machine looks like, and what is then reported.
@@ -18,6 +19,9 @@ const SMALL_MACHINE: &str =
 /// What is reported where the key that starts the program was lost.
 const START_LOST: &str =
     "sent 30 lost 1 spent 0 verified 1 of 1\nend Uncertain\nodt Number 001000 6\n001000 011064 stands\n";
+
+/// No terminal looks on.
+const NOBODY: Option<&Stderr> = None;
 
 /// A transfer block with a wrong sum.
 const BAD_SUM: [u8; 7] = [1, 0, 6, 0, 0, 2, 0xF6];
@@ -173,7 +177,7 @@ struct Ended {
 fn run(rt: &HostRuntime, request: Request<'_>, mut input: &[u8]) -> Ended {
     let mut out = Vec::new(rt.alloc());
     let mut err = Vec::new(rt.alloc());
-    let status = attempt(rt, rt.alloc(), request, &mut input, &mut out, &mut err);
+    let status = attempt(rt, rt.alloc(), request, &mut input, &mut out, &mut err, NOBODY);
     Ended { status, out, err }
 }
 
@@ -219,6 +223,7 @@ fn standard_input_fails(rt: HostRuntime) {
         &mut input,
         &mut out,
         &mut err,
+        NOBODY,
     );
     assert_eq!(rt; ended, Status::DeviceFailed);
     assert!(rt; out.is_empty());
@@ -237,6 +242,7 @@ fn standard_output_fails_to_flush(rt: HostRuntime) {
         &mut input,
         &mut out,
         &mut err,
+        NOBODY,
     );
     assert_eq!(rt; ended, Status::DeviceFailed);
     assert!(rt; err.as_slice() == b"ldaodt: cannot write output\n".as_slice());

@@ -1,6 +1,7 @@
 use super::*;
 use odt_machine::{LARGEST_WORDS, PLAIN_STYLE, Style};
-use requests::{Console, Request};
+use requests::{Console, Load, Request};
+use std::io::Stderr;
 use std::test::Fail;
 
 /// The console of the defaults.
@@ -25,8 +26,29 @@ const LAVISH: Console = Console {
     },
 };
 
+/// A load with nothing said but the tape and the console.
+const PLAIN_LOAD: Load<'static> = Load {
+    tape: "a.lda",
+    address: "localhost:2323",
+    record: None,
+    patience: 8,
+    quiet_ms: 2000,
+};
+
+/// A load with everything said.
+const FULL_LOAD: Load<'static> = Load {
+    tape: "a.lda",
+    address: "[::1]:23",
+    record: Some("a.record"),
+    patience: 1000,
+    quiet_ms: 60000,
+};
+
+/// No terminal looks on.
+const NOBODY: Option<&Stderr> = None;
+
 /// Words, and what they ask for.
-const ASKED: [(&[&str], Request<'static>); 9] = [
+const ASKED: [(&[&str], Request<'static>); 11] = [
     (&[], Request::CheckInput),
     (&["check", "a.lda"], Request::Check("a.lda")),
     (&["dialogue", "a.lda"], Request::Dialogue("a.lda", DEFAULTS)),
@@ -48,18 +70,29 @@ const ASKED: [(&[&str], Request<'static>); 9] = [
         &["type", "--style", "7", "--words=28672"],
         Request::Type(LAVISH),
     ),
+    (&["load", "a.lda", "localhost:2323"], Request::Load(PLAIN_LOAD)),
+    (
+        &[
+            "load", "--record", "a.record", "--patience", "1000", "--quiet", "60000", "a.lda",
+            "[::1]:23",
+        ],
+        Request::Load(FULL_LOAD),
+    ),
 ];
 
 /// Words that ask for a text.
 const HELP: [&[&str]; 2] = [&["--help"], &["--version"]];
 
 /// Words that are refused, and why.
-const REFUSED: [(&[&str], &str); 10] = [
+const REFUSED: [(&[&str], &str); 13] = [
     (&["check"], "no tape named"),
     (&["check", "a.lda", "b.lda"], "two tapes"),
     (&["dialogue"], "no tape to load"),
     (&["rehearse", "a.lda"], "no script"),
-    (&["load", "a.lda"], "a command that is not there yet"),
+    (&["load", "a.lda"], "no console to load through"),
+    (&["load", "a.lda", "b:1", "--patience", "1001"], "too much patience"),
+    (&["load", "a.lda", "b:1", "--quiet", "0"], "no quiet time"),
+    (&["load", "a.lda", "b:1", "--quiet", "60001"], "a long quiet time"),
     (&["a.lda"], "a tape with no command"),
     (&["type", "--words", "28673"], "a machine too large"),
     (&["type", "--words", "-1"], "a negative size"),
@@ -91,7 +124,7 @@ fn run(rt: &HostRuntime, words: &[&str]) -> Result<Ended, Fail> {
     let mut input: &[u8] = &[];
     let mut out = Vec::new(alloc);
     let mut err = Vec::new(alloc);
-    let status = program(rt, alloc, &line, &mut input, &mut out, &mut err);
+    let status = program(rt, alloc, &line, &mut input, &mut out, &mut err, NOBODY);
     Ok(Ended { status, out, err })
 }
 

@@ -1,9 +1,12 @@
-use super::*;
-use std::cell::RefCell;
+//! What a person sees while a load goes on.
+
+use machine_load::{Onlooker, ProgressLine};
+use std::cell::{Cell, RefCell};
 use std::fmt::Display;
 use std::io;
+use std::io::Print;
 use std::test::Fail;
-use std::time::Duration;
+use std::time::{Clock, Duration};
 
 /// A clock that stands where it is set, in milliseconds.
 #[derive(Drop)]

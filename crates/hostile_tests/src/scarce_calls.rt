@@ -6,14 +6,19 @@ use load_devices::{Keep, Line, MemoryKeep};
 use odt_machine::{LARGEST_WORDS, Odt, PLAIN_STYLE};
 use scarce_memory::{Famine, ROOMS};
 use std::alloc::Global;
+use std::slice;
 use std::test::Fail;
-use tape_blocks::{Fault, ReadError, Tape, Why, read_tape, write_tape};
+use tape_blocks::{
+    Fault, Fed, FromError, ReadError, Tape, TapeReader, Why, read_from, read_tape, write_tape,
+};
 use tape_image::Plan;
 
 /// A call that takes memory.
 #[derive(Clone, Copy, Debug)]
 enum Call {
     Read,
+    ReadFrom,
+    Feed,
     Write,
     Plan,
     PlanOfAll,
@@ -29,6 +34,8 @@ enum Answer {
     Tape(usize, u32),
     /// The tape is refused.
     Refused(Fault),
+    /// An input that is in memory could not be read, or want of memory was forgotten.
+    Wrong,
     /// A text of so many bytes.
     Text(usize),
     /// A plan of so many words.
@@ -39,9 +46,15 @@ enum Answer {
     Device(u64),
 }
 
+/// The refusal of the tape with a wrong sum.
+const WRONG_SUM_FAULT: Fault = Fault {
+    at: 9,
+    why: Why::BadSum,
+};
+
 /// Calls, the texts of the tapes that they have, what they answer with ample memory, and why the row
 /// is here.
-const CALLS: [(Call, &[&[u8]], Answer, &str); 12] = [
+const CALLS: [(Call, &[&[u8]], Answer, &str); 16] = [
     (Call::Read, &[&ONE_WORD], Answer::Tape(1, 16), "one block"),
     (
         Call::Read,
@@ -52,10 +65,31 @@ const CALLS: [(Call, &[&[u8]], Answer, &str); 12] = [
     (
         Call::Read,
         &[&WRONG_SUM],
-        Answer::Refused(Fault {
-            at: 9,
-            why: Why::BadSum,
-        }),
+        Answer::Refused(WRONG_SUM_FAULT),
+        "a refusal waits behind the growths",
+    ),
+    (
+        Call::ReadFrom,
+        &[&PADDED],
+        Answer::Tape(1, 59),
+        "bytes around it",
+    ),
+    (
+        Call::ReadFrom,
+        &[&WRONG_SUM],
+        Answer::Refused(WRONG_SUM_FAULT),
+        "a refusal waits behind the growths",
+    ),
+    (
+        Call::Feed,
+        &[&ONE_WORD],
+        Answer::Tape(1, 16),
+        "byte by byte",
+    ),
+    (
+        Call::Feed,
+        &[&WRONG_SUM],
+        Answer::Refused(WRONG_SUM_FAULT),
         "a refusal waits behind the growths",
     ),
     (Call::Write, &[&ONE_WORD], Answer::Text(16), "one block"),
@@ -87,6 +121,42 @@ fn read(alloc: Global, text: &[u8]) -> Option<Answer> {
     }
 }
 
+fn take(alloc: Global, mut input: &[u8]) -> Option<Answer> {
+    match read_from(alloc, &mut input) {
+        Ok((tape, length)) => Some(Answer::Tape(tape.blocks().len(), length)),
+        Err(FromError::Tape(fault)) => Some(Answer::Refused(fault)),
+        Err(FromError::Memory) => None,
+        Err(FromError::Io) => Some(Answer::Wrong),
+    }
+}
+
+/// Feeds a text byte by byte, up to the end of the tape.
+fn feed(alloc: Global, text: &[u8]) -> Option<Answer> {
+    let mut reader = TapeReader::new(alloc);
+    let mut length: u32 = 0;
+    for byte in text {
+        length = length.saturating_add(1);
+        match reader.feed(slice::from_ref(byte)) {
+            Ok(Fed::More) => {}
+            Ok(Fed::Done(_)) => break,
+            Err(ReadError::Tape(fault)) => return Some(Answer::Refused(fault)),
+            Err(ReadError::Memory) => return remembered(reader, text),
+        }
+    }
+    match reader.finish() {
+        Ok(tape) => Some(Answer::Tape(tape.blocks().len(), length)),
+        Err(_) => Some(Answer::Wrong),
+    }
+}
+
+/// A reader that wanted memory once goes on to say so.
+fn remembered(mut reader: TapeReader, text: &[u8]) -> Option<Answer> {
+    let fed = reader.feed(text);
+    let finished = reader.finish().err();
+    let remembers = fed == Err(ReadError::Memory) && finished == Some(ReadError::Memory);
+    if remembers { None } else { Some(Answer::Wrong) }
+}
+
 fn machine(alloc: Global) -> Option<Answer> {
     let odt = Odt::new(alloc, LARGEST_WORDS, PLAIN_STYLE).ok()?;
     Some(Answer::Machine(odt.peek(0o157776)))
@@ -108,6 +178,8 @@ fn keeper(alloc: Global) -> Option<Answer> {
 fn ask(alloc: Global, call: Call, texts: &[&[u8]], tapes: &[Tape]) -> Option<Answer> {
     match call {
         Call::Read => read(alloc, texts.first()?),
+        Call::ReadFrom => take(alloc, texts.first()?),
+        Call::Feed => feed(alloc, texts.first()?),
         Call::Write => {
             let text = write_tape(alloc, tapes.first()?).ok()?;
             Some(Answer::Text(text.len()))

@@ -2,17 +2,37 @@
 
 use crate::tapes::{NOTHING, ONE_WORD, WRONG_SUM};
 use odt_machine::{LARGEST_WORDS, PLAIN_STYLE};
-use requests::{Console, Request, Status, attempt};
+use requests::{Console, Load, Request, Status, attempt};
 use scarce_memory::{Famine, ROOMS};
 use std::fs;
+use std::io::Stderr;
 use std::test::Fail;
 
 /// The files that the requests name.
-const FILES: [(&str, &[u8]); 3] = [
+const FILES: [(&str, &[u8]); 4] = [
     ("scarce-one-word.lda", &ONE_WORD),
     ("scarce-nothing.lda", &NOTHING),
     ("scarce.script", b"clean"),
+    ("scarce.record", b"LDAODT 1\n001000 177777 011064\nG\n"),
 ];
+
+/// No terminal looks on.
+const NOBODY: Option<&Stderr> = None;
+
+/// A load whose start was typed in an earlier life, so that nothing is connected to.
+const MARKED_LOAD: Load<'static> = Load {
+    tape: "scarce-one-word.lda",
+    address: "127.0.0.1:1",
+    record: Some("scarce.record"),
+    patience: 8,
+    quiet_ms: 2000,
+};
+
+/// A load through a port where nobody listens.
+const VAIN_LOAD: Load<'static> = Load {
+    record: None,
+    ..MARKED_LOAD
+};
 
 /// A console over all the memory that there may be.
 const LARGEST: Console = Console {
@@ -35,7 +55,7 @@ type Row = (
 );
 
 /// A request of each command, and one that is refused behind its growths.
-const REQUESTS: [Row; 5] = [
+const REQUESTS: [Row; 7] = [
     (Request::CheckInput, &ONE_WORD, Status::Done, CHECKED, ""),
     (
         Request::CheckInput,
@@ -59,6 +79,20 @@ const REQUESTS: [Row; 5] = [
         "",
     ),
     (Request::Type(LARGEST), b"0/", Status::Done, "0/000000 ", ""),
+    (
+        Request::Load(MARKED_LOAD),
+        &[],
+        Status::Uncertain,
+        "sent 0 spent 0 verified 1 of 1\nend MaybeStarted\n",
+        "",
+    ),
+    (
+        Request::Load(VAIN_LOAD),
+        &[],
+        Status::DeviceFailed,
+        "",
+        "ldaodt: cannot connect to 127.0.0.1:1\n",
+    ),
 ];
 
 /// What a request left.
@@ -80,6 +114,7 @@ fn run(rt: &HostRuntime, request: Request<'_>, mut input: &[u8], ended: &mut End
         &mut input,
         &mut ended.out,
         &mut ended.err,
+        NOBODY,
     );
 }
 

@@ -15,7 +15,11 @@ fn a_tape_is_fed_byte_by_byte(rt: HostRuntime) -> Result<(), Fail> {
         let expected = if place < 15 { Fed::More } else { Fed::Done(1) };
         assert_eq!(rt; reader.feed(&[*byte])?, expected, "at {place}");
     }
-    assert_eq!(rt; reader.feed(ONE_BLOCK)?, Fed::Done(0), "what follows the tape");
+    assert_eq!(rt;
+        reader.feed(ONE_BLOCK)?,
+        Fed::Done(0),
+        "what follows the tape"
+    );
     assert_eq!(rt; reader.needs(), 0, "a whole tape");
     assert_eq!(rt; reader.finish()?.blocks().len(), 1);
     Ok(())
@@ -117,7 +121,11 @@ fn what_follows_a_tape_stays_in_the_input(rt: HostRuntime) -> Result<(), Fail> {
     let (tape, used) = read_from(rt.alloc(), &mut input)?;
     assert_eq!(rt; used, 59);
     assert_eq!(rt; input, [0xFF, 0xFF].as_slice());
-    assert_eq!(rt; tape.written_length(), 16, "its plain text is shorter: it is not canonical");
+    assert_eq!(rt;
+        tape.written_length(),
+        16,
+        "its plain text is shorter: it is not canonical"
+    );
     Ok(())
 }
 
@@ -214,7 +222,11 @@ fn a_block_is_one_read(rt: HostRuntime) -> Result<(), Fail> {
     let mut device = Device::new(&text, usize::MAX, usize::MAX);
     let (tape, used) = read_from(rt.alloc(), &mut device)?;
     assert_eq!(rt; (tape.blocks().len(), used as usize), (2, text.len()));
-    assert_eq!(rt; device.reads, 3, "seven bytes, then the rest of each block and seven");
+    assert_eq!(rt;
+        device.reads,
+        3,
+        "seven bytes, then the rest of each block and seven"
+    );
     Ok(())
 }
 

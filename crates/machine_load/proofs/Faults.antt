@@ -15,11 +15,14 @@ use Rattle.machine_load.specs.declared.fault.LoadFault.TheVariants.{Record, Read
 
 -- a report that went out whole, but that could not be flushed
 pub unflushed : (a b d : Option (List ℕ)) (report text : List ℕ) → text ≡ report → Appends a b text → Keeps b d → (missing : List ℕ) × WritesAllBut a d report missing
-unflushed a b d report text is wrote kept = ([], record {
-  written = text;
-  whole = sym is ∙ sym (append-nil text);
-  appended = Appends-kept a b d text wrote kept;
-})
+unflushed a b d report text is wrote kept = (
+  [],
+  record {
+    written = text;
+    whole = sym is ∙ sym (append-nil text);
+    appended = Appends-kept a b d text wrote kept;
+  },
+)
 
 -- a report that fails is that of the load
 pub of_report : (plan : PlanValue) (patience : ℕ) (steps steps' : Option (List Step)) (told told' out out' : Option (List ℕ)) (last : Core) (stop : Stop) (fault : LoadFault)

@@ -91,7 +91,7 @@ queues_short : (down up : List ℕ) → OneWay down up → length up ≤ 32 → 
 queues_short [] up one few = record { keys = lit≤ tt; answers = few; one_way = inl refl }
 queues_short (c ∷ down) up one few = record { keys = let none = ap length one.0 in omega arith; answers = few; one_way = inr one.1 }
 
-has_cause : (phase : Phase) (w : Scene) → InPhase phase (ground w) (site w) w.down w.up w.core.patience w.core.spent w.lost → HasCause phase w
+has_cause : (phase : Phase) (w : Scene) → InPhase phase (ground w) (site w) w.down w.up w.core.patience w.core.spent w.lost → HasCause phase w.machine.memory w.core.patience w.core.spent w.lost
 has_cause (Ended end) w h = h.1
 has_cause phase w h = tt
 

@@ -27,9 +27,9 @@ pub record QueuesAreShort (down up : List ℕ) : Type 0 where
   pub one_way : (down ≡ []) ⊎ (up ≡ [])
 
 -- an end, if it is one, has its cause
-abbrev pub HasCause : Phase → Scene → Type 0
-HasCause (Ended end) w = EndIsPaid end w.machine.memory w.core.patience w.core.spent w.lost
-HasCause phase w = Unit {0}
+abbrev pub HasCause : Phase → List ℕ → (patience spent lost : ℕ) → Type 0
+HasCause (Ended end) memory patience spent lost = EndIsPaid end memory patience spent lost
+HasCause phase memory patience spent lost = Unit {0}
 
 -- what holds of every world, however it came to be
 pub record IsTame (w : Scene) : Type 0 where
@@ -38,7 +38,7 @@ pub record IsTame (w : Scene) : Type 0 where
   -- no mishap without a loss of its own
   pub spent : w.core.spent ≤ w.lost
   -- GaveUp after more losses than the patience, Uncertain after one that no mishap paid for, NoWord past memory, WontHold never
-  pub cause : HasCause w.core.phase w
+  pub cause : HasCause w.core.phase w.machine.memory w.core.patience w.core.spent w.lost
   pub lost : w.lost ≤ 41 + 9 * w.core.sent
 
 -- nothing stands after `G`, so it stands there once at most

@@ -7,11 +7,14 @@ mod command_line;
 mod program;
 
 use requests::{Failure, tell};
-use std::io::ErrorKind;
+use std::fs::File;
+use std::io::{ErrorKind, IsTerminal};
+use std::os::fd::{AsRawFd, IntoRawFd, RawFd};
 use std::process::ExitCode;
-use std::{env, io};
+use std::{env, fs, io};
 
 fn main(rt: HostRuntime) -> ExitCode {
+    fill_standard_descriptors(&rt);
     let mut input = rt.stdin();
     let mut out = rt.stdout();
     let mut err = rt.stderr();
@@ -20,7 +23,31 @@ fn main(rt: HostRuntime) -> ExitCode {
         Err(error) => return ExitCode::from(tell(failure_of(&error), &mut err).code()),
     };
     let alloc = rt.alloc();
-    ExitCode::from(program::program(&rt, alloc, &words, &mut input, &mut out, &mut err))
+    let screen = rt.stderr();
+    let terminal = screen.is_terminal().then_some(&screen);
+    let code = program::program(&rt, alloc, &words, &mut input, &mut out, &mut err, terminal);
+    ExitCode::from(code)
+}
+
+/// Fills the descriptors 0 to 2 where the program was started without them, so that no file that it
+/// opens becomes its input or an output. Each is opened against its use: what is read or written
+/// there fails, as it should.
+fn fill_standard_descriptors(rt: &HostRuntime) {
+    if let Ok(file) = File::options().write(true).open(rt, "/dev/null") {
+        keep_up_to(file, 0);
+    }
+    for _ in 0..2 {
+        if let Ok(file) = fs::open(rt, "/dev/null") {
+            keep_up_to(file, 2);
+        }
+    }
+}
+
+/// Leaves a file open for as long as the program runs where its descriptor is at most this number.
+fn keep_up_to(file: File, most: RawFd) {
+    if file.as_raw_fd() <= most {
+        let _ = file.into_raw_fd();
+    }
 }
 
 /// The words after the program's name.

@@ -10,20 +10,24 @@ use clap::Error;
 use clap::error::ErrorKind;
 use requests::{Failure, Status, attempt, tell};
 use std::alloc::Global;
-use std::io::{Read, Write};
+use std::io::{Print, Read, Write};
+use std::net::Net;
 use std::rt::Files;
+use std::time::Clock;
 
 /// Does what the words after the program's name ask for, and answers the exit status.
 ///
 /// Reports and help go to `out`, which is flushed; refused command lines and faults go to `err`,
-/// a fault as one line. What can't be written to `err` is not told.
-pub fn program<F: Files, R: Read, W: Write, E: Write>(
+/// a fault as one line. What can't be written to `err` is not told. A load shows on the terminal, where
+/// there is one, how far it is.
+pub fn program<F: Files + Net + Clock, R: Read, W: Write, E: Write, T: Print>(
     rt: &F,
     alloc: Global,
     words: &[String],
     input: &mut R,
     out: &mut W,
     err: &mut E,
+    terminal: Option<&T>,
 ) -> u8
     // With no words, the tape on the input is checked.
     ensures checked { words.now ≡ [] → result ≡ 0 → IsChecked (R.remaining input.old ∷ []) (R.remaining input.new ∷ []) (W.contents out.old) (W.contents out.new) }
@@ -31,7 +35,7 @@ pub fn program<F: Files, R: Read, W: Write, E: Write>(
     ensures status { words.now ≡ [] → (status : Status) × IsCheckStatus status × (result ≡ status_code status) }
 {
     let status = match parse(alloc, words) {
-        Ok(request) => attempt(rt, alloc, request, input, out, err),
+        Ok(request) => attempt(rt, alloc, request, input, out, err, terminal),
         Err(error) => explain(&error, out, err),
     };
     status.code()

@@ -16,3 +16,6 @@ pub use item::{Item, Kept};
 pub use keep::Keep;
 pub use line::Line;
 pub use memory_keep::MemoryKeep;
+
+#[cfg(test)]
+mod tests;

@@ -12,6 +12,8 @@ use tape_blocks::Memory;
 use tape_image::Word;
 
 /// A keeper in memory, which shows what it keeps, and can be made to fail.
+///
+/// Only `new` takes memory. A count of calls or of failures that stands at its largest value stays.
 #[derive(Drop)]
 pub struct MemoryKeep {
     kept: Vec<Kept>,
@@ -70,7 +72,7 @@ impl MemoryKeep {
             Err(KeepFault::Full)
         };
         self.fault = outcome.err();
-        if self.fault.is_some() {
+        if outcome.is_err() {
             self.failures = self.failures.saturating_add(1);
         }
         outcome

@@ -50,7 +50,13 @@ fn transcripts(rt: HostRuntime) -> Result<(), Fail> {
     for row in &TRANSCRIPTS {
         let (mut tape, words, number, expected, end) = *row;
         let mut out = Vec::new(rt.alloc());
-        let done = dialogue_to(rt.alloc(), slice::from_mut(&mut tape), words, style(number)?, &mut out);
+        let done = dialogue_to(
+            rt.alloc(),
+            slice::from_mut(&mut tape),
+            words,
+            style(number)?,
+            &mut out,
+        );
         assert_eq!(rt; done, Ok(end), "{words} words, style {number}");
         assert!(rt;
             out.as_slice() == expected.as_bytes(),
@@ -64,16 +70,34 @@ fn transcripts(rt: HostRuntime) -> Result<(), Fail> {
 fn refusals_print_nothing(rt: HostRuntime) -> Result<(), Fail> {
     let mut out = Vec::new(rt.alloc());
     let mut tape = ONE_WORD.as_slice();
-    let done = dialogue_to(rt.alloc(), slice::from_mut(&mut tape), 28673, style(0)?, &mut out);
+    let done = dialogue_to(
+        rt.alloc(),
+        slice::from_mut(&mut tape),
+        28673,
+        style(0)?,
+        &mut out,
+    );
     assert_eq!(rt; done, Err(CommandFault::TooLarge));
     let mut none: &[u8] = &[];
-    let done = dialogue_to(rt.alloc(), slice::from_mut(&mut none), 28673, style(0)?, &mut out);
+    let done = dialogue_to(
+        rt.alloc(),
+        slice::from_mut(&mut none),
+        28673,
+        style(0)?,
+        &mut out,
+    );
     assert!(rt;
         matches!(done, Err(CommandFault::Tape(1, _))),
         "the tape is read first"
     );
     let mut broken = BrokenInput::new(&ONE_WORD, 5);
-    let done = dialogue_to(rt.alloc(), slice::from_mut(&mut broken), 256, style(0)?, &mut out);
+    let done = dialogue_to(
+        rt.alloc(),
+        slice::from_mut(&mut broken),
+        256,
+        style(0)?,
+        &mut out,
+    );
     assert_eq!(rt;
         (done, broken.later_reads),
         (Err(CommandFault::ReadTape(1)), 0)

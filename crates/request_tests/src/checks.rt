@@ -67,7 +67,10 @@ fn what_pads_a_tape_is_seen(rt: HostRuntime) -> Result<(), Fail> {
     tape.extend_from_slice(&[0xFF, 0xFF])?;
     let mut input = tape.as_slice();
     let mut out = Vec::new(rt.alloc());
-    assert_eq!(rt; check_to(rt.alloc(), slice::from_mut(&mut input), &mut out), Ok(()));
+    assert_eq!(rt;
+        check_to(rt.alloc(), slice::from_mut(&mut input), &mut out),
+        Ok(())
+    );
     let wanted: &[u8] =
         b"blocks 1 data 2 read 59\nstart 001000\ncanonical no\nwords 1\n001000 177777 011064\n";
     assert!(rt; out.as_slice() == wanted);

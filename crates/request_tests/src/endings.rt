@@ -6,6 +6,7 @@ use odt_machine::{LARGEST_WORDS, PLAIN_STYLE, Style};
 use requests::{Console, Request, Status, attempt};
 use std::alloc::Global;
 use std::fs;
+use std::io::Stderr;
 use std::test::Fail;
 
 /// What the load of the smallest tape into a zeroed machine looks like, and what is then reported.
@@ -19,6 +20,9 @@ const SMALL_MACHINE: &str =
 /// What is reported where the key that starts the program was lost.
 const START_LOST: &str =
     "sent 30 lost 1 spent 0 verified 1 of 1\nend Uncertain\nodt Number 001000 6\n001000 011064 stands\n";
+
+/// No terminal looks on.
+const NOBODY: Option<&Stderr> = None;
 
 /// A transfer block with a wrong sum.
 const BAD_SUM: [u8; 7] = [1, 0, 6, 0, 0, 2, 0xF6];
@@ -81,24 +85,126 @@ type Row = (Asked, &'static [u8], Status, &'static str, &'static str);
 /// Requests, first those that are done and then those that can't be.
 const REQUESTS: [Row; 19] = [
     (Asked::Input, &ONE_WORD, Status::Done, ONE_WORD_TEXT, ""),
-    (Asked::Check(&["one-word.lda"]), &[], Status::Done, ONE_WORD_TEXT, ""),
-    (Asked::Type(LARGEST), b"001000/\n", Status::Done, "001000/000000 \r\n@", ""),
+    (
+        Asked::Check(&["one-word.lda"]),
+        &[],
+        Status::Done,
+        ONE_WORD_TEXT,
+        "",
+    ),
+    (
+        Asked::Type(LARGEST),
+        b"001000/\n",
+        Status::Done,
+        "001000/000000 \r\n@",
+        "",
+    ),
     (Asked::Type(NO_MEMORY), b"0/", Status::Done, "0/?\r\n@", ""),
-    (Asked::Dialogue(&["one-word.lda"], LARGEST), &[], Status::Done, DIALOGUE, ""),
-    (Asked::Dialogue(&["one-word.lda"], SMALL), &[], Status::NotLoaded, SMALL_MACHINE, ""),
-    (Asked::Rehearse("one-word.lda", "start-lost.script", &[]), &[], Status::Done, START_LOST, ""),
-    (Asked::Input, &BAD_SUM, Status::Refused, "", "ldaodt: tape refused at 0: BadSum\n"),
-    (Asked::Check(&["no-such.lda"]), &ONE_WORD, Status::DeviceFailed, "", "ldaodt: cannot read no-such.lda\n"),
-    (Asked::Check(&["."]), &ONE_WORD, Status::DeviceFailed, "", "ldaodt: cannot read .\n"),
-    (Asked::Check(&["one-word.lda", "bad-sum.lda"]), &[], Status::Refused, "", "ldaodt: tape 2 refused at 0: BadSum\n"),
-    (Asked::Check(&["bad-sum.lda", "no-such.lda"]), &[], Status::DeviceFailed, "", "ldaodt: cannot read no-such.lda\n"),
-    (Asked::Check(&["one-word.lda", "."]), &[], Status::DeviceFailed, "", "ldaodt: cannot read .\n"),
-    (Asked::Rehearse("one-word.lda", "misspelled.script", &[]), &[], Status::Refused, "", "ldaodt: script refused at line 1\n"),
-    (Asked::Rehearse("bad-sum.lda", "misspelled.script", &[]), &[], Status::Refused, "", "ldaodt: tape refused at 0: BadSum\n"),
-    (Asked::Rehearse("one-word.lda", "misspelled.script", &["bad-sum.lda"]), &[], Status::Refused, "", "ldaodt: tape 2 refused at 0: BadSum\n"),
-    (Asked::Rehearse("bad-sum.lda", "no-such.script", &[]), &[], Status::DeviceFailed, "", "ldaodt: cannot read no-such.script\n"),
-    (Asked::Rehearse("bad-sum.lda", "start-lost.script", &["no-such.lda"]), &[], Status::DeviceFailed, "", "ldaodt: cannot read no-such.lda\n"),
-    (Asked::Rehearse("no-such.lda", "no-such.script", &[]), &[], Status::DeviceFailed, "", "ldaodt: cannot read no-such.lda\n"),
+    (
+        Asked::Dialogue(&["one-word.lda"], LARGEST),
+        &[],
+        Status::Done,
+        DIALOGUE,
+        "",
+    ),
+    (
+        Asked::Dialogue(&["one-word.lda"], SMALL),
+        &[],
+        Status::NotLoaded,
+        SMALL_MACHINE,
+        "",
+    ),
+    (
+        Asked::Rehearse("one-word.lda", "start-lost.script", &[]),
+        &[],
+        Status::Done,
+        START_LOST,
+        "",
+    ),
+    (
+        Asked::Input,
+        &BAD_SUM,
+        Status::Refused,
+        "",
+        "ldaodt: tape refused at 0: BadSum\n",
+    ),
+    (
+        Asked::Check(&["no-such.lda"]),
+        &ONE_WORD,
+        Status::DeviceFailed,
+        "",
+        "ldaodt: cannot read no-such.lda\n",
+    ),
+    (
+        Asked::Check(&["."]),
+        &ONE_WORD,
+        Status::DeviceFailed,
+        "",
+        "ldaodt: cannot read .\n",
+    ),
+    (
+        Asked::Check(&["one-word.lda", "bad-sum.lda"]),
+        &[],
+        Status::Refused,
+        "",
+        "ldaodt: tape 2 refused at 0: BadSum\n",
+    ),
+    (
+        Asked::Check(&["bad-sum.lda", "no-such.lda"]),
+        &[],
+        Status::DeviceFailed,
+        "",
+        "ldaodt: cannot read no-such.lda\n",
+    ),
+    (
+        Asked::Check(&["one-word.lda", "."]),
+        &[],
+        Status::DeviceFailed,
+        "",
+        "ldaodt: cannot read .\n",
+    ),
+    (
+        Asked::Rehearse("one-word.lda", "misspelled.script", &[]),
+        &[],
+        Status::Refused,
+        "",
+        "ldaodt: script refused at line 1\n",
+    ),
+    (
+        Asked::Rehearse("bad-sum.lda", "misspelled.script", &[]),
+        &[],
+        Status::Refused,
+        "",
+        "ldaodt: tape refused at 0: BadSum\n",
+    ),
+    (
+        Asked::Rehearse("one-word.lda", "misspelled.script", &["bad-sum.lda"]),
+        &[],
+        Status::Refused,
+        "",
+        "ldaodt: tape 2 refused at 0: BadSum\n",
+    ),
+    (
+        Asked::Rehearse("bad-sum.lda", "no-such.script", &[]),
+        &[],
+        Status::DeviceFailed,
+        "",
+        "ldaodt: cannot read no-such.script\n",
+    ),
+    (
+        Asked::Rehearse("bad-sum.lda", "start-lost.script", &["no-such.lda"]),
+        &[],
+        Status::DeviceFailed,
+        "",
+        "ldaodt: cannot read no-such.lda\n",
+    ),
+    (
+        Asked::Rehearse("no-such.lda", "no-such.script", &[]),
+        &[],
+        Status::DeviceFailed,
+        "",
+        "ldaodt: cannot read no-such.lda\n",
+    ),
 ];
 
 /// What a request left.
@@ -113,7 +219,15 @@ struct Ended {
 fn run(rt: &HostRuntime, request: Request<'_>, mut input: &[u8]) -> Ended {
     let mut out = Vec::new(rt.alloc());
     let mut err = Vec::new(rt.alloc());
-    let status = attempt(rt, rt.alloc(), request, &mut input, &mut out, &mut err);
+    let status = attempt(
+        rt,
+        rt.alloc(),
+        request,
+        &mut input,
+        &mut out,
+        &mut err,
+        NOBODY,
+    );
     Ended { status, out, err }
 }
 
@@ -159,6 +273,7 @@ fn standard_input_fails(rt: HostRuntime) {
         &mut input,
         &mut out,
         &mut err,
+        NOBODY,
     );
     assert_eq!(rt; ended, Status::DeviceFailed);
     assert!(rt; out.is_empty());
@@ -177,6 +292,7 @@ fn standard_output_fails_to_flush(rt: HostRuntime) {
         &mut input,
         &mut out,
         &mut err,
+        NOBODY,
     );
     assert_eq!(rt; ended, Status::DeviceFailed);
     assert!(rt; err.as_slice() == b"ldaodt: cannot write output\n".as_slice());

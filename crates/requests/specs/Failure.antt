@@ -6,9 +6,14 @@ use Rattle.tape_blocks.specs.declared.fault.ReadError.TheVariants as reading
 use Rattle.command_io.specs.TapeFile.{IsRefusedInput}
 use Rattle.requests.specs.declared.failure.Failure.{Failure}
 use Rattle.requests.specs.declared.failure.OneTape.{OneTape}
-use Rattle.requests.specs.declared.failure.Failure.TheVariants.{CannotRead, CannotWrite, TapeRefused, OneTapeRefused, ScriptRefused, TooLarge, BadWord, NoMemory}
+use Rattle.requests.specs.declared.failure.Failure.TheVariants.{CannotRead, CannotWrite, CannotWriteFile, CannotConnect, LineFailed, TapeRefused, OneTapeRefused, ScriptRefused, RecordRefused, TooLarge, BadWord, NoMemory}
 use Rattle.command_io.specs.declared.fault.CommandFault.{CommandFault}
 use Rattle.command_io.specs.declared.fault.CommandFault.TheVariants as fault
+use Rattle.load_engine.specs.declared.stop.Stop.{Stop}
+use Rattle.load_engine.specs.declared.stop.Stop.TheVariants as stop
+use Rattle.load_record.specs.declared.reader.RecordError.TheVariants as why
+use Rattle.machine_load.specs.declared.fault.LoadFault.{LoadFault}
+use Rattle.machine_load.specs.declared.fault.LoadFault.TheVariants as load
 use Rattle.requests.specs.declared.status.Status.{Status}
 use Rattle.requests.specs.declared.status.Status.TheVariants.{BadCommandLine, Refused, DeviceFailed, NoMemory as OutOfMemory}
 
@@ -16,9 +21,13 @@ use Rattle.requests.specs.declared.status.Status.TheVariants.{BadCommandLine, Re
 abbrev pub status_of : Failure → Status
 status_of (CannotRead name) = DeviceFailed
 status_of CannotWrite = DeviceFailed
+status_of (CannotWriteFile name) = DeviceFailed
+status_of (CannotConnect address) = DeviceFailed
+status_of LineFailed = DeviceFailed
 status_of (TapeRefused refusal) = Refused
 status_of (OneTapeRefused tape) = Refused
 status_of (ScriptRefused line) = Refused
+status_of (RecordRefused reason) = Refused
 status_of TooLarge = BadCommandLine
 status_of BadWord = BadCommandLine
 status_of NoMemory = OutOfMemory
@@ -31,9 +40,14 @@ one_tape_text tape = decimal tape.number ++ (codes " refused at " ++ (decimal ta
 abbrev pub failure_text : Failure → List ℕ
 failure_text (CannotRead name) = codes "cannot read " ++ name.now
 failure_text CannotWrite = codes "cannot write output"
+failure_text (CannotWriteFile name) = codes "cannot write " ++ name.now
+failure_text (CannotConnect address) = codes "cannot connect to " ++ address.now
+failure_text LineFailed = codes "line failed"
 failure_text (TapeRefused refusal) = read_error_text (reading.Tape refusal)
 failure_text (OneTapeRefused tape) = codes "tape " ++ one_tape_text tape
 failure_text (ScriptRefused line) = codes "script refused at line " ++ decimal line
+failure_text (RecordRefused why.NotARecord) = codes "record refused: NotARecord"
+failure_text (RecordRefused (why.Foreign line)) = codes "record refused at line " ++ decimal line
 failure_text TooLarge = codes "machine too large"
 failure_text BadWord = codes "a word of the command line is not UTF-8"
 failure_text NoMemory = read_error_text reading.Memory
@@ -47,6 +61,32 @@ NamesFile text other = ⊥
 abbrev pub NamesTape : Option (Bor (List ℕ)) → Failure → Type 0
 NamesTape (Some name) failure = failure ≡ CannotRead name
 NamesTape None failure = NamesFile (codes "standard input") failure
+
+-- the failure is that the record's file of this name can't be written
+abbrev pub NamesWrittenFile : List ℕ → Failure → Type 0
+NamesWrittenFile text (CannotWriteFile name) = name.now ≡ text
+NamesWrittenFile text other = ⊥
+
+-- the failure is that this address can't be connected to
+abbrev pub NamesAddress : List ℕ → Failure → Type 0
+NamesAddress text (CannotConnect address) = address.now ≡ text
+NamesAddress text other = ⊥
+
+-- the failure that a load's fault is, where its console and its record have these names
+abbrev pub IsLoadFailureOf : LoadFault → List ℕ → List ℕ → Failure → Type 0
+IsLoadFailureOf load.ReadRecord address file failure = NamesFile file failure
+IsLoadFailureOf (load.Record reason) address file failure = failure ≡ RecordRefused reason
+IsLoadFailureOf load.Connect address file failure = NamesAddress address failure
+IsLoadFailureOf load.WriteRecord address file failure = NamesWrittenFile file failure
+IsLoadFailureOf load.WriteOutput address file failure = failure ≡ CannotWrite
+IsLoadFailureOf load.Memory address file failure = failure ≡ NoMemory
+
+-- how a load that was reported fails all the same: the line failed, or the record's keeper
+abbrev pub IsStopFailure : Stop → List ℕ → Failure → Type 0
+IsStopFailure (stop.LineFailed fault) file failure = failure ≡ LineFailed
+IsStopFailure (stop.KeepFailed fault) file failure = NamesWrittenFile file failure
+IsStopFailure (stop.Ended end) file failure = ⊥
+IsStopFailure stop.TurnsOver file failure = ⊥
 
 -- the failure that a command's fault is, where its tapes and its script have these names: of several tapes the number is told
 abbrev pub IsFailureOf : CommandFault → List (Bor (List ℕ)) → List ℕ → Failure → Type 0

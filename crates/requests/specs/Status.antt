@@ -2,6 +2,8 @@
 use Rattle.std.specs.Prelude.{ℕ, ⊤}
 use Rattle.host_core.specs.declared.phase.End.{End}
 use Rattle.host_core.specs.declared.phase.End.TheVariants as end
+use Rattle.load_engine.specs.declared.stop.Stop.{Stop}
+use Rattle.load_engine.specs.declared.stop.Stop.TheVariants as stop
 use Rattle.requests.specs.declared.status.Status.{Status}
 use Rattle.requests.specs.declared.status.Status.TheVariants.{Done, BadCommandLine, Refused, DeviceFailed, NotLoaded, Uncertain, NoMemory}
 
@@ -24,6 +26,13 @@ end_status (end.WontHold address) = NotLoaded
 end_status end.GaveUp = NotLoaded
 end_status end.Uncertain = Uncertain
 end_status end.MaybeStarted = Uncertain
+
+-- how the program ended where a load stopped so and was reported
+abbrev pub stop_status : Stop → Status
+stop_status (stop.Ended end) = end_status end
+stop_status (stop.LineFailed fault) = DeviceFailed
+stop_status (stop.KeepFailed fault) = DeviceFailed
+stop_status stop.TurnsOver = NotLoaded
 
 -- the statuses that a check ends with
 abbrev pub IsCheckStatus : Status → Type 0

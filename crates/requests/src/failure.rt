@@ -1,5 +1,7 @@
 use crate::status::Status;
 use command_io::CommandFault;
+use load_record::RecordError;
+use machine_load::LoadFault;
 use std::fmt;
 use tape_blocks::{Fault, ReadError};
 
@@ -10,12 +12,20 @@ pub enum Failure<'a> {
     CannotRead(&'a str),
     /// Standard output can't be written.
     CannotWrite,
+    /// The record's file of this name can't be written.
+    CannotWriteFile(&'a str),
+    /// No connection to this HOST:PORT could be made.
+    CannotConnect(&'a str),
+    /// The line failed during a load.
+    LineFailed,
     /// The only tape is refused.
     TapeRefused(Fault),
     /// One of several tapes is refused.
     OneTapeRefused(OneTape),
     /// The script is refused at this line.
     ScriptRefused(u32),
+    /// The record is none of this tape's load.
+    RecordRefused(RecordError),
     /// The machine is larger than an LSI-11's memory.
     TooLarge,
     /// A word of the command line is no text, so it names nothing.
@@ -26,7 +36,7 @@ pub enum Failure<'a> {
 
 impl<'a> Failure<'a> {
     ghost use Rattle.std.specs.Prelude.{◌≡◌};
-    ghost use Rattle.requests.specs.Failure.{status_of, IsFailureOf};
+    ghost use Rattle.requests.specs.Failure.{status_of, IsFailureOf, IsLoadFailureOf};
 
     /// The failure that a command's fault is, where its tapes and its script have these names. A tape
     /// that has no name is standard input's.
@@ -54,15 +64,34 @@ impl<'a> Failure<'a> {
         }
     }
 
+    /// The failure that a load's fault is, where its console and its record have these names.
+    pub fn of_load(fault: LoadFault, address: &'a str, file: &'a str) -> Failure<'a>
+        ensures { IsLoadFailureOf fault address.entry.now file.entry.now result }
+    {
+        match fault {
+            LoadFault::ReadRecord => Failure::CannotRead(file),
+            LoadFault::Record(why) => Failure::RecordRefused(why),
+            LoadFault::Connect => Failure::CannotConnect(address),
+            LoadFault::WriteRecord => Failure::CannotWriteFile(file),
+            LoadFault::WriteOutput => Failure::CannotWrite,
+            LoadFault::Memory => Failure::NoMemory,
+        }
+    }
+
     /// The exit status that tells of this failure.
     pub fn status(&self) -> Status
         ensures { result ≡ status_of self.now }
     {
         match self {
-            Failure::CannotRead(_) | Failure::CannotWrite => Status::DeviceFailed,
+            Failure::CannotRead(_)
+            | Failure::CannotWrite
+            | Failure::CannotWriteFile(_)
+            | Failure::CannotConnect(_)
+            | Failure::LineFailed => Status::DeviceFailed,
             Failure::TapeRefused(_)
             | Failure::OneTapeRefused(_)
-            | Failure::ScriptRefused(_) => Status::Refused,
+            | Failure::ScriptRefused(_)
+            | Failure::RecordRefused(_) => Status::Refused,
             Failure::TooLarge | Failure::BadWord => Status::BadCommandLine,
             Failure::NoMemory => Status::NoMemory,
         }
@@ -105,9 +134,18 @@ impl fmt::Display for Failure<'_> {
         match self {
             Failure::CannotRead(name) => write!(f, "cannot read {name}"),
             Failure::CannotWrite => f.write_str("cannot write output"),
+            Failure::CannotWriteFile(name) => write!(f, "cannot write {name}"),
+            Failure::CannotConnect(address) => write!(f, "cannot connect to {address}"),
+            Failure::LineFailed => f.write_str("line failed"),
             Failure::TapeRefused(fault) => write!(f, "{}", ReadError::Tape(*fault)),
             Failure::OneTapeRefused(tape) => write!(f, "tape {tape}"),
             Failure::ScriptRefused(line) => write!(f, "script refused at line {line}"),
+            Failure::RecordRefused(RecordError::NotARecord) => {
+                f.write_str("record refused: NotARecord")
+            }
+            Failure::RecordRefused(RecordError::Foreign(line)) => {
+                write!(f, "record refused at line {line}")
+            }
             Failure::TooLarge => f.write_str("machine too large"),
             Failure::BadWord => f.write_str("a word of the command line is not UTF-8"),
             Failure::NoMemory => write!(f, "{}", ReadError::Memory),

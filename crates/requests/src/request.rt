@@ -15,6 +15,8 @@ pub enum Request<'a> {
     Rehearse(&'a str, &'a str, Vec<&'a str>),
     /// Type standard input into a simulated console.
     Type(Console),
+    /// Load tapes, as one, into the machine behind a port.
+    Load(Vec<&'a str>, Load<'a>),
 }
 
 /// A simulated console: how many words its machine has, and how it answers.
@@ -24,4 +26,17 @@ pub struct Console {
     pub words: u16,
     /// What its answers look like.
     pub style: Style,
+}
+
+/// A load into a real machine.
+#[derive(Clone, Copy, Debug, PartialEq, Eq)]
+pub struct Load<'a> {
+    /// The console's HOST:PORT.
+    pub address: &'a str,
+    /// The record's file, where there is to be one.
+    pub record: Option<&'a str>,
+    /// How many mishaps the host survives.
+    pub patience: u32,
+    /// The quiet time in milliseconds.
+    pub quiet_ms: u32,
 }

@@ -1,5 +1,5 @@
 -- How far a tape has been read: relations between what a reader keeps and the list that it was fed.
-use Rattle.std.specs.Prelude.{◌≡◌, ℕ, ◌+◌, ◌<◌, ◌≤◌, List, ◌++◌, length, take, Result, Ok, Err}
+use Rattle.std.specs.Prelude.{◌≡◌, ℕ, ◌+◌, ◌<◌, ◌≤◌, List, [], ◌++◌, length, take, Result, Ok, Err}
 use Rattle.tape_blocks.specs.Tape.{tape_limit}
 use Rattle.tape_blocks.specs.Head.{IsSplit, IsWanting}
 use Rattle.tape_blocks.specs.declared.fault.ReadError.{ReadError}
@@ -43,3 +43,9 @@ abbrev pub TakesAll : List ℕ → Result Step ReadError → Type 0
 TakesAll piece (Ok (Took n)) = n ≡ length piece
 TakesAll piece (Ok (Ended n start)) = Unit {0}
 TakesAll piece (Err e) = Unit {0}
+
+-- no growth was refused, and no block is under way
+abbrev pub TakesNoMemory : Progress → Result Step ReadError → Type 0
+TakesNoMemory new (Ok step) = new.header.items ≡ []
+TakesNoMemory new (Err (Tape fault)) = Unit {0}
+TakesNoMemory new (Err Memory) = ⊥

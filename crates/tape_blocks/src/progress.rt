@@ -1,10 +1,10 @@
 //! Reading a tape piece by piece: the blocks so far, and the block under way.
-ghost use Rattle.std.specs.Prelude.{◌≡◌, ℕ, ◌<◌, ◌≤◌, ◌+◌, ◌-◌, ◌^◌, ◌++◌, List, [], ◌∷◌, length, take, OnOk};
+ghost use Rattle.std.specs.Prelude.{◌≡◌, ℕ, ◌<◌, ◌≤◌, ◌+◌, ◌-◌, ◌^◌, ◌++◌, List, [], ◌∷◌, length, take, slice_index, All, OnOk};
 ghost use Rattle.tape_blocks.specs.Block.{BlockValue, block_at};
 ghost use Rattle.tape_blocks.specs.Tape.{IsTape, tape_limit};
 ghost use Rattle.tape_blocks.specs.Refusal.{count_of, missing_fault};
 ghost use Rattle.tape_blocks.specs.Head.{IsSplit};
-ghost use Rattle.tape_blocks.specs.Progress.{IsPart, IsReadBy, IsStep, Advances, TakesAll, part_of};
+ghost use Rattle.tape_blocks.specs.Progress.{IsPart, IsReadBy, IsStep, Advances, TakesAll, TakesNoMemory, part_of};
 
 use crate::block::{BLANK, Block, FRAME, HEADER};
 use crate::fault::{Fault, ReadError, Why};
@@ -54,6 +54,7 @@ impl Progress {
         requires { IsPart self.old }
         ensures step { IsStep self.old piece.now self.new result }
         ensures whole { TakesAll piece.now result }
+        ensures blank { self.old.header.items ≡ [] → All (λ byte. byte ≡ 0) piece.now → TakesNoMemory self.new result }
     {
         let mut used = 0;
         while used < piece.len() {
@@ -71,6 +72,7 @@ impl Progress {
         requires some { 0 < length left.now }
         ensures step { IsStep self.old left.now self.new result }
         ensures advances { Advances result }
+        ensures blank { self.old.header.items ≡ [] → slice_index left.now 0 ≡ 0 → TakesNoMemory self.new result }
     {
         let room = TAPE_LIMIT - self.place - self.header.len() - self.body.len();
         if room == 0 {
@@ -93,6 +95,7 @@ impl Progress {
         requires within { self.old.place + length text.now ≤ tape_limit }
         ensures step { IsStep self.old text.now self.new result }
         ensures advances { Advances result }
+        ensures blank { slice_index text.now 0 ≡ 0 → TakesNoMemory self.new result }
     {
         if text[0] == BLANK {
             self.place += 1;

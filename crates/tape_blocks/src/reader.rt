@@ -1,4 +1,4 @@
-ghost use Rattle.std.specs.Prelude.{◌≡◌, ◌⊎◌, ◌↔◌, ◌+◌, ◌<◌, ◌≤◌, ℕ, List, [], ◌++◌, length, Result};
+ghost use Rattle.std.specs.Prelude.{◌≡◌, ◌⊎◌, ◌↔◌, ◌+◌, ◌<◌, ◌≤◌, ℕ, List, [], ◌++◌, length, All, Result};
 ghost use Rattle.tape_blocks.specs.Block.{BlockValue};
 ghost use Rattle.tape_blocks.specs.Tape.{IsTape, TapeValue};
 ghost use Rattle.tape_blocks.specs.Reading.{IsReading, IsReadingUnlessMemory};
@@ -104,6 +104,9 @@ impl TapeReader {
         // A refused growth is the last word.
         ensures memory { IsOutOfMemory self.new ↔ (result ≡ Err ReadError.Memory) }
         ensures memory_stays { IsOutOfMemory self.old → IsOutOfMemory self.new }
+
+        // Bytes 00 between blocks take no memory.
+        ensures blank { IsOpen self.old → self.old.part ≡ [] → All (λ byte. byte ≡ 0) piece.now → result ≡ Err ReadError.Memory → ⊥ }
     {
         match self.outcome {
             Outcome::Open => {}

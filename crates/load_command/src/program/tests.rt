@@ -1,31 +1,80 @@
 use super::*;
 use requests::Request;
+use std::io::Stderr;
 use std::test::Fail;
 
+mod scarce;
+
+/// No terminal looks on.
+const NOBODY: Option<&Stderr> = None;
+
 /// Words, and what they ask for, in a text.
-const ASKED: [(&[&str], &str); 11] = [
+const ASKED: [(&[&str], &str); 13] = [
     (&[], "CheckInput"),
     (&["check", "a.lda"], "Check [a.lda]"),
-    (&["check", "a.lda", "b.lda", "c.lda"], "Check [a.lda b.lda c.lda]"),
+    (
+        &["check", "a.lda", "b.lda", "c.lda"],
+        "Check [a.lda b.lda c.lda]",
+    ),
     (&["dialogue", "a.lda"], "Dialogue [a.lda] 28672 0"),
-    (&["dialogue", "a.lda", "b.lda", "--words", "256"], "Dialogue [a.lda b.lda] 256 0"),
-    (&["dialogue", "--style", "7", "a.lda"], "Dialogue [a.lda] 28672 7"),
-    (&["rehearse", "a.lda", "b.script"], "Rehearse a.lda b.script []"),
-    (&["rehearse", "a.lda", "b.script", "c.lda"], "Rehearse a.lda b.script [c.lda]"),
+    (
+        &["dialogue", "a.lda", "b.lda", "--words", "256"],
+        "Dialogue [a.lda b.lda] 256 0",
+    ),
+    (
+        &["dialogue", "--style", "7", "a.lda"],
+        "Dialogue [a.lda] 28672 7",
+    ),
+    (
+        &["rehearse", "a.lda", "b.script"],
+        "Rehearse a.lda b.script []",
+    ),
+    (
+        &["rehearse", "a.lda", "b.script", "c.lda"],
+        "Rehearse a.lda b.script [c.lda]",
+    ),
     (&["type"], "Type 28672 0"),
     (&["type", "--words", "256"], "Type 256 0"),
     (&["type", "--style", "7", "--words=28672"], "Type 28672 7"),
+    (
+        &["load", "a.lda", "localhost:2323"],
+        "Load [a.lda] localhost:2323 None 8 2000",
+    ),
+    (
+        &[
+            "load",
+            "--record",
+            "a.record",
+            "--patience",
+            "1000",
+            "--quiet",
+            "60000",
+            "a.lda",
+            "[::1]:23",
+            "b.lda",
+        ],
+        "Load [a.lda b.lda] [::1]:23 a.record 1000 60000",
+    ),
 ];
 
 /// Words that ask for a text.
 const HELP: [&[&str]; 2] = [&["--help"], &["--version"]];
 
 /// Words that are refused, and why.
-const REFUSED: [(&[&str], &str); 9] = [
+const REFUSED: [(&[&str], &str); 12] = [
     (&["check"], "no tape named"),
     (&["dialogue"], "no tape to load"),
     (&["rehearse", "a.lda"], "no script"),
-    (&["load", "a.lda"], "a command that is not there yet"),
+    (&["load", "a.lda"], "no console to load through"),
+    (
+        &["load", "a.lda", "b:1", "--patience", "1001"],
+        "too much patience",
+    ),
+    (&["load", "a.lda", "b:1", "--quiet", "0"], "no quiet time"),
+    (
+        &["load", "a.lda", "b:1", "--quiet", "60001"],
+        "a long quiet time",
+    ),
     (&["a.lda"], "a tape with no command"),
     (&["type", "--words", "28673"], "a machine too large"),
     (&["type", "--words", "-1"], "a negative size"),
@@ -57,7 +106,7 @@ fn run(rt: &HostRuntime, words: &[&str]) -> Result<Ended, Fail> {
     let mut input: &[u8] = &[];
     let mut out = Vec::new(alloc);
     let mut err = Vec::new(alloc);
-    let status = program(rt, alloc, &line, &mut input, &mut out, &mut err);
+    let status = program(rt, alloc, &line, &mut input, &mut out, &mut err, NOBODY);
     Ok(Ended { status, out, err })
 }
 
@@ -92,6 +141,12 @@ fn told(alloc: Global, request: &Request<'_>) -> Result<String, Fail> {
         Request::Type(console) => {
             let style = console.style.number();
             Ok(format!(in alloc; "Type {} {style}", console.words)?)
+        }
+        Request::Load(tapes, load) => {
+            put_names(&mut names, tapes)?;
+            let (address, record) = (load.address, load.record.unwrap_or("None"));
+            let (patience, quiet) = (load.patience, load.quiet_ms);
+            Ok(format!(in alloc; "Load {names} {address} {record} {patience} {quiet}")?)
         }
     }
 }

@@ -4,6 +4,8 @@ use std::process::Abort;
 use std::test::Fail;
 use tape_blocks::{Block, read_tape};
 
+mod famine;
+
 /// A tape of these blocks, each an address and its bytes, and this start address.
 fn tape(alloc: Global, blocks: &[(u16, &[u8])], start: u16) -> Result<Tape, Fail> {
     let mut made = Vec::new(alloc);
@@ -124,9 +126,10 @@ fn words_of_tapes(rt: HostRuntime) -> Result<(), Fail> {
     Ok(())
 }
 
-/// Tapes, each its blocks and its start, the words and the start of their plan, and why the row is there.
+/// Tapes, each its blocks and its start address.
 type Tapes = &'static [(&'static [(u16, &'static [u8])], u16)];
 
+/// Tapes, the words and the start of their plan, and why the row is there.
 const SEVERAL: [(Tapes, &[(u16, u16, u16)], Option<u16>, &str); 5] = [
     (&[], &[], None, "no tape has no words and no start"),
     (

@@ -6,8 +6,7 @@ use Rattle.command_io.proofs.tapes.take_tapes.Goals as goal
 
 pub returns-in-Err-Tape-clause-err : goal.returns-in-Err-Tape-clause-err
 returns-in-Err-Tape-clause-err g c =
-    let input = g.R.Read.remaining (get_or c.loop-place.inputs c.loop-place.place c.index-inputs-place.result) in
-    (
+    let input = g.R.Read.remaining (get_or c.loop-place.inputs c.loop-place.place c.index-inputs-place.result) in (
       input,
       stops g.R.Read.remaining c.args.inputs.now c.loop-place.inputs c.loop-place.place c.index-inputs-place.result c.read_from.new.input _ _ c.loop-place.invariant c.loop-place-test.true,
       subst (IsRefusedInput input) (sym c.in-Err-Tape.fault-is) (refused_reading input _ c.in-Err-Tape.field-0 c.in-Err-Tape.fault c.in-Err-Tape.field-0-is c.in-Err-Tape.ensures),

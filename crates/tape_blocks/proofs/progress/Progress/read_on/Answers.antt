@@ -1,5 +1,6 @@
-use Rattle.std.proofs.Common.{◌≡◌, ℕ, ◌+◌, ◌-◌, ◌≤◌, List, ◌++◌, length, take, drop, arith, ap, ◌∙◌, sym, subst, take-append-drop, append_assoc, Ok, Err}
+use Rattle.std.proofs.Common.{All, slice_index, ◌<◌, ◌≡◌, ℕ, ◌+◌, ◌-◌, ◌≤◌, List, ◌++◌, length, take, drop, arith, ap, ◌∙◌, sym, subst, take-append-drop, append_assoc, Ok, Err}
 use Rattle.std.proofs.lemmas.List.{length-drop, take_all}
+use Rattle.std.proofs.lemmas.List.{get_or-drop}
 use Rattle.std.proofs.lemmas.Result.{err_from_is_err_and}
 use Rattle.std.proofs.Math.Seq.{take-add}
 use Rattle.tape_blocks.specs.Standing.{EndsTape, IsRefusedForGood}
@@ -13,6 +14,12 @@ use Rattle.tape_blocks.proofs.progress.Progress.read_on.Goals.{In_ok-count}
 -- the slice behind the bytes used
 rest_is : (piece : List ℕ) (used : ℕ) → take (length piece - used) (drop used piece) ≡ drop used piece
 rest_is piece used = take_all (length piece - used) (drop used piece) (let l = length-drop used piece in omega arith)
+
+-- the byte behind the bytes used
+next_blank : (piece : List ℕ) (used : ℕ) → used < length piece → All (λ byte. byte ≡ 0) piece
+    → slice_index (take (length piece - used) (drop used piece)) 0 ≡ 0
+next_blank piece used h zeros =
+    ap (λ t. slice_index t 0) (rest_is piece used) ∙ get_or-drop used piece 0 0 ∙ zeros (used + 0) 0 (omega arith)
 
 -- the bytes used, and the first of the slice behind them
 more_used : (fed piece : List ℕ) (used n : ℕ) → used ≤ length piece → n ≤ length (take (length piece - used) (drop used piece))
@@ -53,6 +60,8 @@ loop-used-preserved c =
       within = (f c.args.piece.now).0;
       part = s.1;
       read = λ fed read. subst (IsReadBy c.step.new.self) (f fed).1 (s.2 (fed ++ take c.loop-used.used c.args.piece.now) (c.loop-used.invariant.read fed read));
+      blank = λ none zeros.
+          c.in_ok-count.ensures.blank (c.loop-used.invariant.blank none zeros) (next_blank c.args.piece.now c.loop-used.used c.loop-used-test.true zeros);
     }
 
 pub returns-in-Ended-clause-step : goal.returns-in-Ended-clause-step

@@ -1,0 +1,4 @@
+pub mod Wires
+pub mod Runs
+pub mod Trusted
+pub mod Lines

@@ -1,0 +1,98 @@
+use super::*;
+use std::test::Fail;
+use tape_image::Word;
+
+/// A keeper's room and its first failing call; then how keeping a word, the mark and a word again
+/// goes, how many things are kept, and why the row is here.
+const ROWS: [(u32, Option<u32>, [Option<KeepFault>; 3], usize, &str); 6] = [
+    (3, None, [None, None, None], 3, "room for all three"),
+    (
+        2,
+        None,
+        [None, None, Some(KeepFault::Full)],
+        2,
+        "room for two",
+    ),
+    (
+        0,
+        None,
+        [
+            Some(KeepFault::Full),
+            Some(KeepFault::Full),
+            Some(KeepFault::Full),
+        ],
+        0,
+        "no room",
+    ),
+    (
+        3,
+        Some(2),
+        [None, Some(KeepFault::Write), Some(KeepFault::Write)],
+        1,
+        "from the second call on each fails",
+    ),
+    (
+        0,
+        Some(0),
+        [
+            Some(KeepFault::Write),
+            Some(KeepFault::Write),
+            Some(KeepFault::Write),
+        ],
+        0,
+        "calls count from 1, and a failing call is judged before its room",
+    ),
+    (
+        1,
+        Some(3),
+        [None, Some(KeepFault::Full), Some(KeepFault::Write)],
+        1,
+        "the room first, then the number",
+    ),
+];
+
+#[test]
+fn a_keeper_keeps_and_fails_by_its_numbers(rt: HostRuntime) -> Result<(), Fail> {
+    let Some(word) = Word::new(0o1000, 0o177777, 0o11064) else {
+        panic!(rt; "no word");
+    };
+    for row in &ROWS {
+        let (room, fail_at, faults, count, reason) = *row;
+        let mut keep = MemoryKeep::new(rt.alloc(), room, fail_at)?;
+        let outcomes = [
+            keep.add(word).err(),
+            keep.mark().err(),
+            keep.add(word).err(),
+        ];
+        let failures = faults.iter().filter(|fault| fault.is_some()).count();
+        assert_eq!(rt; outcomes, faults, "{reason}");
+        assert_eq!(rt; keep.kept().len(), count, "{reason}");
+        assert_eq!(rt; keep.failures(), failures as u64, "{reason}");
+        assert_eq!(rt; keep.failed(), faults[2].is_some(), "{reason}");
+    }
+    Ok(())
+}
+
+#[test]
+fn faults_have_texts(rt: HostRuntime) -> Result<(), Fail> {
+    let alloc = rt.alloc();
+    for row in &[
+        (LineFault::Connect, "cannot connect"),
+        (LineFault::Send, "cannot send"),
+        (LineFault::Closed, "the line was closed"),
+        (LineFault::Receive, "cannot receive"),
+        (LineFault::Full, "no room on the line"),
+        (LineFault::Noise, "nothing but noise on the line"),
+    ] {
+        let (fault, text) = *row;
+        assert_eq!(rt; format!(in alloc; "{fault}")?.as_str(), text);
+    }
+    for row in &[
+        (KeepFault::Write, "cannot keep the progress"),
+        (KeepFault::Full, "no room to keep the progress"),
+    ] {
+        let (fault, text) = *row;
+        assert_eq!(rt; format!(in alloc; "{fault}")?.as_str(), text);
+    }
+    Ok(())
+}

@@ -1,0 +1,104 @@
+-- What a session says over an honest line.
+use Rattle.std.proofs.Common.{◌≡◌, ℕ, ◌+◌, ◌-◌, List, [], ◌∷◌, ◌++◌, length, Option, Some, None, inl, inr, refl, arith, ap, sym, subst, ◌∙◌}
+use Rattle.host_core.specs.declared.heard.Heard.{Heard}
+use Rattle.host_core.specs.declared.phase.End.{End}
+use Rattle.host_core.specs.declared.phase.End.TheVariants.{Loaded, Started, Uncertain, MaybeStarted, GaveUp, NoWord, WontHold}
+use Rattle.host_core.specs.declared.phase.Phase.{Phase}
+use Rattle.host_core.specs.declared.phase.Phase.TheVariants.{Settle, Sync, Address, Slash, Before, Value, Deposit, Return, Start, Go, Ended as Over}
+use Rattle.host_core.specs.Core.{Core}
+use Rattle.host_core.specs.Host.{IsHost}
+use Rattle.host_core.specs.Laws.{led}
+use Rattle.host_core.specs.PhaseTable.{move}
+use Rattle.line_world.specs.Invariant.{EndIsPaid}
+use Rattle.line_world.specs.Promises.{HasCause}
+use Rattle.load_devices.specs.declared.item.Item.{Item}
+use Rattle.load_devices.specs.declared.item.Item.TheVariants.{Sent, Heard as Came}
+use Rattle.load_devices.specs.declared.item.Kept.{Kept}
+use Rattle.load_devices.specs.Dialogue.{said, dialogue, heard_of}
+use Rattle.honest_line.specs.Trust.{IsTrustworthy}
+use Rattle.honest_line.proofs.Trusted.{trustworthy, trustworthy_unsaid}
+use Rattle.load_engine.specs.declared.stop.Stop.{Stop}
+use Rattle.load_engine.specs.declared.stop.Stop.TheVariants.{Ended, LineFailed, KeepFailed, TurnsOver}
+use Rattle.load_engine.specs.Belief.{IsBelievable, IsBelievableOver}
+use Rattle.load_engine.specs.Session.{Session, LacksKey, IsSaid}
+use Rattle.load_engine.proofs.Sessions.{gained_is}
+
+-- ---- what was heard in a dialogue
+
+heard_of_said : (key : Option ℕ) (items : List Item) → heard_of (said key ++ items) ≡ heard_of items
+heard_of_said None items = refl
+heard_of_said (Some key) items = refl
+
+heard_of-dialogue : (core : Core) (heard : List Heard) → heard_of (dialogue core heard) ≡ heard
+heard_of-dialogue core [] = refl
+heard_of-dialogue core (heard ∷ more) =
+    ap (λ rest. heard ∷ rest) (heard_of_said (move core heard).key (dialogue (move core heard).next more) ∙ heard_of-dialogue (move core heard).next more)
+
+heard_of_more : (items : List Item) (key : ℕ) → heard_of (items ++ Sent key ∷ []) ≡ heard_of items
+heard_of_more [] key = refl
+heard_of_more (Sent c ∷ items) key = heard_of_more items key
+heard_of_more (Came heard ∷ items) key = ap (λ rest. heard ∷ rest) (heard_of_more items key)
+
+-- ---- one loss more does no harm
+
+paid_more : (end : End) (memory : List ℕ) (patience spent lost : ℕ) → EndIsPaid end memory patience spent lost → EndIsPaid end memory patience spent (lost + 1)
+paid_more GaveUp memory patience spent lost h = omega (arith, h)
+paid_more Uncertain memory patience spent lost h = omega (arith, h)
+paid_more (NoWord a) memory patience spent lost h = h
+paid_more (WontHold a) memory patience spent lost h = h
+paid_more Loaded memory patience spent lost h = tt
+paid_more Started memory patience spent lost h = tt
+paid_more MaybeStarted memory patience spent lost h = tt
+
+cause_more : (phase : Phase) (memory : List ℕ) (patience spent lost : ℕ) → HasCause phase memory patience spent lost → HasCause phase memory patience spent (lost + 1)
+cause_more (Over end) memory patience spent lost h = paid_more end memory patience spent lost h
+cause_more Settle memory patience spent lost h = tt
+cause_more (Sync place) memory patience spent lost h = tt
+cause_more (Address visit place) memory patience spent lost h = tt
+cause_more (Slash visit) memory patience spent lost h = tt
+cause_more (Before visit) memory patience spent lost h = tt
+cause_more (Value visit value place) memory patience spent lost h = tt
+cause_more (Deposit value place) memory patience spent lost h = tt
+cause_more (Return reason place) memory patience spent lost h = tt
+cause_more (Start place) memory patience spent lost h = tt
+cause_more Go memory patience spent lost h = tt
+
+trusted_more : (old new : Core) (items : List Item) → IsTrustworthy old new items 0 → IsTrustworthy old new items 1
+trusted_more old new items trust machine now lost may honest =
+    let t = trust machine now lost may honest in
+    let none : lost + 0 ≡ lost = omega arith in record {
+      safe = t.safe;
+      last = t.last;
+      marked = t.marked;
+      spent = omega (arith, t.spent);
+      cause = cause_more new.phase now.memory new.patience new.spent lost (subst (HasCause new.phase now.memory new.patience new.spent) none t.cause);
+    }
+
+-- ---- sessions
+
+-- the whole dialogue was said
+whole_trusted : (old new : Core) (heard : List Heard) (items : List Item) → IsHost old → new ≡ led old heard → items ≡ dialogue old heard → IsTrustworthy old new items 0
+whole_trusted old new heard items host is all =
+    subst (λ core. IsTrustworthy old core items 0) (sym is) (subst (λ list. IsTrustworthy old (led old heard) list 0) (sym all) (trustworthy old heard host))
+
+-- all but its last key was said
+cut_trusted : (old new : Core) (heard : List Heard) (items : List Item) → IsHost old → new ≡ led old heard → LacksKey (dialogue old heard) items → IsTrustworthy old new items 1
+cut_trusted old new heard items host is lacks =
+    subst (λ core. IsTrustworthy old core items 1) (sym is) (trustworthy_unsaid old heard items lacks.0 host lacks.1)
+
+-- the dialogue of what was heard
+again_trusted : (old new : Core) (heard : List Heard) (items : List Item) → IsHost old → new ≡ led old heard → heard_of items ≡ heard → IsTrustworthy old new (dialogue old (heard_of items)) 0
+again_trusted old new heard items host is same = whole_trusted old new heard (dialogue old (heard_of items)) host is (ap (dialogue old) same)
+
+believable : (stop : Stop) (left : ℕ) (old new : Core) (heard : List Heard) (items : List Item) → IsHost old → new ≡ led old heard → IsSaid (Some stop) left (dialogue old heard) items → IsBelievable stop old new items
+believable (Ended end) left old new heard items host is s = whole_trusted old new heard items host is s
+believable TurnsOver left old new heard items host is s = whole_trusted old new heard items host is s.0
+believable (KeepFailed fault) left old new heard items host is s = cut_trusted old new heard items host is s
+believable (LineFailed fault) left old new heard items host is (inl s) =
+    (trusted_more old new items (whole_trusted old new heard items host is s.0), again_trusted old new heard items host is (ap heard_of s.0 ∙ heard_of-dialogue old heard))
+believable (LineFailed fault) left old new heard items host is (inr s) =
+    (cut_trusted old new heard items host is s, again_trusted old new heard items host is (sym (heard_of_more items s.0) ∙ (ap heard_of (sym s.1) ∙ heard_of-dialogue old heard)))
+
+pub session_believable : (turns : ℕ) (stop : Stop) (old new : Core) (line line' : Option (List Item)) (keep keep' : Option (List Kept)) → IsHost old → Session turns (Some stop) old new line line' keep keep' → IsBelievableOver stop old new line line'
+session_believable turns stop old new line line' keep keep' host s items gained =
+    subst (IsBelievable stop old new) (sym (gained_is line line' items s.said gained s.on_line)) (believable stop (turns - length s.heard) old new s.heard s.said host s.core s.items)

@@ -1,0 +1,5 @@
+pub mod Beliefs
+pub mod Marks
+pub mod News
+pub mod Sessions
+pub mod Turns

@@ -1,0 +1,110 @@
+-- `G` is sent only in the step that sets the mark.
+use Rattle.std.proofs.Common.{◌≡◌, ℕ, ◌+◌, Bool, true, false, nat_lt, length, Option, Some, None, refl, arith}
+use Rattle.octal.specs.Octal.{digit_of}
+use Rattle.tape_image.specs.Word.{WordValue, merged}
+use Rattle.host_core.specs.declared.heard.Heard.{Heard}
+use Rattle.host_core.specs.declared.heard.Heard.TheVariants.{Got, Quiet}
+use Rattle.host_core.specs.declared.phase.Phase.{Phase}
+use Rattle.host_core.specs.declared.phase.Phase.TheVariants.{Settle, Sync, Address, Slash, Before, Value, Deposit, Return, Start, Go, Ended}
+use Rattle.host_core.specs.declared.phase.Visit.{Visit}
+use Rattle.host_core.specs.declared.phase.Visit.TheVariants.{Look, Check}
+use Rattle.host_core.specs.declared.phase.Reason.{Reason}
+use Rattle.host_core.specs.declared.phase.Reason.TheVariants.{Store, Close}
+use Rattle.host_core.specs.declared.phase.End.TheVariants.{GaveUp}
+use Rattle.host_core.specs.declared.turn.Turn.{Turn}
+use Rattle.host_core.specs.declared.turn.Turn.TheVariants.{Listen, Key, Verified, ReadBack, Next, Mark, Stop, Stray, Timeout}
+use Rattle.host_core.specs.Console.{resynchronise, go}
+use Rattle.host_core.specs.Core.{Core, word_under_way, start_of}
+use Rattle.host_core.specs.Host.{IsHost}
+use Rattle.host_core.specs.PhaseTable.{Move, move, listens, sends, taken, turn_of, hears, waits, differs, returned, after_words}
+use Rattle.host_core.proofs.Frame.{on_move, silent}
+use Rattle.host_core.proofs.Walk.{sync_walk, address_walk, slash_walk, before_walk, value_walk, deposit_walk, return_walk, start_walk, go_walk}
+
+-- a turn that sends a character as it stands sends no `G`
+abbrev IsNoGo : Turn → Type 0
+IsNoGo (Key key phase) = key ≡ go → ⊥
+IsNoGo _ = Unit {0}
+
+no_digit : (w k : ℕ) → digit_of w k ≡ go → ⊥
+no_digit w k e = omega arith
+
+differs_no_go : (word : WordValue) (visit : Visit) (value : ℕ) → IsNoGo (differs word visit value)
+differs_no_go word Look value = no_digit (merged word value) 1
+differs_no_go word Check value = tt
+
+returned_no_go : (reason : Reason) → IsNoGo (returned reason)
+returned_no_go Store = tt
+returned_no_go Close = tt
+
+hears_no_go : (word : WordValue) (start : ℕ) (phase : Phase) (c : ℕ) → IsNoGo (hears word start phase c)
+hears_no_go word start Settle c = tt
+hears_no_go word start (Sync place) c = sync_walk IsNoGo place c tt (λ _ _. tt) tt
+hears_no_go word start (Address visit place) c = address_walk IsNoGo word.address visit place c tt (λ _. no_digit word.address (place + 1)) (λ e. omega arith)
+hears_no_go word start (Slash visit) c = slash_walk IsNoGo visit c tt tt
+hears_no_go word start (Before visit) c = before_walk IsNoGo word.address visit c tt tt tt (λ _ _. tt)
+hears_no_go word start (Value visit value place) c = value_walk IsNoGo word visit value place c tt (λ _ _ _. tt) (λ _ _ _. tt) (λ _ _ _. tt) (λ _. differs_no_go word visit value)
+hears_no_go word start (Deposit value place) c = deposit_walk IsNoGo value place c tt (λ _. no_digit value (place + 1)) (λ e. omega arith)
+hears_no_go word start (Return reason place) c = return_walk IsNoGo reason place c tt (λ _ _. tt) (returned_no_go reason)
+hears_no_go word start (Start place) c = start_walk IsNoGo start place c tt (λ _. no_digit start (place + 1)) (λ _. tt)
+hears_no_go word start Go c = go_walk IsNoGo c tt tt
+hears_no_go word start (Ended end) c = tt
+
+waits_no_go : (phase : Phase) → IsNoGo (waits phase)
+waits_no_go Settle = λ e. omega arith
+waits_no_go (Sync place) = tt
+waits_no_go (Address visit place) = tt
+waits_no_go (Slash visit) = tt
+waits_no_go (Before visit) = tt
+waits_no_go (Value visit value place) = tt
+waits_no_go (Deposit value place) = tt
+waits_no_go (Return reason place) = tt
+waits_no_go (Start place) = tt
+waits_no_go Go = tt
+waits_no_go (Ended end) = tt
+
+turn_no_go : (core : Core) (heard : Heard) → IsNoGo (turn_of core heard)
+turn_no_go core (Got c) = hears_no_go (word_under_way core) (start_of core) core.phase c
+turn_no_go core Quiet = waits_no_go core.phase
+
+-- the move sets the mark if it sends `G`
+abbrev Marks : Move → Type 0
+Marks m = m.key ≡ Some go → m.next.going ≡ true
+
+marks_none : (m : Move) → m.key ≡ None → Marks m
+marks_none m none e = absurd (cc)
+
+marks_other : (m : Move) (key : ℕ) → m.key ≡ Some key → (key ≡ go → ⊥) → Marks m
+marks_other m key is other e = absurd (other (cc))
+
+after_words_marks : (core : Core) (start : Option ℕ) → Marks (after_words core start)
+after_words_marks core (Some start) = marks_other (after_words core (Some start)) (digit_of start 1) refl (no_digit start 1)
+after_words_marks core None = marks_none (after_words core None) refl
+
+taken_marks : (core : Core) (turn : Turn) → IsNoGo turn → Marks (taken core turn)
+taken_marks core (Listen phase) n = marks_none (listens core phase) refl
+taken_marks core (Key key phase) n = marks_other (sends core key phase) key refl n
+taken_marks core Verified n = marks_other (taken core Verified) 13 refl (λ e. omega arith)
+taken_marks core ReadBack n = marks_other (taken core ReadBack) (digit_of (word_under_way core).address 1) refl (no_digit (word_under_way core).address 1)
+taken_marks core Next n =
+    on_move Marks (nat_lt core.verified (length core.plan.words)) (sends core (digit_of (word_under_way core).address 1) (Address Look 1)) (after_words core core.plan.start)
+    (λ _. marks_other (sends core (digit_of (word_under_way core).address 1) (Address Look 1)) (digit_of (word_under_way core).address 1) refl (no_digit (word_under_way core).address 1))
+    (λ _. after_words_marks core core.plan.start)
+taken_marks core Mark n = λ _. refl
+taken_marks core (Stop end) n = marks_none (listens core (Ended end)) refl
+taken_marks core Stray n =
+    on_move Marks (nat_lt core.spent core.patience) (listens (record core { spent = core.spent + 1 }) Settle) (listens core (Ended GaveUp))
+    (λ _. marks_none (listens (record core { spent = core.spent + 1 }) Settle) refl)
+    (λ _. marks_none (listens core (Ended GaveUp)) refl)
+taken_marks core Timeout n =
+    on_move Marks (nat_lt core.spent core.patience) (sends (record core { spent = core.spent + 1 }) resynchronise (Sync 0)) (listens core (Ended GaveUp))
+    (λ _. marks_other (sends (record core { spent = core.spent + 1 }) resynchronise (Sync 0)) 90 refl (λ e. omega arith))
+    (λ _. marks_none (listens core (Ended GaveUp)) refl)
+
+not_set : (going : Bool) → (going ≡ true → ⊥) → going ≡ false
+not_set true is = absurd (is refl)
+not_set false is = refl
+
+-- where `G` is sent, no mark stood and one stands now
+pub go_marks : (core : Core) (heard : Heard) → IsHost core → (move core heard).key ≡ Some go → (core.going ≡ false) × ((move core heard).next.going ≡ true)
+go_marks core heard h e =
+    (not_set core.going (λ set. let none : (move core heard).key ≡ None = (silent core heard h set).key in absurd (cc)), taken_marks core (turn_of core heard) (turn_no_go core heard) e)

@@ -1,0 +1,84 @@
+use Rattle.std.proofs.Common.{◌≡◌, ◌+◌, Some, None, refl, ap, subst, ◌∙◌, arith}
+use Rattle.host_core.proofs.Lives.{led_plan, led_patience}
+use Rattle.load_engine.proofs.Sessions.{session_none, session_join, session_wider, session_marks, session_ended, session_over}
+use Rattle.load_engine.specs.Session.{Session}
+use Rattle.load_engine.proofs.Beliefs.{session_believable}
+use Rattle.load_engine.proofs.driving.drive.Goals as goal
+use Rattle.load_engine.proofs.driving.drive.Goals.{in-Some-end, in-None}
+
+pub loop-init : goal.loop-init
+loop-init g c = record {
+  session = session_none c.args.core (g.L.Line.told c.args.line.now) (g.K.Keep.told c.args.keep.now);
+  counted = (refl, refl);
+  first = c.end-end.ensures.kept;
+  kept = c.end-end.ensures.kept;
+  end = c.end-end.ensures.value;
+}
+
+pub returns-in-Some-clause-mark_first : goal.returns-in-Some-clause-mark_first
+returns-in-Some-clause-mark_first g c = session_marks _ _ _ _ _ _ _ _ c.loop.invariant.session
+
+pub returns-in-Some-clause-turns : goal.returns-in-Some-clause-turns
+returns-in-Some-clause-turns g c = session_ended c.in-Some.end c.loop.counter c.args.turns c.args.core c.loop.core (g.L.Line.told c.args.line.now) (g.L.Line.told c.loop.line) (g.K.Keep.told c.args.keep.now) (g.K.Keep.told c.loop.keep) c.loop.auto.counter-end c.loop.invariant.session
+
+pub returns-in-Some-clause-honest : goal.returns-in-Some-clause-honest
+returns-in-Some-clause-honest g c = session_believable _ _ _ _ _ _ _ _ c.loop.invariant.first (returns-in-Some-clause-turns g c)
+
+pub returns-in-Some-clause-same_plan : goal.returns-in-Some-clause-same_plan
+returns-in-Some-clause-same_plan g c = let s = c.loop.invariant.session in ap (λ core. core.plan) s.core ∙ led_plan c.args.core s.heard
+
+pub returns-in-Some-clause-same_patience : goal.returns-in-Some-clause-same_patience
+returns-in-Some-clause-same_patience g c = let s = c.loop.invariant.session in ap (λ core. core.patience) s.core ∙ led_patience c.args.core s.heard
+
+pub returns-in-Err-clause-turns : goal.returns-in-Err-clause-turns
+returns-in-Err-clause-turns g c =
+    let inv = c.loop.invariant in
+    session_wider c.in-Err.stop (c.loop.counter + 1) c.args.turns c.args.core c.turn.new.core (g.L.Line.told c.args.line.now) (g.L.Line.told c.turn.new.line) (g.K.Keep.told c.args.keep.now) (g.K.Keep.told c.turn.new.keep)
+    c.in-Err.ensures.device (omega (arith, c.loop-test.true))
+    (session_join c.loop.counter 1 (Some c.in-Err.stop) c.args.core c.loop.core c.turn.new.core (g.L.Line.told c.args.line.now) (g.L.Line.told c.loop.line) (g.L.Line.told c.turn.new.line) (g.K.Keep.told c.args.keep.now) (g.K.Keep.told c.loop.keep) (g.K.Keep.told c.turn.new.keep)
+    inv.first inv.kept inv.session c.in-Err.ensures.turn)
+
+pub returns-in-Err-clause-mark_first : goal.returns-in-Err-clause-mark_first
+returns-in-Err-clause-mark_first g c = session_marks _ _ _ _ _ _ _ _ (returns-in-Err-clause-turns g c)
+
+pub returns-in-Err-clause-honest : goal.returns-in-Err-clause-honest
+returns-in-Err-clause-honest g c = session_believable _ _ _ _ _ _ _ _ c.loop.invariant.first (returns-in-Err-clause-turns g c)
+
+pub returns-in-Err-clause-same_plan : goal.returns-in-Err-clause-same_plan
+returns-in-Err-clause-same_plan g c = let s = returns-in-Err-clause-turns g c in ap (λ core. core.plan) s.core ∙ led_plan c.args.core s.heard
+
+pub returns-in-Err-clause-same_patience : goal.returns-in-Err-clause-same_patience
+returns-in-Err-clause-same_patience g c = let s = returns-in-Err-clause-turns g c in ap (λ core. core.patience) s.core ∙ led_patience c.args.core s.heard
+
+pub loop-preserved : goal.loop-preserved
+loop-preserved g c =
+    let inv = c.loop.invariant in
+    let turn = c.in_default-turn.ensures in record {
+      session = session_join c.loop.counter 1 None c.args.core c.loop.core c.turn.new.core (g.L.Line.told c.args.line.now) (g.L.Line.told c.loop.line) (g.L.Line.told c.turn.new.line) (g.K.Keep.told c.args.keep.now) (g.K.Keep.told c.loop.keep) (g.K.Keep.told c.turn.new.keep)
+          inv.first inv.kept inv.session turn.turn;
+      counted = (turn.counted.0 ∙ inv.counted.0, turn.counted.1 ∙ inv.counted.1);
+      first = inv.first;
+      kept = turn.kept;
+      end = c.end-end-in-loop.ensures.value;
+    }
+
+pub returns-clause-mark_first : goal.returns-clause-mark_first
+returns-clause-mark_first g c = session_marks _ _ _ _ _ _ _ _ c.loop.invariant.session
+
+pub returns-clause-turns : goal.returns-clause-turns
+returns-clause-turns g c =
+    let all : c.loop.counter ≡ c.args.turns = omega (arith, c.loop-test.false, c.loop.auto.counter-end) in
+    elim c.match-end-2.branch [
+      | in-Some-end w ↦ rw w.stop-is (session_ended w.in-Some-end.end c.loop.counter c.args.turns c.args.core c.loop.core (g.L.Line.told c.args.line.now) (g.L.Line.told c.loop.line) (g.K.Keep.told c.args.keep.now) (g.K.Keep.told c.loop.keep) c.loop.auto.counter-end c.loop.invariant.session)
+      | in-None w ↦ rw w.stop-is (session_over c.args.turns c.args.core c.loop.core (g.L.Line.told c.args.line.now) (g.L.Line.told c.loop.line) (g.K.Keep.told c.args.keep.now) (g.K.Keep.told c.loop.keep)
+          (subst (λ n. Session n None c.args.core c.loop.core (g.L.Line.told c.args.line.now) (g.L.Line.told c.loop.line) (g.K.Keep.told c.args.keep.now) (g.K.Keep.told c.loop.keep)) all c.loop.invariant.session))
+    ]
+
+pub returns-clause-honest : goal.returns-clause-honest
+returns-clause-honest g c = session_believable _ _ _ _ _ _ _ _ c.loop.invariant.first (returns-clause-turns g c)
+
+pub returns-clause-same_plan : goal.returns-clause-same_plan
+returns-clause-same_plan g c = let s = c.loop.invariant.session in ap (λ core. core.plan) s.core ∙ led_plan c.args.core s.heard
+
+pub returns-clause-same_patience : goal.returns-clause-same_patience
+returns-clause-same_patience g c = let s = c.loop.invariant.session in ap (λ core. core.patience) s.core ∙ led_patience c.args.core s.heard

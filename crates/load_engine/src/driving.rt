@@ -1,0 +1,120 @@
+ghost use Rattle.std.specs.Prelude.{◌≡◌, ℕ, ◌≤◌, [], ◌∷◌, None, Some, length, option_to_list, IsSome, IfErr, OnOk, OnErr};
+ghost use Rattle.host_core.specs.Bound.{character_bound};
+ghost use Rattle.host_core.specs.Console.{go};
+ghost use Rattle.host_core.specs.Core.{ended};
+ghost use Rattle.host_core.specs.Host.{IsHost};
+ghost use Rattle.host_core.specs.PhaseTable.{move};
+ghost use Rattle.load_devices.specs.Dialogue.{news_between};
+ghost use Rattle.load_devices.specs.Failures.{count_after, fault_of};
+ghost use Rattle.load_devices.specs.Told.{Gains, Keeps};
+ghost use Rattle.load_engine.specs.Belief.{IsBelievableOver};
+ghost use Rattle.load_engine.specs.Failing.{Counts, NamesFault};
+ghost use Rattle.load_engine.specs.Session.{Session, KeepsMarkFirst, TellsEnd, IsFailure};
+
+use crate::stop::Stop;
+use host_core::{Heard, HostCore, Progress};
+use load_devices::{Keep, KeepFault, Kept, Line};
+
+/// Lends the core to the line and the keeper for at most so many turns.
+///
+/// Before each turn, and after the last, an end of the core stops the engine. In a turn one thing is
+/// heard, the core takes its step, what became verified and then the start mark are kept, and last
+/// the character that the step answered is sent. The first failure stops the engine, and nothing
+/// after it in that turn is done. The core that comes back has taken the step.
+pub fn drive<L: Line, K: Keep>(
+    mut core: HostCore,
+    line: &mut L,
+    keep: &mut K,
+    turns: u64,
+) -> (HostCore, Stop)
+    ensures turns { Session turns (Some result.1) core result.0 (L.told line.old) (L.told line.new) (K.told keep.old) (K.told keep.new) }
+    ensures end { TellsEnd result.1 result.0 }
+    ensures counted { Counts (Some result.1) (L.fault_count line.old) (L.fault_count line.new) (K.fault_count keep.old) (K.fault_count keep.new) }
+    ensures fault { NamesFault (Some result.1) (L.last_fault line.new) (K.last_fault keep.new) }
+    ensures mark_first { KeepsMarkFirst (L.told line.old) (L.told line.new) (K.told keep.old) (K.told keep.new) }
+    ensures honest { IsBelievableOver result.1 core result.0 (L.told line.old) (L.told line.new) }
+    ensures same_plan { result.0.plan ≡ core.plan }
+    ensures same_patience { result.0.patience ≡ core.patience }
+    ensures bound { result.0.sent ≤ character_bound (length result.0.plan.words) result.0.patience }
+    ensures kept { IsHost result.0 }
+{
+    let mut end = core.end();
+    for _ in 0..turns {
+        if let Some(end) = end {
+            return (core, Stop::Ended(end));
+        }
+        if let Err(stop) = turn(&mut core, line, keep) {
+            return (core, stop);
+        }
+        end = core.end();
+    }
+    let stop = match end {
+        Some(end) => Stop::Ended(end),
+        None => Stop::TurnsOver,
+    };
+    (core, stop)
+}
+
+// One turn of a core that has no end.
+fn turn<L: Line, K: Keep>(core: &mut HostCore, line: &mut L, keep: &mut K) -> Result<(), Stop>
+    requires goes_on { ended core.old.phase ≡ None }
+    requires kept { IsHost core.old }
+    ensures turn { Session 1 (fault_of result) core.old core.new (L.told line.old) (L.told line.new) (K.told keep.old) (K.told keep.new) }
+    ensures counted { Counts (fault_of result) (L.fault_count line.old) (L.fault_count line.new) (K.fault_count keep.old) (K.fault_count keep.new) }
+    ensures fault { NamesFault (fault_of result) (L.last_fault line.new) (K.last_fault keep.new) }
+    ensures device { IfErr result IsFailure }
+    ensures kept { IsHost core.new }
+{
+    let heard = line.hear()?;
+    let Errands { news, key } = step(core, heard);
+    if let Some(news) = news {
+        keep_news(keep, news)?;
+    }
+    if let Some(key) = key {
+        line.send(key)?;
+    }
+    Ok(())
+}
+
+/// What a step of the core gives the devices to do.
+#[derive(Clone, Copy)]
+struct Errands {
+    news: Option<Kept>,
+    key: Option<u8>,
+}
+
+// The core takes a step.
+fn step(core: &mut HostCore, heard: Heard) -> Errands
+    requires kept { IsHost core.old }
+    ensures next { core.new ≡ (move core.old heard).next }
+    ensures key { result.key ≡ (move core.old heard).key }
+    ensures news { option_to_list result.news ≡ news_between core.old core.new }
+    ensures news_with_key { IsSome result.news → IsSome result.key }
+    ensures mark_with_start { result.key ≡ Some go → result.news ≡ Some Kept.Go }
+    ensures kept { IsHost core.new }
+{
+    let before = core.progress();
+    let key = core.step(heard);
+    let Progress { verified, going } = core.progress();
+    let news = if going && !before.going {
+        Some(Kept::Go)
+    } else if verified > before.verified {
+        Some(Kept::Word(core.plan().words()[before.verified as usize]))
+    } else {
+        None
+    };
+    Errands { news, key }
+}
+
+// Has one thing kept.
+fn keep_news<K: Keep>(keep: &mut K, news: Kept) -> Result<(), KeepFault>
+    ensures kept { OnOk result (Gains (K.told keep.old) (K.told keep.new) (news ∷ [])) }
+    ensures not_kept { OnErr result (Keeps (K.told keep.old) (K.told keep.new)) }
+    ensures counted { K.fault_count keep.new ≡ count_after (K.fault_count keep.old) result }
+    ensures fault { K.last_fault keep.new ≡ fault_of result }
+{
+    match news {
+        Kept::Word(word) => keep.add(word),
+        Kept::Go => keep.mark(),
+    }
+}

@@ -1,0 +1,15 @@
+pub mod Cuts
+pub mod Runs
+pub mod Holdings
+pub mod Steps
+pub mod Readings
+pub mod Sound
+pub mod SoFar
+pub mod Joined
+pub mod Fronts
+pub mod Written
+pub mod RecordLaws
+pub mod FirstLines
+pub mod Writing
+pub mod Pieces
+pub mod Keeping

@@ -1,0 +1,48 @@
+-- A keeper that writes a record of version 2, as one value, and what its calls do to it.
+use Rattle.std.specs.Prelude.{◌≡◌, ℕ, ◌+◌, ◌-◌, ◌^◌, ◌<◌, min, nat_lt, if◌then◌else◌, false, List, ◌++◌, Option, Some, None}
+use Rattle.std.specs.Io.KnownBytes.{Appends, Keeps}
+use Rattle.tape_image.specs.Plan.{PlanValue}
+use Rattle.load_devices.specs.declared.fault.KeepFault.{KeepFault}
+use Rattle.load_devices.specs.declared.fault.KeepFault.TheVariants.{Write}
+use Rattle.load_record.specs.declared.version.Version.TheVariants.{Second}
+use Rattle.load_record.specs.declared.run.OpenRun.{OpenRun}
+use Rattle.load_record.specs.RecordText.{open_run, record_text}
+
+-- what the writer holds, where it tells its bytes; the run line that stands open; and how many calls have failed
+pub record Keeper : Type 0 where
+  pub text : Option (List ℕ)
+  pub run : Option OpenRun
+  pub failures : ℕ
+
+-- the fault of the last call: once a call has failed, each call fails
+abbrev pub fault_now : ℕ → Option KeepFault
+fault_now failures = if nat_lt 0 failures then Some Write else None
+
+-- a text was written but for what is left of it, and nothing else was
+pub record WritesAllBut (before after : Option (List ℕ)) (text left : List ℕ) : Type 0 where
+  pub written : List ℕ
+  pub whole : text ≡ written ++ left
+  pub appended : Appends before after written
+
+-- a front of the text was written and nothing else
+abbrev pub WritesFront : Option (List ℕ) → Option (List ℕ) → List ℕ → Type 0
+WritesFront before after text = (left : List ℕ) × WritesAllBut before after text left
+
+-- a call that succeeds: none has failed, the text was written, and this run line stands open now
+pub record Wrote (before after : Keeper) (text : List ℕ) (run : Option OpenRun) : Type 0 where
+  pub sound : before.failures ≡ 0
+  pub appended : Appends before.text after.text text
+  pub now_open : after.run ≡ run
+  pub no_failure : after.failures ≡ 0
+
+-- a call that fails is counted; it has written a front of its text, and nothing where a call had failed before
+pub record Failed (before after : Keeper) (text : List ℕ) : Type 0 where
+  pub counted : after.failures ≡ min (before.failures + 1) (2 ^ 64 - 1)
+  pub part : WritesFront before.text after.text text
+  pub silent : 0 < before.failures → Keeps before.text after.text
+
+-- the writer holds the record of the first k words of a plan and nothing else, and the keeper knows which run line
+-- stands open at its end
+pub record HoldsRecord (keeper : Keeper) (plan : PlanValue) (k : ℕ) : Type 0 where
+  pub written : keeper.text ≡ Some (record_text Second plan k false)
+  pub knows : keeper.run ≡ open_run Second plan k

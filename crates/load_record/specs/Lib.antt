@@ -1,0 +1,5 @@
+pub mod Lines
+pub mod RecordText
+pub mod Reading
+pub mod Law
+pub mod Keeper

@@ -1,0 +1,121 @@
+-- What a text says as the record of a plan's load.
+use Rattle.std.specs.Prelude.{◌≡◌, ◌≢◌, ℕ, ◌+◌, ◌*◌, ◌<◌, ◌≤◌, ◌⊎◌, Bool, true, false, ◌&&◌, ◌==◌, if◌then◌else◌, nat_eq, List, [], ◌∷◌, ◌++◌, length, take, drop, IsSome, Result, Ok, Err}
+use Rattle.std.specs.List.{slice_split, starts_with}
+use Rattle.octal.specs.Octal.{octal_text}
+use Rattle.tape_image.specs.Word.{WordValue}
+use Rattle.tape_image.specs.Plan.{PlanValue}
+use Rattle.host_core.specs.declared.progress.Progress.{Progress}
+use Rattle.load_record.specs.declared.version.Version.{Version}
+use Rattle.load_record.specs.declared.version.Version.TheVariants.{First, Second}
+use Rattle.load_record.specs.declared.run.OpenRun.{OpenRun}
+use Rattle.load_record.specs.declared.reader.RecordError.{RecordError}
+use Rattle.load_record.specs.declared.reader.RecordError.TheVariants.{NotARecord, Foreign}
+use Rattle.load_record.specs.Lines.{header, mark_line, HoldsWords, value_text, run_at, longer, goes_on}
+
+-- the character is LF
+abbrev pub is_line_end : ℕ → Bool
+is_line_end c = c == 10
+
+-- the text is these lines, LF behind each, and then a torn piece without LF
+pub record IsCut (text : List ℕ) (lines : List (List ℕ)) (torn : List ℕ) : Type 0 where
+  pub pieces : slice_split is_line_end text ≡ lines ++ torn ∷ []
+
+-- how many words a run line has once each of the next words is added whose value stands next in the text
+abbrev pub held : OpenRun → List WordValue → List ℕ → ℕ
+held run [] text = run.count
+held run (w ∷ ws) text =
+    if goes_on run w && starts_with nat_eq text (value_text w) then held (longer run) ws (drop 7 text) else run.count
+
+-- how many of the next words a torn piece holds. In version 2 it may be the beginning of a run line: each whole
+-- value behind the first word's address counts, whatever follows it
+abbrev pub torn_words : Version → List WordValue → List ℕ → ℕ
+torn_words First next torn = 0
+torn_words Second [] torn = 0
+torn_words Second (w ∷ ws) torn =
+    if starts_with nat_eq torn (octal_text w.address) then held (run_at w.address) (w ∷ ws) (drop 6 torn) else 0
+
+-- how many of the next words a whole run line holds: it is as long as their text
+abbrev pub run_words : List WordValue → List ℕ → ℕ
+run_words next line = if length line == 6 + 7 * torn_words Second next line then torn_words Second next line else 0
+
+-- of the words that come next the line holds so many, and 0 where it holds none
+pub record HoldsCount (version : Version) (line : List ℕ) (next : List WordValue) (count : ℕ) : Type 0 where
+  pub few : count ≤ length next
+  pub holds : 0 < count → HoldsWords version line (take count next)
+  pub only : (words later : List WordValue) → next ≡ words ++ later → HoldsWords version line words → count ≡ length words
+
+-- a line adds the plan's next words to a progress
+pub record AddsWords (version : Version) (plan : PlanValue) (line : List ℕ) (before after : Progress) : Type 0 where
+  pub words : List WordValue
+  pub later : List WordValue
+  pub next : drop before.verified plan.words ≡ words ++ later
+  pub holds : HoldsWords version line words
+  pub after_is : after ≡ record { verified = before.verified + length words; going = before.going }
+
+-- the mark may come: none came before, all words have come, and the plan has a start
+pub record IsMarkDue (plan : PlanValue) (before : Progress) : Type 0 where
+  pub no_mark : before.going ≡ false
+  pub all : before.verified ≡ length plan.words
+  pub has_start : IsSome plan.start
+
+-- a line adds the mark to a progress
+pub record AddsMark (plan : PlanValue) (line : List ℕ) (before after : Progress) : Type 0 where
+  pub spelled : line ≡ mark_line
+  pub due : IsMarkDue plan before
+  pub after_is : after ≡ record { verified = before.verified; going = true }
+
+-- a line adds something to a progress
+abbrev pub Adds : Version → PlanValue → List ℕ → Progress → Progress → Type 0
+Adds version plan line before after = AddsWords version plan line before after ⊎ AddsMark plan line before after
+
+-- lines lead from one progress to another, one after the other
+abbrev pub Lead : Version → PlanValue → List (List ℕ) → Progress → Progress → Type 0
+Lead version plan [] before after = after ≡ before
+Lead version plan (line ∷ lines) before after =
+    (next : Progress) × Adds version plan line before next × Lead version plan lines next after
+
+-- no word and no mark
+abbrev pub nothing : Progress
+nothing = record { verified = 0; going = false }
+
+-- the text has no line
+pub record IsEmptyRecord (text : List ℕ) (progress : Progress) : Type 0 where
+  pub cut : IsCut text [] text
+  pub none : progress ≡ nothing
+
+-- the text is a header, lines that lead from nothing on, and a torn piece, whose whole words count
+pub record IsRecord (plan : PlanValue) (text : List ℕ) (progress : Progress) : Type 0 where
+  pub version : Version
+  pub lines : List (List ℕ)
+  pub torn : List ℕ
+  pub reached : Progress
+  pub cut : IsCut text (header version ∷ lines) torn
+  pub leads : Lead version plan lines nothing reached
+  pub counted : progress ≡ record { verified = reached.verified + torn_words version (drop reached.verified plan.words) torn; going = reached.going }
+
+-- the first line is no header
+pub record HasNoHeader (text : List ℕ) : Type 0 where
+  pub line : List ℕ
+  pub later : List (List ℕ)
+  pub torn : List ℕ
+  pub cut : IsCut text (line ∷ later) torn
+  pub wrong : (version : Version) → line ≢ header version
+
+-- the line of this number, counted from 1, is the first that adds nothing to what the lines before it lead to
+pub record IsForeign (plan : PlanValue) (text : List ℕ) (number : ℕ) : Type 0 where
+  pub version : Version
+  pub lines : List (List ℕ)
+  pub line : List ℕ
+  pub later : List (List ℕ)
+  pub torn : List ℕ
+  pub reached : Progress
+  pub cut : IsCut text (header version ∷ (lines ++ line ∷ later)) torn
+  pub leads : Lead version plan lines nothing reached
+  pub wrong : (after : Progress) → Adds version plan line reached after → ⊥
+  pub number_is : number ≡ length lines + 2
+
+-- what a text of at most 1,048,576 bytes says; a longer one is no record
+abbrev pub Says : PlanValue → List ℕ → Result Progress RecordError → Type 0
+Says plan text (Ok progress) = (length text ≤ 1048576) × (IsEmptyRecord text progress ⊎ IsRecord plan text progress)
+Says plan text (Err NotARecord) = (1048576 < length text) ⊎ ((length text ≤ 1048576) × HasNoHeader text)
+Says plan text (Err (Foreign number)) = (length text ≤ 1048576) × IsForeign plan text number

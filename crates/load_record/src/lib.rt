@@ -1,0 +1,25 @@
+//! The record of a load: which words of a plan are verified, as a text that outlives the host.
+//!
+//! `read_record` reads a record of either version against a plan, also one that was cut off in the
+//! middle, and `FileKeep` writes one, word for word. The contract of the reader gives each answer
+//! exactly; above it stands the law that a restart rests on, `cut_record`: a record that is cut at
+//! any byte is read as no more words than were written, and with the mark only where it stood.
+//!
+//! The text is described in docs/RECORD.md. Nothing here takes memory. The command `load` of
+//! `load_command` uses it.
+#![tactic(auto)]
+
+mod file_keep;
+mod law;
+mod line;
+mod output;
+#[cfg(test)]
+mod plans;
+mod reader;
+mod run;
+mod version;
+
+pub use file_keep::FileKeep;
+pub use law::{cut_record, first_lines, whole_record};
+pub use reader::{RECORD_LIMIT, RecordError, read_record};
+pub use version::Version;

@@ -1,0 +1,59 @@
+//! What the lines of a record look like, by the word.
+ghost use Rattle.std.specs.Prelude.{◌≡◌, [], ◌∷◌, ◌++◌};
+ghost use Rattle.load_record.specs.Lines.{half_line, run_text, value_text, word_fields};
+
+use octal::oct6;
+use tape_image::Word;
+
+/// A space and the word's value: what a run line has for each of its words.
+pub(crate) fn value_text(word: Word) -> [u8; 7]
+    ensures { result ≡ value_text word }
+{
+    let [a, b, c, d, e, f] = oct6(word.value());
+    [b' ', a, b, c, d, e, f]
+}
+
+/// The word's address, mask and value, one space between.
+pub(crate) fn word_fields(word: Word) -> [u8; 20]
+    ensures { result ≡ word_fields word }
+{
+    let [a, b, c, d, e, f] = oct6(word.address());
+    let [g, h, i, j, k, l] = oct6(word.mask());
+    let [m, n, o, p, q, r] = oct6(word.value());
+    [
+        a, b, c, d, e, f, b' ', g, h, i, j, k, l, b' ', m, n, o, p, q, r,
+    ]
+}
+
+/// The line of a word of which the tape has one byte alone, in version 2.
+pub(crate) fn half_line(word: Word) -> [u8; 22]
+    ensures { result ≡ half_line word }
+{
+    let [a, b, c, d, e, f] = oct6(word.address());
+    let [g, h, i, j, k, l] = oct6(word.mask());
+    let [m, n, o, p, q, r] = oct6(word.value());
+    [
+        b'H', b' ', a, b, c, d, e, f, b' ', g, h, i, j, k, l, b' ', m, n, o, p, q, r,
+    ]
+}
+
+/// LF, and then a run line that begins: the word's address, a space and its value.
+pub(crate) fn ended_run_text(word: Word) -> [u8; 14]
+    ensures { result ≡ 10 ∷ run_text (word ∷ []) }
+{
+    let [a, b, c, d, e, f] = oct6(word.address());
+    let [g, h, i, j, k, l] = oct6(word.value());
+    [b'\n', a, b, c, d, e, f, b' ', g, h, i, j, k, l]
+}
+
+/// LF, and then the ended line of a word of which the tape has one byte alone.
+pub(crate) fn ended_half_line(word: Word) -> [u8; 24]
+    ensures { result ≡ 10 ∷ (half_line word ++ 10 ∷ []) }
+{
+    let [a, b, c, d, e, f] = oct6(word.address());
+    let [g, h, i, j, k, l] = oct6(word.mask());
+    let [m, n, o, p, q, r] = oct6(word.value());
+    [
+        b'\n', b'H', b' ', a, b, c, d, e, f, b' ', g, h, i, j, k, l, b' ', m, n, o, p, q, r, b'\n',
+    ]
+}

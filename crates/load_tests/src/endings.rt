@@ -1,0 +1,352 @@
+//! How loads end: the status, the report, the line on standard error, and what the record then holds.
+
+use crate::simulated::{AMPLE, Setting, System};
+use crate::tapes::{NO_WORD, ONE_WORD, TWO_WORDS};
+use failing_devices::{BrokenOutput, UnflushedOutput};
+use requests::{Load, Request, Status, attempt};
+use std::alloc::Global;
+use std::fs;
+use std::io::{ErrorKind, Stderr};
+use std::test::Fail;
+
+/// No terminal looks on.
+const NOBODY: Option<&Stderr> = None;
+
+/// Whole records of the smallest tape, in both versions.
+const WHOLE: &str = "LDAODT 1\n001000 177777 011064\nG\n";
+
+const WHOLE_ANEW: &str = "LDAODT 2\n001000 011064\nG\n";
+
+/// A load, and what must come of it.
+#[derive(Clone, Copy, Debug)]
+struct Row {
+    name: &'static str,
+    tape: &'static [u8],
+    setting: Setting,
+    /// The record's name, and what it holds before and after, where it is there.
+    record: &'static str,
+    before: Option<&'static str>,
+    after: Option<&'static str>,
+    connections: u32,
+    status: Status,
+    out: &'static str,
+    err: &'static str,
+}
+
+/// A whole load of the smallest tape.
+const STARTED: Row = Row {
+    name: "a whole load",
+    tape: &ONE_WORD,
+    setting: AMPLE,
+    record: "a.record",
+    before: None,
+    after: Some(WHOLE_ANEW),
+    connections: 1,
+    status: Status::Done,
+    out: "sent 30 spent 0 verified 1 of 1\nend Started\n",
+    err: "",
+};
+
+/// A record of the smallest tape's word, without the mark.
+const VERIFIED: &str = "LDAODT 1\n001000 177777 011064\n";
+
+const ROWS: [Row; 15] = [
+    STARTED,
+    Row {
+        name: "nothing to do",
+        tape: &NO_WORD,
+        after: None,
+        connections: 0,
+        out: "sent 0 spent 0 verified 0 of 0\nend Loaded\n",
+        ..STARTED
+    },
+    Row {
+        name: "a start that was marked before",
+        before: Some(WHOLE),
+        after: Some(WHOLE),
+        connections: 0,
+        status: Status::Uncertain,
+        out: "sent 0 spent 0 verified 1 of 1\nend MaybeStarted\n",
+        ..STARTED
+    },
+    Row {
+        name: "no record",
+        before: Some("hello\n"),
+        after: Some("hello\n"),
+        connections: 0,
+        status: Status::Refused,
+        out: "",
+        err: "ldaodt: record refused: NotARecord\n",
+        ..STARTED
+    },
+    Row {
+        name: "the record of another tape",
+        before: Some("LDAODT 1\n001000 177777 011065\n"),
+        after: Some("LDAODT 1\n001000 177777 011065\n"),
+        connections: 0,
+        status: Status::Refused,
+        out: "",
+        err: "ldaodt: record refused at line 2\n",
+        ..STARTED
+    },
+    Row {
+        name: "a folder in place of the record",
+        record: ".",
+        after: None,
+        connections: 0,
+        status: Status::DeviceFailed,
+        out: "",
+        err: "ldaodt: cannot read .\n",
+        ..STARTED
+    },
+    Row {
+        name: "a closed port",
+        setting: Setting { reads: 0, ..AMPLE },
+        before: Some(VERIFIED),
+        after: Some(VERIFIED),
+        status: Status::DeviceFailed,
+        out: "",
+        err: "ldaodt: cannot connect to 127.0.0.1:2323\n",
+        ..STARTED
+    },
+    Row {
+        name: "a word that stands already",
+        setting: Setting {
+            memory: &[(0o001000, 0o011064)],
+            ..AMPLE
+        },
+        before: Some(VERIFIED),
+        out: "sent 8 spent 0 verified 1 of 1\nend Started\n",
+        ..STARTED
+    },
+    Row {
+        name: "a peer that closes in the middle",
+        tape: &TWO_WORDS,
+        setting: Setting { reads: 45, ..AMPLE },
+        after: Some("LDAODT 2\n001000 031421"),
+        status: Status::DeviceFailed,
+        out: "sent 24 spent 0 verified 1 of 2\nend LineFailed\n",
+        err: "ldaodt: line failed\n",
+        ..STARTED
+    },
+    Row {
+        name: "the load that goes on from there, over words that stand",
+        tape: &TWO_WORDS,
+        setting: Setting {
+            memory: &[(0o001000, 0o031421), (0o001002, 0o125504)],
+            ..AMPLE
+        },
+        before: Some("LDAODT 2\n001000 031421"),
+        after: Some("LDAODT 2\n001000 031421\nH 001002 000377 000104\nG\n"),
+        out: "sent 16 spent 0 verified 2 of 2\nend Started\n",
+        ..STARTED
+    },
+    Row {
+        name: "a full disk",
+        setting: Setting { room: 0, ..AMPLE },
+        before: Some(VERIFIED),
+        after: Some(VERIFIED),
+        status: Status::DeviceFailed,
+        out: "",
+        err: "ldaodt: cannot write a.record\n",
+        ..STARTED
+    },
+    Row {
+        name: "a folder that is missing",
+        record: "no-such/a.record",
+        after: None,
+        status: Status::DeviceFailed,
+        out: "",
+        err: "ldaodt: cannot write no-such/a.record\n",
+        ..STARTED
+    },
+    Row {
+        name: "a disk that is full after the header",
+        setting: Setting { room: 9, ..AMPLE },
+        after: Some("LDAODT 2\n"),
+        status: Status::DeviceFailed,
+        out: "sent 23 spent 0 verified 1 of 1\nend KeepFailed\n",
+        err: "ldaodt: cannot write a.record\n",
+        ..STARTED
+    },
+    Row {
+        name: "no memory at the word",
+        setting: Setting {
+            words: 256,
+            ..AMPLE
+        },
+        after: Some("LDAODT 2\n"),
+        status: Status::NotLoaded,
+        out: "sent 8 spent 0 verified 0 of 1\nend NoWord 001000\n",
+        ..STARTED
+    },
+    Row {
+        name: "a tape with a stray byte",
+        tape: b"A",
+        after: None,
+        connections: 0,
+        status: Status::Refused,
+        out: "",
+        err: "ldaodt: tape refused at 0: Stray\n",
+        ..STARTED
+    },
+];
+
+/// A load of a tape, recorded under this name.
+fn load_of(alloc: Global, record: Option<&str>) -> Result<Request<'_>, Fail> {
+    let tapes = Vec::from_slice(alloc, &["a.lda"])?;
+    Ok(Request::Load(
+        tapes,
+        Load {
+            address: "127.0.0.1:2323",
+            record,
+            patience: 8,
+            quiet_ms: 2000,
+        },
+    ))
+}
+
+/// What a load left.
+#[derive(Drop)]
+struct Ended {
+    status: Status,
+    out: Vec<u8>,
+    err: Vec<u8>,
+    connections: u32,
+}
+
+/// Does the load of a row.
+fn run(rt: &HostRuntime, row: &Row) -> Result<Ended, Fail> {
+    let request = load_of(rt.alloc(), Some(row.record))?;
+    Ok(load(rt, row.setting, request))
+}
+
+/// Does a request on a system of this setting.
+fn load(rt: &HostRuntime, setting: Setting, request: Request<'_>) -> Ended {
+    let system = System::new(rt, setting);
+    let mut input: &[u8] = &[];
+    let mut out = Vec::new(rt.alloc());
+    let mut err = Vec::new(rt.alloc());
+    let status = attempt(
+        &system,
+        rt.alloc(),
+        request,
+        &mut input,
+        &mut out,
+        &mut err,
+        NOBODY,
+    );
+    Ended {
+        status,
+        out,
+        err,
+        connections: system.connections(),
+    }
+}
+
+/// What a file holds, where it is one.
+fn contents(rt: &HostRuntime, name: &str) -> Option<Vec<u8>> {
+    match fs::read(rt, name) {
+        Ok(bytes) => Some(bytes),
+        Err(_) => None,
+    }
+}
+
+/// Whether a file holds this, or isn't there.
+fn holds(rt: &HostRuntime, name: &str, wanted: Option<&str>) -> bool {
+    match (contents(rt, name), wanted) {
+        (Some(bytes), Some(text)) => bytes.as_slice() == text.as_bytes(),
+        (None, None) => true,
+        _ => false,
+    }
+}
+
+/// Removes a file, if it is there.
+fn forget(rt: &HostRuntime, name: &str) -> Result<(), Fail> {
+    match fs::remove_file(rt, name) {
+        Err(error) if error.kind() == ErrorKind::NotFound => Ok(()),
+        outcome => Ok(outcome?),
+    }
+}
+
+/// Puts the tape there, and the record where there is to be one.
+fn prepare(rt: &HostRuntime, row: &Row) -> Result<(), Fail> {
+    fs::write(rt, "a.lda", row.tape)?;
+    forget(rt, "a.record")?;
+    if let Some(text) = row.before {
+        fs::write(rt, row.record, text)?;
+    }
+    Ok(())
+}
+
+/// Whether a load printed what it should, and left the record as it should and no other file.
+fn is_as_wanted(rt: &HostRuntime, ended: &Ended, row: &Row) -> bool {
+    ended.status == row.status
+        && ended.connections == row.connections
+        && ended.out.as_slice() == row.out.as_bytes()
+        && ended.err.as_slice() == row.err.as_bytes()
+        && holds(rt, row.record, row.after)
+        && holds(rt, "a.record.ldaodt-new", None)
+}
+
+#[test]
+fn loads_end_with_their_status(rt: HostRuntime) -> Result<(), Fail> {
+    for row in &ROWS {
+        prepare(&rt, row)?;
+        let ended = run(&rt, row)?;
+        let name = row.name;
+        assert!(rt; is_as_wanted(&rt, &ended, row), "{name}");
+    }
+    forget(&rt, "a.record")?;
+    Ok(fs::remove_file(&rt, "a.lda")?)
+}
+
+#[test]
+fn a_load_without_a_record_keeps_it_in_memory(rt: HostRuntime) -> Result<(), Fail> {
+    fs::write(&rt, "a.lda", ONE_WORD)?;
+    let ended = load(&rt, AMPLE, load_of(rt.alloc(), None)?);
+    assert_eq!(rt; ended.status, Status::Done);
+    assert!(rt; ended.out.as_slice() == STARTED.out.as_bytes());
+    Ok(fs::remove_file(&rt, "a.lda")?)
+}
+
+/// The settings in which a load ends, and then its report can't be written.
+const UNREPORTED: [Setting; 2] = [AMPLE, Setting { reads: 3, ..AMPLE }];
+
+#[test]
+fn a_report_that_can_not_be_written_is_told_alone(rt: HostRuntime) -> Result<(), Fail> {
+    fs::write(&rt, "a.lda", ONE_WORD)?;
+    let wanted: &[u8] = b"ldaodt: cannot write output\n";
+    for setting in &UNREPORTED {
+        let system = System::new(&rt, *setting);
+        let mut input: &[u8] = &[];
+        let mut out = BrokenOutput::new(Vec::new(rt.alloc()), 1);
+        let mut err = Vec::new(rt.alloc());
+        let status = attempt(
+            &system,
+            rt.alloc(),
+            load_of(rt.alloc(), None)?,
+            &mut input,
+            &mut out,
+            &mut err,
+            NOBODY,
+        );
+        assert_eq!(rt; status, Status::DeviceFailed);
+        assert!(rt; err.as_slice() == wanted);
+        assert_eq!(rt; out.later_writes, 0);
+        err.clear();
+        let mut out = UnflushedOutput;
+        let status = attempt(
+            &system,
+            rt.alloc(),
+            load_of(rt.alloc(), None)?,
+            &mut input,
+            &mut out,
+            &mut err,
+            NOBODY,
+        );
+        assert_eq!(rt; status, Status::DeviceFailed);
+        assert!(rt; err.as_slice() == wanted);
+    }
+    Ok(fs::remove_file(&rt, "a.lda")?)
+}

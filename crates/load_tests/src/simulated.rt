@@ -1,0 +1,271 @@
+//! A system for tests: the files are real, but have room for so many bytes alone, and behind every
+//! address answers a simulated console.
+
+use arrayvec::ArrayVec;
+use odt_machine::{LARGEST_WORDS, Odt, PLAIN_STYLE};
+use std::alloc::Allocator;
+use std::cell::Cell;
+use std::fs::{File, Metadata, OpenFile, OpenOptions};
+use std::io;
+use std::io::{ErrorKind, Read, Seek, SeekFrom, Write};
+use std::net::{Net, OpenListener, OpenStream, SocketAddr};
+use std::os::fd::{AsRawFd, RawFd};
+use std::rt::Files;
+use std::time::{Clock, Duration};
+
+/// What the console and the files of a system are like.
+#[derive(Clone, Copy, Debug)]
+pub struct Setting {
+    /// The words of the machine's memory, and what stands there beforehand.
+    pub words: u16,
+    pub memory: &'static [(u16, u16)],
+
+    /// How many reads the console answers before it closes the line; with none nobody listens.
+    pub reads: u32,
+
+    /// How many bytes each new file takes.
+    pub room: usize,
+}
+
+/// Ample memory, a patient console and large files.
+pub const AMPLE: Setting = Setting {
+    words: LARGEST_WORDS,
+    memory: &[],
+    reads: 1_000_000,
+    room: 1_000_000,
+};
+
+/// A system of one setting.
+#[derive(Drop)]
+pub struct System<'a> {
+    rt: &'a HostRuntime,
+    setting: Setting,
+    connections: Cell<u32>,
+}
+
+impl<'a> System<'a> {
+    pub fn new(rt: &'a HostRuntime, setting: Setting) -> System<'a> {
+        System {
+            rt,
+            setting,
+            connections: Cell::new(0),
+        }
+    }
+
+    /// How often somebody tried to connect.
+    pub fn connections(&self) -> u32 {
+        self.connections.get()
+    }
+}
+
+/// A console at the other end of a stream.
+#[derive(Drop)]
+pub struct Console {
+    odt: Odt,
+    answer: ArrayVec<u8, 64>,
+    reads: u32,
+}
+
+impl Read for Console {
+    fn read(&mut self, buf: &mut [u8]) -> io::Result<usize> {
+        if self.reads == 0 || buf.is_empty() {
+            return Ok(0);
+        }
+        self.reads -= 1;
+        match self.answer.pop_at(0) {
+            Some(character) => {
+                buf[0] = character;
+                Ok(1)
+            }
+            None => Err(io::Error::from(ErrorKind::WouldBlock)),
+        }
+    }
+}
+
+impl Write for Console {
+    fn write(&mut self, buf: &[u8]) -> io::Result<usize> {
+        match buf.first() {
+            Some(key) => {
+                let answer = self.odt.take(*key);
+                let _ = self.answer.try_extend_from_slice(&answer);
+                Ok(1)
+            }
+            None => Ok(0),
+        }
+    }
+
+    fn flush(&mut self) -> io::Result<()> {
+        Ok(())
+    }
+}
+
+impl OpenStream for Console {
+    fn set_read_timeout(&self, _time: Option<Duration>) -> io::Result<()> {
+        Ok(())
+    }
+}
+
+impl AsRawFd for Console {
+    fn as_raw_fd(&self) -> RawFd {
+        -1
+    }
+}
+
+impl Net for System<'_> {
+    type Stream = Console;
+
+    type Listener = Nobody;
+
+    fn bind(&self, _address: SocketAddr) -> io::Result<Nobody> {
+        Err(io::Error::from(ErrorKind::Unsupported))
+    }
+
+    fn connect(&self, _address: SocketAddr) -> io::Result<Console> {
+        self.connections
+            .set(self.connections.get().saturating_add(1));
+        if self.setting.reads == 0 {
+            return Err(io::Error::from(ErrorKind::ConnectionRefused));
+        }
+        let Ok(mut odt) = Odt::new(self.rt.alloc(), self.setting.words, PLAIN_STYLE) else {
+            return Err(io::Error::from(ErrorKind::OutOfMemory));
+        };
+        for (address, value) in self.setting.memory {
+            odt.put(*address, *value);
+        }
+        Ok(Console {
+            odt,
+            answer: ArrayVec::new(),
+            reads: self.setting.reads,
+        })
+    }
+}
+
+/// A listener that nobody makes.
+#[derive(Drop)]
+pub struct Nobody;
+
+impl OpenListener for Nobody {
+    type Stream = Console;
+
+    fn accept(&self) -> io::Result<(Console, SocketAddr)> {
+        Err(io::Error::from(ErrorKind::Unsupported))
+    }
+}
+
+impl AsRawFd for Nobody {
+    fn as_raw_fd(&self) -> RawFd {
+        -1
+    }
+}
+
+impl Clock for System<'_> {
+    fn monotonic(&self) -> io::Result<Duration> {
+        Ok(Duration::from_millis(0))
+    }
+
+    fn since_1970(&self) -> io::Result<Duration> {
+        Ok(Duration::from_millis(0))
+    }
+}
+
+/// A file that takes so many bytes and then is full.
+#[derive(Drop)]
+pub struct RoomyFile {
+    file: File,
+    room: usize,
+}
+
+impl Read for RoomyFile {
+    fn read(&mut self, buf: &mut [u8]) -> io::Result<usize> {
+        self.file.read(buf)
+    }
+}
+
+impl Write for RoomyFile {
+    fn write(&mut self, buf: &[u8]) -> io::Result<usize> {
+        let most = buf.len().min(self.room);
+        if most == 0 {
+            return Err(io::Error::from(ErrorKind::StorageFull));
+        }
+        let count = self.file.write(&buf[..most])?;
+        self.room -= count;
+        Ok(count)
+    }
+
+    fn flush(&mut self) -> io::Result<()> {
+        Ok(())
+    }
+}
+
+impl Seek for RoomyFile {
+    fn seek(&mut self, to: SeekFrom) -> io::Result<u64> {
+        self.file.seek(to)
+    }
+}
+
+impl OpenFile for RoomyFile {
+    fn metadata(&self) -> io::Result<Metadata> {
+        self.file.metadata()
+    }
+
+    fn set_len(&self, size: u64) -> io::Result<()> {
+        self.file.set_len(size)
+    }
+
+    fn sync_all(&self) -> io::Result<()> {
+        self.file.sync_all()
+    }
+
+    fn sync_data(&self) -> io::Result<()> {
+        self.file.sync_data()
+    }
+}
+
+impl Files for System<'_> {
+    type File = RoomyFile;
+
+    type Dir = <HostRuntime as Files>::Dir;
+
+    fn open_file(&self, how: &OpenOptions, path: &str) -> io::Result<RoomyFile> {
+        Ok(RoomyFile {
+            file: Files::open_file(self.rt, how, path)?,
+            room: self.setting.room,
+        })
+    }
+
+    fn open_dir(&self, path: &str) -> io::Result<<HostRuntime as Files>::Dir> {
+        Files::open_dir(self.rt, path)
+    }
+
+    fn metadata(&self, path: &str) -> io::Result<Metadata> {
+        Files::metadata(self.rt, path)
+    }
+
+    fn symlink_metadata(&self, path: &str) -> io::Result<Metadata> {
+        Files::symlink_metadata(self.rt, path)
+    }
+
+    fn copy(&self, from: &str, to: &str) -> io::Result<u64> {
+        Files::copy(self.rt, from, to)
+    }
+
+    fn rename(&self, from: &str, to: &str) -> io::Result<()> {
+        Files::rename(self.rt, from, to)
+    }
+
+    fn remove_file(&self, path: &str) -> io::Result<()> {
+        Files::remove_file(self.rt, path)
+    }
+
+    fn create_dir(&self, path: &str) -> io::Result<()> {
+        Files::create_dir(self.rt, path)
+    }
+
+    fn remove_dir(&self, path: &str) -> io::Result<()> {
+        Files::remove_dir(self.rt, path)
+    }
+
+    fn remove_dir_all<B: Allocator>(&self, alloc: B, path: &str) -> io::Result<()> {
+        Files::remove_dir_all(self.rt, alloc, path)
+    }
+}

@@ -1,0 +1,24 @@
+-- The report of `load` (this project's own). Counts are those of the host's life.
+use Rattle.std.specs.Prelude.{ℕ, List, ◌++◌, length, codes, decimal, Some}
+use Rattle.host_core.specs.Core.{Core}
+use Rattle.load_engine.specs.declared.stop.Stop.{Stop}
+use Rattle.load_engine.specs.declared.stop.Stop.TheVariants.{Ended, LineFailed, KeepFailed, TurnsOver}
+use Rattle.command_io.specs.Text.{line}
+use Rattle.load_reports.specs.Report.{end_name}
+
+-- the characters sent, the mishaps, and how many words of the plan are verified
+abbrev pub counts_text : Core → List ℕ
+counts_text core =
+    codes "sent " ++ decimal core.sent ++ codes " spent " ++ decimal core.spent ++ codes " verified " ++ decimal core.verified
+    ++ codes " of " ++ decimal (length core.plan.words)
+
+-- how the load stopped
+abbrev pub stop_name : Stop → List ℕ
+stop_name (Ended end) = end_name (Some end)
+stop_name (LineFailed fault) = codes "LineFailed"
+stop_name (KeepFailed fault) = codes "KeepFailed"
+stop_name TurnsOver = codes "TurnsOver"
+
+-- the counts, and how the load stopped
+abbrev pub load_report : Core → Stop → List ℕ
+load_report core stop = line (counts_text core) ++ line (codes "end " ++ stop_name stop)

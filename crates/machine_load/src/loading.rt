@@ -1,0 +1,130 @@
+//! The load itself.
+ghost use Rattle.std.specs.Prelude.{◌≡◌, [], ◌∷◌, None, IfOk, IfErr, OnOk};
+ghost use Rattle.std.specs.Io.KnownBytes.{Appends, Keeps};
+ghost use Rattle.host_core.specs.Core.{ended};
+ghost use Rattle.load_devices.specs.Told.{Gains};
+ghost use Rattle.machine_load.specs.Load.{IsDriven, IsLife, IsOpening, IsReported};
+ghost use Rattle.machine_load.specs.LoadFault.{IsLoadFault, IsOpeningFault, IsDrivingFault, IsReportFault};
+ghost use Rattle.machine_load.specs.LoadReport.{load_report};
+ghost use Rattle.machine_load.specs.Step.{ReadRecord, Connect, BeginRecord};
+
+use crate::fault::LoadFault;
+use crate::report::put_load_report;
+use crate::surroundings::Surroundings;
+use crate::watched::{Onlooker, WatchedKeeper, WatchedLine};
+use command_io::write_whole;
+use host_core::HostCore;
+use load_engine::{Stop, drive};
+use load_record::read_record;
+use std::alloc::Global;
+use std::io::Write;
+use tape_image::Plan;
+
+/// The most turns of a load.
+const TURNS: u64 = 10_000_000;
+
+/// Room for the longest report, so that a load that is over needs no memory to say so.
+const REPORT_ROOM: usize = 128;
+
+/// Loads a plan through the console that the surroundings connect to, and reports how far that came.
+///
+/// The record of earlier lives is read first. A life that it ends at once, as one whose start was
+/// typed before, is reported with no connection, and its record stays as it is. Else a connection is
+/// made, the record is written anew with the words that it said were verified, and the engine drives
+/// for 10,000,000 turns at most. The report is of the core that the engine gives back.
+///
+/// `ReadRecord`, `Record` and `Connect` come with nothing reported and the record as it was,
+/// `WriteRecord` before the first key. `WriteOutput` is a report that could not be written whole.
+/// `Memory` comes only where a growth was refused.
+pub fn load<S: Surroundings, W: Write, O: Onlooker>(
+    alloc: Global,
+    plan: Plan,
+    patience: u32,
+    around: &mut S,
+    out: &mut W,
+    onlooker: &O,
+) -> Result<Stop, LoadFault>
+    ensures reported { IfOk result (IsReported (S.record_text around.old) plan patience (S.steps around.old) (S.steps around.new) (W.contents out.old) (W.contents out.new)) }
+    ensures fault { IfErr result (IsLoadFault plan patience (S.steps around.old) (S.steps around.new) (S.record_text around.old) (S.record_text around.new) (W.contents out.old) (W.contents out.new)) }
+{
+    let core = open(alloc, plan, patience, around)?;
+    let report = Vec::with_capacity(alloc, REPORT_ROOM)?;
+    let (core, stop) = live(alloc, core, around, onlooker)?;
+    tell(report, &core, stop, out)?;
+    Ok(stop)
+}
+
+// The life that begins with what the record says.
+fn open<S: Surroundings>(
+    alloc: Global,
+    plan: Plan,
+    patience: u32,
+    around: &mut S,
+) -> Result<HostCore, LoadFault>
+    ensures opened { IfOk result (IsOpening (S.record_text around.old) plan patience) }
+    ensures fault { IfErr result (IsOpeningFault (S.record_text around.old) plan) }
+    ensures step { Gains (S.steps around.old) (S.steps around.new) (ReadRecord ∷ []) }
+    ensures same { Keeps (S.record_text around.old) (S.record_text around.new) }
+{
+    let record = around.read_record(alloc)?;
+    let progress = read_record(&record, &plan)?;
+    Ok(HostCore::new(plan, progress, patience).unwrap())
+}
+
+// The life, once it has opened.
+fn live<S: Surroundings, O: Onlooker>(
+    alloc: Global,
+    core: HostCore,
+    around: &mut S,
+    onlooker: &O,
+) -> Result<(HostCore, Stop), LoadFault>
+    ensures life { IfOk result (λ lived. IsLife core lived.0 lived.1 (S.steps around.old) (S.steps around.new)) }
+    ensures fault { IfErr result (IsDrivingFault (S.steps around.old) (S.steps around.new) (S.record_text around.old) (S.record_text around.new)) }
+{
+    match core.end() {
+        Some(end) => Ok((core, Stop::Ended(end))),
+        None => drive_over(alloc, core, around, onlooker),
+    }
+}
+
+// A life that goes on, over a new connection.
+fn drive_over<S: Surroundings, O: Onlooker>(
+    alloc: Global,
+    core: HostCore,
+    around: &mut S,
+    onlooker: &O,
+) -> Result<(HostCore, Stop), LoadFault>
+    ensures driven { IfOk result (λ driven. IsDriven core driven.0 driven.1) }
+    ensures steps { OnOk result (Gains (S.steps around.old) (S.steps around.new) (Connect ∷ BeginRecord ∷ [])) }
+    ensures fault { IfErr result (IsDrivingFault (S.steps around.old) (S.steps around.new) (S.record_text around.old) (S.record_text around.new)) }
+{
+    let line = around.connect()?;
+    let verified = core.progress().verified;
+    let keeper = around.begin_record(alloc, core.plan(), verified)?;
+    let words = core.plan().words().len() as u32;
+    let mut line = WatchedLine::new(line, onlooker);
+    let mut keeper = WatchedKeeper::new(keeper, onlooker);
+    onlooker.begins(verified, words);
+    let driven = drive(core, &mut line, &mut keeper, TURNS);
+    onlooker.ends();
+    Ok(driven)
+}
+
+// Reports a life, in a text that has the room.
+fn tell<W: Write>(
+    mut report: Vec<u8>,
+    core: &HostCore,
+    stop: Stop,
+    out: &mut W,
+) -> Result<(), LoadFault>
+    requires { report.items ≡ [] }
+    ensures ok { OnOk result (Appends (W.contents out.old) (W.contents out.new) (load_report core.now stop)) }
+    ensures err { IfErr result (IsReportFault (W.contents out.old) (W.contents out.new) (load_report core.now stop)) }
+{
+    put_load_report(&mut report, core, stop)?;
+    write_whole(out, &report)?;
+    match out.flush() {
+        Ok(()) => Ok(()),
+        Err(_) => Err(LoadFault::WriteOutput),
+    }
+}

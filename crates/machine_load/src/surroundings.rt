@@ -1,0 +1,47 @@
+ghost use Rattle.std.specs.Prelude.{ℕ, List, [], ◌∷◌, Option, None, IfOk};
+ghost use Rattle.std.specs.Io.KnownBytes.{Keeps};
+ghost use Rattle.load_devices.specs.Told.{Gains};
+ghost use Rattle.machine_load.specs.Load.{IsRecordText};
+ghost use Rattle.machine_load.specs.Step.{Step, ReadRecord, Connect, BeginRecord};
+
+use crate::begin_fault::BeginFault;
+use command_io::InputFault;
+use load_devices::{Keep, Line, LineFault};
+use std::alloc::Global;
+use tape_image::Plan;
+
+/// What a load needs of the world around it: the record of earlier lives, a line to the console, and
+/// a keeper for the life that begins.
+pub trait Surroundings {
+    /// The line to the console.
+    type Line: Line + Drop;
+
+    /// Who keeps the progress of the life that begins.
+    type Keeper: Keep + Drop;
+
+    /// What was asked so far, in its order; None where the type doesn't tell.
+    ghost steps: { Self → Option (List Step) } = { λ _. None };
+
+    /// What the record is; None where the type doesn't tell.
+    ghost record_text: { Self → Option (List ℕ) } = { λ _. None };
+
+    /// The record of earlier lives: no bytes where there is none.
+    fn read_record(&mut self, alloc: Global) -> Result<Vec<u8>, InputFault>
+        ensures step { Gains (steps self.old) (steps self.new) (ReadRecord ∷ []) }
+        ensures text { IfOk result (λ bytes. IsRecordText (record_text self.old) bytes.items) }
+        ensures same { Keeps (record_text self.old) (record_text self.new) };
+
+    /// A connection to the console.
+    fn connect(&mut self) -> Result<Self::Line, LineFault>
+        ensures step { Gains (steps self.old) (steps self.new) (Connect ∷ []) }
+        ensures same { Keeps (record_text self.old) (record_text self.new) };
+
+    /// Writes the record anew, with the first verified words of the plan, and keeps it from there on.
+    fn begin_record(
+        &mut self,
+        alloc: Global,
+        plan: &Plan,
+        verified: u32,
+    ) -> Result<Self::Keeper, BeginFault>
+        ensures step { Gains (steps self.old) (steps self.new) (BeginRecord ∷ []) };
+}

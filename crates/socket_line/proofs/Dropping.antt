@@ -1,0 +1,15 @@
+-- One more byte behind the dropped ones.
+use Rattle.std.proofs.Common.{ℕ, ◌+◌, List, [], ◌∷◌, ◌++◌, Option, subst, sym, arith, length-append, append-nil}
+use Rattle.std.proofs.KnownBytes.{Consumes-trans}
+use Rattle.std.specs.Io.KnownBytes.{Consumes}
+use Rattle.std.proofs.lemmas.List.Elements.{All-append, All-cons, All-nil}
+use Rattle.socket_line.specs.Hearing.{DropsThenTakes, IsPadding}
+
+pub drops_more : (a b d : Option (List ℕ)) (count byte : ℕ) → DropsThenTakes a b count [] → Consumes b d (byte ∷ []) → IsPadding byte → DropsThenTakes a d (count + 1) []
+drops_more a b d count byte before taken padding = record {
+  dropped = before.dropped ++ byte ∷ [];
+  padding = All-append IsPadding before.dropped (byte ∷ []) before.padding (All-cons IsPadding byte [] padding (All-nil IsPadding));
+  counted = omega (arith, length-append before.dropped (byte ∷ []), before.counted);
+  consumed = subst (Consumes a d) (sym (append-nil (before.dropped ++ byte ∷ []))) (
+      Consumes-trans a b d before.dropped (byte ∷ []) (subst (Consumes a b) (append-nil before.dropped) before.consumed) taken);
+}

@@ -1,0 +1,83 @@
+-- What is heard of a stream, where the stream tells its bytes; where it doesn't, these say counts and characters alone.
+use Rattle.std.specs.Prelude.{◌≡◌, ◌≢◌, ◌⊎◌, ℕ, ◌<◌, ◌+◌, ◌%◌, List, [], ◌∷◌, ◌++◌, length, All, Option, Some, None, Result, Ok, Err, ⊤}
+use Rattle.std.specs.Io.KnownBytes.{Consumes, Appends, Keeps, IsAtEnd}
+use Rattle.host_core.specs.declared.heard.Heard.{Heard}
+use Rattle.host_core.specs.declared.heard.Heard.TheVariants.{Got, Quiet}
+use Rattle.load_devices.specs.declared.fault.LineFault.{LineFault}
+use Rattle.load_devices.specs.declared.fault.LineFault.TheVariants.{Connect, Send, Closed, Receive, Full, Noise}
+
+-- the character that a byte carries: its lower seven bits, since some consoles send a parity bit above them
+abbrev pub character_of : ℕ → ℕ
+character_of byte = byte % 128
+
+-- a byte that is dropped carries the character 000, with which consoles pad
+abbrev pub IsPadding : ℕ → Type 0
+IsPadding byte = character_of byte ≡ 0
+
+-- what is heard is a character of seven bits and not 000, or silence
+abbrev pub IsCharacter : Heard → Type 0
+IsCharacter (Got c) = (c < 128) × (c ≢ 0)
+IsCharacter Quiet = ⊤
+
+-- a stream's time limit was met so many times more, where the stream tells
+abbrev pub MeetsLimit : Option ℕ → Option ℕ → ℕ → Type 0
+MeetsLimit None new times = ⊤
+MeetsLimit (Some before) None times = ⊥
+MeetsLimit (Some before) (Some after) times = after ≡ before + times
+
+-- silence is heard where the time limit was met once, all else where it was not
+abbrev pub silences_of : Result Heard LineFault → ℕ
+silences_of (Ok Quiet) = 1
+silences_of (Ok (Got c)) = 0
+silences_of (Err fault) = 0
+
+-- so many bytes were dropped, and then these were taken and no others
+pub record DropsThenTakes (old new : Option (List ℕ)) (count : ℕ) (taken : List ℕ) : Type 0 where
+  pub dropped : List ℕ
+  pub padding : All IsPadding dropped
+  pub counted : length dropped ≡ count
+  pub consumed : Consumes old new (dropped ++ taken)
+
+-- a hearing: fewer than 4,096 bytes were dropped; behind them either one more was taken, whose character is heard and is
+-- not 000, or none
+abbrev pub IsHearing : Option (List ℕ) → Option (List ℕ) → Heard → Type 0
+IsHearing old new (Got c) = (count : ℕ) × (count < 4096) × (byte : ℕ) × (c ≡ character_of byte) × (c ≢ 0) × DropsThenTakes old new count (byte ∷ [])
+IsHearing old new Quiet = (count : ℕ) × (count < 4096) × DropsThenTakes old new count []
+
+-- how a hearing fails: the stream is at its end, or a read failed, behind fewer than 4,096 dropped bytes; or as many were dropped
+abbrev pub IsHearingFault : Option (List ℕ) → Option (List ℕ) → LineFault → Type 0
+IsHearingFault old new Closed = IsAtEnd new × ((count : ℕ) × (count < 4096) × DropsThenTakes old new count [])
+IsHearingFault old new Receive = (count : ℕ) × (count < 4096) × DropsThenTakes old new count []
+IsHearingFault old new Noise = DropsThenTakes old new 4096 []
+IsHearingFault old new Connect = ⊥
+IsHearingFault old new Send = ⊥
+IsHearingFault old new Full = ⊥
+
+-- a receipt meets the time limit where it gives nothing
+abbrev pub limits_met : Result (Option ℕ) LineFault → ℕ
+limits_met (Ok None) = 1
+limits_met (Ok (Some byte)) = 0
+limits_met (Err fault) = 0
+
+-- what one receipt takes: the byte that it gives, or nothing
+abbrev pub IsReceipt : Option (List ℕ) → Option (List ℕ) → Option ℕ → Type 0
+IsReceipt old new (Some byte) = Consumes old new (byte ∷ [])
+IsReceipt old new None = Consumes old new []
+
+-- how a receipt fails: the stream is at its end, or a read failed, and nothing was taken
+abbrev pub IsReceiptFault : Option (List ℕ) → Option (List ℕ) → LineFault → Type 0
+IsReceiptFault old new Closed = IsAtEnd new × Consumes old new []
+IsReceiptFault old new Receive = Consumes old new []
+IsReceiptFault old new Noise = ⊥
+IsReceiptFault old new Connect = ⊥
+IsReceiptFault old new Send = ⊥
+IsReceiptFault old new Full = ⊥
+
+-- how sending fails: the key went out or it didn't, and nothing else did
+abbrev pub IsSentInPart : Option (List ℕ) → Option (List ℕ) → ℕ → LineFault → Type 0
+IsSentInPart old new key Send = Keeps old new ⊎ Appends old new (key ∷ [])
+IsSentInPart old new key Closed = ⊥
+IsSentInPart old new key Receive = ⊥
+IsSentInPart old new key Noise = ⊥
+IsSentInPart old new key Connect = ⊥
+IsSentInPart old new key Full = ⊥

@@ -1,0 +1,26 @@
+-- A line over a stream as one value.
+use Rattle.std.specs.Prelude.{◌≡◌, ℕ, ◌+◌, ◌-◌, ◌^◌, min, List, Option, Some, None}
+use Rattle.load_devices.specs.declared.fault.LineFault.{LineFault}
+
+-- the bytes that are still to come, those that went out and how often the time limit was met, where the stream tells; how many
+-- calls failed, and how the last did
+pub record LineValue : Type 0 where
+  pub to_come : Option (List ℕ)
+  pub gone_out : Option (List ℕ)
+  pub silences : Option ℕ
+  pub failures : ℕ
+  pub fault : Option LineFault
+
+-- a line on which nothing has been said
+abbrev pub fresh_line : Option (List ℕ) → Option (List ℕ) → Option ℕ → LineValue
+fresh_line to_come gone_out silences = record { to_come = to_come; gone_out = gone_out; silences = silences; failures = 0; fault = None }
+
+-- no call of the line has failed
+pub record IsFreshLine (line : LineValue) : Type 0 where
+  pub none_failed : line.failures ≡ 0
+  pub no_fault : line.fault ≡ None
+
+-- the line after a call whose fault is this, if it had one: the count stays at its largest, 64 bits
+abbrev pub after_call : LineValue → Option LineFault → LineValue
+after_call line None = record line { fault = None }
+after_call line (Some fault) = record line { failures = min (line.failures + 1) (2 ^ 64 - 1); fault = Some fault }

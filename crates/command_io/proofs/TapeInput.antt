@@ -1,19 +1,18 @@
 -- What the bytes that were taken say of the whole input.
-use Rattle.std.proofs.Common.{◌≡◌, ◌≤◌, ◌<◌, ◌+◌, ℕ, List, [], ◌++◌, Option, Some, None, Err, inl, inr, take, drop, length, nat_lt, true, refl, sym, ap, ◌∙◌, subst, arith, append_assoc, append-nil, take-append-drop}
-use Rattle.std.proofs.lemmas.List.{take-append-le, length-append, length-take-le}
-use Rattle.std.proofs.lemmas.Bool.{cases_lt, lt-ltb}
+use Rattle.std.proofs.Common.{◌≡◌, ℕ, List, [], ◌++◌, Option, Some, None, refl, sym, ap, ◌∙◌, subst, append-nil, ⊎_elim}
 use Rattle.std.specs.Io.KnownBytes.{Consumes, IsAtEnd}
-use Rattle.tape_blocks.specs.Tape.{TapeValue, IsTape, tape_limit}
-use Rattle.tape_blocks.specs.Refusal.{IsRefused, IsLongestFront, first_fault, missing_fault, tests_of, fault_at}
-use Rattle.tape_blocks.specs.Tape.{text_of}
-use Rattle.tape_blocks.specs.declared.fault.Why.TheVariants.{TooLong}
-use Rattle.tape_blocks.specs.Reading.{IsReadingUnlessMemory}
+use Rattle.tape_blocks.specs.Refusal.{IsRefused}
+use Rattle.tape_blocks.specs.Standing.{IsRefusedForGood}
 use Rattle.tape_blocks.specs.declared.fault.Fault.{Fault}
-use Rattle.tape_blocks.specs.declared.fault.ReadError.{ReadError}
-use Rattle.tape_blocks.specs.declared.fault.ReadError.TheVariants.{Tape}
-use Rattle.tape_blocks.specs.declared.fault.Why.{Why}
-use Rattle.command_io.specs.Input.{IsTaken}
-use Rattle.command_io.specs.TapeFile.{IsInput, BeginsWithTape, IsRefusedInput, input_limit}
+use Rattle.std.specs.Prelude.{◌⊎◌}
+use Rattle.tape_blocks.specs.Tape.{TapeValue}
+use Rattle.tape_blocks.specs.declared.input.FromError.{FromError}
+use Rattle.tape_blocks.specs.declared.input.FromError.TheVariants.{Tape}
+use Rattle.tape_blocks.specs.Input.{IsReadFrom}
+use Rattle.std.proofs.Common.{Result, Ok, Err}
+use Rattle.command_io.specs.Input.{TakesAtMost}
+use Rattle.command_io.specs.TapeFile.{IsInput, IsRefusedInput, input_limit}
+use Rattle.command_io.specs.Tapes.{IsTapeTaken, TapeText}
 
 -- what a reader has left, where it tells
 abbrev pub left_of : Option (List ℕ) → List ℕ
@@ -29,55 +28,21 @@ pub ends : (after : Option (List ℕ)) → IsAtEnd after → left_of after ≡ [
 ends None h = refl
 ends (Some ys) h = h
 
--- a tape that begins the bytes taken begins the input
-pub begins : (before after : Option (List ℕ)) (limit n : ℕ) (bytes read text : List ℕ) (tape : TapeValue) → IsTaken before after limit bytes
-    → read ≡ bytes → IsTape (take n read) tape.blocks tape.start → text ≡ take n bytes → BeginsWithTape before text tape
-begins before after limit n bytes read text tape taken same is_tape e = record {
-  behind = drop n bytes ++ left_of after;
-  is_input = subst (IsInput before)
-      (ap (λ l. l ++ left_of after) (sym (take-append-drop n bytes)) ∙ append_assoc (take n bytes) (drop n bytes) (left_of after)
-      ∙ ap (λ l. l ++ (drop n bytes ++ left_of after)) (sym e))
-      (whole before after bytes taken.consumed);
-  is_tape = subst (λ l. IsTape l tape.blocks tape.start) (ap (take n) same ∙ sym e) is_tape;
+-- bytes that were taken and are refused, at the end or whatever follows: the input is refused
+pub refused_input : (before after : Option (List ℕ)) (taken : List ℕ) (fault : Fault) → Consumes before after taken → IsRefused taken fault.at fault.why → IsAtEnd after ⊎ IsRefusedForGood taken fault → IsRefusedInput before fault
+refused_input before after taken fault consumed refused cause = record {
+  input = taken ++ left_of after;
+  is_input = whole before after taken consumed;
+  refused = ⊎_elim (λ end. subst (λ l. IsRefused l fault.at fault.why) (sym (ap (λ l. taken ++ l) (ends after end) ∙ append-nil taken)) refused) (λ good. good (left_of after)) cause;
 }
 
--- how long the front of the bytes taken is
-pub front_length : (n : ℕ) (read bytes : List ℕ) → read ≡ bytes → n ≤ length read → n ≡ length (take n bytes)
-front_length n read bytes same within = let long = ap length same in sym (length-take-le n bytes (omega arith))
+pub takes_at_most : (before after : Option (List ℕ)) (result : Result (TapeValue × ℕ) FromError) → IsReadFrom before after result → TakesAtMost before after input_limit
+takes_at_most before after result read = record { taken = read.taken; consumed = read.consumed; within = read.within }
 
-too_long : (input : List ℕ) (s : ℕ) → tape_limit < length input → missing_fault input s ≡ fault_at tape_limit TooLong
-too_long input s h = let over : nat_lt tape_limit (length input) ≡ true = lt-ltb tape_limit (length input) h in rw over refl
+pub refused_reading : (before after : Option (List ℕ)) (error : FromError) (fault : Fault) → error ≡ Tape fault → IsReadFrom before after (Err error) → IsRefusedInput before fault
+refused_reading before after error fault is read =
+    let known : IsReadFrom before after (Err (Tape fault)) = subst (λ e. IsReadFrom before after (Err e)) is read in
+    refused_input before after known.taken fault known.consumed known.answer.0 known.answer.1
 
--- a refusal looks at one byte more than a tape may have, and at no further one
-refused_longer : (bytes more : List ℕ) (at : ℕ) (why : Why) → length bytes ≡ input_limit → IsRefused bytes at why → IsRefused (bytes ++ more) at why
-refused_longer bytes more at why full refused =
-    let same : take tape_limit (bytes ++ more) ≡ take tape_limit bytes = take-append-le tape_limit bytes more (omega arith) in
-    let longer : length (bytes ++ more) ≡ length bytes + length more = length-append bytes more in
-    record {
-      no_tape = λ k blocks start t. refused.no_tape k blocks start (subst (λ l. IsTape (take k l) blocks start) same t);
-      pieces = refused.pieces;
-      rest = refused.rest;
-      front = subst (λ l. IsLongestFront l refused.pieces refused.rest) (sym same) refused.front;
-      first = subst (λ missing. first_fault (length refused.rest) missing (tests_of (length (text_of refused.pieces)) refused.rest) ≡ Some (fault_at at why))
-          (too_long bytes (length (text_of refused.pieces)) (omega arith) ∙ sym (too_long (bytes ++ more) (length (text_of refused.pieces)) (omega (arith, longer))))
-          refused.first;
-    }
-
--- the bytes taken are refused as the input is
-refuses_input : (before after : Option (List ℕ)) (bytes : List ℕ) (fault : Fault) → IsTaken before after input_limit bytes
-    → IsRefused bytes fault.at fault.why → IsRefusedInput before fault
-refuses_input before after bytes fault taken refused = record {
-  input = bytes ++ left_of after;
-  is_input = whole before after bytes taken.consumed;
-  refused = elim (cases_lt (length bytes) input_limit) [
-    | inl short ↦ subst (λ l. IsRefused l fault.at fault.why)
-        (sym (append-nil bytes) ∙ ap (λ l. bytes ++ l) (sym (ends after (taken.to_end short)))) refused
-    | inr long ↦ let within = taken.within in refused_longer bytes (left_of after) fault.at fault.why (omega arith) refused
-  ];
-}
-
-pub refuses : (before after : Option (List ℕ)) (bytes read : List ℕ) (error : ReadError) (fault : Fault) → IsTaken before after input_limit bytes
-    → read ≡ bytes → error ≡ Tape fault → IsReadingUnlessMemory read (Err error) → IsRefusedInput before fault
-refuses before after bytes read error fault taken same is answered =
-    refuses_input before after bytes fault taken
-    (subst (λ l. IsRefused l fault.at fault.why) same (subst (λ e. IsReadingUnlessMemory read (Err e)) is answered))
+pub tape_taken : (before after : Option (List ℕ)) (tape : TapeValue) (count : ℕ) (read : IsReadFrom before after (Ok (tape, count))) → IsTapeTaken before after (record { text = read.taken; tape = tape })
+tape_taken before after tape count read = record { is_tape = read.answer.1; consumed = read.consumed }

@@ -1,9 +1,10 @@
 -- What several inputs say of tapes, one of each, in order.
 use Rattle.std.specs.Prelude.{◌≡◌, ℕ, ◌+◌, List, [], ◌∷◌, length, map, take, drop, Option, ⊤}
 use Rattle.std.specs.List.{AllZip}
-use Rattle.tape_blocks.specs.Tape.{TapeValue}
+use Rattle.std.specs.Io.KnownBytes.{Consumes}
+use Rattle.tape_blocks.specs.Tape.{TapeValue, IsTape}
 use Rattle.command_io.specs.Input.{TakesAtMost}
-use Rattle.command_io.specs.TapeFile.{BeginsWithTape, IsRefusedInput, input_limit}
+use Rattle.command_io.specs.TapeFile.{IsRefusedInput, input_limit}
 use Rattle.command_io.specs.declared.fault.CommandFault.{CommandFault}
 use Rattle.command_io.specs.declared.fault.CommandFault.TheVariants.{Tape, Script, TooLarge, ReadTape, ReadScript, ReadKeys, Write, Memory}
 
@@ -12,9 +13,10 @@ pub record TapeText : Type 0 where
   pub text : List ℕ
   pub tape : TapeValue
 
--- the tape was taken of the input
+-- the tape's own bytes were taken of the input, and no others
 pub record IsTapeTaken (before after : Option (List ℕ)) (t : TapeText) : Type 0 where
-  pub begins : BeginsWithTape before t.text t.tape
+  pub is_tape : IsTape t.text t.tape.blocks t.tape.start
+  pub consumed : Consumes before after t.text
 
 -- these tapes were taken of the inputs, one of each
 abbrev pub AreTaken : List (Option (List ℕ)) → List (Option (List ℕ)) → List TapeText → Type 0

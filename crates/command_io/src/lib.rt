@@ -3,7 +3,7 @@
 //!
 //! `read_up_to` takes the first bytes of an input and no others, `write_whole` writes a text or says
 //! that something of it is missing, and neither asks a device again that has failed. `take_tapes`
-//! answers the tapes that begin some inputs, or the first refusal; `put_decimal` and `put_octal` put
+//! answers the tapes that begin some inputs and takes their bytes alone, or the first refusal; `put_decimal` and `put_octal` put
 //! numbers at the end of a text that is being gathered.
 //!
 //! The crates of the commands stand on this one: `tape_check`, `console_typing`, `rehearsals`.
@@ -12,7 +12,6 @@
 mod fault;
 mod input;
 mod output;
-mod tape_file;
 mod tapes;
 mod text;
 

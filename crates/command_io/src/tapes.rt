@@ -3,10 +3,9 @@ ghost use Rattle.std.specs.Prelude.{◌≡◌, ◌++◌, ◌∷◌, [], map, OnO
 ghost use Rattle.command_io.specs.Tapes.{AreTapes, AreTapesFault, TakeAtMost};
 
 use crate::fault::CommandFault;
-use crate::tape_file::{TapeFault, TapeFile, take_tape};
 use std::alloc::{AllocError, Global};
 use std::io::Read;
-use tape_blocks::Tape;
+use tape_blocks::{FromError, Tape, read_from};
 
 /// Tapes, and how many bytes each was read from.
 #[derive(Drop)]
@@ -19,18 +18,18 @@ pub struct Tapes {
 
 impl Tapes {
     /// Puts a tape behind the others.
-    fn add(&mut self, file: TapeFile) -> Result<(), AllocError>
-        ensures tapes { OnOk result (self.new.tapes.items ≡ self.old.tapes.items ++ file.tape ∷ []) }
-        ensures lengths { OnOk result (self.new.lengths.items ≡ self.old.lengths.items ++ file.length ∷ []) }
+    fn add(&mut self, tape: Tape, length: u32) -> Result<(), AllocError>
+        ensures tapes { OnOk result (self.new.tapes.items ≡ self.old.tapes.items ++ tape ∷ []) }
+        ensures lengths { OnOk result (self.new.lengths.items ≡ self.old.lengths.items ++ length ∷ []) }
     {
-        self.tapes.push(file.tape)?;
-        self.lengths.push(file.length)?;
+        self.tapes.push(tape)?;
+        self.lengths.push(length)?;
         Ok(())
     }
 }
 
-/// Takes a tape of each input, in order. The first input that is no tape or can't be read decides, and
-/// those behind it are not read.
+/// Takes a tape of each input, in order: its own bytes, and none that follow them. The first input that
+/// is no tape or can't be read decides, and those behind it are not read.
 ///
 /// `Tape` is the refusal of an input, by its number from 1, and `ReadTape` a failed read, which is not
 /// tried again. Of each input at most 1,048,577 bytes are taken. `Memory` comes only where a growth was
@@ -45,13 +44,12 @@ pub fn take_tapes<R: Read>(alloc: Global, inputs: &mut [R]) -> Result<Tapes, Com
         lengths: Vec::new(alloc),
     };
     for place in 0..inputs.len() {
-        let file = match take_tape(alloc, &mut inputs[place]) {
-            Ok(file) => file,
-            Err(TapeFault::Refused(fault)) => return Err(CommandFault::Tape(place + 1, fault)),
-            Err(TapeFault::Unread) => return Err(CommandFault::ReadTape(place + 1)),
-            Err(TapeFault::Memory) => return Err(CommandFault::Memory),
-        };
-        taken.add(file)?;
+        match read_from(alloc, &mut inputs[place]) {
+            Ok((tape, length)) => taken.add(tape, length)?,
+            Err(FromError::Tape(fault)) => return Err(CommandFault::Tape(place + 1, fault)),
+            Err(FromError::Io) => return Err(CommandFault::ReadTape(place + 1)),
+            Err(FromError::Memory) => return Err(CommandFault::Memory),
+        }
     }
     Ok(taken)
 }

@@ -53,9 +53,9 @@ pub record IsTypedInPart (input rest : Option (List ℕ)) (machine after : Machi
 abbrev pub IsTypeFault : Option (List ℕ) → Option (List ℕ) → Machine → Machine → Option (List ℕ) → Option (List ℕ) → CommandFault → Type 0
 IsTypeFault input rest machine after before written ReadKeys = (count : ℕ) × IsTypedSoFar input rest machine after before written count
 IsTypeFault input rest machine after before written Write = IsTypedInPart input rest machine after before written
-IsTypeFault input rest machine after before written (Tape fault) = ⊥
+IsTypeFault input rest machine after before written (Tape number fault) = ⊥
 IsTypeFault input rest machine after before written (Script line) = ⊥
 IsTypeFault input rest machine after before written TooLarge = ⊥
-IsTypeFault input rest machine after before written ReadTape = ⊥
+IsTypeFault input rest machine after before written (ReadTape number) = ⊥
 IsTypeFault input rest machine after before written ReadScript = ⊥
 IsTypeFault input rest machine after before written Memory = ⊥

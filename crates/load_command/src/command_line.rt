@@ -10,6 +10,8 @@ const TAPE: &str = "TAPE";
 
 const SCRIPT: &str = "SCRIPT";
 
+const MORE: &str = "MORE";
+
 const WORDS: &str = "words";
 
 const STYLE: &str = "style";
@@ -24,11 +26,13 @@ pub fn parse<'a>(alloc: Global, words: &'a [String]) -> Result<Request<'a>, Erro
     }
     let matches = ldaodt(alloc)?.try_get_matches_from(words)?;
     Ok(match matches.subcommand() {
-        Some(("check", found)) => Request::Check(text_of(found, TAPE)),
-        Some(("dialogue", found)) => Request::Dialogue(text_of(found, TAPE), console_of(found)),
-        Some(("rehearse", found)) => {
-            Request::Rehearse(text_of(found, TAPE), text_of(found, SCRIPT))
-        }
+        Some(("check", found)) => Request::Check(tapes_of(alloc, found)?),
+        Some(("dialogue", found)) => Request::Dialogue(tapes_of(alloc, found)?, console_of(found)),
+        Some(("rehearse", found)) => Request::Rehearse(
+            text_of(found, TAPE),
+            text_of(found, SCRIPT),
+            more_of(alloc, found)?,
+        ),
         Some(("type", found)) => Request::Type(console_of(found)),
         // One of the subcommands above is required, so this is no words.
         _ => Request::CheckInput,
@@ -38,6 +42,21 @@ pub fn parse<'a>(alloc: Global, words: &'a [String]) -> Result<Request<'a>, Erro
 /// The text of a required argument, which a parse that succeeds has met.
 fn text_of<'a>(found: &ArgMatches<'a>, name: &str) -> &'a str {
     found.get_str(name).unwrap_or("")
+}
+
+/// The names of the tapes, in order.
+fn tapes_of<'a>(alloc: Global, found: &ArgMatches<'a>) -> Result<Vec<&'a str>, AllocError> {
+    let mut names = Vec::new(alloc);
+    names.push(text_of(found, TAPE))?;
+    names.extend_from_slice(found.get_strs(MORE).unwrap_or(&[]))?;
+    Ok(names)
+}
+
+/// The names of the tapes behind the first, in order.
+fn more_of<'a>(alloc: Global, found: &ArgMatches<'a>) -> Result<Vec<&'a str>, AllocError> {
+    let mut names = Vec::new(alloc);
+    names.extend_from_slice(found.get_strs(MORE).unwrap_or(&[]))?;
+    Ok(names)
 }
 
 /// The console of two options that have defaults, which are repeated here.
@@ -66,14 +85,16 @@ fn ldaodt<'a>(alloc: Global) -> Result<Command<'a>, AllocError> {
 
 fn check_command<'a>(alloc: Global) -> Result<Command<'a>, AllocError> {
     Command::new(alloc, "check")
-        .about("Checks a tape and lists its words")
-        .arg(tape_argument(alloc))
+        .about("Checks tapes and lists the words that they make together")
+        .arg(tape_argument(alloc))?
+        .arg(more_argument(alloc))
 }
 
 fn dialogue_command<'a>(alloc: Global) -> Result<Command<'a>, AllocError> {
     Command::new(alloc, "dialogue")
-        .about("Loads a tape into a simulated zeroed machine and shows all that passes")
+        .about("Loads tapes, as one, into a simulated zeroed machine and shows all that passes")
         .arg(tape_argument(alloc))?
+        .arg(more_argument(alloc))?
         .arg(words_option(alloc))?
         .arg(style_option(alloc))
 }
@@ -82,7 +103,8 @@ fn rehearse_command<'a>(alloc: Global) -> Result<Command<'a>, AllocError> {
     Command::new(alloc, "rehearse")
         .about("Rehearses a script of what the line loses")
         .arg(tape_argument(alloc))?
-        .arg(script_argument(alloc))
+        .arg(script_argument(alloc))?
+        .arg(more_argument(alloc))
 }
 
 fn type_command<'a>(alloc: Global) -> Result<Command<'a>, AllocError> {
@@ -100,6 +122,13 @@ fn script_argument<'a>(alloc: Global) -> Arg<'a> {
     Arg::new(alloc, SCRIPT)
         .required(true)
         .help("The script's file")
+}
+
+fn more_argument<'a>(alloc: Global) -> Arg<'a> {
+    Arg::new(alloc, MORE)
+        .num_args(0..)
+        .action(ArgAction::Append)
+        .help("The files of further tapes, whose bytes replace those of earlier ones")
 }
 
 fn words_option<'a>(alloc: Global) -> Arg<'a> {

@@ -4,6 +4,7 @@ use crate::tapes::{HIGH_BYTE, NOTHING, ONE_WORD};
 use command_io::CommandFault;
 use rehearsals::rehearse_to;
 use std::alloc::Global;
+use std::slice;
 use std::test::Fail;
 
 /// Characters of an earlier session wait, and look like echoes.
@@ -102,7 +103,12 @@ fn stories_of_losses(rt: HostRuntime) -> Result<(), Fail> {
         let (story, mut tape, script, expected) = *row;
         let mut script = script.as_bytes();
         let mut out = Vec::new(rt.alloc());
-        let done = rehearse_to(rt.alloc(), &mut tape, &mut script, &mut out);
+        let done = rehearse_to(
+            rt.alloc(),
+            slice::from_mut(&mut tape),
+            &mut script,
+            &mut out,
+        );
         assert_eq!(rt; done, Ok(()), "{story}");
         assert!(rt; out.as_slice() == expected.as_bytes(), "{story}");
     }
@@ -137,7 +143,12 @@ fn refused_scripts_print_nothing(rt: HostRuntime) {
         let (script, line, reason) = *row;
         let (mut tape, mut script) = (ONE_WORD.as_slice(), script.as_bytes());
         let mut out = Vec::new(rt.alloc());
-        let done = rehearse_to(rt.alloc(), &mut tape, &mut script, &mut out);
+        let done = rehearse_to(
+            rt.alloc(),
+            slice::from_mut(&mut tape),
+            &mut script,
+            &mut out,
+        );
         assert_eq!(rt; done, Err(CommandFault::Script(line)), "{reason}");
         assert!(rt; out.is_empty(), "{reason}");
     }
@@ -153,7 +164,12 @@ fn a_script_that_is_too_long(rt: HostRuntime) -> Result<(), Fail> {
     let text = empty_lines(rt.alloc(), 1_048_585)?;
     let (mut tape, mut script) = (ONE_WORD.as_slice(), text.as_slice());
     let mut out = Vec::new(rt.alloc());
-    let done = rehearse_to(rt.alloc(), &mut tape, &mut script, &mut out);
+    let done = rehearse_to(
+        rt.alloc(),
+        slice::from_mut(&mut tape),
+        &mut script,
+        &mut out,
+    );
     assert_eq!(rt; done, Err(CommandFault::Script(0)));
     assert!(rt; out.is_empty());
     assert_eq!(rt;
@@ -188,7 +204,12 @@ fn a_script_cut_at_each_byte(rt: HostRuntime) {
         let front = &STALE.as_bytes()[..length];
         let (mut tape, mut script) = (ONE_WORD.as_slice(), front);
         let mut out = Vec::new(rt.alloc());
-        let done = rehearse_to(rt.alloc(), &mut tape, &mut script, &mut out);
+        let done = rehearse_to(
+            rt.alloc(),
+            slice::from_mut(&mut tape),
+            &mut script,
+            &mut out,
+        );
         let expected = if WHOLE_FRONTS.contains(&length) {
             Ok(())
         } else {

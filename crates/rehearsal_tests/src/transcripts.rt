@@ -1,11 +1,12 @@
 //! Whole dialogues, character by character.
 
-use crate::tapes::{NOTHING, ONE_WORD, OVERLAP};
+use crate::tapes::{HIGH_BYTE, NOTHING, ONE_WORD, OVERLAP};
 use command_io::CommandFault;
 use failing_devices::BrokenInput;
 use host_core::End;
 use odt_machine::Style;
 use rehearsals::dialogue_to;
+use std::slice;
 use std::test::Fail;
 
 /// The load of the smallest tape in the plain style.
@@ -49,7 +50,13 @@ fn transcripts(rt: HostRuntime) -> Result<(), Fail> {
     for row in &TRANSCRIPTS {
         let (mut tape, words, number, expected, end) = *row;
         let mut out = Vec::new(rt.alloc());
-        let done = dialogue_to(rt.alloc(), &mut tape, words, style(number)?, &mut out);
+        let done = dialogue_to(
+            rt.alloc(),
+            slice::from_mut(&mut tape),
+            words,
+            style(number)?,
+            &mut out,
+        );
         assert_eq!(rt; done, Ok(end), "{words} words, style {number}");
         assert!(rt;
             out.as_slice() == expected.as_bytes(),
@@ -63,20 +70,58 @@ fn transcripts(rt: HostRuntime) -> Result<(), Fail> {
 fn refusals_print_nothing(rt: HostRuntime) -> Result<(), Fail> {
     let mut out = Vec::new(rt.alloc());
     let mut tape = ONE_WORD.as_slice();
-    let done = dialogue_to(rt.alloc(), &mut tape, 28673, style(0)?, &mut out);
+    let done = dialogue_to(
+        rt.alloc(),
+        slice::from_mut(&mut tape),
+        28673,
+        style(0)?,
+        &mut out,
+    );
     assert_eq!(rt; done, Err(CommandFault::TooLarge));
     let mut none: &[u8] = &[];
-    let done = dialogue_to(rt.alloc(), &mut none, 28673, style(0)?, &mut out);
+    let done = dialogue_to(
+        rt.alloc(),
+        slice::from_mut(&mut none),
+        28673,
+        style(0)?,
+        &mut out,
+    );
     assert!(rt;
-        matches!(done, Err(CommandFault::Tape(_))),
+        matches!(done, Err(CommandFault::Tape(1, _))),
         "the tape is read first"
     );
     let mut broken = BrokenInput::new(&ONE_WORD, 5);
-    let done = dialogue_to(rt.alloc(), &mut broken, 256, style(0)?, &mut out);
+    let done = dialogue_to(
+        rt.alloc(),
+        slice::from_mut(&mut broken),
+        256,
+        style(0)?,
+        &mut out,
+    );
     assert_eq!(rt;
         (done, broken.later_reads),
-        (Err(CommandFault::ReadTape), 0)
+        (Err(CommandFault::ReadTape(1)), 0)
     );
     assert!(rt; out.is_empty());
+    Ok(())
+}
+
+/// The report where the patch tape's byte replaces one of the first tape's, and has no start.
+const PATCHED: &str =
+    "sent 23 lost 0 spent 0 verified 1 of 1\nend Loaded\nodt Prompt\n001000 052464 stands\n";
+
+#[test]
+fn a_later_tape_wins(rt: HostRuntime) -> Result<(), Fail> {
+    let mut tapes = [ONE_WORD.as_slice(), HIGH_BYTE.as_slice()];
+    let mut out = Vec::new(rt.alloc());
+    let done = dialogue_to(rt.alloc(), &mut tapes, 28672, style(0)?, &mut out);
+    assert_eq!(rt; done, Ok(End::Loaded));
+    assert!(rt; out.ends_with(PATCHED.as_bytes()));
+
+    let mut tapes = [HIGH_BYTE.as_slice(), ONE_WORD.as_slice()];
+    let mut out = Vec::new(rt.alloc());
+    let done = dialogue_to(rt.alloc(), &mut tapes, 28672, style(0)?, &mut out);
+    assert_eq!(rt; done, Ok(End::Started));
+    assert!(rt; out.as_slice() == PLAIN.as_bytes());
     Ok(())
 }

@@ -71,7 +71,13 @@ fn rehearsal(alloc: Global, tapes: &[Tape], script: &Script) -> Result<Vec<u8>, 
     if let Err(line) = put_words(&mut odt, &script.puts) {
         return Err(CommandFault::Script(line));
     }
-    let mut world = open(alloc, tapes, odt, script.patience, script.waiting.as_slice())?;
+    let mut world = open(
+        alloc,
+        tapes,
+        odt,
+        script.patience,
+        script.waiting.as_slice(),
+    )?;
     let mut text = Vec::new(alloc);
     play(&mut world, &script.steps, &mut text)?;
     put_report(&mut text, &world)?;

@@ -4,6 +4,7 @@ use crate::tapes::{ONE_WORD, ONE_WORD_TEXT};
 use command_io::CommandFault;
 use failing_devices::{BrokenInput, BrokenOutput};
 use std::alloc::Global;
+use std::slice;
 use std::test::Fail;
 use tape_blocks::{Fault, Why};
 use tape_check::check_to;
@@ -48,7 +49,7 @@ fn a_tape_is_printed(rt: HostRuntime) -> Result<(), Fail> {
         let (mut input, wanted, reason) = *row;
         let mut out = Vec::new(rt.alloc());
         assert_eq!(rt;
-            check_to(rt.alloc(), &mut input, &mut out),
+            check_to(rt.alloc(), slice::from_mut(&mut input), &mut out),
             Ok(()),
             "{reason}"
         );
@@ -66,7 +67,10 @@ fn what_pads_a_tape_is_seen(rt: HostRuntime) -> Result<(), Fail> {
     tape.extend_from_slice(&[0xFF, 0xFF])?;
     let mut input = tape.as_slice();
     let mut out = Vec::new(rt.alloc());
-    assert_eq!(rt; check_to(rt.alloc(), &mut input, &mut out), Ok(()));
+    assert_eq!(rt;
+        check_to(rt.alloc(), slice::from_mut(&mut input), &mut out),
+        Ok(())
+    );
     let wanted: &[u8] =
         b"blocks 1 data 2 read 59\nstart 001000\ncanonical no\nwords 1\n001000 177777 011064\n";
     assert!(rt; out.as_slice() == wanted);
@@ -100,9 +104,9 @@ fn a_refusal_prints_nothing(rt: HostRuntime) {
     for row in &rows {
         let (mut input, at, why, reason) = *row;
         let mut out = Vec::new(rt.alloc());
-        let refused = CommandFault::Tape(Fault { at, why });
+        let refused = CommandFault::Tape(1, Fault { at, why });
         assert_eq!(rt;
-            check_to(rt.alloc(), &mut input, &mut out),
+            check_to(rt.alloc(), slice::from_mut(&mut input), &mut out),
             Err(refused),
             "{reason}"
         );
@@ -136,9 +140,9 @@ fn the_longest_input_is_judged(rt: HostRuntime) -> Result<(), Fail> {
         let tape = zeros(rt.alloc(), length)?;
         let mut input = tape.as_slice();
         let mut out = Vec::new(rt.alloc());
-        let refused = CommandFault::Tape(Fault { at: 1_048_576, why });
+        let refused = CommandFault::Tape(1, Fault { at: 1_048_576, why });
         assert_eq!(rt;
-            check_to(rt.alloc(), &mut input, &mut out),
+            check_to(rt.alloc(), slice::from_mut(&mut input), &mut out),
             Err(refused),
             "{reason}"
         );
@@ -149,12 +153,12 @@ fn the_longest_input_is_judged(rt: HostRuntime) -> Result<(), Fail> {
 
 #[test]
 fn the_tape_fails_once(rt: HostRuntime) {
-    for place in 0..17 {
+    for place in 0..16 {
         let mut input = BrokenInput::new(&ONE_WORD, place);
         let mut out = Vec::new(rt.alloc());
         assert_eq!(rt;
-            check_to(rt.alloc(), &mut input, &mut out),
-            Err(CommandFault::ReadTape),
+            check_to(rt.alloc(), slice::from_mut(&mut input), &mut out),
+            Err(CommandFault::ReadTape(1)),
             "a read before byte {place}"
         );
         assert_eq!(rt; (input.failures, input.later_reads), (1, 0), "{place}");
@@ -169,7 +173,7 @@ fn the_output_fails_once(rt: HostRuntime) {
         let mut input = ONE_WORD.as_slice();
         let mut out = BrokenOutput::new(Vec::new(rt.alloc()), number);
         assert_eq!(rt;
-            check_to(rt.alloc(), &mut input, &mut out),
+            check_to(rt.alloc(), slice::from_mut(&mut input), &mut out),
             Err(CommandFault::Write),
             "write {number}"
         );
@@ -177,4 +181,37 @@ fn the_output_fails_once(rt: HostRuntime) {
         assert_eq!(rt; out.written.len(), 7 * (number as usize).saturating_sub(1));
         assert!(rt; ONE_WORD_TEXT.as_bytes().starts_with(out.written.as_slice()));
     }
+}
+
+/// The high byte of the word at 001000, and no start: a patch.
+const HIGH_BYTE: [u8; 15] = [
+    0x01, 0x00, 0x07, 0x00, 0x01, 0x02, 0x55, 0xA0, 0x01, 0x00, 0x06, 0x00, 0x01, 0x00, 0xF8,
+];
+
+/// What is printed of the first tape and its patch.
+const PATCHED: &str =
+    "blocks 1 data 2 read 16\nstart 001000\ncanonical yes\nblocks 1 data 1 read 15\nno start 000001\ncanonical yes\nwords 1\n001000 177777 052464\n";
+
+#[test]
+fn several_tapes_are_one(rt: HostRuntime) {
+    let mut tapes = [ONE_WORD.as_slice(), HIGH_BYTE.as_slice()];
+    let mut out = Vec::new(rt.alloc());
+    assert_eq!(rt; check_to(rt.alloc(), &mut tapes, &mut out), Ok(()));
+    assert!(rt; out.as_slice() == PATCHED.as_bytes());
+
+    let mut none: [&[u8]; 0] = [];
+    let mut out = Vec::new(rt.alloc());
+    assert_eq!(rt; check_to(rt.alloc(), &mut none, &mut out), Ok(()));
+    assert!(rt; out.as_slice() == b"words 0\n".as_slice());
+}
+
+#[test]
+fn the_first_bad_tape_decides(rt: HostRuntime) {
+    let mut tapes = [ONE_WORD.as_slice(), &ONE_WORD[..15], ONE_WORD.as_slice()];
+    let mut out = Vec::new(rt.alloc());
+    let why = Why::Cut;
+    let refused = CommandFault::Tape(2, Fault { at: 9, why });
+    assert_eq!(rt; check_to(rt.alloc(), &mut tapes, &mut out), Err(refused));
+    assert!(rt; out.is_empty());
+    assert_eq!(rt; tapes[2].len(), 16, "the third is not read");
 }

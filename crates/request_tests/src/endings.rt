@@ -4,6 +4,7 @@ use crate::tapes::{ONE_WORD, ONE_WORD_TEXT};
 use failing_devices::{BrokenInput, UnflushedOutput};
 use odt_machine::{LARGEST_WORDS, PLAIN_STYLE, Style};
 use requests::{Console, Request, Status, attempt};
+use std::alloc::Global;
 use std::fs;
 use std::test::Fail;
 
@@ -48,112 +49,153 @@ const NO_MEMORY: Console = Console {
     style: PLAIN_STYLE,
 };
 
-/// A request, what stands on standard input, and what must come: how it ends, the output and the line
-/// on standard error.
-type Row<'a> = (Request<'a>, &'a [u8], Status, &'a str, &'a str);
+/// What is asked for, as a constant: the tapes in a slice.
+#[derive(Clone, Copy, Debug)]
+enum Asked {
+    Input,
+    Check(&'static [&'static str]),
+    Dialogue(&'static [&'static str], Console),
+    Rehearse(&'static str, &'static str, &'static [&'static str]),
+    Type(Console),
+}
+
+/// The request.
+fn request(alloc: Global, asked: Asked) -> Result<Request<'static>, Fail> {
+    Ok(match asked {
+        Asked::Input => Request::CheckInput,
+        Asked::Check(tapes) => Request::Check(Vec::from_slice(alloc, tapes)?),
+        Asked::Dialogue(tapes, console) => {
+            Request::Dialogue(Vec::from_slice(alloc, tapes)?, console)
+        }
+        Asked::Rehearse(tape, script, more) => {
+            Request::Rehearse(tape, script, Vec::from_slice(alloc, more)?)
+        }
+        Asked::Type(console) => Request::Type(console),
+    })
+}
+
+/// What is asked for, what stands on standard input, and what must come: how it ends, the output and the
+/// line on standard error.
+type Row = (Asked, &'static [u8], Status, &'static str, &'static str);
 
 /// Requests, first those that are done and then those that can't be.
-const REQUESTS: [Row<'static>; 15] = [
+const REQUESTS: [Row; 19] = [
+    (Asked::Input, &ONE_WORD, Status::Done, ONE_WORD_TEXT, ""),
     (
-        Request::CheckInput,
-        &ONE_WORD,
-        Status::Done,
-        ONE_WORD_TEXT,
-        "",
-    ),
-    (
-        Request::Check("one-word.lda"),
+        Asked::Check(&["one-word.lda"]),
         &[],
         Status::Done,
         ONE_WORD_TEXT,
         "",
     ),
     (
-        Request::Type(LARGEST),
+        Asked::Type(LARGEST),
         b"001000/\n",
         Status::Done,
         "001000/000000 \r\n@",
         "",
     ),
+    (Asked::Type(NO_MEMORY), b"0/", Status::Done, "0/?\r\n@", ""),
     (
-        Request::Type(NO_MEMORY),
-        b"0/",
-        Status::Done,
-        "0/?\r\n@",
-        "",
-    ),
-    (
-        Request::Dialogue("one-word.lda", LARGEST),
+        Asked::Dialogue(&["one-word.lda"], LARGEST),
         &[],
         Status::Done,
         DIALOGUE,
         "",
     ),
     (
-        Request::Dialogue("one-word.lda", SMALL),
+        Asked::Dialogue(&["one-word.lda"], SMALL),
         &[],
         Status::NotLoaded,
         SMALL_MACHINE,
         "",
     ),
     (
-        Request::Rehearse("one-word.lda", "start-lost.script"),
+        Asked::Rehearse("one-word.lda", "start-lost.script", &[]),
         &[],
         Status::Done,
         START_LOST,
         "",
     ),
     (
-        Request::CheckInput,
+        Asked::Input,
         &BAD_SUM,
         Status::Refused,
         "",
         "ldaodt: tape refused at 0: BadSum\n",
     ),
     (
-        Request::Check("no-such.lda"),
+        Asked::Check(&["no-such.lda"]),
         &ONE_WORD,
         Status::DeviceFailed,
         "",
         "ldaodt: cannot read no-such.lda\n",
     ),
     (
-        Request::Check("."),
+        Asked::Check(&["."]),
         &ONE_WORD,
         Status::DeviceFailed,
         "",
         "ldaodt: cannot read .\n",
     ),
     (
-        Request::Rehearse("one-word.lda", "misspelled.script"),
+        Asked::Check(&["one-word.lda", "bad-sum.lda"]),
+        &[],
+        Status::Refused,
+        "",
+        "ldaodt: tape 2 refused at 0: BadSum\n",
+    ),
+    (
+        Asked::Check(&["bad-sum.lda", "no-such.lda"]),
+        &[],
+        Status::DeviceFailed,
+        "",
+        "ldaodt: cannot read no-such.lda\n",
+    ),
+    (
+        Asked::Check(&["one-word.lda", "."]),
+        &[],
+        Status::DeviceFailed,
+        "",
+        "ldaodt: cannot read .\n",
+    ),
+    (
+        Asked::Rehearse("one-word.lda", "misspelled.script", &[]),
         &[],
         Status::Refused,
         "",
         "ldaodt: script refused at line 1\n",
     ),
     (
-        Request::Rehearse("bad-sum.lda", "misspelled.script"),
+        Asked::Rehearse("bad-sum.lda", "misspelled.script", &[]),
         &[],
         Status::Refused,
         "",
         "ldaodt: tape refused at 0: BadSum\n",
     ),
     (
-        Request::Rehearse("one-word.lda", "no-such.script"),
+        Asked::Rehearse("one-word.lda", "misspelled.script", &["bad-sum.lda"]),
+        &[],
+        Status::Refused,
+        "",
+        "ldaodt: tape 2 refused at 0: BadSum\n",
+    ),
+    (
+        Asked::Rehearse("bad-sum.lda", "no-such.script", &[]),
         &[],
         Status::DeviceFailed,
         "",
         "ldaodt: cannot read no-such.script\n",
     ),
     (
-        Request::Rehearse("bad-sum.lda", "no-such.script"),
+        Asked::Rehearse("bad-sum.lda", "start-lost.script", &["no-such.lda"]),
         &[],
         Status::DeviceFailed,
         "",
-        "ldaodt: cannot read no-such.script\n",
+        "ldaodt: cannot read no-such.lda\n",
     ),
     (
-        Request::Rehearse("no-such.lda", "no-such.script"),
+        Asked::Rehearse("no-such.lda", "no-such.script", &[]),
         &[],
         Status::DeviceFailed,
         "",
@@ -183,11 +225,11 @@ fn requests_end_with_their_status(rt: HostRuntime) -> Result<(), Fail> {
         fs::write(&rt, name, bytes)?;
     }
     for row in &REQUESTS {
-        let (request, input, status, out, err) = *row;
-        let ended = run(&rt, request, input);
-        assert_eq!(rt; ended.status, status, "{request:?}");
-        assert!(rt; ended.out.as_slice() == out.as_bytes(), "{request:?}");
-        assert!(rt; ended.err.as_slice() == err.as_bytes(), "{request:?}");
+        let (asked, input, status, out, err) = *row;
+        let ended = run(&rt, request(rt.alloc(), asked)?, input);
+        assert_eq!(rt; ended.status, status, "{asked:?}");
+        assert!(rt; ended.out.as_slice() == out.as_bytes(), "{asked:?}");
+        assert!(rt; ended.err.as_slice() == err.as_bytes(), "{asked:?}");
     }
     for (name, _) in FILES {
         fs::remove_file(&rt, name)?;

@@ -10,8 +10,10 @@ pub enum Failure<'a> {
     CannotRead(&'a str),
     /// Standard output can't be written.
     CannotWrite,
-    /// The tape is refused.
+    /// The only tape is refused.
     TapeRefused(Fault),
+    /// One of several tapes is refused.
+    OneTapeRefused(OneTape),
     /// The script is refused at this line.
     ScriptRefused(u32),
     /// The machine is larger than an LSI-11's memory.
@@ -26,15 +28,25 @@ impl<'a> Failure<'a> {
     ghost use Rattle.std.specs.Prelude.{◌≡◌};
     ghost use Rattle.requests.specs.Failure.{status_of, IsFailureOf};
 
-    /// The failure that a command's fault is, where its tape and its script have these names.
-    pub fn of(fault: CommandFault, tape: &'a str, script: &'a str) -> Failure<'a>
-        ensures { IsFailureOf fault tape.entry.now script.entry.now result }
+    /// The failure that a command's fault is, where its tapes and its script have these names. A tape
+    /// that has no name is standard input's.
+    pub fn of(fault: CommandFault, tapes: &[&'a str], script: &'a str) -> Failure<'a>
+        ensures { IsFailureOf fault tapes.now script.entry.now result }
     {
         match fault {
-            CommandFault::Tape(fault) => Failure::TapeRefused(fault),
+            CommandFault::Tape(number, fault) => {
+                if tapes.len() > 1 {
+                    Failure::OneTapeRefused(OneTape { number, fault })
+                } else {
+                    Failure::TapeRefused(fault)
+                }
+            }
             CommandFault::Script(line) => Failure::ScriptRefused(line),
             CommandFault::TooLarge => Failure::TooLarge,
-            CommandFault::ReadTape => Failure::CannotRead(tape),
+            CommandFault::ReadTape(number) => match tapes.get(number.saturating_sub(1)) {
+                Some(name) => Failure::CannotRead(name),
+                None => Failure::CannotRead(STANDARD_INPUT),
+            },
             CommandFault::ReadScript => Failure::CannotRead(script),
             CommandFault::ReadKeys => Failure::CannotRead(STANDARD_INPUT),
             CommandFault::Write => Failure::CannotWrite,
@@ -48,10 +60,34 @@ impl<'a> Failure<'a> {
     {
         match self {
             Failure::CannotRead(_) | Failure::CannotWrite => Status::DeviceFailed,
-            Failure::TapeRefused(_) | Failure::ScriptRefused(_) => Status::Refused,
+            Failure::TapeRefused(_) | Failure::OneTapeRefused(_) | Failure::ScriptRefused(_) =>
+                Status::Refused,
             Failure::TooLarge | Failure::BadWord => Status::BadCommandLine,
             Failure::NoMemory => Status::NoMemory,
         }
+    }
+}
+
+/// Why one of several tapes is refused.
+#[derive(Clone, Copy, Debug, PartialEq, Eq)]
+pub struct OneTape {
+    /// Its number, from 1.
+    pub number: usize,
+    /// What is wrong with it, and at which byte.
+    pub fault: Fault,
+}
+
+impl fmt::Display for OneTape {
+    ghost use Rattle.std.specs.Prelude.{Some};
+    ghost use Rattle.requests.specs.Failure.{one_tape_text};
+
+    ghost output = { λ tape. Some (one_tape_text tape) };
+
+    fn fmt<W: fmt::Write>(&self, f: &mut fmt::Formatter<W>) -> fmt::Result {
+        let number = self.number;
+        let at = self.fault.at;
+        let why = self.fault.why;
+        write!(f, "{number} refused at {at}: {why}")
     }
 }
 
@@ -69,6 +105,7 @@ impl fmt::Display for Failure<'_> {
             Failure::CannotRead(name) => write!(f, "cannot read {name}"),
             Failure::CannotWrite => f.write_str("cannot write output"),
             Failure::TapeRefused(fault) => write!(f, "{}", ReadError::Tape(*fault)),
+            Failure::OneTapeRefused(tape) => write!(f, "tape {tape}"),
             Failure::ScriptRefused(line) => write!(f, "script refused at line {line}"),
             Failure::TooLarge => f.write_str("machine too large"),
             Failure::BadWord => f.write_str("a word of the command line is not UTF-8"),

@@ -13,7 +13,7 @@ mod handling;
 mod request;
 mod status;
 
-pub use failure::{Failure, STANDARD_INPUT};
+pub use failure::{Failure, OneTape, STANDARD_INPUT};
 pub use handling::{attempt, tell};
 pub use request::{Console, Request};
 pub use status::Status;

@@ -1,16 +1,18 @@
 use odt_machine::Style;
 
 /// What the words after the program's name ask for.
-#[derive(Clone, Copy, Debug, PartialEq, Eq)]
+///
+/// Tapes are named in the order in which they are joined, the first before all others.
+#[derive(Debug, PartialEq, Eq, Drop)]
 pub enum Request<'a> {
     /// Check the tape on standard input: there were no words.
     CheckInput,
-    /// Check the tape in a file.
-    Check(&'a str),
-    /// Show the load of a tape into a simulated console.
-    Dialogue(&'a str, Console),
-    /// Rehearse, with the tape in the first file, the script in the second.
-    Rehearse(&'a str, &'a str),
+    /// Check the tapes in some files.
+    Check(Vec<&'a str>),
+    /// Show the load of tapes, as one, into a simulated console.
+    Dialogue(Vec<&'a str>, Console),
+    /// Rehearse, with the tape in the first file, the script in the second, and further tapes.
+    Rehearse(&'a str, &'a str, Vec<&'a str>),
     /// Type standard input into a simulated console.
     Type(Console),
 }

@@ -28,7 +28,7 @@ taken_each (x ∷ xs) [] texts are = absurd (cases texts are)
     cases [] are = are
     cases (t ∷ texts) are = are
 taken_each (x ∷ xs) (y ∷ ys) [] are = absurd are
-taken_each (x ∷ xs) (y ∷ ys) (t ∷ texts) are = (are.0.begins.is_tape, taken_each xs ys texts are.1)
+taken_each (x ∷ xs) (y ∷ ys) (t ∷ texts) are = (are.0.is_tape, taken_each xs ys texts are.1)
 
 -- the tapes that were taken, and the bytes that they were read from
 pub are_texts : (befores afters : List (Option (List ℕ))) (tapes : List TapeValue) (lengths : List ℕ) (are : AreTapes befores afters tapes lengths) → AreTexts tapes lengths are.texts

@@ -2,10 +2,10 @@
 ghost use Rattle.std.specs.Prelude.{◌≡◌, ◌≤◌, ◌++◌, ℕ, List, length, map, [], ◌∷◌, OnOk, IfOk, IfErr};
 ghost use Rattle.std.specs.List.{flat_map};
 ghost use Rattle.octal.specs.Octal.{octal_text};
-ghost use Rattle.tape_blocks.specs.Tape.{IsTape, plain_text, tape_limit};
+ghost use Rattle.tape_blocks.specs.Tape.{IsTape, tape_limit};
 ghost use Rattle.command_io.specs.Tapes.{TapeText, TakeAtMost};
 ghost use Rattle.command_io.specs.Text.{line};
-ghost use Rattle.tape_check.specs.CheckText.{data_count, counts_text, start_text, canonical_text, is_same, tape_text, words_text, word_fields, check_text as text_of_check, AreTexts, IsChecked};
+ghost use Rattle.tape_check.specs.CheckText.{data_count, counts_text, start_text, canonical_text, tape_text, words_text, word_fields, check_text as text_of_check, AreTexts, IsChecked};
 ghost use Rattle.tape_check.specs.CheckFault.{IsCheckFault};
 
 use command_io::{CommandFault, Tapes, put_decimal, put_octal, take_tapes, write_whole};
@@ -13,9 +13,6 @@ use std::alloc::{AllocError, Global};
 use std::io::{Read, Write};
 use tape_blocks::{Block, Tape};
 use tape_image::{Plan, Word};
-
-/// How many bytes a block has beside its data.
-const FRAME: usize = 7;
 
 /// Checks tapes, one from each input, and prints of each its blocks, its start and whether it is
 /// canonical, and then the words of the image that they make together.
@@ -54,13 +51,14 @@ fn check_text(alloc: Global, taken: &Tapes) -> Result<Vec<u8>, CommandFault>
     Ok(report)
 }
 
-/// The lines of one tape, which has so many bytes.
+/// The lines of one tape, which was read from so many bytes: they are its plain text where nothing stands
+/// between its blocks.
 fn put_tape(report: &mut Vec<u8>, tape: &Tape, size: u32) -> Result<(), AllocError>
     ensures { OnOk result ((text : List ℕ) → IsTape text tape.now.blocks tape.now.start → size ≡ length text → report.new.items ≡ report.old.items ++ tape_text (record { text = text; tape = tape.now })) }
 {
     put_counts(report, tape, size)?;
     put_start(report, tape.start())?;
-    put_canonical(report, is_canonical(tape, size))
+    put_canonical(report, size as usize == tape.written_length())
 }
 
 fn put_counts(report: &mut Vec<u8>, tape: &Tape, size: u32) -> Result<(), AllocError>
@@ -81,16 +79,6 @@ fn data_count(blocks: &[Block]) -> usize
     ensures { result ≡ data_count blocks.now }
 {
     blocks.iter().map(|block| block.bytes.len()).sum()
-}
-
-/// Whether the bytes that the tape was read from, so many, are its plain text: whether nothing stands
-/// between its blocks.
-fn is_canonical(tape: &Tape, size: u32) -> bool
-    ensures { (text : List ℕ) → IsTape text tape.now.blocks tape.now.start → size ≡ length text → result ≡ is_same text (plain_text tape.now) }
-{
-    let blocks = tape.blocks();
-    let written = data_count(blocks) + FRAME * (blocks.len() + 1);
-    size as usize == written
 }
 
 fn put_start(report: &mut Vec<u8>, start: u16) -> Result<(), AllocError>

@@ -1,62 +1,43 @@
 use super::*;
-use odt_machine::{LARGEST_WORDS, PLAIN_STYLE, Style};
-use requests::{Console, Request};
+use requests::Request;
 use std::test::Fail;
 
-/// The console of the defaults.
-const DEFAULTS: Console = Console {
-    words: LARGEST_WORDS,
-    style: PLAIN_STYLE,
-};
-
-/// A console whose machine ends below 001000.
-const SMALL: Console = Console {
-    words: 256,
-    style: PLAIN_STYLE,
-};
-
-/// A console whose style has the number 7.
-const LAVISH: Console = Console {
-    words: LARGEST_WORDS,
-    style: Style {
-        space_before: true,
-        two_returns: true,
-        echo_illegal: true,
-    },
-};
-
-/// Words, and what they ask for.
-const ASKED: [(&[&str], Request<'static>); 9] = [
-    (&[], Request::CheckInput),
-    (&["check", "a.lda"], Request::Check("a.lda")),
-    (&["dialogue", "a.lda"], Request::Dialogue("a.lda", DEFAULTS)),
+/// Words, and what they ask for, in a text.
+const ASKED: [(&[&str], &str); 11] = [
+    (&[], "CheckInput"),
+    (&["check", "a.lda"], "Check [a.lda]"),
     (
-        &["dialogue", "a.lda", "--words", "256"],
-        Request::Dialogue("a.lda", SMALL),
+        &["check", "a.lda", "b.lda", "c.lda"],
+        "Check [a.lda b.lda c.lda]",
+    ),
+    (&["dialogue", "a.lda"], "Dialogue [a.lda] 28672 0"),
+    (
+        &["dialogue", "a.lda", "b.lda", "--words", "256"],
+        "Dialogue [a.lda b.lda] 256 0",
     ),
     (
         &["dialogue", "--style", "7", "a.lda"],
-        Request::Dialogue("a.lda", LAVISH),
+        "Dialogue [a.lda] 28672 7",
     ),
     (
         &["rehearse", "a.lda", "b.script"],
-        Request::Rehearse("a.lda", "b.script"),
+        "Rehearse a.lda b.script []",
     ),
-    (&["type"], Request::Type(DEFAULTS)),
-    (&["type", "--words", "256"], Request::Type(SMALL)),
     (
-        &["type", "--style", "7", "--words=28672"],
-        Request::Type(LAVISH),
+        &["rehearse", "a.lda", "b.script", "c.lda"],
+        "Rehearse a.lda b.script [c.lda]",
     ),
+    (&["type"], "Type 28672 0"),
+    (&["type", "--words", "256"], "Type 256 0"),
+    (&["type", "--style", "7", "--words=28672"], "Type 28672 7"),
 ];
 
 /// Words that ask for a text.
 const HELP: [&[&str]; 2] = [&["--help"], &["--version"]];
 
 /// Words that are refused, and why.
-const REFUSED: [(&[&str], &str); 10] = [
+const REFUSED: [(&[&str], &str); 9] = [
     (&["check"], "no tape named"),
-    (&["check", "a.lda", "b.lda"], "two tapes"),
     (&["dialogue"], "no tape to load"),
     (&["rehearse", "a.lda"], "no script"),
     (&["load", "a.lda"], "a command that is not there yet"),
@@ -95,13 +76,51 @@ fn run(rt: &HostRuntime, words: &[&str]) -> Result<Ended, Fail> {
     Ok(Ended { status, out, err })
 }
 
+/// Puts names at the end of a text.
+fn put_names(text: &mut String, names: &[&str]) -> Result<(), Fail> {
+    for (place, name) in names.iter().enumerate() {
+        text.push_str(if place == 0 { "[" } else { " " })?;
+        text.push_str(name)?;
+    }
+    text.push_str(if names.is_empty() { "[]" } else { "]" })?;
+    Ok(())
+}
+
+/// A request in a text.
+fn told(alloc: Global, request: &Request<'_>) -> Result<String, Fail> {
+    let mut names = String::new(alloc);
+    match request {
+        Request::CheckInput => Ok(String::from_str(alloc, "CheckInput")?),
+        Request::Check(tapes) => {
+            put_names(&mut names, tapes)?;
+            Ok(format!(in alloc; "Check {names}")?)
+        }
+        Request::Dialogue(tapes, console) => {
+            put_names(&mut names, tapes)?;
+            let style = console.style.number();
+            Ok(format!(in alloc; "Dialogue {names} {} {style}", console.words)?)
+        }
+        Request::Rehearse(tape, script, more) => {
+            put_names(&mut names, more)?;
+            Ok(format!(in alloc; "Rehearse {tape} {script} {names}")?)
+        }
+        Request::Type(console) => {
+            let style = console.style.number();
+            Ok(format!(in alloc; "Type {} {style}", console.words)?)
+        }
+    }
+}
+
 #[test]
 fn words_ask_for_requests(rt: HostRuntime) -> Result<(), Fail> {
     for row in &ASKED {
         let (words, asked) = *row;
         let line = line(rt.alloc(), words)?;
-        let found = parse(rt.alloc(), &line).ok();
-        assert_eq!(rt; found, Some(asked), "{words:?}");
+        let Ok(request) = parse(rt.alloc(), &line) else {
+            return Err(Fail::from("words that ask for something are refused"));
+        };
+        let found = told(rt.alloc(), &request)?;
+        assert!(rt; found.as_str() == asked, "{words:?}: {found}");
     }
     Ok(())
 }

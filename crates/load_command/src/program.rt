@@ -1,5 +1,6 @@
 //! The body of `main`, over any files, input and outputs.
-ghost use Rattle.std.specs.Prelude.{◌≡◌, ◌∷◌, []};
+ghost use Rattle.std.specs.Prelude.{◌≡◌, ℕ, List, Option, ◌∷◌, []};
+ghost use Rattle.std.specs.Mem.{FitsInMemory};
 ghost use Rattle.tape_blocks.specs.declared.fault.Fault.{Fault as TapeFault};
 ghost use Rattle.command_io.specs.TapeFile.{IsRefusedInput};
 ghost use Rattle.tape_check.specs.CheckText.{IsChecked};
@@ -29,8 +30,9 @@ pub fn program<F: Files + Net + Clock, R: Read, W: Write, E: Write, T: Print>(
     err: &mut E,
     terminal: Option<&T>,
 ) -> u8
+    requires { FitsInMemory R.row }
     // With no words, the tape on the input is checked.
-    ensures checked { words.now ≡ [] → result ≡ 0 → IsChecked (R.remaining input.old ∷ []) (R.remaining input.new ∷ []) (W.contents out.old) (W.contents out.new) }
+    ensures checked { words.now ≡ [] → result ≡ 0 → (rests : List (Option (List ℕ))) × IsChecked (R.remaining input.old ∷ []) rests (W.contents out.old) (W.contents out.new) }
     ensures refused { words.now ≡ [] → result ≡ 3 → (fault : TapeFault) × IsRefusedInput (R.remaining input.old) fault }
     ensures status { words.now ≡ [] → (status : Status) × IsCheckStatus status × (result ≡ status_code status) }
 {

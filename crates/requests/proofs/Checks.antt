@@ -1,7 +1,6 @@
 -- How a check of standard input alone fails.
-use Rattle.std.proofs.Common.{◌≡◌, ℕ, List, ◌∷◌, Option, drop, length, Result, Ok, Err, IfErr, Bor, codes, sym, subst, zero, suc, map, ap, arith, [], ◌+◌}
+use Rattle.std.proofs.Common.{◌≡◌, ℕ, List, ◌∷◌, Option, drop, length, Result, Ok, Err, IfErr, codes, sym, subst, zero, suc, map, ap, arith, []}
 use Rattle.std.proofs.lemmas.List.{length-drop}
-use Rattle.tape_blocks.specs.declared.fault.Fault.{Fault}
 use Rattle.command_io.specs.TapeFile.{IsRefusedInput}
 use Rattle.command_io.specs.declared.fault.CommandFault.{CommandFault}
 use Rattle.command_io.specs.declared.fault.CommandFault.TheVariants as fault

@@ -55,6 +55,9 @@ const ASKED: [(&[&str], &str); 13] = [
         ],
         "Load [a.lda b.lda] [::1]:23 a.record 1000 60000",
     ),
+    (&["type"], "Type 28672 0"),
+    (&["type", "--words", "256"], "Type 256 0"),
+    (&["type", "--style", "7", "--words=28672"], "Type 28672 7"),
 ];
 
 /// Words that ask for a text.

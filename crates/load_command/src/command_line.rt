@@ -168,10 +168,9 @@ fn address_argument<'a>(alloc: Global) -> Arg<'a> {
 }
 
 fn record_option<'a>(alloc: Global) -> Arg<'a> {
-    Arg::new(alloc, RECORD)
-        .long(RECORD)
-        .value_name("FILE")
-        .help("Where the verified words are kept, so that a later load goes on from them")
+    Arg::new(alloc, RECORD).long(RECORD).value_name("FILE").help(
+        "Where the verified words are kept, so that a later load goes on from them",
+    )
 }
 
 fn patience_option<'a>(alloc: Global) -> Arg<'a> {

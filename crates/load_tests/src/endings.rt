@@ -222,7 +222,15 @@ fn load(rt: &HostRuntime, setting: Setting, request: Request<'_>) -> Ended {
     let mut input: &[u8] = &[];
     let mut out = Vec::new(rt.alloc());
     let mut err = Vec::new(rt.alloc());
-    let status = attempt(&system, rt.alloc(), request, &mut input, &mut out, &mut err, NOBODY);
+    let status = attempt(
+        &system,
+        rt.alloc(),
+        request,
+        &mut input,
+        &mut out,
+        &mut err,
+        NOBODY,
+    );
     Ended {
         status,
         out,
@@ -309,13 +317,29 @@ fn a_report_that_can_not_be_written_is_told_alone(rt: HostRuntime) -> Result<(),
         let mut input: &[u8] = &[];
         let mut out = BrokenOutput::new(Vec::new(rt.alloc()), 1);
         let mut err = Vec::new(rt.alloc());
-        let status = attempt(&system, rt.alloc(), load_of(None), &mut input, &mut out, &mut err, NOBODY);
+        let status = attempt(
+            &system,
+            rt.alloc(),
+            load_of(None),
+            &mut input,
+            &mut out,
+            &mut err,
+            NOBODY,
+        );
         assert_eq!(rt; status, Status::DeviceFailed);
         assert!(rt; err.as_slice() == wanted);
         assert_eq!(rt; out.later_writes, 0);
         err.clear();
         let mut out = UnflushedOutput;
-        let status = attempt(&system, rt.alloc(), load_of(None), &mut input, &mut out, &mut err, NOBODY);
+        let status = attempt(
+            &system,
+            rt.alloc(),
+            load_of(None),
+            &mut input,
+            &mut out,
+            &mut err,
+            NOBODY,
+        );
         assert_eq!(rt; status, Status::DeviceFailed);
         assert!(rt; err.as_slice() == wanted);
     }

@@ -59,13 +59,43 @@ enum Step {
 
 /// The time in milliseconds, what happens, how often something was shown by then, and what last.
 const STORY: [(u64, Step, u32, &str); 7] = [
-    (10, Step::Resynchronised, 1, "\r500 of 2000 words, 25%\x1b[K"),
+    (
+        10,
+        Step::Resynchronised,
+        1,
+        "\r500 of 2000 words, 25%\x1b[K",
+    ),
     (99, Step::Verified, 1, "\r500 of 2000 words, 25%\x1b[K"),
-    (100, Step::Verified, 2, "\r502 of 2000 words, 25%, 1:14 left\x1b[K"),
-    (199, Step::Verified, 2, "\r502 of 2000 words, 25%, 1:14 left\x1b[K"),
-    (200, Step::Resynchronised, 3, "\r503 of 2000 words, 25%, 1 mishap, 1:39 left\x1b[K"),
-    (1000, Step::Resynchronised, 4, "\r503 of 2000 words, 25%, 2 mishaps, 8:19 left\x1b[K"),
-    (10000, Step::Verified, 5, "\r504 of 2000 words, 25%, 2 mishaps, 1:02:20 left\x1b[K"),
+    (
+        100,
+        Step::Verified,
+        2,
+        "\r502 of 2000 words, 25%, 1:14 left\x1b[K",
+    ),
+    (
+        199,
+        Step::Verified,
+        2,
+        "\r502 of 2000 words, 25%, 1:14 left\x1b[K",
+    ),
+    (
+        200,
+        Step::Resynchronised,
+        3,
+        "\r503 of 2000 words, 25%, 1 mishap, 1:39 left\x1b[K",
+    ),
+    (
+        1000,
+        Step::Resynchronised,
+        4,
+        "\r503 of 2000 words, 25%, 2 mishaps, 8:19 left\x1b[K",
+    ),
+    (
+        10000,
+        Step::Verified,
+        5,
+        "\r504 of 2000 words, 25%, 2 mishaps, 1:02:20 left\x1b[K",
+    ),
 ];
 
 #[test]

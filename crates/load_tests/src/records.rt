@@ -30,7 +30,10 @@ fn the_old_record_is_replaced_whole(rt: HostRuntime) -> Result<(), Fail> {
     assert!(rt; begin_record(&rt, rt.alloc(), "b.record", &plan(&rt)?, 1).is_ok());
     assert!(rt; fs::read(&rt, "b.record")?.as_slice() == BEGUN);
     assert!(rt; fs::read(&rt, "b.old")?.as_slice() == b"old".as_slice());
-    assert_eq!(rt; fs::metadata(&rt, "b.record")?.permissions().mode() % 512, 0o600);
+    assert_eq!(rt;
+        fs::metadata(&rt, "b.record")?.permissions().mode() % 512,
+        0o600
+    );
     assert!(rt; fs::metadata(&rt, "b.record.ldaodt-new").is_err());
     fs::remove_file(&rt, "b.record")?;
     Ok(fs::remove_file(&rt, "b.old")?)

@@ -121,7 +121,8 @@ impl Net for System<'_> {
     }
 
     fn connect(&self, _address: SocketAddr) -> io::Result<Console> {
-        self.connections.set(self.connections.get().saturating_add(1));
+        self.connections
+            .set(self.connections.get().saturating_add(1));
         if self.setting.reads == 0 {
             return Err(io::Error::from(ErrorKind::ConnectionRefused));
         }

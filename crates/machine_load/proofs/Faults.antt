@@ -1,5 +1,5 @@
 -- Reports that are cut short.
-use Rattle.std.proofs.Common.{◌≡◌, ℕ, List, [], ◌++◌, Option, Result, Ok, Err, IfErr, IsErrAnd, sym, ◌∙◌, ap, subst, append-nil}
+use Rattle.std.proofs.Common.{◌≡◌, ℕ, List, [], Option, Result, Ok, Err, IfErr, IsErrAnd, sym, ◌∙◌, subst, append-nil}
 use Rattle.std.proofs.KnownBytes.{Appends-kept}
 use Rattle.std.specs.Io.KnownBytes.{Appends, Keeps}
 use Rattle.tape_image.specs.Plan.{PlanValue}
@@ -15,15 +15,18 @@ use Rattle.machine_load.specs.declared.fault.LoadFault.TheVariants.{Record, Read
 
 -- a report that went out whole, but that could not be flushed
 pub unflushed : (a b d : Option (List ℕ)) (report text : List ℕ) → text ≡ report → Appends a b text → Keeps b d → (missing : List ℕ) × WritesAllBut a d report missing
-unflushed a b d report text is wrote kept = ([], record {
-  written = text;
-  whole = sym is ∙ sym (append-nil text);
-  appended = Appends-kept a b d text wrote kept;
-})
+unflushed a b d report text is wrote kept = (
+  [],
+  record {
+    written = text;
+    whole = sym is ∙ sym (append-nil text);
+    appended = Appends-kept a b d text wrote kept;
+  },
+)
 
 -- a report that fails is that of the load
 pub of_report : (plan : PlanValue) (patience : ℕ) (steps steps' : Option (List Step)) (told told' out out' : Option (List ℕ)) (last : Core) (stop : Stop) (fault : LoadFault)
-    → IsLoad told plan patience steps steps' last stop → IsReportFault out out' (load_report last stop) fault → IsLoadFault plan patience steps steps' told told' out out' fault
+    → IsLoad told plan patience steps steps' told' last stop → IsReportFault out out' (load_report last stop) fault → IsLoadFault plan patience steps steps' told told' out out' fault
 of_report plan patience steps steps' told told' out out' last stop WriteOutput load fails = record { last = last; stop = stop; load = load; missing = fails.0; reported = fails.1 }
 of_report plan patience steps steps' told told' out out' last stop Memory load fails = tt
 of_report plan patience steps steps' told told' out out' last stop ReadRecord load fails = absurd fails

@@ -123,7 +123,9 @@ impl<C: Clock, E: Print> Onlooker for ProgressLine<'_, C, E> {
 // Puts the whole line of a tally.
 fn put_line(text: &mut LineText, tally: Tally, now: Option<u64>) -> fmt::Result {
     let Tally {
-        words, verified, ..
+        words,
+        verified,
+        ..
     } = tally;
     write!(text, "\r{verified} of {words} words")?;
     if words > 0 {
@@ -159,4 +161,3 @@ fn put_time(text: &mut LineText, seconds: u64) -> fmt::Result {
         write!(text, ", {minutes}:{seconds:02} left")
     }
 }
-

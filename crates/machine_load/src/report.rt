@@ -23,7 +23,10 @@ fn put_counts(text: &mut Vec<u8>, core: &HostCore) -> Result<(), AllocError>
 {
     let (sent, spent) = (core.sent_count(), core.spent());
     let (verified, words) = (core.progress().verified, core.plan().words().len());
-    match writeln!(text, "sent {sent} spent {spent} verified {verified} of {words}") {
+    match writeln!(
+        text,
+        "sent {sent} spent {spent} verified {verified} of {words}"
+    ) {
         Ok(()) => Ok(()),
         Err(_) => Err(AllocError),
     }

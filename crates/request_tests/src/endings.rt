@@ -177,7 +177,15 @@ struct Ended {
 fn run(rt: &HostRuntime, request: Request<'_>, mut input: &[u8]) -> Ended {
     let mut out = Vec::new(rt.alloc());
     let mut err = Vec::new(rt.alloc());
-    let status = attempt(rt, rt.alloc(), request, &mut input, &mut out, &mut err, NOBODY);
+    let status = attempt(
+        rt,
+        rt.alloc(),
+        request,
+        &mut input,
+        &mut out,
+        &mut err,
+        NOBODY,
+    );
     Ended { status, out, err }
 }
 

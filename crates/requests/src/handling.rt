@@ -140,11 +140,7 @@ fn dialogue<'a, R: Read, W: Write>(
     }
 }
 
-fn plan_of<'a, R: Read>(
-    alloc: Global,
-    name: &'a str,
-    tape: &mut R,
-) -> Result<Plan, Failure<'a>> {
+fn plan_of<'a, R: Read>(alloc: Global, name: &'a str, tape: &mut R) -> Result<Plan, Failure<'a>> {
     let file = match take_tape(alloc, tape) {
         Ok(file) => file,
         Err(fault) => return Err(Failure::of(fault, name, name)),
@@ -172,7 +168,11 @@ fn load_machine<'a, F: Files + Net, W: Write, O: Onlooker>(
     let record = load.record.unwrap_or("");
     let loaded = match load.record {
         Some(record) => {
-            let mut around = Recorded { rt, address, record };
+            let mut around = Recorded {
+                rt,
+                address,
+                record,
+            };
             machine_load::load(alloc, plan, load.patience, &mut around, out, onlooker)
         }
         None => {

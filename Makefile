@@ -1,4 +1,4 @@
-# What a person does here: make, make demo, make install, make test, make bench.
+# What a person does here: make, make demo, make install, make test, make bench, make hostile.
 # All but install and uninstall need rt, the command of the Rattle toolchain, on the PATH.
 
 built := crates/load_command/out/load_command
@@ -8,7 +8,7 @@ PREFIX ?= /usr/local
 program := $(DESTDIR)$(PREFIX)/bin/ldaodt
 manual := $(DESTDIR)$(PREFIX)/share/man/man1/ldaodt.1
 
-.PHONY: all ldaodt test demo bench install uninstall toolchain
+.PHONY: all ldaodt test demo bench hostile install uninstall toolchain
 
 all: ldaodt
 
@@ -24,15 +24,22 @@ ldaodt: toolchain
 test: toolchain
 	@tools/gate
 
-# The main jobs: a tape that is a real program, its load character by character, and a lost digit.
+# The main jobs: a tape that is a real program, its load over TCP into a simulated machine, the same
+# load character by character, and a lost digit.
 demo: ldaodt
 	./ldaodt check examples/hello.lda
+	@tools/demo-load
 	./ldaodt dialogue examples/hello.lda
 	./ldaodt rehearse examples/first.lda examples/losses/third-digit-lost.script
 
 # Times, for a reader to judge: nothing here fails for being slow.
 bench: ldaodt
 	@tools/bench
+
+# The built program in bad company: little memory, full and closed outputs, a peer that hangs up, lost
+# characters and kills. It takes minutes and depends on time, so it is no part of the gate.
+hostile: ldaodt
+	@tools/hostile
 
 # It builds nothing, so that it can be run as another user than make was.
 install:

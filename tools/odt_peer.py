@@ -67,11 +67,12 @@ class Machine:
 class Peer:
     """A machine behind a port, and the line between them."""
 
-    def __init__(self, machine, port=0, loss=0.0, seed=0, close_after=None, baud=None, tell=None):
+    def __init__(self, machine, port=0, loss=0.0, seed=0, close_after=None, takes_last=False, baud=None, tell=None):
         self.machine, self.loss, self.baud = machine, loss, baud
         self.chance = random.Random(seed)
-        # How many characters, keys and answers together, pass before the line breaks; None: it holds.
-        self.close_after = close_after
+        # How many characters, keys and answers together, pass before the line breaks (None: it holds),
+        # and whether a key that is the last of them still reaches the machine.
+        self.close_after, self.takes_last = close_after, takes_last
         self.keys = self.answered = self.lost = 0
         self.tell = tell or (lambda _text: None)
         self.idle = threading.Event()
@@ -104,6 +105,8 @@ class Peer:
             for key in keys.decode("latin-1"):
                 self.keys += 1
                 if self.is_over():
+                    if self.takes_last:
+                        self.machine.take(key)
                     return
                 self.wait_a_character()
                 if self.loses():

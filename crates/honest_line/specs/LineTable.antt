@@ -9,6 +9,7 @@ use Rattle.load_devices.specs.declared.fault.LineFault.{LineFault}
 use Rattle.load_devices.specs.declared.fault.LineFault.TheVariants.{Send, Receive, Full}
 use Rattle.load_devices.specs.declared.item.Item.{Item}
 use Rattle.load_devices.specs.declared.item.Item.TheVariants.{Sent, Heard as Came}
+use Rattle.load_devices.specs.Failures.{one_more}
 use Rattle.load_devices.specs.KeepTable.{is_failing}
 use Rattle.honest_line.specs.declared.loss.Loss.{Loss}
 use Rattle.honest_line.specs.declared.loss.Loss.TheVariants.{Down, Up}
@@ -63,7 +64,7 @@ refusal_of line failure is_full =
 -- the line after a call was judged, with nothing said yet
 abbrev pub called : LineValue → Option LineFault → LineValue
 called line None = record line { calls = next_call line; fault = None }
-called line (Some fault) = record line { calls = next_call line; failures = min (line.failures + 1) (2 ^ 64 - 1); fault = Some fault }
+called line (Some fault) = record line { calls = next_call line; failures = one_more line.failures; fault = Some fault }
 
 -- the machine takes a key, and what the line lets through of its answer waits
 abbrev pub with_key : LineValue → ℕ → LineValue

@@ -68,7 +68,7 @@ fn turn<L: Line, K: Keep>(core: &mut HostCore, line: &mut L, keep: &mut K) -> Re
     let heard = line.hear()?;
     let Errands { news, key } = step(core, heard);
     if let Some(news) = news {
-        kept(keep, news)?;
+        keep_news(keep, news)?;
     }
     if let Some(key) = key {
         line.send(key)?;
@@ -107,7 +107,7 @@ fn step(core: &mut HostCore, heard: Heard) -> Errands
 }
 
 // Has one thing kept.
-fn kept<K: Keep>(keep: &mut K, news: Kept) -> Result<(), KeepFault>
+fn keep_news<K: Keep>(keep: &mut K, news: Kept) -> Result<(), KeepFault>
     ensures kept { OnOk result (Gains (K.told keep.old) (K.told keep.new) (news ∷ [])) }
     ensures not_kept { OnErr result (Keeps (K.told keep.old) (K.told keep.new)) }
     ensures counted { K.fault_count keep.new ≡ count_after (K.fault_count keep.old) result }

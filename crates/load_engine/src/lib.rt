@@ -10,3 +10,6 @@ mod stop;
 
 pub use driving::drive;
 pub use stop::Stop;
+
+#[cfg(test)]
+mod tests;

@@ -1,6 +1,7 @@
 -- What a call of a keeper does, from what its writes did.
-use Rattle.std.proofs.Common.{◌≡◌, ℕ, ◌+◌, ◌-◌, ◌^◌, ◌<◌, ◌≤◌, min, List, ◌++◌, Option, Some, None, Result, Ok, Err, OnOk, OnErr, IfOk, IfErr, IsOk, arith, ap, sym, ◌∙◌}
+use Rattle.std.proofs.Common.{◌≡◌, ◌↔◌, zero, suc, ℕ, ◌+◌, ◌-◌, ◌^◌, ◌<◌, ◌≤◌, min, Bool, true, false, List, ◌++◌, Option, Some, None, Result, Ok, Err, OnOk, OnErr, IfOk, IfErr, IsOk, arith, ap, sym, ◌∙◌}
 use Rattle.std.specs.List.{slice_get}
+use Rattle.std.proofs.lemmas.Bool.{false≢true}
 use Rattle.std.specs.Io.KnownBytes.{Appends, Keeps}
 use Rattle.tape_image.specs.Word.{WordValue}
 use Rattle.tape_image.specs.Plan.{PlanValue}
@@ -21,6 +22,11 @@ Counts before after result = IfErr result (λ fault. (fault ≡ Write) × (after
 -- what a call did that failed
 abbrev pub FailsAs : Keeper → Keeper → Result (Unit {0}) KeepFault → List ℕ → Type 0
 FailsAs before after result text = IfErr result (λ fault. (fault ≡ Write) × Failed before after text)
+
+-- a count that is not above 0
+pub never_failed : (broken : Bool) (failures : ℕ) → broken ≡ false → (broken ≡ true) ↔ (0 < failures) → failures ≤ 0
+never_failed broken zero unbroken h = omega arith
+never_failed broken (suc n) unbroken h = let had : broken ≡ true = h.1 (omega arith) in absurd (false≢true (sym unbroken ∙ had))
 
 -- a call after a fault
 pub failed_before : (before after : Keeper) (result : Result (Unit {0}) KeepFault) (text : List ℕ) → 0 < before.failures

@@ -1,5 +1,5 @@
 //! Writing a record, word for word.
-ghost use Rattle.std.specs.Prelude.{◌≡◌, [], ◌++◌, ℕ, ◌+◌, ◌-◌, ◌^◌, min, ◌↔◌, IsOk, OnOk, OnErr, IfOk, IfErr, Some, None, slice_get, true, false};
+ghost use Rattle.std.specs.Prelude.{◌≡◌, [], ◌++◌, ℕ, ◌+◌, ◌-◌, ◌^◌, min, ◌<◌, ◌↔◌, IsTrue, IsOk, OnOk, OnErr, IfOk, IfErr, Some, None, slice_get, true, false};
 ghost use Rattle.std.specs.Io.KnownBytes.{Keeps};
 ghost use Rattle.tape_image.specs.Plan.{PlanValue};
 ghost use Rattle.load_devices.specs.declared.fault.KeepFault.{KeepFault};
@@ -60,7 +60,7 @@ impl<W: Write> FileKeep<W> {
         ensures err { IfErr result (λ fault. (fault ≡ KeepFault.Write) × Failed self.old self.new (ending self.old.run ++ record_text Second plan.now verified false)) }
         ensures begins { OnOk result (self.old.text ≡ Some [] → self.old.run ≡ None → HoldsRecord self.new plan.now verified) }
     {
-        if self.failures > 0 {
+        if self.is_broken() {
             return self.settle(Err(WriteFailed));
         }
         let outcome = write_begin(&mut self.writer, self.run, plan, verified);
@@ -72,6 +72,13 @@ impl<W: Write> FileKeep<W> {
         ensures { W.contents result.now ≡ self.now.text }
     {
         &self.writer
+    }
+
+    // Whether a call has failed, so that no other may write.
+    fn is_broken(&self) -> bool
+        ensures { IsTrue result ↔ (0 < self.now.failures) }
+    {
+        self.failures > 0
     }
 
     // Flushes what a call wrote, and takes note of the run line that stands open, or of the fault.
@@ -101,7 +108,7 @@ impl<W: Write> Keep for FileKeep<W> {
         ensures err { IfErr result (λ fault. (fault ≡ KeepFault.Write) × Failed self.old self.new (second_piece self.old.run word)) }
         ensures adds { OnOk result ((plan : PlanValue) (k : ℕ) → HoldsRecord self.old plan k → slice_get plan.words k ≡ Some word → HoldsRecord self.new plan (k + 1)) }
     {
-        if self.failures > 0 {
+        if self.is_broken() {
             return self.settle(Err(WriteFailed));
         }
         let outcome = write_word(&mut self.writer, self.run, word);
@@ -113,7 +120,7 @@ impl<W: Write> Keep for FileKeep<W> {
         ensures err { IfErr result (λ fault. (fault ≡ KeepFault.Write) × Failed self.old self.new (mark_text self.old.run)) }
         ensures marks { OnOk result ((plan : PlanValue) (k : ℕ) → HoldsRecord self.old plan k → self.new.text ≡ Some (record_text Second plan k true)) }
     {
-        if self.failures > 0 {
+        if self.is_broken() {
             return self.settle(Err(WriteFailed));
         }
         let outcome = write_mark(&mut self.writer, self.run);
@@ -125,7 +132,7 @@ impl<W: Write> Keep for FileKeep<W> {
     }
 
     fn failed(&self) -> bool {
-        self.failures > 0
+        self.is_broken()
     }
 }
 

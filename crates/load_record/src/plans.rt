@@ -36,3 +36,9 @@ pub fn seventeen_words(alloc: Global) -> Result<Plan, Fail> {
 pub fn words_with_a_gap(alloc: Global) -> Result<Plan, Fail> {
     plan(alloc, &[(0o1000, &[0, 0]), (0o1004, &[0, 0])], 1)
 }
+
+/// All of memory, 28,672 full words of zero, and a start.
+pub fn full_image(alloc: Global) -> Result<Plan, Fail> {
+    let zeros = vec![in alloc; 0; 0o160000]?;
+    plan(alloc, &[(0, &zeros)], 0)
+}

@@ -1,4 +1,5 @@
 pub mod Plays
 pub mod Openings
 pub mod Rehearsals
+pub mod KeyTexts
 pub mod Dialogues

@@ -1,7 +1,7 @@
 -- What a script's input says, by the bytes that were taken of it.
 use Rattle.std.proofs.Common.{◌≡◌, ℕ, ◌<◌, ◌≤◌, inl, inr, ⊎_elim, List, [], ◌++◌, length, Option, [], replicate, false, arith, ap, ◌∙◌, subst, append-nil}
 use Rattle.std.specs.Io.KnownBytes.{Keeps}
-use Rattle.std.proofs.lemmas.List.{length-append, length-replicate}
+use Rattle.std.proofs.lemmas.List.{length-append}
 use Rattle.tape_blocks.specs.Tape.{TapeValue}
 use Rattle.tape_image.specs.Plan.{plan_of}
 use Rattle.odt_machine.specs.declared.style.Style.{Style}
@@ -44,7 +44,7 @@ refused_input before after bytes read number taken same refused =
     refused
 
 -- what a rehearsal that was not played says of the inputs
-pub play_fault : (tape script out : Option (List ℕ)) (played : Script) (why : CommandFault) → IsScriptInput script played → Keeps out out → IsPlayFault played.words played.puts.items why
+pub play_fault : (tape script out : Option (List ℕ)) (played : Script) (why : CommandFault) → IsScriptInput script played → Keeps out out → IsPlayFault (replicate played.words 0) played.puts.items why
     → IsRehearseFault tape script out out why
 play_fault tape script out played (fault.Script number) is keeps refused =
     (record { text = is.text; is_input = is.is_input; refused = inr (played, is.is_script, refused) }, keeps)
@@ -66,16 +66,13 @@ put_is : (style : Style) (size : ℕ) (odt put : Machine) (puts all : List PutLi
 put_is style size odt put puts all odt_is puts_are is =
     is ∙ ap (λ (m : Machine). machine_with m puts) odt_is ∙ ap (λ ps. machine_of style (after_puts (replicate size 0) ps)) puts_are
 
-size_is : (style : Style) (size : ℕ) (odt : Machine) → odt ≡ machine_of style (replicate size 0) → length odt.memory ≡ size
-size_is style size odt is = ap (λ (m : Machine). length m.memory) is ∙ length-replicate size 0
-
-lie_is : (m n : ℕ) (puts all : List PutLine) → m ≡ n → puts ≡ all → AllLie m puts → AllLie n all
+lie_is : (m n : List ℕ) (puts all : List PutLine) → m ≡ n → puts ≡ all → AllLie m puts → AllLie n all
 lie_is m n puts all same puts_are lie = subst (λ k. AllLie k all) same (subst (AllLie m) puts_are lie)
 
 -- a rehearsal from its parts
 pub rehearsal_made : (tape : TapeValue) (script : Script) (odt put : Machine) (world last : Scene) (puts : List PutLine) (steps : List StepLine) (waiting start told text : List ℕ)
     → odt ≡ machine_of script.style (replicate script.words 0) → puts ≡ script.puts.items
-    → put ≡ record odt { memory = after_puts odt.memory puts } → AllLie (length odt.memory) puts → waiting ≡ script.waiting.items
+    → put ≡ record odt { memory = after_puts odt.memory puts } → AllLie odt.memory puts → waiting ≡ script.waiting.items
     → world ≡ opened put (begun (plan_of tape) 0 false script.patience) waiting → steps ≡ script.steps.items → start ≡ []
     → (numbers : List ℕ) × Played world steps last numbers × (told ≡ start ++ not_possible_lines numbers) → text ≡ told ++ report last → IsRehearsal tape script text
 rehearsal_made tape script odt put world last puts steps waiting start told text odt_is puts_are is lie waits world_is steps_are none played text_is =
@@ -83,7 +80,7 @@ rehearsal_made tape script odt put world last puts steps waiting start told text
     let opens : world ≡ opening tape script = world_is ∙ ap (λ m. opened m (begun (plan_of tape) 0 false script.patience) waiting) machine
     ∙ ap (λ ws. opened (machine_of script.style (after_puts (replicate script.words 0) script.puts.items)) (begun (plan_of tape) 0 false script.patience) ws) waits in
     record {
-      lie = lie_is (length odt.memory) script.words puts script.puts.items (size_is script.style script.words odt odt_is) puts_are lie;
+      lie = lie_is odt.memory (replicate script.words 0) puts script.puts.items (ap (λ (m : Machine). m.memory) odt_is) puts_are lie;
       last = last;
       numbers = played.0;
       played = subst (λ w. Played w script.steps.items last played.0) opens (subst (λ ls. Played world ls last played.0) steps_are played.1);

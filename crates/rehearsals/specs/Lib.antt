@@ -1,3 +1,4 @@
 pub mod Played
 pub mod Rehearsal
+pub mod KeyLines
 pub mod Dialogue

@@ -1,12 +1,12 @@
 -- A rehearsal: the world that a tape and a script open, what the script's lines do to it, and the text of all that.
-use Rattle.std.specs.Prelude.{◌≡◌, ℕ, ◌*◌, ◌%◌, ◌<◌, ◌==◌, ◌&&◌, ◌⊎◌, nat_lt, Bool, true, false, List, [], ◌∷◌, ◌++◌, replicate, Option, ⊤}
+use Rattle.std.specs.Prelude.{◌≡◌, ℕ, ◌<◌, ◌⊎◌, true, false, List, [], ◌∷◌, ◌++◌, replicate, Option, ⊤}
 use Rattle.std.specs.List.{AllByRecursion}
 use Rattle.std.specs.Io.KnownBytes.{Keeps}
 use Rattle.tape_blocks.specs.Tape.{TapeValue}
 use Rattle.tape_image.specs.Plan.{plan_of}
 use Rattle.odt_machine.specs.declared.style.Style.{Style}
 use Rattle.odt_machine.specs.declared.mode.Mode.TheVariants.{Prompt}
-use Rattle.odt_machine.specs.Machine.{Machine, stored}
+use Rattle.odt_machine.specs.Machine.{Machine, is_word, stored}
 use Rattle.host_core.specs.Core.{begun}
 use Rattle.line_world.specs.Scene.{Scene}
 use Rattle.line_world.specs.Opening.{opened}
@@ -20,27 +20,23 @@ use Rattle.load_reports.specs.Report.{report}
 use Rattle.loss_scripts.specs.Script.{IsScript, IsRefusedScript}
 use Rattle.command_io.specs.TapeFile.{IsInput, BeginsWithTape, IsRefusedInput}
 
--- a word lies at the address in a memory of so many words: it is even and below the top
-abbrev pub lies_in : ℕ → ℕ → Bool
-lies_in size address = address % 2 == 0 && nat_lt address (2 * size)
-
 -- the memory after these words are put into it, in order
 abbrev pub after_puts : List ℕ → List PutLine → List ℕ
 after_puts memory [] = memory
 after_puts memory (put ∷ puts) = after_puts (stored memory put.address put.value) puts
 
 -- all these words lie in the memory
-abbrev pub AllLie : ℕ → List PutLine → Type 0
-AllLie size puts = AllByRecursion (λ put. lies_in size put.address ≡ true) puts
+abbrev pub AllLie : List ℕ → List PutLine → Type 0
+AllLie memory puts = AllByRecursion (λ put. is_word memory put.address ≡ true) puts
 
 -- the first of the words that does not lie in the memory stands on this line
-pub record IsRefusedPut (size : ℕ) (puts : List PutLine) (number : ℕ) : Type 0 where
+pub record IsRefusedPut (memory : List ℕ) (puts : List PutLine) (number : ℕ) : Type 0 where
   pub before : List PutLine
   pub put : PutLine
   pub others : List PutLine
   pub all : puts ≡ before ++ put ∷ others
-  pub lie : AllLie size before
-  pub refused : lies_in size put.address ≡ false
+  pub lie : AllLie memory before
+  pub refused : is_word memory put.address ≡ false
   pub number_is : number ≡ put.line
 
 -- a machine at its prompt with this memory
@@ -54,7 +50,7 @@ opening tape script =
 
 -- the text of a rehearsal: the lines that were not possible, and then the report
 pub record IsRehearsal (tape : TapeValue) (script : Script) (text : List ℕ) : Type 0 where
-  pub lie : AllLie script.words script.puts.items
+  pub lie : AllLie (replicate script.words 0) script.puts.items
   pub last : Scene
   pub numbers : List ℕ
   pub played : Played (opening tape script) script.steps.items last numbers
@@ -70,7 +66,7 @@ pub record IsScriptInput (known : Option (List ℕ)) (script : Script) : Type 0 
 pub record IsRefusedScriptInput (known : Option (List ℕ)) (number : ℕ) : Type 0 where
   pub text : List ℕ
   pub is_input : IsInput known text
-  pub refused : IsRefusedScript text number ⊎ ((script : Script) × IsScript text script × IsRefusedPut script.words script.puts.items number)
+  pub refused : IsRefusedScript text number ⊎ ((script : Script) × IsScript text script × IsRefusedPut (replicate script.words 0) script.puts.items number)
 
 -- the tape's input begins with a tape, the other is a script, and this is the text of their rehearsal
 pub record IsRehearsed (tape_input script_input : Option (List ℕ)) (text : List ℕ) : Type 0 where
@@ -107,7 +103,7 @@ IsScriptInputFault known fault.Memory = ⊤
 IsScriptInputFault known other = ⊥
 
 -- a script was not played: one of its puts is refused, or want of memory
-abbrev pub IsPlayFault : ℕ → List PutLine → CommandFault → Type 0
-IsPlayFault size puts (fault.Script number) = IsRefusedPut size puts number
-IsPlayFault size puts fault.Memory = ⊤
-IsPlayFault size puts other = ⊥
+abbrev pub IsPlayFault : List ℕ → List PutLine → CommandFault → Type 0
+IsPlayFault memory puts (fault.Script number) = IsRefusedPut memory puts number
+IsPlayFault memory puts fault.Memory = ⊤
+IsPlayFault memory puts other = ⊥

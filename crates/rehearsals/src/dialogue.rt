@@ -1,8 +1,9 @@
 //! The command `dialogue`: a load into a simulated machine, shown as it goes.
-ghost use Rattle.std.specs.Prelude.{◌≡◌, ◌<◌, IfOk, IfErr};
+ghost use Rattle.std.specs.Prelude.{◌≡◌, ◌<◌, List, OnOk, IfOk, IfErr};
 ghost use Rattle.host_core.specs.Core.{ended};
 ghost use Rattle.line_world.specs.World.{happens, first_event, work_left};
-ghost use Rattle.rehearsals.specs.Dialogue.{IsDialogue, IsDialogueFault, LeadsClean, WritesSome, IsTalkFault};
+ghost use Rattle.rehearsals.specs.Dialogue.{IsDialogue, IsDialogueFault, Talks, WritesSome, IsTalkFault};
+ghost use Rattle.rehearsals.specs.KeyLines.{Answered, Gathers, Notes, answered_in};
 
 use crate::exchange::Exchange;
 use crate::opening::{open, zeroed};
@@ -45,7 +46,7 @@ pub fn dialogue_to<R: Read, W: Write>(
 
 // A clean line up to the first end, each exchange written when it is over.
 fn talk<W: Write>(alloc: Global, world: &mut World, out: &mut W) -> Result<End, CommandFault>
-    ensures ok { IfOk result (LeadsClean world.old world.new) }
+    ensures ok { IfOk result (λ end. Talks world.old world.new end (W.contents out.old) (W.contents out.new)) }
     ensures written { WritesSome (W.contents out.old) (W.contents out.new) }
     ensures err { IfErr result IsTalkFault }
 {
@@ -66,6 +67,7 @@ fn turn<W: Write>(
     out: &mut W,
 ) -> Result<(), CommandFault>
     ensures world { world.new ≡ happens world.old (first_event world.old) }
+    ensures ok { OnOk result ((gathered : List Answered) → Gathers gathered exchange.old → Notes gathered (answered_in world.old (first_event world.old)) exchange.new (W.contents out.old) (W.contents out.new)) }
     ensures work { ended world.old.core.phase ≡ None → work_left world.new < work_left world.old }
     ensures written { WritesSome (W.contents out.old) (W.contents out.new) }
     ensures err { IfErr result IsTalkFault }

@@ -1,6 +1,8 @@
 //! The lines of a dialogue: keys, and what the console answered to them.
-ghost use Rattle.std.specs.Prelude.{IfErr};
+ghost use Rattle.std.specs.Prelude.{◌≡◌, ◌++◌, ◌∷◌, [], List, codes, OnOk, IfErr};
+ghost use Rattle.std.specs.Io.KnownBytes.{Appends};
 ghost use Rattle.rehearsals.specs.Dialogue.{WritesSome, IsTalkFault};
+ghost use Rattle.rehearsals.specs.KeyLines.{Answered, Gathers, Holds, Notes, last_line, shown};
 
 use command_io::{CommandFault, write_whole};
 use odt_machine::{CARRIAGE_RETURN, LINE_FEED, SPACE};
@@ -18,7 +20,9 @@ pub struct Exchange {
 
 impl Exchange {
     /// Nothing was typed yet.
-    pub fn new(alloc: Global) -> Self {
+    pub fn new(alloc: Global) -> Self
+        ensures { Gathers [] result }
+    {
         Exchange {
             keys: Vec::new(alloc),
             answers: Vec::new(alloc),
@@ -32,6 +36,7 @@ impl Exchange {
         answer: &[u8],
         out: &mut W,
     ) -> Result<(), CommandFault>
+        ensures ok { OnOk result ((gathered : List Answered) → Gathers gathered self.old → Notes gathered (record { key = key; answer = answer.now } ∷ []) self.new (W.contents out.old) (W.contents out.new)) }
         ensures written { WritesSome (W.contents out.old) (W.contents out.new) }
         ensures err { IfErr result IsTalkFault }
     {
@@ -45,6 +50,7 @@ impl Exchange {
 
     /// Writes the line under way, if keys are gathered.
     pub fn finish<W: Write>(&mut self, out: &mut W) -> Result<(), CommandFault>
+        ensures ok { OnOk result ((held : List Answered) → Holds held self.old → Appends (W.contents out.old) (W.contents out.new) (last_line held) × Holds [] self.new) }
         ensures written { WritesSome (W.contents out.old) (W.contents out.new) }
         ensures err { IfErr result IsTalkFault }
     {
@@ -60,14 +66,18 @@ impl Exchange {
 }
 
 // A line: the keys, and then the answers.
-fn end_line(keys: &mut Vec<u8>, answers: &[u8]) -> Result<(), AllocError> {
+fn end_line(keys: &mut Vec<u8>, answers: &[u8]) -> Result<(), AllocError>
+    ensures { OnOk result (keys.new.items ≡ (keys.old.items ++ codes " -> " ++ answers.now) ++ 10 ∷ []) }
+{
     keys.extend_from_slice(b" -> ")?;
     keys.extend_from_slice(answers)?;
     keys.extend_from_slice(b"\n")
 }
 
 // Characters as a line shows them: a space, a carriage return and a line feed have signs of their own.
-fn show(text: &mut Vec<u8>, characters: &[u8]) -> Result<(), AllocError> {
+fn show(text: &mut Vec<u8>, characters: &[u8]) -> Result<(), AllocError>
+    ensures { OnOk result (text.new.items ≡ text.old.items ++ shown characters.now) }
+{
     for character in characters {
         match *character {
             SPACE => text.extend_from_slice(b"_")?,

@@ -59,8 +59,8 @@ pub fn zeroed(alloc: Global, words: u16, style: Style) -> Result<Odt, CommandFau
 /// not lie there.
 pub fn put_words(odt: &mut Odt, puts: &[PutLine]) -> Result<(), u32>
     ensures ok { OnOk result (odt.new ≡ record odt.old { memory = after_puts odt.old.memory puts.now }) }
-    ensures lie { OnOk result (AllLie (length odt.old.memory) puts.now) }
-    ensures err { IfErr result (IsRefusedPut (length odt.old.memory) puts.now) }
+    ensures lie { OnOk result (AllLie odt.old.memory puts.now) }
+    ensures err { IfErr result (IsRefusedPut odt.old.memory puts.now) }
 {
     for put in puts {
         if !odt.put(put.address, put.value) {

@@ -1,5 +1,5 @@
 //! The command `rehearse`: a script of losses, played over a simulated machine.
-ghost use Rattle.std.specs.Prelude.{◌≡◌, ◌<◌, ◌≤◌, OnOk, IfOk, IfErr, List, ℕ};
+ghost use Rattle.std.specs.Prelude.{◌≡◌, ◌<◌, ◌≤◌, replicate, OnOk, IfOk, IfErr, List, ℕ};
 ghost use Rattle.std.specs.Io.KnownBytes.{Appends};
 ghost use Rattle.command_io.specs.Input.{TakesAtMost};
 ghost use Rattle.rehearsals.specs.Rehearsal.{IsRehearsal, IsRehearsed, IsRehearseFault, IsScriptInput, IsScriptInputFault, IsPlayFault};
@@ -63,7 +63,7 @@ fn take_script<S: Read>(alloc: Global, input: &mut S) -> Result<Script, CommandF
 fn rehearsal(alloc: Global, tape: &Tape, script: &Script) -> Result<Vec<u8>, CommandFault>
     requires size { script.now.words ≤ 28672 }
     ensures ok { IfOk result (λ text. IsRehearsal tape.now script.now text.items) }
-    ensures err { IfErr result (IsPlayFault script.now.words script.now.puts.items) }
+    ensures err { IfErr result (IsPlayFault (replicate script.now.words 0) script.now.puts.items) }
 {
     let mut odt = zeroed(alloc, script.words, script.style)?;
     if let Err(line) = put_words(&mut odt, &script.puts) {

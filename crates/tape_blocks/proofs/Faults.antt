@@ -24,7 +24,7 @@ faulty_frame s m f text blank e = record {
   first = first_fault-append_some (length text) m f (take 4 (tests_of s text)) (drop 4 (tests_of s text)) e;
 }
 
-past_top : (n : ℕ) (m : Fault) (t : Test) → t.needs ≤ n → t.passes ≡ false → first_fault n m (t ∷ []) ≡ Some t.fault
+pub past_top : (n : ℕ) (m : Fault) (t : Test) → t.needs ≤ n → t.passes ≡ false → first_fault n m (t ∷ []) ≡ Some t.fault
 past_top n m t h e = cond-false _ _ _ (le-ltb n t.needs h) ∙ cond-false _ _ _ e
 
 -- a data block that is right but for its end

@@ -1,84 +1,74 @@
-ghost use Rattle.std.specs.Prelude.{◌≡◌, ℕ, ◌+◌, ◌-◌, ◌%◌, ◌<◌, ◌≤◌, length, take, drop, sum, slice_get, ◌↔◌, IsTrue, MatchResult, None, Some};
+ghost use Rattle.std.specs.Prelude.{◌≡◌, ℕ, ◌+◌, ◌<◌, ◌≤◌, List, ◌∷◌, ◌++◌, length, MatchResult};
 ghost use Rattle.tape_blocks.specs.Tape.{tape_limit};
-ghost use Rattle.tape_blocks.specs.Refusal.{address_of, count_of, first_fault, tests_of};
-ghost use Rattle.tape_blocks.specs.Head.{IsHead, IsFaulty};
+ghost use Rattle.tape_blocks.specs.Head.{IsHead, IsFaultyBlock, IsSplit, SaysCount, FailsHeader};
 
 use crate::block::{BLANK, HEADER, MARK, TOP};
 use crate::checksum::byte_sum;
 use crate::fault::{Fault, Why};
 use byteorder::{ByteOrder, LittleEndian};
 
-/// What stands first in a text.
+/// What stands first in a text that begins with no byte 00.
 pub enum Head<'a> {
-    /// A byte 00.
-    Blank,
+    /// The beginning of a block, or nothing: the text ends before the block does.
+    Part,
     /// A data block: its address and its data.
     Data(u16, &'a [u8]),
     /// The transfer block: its start address.
     Transfer(u16),
 }
 
-/// What stands first in the text, which itself stands at this place of the input. `missing` is the
-/// fault where a byte is needed that the text has not.
-pub fn first_of<'a>(text: &'a [u8], at: usize, missing: Fault) -> Result<Head<'a>, Fault>
-    requires { at + length text.now ≤ tape_limit }
-    ensures { MatchResult result (λ h. IsHead text.now h) (λ fault. IsFaulty at missing text.now fault) }
+/// What stands first in the text that is these two joined, of which the first is the block's header
+/// as far as it is there. The text stands at this place of the input.
+pub fn head_of<'a>(header: &[u8], body: &'a [u8], at: usize) -> Result<Head<'a>, Fault>
+    requires split { IsSplit header.now body.now }
+    requires within { at + length (header.now ++ body.now) ≤ tape_limit }
+    requires no_blank { (rest : List ℕ) → header.now ++ body.now ≡ 0 ∷ rest → ⊥ }
+    ensures { let text = header.now ++ body.now in
+        MatchResult result (λ h. IsHead at text h) (λ fault. IsFaultyBlock at text fault) }
 {
-    if is_blank(text) {
-        return Ok(Head::Blank);
+    let Some(count) = count_of(header, at)? else {
+        return Ok(Head::Part);
+    };
+    let length = count - HEADER;
+    if body.len() <= length {
+        return Ok(Head::Part);
     }
-    let (address, data) = framed(text, at, missing)?;
-    if data.is_empty() {
+    if (byte_sum(header) + byte_sum(&body[..length + 1])) % 256 != 0 {
+        return Err(Fault::new(at, Why::BadSum));
+    }
+    let address = LittleEndian::read_u16(&header[4..]);
+    if length == 0 {
         return Ok(Head::Transfer(address));
     }
-    if usize::from(address) + data.len() > TOP {
+    if usize::from(address) + length > TOP {
         return Err(Fault::new(at + 4, Why::PastTop));
     }
-    Ok(Head::Data(address, data))
+    Ok(Head::Data(address, &body[..length]))
 }
 
-/// Whether the text begins with a byte 00.
-fn is_blank(text: &[u8]) -> bool
-    ensures { IsTrue result ↔ (slice_get text.now 0 ≡ Some 0) }
+/// The count in a block's header, where it is there.
+fn count_of(header: &[u8], at: usize) -> Result<Option<usize>, Fault>
+    requires { at + length header.now ≤ tape_limit }
+    ensures { MatchResult result (SaysCount at header.now) (FailsHeader at header.now) }
 {
-    text.first() == Some(&BLANK)
-}
-
-/// The address and the data of the block that begins the text: its mark, its count and its checksum
-/// are right.
-fn framed<'a>(text: &'a [u8], at: usize, missing: Fault) -> Result<(u16, &'a [u8]), Fault>
-    requires { at + length text.now ≤ tape_limit }
-    ensures { MatchResult result
-        (λ frame.
-        (first_fault (length text.now) missing (take 4 (tests_of at text.now)) ≡ None)
-        × (frame.0 ≡ address_of text.now)
-        × (frame.1.now ≡ take (count_of text.now - 6) (drop 6 text.now)))
-        (λ fault. first_fault (length text.now) missing (take 4 (tests_of at text.now)) ≡ Some fault) }
-{
-    if text.is_empty() {
-        return Err(missing);
+    if header.is_empty() {
+        return Ok(None);
     }
-    if text[0] != MARK {
+    if header[0] != MARK {
         return Err(Fault::new(at, Why::Stray));
     }
-    if text.len() < 2 {
-        return Err(missing);
+    if header.len() < 2 {
+        return Ok(None);
     }
-    if text[1] != BLANK {
+    if header[1] != BLANK {
         return Err(Fault::new(at + 1, Why::BadMark));
     }
-    if text.len() < 4 {
-        return Err(missing);
+    if header.len() < 4 {
+        return Ok(None);
     }
-    let count = usize::from(LittleEndian::read_u16(&text[2..]));
+    let count = usize::from(LittleEndian::read_u16(&header[2..]));
     if count < HEADER {
         return Err(Fault::new(at + 2, Why::BadCount));
     }
-    if text.len() <= count {
-        return Err(missing);
-    }
-    if byte_sum(&text[..count + 1]) != 0 {
-        return Err(Fault::new(at, Why::BadSum));
-    }
-    Ok((LittleEndian::read_u16(&text[4..]), &text[HEADER..count]))
+    Ok(Some(count))
 }

@@ -10,7 +10,9 @@
 //! A block of count 6 is the transfer block: it ends the tape, and its address starts the program.
 //!
 //! The contract: `read_tape` answers a tape exactly where one begins the input, and else the one
-//! fault of the input, at its place; `write_tape` gives the plain text, which reads as the same tape.
+//! fault of the input, at its place; `TapeReader` answers the same of any pieces, and `read_from` of
+//! an input, of which it takes the tape alone; `write_tape` gives the plain text, which reads as the
+//! same tape.
 //! `tape_image` makes words of the blocks, and the program `load_command` reads its tapes here.
 #![tactic(auto)]
 
@@ -18,15 +20,19 @@ mod block;
 mod checksum;
 mod fault;
 mod head;
+mod input;
 mod law;
+mod outcome;
+mod progress;
 mod reader;
 mod tape;
 mod writer;
 
 pub use block::Block;
 pub use fault::{Fault, Memory, ReadError, Why};
+pub use input::{FromError, read_from};
 pub use law::{one_reading, one_tape};
-pub use reader::read_tape;
+pub use reader::{Fed, TapeReader, read_tape};
 pub use tape::{BadTape, TAPE_LIMIT, Tape};
 pub use writer::write_tape;
 

@@ -1,6 +1,6 @@
-ghost use Rattle.std.specs.Prelude.{◌≡◌, ◌<◌, ◌^◌, ◌↔◌, List, All, IsTrue, IfOk, IfErr, IfNone, MatchOption};
+ghost use Rattle.std.specs.Prelude.{◌≡◌, ◌<◌, ◌^◌, ◌↔◌, ℕ, List, length, take, All, IsTrue, IfOk, IfErr, IfNone, MatchOption};
 ghost use Rattle.tape_blocks.specs.Block.{BlockValue, IsBlock, HoldsBytes, block_at};
-ghost use Rattle.tape_blocks.specs.Tape.{IsSound, tape_limit, written_length};
+ghost use Rattle.tape_blocks.specs.Tape.{IsSound, IsTape, plain_text, tape_limit, written_length};
 ghost use Rattle.tape_blocks.specs.BadTape.{IsBadTape, IsFirstAt};
 
 use crate::block::{Block, FRAME, TOP};
@@ -103,6 +103,20 @@ impl Tape {
         ensures sound { IsSound self.now }
     {
         self.start
+    }
+
+    /// The bytes that the tape has where nothing stands between its blocks, as `write_tape` writes it.
+    /// So a text of this tape is the plain one exactly where it has this length.
+    pub fn written_length(&self) -> usize
+        ensures value { result ≡ written_length self.now.blocks }
+        ensures plain { (text : List ℕ) → IsTape text self.now.blocks self.now.start
+            → (text ≡ plain_text self.now) ↔ (length text ≡ result) }
+    {
+        let mut length = FRAME;
+        for block in &self.blocks {
+            length += FRAME + block.bytes.len();
+        }
+        length
     }
 }
 

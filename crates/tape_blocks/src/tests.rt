@@ -1,6 +1,7 @@
 //! Tables of tapes and of inputs that are none. What is expected comes from the format by hand, or
 //! from `plain_reader`, which follows the definitions and not the reader.
 
+mod pieces;
 mod plain_reader;
 
 use crate::{BadTape, Block, Fault, ReadError, Tape, Why, read_tape, write_tape};

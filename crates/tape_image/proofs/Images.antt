@@ -1,5 +1,5 @@
 -- The image that answers as the blocks do.
-use Rattle.std.proofs.Common.{◌≡◌, ℕ, zero, suc, ◌<◌, ◌≤◌, true, false, cond, eqb, ltb, List, Option, Some, None, refl, arith, ap, sym, ◌∙◌, inl, inr}
+use Rattle.std.proofs.Common.{◌≡◌, ℕ, zero, suc, ◌<◌, ◌≤◌, true, false, cond, eqb, ltb, List, [], Option, Some, None, refl, arith, ap, sym, ◌∙◌, inl, inr}
 use Rattle.std.specs.Prelude.{All, IfSome}
 use Rattle.std.specs.Ordering.{nat_cmp, eq_by_cmp}
 use Rattle.std.specs.Cmp.{nat_cmp_total}
@@ -68,3 +68,8 @@ get-image_of blocks good a =
 -- an image that answers as the good blocks do is theirs
 pub image_of-same : (blocks : List BlockValue) (image : Image) → All IsBlock blocks → IsImageOf blocks image → image ≡ image_of blocks
 image_of-same blocks image good is = same_map nat_cmp_total nat_cmp-IsAntisymmetric image (image_of blocks) (λ a. is a ∙ sym (get-image_of blocks good a))
+
+-- no blocks make the empty image
+pub image_of-none : image_of [] ≡ empty
+unfolding image_of
+image_of-none = image_below-none (byte_at []) top (λ a. refl)

@@ -10,5 +10,6 @@ pub mod Words
 pub mod Given
 pub mod Standing
 pub mod Plans
+pub mod Tapes
 pub mod SameWords
 pub mod OverlayLaw

@@ -45,6 +45,10 @@ pub words_below-all : (image : Image) → words_below image 28672 ≡ words_of i
 unfolding words_of
 words_below-all image = refl
 
+-- the empty image has no words
+pub words_of-empty : words_of empty ≡ []
+words_of-empty = sym (words_below-all empty) ∙ words_below-same empty 0 28672 (λ a l u. get-empty nat_cmp a) ∙ words_below-none empty
+
 -- the bytes of an image are bytes
 image_bytes : (blocks : List BlockValue) → All IsBlock blocks → All HoldsBytes blocks → (a : ℕ) → IsByte (get (image_of blocks) a)
 image_bytes blocks good bytes a = subst IsByte (sym (get-image_of blocks good a)) (byte_at-byte blocks a bytes)

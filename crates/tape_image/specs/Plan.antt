@@ -1,8 +1,10 @@
 -- The plan: the image of a tape as the words that the host types, and the program's start.
 use Rattle.std.specs.Prelude.{◌≡◌, ◌↔◌, ℕ, zero, suc, ◌+◌, ◌*◌, ◌%◌, ◌<◌, ◌≤◌, ◌==◌, if◌then◌else◌, List, [], ◌∷◌, ◌++◌, length, Option, Some, None, All, AllPairs, IfSome, refl}
 use Rattle.std.specs.Coded.{Coded, code_by, coded×, coded_ℕ, coded_list, coded_option}
+use Rattle.std.specs.List.{flat_map}
 use Rattle.std.specs.Option.{option_to_list}
 use Rattle.std.specs.FinMap.{get, code}
+use Rattle.tape_blocks.specs.Block.{BlockValue}
 use Rattle.tape_blocks.specs.Tape.{TapeValue}
 use Rattle.tape_image.specs.Memory.{half}
 use Rattle.tape_image.specs.Word.{WordValue, word_code, IsWord, gives}
@@ -63,6 +65,20 @@ plan_with image start = record { image = image; words = words_of image; start = 
 -- the plan of a tape
 abbrev pub plan_of : TapeValue → PlanValue
 plan_of tape = record { image = image_of tape.blocks; words = words_of (image_of tape.blocks); start = program_start tape.start }
+
+-- the blocks of all tapes, joined in their order
+abbrev pub blocks_of_all : List TapeValue → List BlockValue
+blocks_of_all tapes = flat_map (λ (tape : TapeValue). tape.blocks) tapes
+
+-- the start of the last tape alone
+abbrev pub start_of_all : List TapeValue → Option ℕ
+start_of_all [] = None
+start_of_all (tape ∷ []) = program_start tape.start
+start_of_all (tape ∷ (next ∷ more)) = start_of_all (next ∷ more)
+
+-- the plan of several tapes as one: a later tape's byte replaces an earlier one's
+abbrev pub plan_of_all : List TapeValue → PlanValue
+plan_of_all tapes = plan_with (image_of (blocks_of_all tapes)) (start_of_all tapes)
 
 -- what every plan keeps, however it was made
 pub record IsPlan (p : PlanValue) : Type 0 where

@@ -1,8 +1,9 @@
 //! The image of an absolute loader tape, as the words that a host types into a machine.
 //!
-//! A `Plan` is made of a tape. It shows the image (which byte the tape leaves at which address), the
-//! words of the image, each with a mask for the bytes that are the tape's, and the program's start.
-//! `merge` lays a word over an old one, and `stands` says whether a word is there already.
+//! A `Plan` is made of a tape, or of several as one. It shows the image (which byte the tape leaves at
+//! which address), the words of the image, each with a mask for the bytes that are the tape's, and the
+//! program's start. `merge` lays a word over an old one, and `stands` says whether a word is there
+//! already.
 //!
 //! The contract: the words are those of the image, for each even address with a byte at it or after
 //! it, and merging them into any memory, in any order, lays the image over that memory and changes

@@ -1,13 +1,15 @@
-ghost use Rattle.std.specs.Prelude.{◌≡◌, IfOk};
-ghost use Rattle.std.specs.FinMap.{get};
+ghost use Rattle.std.specs.Prelude.{◌≡◌, [], ◌∷◌, IfOk};
+ghost use Rattle.std.specs.FinMap.{empty, get};
+ghost use Rattle.tape_blocks.specs.Tape.{TapeValue};
 ghost use Rattle.tape_image.specs.Image.{IsImageOf};
-ghost use Rattle.tape_image.specs.Plan.{AreTheWordsOf, IsPlan, plan_of, plan_with, program_start};
+ghost use Rattle.tape_image.specs.Plan.{AreTheWordsOf, IsPlan, blocks_of_all, plan_of, plan_of_all, plan_with, program_start};
 ghost use Rattle.tape_image.specs.Overlay.{MakesOverlay};
 
 use crate::pages::Pages;
 use crate::word::Word;
 use std::alloc::Global;
 use std::marker::Model;
+use std::slice;
 use tape_blocks::{Memory, Tape};
 
 /// What a host types to load a tape: the words of the tape's image, and the program's start.
@@ -41,9 +43,27 @@ impl Plan {
         ensures words { IfOk result (λ plan. AreTheWordsOf plan.image plan.words) }
         ensures sound { IfOk result IsPlan }
     {
+        Plan::of_all(alloc, slice::from_ref(tape))
+    }
+
+    /// The plan of several tapes as one: the image that the blocks of all tapes make, joined in order,
+    /// and the start of the last tape alone. Of no tape the plan has no words and no start. The one
+    /// error is want of memory, for the pages or for the words.
+    pub fn of_all(alloc: Global, tapes: &[Tape]) -> Result<Plan, Memory>
+        ensures plan { IfOk result (λ plan. plan ≡ plan_of_all tapes.now) }
+        ensures bytes { IfOk result (λ plan. IsImageOf (blocks_of_all tapes.now) plan.image) }
+        ensures words { IfOk result (λ plan. AreTheWordsOf plan.image plan.words) }
+        ensures sound { IfOk result IsPlan }
+        ensures none { tapes.now ≡ [] → IfOk result (λ plan. plan ≡ record { image = empty; words = []; start = None }) }
+        ensures one { (tape : TapeValue) → tapes.now ≡ tape ∷ [] → IfOk result (λ plan. plan ≡ plan_of tape) }
+    {
         let mut pages = Pages::new(alloc)?;
-        pages.lay_blocks(alloc, tape.blocks())?;
-        Plan::of_pages(alloc, pages, program_start(tape.start()))
+        let mut start = None;
+        for tape in tapes {
+            pages.lay_blocks(alloc, tape.blocks())?;
+            start = program_start(tape.start());
+        }
+        Plan::of_pages(alloc, pages, start)
     }
 
     /// The plan of the image in the pages, with this start. The one error is want of memory, for the

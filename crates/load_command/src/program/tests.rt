@@ -4,6 +4,8 @@ use requests::{Console, Load, Request};
 use std::io::Stderr;
 use std::test::Fail;
 
+mod scarce;
+
 /// The console of the defaults.
 const DEFAULTS: Console = Console {
     words: LARGEST_WORDS,

@@ -1,5 +1,5 @@
 use super::*;
-use crate::plans::{one_word, seventeen_words, two_words};
+use crate::plans::{full_image, one_word, seventeen_words, two_words};
 use crate::reader::read_record;
 use host_core::Progress;
 use std::alloc::Global;
@@ -185,5 +185,23 @@ fn a_writer_that_takes_little(rt: HostRuntime) -> Result<(), Fail> {
         "a writer that takes nothing"
     );
     assert_broken(&rt, &mut keep, &plan);
+    Ok(())
+}
+
+#[test]
+fn the_record_of_a_full_image(rt: HostRuntime) -> Result<(), Fail> {
+    let plan = full_image(rt.alloc())?;
+    let mut keep = FileKeep::new(Vec::new(rt.alloc()));
+    assert_eq!(rt; keep_all(&mut keep, &plan, 28672), Ok(()));
+    assert_eq!(rt;
+        keep.writer().len(),
+        213_259,
+        "header, 1,792 runs of 119 bytes, mark"
+    );
+    let wanted = Progress {
+        verified: 28672,
+        going: true,
+    };
+    assert_eq!(rt; read_record(keep.writer(), &plan), Ok(wanted));
     Ok(())
 }

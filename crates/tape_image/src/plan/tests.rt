@@ -4,6 +4,8 @@ use std::process::Abort;
 use std::test::Fail;
 use tape_blocks::{Block, read_tape};
 
+mod famine;
+
 /// A tape of these blocks, each an address and its bytes, and this start address.
 fn tape(alloc: Global, blocks: &[(u16, &[u8])], start: u16) -> Result<Tape, Fail> {
     let mut made = Vec::new(alloc);
@@ -120,6 +122,58 @@ fn words_of_tapes(rt: HostRuntime) -> Result<(), Fail> {
     for (blocks, words, reason) in TAPES {
         let plan = Plan::of(rt.alloc(), &tape(rt.alloc(), blocks, 1)?)?;
         assert_words(&rt, &plan, words, reason);
+    }
+    Ok(())
+}
+
+/// Tapes, each its blocks and its start address.
+type Tapes = &'static [(&'static [(u16, &'static [u8])], u16)];
+
+/// Tapes, the words and the start of their plan, and why the row is there.
+const SEVERAL: [(Tapes, &[(u16, u16, u16)], Option<u16>, &str); 5] = [
+    (&[], &[], None, "no tape has no words and no start"),
+    (
+        &[(&[(0o1000, &[0x34, 0x12])], 0o1000)],
+        &[(0o1000, 0o177777, 0o011064)],
+        Some(0o1000),
+        "one tape is itself",
+    ),
+    (
+        &[
+            (&[(0o1000, &[0x34, 0x12])], 0o1000),
+            (&[(0o1001, &[0x55])], 1),
+        ],
+        &[(0o1000, 0o177777, 0o052464)],
+        None,
+        "a patch on a later tape, whose odd start alone counts",
+    ),
+    (
+        &[
+            (&[(0o1001, &[0x55])], 1),
+            (&[(0o1000, &[0x34, 0x12])], 0o1000),
+        ],
+        &[(0o1000, 0o177777, 0o011064)],
+        Some(0o1000),
+        "the patch is overwritten where it comes first",
+    ),
+    (
+        &[(&[(0o1000, &[7])], 0o1000), (&[], 0o2000)],
+        &[(0o1000, 0o377, 7)],
+        Some(0o2000),
+        "a last tape that has only a start",
+    ),
+];
+
+#[test]
+fn several_tapes(rt: HostRuntime) -> Result<(), Fail> {
+    for &(parts, words, start, reason) in &SEVERAL {
+        let mut tapes = Vec::new(rt.alloc());
+        for &(blocks, begins) in parts {
+            tapes.push(tape(rt.alloc(), blocks, begins)?)?;
+        }
+        let plan = Plan::of_all(rt.alloc(), &tapes)?;
+        assert_words(&rt, &plan, words, reason);
+        assert_eq!(rt; plan.start(), start, "{reason}");
     }
     Ok(())
 }

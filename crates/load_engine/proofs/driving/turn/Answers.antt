@@ -4,7 +4,7 @@ use Rattle.load_devices.specs.Told.{Gains}
 use Rattle.load_engine.specs.declared.stop.Stop.TheVariants.{LineFailed, KeepFailed}
 use Rattle.load_engine.proofs.Turns.{IsStep, stop_is, kept_one, kept_none, turn_deaf, turn_unkept, turn_unsent, turn_sent, turn_still}
 use Rattle.load_engine.proofs.driving.turn.Goals as goal
-use Rattle.load_engine.proofs.driving.turn.Goals.{Joined-news, in-Some+in_ok-kept, in_default}
+use Rattle.load_engine.proofs.driving.turn.Goals.{Joined-news, in-Some+in_ok-keep_news, in_default}
 
 pub returns-in_err-heard-clause-turn : goal.returns-in_err-heard-clause-turn
 returns-in_err-heard-clause-turn g c =
@@ -12,21 +12,21 @@ returns-in_err-heard-clause-turn g c =
     rw (stop_is c.from_residual.result (LineFailed fault) c.from_residual.ensures.1)
     (turn_deaf fault c.args.core.now (g.L.Line.told c.args.line.now) (g.L.Line.told c.hear.new.self) (g.K.Keep.told c.args.keep.now) c.in_err-heard.ensures.not_heard)
 
-pub returns-in_err-kept-clause-turn : goal.returns-in_err-kept-clause-turn
-returns-in_err-kept-clause-turn g c =
-    let fault = c.in_err-kept.field-0.0 in
+pub returns-in_err-keep_news-clause-turn : goal.returns-in_err-keep_news-clause-turn
+returns-in_err-keep_news-clause-turn g c =
+    let fault = c.in_err-keep_news.field-0.0 in
     let s = c.step-news.ensures in
     let step : IsStep c.args.core.now c.step-news.new.core c.in_ok-heard.heard c.step-news.result.key (Some c.in-Some.news) =
     subst (IsStep c.args.core.now c.step-news.new.core c.in_ok-heard.heard c.step-news.result.key) c.in-Some.is (record { next = s.next; key_is = s.key; news_is = s.news; with_key = s.news_with_key; with_start = s.mark_with_start }) in
-    rw (stop_is c.from_residual-in_err-kept.result (KeepFailed fault) c.from_residual-in_err-kept.ensures.1)
-    (turn_unkept fault c.args.core.now c.step-news.new.core c.in_ok-heard.heard c.step-news.result.key c.in-Some.news (g.L.Line.told c.args.line.now) (g.L.Line.told c.hear.new.self) (g.K.Keep.told c.args.keep.now) (g.K.Keep.told c.kept.new.keep)
-    c.requires.goes_on step c.in_ok-heard.ensures.heard c.in_err-kept.ensures.not_kept)
+    rw (stop_is c.from_residual-in_err-keep_news.result (KeepFailed fault) c.from_residual-in_err-keep_news.ensures.1)
+    (turn_unkept fault c.args.core.now c.step-news.new.core c.in_ok-heard.heard c.step-news.result.key c.in-Some.news (g.L.Line.told c.args.line.now) (g.L.Line.told c.hear.new.self) (g.K.Keep.told c.args.keep.now) (g.K.Keep.told c.keep_news.new.keep)
+    c.requires.goes_on step c.in_ok-heard.ensures.heard c.in_err-keep_news.ensures.not_kept)
 
 -- what there was to keep is kept
 news_kept : (g : _) (c : Joined-news g) → Gains (g.K.Keep.told c.args.keep.now) (g.K.Keep.told c.match-news.keep) (option_to_list c.step-news.result.news)
 news_kept g c =
     elim c.match-news.branch [
-      | in-Some+in_ok-kept w ↦ kept_one g.K.Keep.told c.args.keep.now w.kept.new.keep c.match-news.keep c.step-news.result.news w.in-Some.news w.keep-is w.in-Some.is w.in_ok-kept.ensures.kept
+      | in-Some+in_ok-keep_news w ↦ kept_one g.K.Keep.told c.args.keep.now w.keep_news.new.keep c.match-news.keep c.step-news.result.news w.in-Some.news w.keep-is w.in-Some.is w.in_ok-keep_news.ensures.kept
       | in_default w ↦ kept_none g.K.Keep.told c.args.keep.now c.match-news.keep c.step-news.result.news w.keep-is w.in_default.is
     ]
 

@@ -9,9 +9,7 @@ returns-in_default-of_header-clause-answered c =
     no_header_said c.args.plan.now c.args.input.now c.in-Some.first.now c.in-Some.body.now c.of_header.result c.if-input-gt-RECORD_LIMIT.false c.in-Some.ensures.cut c.of_header.ensures c.in_default-of_header.is
 
 pub returns-in_default-of_header-clause-complete : goal.returns-in_default-of_header-clause-complete
-returns-in_default-of_header-clause-complete c = λ other h.
-    one_answer c.args.plan.now c.args.input.now other _ h
-    (no_header_said c.args.plan.now c.args.input.now c.in-Some.first.now c.in-Some.body.now c.of_header.result c.if-input-gt-RECORD_LIMIT.false c.in-Some.ensures.cut c.of_header.ensures c.in_default-of_header.is)
+returns-in_default-of_header-clause-complete c = λ other h. one_answer c.args.plan.now c.args.input.now other _ h (returns-in_default-of_header-clause-answered c)
 
 pub returns-in_default-read_line-clause-answered : goal.returns-in_default-read_line-clause-answered
 returns-in_default-read_line-clause-answered c =
@@ -19,10 +17,7 @@ returns-in_default-read_line-clause-answered c =
     c.if-input-gt-RECORD_LIMIT.false c.loop-line.invariant c.in-Some-first_line.ensures.cut c.read_line.ensures.exact c.in_default-read_line.is
 
 pub returns-in_default-read_line-clause-complete : goal.returns-in_default-read_line-clause-complete
-returns-in_default-read_line-clause-complete c = λ other h.
-    one_answer c.args.plan.now c.args.input.now other _ h
-    (foreign_said c.args.plan.now c.args.input.now c.in-Some-first_line.line.now c.loop-line.rest.now c.in-Some-first_line.after.now c.in-Some-of_header.version c.loop-line.progress c.loop-line.number c.read_line.result
-    c.if-input-gt-RECORD_LIMIT.false c.loop-line.invariant c.in-Some-first_line.ensures.cut c.read_line.ensures.exact c.in_default-read_line.is)
+returns-in_default-read_line-clause-complete c = λ other h. one_answer c.args.plan.now c.args.input.now other _ h (returns-in_default-read_line-clause-answered c)
 
 pub loop-line-init : goal.loop-line-init
 loop-line-init c =
@@ -39,10 +34,7 @@ returns-clause-answered c =
     c.if-input-gt-RECORD_LIMIT.false c.loop-line.invariant c.in_default-first_line.ensures.cut (c.torn_words.ensures.count ∙ ap (λ next. torn_words c.in-Some-of_header.version next c.loop-line.rest.now) c.words_after.ensures.words)
 
 pub returns-clause-complete : goal.returns-clause-complete
-returns-clause-complete c = λ other h.
-    one_answer c.args.plan.now c.args.input.now other _ h
-    (record_said c.args.plan.now c.args.input.now c.loop-line.rest.now c.in-Some-of_header.version c.loop-line.progress c.loop-line.number c.torn_words.result
-    c.if-input-gt-RECORD_LIMIT.false c.loop-line.invariant c.in_default-first_line.ensures.cut (c.torn_words.ensures.count ∙ ap (λ next. torn_words c.in-Some-of_header.version next c.loop-line.rest.now) c.words_after.ensures.words))
+returns-clause-complete c = λ other h. one_answer c.args.plan.now c.args.input.now other _ h (returns-clause-answered c)
 
 pub returns-clause-accepted : goal.returns-clause-accepted
 returns-clause-accepted c =

@@ -16,4 +16,4 @@ pub returns-clause-ok : goal.returns-clause-ok
 returns-clause-ok g c =
     dialogue_made (g.R.Read.remaining c.args.tape.now) (g.W.Write.contents c.args.out.now) (g.W.Write.contents c.talk.new.out) (g.W.Write.contents c.write_whole.new.out) c.args.words c.args.style c.in_ok-end.end
     _ c.in_ok-file.file.tape c.in_ok-odt.odt c.in_ok-world.world c.talk.new.world _ _ _ _
-    c.in_ok-file.ensures.ok c.in_ok-odt.ensures.ok refl c.in_ok-world.ensures.ok c.in_ok-end.ensures.ok c.talk.ensures.written c.new-report.ensures.items c.in_ok-put_report.ensures c.deref.ensures.value c.in_ok-write_whole.ensures.ok
+    c.in_ok-file.ensures.ok c.in_ok-odt.ensures.ok refl c.in_ok-world.ensures.ok c.in_ok-end.ensures.ok c.new-report.ensures.items c.in_ok-put_report.ensures c.deref.ensures.value c.in_ok-write_whole.ensures.ok

@@ -1,0 +1,19 @@
+//! Inputs that fail once and would then go on, where no other crate's tests have them.
+
+use crate::tapes::ONE_WORD;
+use command_io::CommandFault;
+use failing_devices::BrokenInput;
+use odt_machine::{LARGEST_WORDS, PLAIN_STYLE};
+use rehearsals::dialogue_to;
+
+#[test]
+fn the_tape_of_a_dialogue(rt: HostRuntime) {
+    for place in 0..=ONE_WORD.len() {
+        let mut tape = BrokenInput::new(&ONE_WORD, place);
+        let mut out = Vec::new(rt.alloc());
+        let done = dialogue_to(rt.alloc(), &mut tape, LARGEST_WORDS, PLAIN_STYLE, &mut out);
+        assert_eq!(rt; done, Err(CommandFault::ReadTape), "byte {place}");
+        assert!(rt; out.is_empty(), "byte {place}");
+        assert_eq!(rt; (tape.failures, tape.later_reads), (1, 0), "byte {place}");
+    }
+}

@@ -1,0 +1,68 @@
+//! Records of which one byte was changed.
+
+use crate::changes::changed;
+use crate::tapes::ONE_WORD;
+use load_record::{RecordError, read_record};
+use std::alloc::Global;
+use std::test::Fail;
+use tape_blocks::read_tape;
+use tape_image::Plan;
+
+/// The whole record of the smallest tape, in each version.
+const RECORDS: [&[u8]; 2] = [
+    b"LDAODT 1\n001000 177777 011064\nG\n",
+    b"LDAODT 2\n001000 011064\nG\n",
+];
+
+/// What each byte is changed to.
+const OTHERS: [u8; 8] = *b"\n 0127G\xFF";
+
+/// What a record says: how many words are verified, and whether the start was marked.
+type Said = Result<(u32, bool), RecordError>;
+
+/// What a record says of which the byte at this place was changed to another. The header's digit may
+/// have become that of the other version, whose lines the others are not; without its last LF the mark
+/// was torn off.
+fn expected(record: &[u8], place: usize, other: u8) -> Said {
+    const HEADER: usize = 9;
+    const DIGIT: usize = 7;
+    if place == DIGIT && matches!(other, b'1' | b'2') {
+        return Err(RecordError::Foreign(2));
+    }
+    if place < HEADER {
+        return Err(RecordError::NotARecord);
+    }
+    match record.len().saturating_sub(place) {
+        1 => Ok((1, false)),
+        2 => Err(RecordError::Foreign(3)),
+        _ => Err(RecordError::Foreign(2)),
+    }
+}
+
+/// The first change of the byte at this place that is not read as it has to be, if there is one.
+fn misread(alloc: Global, record: &[u8], place: usize, plan: &Plan) -> Result<Option<u8>, Fail> {
+    for other in OTHERS {
+        if record.get(place) == Some(&other) {
+            continue;
+        }
+        let text = changed(alloc, record, place, other)?;
+        let said = read_record(&text, plan).map(|progress| (progress.verified, progress.going));
+        if said != expected(record, place, other) {
+            return Ok(Some(other));
+        }
+    }
+    Ok(None)
+}
+
+#[test]
+fn each_byte_of_a_record_is_changed(rt: HostRuntime) -> Result<(), Fail> {
+    let (tape, _) = read_tape(rt.alloc(), &ONE_WORD)?;
+    let plan = Plan::of(rt.alloc(), &tape)?;
+    for record in &RECORDS {
+        for place in 0..record.len() {
+            let found = misread(rt.alloc(), record, place, &plan)?;
+            assert_eq!(rt; found, None, "byte {place}");
+        }
+    }
+    Ok(())
+}

@@ -1,0 +1,112 @@
+-- Lines of keys: what is gathered, what ends a line, and what one more key adds.
+use Rattle.std.proofs.Common.{◌≡◌, ℕ, ◌==◌, Bool, true, false, if◌then◌else◌, List, [], ◌∷◌, ◌++◌, length, map, Option, arith, refl, sym, ap, ◌∙◌, subst, append_assoc, append-nil, codes}
+use Rattle.std.proofs.Common.{Result, Ok, Err, OnOk}
+use Rattle.std.proofs.lemmas.Bool.Decides.{nat_tests}
+use Rattle.std.specs.List.{flat_map, AllByRecursion}
+use Rattle.std.specs.Io.KnownBytes.{Appends}
+use Rattle.std.proofs.KnownBytes.{Appends-nil}
+use Rattle.std.proofs.lemmas.Grind.{flat_map-append}
+use Rattle.std.proofs.lemmas.List.{map-append, length-append}
+use Rattle.std.proofs.lemmas.List.Concat.{flat_map-cons}
+use Rattle.rehearsals.specs.declared.exchange.Exchange.{Exchange}
+use Rattle.rehearsals.specs.KeyLines.{Answered, Gathers, Holds, Notes, is_echo, in_first_line, key_lines, key_line, key_text, last_line, shown, shown_character, shown_keys, shown_answers}
+
+-- each of the keys was merely echoed
+abbrev pub Echoes : List Answered → Type 0
+Echoes keys = AllByRecursion (λ a. is_echo a ≡ true) keys
+
+-- a key that was not echoed ends the line of the echoed ones before it
+ended_line : (g : List Answered) (a : Answered) (more : List Answered) → Echoes g → is_echo a ≡ false → key_lines (g ++ a ∷ more) ≡ (g ++ a ∷ []) ∷ key_lines more
+ended_line [] a more echoes off = ap (λ t. if t then in_first_line a (key_lines more) else (a ∷ []) ∷ key_lines more) off
+ended_line (x ∷ g) a more echoes off =
+    ap (λ t. if t then in_first_line x (key_lines (g ++ a ∷ more)) else (x ∷ []) ∷ key_lines (g ++ a ∷ more)) echoes.0
+    ∙ ap (in_first_line x) (ended_line g a more echoes.1 off)
+
+-- echoed keys make one line
+one_line : (x : Answered) (g : List Answered) → Echoes (x ∷ g) → key_lines (x ∷ g) ≡ (x ∷ g) ∷ []
+one_line x [] echoes = ap (λ t. if t then in_first_line x [] else (x ∷ []) ∷ []) echoes.0
+one_line x (y ∷ g) echoes =
+    ap (λ t. if t then in_first_line x (key_lines (y ∷ g)) else (x ∷ []) ∷ key_lines (y ∷ g)) echoes.0
+    ∙ ap (in_first_line x) (one_line y g echoes.1)
+
+-- the text of gathered keys is the line under way
+pub gathered_text : (g : List Answered) → Echoes g → key_text g ≡ last_line g
+gathered_text [] echoes = refl
+gathered_text (x ∷ g) echoes = ap (flat_map key_line) (one_line x g echoes) ∙ flat_map-cons key_line (x ∷ g) [] ∙ append-nil (key_line (x ∷ g))
+
+keys_more : (g : List Answered) (a : Answered) → shown_keys (g ++ a ∷ []) ≡ shown_keys g ++ shown (a.key ∷ [])
+keys_more g a = ap shown (map-append (λ (b : Answered). b.key) g (a ∷ [])) ∙ flat_map-append shown_character (map (λ (b : Answered). b.key) g) (a.key ∷ [])
+
+answers_more : (g : List Answered) (a : Answered) → shown_answers (g ++ a ∷ []) ≡ shown_answers g ++ shown a.answer
+answers_more g a =
+    ap shown
+    (flat_map-append (λ (b : Answered). b.answer) g (a ∷ [])
+    ∙ ap (λ l. flat_map (λ (b : Answered). b.answer) g ++ l) (flat_map-cons (λ (b : Answered). b.answer) a [] ∙ append-nil a.answer))
+    ∙ flat_map-append shown_character (flat_map (λ (b : Answered). b.answer) g) a.answer
+
+-- a line under way takes a key and its answer
+pub holds_more : (g : List Answered) (a : Answered) (old now : Exchange) → Holds g old → now.keys.items ≡ old.keys.items ++ shown (a.key ∷ []) → now.answers.items ≡ old.answers.items ++ shown a.answer → Holds (g ++ a ∷ []) now
+holds_more g a old now holds keys answers = record {
+  keys = keys ∙ ap (λ l. l ++ shown (a.key ∷ [])) holds.keys ∙ sym (keys_more g a);
+  answers = answers ∙ ap (λ l. l ++ shown a.answer) holds.answers ∙ sym (answers_more g a);
+}
+
+some_shown : (a b d : Bool) (c : ℕ) → length (if a then codes "_" else (if b then codes "<CR>" else (if d then codes "<LF>" else c ∷ []))) ≡ 0 → ⊥
+some_shown true b d c none = omega arith
+some_shown false true d c none = omega arith
+some_shown false false true c none = omega arith
+some_shown false false false c none = omega arith
+
+-- no key is shown as nothing
+pub none_held : (held : List Answered) → length (shown_keys held) ≡ 0 → held ≡ []
+none_held [] none = refl
+none_held (a ∷ others) none =
+    absurd (some_shown (a.key == 32) (a.key == 13) (a.key == 10) a.key
+    (omega (arith, none, ap length (flat_map-cons shown_character a.key (map (λ (b : Answered). b.key) others)), length-append (shown_character a.key) (shown_keys others))))
+
+pub last_is : (held : List Answered) → (held ≡ [] → ⊥) → last_line held ≡ key_line held
+last_is [] some = absurd (some refl)
+last_is (a ∷ others) some = refl
+
+some_more : (g : List Answered) (a : Answered) → g ++ a ∷ [] ≡ [] → ⊥
+some_more [] a none = cc
+some_more (x ∷ g) a none = cc
+
+pub none_noted : (g : List Answered) (now : Exchange) (before : Option (List ℕ)) → Gathers g now → Notes g [] now before before
+none_noted g now before gathers = record { told = []; left = g; gathers = gathers; written = Appends-nil before; text = λ more. refl }
+
+echoes_more : (g : List Answered) (a : Answered) → Echoes g → is_echo a ≡ true → Echoes (g ++ a ∷ [])
+echoes_more [] a echoes on = (on, tt)
+echoes_more (x ∷ g) a echoes on = (echoes.0, echoes_more g a echoes.1 on)
+
+pub echo_noted : (g : List Answered) (a : Answered) (now : Exchange) (before : Option (List ℕ)) → Holds (g ++ a ∷ []) now → Echoes g → is_echo a ≡ true → Notes g (a ∷ []) now before before
+echo_noted g a now before holds echoes on = record {
+  told = [];
+  left = g ++ a ∷ [];
+  gathers = record { holds = holds; echoes = echoes_more g a echoes on };
+  written = Appends-nil before;
+  text = λ more. ap key_text (sym (append_assoc g (a ∷ []) more));
+}
+
+pub line_noted : (g : List Answered) (a : Answered) (now : Exchange) (before after : Option (List ℕ)) → Echoes g → is_echo a ≡ false → Appends before after (last_line (g ++ a ∷ [])) → Holds [] now → Notes g (a ∷ []) now before after
+line_noted g a now before after echoes off written holds = record {
+  told = key_line (g ++ a ∷ []);
+  left = [];
+  gathers = record { holds = holds; echoes = tt };
+  written = subst (Appends before after) (last_is (g ++ a ∷ []) (some_more g a)) written;
+  text = λ more. ap (flat_map key_line) (ended_line g a more echoes off) ∙ flat_map-cons key_line (g ++ a ∷ []) (key_lines more);
+}
+
+pub length_by_test : (xs : List ℕ) (test : Bool) → test ≡ (length xs == 0) → test ≡ true → length xs ≡ 0
+length_by_test [] test is on = refl
+length_by_test (x ∷ xs) test is on = absurd (grind (arith, nat_tests))
+
+-- a line that is written whole ends with the key that was not echoed
+pub line_ends : {T E : Type 0} (r : Result T E) (a : Answered) (old mid now : Exchange) (before after : Option (List ℕ))
+    → OnOk r ((held : List Answered) → Holds held mid → Appends before after (last_line held) × Holds [] now)
+    → mid.keys.items ≡ old.keys.items ++ shown (a.key ∷ []) → mid.answers.items ≡ old.answers.items ++ shown a.answer → is_echo a ≡ false
+    → OnOk r ((gathered : List Answered) → Gathers gathered old → Notes gathered (a ∷ []) now before after)
+line_ends (Err e) a old mid now before after finished keys answers off = tt
+line_ends (Ok x) a old mid now before after finished keys answers off = λ gathered gathers.
+    let line = finished (gathered ++ a ∷ []) (holds_more gathered a old mid gathers.holds keys answers) in
+    line_noted gathered a now before after gathers.echoes off line.0 line.1

@@ -1,0 +1,18 @@
+use Rattle.std.proofs.Common.{nat_eq, ap, sym, ◌∙◌}
+use Rattle.std.specs.Cmp.Lexicographic.{pointwise}
+use Rattle.rehearsals.specs.KeyLines.{Answered}
+use Rattle.rehearsals.proofs.KeyTexts.{holds_more, echo_noted, line_ends}
+use Rattle.rehearsals.proofs.exchange.Exchange.note.Goals as goal
+
+pub returns-then-eq-clause-ok : goal.returns-then-eq-clause-ok
+returns-then-eq-clause-ok g c gathered gathers =
+    let a : Answered = record { key = c.args.key; answer = c.args.answer.now } in
+    echo_noted gathered a _ (g.W.Write.contents c.args.out.now)
+    (holds_more gathered a c.args.self.now _ gathers.holds c.in_ok-show.ensures c.in_ok-show-2.ensures) gathers.echoes
+    (ap (pointwise nat_eq c.args.answer.now) (sym c.as_slice.ensures) ∙ sym c.eq.ensures ∙ c.if-eq.true)
+
+pub returns-clause-ok : goal.returns-clause-ok
+returns-clause-ok g c =
+    line_ends c.finish.result (record { key = c.args.key; answer = c.args.answer.now }) c.args.self.now (record { keys = c.show.new.text; answers = c.show-2.new.text }) c.finish.new.self
+    (g.W.Write.contents c.args.out.now) (g.W.Write.contents c.finish.new.out) c.finish.ensures.ok c.in_ok-show.ensures c.in_ok-show-2.ensures
+    (ap (pointwise nat_eq c.args.answer.now) (sym c.as_slice.ensures) ∙ sym c.eq.ensures ∙ c.if-eq.false)

@@ -1,0 +1,96 @@
+//! A tape from the front of an input.
+ghost use Rattle.std.specs.Prelude.{◌≡◌};
+ghost use Rattle.tape_blocks.specs.Input.{IsReadFrom};
+
+use crate::fault::{Fault, ReadError};
+use crate::reader::{Fed, TapeReader};
+use crate::tape::{TAPE_LIMIT, Tape};
+use std::alloc::Global;
+use std::error::Error;
+use std::io::Read;
+use std::{fmt, io};
+
+/// The most bytes that are taken: one more than a tape may have, so that a longer one is seen.
+const INPUT_LIMIT: usize = TAPE_LIMIT + 1;
+
+/// How many bytes are asked for in one read at most: the rest of any block, and the next header.
+const PIECE: usize = 65_536;
+
+/// Why an input gave no tape.
+#[derive(Clone, Copy, Debug, PartialEq, Eq)]
+pub enum FromError {
+    /// The input is no tape.
+    Tape(Fault),
+    /// A growth of memory was refused.
+    Memory,
+    /// A read failed.
+    Io,
+}
+
+impl fmt::Display for FromError {
+    ghost use Rattle.std.specs.Prelude.{Some};
+    ghost use Rattle.tape_blocks.specs.Input.{from_error_text};
+
+    ghost output = { λ e. Some (from_error_text e) };
+
+    fn fmt<W: fmt::Write>(&self, f: &mut fmt::Formatter<W>) -> fmt::Result {
+        match self {
+            FromError::Tape(fault) => write!(f, "{}", ReadError::Tape(*fault)),
+            FromError::Memory => write!(f, "{}", ReadError::Memory),
+            FromError::Io => f.write_str("a read failed"),
+        }
+    }
+}
+
+impl Error for FromError {}
+
+impl From<ReadError> for FromError {
+    ghost use Rattle.std.specs.Prelude.{◌≡◌};
+    ghost use Rattle.tape_blocks.specs.Input.{from_read_error};
+
+    ghost from_gives = { λ error e. e ≡ from_read_error error };
+
+    fn from(error: ReadError) -> FromError {
+        match error {
+            ReadError::Tape(fault) => FromError::Tape(fault),
+            ReadError::Memory => FromError::Memory,
+        }
+    }
+}
+
+impl From<io::Error> for FromError {
+    ghost use Rattle.std.specs.Prelude.{◌≡◌};
+    ghost use Rattle.tape_blocks.specs.declared.input.FromError.TheVariants.{Io};
+
+    ghost from_gives = { λ _ e. e ≡ Io };
+
+    fn from(_error: io::Error) -> FromError {
+        FromError::Io
+    }
+}
+
+/// Reads the tape that begins an input, and tells how many bytes it has. These bytes alone are taken.
+///
+/// The input is asked for no more bytes than the tape is known to need: for a block's rest and the
+/// next seven in one read. A read of no bytes is the input's end. At most 1,048,577 bytes are taken
+/// on any outcome, and no byte that follows a tape.
+///
+/// `FromError::Tape` is the fault of the input. `FromError::Io` is a read that failed, whatever its
+/// error says; the input is not asked again. `FromError::Memory` comes only where a growth was
+/// refused.
+pub fn read_from<R: Read>(alloc: Global, input: &mut R) -> Result<(Tape, u32), FromError>
+    ensures { IsReadFrom (R.remaining input.old) (R.remaining input.new) result }
+{
+    let mut reader = TapeReader::new(alloc);
+    let mut piece = [0u8; PIECE];
+    let mut taken = 0;
+    loop {
+        let room = reader.needs().min(PIECE).min(INPUT_LIMIT - taken);
+        let count = input.read(&mut piece[..room])?;
+        taken += count;
+        match reader.feed(&piece[..count])? {
+            Fed::More if count > 0 => {}
+            _ => return Ok((reader.finish()?, taken as u32)),
+        }
+    }
+}

@@ -1,5 +1,5 @@
 -- Reports that are cut short.
-use Rattle.std.proofs.Common.{◌≡◌, ℕ, List, [], ◌++◌, Option, Result, Ok, Err, IfErr, IsErrAnd, sym, ◌∙◌, ap, subst, append-nil}
+use Rattle.std.proofs.Common.{◌≡◌, ℕ, List, [], Option, Result, Ok, Err, IfErr, IsErrAnd, sym, ◌∙◌, subst, append-nil}
 use Rattle.std.proofs.KnownBytes.{Appends-kept}
 use Rattle.std.specs.Io.KnownBytes.{Appends, Keeps}
 use Rattle.tape_image.specs.Plan.{PlanValue}
@@ -26,7 +26,7 @@ unflushed a b d report text is wrote kept = (
 
 -- a report that fails is that of the load
 pub of_report : (plan : PlanValue) (patience : ℕ) (steps steps' : Option (List Step)) (told told' out out' : Option (List ℕ)) (last : Core) (stop : Stop) (fault : LoadFault)
-    → IsLoad told plan patience steps steps' last stop → IsReportFault out out' (load_report last stop) fault → IsLoadFault plan patience steps steps' told told' out out' fault
+    → IsLoad told plan patience steps steps' told' last stop → IsReportFault out out' (load_report last stop) fault → IsLoadFault plan patience steps steps' told told' out out' fault
 of_report plan patience steps steps' told told' out out' last stop WriteOutput load fails = record { last = last; stop = stop; load = load; missing = fails.0; reported = fails.1 }
 of_report plan patience steps steps' told told' out out' last stop Memory load fails = tt
 of_report plan patience steps steps' told told' out out' last stop ReadRecord load fails = absurd fails

@@ -1,5 +1,5 @@
 -- A load: what a record says, what was done on the line, and what was reported.
-use Rattle.std.specs.Prelude.{◌≡◌, ◌⊎◌, ℕ, List, [], ◌∷◌, Option, Some, None, Ok, ⊤}
+use Rattle.std.specs.Prelude.{◌≡◌, ◌⊎◌, ℕ, false, List, [], ◌∷◌, Option, Some, None, Ok, ⊤}
 use Rattle.std.specs.Io.KnownBytes.{Appends}
 use Rattle.tape_image.specs.Plan.{PlanValue}
 use Rattle.host_core.specs.declared.phase.End.{End}
@@ -11,6 +11,8 @@ use Rattle.load_devices.specs.Told.{Gains}
 use Rattle.load_engine.specs.declared.stop.Stop.{Stop}
 use Rattle.load_engine.specs.declared.stop.Stop.TheVariants.{Ended}
 use Rattle.load_engine.specs.Session.{Session, TellsEnd}
+use Rattle.load_record.specs.declared.version.Version.TheVariants.{Second}
+use Rattle.load_record.specs.RecordText.{record_text}
 use Rattle.load_record.specs.Reading.{Says}
 use Rattle.command_io.specs.Output.{WritesAllBut}
 use Rattle.machine_load.specs.LoadReport.{load_report}
@@ -50,30 +52,36 @@ pub record IsDrivenOn (old new : Core) (stop : Stop) : Type 0 where
   pub goes_on : ended old.phase ≡ None
   pub driven : IsDriven old new stop
 
--- a life, once it has opened: one that is over calls nobody; else a connection is made, and then the record is begun anew
-abbrev pub IsLife : Core → Core → Stop → Option (List Step) → Option (List Step) → Type 0
-IsLife old new stop steps steps' =
+-- a record that was begun anew is that of the plan's first k words, where it is told
+abbrev pub IsBegun : Option (List ℕ) → PlanValue → ℕ → Type 0
+IsBegun None plan k = ⊤
+IsBegun (Some text) plan k = text ≡ record_text Second plan k false
+
+-- a life, once it has opened: one that is over calls nobody; else a connection is made, then the record is begun anew, with the
+-- words that are verified already
+abbrev pub IsLife : Core → Core → Stop → Option (List Step) → Option (List Step) → Option (List ℕ) → Type 0
+IsLife old new stop steps steps' record' =
     (IsOverAtOnce old new stop × Gains steps steps' [])
-    ⊎ (IsDrivenOn old new stop × Gains steps steps' (Connect ∷ BeginRecord ∷ []))
+    ⊎ (IsDrivenOn old new stop × Gains steps steps' (Connect ∷ BeginRecord ∷ []) × IsBegun record' old.plan old.verified)
 
 -- a load: first the record is read, which says where the life begins; then the life
-pub record IsLoad (record_told : Option (List ℕ)) (plan : PlanValue) (patience : ℕ) (steps steps_after : Option (List Step)) (last : Core) (stop : Stop) : Type 0 where
+pub record IsLoad (record_told : Option (List ℕ)) (plan : PlanValue) (patience : ℕ) (steps steps_after : Option (List Step)) (record_after : Option (List ℕ)) (last : Core) (stop : Stop) : Type 0 where
   pub first : Core
   pub steps_between : Option (List Step)
   pub read_first : Gains steps steps_between (ReadRecord ∷ [])
   pub opened : IsOpening record_told plan patience first
-  pub life : IsLife first last stop steps_between steps_after
+  pub life : IsLife first last stop steps_between steps_after record_after
 
 -- a load and its report, which is of the core that the life ended with
-pub record IsReported (record_told : Option (List ℕ)) (plan : PlanValue) (patience : ℕ) (steps steps_after : Option (List Step)) (out out_after : Option (List ℕ)) (stop : Stop) : Type 0 where
+pub record IsReported (record_told : Option (List ℕ)) (plan : PlanValue) (patience : ℕ) (steps steps_after : Option (List Step)) (record_after out out_after : Option (List ℕ)) (stop : Stop) : Type 0 where
   pub last : Core
-  pub load : IsLoad record_told plan patience steps steps_after last stop
+  pub load : IsLoad record_told plan patience steps steps_after record_after last stop
   pub reported : Appends out out_after (load_report last stop)
 
 -- a load whose report may be cut short
-pub record IsCutShort (record_told : Option (List ℕ)) (plan : PlanValue) (patience : ℕ) (steps steps_after : Option (List Step)) (out out_after : Option (List ℕ)) : Type 0 where
+pub record IsCutShort (record_told : Option (List ℕ)) (plan : PlanValue) (patience : ℕ) (steps steps_after : Option (List Step)) (record_after out out_after : Option (List ℕ)) : Type 0 where
   pub last : Core
   pub stop : Stop
-  pub load : IsLoad record_told plan patience steps steps_after last stop
+  pub load : IsLoad record_told plan patience steps steps_after record_after last stop
   pub missing : List ℕ
   pub reported : WritesAllBut out out_after (load_report last stop) missing

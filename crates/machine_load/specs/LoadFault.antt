@@ -1,5 +1,5 @@
 -- How a load comes to nothing, and what was done before.
-use Rattle.std.specs.Prelude.{◌≡◌, ℕ, List, [], ◌∷◌, Option, Err, ⊤}
+use Rattle.std.specs.Prelude.{ℕ, List, [], ◌∷◌, Option, Err, ⊤}
 use Rattle.std.specs.Io.KnownBytes.{Keeps as Untouched}
 use Rattle.tape_image.specs.Plan.{PlanValue}
 use Rattle.load_devices.specs.Told.{Gains}
@@ -70,5 +70,5 @@ IsLoadFault plan patience steps steps' told told' out out' RecordNotRead = Stops
 IsLoadFault plan patience steps steps' told told' out out' (Record why) = StopsAfter steps steps' told told' out out' (ReadRecord ∷ []) × IsRefusedRecord told plan why
 IsLoadFault plan patience steps steps' told told' out out' NotConnected = StopsAfter steps steps' told told' out out' (ReadRecord ∷ Connect ∷ [])
 IsLoadFault plan patience steps steps' told told' out out' WriteRecord = Gains steps steps' (ReadRecord ∷ Connect ∷ BeginRecord ∷ []) × Untouched out out'
-IsLoadFault plan patience steps steps' told told' out out' WriteOutput = IsCutShort told plan patience steps steps' out out'
+IsLoadFault plan patience steps steps' told told' out out' WriteOutput = IsCutShort told plan patience steps steps' told' out out'
 IsLoadFault plan patience steps steps' told told' out out' Memory = ⊤

@@ -1,5 +1,5 @@
 -- How fast a load goes, in whole milliseconds (this project's choice).
-use Rattle.std.specs.Prelude.{ℕ, ◌+◌, ◌-◌, ◌*◌, ◌/◌, ◌^◌, min}
+use Rattle.std.specs.Prelude.{ℕ, ◌-◌, ◌*◌, ◌/◌, ◌^◌, min}
 
 -- of a hundred, how many are done of a total that is not 0
 abbrev pub percent_of : ℕ → ℕ → ℕ

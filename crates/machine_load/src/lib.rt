@@ -1,4 +1,13 @@
-//! The command `load`: a tape into a real machine, over a line, with a record that outlives the host.
+//! The command `load`: a plan into a real machine, over a line, with a record that outlives the host.
+//!
+//! `load` asks its `Surroundings` for the record of earlier lives, for a line and for the record of
+//! the life that begins, in this order, and its report is that of the core that the engine gave back:
+//! that is its contract. `Recorded` and `Unrecorded` are the surroundings of a real machine, over the
+//! system's files and sockets; a record on the disk is replaced whole, and what is flushed to it is
+//! on the disk (`DurableWriter`). An `Onlooker` sees how far the load is and decides nothing;
+//! `ProgressLine` shows it on a terminal.
+//!
+//! The crate `requests` calls it, and its tests stand in `load_tests`.
 #![tactic(auto)]
 
 mod begin_fault;

@@ -3,7 +3,7 @@ ghost use Rattle.std.specs.Prelude.{◌≡◌, [], ◌∷◌, None, IfOk, IfErr,
 ghost use Rattle.std.specs.Io.KnownBytes.{Appends, Keeps};
 ghost use Rattle.host_core.specs.Core.{ended};
 ghost use Rattle.load_devices.specs.Told.{Gains};
-ghost use Rattle.machine_load.specs.Load.{IsDriven, IsLife, IsOpening, IsReported};
+ghost use Rattle.machine_load.specs.Load.{IsBegun, IsDriven, IsLife, IsOpening, IsReported};
 ghost use Rattle.machine_load.specs.LoadFault.{IsLoadFault, IsOpeningFault, IsDrivingFault, IsReportFault};
 ghost use Rattle.machine_load.specs.LoadReport.{load_report};
 ghost use Rattle.machine_load.specs.Step.{ReadRecord, Connect, BeginRecord};
@@ -44,7 +44,7 @@ pub fn load<S: Surroundings, W: Write, O: Onlooker>(
     out: &mut W,
     onlooker: &O,
 ) -> Result<Stop, LoadFault>
-    ensures reported { IfOk result (IsReported (S.record_text around.old) plan patience (S.steps around.old) (S.steps around.new) (W.contents out.old) (W.contents out.new)) }
+    ensures reported { IfOk result (IsReported (S.record_text around.old) plan patience (S.steps around.old) (S.steps around.new) (S.record_text around.new) (W.contents out.old) (W.contents out.new)) }
     ensures fault { IfErr result (IsLoadFault plan patience (S.steps around.old) (S.steps around.new) (S.record_text around.old) (S.record_text around.new) (W.contents out.old) (W.contents out.new)) }
 {
     let core = open(alloc, plan, patience, around)?;
@@ -78,7 +78,7 @@ fn live<S: Surroundings, O: Onlooker>(
     around: &mut S,
     onlooker: &O,
 ) -> Result<(HostCore, Stop), LoadFault>
-    ensures life { IfOk result (λ lived. IsLife core lived.0 lived.1 (S.steps around.old) (S.steps around.new)) }
+    ensures life { IfOk result (λ lived. IsLife core lived.0 lived.1 (S.steps around.old) (S.steps around.new) (S.record_text around.new)) }
     ensures fault { IfErr result (IsDrivingFault (S.steps around.old) (S.steps around.new) (S.record_text around.old) (S.record_text around.new)) }
 {
     match core.end() {
@@ -96,6 +96,7 @@ fn drive_over<S: Surroundings, O: Onlooker>(
 ) -> Result<(HostCore, Stop), LoadFault>
     ensures driven { IfOk result (λ driven. IsDriven core driven.0 driven.1) }
     ensures steps { OnOk result (Gains (S.steps around.old) (S.steps around.new) (Connect ∷ BeginRecord ∷ [])) }
+    ensures begun { OnOk result (IsBegun (S.record_text around.new) core.plan core.verified) }
     ensures fault { IfErr result (IsDrivingFault (S.steps around.old) (S.steps around.new) (S.record_text around.old) (S.record_text around.new)) }
 {
     let line = around.connect()?;

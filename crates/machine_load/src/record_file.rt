@@ -1,5 +1,10 @@
 //! A record that is written anew: the old one is replaced whole, or stays.
 
+ghost use Rattle.std.specs.Prelude.{false, IfOk};
+ghost use Rattle.std.specs.Io.KnownBytes.{Appends};
+ghost use Rattle.load_record.specs.declared.version.Version.TheVariants.{Second};
+ghost use Rattle.load_record.specs.RecordText.{record_text};
+
 use crate::begin_fault::BeginFault;
 use crate::durable::DurableWriter;
 use load_devices::KeepFault;
@@ -97,7 +102,9 @@ fn begun<T: OpenFile + Write + Drop>(
     file: T,
     plan: &Plan,
     verified: u32,
-) -> Result<DiskRecord<T>, KeepFault> {
+) -> Result<DiskRecord<T>, KeepFault>
+    ensures written { IfOk result (λ keeper. Appends (T.contents file) keeper.text (record_text Second plan.now verified false)) }
+{
     let mut keeper = FileKeep::new(DurableWriter { file });
     keeper.begin(plan, verified)?;
     Ok(keeper)

@@ -1,7 +1,7 @@
-ghost use Rattle.std.specs.Prelude.{ℕ, List, [], ◌∷◌, Option, None, IfOk};
+ghost use Rattle.std.specs.Prelude.{ℕ, List, [], ◌∷◌, Option, None, IfOk, OnOk};
 ghost use Rattle.std.specs.Io.KnownBytes.{Keeps};
 ghost use Rattle.load_devices.specs.Told.{Gains};
-ghost use Rattle.machine_load.specs.Load.{IsRecordText};
+ghost use Rattle.machine_load.specs.Load.{IsBegun, IsRecordText};
 ghost use Rattle.machine_load.specs.Step.{Step, ReadRecord, Connect, BeginRecord};
 
 use crate::begin_fault::BeginFault;
@@ -43,5 +43,6 @@ pub trait Surroundings {
         plan: &Plan,
         verified: u32,
     ) -> Result<Self::Keeper, BeginFault>
-        ensures step { Gains (steps self.old) (steps self.new) (BeginRecord ∷ []) };
+        ensures step { Gains (steps self.old) (steps self.new) (BeginRecord ∷ []) }
+        ensures begun { OnOk result (IsBegun (record_text self.new) plan.now verified) };
 }

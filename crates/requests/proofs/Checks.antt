@@ -17,9 +17,13 @@ only_input known input (suc n) rest same = let long = ap length same in absurd (
 names_input : (f : Failure) (known : Option (List ℕ)) → NamesFile (codes "standard input") f → IsCheckFailure known f
 names_input (failure.CannotRead name) known is = is
 names_input failure.CannotWrite known is = absurd is
+names_input (failure.CannotWriteFile name) known is = absurd is
+names_input (failure.CannotConnect address) known is = absurd is
+names_input failure.LineFailed known is = absurd is
 names_input (failure.TapeRefused refusal) known is = absurd is
 names_input (failure.OneTapeRefused tape) known is = absurd is
 names_input (failure.ScriptRefused line) known is = absurd is
+names_input (failure.RecordRefused reason) known is = absurd is
 names_input failure.TooLarge known is = absurd is
 names_input failure.BadWord known is = absurd is
 names_input failure.NoMemory known is = absurd is

@@ -194,7 +194,8 @@ const ROWS: [Row; 15] = [
 
 /// A load of a tape, recorded under this name.
 fn load_of(alloc: Global, record: Option<&str>) -> Result<Request<'_>, Fail> {
-    let tapes = Vec::from_slice(alloc, &["a.lda"])?;
+    let mut tapes = Vec::new(alloc);
+    tapes.push("a.lda")?;
     Ok(Request::Load(
         tapes,
         Load {

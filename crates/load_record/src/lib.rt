@@ -5,8 +5,8 @@
 //! exactly; above it stands the law that a restart rests on, `cut_record`: a record that is cut at
 //! any byte is read as no more words than were written, and with the mark only where it stood.
 //!
-//! The text is described in docs/RECORD.md. Nothing here takes memory. The command `load` of
-//! `load_command` uses it.
+//! The text is described in docs/RECORD.md. Nothing here takes memory. The command `load` (crate
+//! `machine_load`) uses it.
 #![tactic(auto)]
 
 mod file_keep;

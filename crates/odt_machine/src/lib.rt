@@ -8,7 +8,7 @@
 //! running machine answers nothing; an answer has at most nine characters.
 //!
 //! Contracts see a machine as its style, its memory as a list of words, and its mode. Only
-//! `Odt::new` takes memory. Used by `line_world` and `load_command`.
+//! `Odt::new` takes memory. Used by `line_world`, `honest_line` and the commands.
 
 #![tactic(auto)]
 

@@ -13,7 +13,7 @@
 //! fault of the input, at its place; `TapeReader` answers the same of any pieces, and `read_from` of
 //! an input, of which it takes the tape alone; `write_tape` gives the plain text, which reads as the
 //! same tape.
-//! `tape_image` makes words of the blocks, and the program `load_command` reads its tapes here.
+//! `tape_image` makes words of the blocks, and `command_io` reads the tapes of the commands here.
 #![tactic(auto)]
 
 mod block;

@@ -35,6 +35,7 @@ demo: ldaodt
 # Times, for a reader to judge: nothing here fails for being slow.
 bench: ldaodt
 	@tools/bench
+	@tools/bench-load
 
 # The built program in bad company: little memory, full and closed outputs, a peer that hangs up, lost
 # characters and kills. It takes minutes and depends on time, so it is no part of the gate.

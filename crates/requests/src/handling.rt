@@ -20,7 +20,7 @@ use machine_load::{Address, Onlooker, ProgressLine, Recorded, Unrecorded, Unwatc
 use odt_machine::{Odt, OdtError};
 use rehearsals::{dialogue_to, rehearse_to};
 use std::alloc::Global;
-use std::io::{Print, Read, Write};
+use std::io::{BufReader, Print, Read, Write};
 use std::net::Net;
 use std::rt::Files;
 use std::time::Clock;
@@ -94,10 +94,18 @@ fn perform<'a, F: Files + Net + Clock, R: Read, W: Write, T: Print>(
     Ok(status)
 }
 
-fn open<'a, F: Files>(rt: &F, name: &'a str) -> Result<F::File, Failure<'a>> {
-    match fs::open(rt, name) {
-        Ok(file) => Ok(file),
-        Err(_) => Err(Failure::CannotRead(name)),
+/// Opens a file. It is read ahead, which nobody sees: no one else reads what this program has opened.
+fn open<'a, F: Files>(
+    rt: &F,
+    alloc: Global,
+    name: &'a str,
+) -> Result<BufReader<F::File>, Failure<'a>> {
+    let Ok(file) = fs::open(rt, name) else {
+        return Err(Failure::CannotRead(name));
+    };
+    match BufReader::new(alloc, file) {
+        Ok(reader) => Ok(reader),
+        Err(_) => Err(Failure::NoMemory),
     }
 }
 
@@ -106,20 +114,21 @@ fn open_all<'a, F: Files>(
     rt: &F,
     alloc: Global,
     names: &[&'a str],
-) -> Result<Vec<F::File>, Failure<'a>> {
+) -> Result<Vec<BufReader<F::File>>, Failure<'a>> {
     let mut files = Vec::new(alloc);
-    open_more(rt, names, &mut files)?;
+    open_more(rt, alloc, names, &mut files)?;
     Ok(files)
 }
 
 /// Opens further files, in the order of their names.
 fn open_more<'a, F: Files>(
     rt: &F,
+    alloc: Global,
     names: &[&'a str],
-    files: &mut Vec<F::File>,
+    files: &mut Vec<BufReader<F::File>>,
 ) -> Result<(), Failure<'a>> {
     for name in names {
-        let file = open(rt, name)?;
+        let file = open(rt, alloc, name)?;
         if files.push(file).is_err() {
             return Err(Failure::NoMemory);
         }
@@ -183,8 +192,8 @@ fn rehearse<'a, F: Files, W: Write>(
     out: &mut W,
 ) -> Result<Status, Failure<'a>> {
     let mut tapes = open_all(rt, alloc, &[tape])?;
-    let mut script_file = open(rt, script)?;
-    open_more(rt, more, &mut tapes)?;
+    let mut script_file = open(rt, alloc, script)?;
+    open_more(rt, alloc, more, &mut tapes)?;
     let names = joined(alloc, tape, more)?;
     match rehearse_to(alloc, &mut tapes, &mut script_file, out) {
         Ok(()) => Ok(Status::Done),

@@ -3,8 +3,6 @@ use requests::Request;
 use std::io::Stderr;
 use std::test::Fail;
 
-mod scarce;
-
 /// No terminal looks on.
 const NOBODY: Option<&Stderr> = None;
 
@@ -55,9 +53,6 @@ const ASKED: [(&[&str], &str); 13] = [
         ],
         "Load [a.lda b.lda] [::1]:23 a.record 1000 60000",
     ),
-    (&["type"], "Type 28672 0"),
-    (&["type", "--words", "256"], "Type 256 0"),
-    (&["type", "--style", "7", "--words=28672"], "Type 28672 7"),
 ];
 
 /// Words that ask for a text.

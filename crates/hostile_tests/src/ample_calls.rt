@@ -4,7 +4,6 @@ use crate::tapes::{NOTHING, ONE_WORD, OVERLAP, PADDED, WRONG_SUM};
 use honest_line::MemoryLine;
 use load_devices::{Keep, Line, MemoryKeep};
 use odt_machine::{LARGEST_WORDS, Odt, PLAIN_STYLE};
-use scarce_memory::{Famine, ROOMS};
 use std::alloc::Global;
 use std::slice;
 use std::test::Fail;
@@ -209,24 +208,6 @@ fn tapes_of(alloc: Global, texts: &[&[u8]]) -> Result<Vec<Tape>, Fail> {
     Ok(tapes)
 }
 
-/// The first answer but that for want of memory, in rooms that grow, and how often that came before.
-fn first_answer(
-    alloc: Global,
-    call: Call,
-    texts: &[&[u8]],
-) -> Result<(Option<Answer>, usize), Fail> {
-    let tapes = tapes_of(alloc, texts)?;
-    let mut famine = Famine::begin(alloc)?;
-    for refusals in 0..ROOMS {
-        famine.leave_more(alloc)?;
-        let found = ask(alloc, call, texts, &tapes);
-        if found.is_some() {
-            return Ok((found, refusals));
-        }
-    }
-    Ok((None, ROOMS))
-}
-
 #[test]
 fn ample_memory_is_enough(rt: HostRuntime) -> Result<(), Fail> {
     for row in &CALLS {
@@ -234,17 +215,6 @@ fn ample_memory_is_enough(rt: HostRuntime) -> Result<(), Fail> {
         let tapes = tapes_of(rt.alloc(), texts)?;
         let found = ask(rt.alloc(), call, texts, &tapes);
         assert_eq!(rt; found, Some(ample), "{call:?}: {reason}");
-    }
-    Ok(())
-}
-
-#[test]
-fn each_growth_is_refused_in_turn(rt: HostRuntime) -> Result<(), Fail> {
-    for row in &CALLS {
-        let (call, texts, ample, reason) = *row;
-        let (found, refusals) = first_answer(rt.alloc(), call, texts)?;
-        assert_eq!(rt; found, Some(ample), "{call:?}: {reason}");
-        assert!(rt; refusals > 0, "{call:?}: {reason}");
     }
     Ok(())
 }

@@ -17,6 +17,10 @@ mod progress;
 #[cfg(test)]
 mod records;
 #[cfg(test)]
+mod replacing;
+#[cfg(test)]
+mod scarce;
+#[cfg(test)]
 mod simulated;
 #[cfg(test)]
 mod tapes;

@@ -3,10 +3,11 @@
 //!
 //! `read_up_to` takes the first bytes of an input and no others, `write_whole` writes a text or says
 //! that something of it is missing, and neither asks a device again that has failed. `take_tapes`
-//! answers the tapes that begin some inputs and takes their bytes alone, or the first refusal; `put_decimal` and `put_octal` put
-//! numbers at the end of a text that is being gathered.
+//! answers the tapes that begin some inputs and takes their bytes alone, or the first refusal;
+//! `put_decimal` and `put_octal` put numbers at the end of a text that is being gathered.
 //!
-//! The crates of the commands stand on this one: `tape_check`, `console_typing`, `rehearsals`.
+//! The crates of the commands stand on this one (`tape_check`, `console_typing`, `rehearsals`,
+//! `machine_load`), and so does `load_record`, which writes its lines whole.
 #![tactic(auto)]
 
 mod fault;

@@ -10,8 +10,8 @@ use Rattle.tape_image.specs.Plan.{PlanValue}
 use Rattle.load_record.specs.declared.version.Version.{Version}
 use Rattle.load_record.specs.declared.version.Version.TheVariants.{Second}
 use Rattle.load_record.specs.declared.run.OpenRun.{OpenRun}
-use Rattle.load_record.specs.Keeper.{WritesFront}
-use Rattle.load_record.proofs.Writing.{first_front, second_front}
+use Rattle.command_io.specs.Output.{WritesFront}
+use Rattle.command_io.proofs.Fronts.{front_longer, front_behind}
 use Rattle.load_record.specs.Lines.{header, half_line, value_text, run_text, is_full}
 use Rattle.load_record.specs.RecordText.{ending, joins, begun_text, second_piece, second_run, piece, run_after, pieces, run_over, open_run, words_text}
 
@@ -82,8 +82,8 @@ pub words_front : (words : List WordValue) (i : ℕ) (w : WordValue) (run : Opti
     → Appends a b (pieces Second None (take i words)) → WritesFront b c (second_piece run w) → WritesFront a c (pieces Second None words)
 words_front words i w run a b c within at now_open before part =
     subst (WritesFront a c) (sym (pieces_around words i w run within at now_open))
-    (second_front a b c (pieces Second None (take i words)) (second_piece run w ++ pieces Second (second_run run w) (drop (i + 1) words)) before
-    (first_front b c (second_piece run w) (pieces Second (second_run run w) (drop (i + 1) words)) part))
+    (front_behind a b c (pieces Second None (take i words)) (second_piece run w ++ pieces Second (second_run run w) (drop (i + 1) words)) before
+    (front_longer b c (second_piece run w) (pieces Second (second_run run w) (drop (i + 1) words)) part))
 
 -- one word more is written
 pub words_more : (words : List WordValue) (i : ℕ) (w : WordValue) (run after : Option OpenRun) (a b c : Option (List ℕ)) → i < length words → w ≡ get_or words i w
@@ -106,14 +106,14 @@ begin_text run plan k =
 pub header_front : (run : Option OpenRun) (plan : PlanValue) (k : ℕ) (a b : Option (List ℕ)) → WritesFront a b (ending run ++ (header Second ++ 10 ∷ []))
     → WritesFront a b (ending run ++ words_text Second plan k)
 header_front run plan k a b part =
-    subst (WritesFront a b) (begin_text run plan k) (first_front a b (ending run ++ (header Second ++ 10 ∷ [])) (pieces Second None (take k plan.words)) part)
+    subst (WritesFront a b) (begin_text run plan k) (front_longer a b (ending run ++ (header Second ++ 10 ∷ [])) (pieces Second None (take k plan.words)) part)
 
 -- the words behind the header failed
 pub begin_front : (run : Option OpenRun) (plan : PlanValue) (k : ℕ) (words : List WordValue) (a b c : Option (List ℕ)) → words ≡ take k plan.words
     → Appends a b (ending run ++ (header Second ++ 10 ∷ [])) → WritesFront b c (pieces Second None words) → WritesFront a c (ending run ++ words_text Second plan k)
 begin_front run plan k words a b c these head part =
     subst (WritesFront a c) (ap (λ l. (ending run ++ (header Second ++ 10 ∷ [])) ++ pieces Second None l) these ∙ begin_text run plan k)
-    (second_front a b c (ending run ++ (header Second ++ 10 ∷ [])) (pieces Second None words) head part)
+    (front_behind a b c (ending run ++ (header Second ++ 10 ∷ [])) (pieces Second None words) head part)
 
 -- header and words are written
 pub begin_whole : (run now_open : Option OpenRun) (plan : PlanValue) (k : ℕ) (words : List WordValue) (a b c : Option (List ℕ)) → words ≡ take k plan.words

@@ -1,9 +1,9 @@
 -- What writes one after another leave.
-use Rattle.std.proofs.Common.{◌≡◌, ℕ, ◌-◌, List, [], ◌++◌, length, take, drop, Option, Some, None, ap, sym, refl, ◌∙◌, append_assoc, append-nil, take-append-drop, subst, Result, Ok, Err, OnOk, OnErr, IfOk}
-use Rattle.std.proofs.lemmas.List.{take_rest}
-use Rattle.std.proofs.KnownBytes.{Appends-trans, Appends-nil}
+use Rattle.std.proofs.Common.{◌≡◌, ℕ, List, [], Option, Some, None, refl, ◌∙◌, subst, Result, Ok, Err, OnOk, OnErr, IfOk}
+use Rattle.std.proofs.KnownBytes.{Appends-nil}
 use Rattle.std.specs.Io.KnownBytes.{Appends, Keeps}
-use Rattle.load_record.specs.Keeper.{WritesAllBut, WritesFront}
+use Rattle.command_io.specs.Output.{WritesFront, WritesPrefix}
+use Rattle.command_io.proofs.Fronts.{front_prefix}
 
 -- what was written stays
 pub Appends-kept : (a b c : Option (List ℕ)) (text : List ℕ) → Appends a b text → Keeps b c → Appends a c text
@@ -11,41 +11,6 @@ Appends-kept None b c text p q = tt
 Appends-kept (Some x) None c text p q = absurd p
 Appends-kept (Some x) (Some y) None text p q = absurd q
 Appends-kept (Some x) (Some y) (Some z) text p q = q ∙ p
-
--- the next write moves the front of what is left to what is written
-pub writes_on : (a b d : Option (List ℕ)) (text left : List ℕ) (n : ℕ) → WritesAllBut a b text left
-    → Appends b d (take n left) → WritesAllBut a d text (take (length left - n) (drop n left))
-writes_on a b d text left n before wrote = record {
-  written = before.written ++ take n left;
-  whole = before.whole ∙ ap (λ l. before.written ++ l) (sym (take-append-drop n left)) ∙ sym (append_assoc before.written (take n left) (drop n left))
-      ∙ ap (λ l. (before.written ++ take n left) ++ l) (sym (take_rest left n));
-  appended = Appends-trans a b d before.written (take n left) before.appended wrote;
-}
-
--- a whole text is a front of itself and of what goes on with it
-pub whole_front : (a b : Option (List ℕ)) (text : List ℕ) → Appends a b text → WritesFront a b text
-whole_front a b text wrote = ([], record { written = text; whole = sym (append-nil text); appended = wrote })
-
-pub first_front : (a b : Option (List ℕ)) (text more : List ℕ) → WritesFront a b text → WritesFront a b (text ++ more)
-first_front a b text more part = (
-  part.0 ++ more,
-  record {
-    written = part.1.written;
-    whole = ap (λ l. l ++ more) part.1.whole ∙ append_assoc part.1.written part.0 more;
-    appended = part.1.appended;
-  },
-)
-
--- a text and then a front of another
-pub second_front : (a b c : Option (List ℕ)) (text more : List ℕ) → Appends a b text → WritesFront b c more → WritesFront a c (text ++ more)
-second_front a b c text more wrote part = (
-  part.0,
-  record {
-    written = text ++ part.1.written;
-    whole = ap (λ l. text ++ l) part.1.whole ∙ sym (append_assoc text part.1.written part.0);
-    appended = Appends-trans a b c text part.1.written wrote part.1.appended;
-  },
-)
 
 -- a front of nothing new
 pub no_front : (a b : Option (List ℕ)) (text : List ℕ) → Keeps a b → WritesFront a b text
@@ -66,9 +31,6 @@ front_kept a b c text part kept = (
 pub ok_same : {T E : Type 0} (r : Result T E) (a b : Option (List ℕ)) (text other : List ℕ) → text ≡ other → OnOk r (Appends a b text) → OnOk r (Appends a b other)
 ok_same r a b text other e h = subst (λ l. OnOk r (Appends a b l)) e h
 
-pub err_same : {T E : Type 0} (r : Result T E) (a b : Option (List ℕ)) (text other : List ℕ) → text ≡ other → OnErr r (WritesFront a b text) → OnErr r (WritesFront a b other)
-err_same r a b text other e h = subst (λ l. OnErr r (WritesFront a b l)) e h
-
 -- what an error leaves
 pub on_err : {T E : Type 0} (r : Result T E) (P : Type 0) → P → OnErr r P
 on_err (Ok x) P p = tt
@@ -85,3 +47,7 @@ on_err_map (Err e) P Q f p = f p
 pub on_ok_map : {T E : Type 0} (r : Result T E) (P Q : Type 0) → (P → Q) → OnOk r P → OnOk r Q
 on_ok_map (Ok x) P Q f p = f p
 on_ok_map (Err e) P Q f p = tt
+
+-- a prefix of an equal text is a front
+pub err_same : {T E : Type 0} (r : Result T E) (a b : Option (List ℕ)) (text other : List ℕ) → text ≡ other → OnErr r (WritesPrefix a b text) → OnErr r (WritesFront a b other)
+err_same r a b text other e h = on_err_map r (WritesPrefix a b text) (WritesFront a b other) (λ part. subst (WritesFront a b) e (front_prefix a b text part)) h

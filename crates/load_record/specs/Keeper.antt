@@ -1,6 +1,7 @@
 -- A keeper that writes a record of version 2, as one value, and what its calls do to it.
-use Rattle.std.specs.Prelude.{◌≡◌, ℕ, ◌+◌, ◌-◌, ◌^◌, ◌<◌, min, nat_lt, if◌then◌else◌, false, List, ◌++◌, Option, Some, None}
+use Rattle.std.specs.Prelude.{◌≡◌, ℕ, ◌+◌, ◌-◌, ◌^◌, ◌<◌, min, nat_lt, if◌then◌else◌, false, List, Option, Some, None}
 use Rattle.std.specs.Io.KnownBytes.{Appends, Keeps}
+use Rattle.command_io.specs.Output.{WritesFront}
 use Rattle.tape_image.specs.Plan.{PlanValue}
 use Rattle.load_devices.specs.declared.fault.KeepFault.{KeepFault}
 use Rattle.load_devices.specs.declared.fault.KeepFault.TheVariants.{Write}
@@ -17,16 +18,6 @@ pub record Keeper : Type 0 where
 -- the fault of the last call: once a call has failed, each call fails
 abbrev pub fault_now : ℕ → Option KeepFault
 fault_now failures = if nat_lt 0 failures then Some Write else None
-
--- a text was written but for what is left of it, and nothing else was
-pub record WritesAllBut (before after : Option (List ℕ)) (text left : List ℕ) : Type 0 where
-  pub written : List ℕ
-  pub whole : text ≡ written ++ left
-  pub appended : Appends before after written
-
--- a front of the text was written and nothing else
-abbrev pub WritesFront : Option (List ℕ) → Option (List ℕ) → List ℕ → Type 0
-WritesFront before after text = (left : List ℕ) × WritesAllBut before after text left
 
 -- a call that succeeds: none has failed, the text was written, and this run line stands open now
 pub record Wrote (before after : Keeper) (text : List ℕ) (run : Option OpenRun) : Type 0 where

@@ -7,8 +7,9 @@ ghost use Rattle.load_record.specs.declared.version.Version.TheVariants.{Second}
 ghost use Rattle.load_record.specs.Keeper.{Failed, HoldsRecord, Wrote, fault_now};
 ghost use Rattle.load_record.specs.RecordText.{ending, mark_text, open_run, record_text, second_piece, second_run};
 
-use crate::output::{WriteFailed, write_begin, write_mark, write_word};
+use crate::output::{write_begin, write_mark, write_word};
 use crate::run::OpenRun;
+use command_io::WriteFailed;
 use load_devices::{Keep, KeepFault};
 use std::io::Write;
 use std::marker::Model;

@@ -2,17 +2,14 @@
 ghost use Rattle.std.specs.Prelude.{◌≡◌, ℕ, ◌≤◌, List, ◌++◌, [], ◌∷◌, drop, OnErr, OnOk, IfOk, None};
 ghost use Rattle.std.specs.Io.KnownBytes.{Appends, Keeps};
 ghost use Rattle.load_record.specs.declared.version.Version.TheVariants.{Second};
-ghost use Rattle.load_record.specs.Keeper.{WritesFront};
+ghost use Rattle.command_io.specs.Output.{WritesFront};
 ghost use Rattle.load_record.specs.RecordText.{ending, joins, mark_text, open_run, pieces, run_over, second_piece, second_run, words_text};
 
 use crate::line::{ended_half_line, ended_run_text, value_text};
 use crate::run::{OpenRun, is_full};
+use command_io::{WriteFailed, write_whole};
 use std::io::Write;
 use tape_image::{Plan, Word};
-
-/// A write failed, took nothing, or could not be flushed. It was not tried again.
-#[derive(Clone, Copy, Debug, PartialEq, Eq)]
-pub(crate) struct WriteFailed;
 
 /// Writes the header and the first `verified` words of a plan, or all where it has fewer, behind the
 /// end of the run line that stands open. Answers the run line that stands open then.
@@ -118,19 +115,4 @@ fn front_of_line(run: Option<OpenRun>) -> usize
         Some(_) => 0,
         None => 1,
     }
-}
-
-/// Writes a text. At the first write that fails it stops, with what was written before.
-fn write_whole<W: Write>(out: &mut W, text: &[u8]) -> Result<(), WriteFailed>
-    ensures ok { OnOk result (Appends (W.contents out.old) (W.contents out.new) text.now) }
-    ensures err { OnErr result (WritesFront (W.contents out.old) (W.contents out.new) text.now) }
-{
-    let mut left = text;
-    while !left.is_empty() {
-        match out.write(left) {
-            Ok(0) | Err(_) => return Err(WriteFailed),
-            Ok(count) => left = &left[count..],
-        }
-    }
-    Ok(())
 }

@@ -2,8 +2,9 @@ use Rattle.std.proofs.Common.{◌∷◌, [], ◌++◌, ◌∙◌, ap, refl, subs
 use Rattle.std.proofs.lemmas.List.{take_min}
 use Rattle.std.specs.Io.KnownBytes.{Appends}
 use Rattle.load_record.specs.declared.version.Version.TheVariants.{Second}
-use Rattle.load_record.specs.Keeper.{WritesFront}
+use Rattle.command_io.specs.Output.{WritesFront}
 use Rattle.load_record.specs.Lines.{header}
+use Rattle.command_io.proofs.Fronts.{front_prefix}
 use Rattle.load_record.proofs.Pieces.{ended_text, header_front, begin_front, begin_whole}
 use Rattle.load_record.proofs.Writing.{on_err, on_err_map, if_ok_map}
 use Rattle.load_record.proofs.output.write_begin.Goals as goal
@@ -14,7 +15,7 @@ returns-in_err-write_whole-clause-err g c =
     (header_front c.args.run c.args.plan.now c.args.verified _ _
     (subst (WritesFront (g.W.Write.contents c.args.out.now) (g.W.Write.contents c.write_whole.new.out))
     (ended_text c.args.run (10 ∷ (header Second ++ 10 ∷ [])) (header Second ++ 10 ∷ []) 10 c.front_of_line.result refl refl c.front_of_line.ensures.front)
-    c.in_err-write_whole.ensures.err))
+    (front_prefix _ _ _ c.in_err-write_whole.ensures.err)))
 
 pub returns-clause-ok : goal.returns-clause-ok
 returns-clause-ok g c =

@@ -73,6 +73,21 @@ fn a_keeper_keeps_and_fails_by_its_numbers(rt: HostRuntime) -> Result<(), Fail> 
     Ok(())
 }
 
+/// The largest plan has a word for each even address below 160000.
+#[test]
+fn a_keeper_of_the_largest_load(rt: HostRuntime) -> Result<(), Fail> {
+    const WORDS: u16 = 28672;
+    let mut keep = MemoryKeep::new(rt.alloc(), 28673, None)?;
+    for number in 0..WORDS {
+        let word = Word::new(number.wrapping_mul(2), 0o177777, number).ok_or("no word")?;
+        keep.add(word)?;
+    }
+    keep.mark()?;
+    assert_eq!(rt; keep.kept().len(), 28673);
+    assert_eq!(rt; keep.mark(), Err(KeepFault::Full));
+    Ok(())
+}
+
 #[test]
 fn faults_have_texts(rt: HostRuntime) -> Result<(), Fail> {
     let alloc = rt.alloc();

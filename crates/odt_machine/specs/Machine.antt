@@ -10,13 +10,9 @@ pub record Machine : Type 0 where
   pub memory : List ℕ
   pub mode : Mode
 
--- the first address past the memory, in bytes: a word has two
-abbrev pub top_address : List ℕ → ℕ
-top_address memory = 2 * length memory
-
--- a word lies at the address: it is even and below the top
+-- a word lies at the address: it is even and below the top, two bytes for each word
 abbrev pub is_word : List ℕ → ℕ → Bool
-is_word memory a = a % 2 == 0 && nat_lt a (top_address memory)
+is_word memory a = a % 2 == 0 && nat_lt a (2 * length memory)
 
 -- the word at an address
 abbrev pub word_at : List ℕ → ℕ → ℕ

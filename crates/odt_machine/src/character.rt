@@ -20,6 +20,3 @@ pub const SLASH: u8 = b'/';
 
 /// Starts the program at the address typed before it.
 pub const GO: u8 = b'G';
-
-/// No command of this console uses it, so a host may type it to come back to the prompt.
-pub const RESYNCHRONISE: u8 = b'Z';

@@ -20,9 +20,7 @@ mod mode;
 mod style;
 
 pub use answer::Answer;
-pub use character::{
-    CARRIAGE_RETURN, GO, LINE_FEED, PROMPT, QUESTION_MARK, RESYNCHRONISE, SLASH, SPACE,
-};
+pub use character::{CARRIAGE_RETURN, GO, LINE_FEED, PROMPT, QUESTION_MARK, SLASH, SPACE};
 pub use key::Key;
 pub use machine::{LARGEST_WORDS, Odt, OdtError};
 pub use mode::Mode;

@@ -177,7 +177,8 @@ const ROWS: [(Mode, u8, Mode, &str, u16, &str); 21] = [
 
 #[test]
 fn each_line_of_the_key_table(rt: HostRuntime) -> Result<(), Fail> {
-    for (mode, key, after, answer, word, reason) in ROWS {
+    for row in &ROWS {
+        let (mode, key, after, answer, word, reason) = *row;
         let mut odt = Odt::new(rt.alloc(), 4, PLAIN_STYLE)?;
         assert!(rt; odt.put(2, 0o123456));
         let mut odt = odt.with_mode(mode)?;

@@ -1,14 +1,14 @@
-ghost use Rattle.std.specs.Prelude.{◌≡◌, ℕ, if◌then◌else◌};
+ghost use Rattle.std.specs.Prelude.{◌≡◌, ℕ, ◌*◌, if◌then◌else◌, length};
 ghost use Rattle.std.specs.Bool.{OnTrue, OnFalse};
 ghost use Rattle.odt_machine.specs.Laws.{IsStored};
-ghost use Rattle.odt_machine.specs.Machine.{top_address, is_word, word_at, stored, IsMachine};
+ghost use Rattle.odt_machine.specs.Machine.{is_word, word_at, stored, IsMachine};
 
 use super::Odt;
 
 impl Odt {
     /// The first address past the memory, in bytes: twice the number of words.
     pub fn top(&self) -> u32
-        ensures { result ≡ top_address self.now.memory }
+        ensures { result ≡ 2 * length self.now.memory }
     {
         2 * self.memory.len() as u32
     }

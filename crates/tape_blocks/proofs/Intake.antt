@@ -11,7 +11,7 @@ use Rattle.tape_blocks.specs.TapeReader.{ReaderValue, StandsAt, IsOpen, IsFed, I
 use Rattle.tape_blocks.specs.Input.{input_limit, IsNeeded, IsReadFrom, from_read_error}
 use Rattle.tape_blocks.specs.declared.fault.ReadError.{ReadError}
 use Rattle.tape_blocks.specs.declared.fault.ReadError.TheVariants.{Tape, Memory}
-use Rattle.tape_blocks.specs.declared.input.FromError.TheVariants.{Io}
+use Rattle.tape_blocks.specs.declared.input.FromError.TheVariants.{Memory as NoMemory, Io}
 use Rattle.tape_blocks.specs.declared.reader.Fed.{Fed}
 use Rattle.tape_blocks.specs.declared.reader.Fed.TheVariants.{More, Done}
 use Rattle.tape_blocks.proofs.Feeding.{open_under_way, under_way_says}
@@ -101,6 +101,11 @@ read_failed a b d reader taken t kept =
       needed = t.so_far.needed;
       answer = (missing_fault t.fed reader.place, s.0, s.1);
     }
+
+-- a growth was refused before a read
+pub growth_refused : (a b : Option (List ℕ)) (reader : ReaderValue) (taken : ℕ) → IsTaking a b reader taken → IsReadFrom a b (Err NoMemory)
+growth_refused a b reader taken t =
+    record { taken = t.fed; consumed = t.so_far.consumed; within = t.so_far.within; needed = t.so_far.needed; answer = tt }
 
 -- the reader refused a piece
 pub piece_refused : (a d : Option (List ℕ)) (fed piece : List ℕ) (error : ReadError) → IsTaken a d (fed ++ piece) → IsFed fed piece (Err error)

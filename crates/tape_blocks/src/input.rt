@@ -5,16 +5,13 @@ ghost use Rattle.tape_blocks.specs.Input.{IsReadFrom};
 use crate::fault::{Fault, ReadError};
 use crate::reader::{Fed, TapeReader};
 use crate::tape::{TAPE_LIMIT, Tape};
-use std::alloc::Global;
+use std::alloc::{AllocError, Global};
 use std::error::Error;
 use std::io::Read;
 use std::{fmt, io};
 
 /// The most bytes that are taken: one more than a tape may have, so that a longer one is seen.
 const INPUT_LIMIT: usize = TAPE_LIMIT + 1;
-
-/// How many bytes are asked for in one read at most: the rest of any block, and the next header.
-const PIECE: usize = 65_536;
 
 /// Why an input gave no tape.
 #[derive(Clone, Copy, Debug, PartialEq, Eq)]
@@ -69,6 +66,17 @@ impl From<io::Error> for FromError {
     }
 }
 
+impl From<AllocError> for FromError {
+    ghost use Rattle.std.specs.Prelude.{◌≡◌};
+    ghost use Rattle.tape_blocks.specs.declared.input.FromError.TheVariants.{Memory};
+
+    ghost from_gives = { λ _ e. e ≡ Memory };
+
+    fn from(_refused: AllocError) -> FromError {
+        FromError::Memory
+    }
+}
+
 /// Reads the tape that begins an input, and tells how many bytes it has. These bytes alone are taken.
 ///
 /// The input is asked for no more bytes than the tape is known to need: for a block's rest and the
@@ -82,13 +90,16 @@ pub fn read_from<R: Read>(alloc: Global, input: &mut R) -> Result<(Tape, u32), F
     ensures { IsReadFrom (R.remaining input.old) (R.remaining input.new) result }
 {
     let mut reader = TapeReader::new(alloc);
-    let mut piece = [0u8; PIECE];
+    // As long as a block may be, so not on the stack: where memory is short, a growth can be refused.
+    let mut piece = Vec::new(alloc);
     let mut taken = 0;
     loop {
-        let room = reader.needs().min(PIECE).min(INPUT_LIMIT - taken);
-        let count = input.read(&mut piece[..room])?;
+        let room = reader.needs().min(INPUT_LIMIT - taken);
+        piece.resize(room, 0u8)?;
+        let bytes = piece.as_mut_slice();
+        let count = input.read(bytes)?;
         taken += count;
-        match reader.feed(&piece[..count])? {
+        match reader.feed(&bytes[..count])? {
             Fed::More if count > 0 => {}
             _ => return Ok((reader.finish()?, taken as u32)),
         }

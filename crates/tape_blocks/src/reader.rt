@@ -5,7 +5,7 @@ ghost use Rattle.tape_blocks.specs.Reading.{IsReading, IsReadingUnlessMemory};
 ghost use Rattle.tape_blocks.specs.TapeReader.{used_of};
 ghost use Rattle.tape_blocks.specs.declared.fault.ReadError.{ReadError as Error};
 
-use crate::fault::{Fault, ReadError, Why};
+use crate::fault::ReadError;
 use crate::outcome::Outcome;
 use crate::progress::{Progress, Step};
 use crate::tape::Tape;
@@ -148,6 +148,7 @@ impl TapeReader {
         ensures goes_on { IsOpen self.now → 0 < result }
         ensures known { (fed more : List ℕ) (blocks : List BlockValue) (start : ℕ) → IsOpen self.now → StandsAt self.now fed
             → IsTape (fed ++ more) blocks start → result ≤ length more }
+        ensures over { (IsOpen self.now → ⊥) → result ≡ 0 }
     {
         match self.outcome {
             Outcome::Open => self.progress.needs(),

@@ -1,10 +1,11 @@
 //! Tables of tapes and of inputs that are none. What is expected comes from the format by hand, or
 //! from `plain_reader`, which follows the definitions and not the reader.
 
+mod famine;
 mod pieces;
 mod plain_reader;
 
-use crate::{BadTape, Block, Fault, ReadError, Tape, Why, read_tape, write_tape};
+use crate::{BadTape, Block, Fault, ReadError, Tape, Why, read_from, read_tape, write_tape};
 use plain_reader::Answer;
 use std::alloc::{AllocError, Global};
 use std::process::Abort;
@@ -78,7 +79,8 @@ const TAPES: [(&str, &[u8], u32, u16, &[(u16, &[u8])]); 5] = [
 
 #[test]
 fn tapes_are_read(rt: HostRuntime) -> Result<(), Fail> {
-    for (reason, input, taken, start, blocks) in TAPES {
+    for row in &TAPES {
+        let (reason, input, taken, start, blocks) = *row;
         let (tape, used) = read_tape(rt.alloc(), input)?;
         assert_eq!(rt; used, taken, "{reason}");
         assert_eq!(rt; tape.start(), start, "{reason}");
@@ -181,7 +183,8 @@ const FAULTS: [(&str, &[u8], u32, Why); 19] = [
 
 #[test]
 fn faults_are_placed(rt: HostRuntime) -> Result<(), Fail> {
-    for (reason, input, at, why) in FAULTS {
+    for row in &FAULTS {
+        let (reason, input, at, why) = *row;
         let fault = fault_of(rt.alloc(), input);
         assert_eq!(rt; fault, Some((at, why)), "{reason}");
     }
@@ -258,7 +261,8 @@ const LAST_PLACES: [(&str, usize, &[u8], Option<(u32, Why)>); 9] = [
 
 #[test]
 fn a_tape_has_a_last_place(rt: HostRuntime) -> Result<(), Fail> {
-    for (reason, zeros, end, fault) in LAST_PLACES {
+    for row in &LAST_PLACES {
+        let (reason, zeros, end, fault) = *row;
         let input = zeros_and(rt.alloc(), zeros, end)?;
         assert_eq!(rt; fault_of(rt.alloc(), &input), fault, "{reason}");
     }
@@ -296,8 +300,15 @@ fn are_blocks(blocks: &[Block], runs: &[Run]) -> bool {
     left.next().is_none()
 }
 
+/// Whether these blocks are read of the text, and of an input.
+fn are_read(alloc: Global, mut text: &[u8], runs: &[Run]) -> Result<bool, Fail> {
+    let (read, _) = read_tape(alloc, text)?;
+    let (taken, _) = read_from(alloc, &mut text)?;
+    Ok(are_blocks(read.blocks(), runs) && are_blocks(taken.blocks(), runs))
+}
+
 /// Why the row is there, blocks, and the length of the tape in bytes or what is wrong.
-const LISTS: [(&str, &[Run], Result<usize, BadTape>); 10] = [
+const LISTS: [(&str, &[Run], Result<usize, BadTape>); 11] = [
     ("no block at all", &[], Ok(7)),
     (
         "a good block and then an empty one",
@@ -325,6 +336,7 @@ const LISTS: [(&str, &[Run], Result<usize, BadTape>); 10] = [
         &[(1, 0o177777, 57_344)],
         Err(BadTape::BlockPastTop(0)),
     ),
+    ("a thousand blocks", &[(1000, 0o1000, 1)], Ok(8007)),
     (
         "as much as a tape holds",
         &[(18, 0, 57_344), (1, 0, 16_244)],
@@ -343,13 +355,16 @@ const LISTS: [(&str, &[Run], Result<usize, BadTape>); 10] = [
 ];
 
 #[test]
-fn tapes_are_made_of_good_blocks(rt: HostRuntime) -> Result<(), Fail> {
-    for (reason, runs, expected) in LISTS {
+fn tapes_are_made_of_good_blocks_and_read_again(rt: HostRuntime) -> Result<(), Fail> {
+    for row in &LISTS {
+        let (reason, runs, expected) = *row;
         let blocks = blocks_of(rt.alloc(), runs)?;
         let made = match Tape::new(blocks, 0o1000) {
             Ok(tape) => {
                 assert!(rt; are_blocks(tape.blocks(), runs), "{reason}");
-                Ok(write_tape(rt.alloc(), &tape)?.len())
+                let text = write_tape(rt.alloc(), &tape)?;
+                assert!(rt; are_read(rt.alloc(), &text, runs)?, "{reason}");
+                Ok(text.len())
             }
             Err((blocks, bad)) => {
                 assert!(rt; are_blocks(&blocks, runs), "{reason}");

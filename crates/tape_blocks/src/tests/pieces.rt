@@ -68,7 +68,7 @@ fn of_bytes(alloc: Global, bytes: &[u8]) -> Result<Tape, ReadError> {
     reader.finish()
 }
 
-fn are_same(blocks: &[Block], others: &[Block]) -> bool {
+pub fn are_same(blocks: &[Block], others: &[Block]) -> bool {
     for (block, other) in blocks.iter().zip(others) {
         if block.address != other.address || block.bytes.as_slice() != other.bytes.as_slice() {
             return false;

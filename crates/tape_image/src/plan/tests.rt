@@ -119,7 +119,8 @@ const TAPES: [(&[(u16, &[u8])], &[(u16, u16, u16)], &str); 13] = [
 
 #[test]
 fn words_of_tapes(rt: HostRuntime) -> Result<(), Fail> {
-    for (blocks, words, reason) in TAPES {
+    for row in &TAPES {
+        let (blocks, words, reason) = *row;
         let plan = Plan::of(rt.alloc(), &tape(rt.alloc(), blocks, 1)?)?;
         assert_words(&rt, &plan, words, reason);
     }
@@ -254,10 +255,9 @@ fn starts(rt: HostRuntime) -> Result<(), Fail> {
     Ok(())
 }
 
-#[test]
-fn full_image(rt: HostRuntime) -> Result<(), Fail> {
-    let plan = full_plan(rt.alloc())?;
-    assert_eq!(rt; plan.words().len(), 28_672);
+/// Asserts that the plan has so many words, at rising addresses from 0 on, each of both bytes.
+fn assert_full_words(rt: &impl Abort, plan: &Plan, count: usize) {
+    assert_eq!(rt; plan.words().len(), count);
     let mut next = 0u16;
     for word in plan.words() {
         assert_eq!(rt; word.address(), next);
@@ -267,6 +267,33 @@ fn full_image(rt: HostRuntime) -> Result<(), Fail> {
         assert_eq!(rt; high, full_byte(next.wrapping_add(1)));
         next = next.wrapping_add(2);
     }
+}
+
+#[test]
+fn full_image(rt: HostRuntime) -> Result<(), Fail> {
+    assert_full_words(&rt, &full_plan(rt.alloc())?, 28_672);
+    Ok(())
+}
+
+/// A tape of a thousand blocks of one byte, at every second address from this one on.
+fn every_second_byte(alloc: Global, first: u16) -> Result<Tape, Fail> {
+    let mut blocks = Vec::new(alloc);
+    for number in 0..1000u16 {
+        let address = first.wrapping_add(2 * number);
+        blocks.push(Block {
+            address,
+            bytes: Vec::from_slice(alloc, &[full_byte(address)])?,
+        })?;
+    }
+    Ok(Tape::new(blocks, 0)?)
+}
+
+#[test]
+fn a_thousand_blocks(rt: HostRuntime) -> Result<(), Fail> {
+    let mut tapes = Vec::new(rt.alloc());
+    tapes.push(every_second_byte(rt.alloc(), 1)?)?;
+    tapes.push(every_second_byte(rt.alloc(), 0)?)?;
+    assert_full_words(&rt, &Plan::of_all(rt.alloc(), &tapes)?, 1000);
     Ok(())
 }
 

@@ -1,5 +1,6 @@
 pub mod Frame
 pub mod Lives
+pub mod Marks
 pub mod Readings
 pub mod Starts
 pub mod Turns

@@ -1,5 +1,6 @@
 ghost use Rattle.std.specs.Prelude.{◌≡◌, ℕ, ◌≤◌, ◌⊎◌, ◌↔◌, true, false, length, IsTrue, IfOk, IfErr, OnOk, Some, None};
 ghost use Rattle.host_core.specs.Bound.{character_bound};
+ghost use Rattle.host_core.specs.Console.{go};
 ghost use Rattle.host_core.specs.Core.{IsFresh, begun, ended, first_phase, restarted};
 ghost use Rattle.host_core.specs.Host.{IsHost};
 ghost use Rattle.host_core.specs.Laws.{KeepsBound, IsSilent, StartsOnlyWhole, VerifiesOnlyRead};
@@ -191,6 +192,7 @@ impl HostCore {
         ensures same_plan { self.new.plan ≡ self.old.plan }
         ensures same_patience { self.new.patience ≡ self.old.patience }
         ensures verified { (self.new.verified ≡ self.old.verified) ⊎ IsVerifying self.old self.new result }
+        ensures start { result ≡ Some go → IsMarking self.old self.new result }
         ensures mark { (self.new.going ≡ self.old.going) ⊎ IsMarking self.old self.new result }
         ensures silent { self.old.going ≡ true → result ≡ None }
         ensures bound { self.new.sent ≤ character_bound (length self.new.plan.words) self.new.patience }

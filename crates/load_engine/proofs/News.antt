@@ -22,7 +22,6 @@ use Rattle.host_core.proofs.Turns.{kept}
 use Rattle.load_devices.specs.declared.item.Kept.{Kept}
 use Rattle.load_devices.specs.declared.item.Kept.TheVariants.{Word, Go}
 use Rattle.load_devices.specs.Dialogue.{mark_between, news_between}
-use Rattle.load_engine.proofs.Marks.{go_marks}
 
 -- ---- a core goes forward
 
@@ -139,12 +138,11 @@ only_news None item e = absurd (cc)
 only_news (Some news) item e = ap Some (cc)
 
 -- where `G` is sent the news is the mark
-pub step_start : (old new : Core) (heard : Heard) (key : Option ℕ) (news : Option Kept) → IsHost old → new ≡ (move old heard).next → key ≡ (move old heard).key →
+pub step_start : (old new : Core) (key : Option ℕ) (news : Option Kept) → (key ≡ Some go → IsMarking old new key) →
     (new.verified ≡ old.verified) ⊎ IsVerifying old new key → option_to_list news ≡ news_between old new → key ≡ Some go → news ≡ Some Go
-step_start old new heard key news host next is words all sends =
-    let marks = go_marks old heard host (sym is ∙ sends) in
-    let set : new.going ≡ true = ap (λ core. core.going) next ∙ marks.1 in
-    only_news news Go (all ∙ step_mark old new key old.going new.going words refl refl (ap not marks.0) set)
+step_start old new key news marks words all sends =
+    let m : IsMarking old new key = marks sends in
+    only_news news Go (all ∙ step_mark old new key old.going new.going words refl refl (ap not m.was) m.now)
 
 -- ---- the news of two stretches
 

@@ -163,3 +163,21 @@ fn it_is_full_where_many_wait(rt: HostRuntime) -> Result<(), Fail> {
     assert_eq!(rt; line.odt().mode(), odt_machine::Mode::Number(1, 1));
     Ok(())
 }
+
+#[test]
+fn a_line_on_which_much_is_said(rt: HostRuntime) -> Result<(), Fail> {
+    const TIMES: u32 = 20_000;
+    let mut line = line_with(rt.alloc(), &[Loss::Up(79_999)], 5 * TIMES, None)?;
+    for time in 1..=TIMES {
+        line.send(b'Z')?;
+        for character in b"?\r\n@" {
+            // The last line feed of all is lost.
+            if time < TIMES || *character != b'\n' {
+                assert_eq!(rt; line.hear()?, Heard::Got(*character), "{time}");
+            }
+        }
+    }
+    assert_eq!(rt; line.hear()?, Heard::Quiet);
+    assert_eq!(rt; line.hear(), Err(LineFault::Full));
+    Ok(())
+}

@@ -121,7 +121,8 @@ const LOADS: [(&[u8], &str, &str, Option<End>, &str); 7] = [
 
 #[test]
 fn whole_loads(rt: HostRuntime) -> Result<(), Fail> {
-    for (tape, heard, wanted, end, reason) in LOADS {
+    for row in &LOADS {
+        let (tape, heard, wanted, end, reason) = *row;
         let mut host = host_of(rt.alloc(), tape, 8)?;
         let keys = typed(rt.alloc(), &mut host, heard)?;
         assert_eq!(rt; keys.as_slice(), wanted.as_bytes(), "{reason}");
@@ -241,7 +242,8 @@ const BEGINNINGS: [(&[u8], u32, bool, Beginning, &str); 9] = [
 
 #[test]
 fn progress_to_begin_with(rt: HostRuntime) -> Result<(), Fail> {
-    for (tape, verified, going, wanted, reason) in BEGINNINGS {
+    for row in &BEGINNINGS {
+        let (tape, verified, going, wanted, reason) = *row;
         let begun = beginning(rt.alloc(), tape, Progress { verified, going })?;
         assert_eq!(rt; begun, wanted, "{reason}");
     }

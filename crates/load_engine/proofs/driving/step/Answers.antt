@@ -30,4 +30,4 @@ returns-clause-news c =
 
 pub returns-clause-mark_with_start : goal.returns-clause-mark_with_start
 returns-clause-mark_with_start c =
-    step_start c.args.core.now c.step-key.new.self c.args.heard c.step-key.result c.if-going.news c.requires.kept c.step-key.ensures.next c.step-key.ensures.key c.step-key.ensures.verified (returns-clause-news c)
+    step_start c.args.core.now c.step-key.new.self c.step-key.result c.if-going.news c.step-key.ensures.start c.step-key.ensures.verified (returns-clause-news c)

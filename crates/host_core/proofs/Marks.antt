@@ -16,6 +16,7 @@ use Rattle.host_core.specs.declared.turn.Turn.TheVariants.{Listen, Key, Verified
 use Rattle.host_core.specs.Console.{resynchronise, go}
 use Rattle.host_core.specs.Core.{Core, word_under_way, start_of}
 use Rattle.host_core.specs.Host.{IsHost}
+use Rattle.host_core.specs.Steps.{IsMarking}
 use Rattle.host_core.specs.PhaseTable.{Move, move, listens, sends, taken, turn_of, hears, waits, differs, returned, after_words}
 use Rattle.host_core.proofs.Frame.{on_move, silent}
 use Rattle.host_core.proofs.Walk.{sync_walk, address_walk, slash_walk, before_walk, value_walk, deposit_walk, return_walk, start_walk, go_walk}
@@ -105,6 +106,9 @@ not_set true is = absurd (is refl)
 not_set false is = refl
 
 -- where `G` is sent, no mark stood and one stands now
-pub go_marks : (core : Core) (heard : Heard) → IsHost core → (move core heard).key ≡ Some go → (core.going ≡ false) × ((move core heard).next.going ≡ true)
-go_marks core heard h e =
-    (not_set core.going (λ set. let none : (move core heard).key ≡ None = (silent core heard h set).key in absurd (cc)), taken_marks core (turn_of core heard) (turn_no_go core heard) e)
+pub go_marks : (core : Core) (heard : Heard) → IsHost core → (move core heard).key ≡ Some go → IsMarking core (move core heard).next (move core heard).key
+go_marks core heard h e = record {
+  was = not_set core.going (λ set. let none : (move core heard).key ≡ None = (silent core heard h set).key in absurd (cc));
+  now = taken_marks core (turn_of core heard) (turn_no_go core heard) e;
+  sends = e;
+}

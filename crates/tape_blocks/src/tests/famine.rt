@@ -1,27 +1,36 @@
-//! Want of memory: a tape is read in rooms that grow, so that each growth of the call is refused in turn
+//! Want of memory: a text is read in rooms that grow, so that each growth of the call is refused in turn
 //! until the room serves.
 
 use super::pieces::are_same;
-use super::{FAULTS, ONE_BLOCK, OVERLAPPING, blocks_of};
-use crate::{Fault, Fed, FromError, ReadError, Tape, TapeReader, read_from, read_tape, write_tape};
+use super::{ONE_BLOCK, OVERLAPPING, blocks_of};
+use crate::{Fault, Fed, FromError, ReadError, Tape, TapeReader, read_from, write_tape};
 use scarce_memory::{Famine, ROOMS};
 use std::alloc::Global;
 use std::process::Abort;
 use std::test::Fail;
 
+/// A block and a transfer block with a wrong sum: the refusal waits behind the growths.
+const WRONG_SUM: &[u8] = &[
+    0x01, 0x00, 0x08, 0x00, 0x00, 0x02, 0x34, 0x12, 0xAF, 0x01, 0x00, 0x06, 0x00, 0x00, 0x02, 0xF6,
+];
+
 /// How a text is read.
-#[derive(Clone, Copy, Debug)]
+#[derive(Clone, Copy)]
 enum Call {
     Whole,
     Feed(usize),
     From,
 }
 
-/// The text at once, in pieces of one byte and of five, and as an input.
-const CALLS: [Call; 4] = [Call::Whole, Call::Feed(1), Call::Feed(5), Call::From];
+const CALLS: [(Call, &str); 4] = [
+    (Call::Whole, "in one piece"),
+    (Call::Feed(1), "byte by byte"),
+    (Call::Feed(5), "in pieces of five bytes"),
+    (Call::From, "as an input"),
+];
 
 /// What a call came to.
-#[derive(Debug, Drop)]
+#[derive(Drop)]
 enum Answer {
     Tape(Tape),
     Refused(Fault),
@@ -80,6 +89,17 @@ fn ask(alloc: Global, call: Call, text: &[u8]) -> Answer {
     }
 }
 
+/// Whether both are the same tape or the same refusal.
+fn are_alike(answer: &Answer, other: &Answer) -> bool {
+    match (answer, other) {
+        (Answer::Tape(one), Answer::Tape(two)) => {
+            one.start() == two.start() && are_same(one.blocks(), two.blocks())
+        }
+        (Answer::Refused(one), Answer::Refused(two)) => one == two,
+        _ => false,
+    }
+}
+
 /// The least room in which the answer is another than want of memory, and that answer.
 fn least_room(alloc: Global, call: Call, text: &[u8]) -> Result<(usize, Answer), Fail> {
     let mut famine = Famine::begin(alloc)?;
@@ -93,56 +113,38 @@ fn least_room(alloc: Global, call: Call, text: &[u8]) -> Result<(usize, Answer),
     Err(Fail::from("no room serves"))
 }
 
-/// The text of a tape of twenty blocks of forty bytes.
-fn twenty_blocks(alloc: Global) -> Result<Vec<u8>, Fail> {
-    let tape = Tape::new(blocks_of(alloc, &[(20, 0o1000, 40)])?, 0o1000)?;
-    Ok(write_tape(alloc, &tape)?)
-}
-
-/// In each room but the last the answer is want of memory, and there it is the tape that ample memory
-/// gives.
+/// In each room but the last the answer is want of memory, and there it is the one that ample memory
+/// gives. That room has more than so many bytes.
 fn assert_refused_in_turn(
     rt: &impl Abort,
     alloc: Global,
     text: &[u8],
     least: usize,
 ) -> Result<(), Fail> {
-    let (tape, _) = read_tape(alloc, text)?;
-    for call in CALLS {
+    for row in &CALLS {
+        let (call, reason) = *row;
+        let ample = ask(alloc, call, text);
         let (room, answer) = least_room(alloc, call, text)?;
-        assert!(rt; room > least, "{call:?} in {room} bytes");
-        match answer {
-            Answer::Tape(found) => {
-                assert_eq!(rt; found.start(), tape.start(), "{call:?}");
-                assert!(rt; are_same(found.blocks(), tape.blocks()), "{call:?}");
-            }
-            other => assert!(rt; false, "{call:?}: {other:?}"),
-        }
+        assert!(rt; room > least, "{reason}: {room} bytes serve");
+        assert!(rt; are_alike(&answer, &ample), "{reason}");
     }
     Ok(())
+}
+
+/// The text of a tape of twenty blocks of forty bytes.
+fn twenty_blocks(alloc: Global) -> Result<Vec<u8>, Fail> {
+    let tape = Tape::new(blocks_of(alloc, &[(20, 0o1000, 40)])?, 0o1000)?;
+    Ok(write_tape(alloc, &tape)?)
 }
 
 #[test]
 fn each_growth_is_refused_in_turn(rt: HostRuntime) -> Result<(), Fail> {
-    // A block's own place has more bytes than these, and so have twenty blocks of forty bytes.
-    assert_refused_in_turn(&rt, rt.alloc(), ONE_BLOCK, 24)?;
-    assert_refused_in_turn(&rt, rt.alloc(), OVERLAPPING, 48)?;
+    // A block takes more than 24 bytes beside its own: an address, and where these bytes are.
     let twenty = twenty_blocks(rt.alloc())?;
+    assert_refused_in_turn(&rt, rt.alloc(), ONE_BLOCK, 24 + 2)?;
+    assert_refused_in_turn(&rt, rt.alloc(), WRONG_SUM, 24 + 2)?;
+    assert_refused_in_turn(&rt, rt.alloc(), OVERLAPPING, 2 * (24 + 2))?;
     assert_refused_in_turn(&rt, rt.alloc(), &twenty, 20 * (24 + 40))
-}
-
-#[test]
-fn a_refusal_waits_behind_the_growths(rt: HostRuntime) -> Result<(), Fail> {
-    let (_, wrong_sum, at, why) = FAULTS[0];
-    for call in CALLS {
-        let (room, answer) = least_room(rt.alloc(), call, wrong_sum)?;
-        assert!(rt; room > 24, "{call:?} in {room} bytes");
-        match answer {
-            Answer::Refused(fault) => assert_eq!(rt; fault, Fault { at, why }, "{call:?}"),
-            other => assert!(rt; false, "{call:?}: {other:?}"),
-        }
-    }
-    Ok(())
 }
 
 #[test]
@@ -154,14 +156,15 @@ fn bytes_00_take_no_memory(rt: HostRuntime) -> Result<(), Fail> {
     let fed = reader.feed(&blank);
     let block = reader.feed(ONE_BLOCK);
     drop(famine);
+    let again = reader.feed(ONE_BLOCK);
+    let finished = reader.finish().err();
     assert!(rt; !grown, "no growth is possible");
-    assert_eq!(rt; fed, Ok(Fed::More));
-    assert_eq!(rt; block, Err(ReadError::Memory), "a block takes memory");
-    assert_eq!(rt;
-        reader.feed(ONE_BLOCK),
-        Err(ReadError::Memory),
-        "a reader that wanted memory says so for ever"
+    assert!(rt; fed == Ok(Fed::More), "bytes 00");
+    assert!(rt; block == Err(ReadError::Memory), "a block takes memory");
+    assert!(rt;
+        again == Err(ReadError::Memory),
+        "what was wanted once is wanted for ever"
     );
-    assert_eq!(rt; reader.finish().err(), Some(ReadError::Memory));
+    assert!(rt; finished == Some(ReadError::Memory), "and at the end");
     Ok(())
 }

@@ -86,6 +86,12 @@ fn driven(alloc: Global, setting: Setting) -> Result<Outcome, Fail> {
     })
 }
 
+/// What a whole load has kept: the word, and then the mark.
+fn whole_news() -> Result<[Kept; 2], Fail> {
+    let word = Word::new(0o1000, 0o177777, 0o11064).ok_or("no word")?;
+    Ok([Kept::Word(word), Kept::Go])
+}
+
 fn keys_of(items: &[Item]) -> usize {
     items
         .iter()
@@ -230,10 +236,7 @@ const ROWS: [(Setting, Stop, usize, usize, usize, u32, &str); 12] = [
 
 #[test]
 fn worked_drives(rt: HostRuntime) -> Result<(), Fail> {
-    let Some(word) = Word::new(0o1000, 0o177777, 0o11064) else {
-        panic!(rt; "no word");
-    };
-    let kept = [Kept::Word(word), Kept::Go];
+    let kept = whole_news()?;
     for row in &ROWS {
         let (setting, stop, keys, heard, count, spent, reason) = *row;
         let outcome = driven(rt.alloc(), setting)?;

@@ -108,7 +108,8 @@ const OPENINGS: [(&[u8], Mode, u32, Option<Setup>, &str); 7] = [
 
 #[test]
 fn what_a_world_begins_with(rt: HostRuntime) -> Result<(), Fail> {
-    for (waiting, mode, verified, refusal, reason) in OPENINGS {
+    for row in &OPENINGS {
+        let (waiting, mode, verified, refusal, reason) = *row;
         let odt = Odt::new(rt.alloc(), LARGEST_WORDS, PLAIN_STYLE)?.with_mode(mode)?;
         let core = host_of(plan_of(rt.alloc(), &ONE_WORD)?, verified)?;
         let made = world_of(odt, core, waiting);
@@ -233,7 +234,8 @@ const CLEAN_LINES: [(
 
 #[test]
 fn what_a_clean_line_types(rt: HostRuntime) -> Result<(), Fail> {
-    for (tape, words, style, before, keys, end, mode, after, reason) in CLEAN_LINES {
+    for row in &CLEAN_LINES {
+        let (tape, words, style, before, keys, end, mode, after, reason) = *row;
         let mut odt = Odt::new(rt.alloc(), words, style)?;
         if let Some(value) = before {
             assert!(rt; odt.put(0o1000, value), "{reason}");

@@ -1,7 +1,25 @@
 use super::*;
 
-/// The calls of a whole load: 52 hears and 30 sends.
-const CALLS: usize = 82;
+/// The calls of a whole load, counted by hand: `h` hears one thing, `s` sends a key. A line each for
+/// `Z`, its answer, the address, the reading, the deposit, its answer, the address again, the reading
+/// (after which the word is closed), its answer, the start address, and the echo of `G`.
+const CALLS: &[u8] = b"hs\
+    hhhhs\
+    hshshshshshs\
+    hhhhhhhhs\
+    hshshshshshs\
+    hhhs\
+    hshshshshshs\
+    hhhhhhhhs\
+    hhhs\
+    hshshshshshs\
+    h";
+
+/// The keys of these calls.
+const KEYS: &[u8] = b"Z001000/011064\r001000/\r001000G";
+
+/// What is heard in these calls, `~` for silence.
+const HEARD: &[u8] = b"~?\r\n@001000/000000 011064\r\n@001000/011064 \r\n@001000G";
 
 /// The send of the CR that closes the verified word, and the send of `G`: the word is kept before
 /// the one, the mark before the other.
@@ -63,40 +81,58 @@ impl<L: Line> Line for FailsOnce<L> {
     }
 }
 
-/// How a load stops whose call with this number fails, by what that call is where nothing fails, and
-/// how many things are kept.
-fn expected(call: usize, items: &[Item]) -> (Stop, usize) {
+/// How a load stops whose call with this number fails, and how many things are kept.
+fn expected(call: usize) -> (Stop, usize) {
     let kept = match call {
         0..CLOSE => 0,
         CLOSE..START => 1,
         _ => 2,
     };
-    let stop = match items.get(call.saturating_sub(1)) {
-        Some(Item::Sent(_)) => Stop::LineFailed(LineFault::Send),
-        Some(Item::Heard(_)) => Stop::LineFailed(LineFault::Receive),
+    let stop = match CALLS.get(call.saturating_sub(1)) {
+        Some(b's') => Stop::LineFailed(LineFault::Send),
+        Some(_) => Stop::LineFailed(LineFault::Receive),
         None => Stop::Ended(End::Started),
     };
     (stop, kept)
 }
 
 /// What was said before the call with this number.
-fn said_before(call: usize, items: &[Item]) -> &[Item] {
-    &items[..items.len().min(call.saturating_sub(1))]
+fn said_before(alloc: Global, call: usize) -> Result<Vec<Item>, Fail> {
+    let mut items = Vec::new(alloc);
+    let mut keys = KEYS.iter();
+    let mut heard = HEARD.iter();
+    for kind in CALLS.iter().take(call.saturating_sub(1)) {
+        items.push(match kind {
+            b's' => Item::Sent(*keys.next().ok_or("a key")?),
+            _ => Item::Heard(match heard.next().ok_or("a thing heard")? {
+                b'~' => Heard::Quiet,
+                character => Heard::Got(*character),
+            }),
+        })?;
+    }
+    Ok(items)
 }
 
 #[test]
 fn each_call_of_the_line_fails(rt: HostRuntime) -> Result<(), Fail> {
     let alloc = rt.alloc();
-    let whole = driven(alloc, AMPLE)?;
-    let items = whole.line.items();
-    assert_eq!(rt; items.len(), CALLS);
-    for call in 1..=CALLS + 1 {
-        let said = said_before(call, items);
+    let news = whole_news()?;
+    for call in 1..=CALLS.len() + 1 {
+        let said = said_before(alloc, call)?;
         let fail_at = Some(call as u64);
         let outcome = driven(alloc, Setting { fail_at, ..AMPLE })?;
-        let answer = (outcome.stop, outcome.keep.kept().len());
-        assert_eq!(rt; answer, expected(call, items), "from call {call} on");
-        assert_eq!(rt; outcome.line.items(), said, "from call {call} on");
+        let (stop, kept) = expected(call);
+        assert_eq!(rt; outcome.stop, stop, "from call {call} on");
+        assert_eq!(rt;
+            outcome.keep.kept(),
+            &news[..kept.min(2)],
+            "from call {call} on"
+        );
+        assert_eq!(rt;
+            outcome.line.items(),
+            said.as_slice(),
+            "from call {call} on"
+        );
     }
     Ok(())
 }
@@ -104,9 +140,8 @@ fn each_call_of_the_line_fails(rt: HostRuntime) -> Result<(), Fail> {
 #[test]
 fn one_call_of_the_line_fails(rt: HostRuntime) -> Result<(), Fail> {
     let alloc = rt.alloc();
-    let whole = driven(alloc, AMPLE)?;
-    let items = whole.line.items();
-    for call in 1..=CALLS {
+    let news = whole_news()?;
+    for call in 1..=CALLS.len() {
         let mut line = FailsOnce {
             line: line_of(alloc, AMPLE)?,
             fail_at: call as u64,
@@ -115,11 +150,12 @@ fn one_call_of_the_line_fails(rt: HostRuntime) -> Result<(), Fail> {
             fault: None,
         };
         let mut keep = MemoryKeep::new(alloc, 2, None)?;
-        let (_, stop) = drive(core_of(alloc, 8)?, &mut line, &mut keep, 1000);
-        let answer = (stop, keep.kept().len());
-        assert_eq!(rt; answer, expected(call, items), "at call {call}");
-        let said = said_before(call, items);
-        assert_eq!(rt; line.line.items(), said, "at call {call}");
+        let (_, stopped) = drive(core_of(alloc, 8)?, &mut line, &mut keep, 1000);
+        let (stop, kept) = expected(call);
+        let said = said_before(alloc, call)?;
+        assert_eq!(rt; stopped, stop, "at call {call}");
+        assert_eq!(rt; keep.kept(), &news[..kept.min(2)], "at call {call}");
+        assert_eq!(rt; line.line.items(), said.as_slice(), "at call {call}");
         assert_eq!(rt; line.calls, call as u64, "no call after call {call}");
     }
     Ok(())

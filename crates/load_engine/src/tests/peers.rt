@@ -19,45 +19,76 @@ enum Manner {
     Babbles,
 }
 
-/// A line to a peer that is no console. It counts the keys, and the `G`s that come without the whole
-/// start address of the tape right before them.
-#[derive(Drop)]
-struct Peer {
-    manner: Manner,
-    random: u64,
-    key: Option<u8>,
+/// The keys that came, the `G`s among them, and those that came without the whole start address of
+/// the tape right before them.
+#[derive(Clone, Copy)]
+struct Tally {
     keys: u64,
-    last_six: u64,
+    starts: u64,
     blind_starts: u64,
+    last_six: u64,
 }
 
 /// The digits 001000 as one number, a byte each.
 const START_DIGITS: u64 = 0x3030_3130_3030;
 
+impl Tally {
+    const NONE: Tally = Tally {
+        keys: 0,
+        starts: 0,
+        blind_starts: 0,
+        last_six: 0,
+    };
+
+    fn count(&mut self, key: u8) {
+        if key == b'G' {
+            self.starts = self.starts.saturating_add(1);
+            if self.last_six != START_DIGITS {
+                self.blind_starts = self.blind_starts.saturating_add(1);
+            }
+        }
+        self.keys = self.keys.saturating_add(1);
+        self.last_six = self.last_six % (1 << 40) * 256 + u64::from(key);
+    }
+}
+
+/// Numbers that look random.
+#[derive(Clone, Copy)]
+struct Random(u64);
+
+impl Random {
+    fn next(&mut self) -> u64 {
+        self.0 = self
+            .0
+            .wrapping_mul(6364136223846793005)
+            .wrapping_add(1442695040888963407);
+        self.0 / (1 << 33)
+    }
+}
+
+/// A line to a peer that is no console.
+#[derive(Drop)]
+struct Peer {
+    manner: Manner,
+    random: Random,
+    key: Option<u8>,
+    tally: Tally,
+}
+
 impl Peer {
     fn new(manner: Manner, seed: u64) -> Peer {
         Peer {
             manner,
-            random: seed,
+            random: Random(seed),
             key: None,
-            keys: 0,
-            last_six: 0,
-            blind_starts: 0,
+            tally: Tally::NONE,
         }
-    }
-
-    fn next_random(&mut self) -> u64 {
-        self.random = self
-            .random
-            .wrapping_mul(6364136223846793005)
-            .wrapping_add(1442695040888963407);
-        self.random / (1 << 33)
     }
 
     fn babble(&mut self) -> Option<u8> {
         const CONSOLE: [u8; 16] = *b"?\r\n@ 01234567/GZ";
-        let which = self.next_random();
-        let value = self.next_random();
+        let which = self.random.next();
+        let value = self.random.next();
         match which % 4 {
             0 => None,
             1 => self.key,
@@ -85,11 +116,7 @@ impl Line for Peer {
     ghost last_fault = { λ _. None };
 
     fn send(&mut self, key: u8) -> Result<(), LineFault> {
-        if key == b'G' && self.last_six != START_DIGITS {
-            self.blind_starts = self.blind_starts.saturating_add(1);
-        }
-        self.keys = self.keys.saturating_add(1);
-        self.last_six = self.last_six % (1 << 40) * 256 + u64::from(key);
+        self.tally.count(key);
         self.key = Some(key);
         Ok(())
     }
@@ -127,7 +154,7 @@ fn a_peer_that_repeats_itself(rt: HostRuntime) -> Result<(), Fail> {
         let peer = Peer::new(Manner::Repeats(character), 0);
         let (stop, peer) = driven_by(rt.alloc(), peer, 8, 1000)?;
         assert_eq!(rt; stop, Stop::TurnsOver, "{character}");
-        assert_eq!(rt; peer.keys, 0, "{character}");
+        assert_eq!(rt; peer.tally.keys, 0, "{character}");
     }
     Ok(())
 }
@@ -147,7 +174,7 @@ fn peers_that_are_no_console(rt: HostRuntime) -> Result<(), Fail> {
         let (manner, turns, keys, reason) = *row;
         let (stop, peer) = driven_by(alloc, Peer::new(manner, 0), 8, turns)?;
         assert_eq!(rt; stop, Stop::Ended(End::GaveUp), "{reason}");
-        assert_eq!(rt; peer.keys, keys, "{reason}");
+        assert_eq!(rt; peer.tally.keys, keys, "{reason}");
         let (stop, _) = driven_by(alloc, Peer::new(manner, 0), 8, turns.saturating_sub(1))?;
         assert_eq!(rt; stop, Stop::TurnsOver, "{reason}");
     }
@@ -156,13 +183,85 @@ fn peers_that_are_no_console(rt: HostRuntime) -> Result<(), Fail> {
 
 #[test]
 fn peers_that_babble(rt: HostRuntime) -> Result<(), Fail> {
-    const PATIENCE: u32 = 10_000;
-    const BOUND: u64 = 22 + 7 + 23 * 10_001;
+    const PATIENCE: u32 = 100_000;
+    const BOUND: u64 = 22 + 7 + 23 * 100_001;
     for seed in 0..50 {
         let peer = Peer::new(Manner::Babbles, seed);
-        let (_, peer) = driven_by(rt.alloc(), peer, PATIENCE, 100_000)?;
-        assert!(rt; peer.keys <= BOUND, "{seed}");
-        assert_eq!(rt; peer.blind_starts, 0, "{seed}");
+        let (stop, peer) = driven_by(rt.alloc(), peer, PATIENCE, 100_000)?;
+        let is_fault = matches!(stop, Stop::LineFailed(_) | Stop::KeepFailed(_));
+        assert!(rt; !is_fault, "{seed}");
+        assert!(rt; peer.tally.keys <= BOUND, "{seed}");
+        assert_eq!(rt; peer.tally.blind_starts, 0, "{seed}");
     }
+    Ok(())
+}
+
+/// A line to a console that is heard badly: now and then a key goes lost, and a character of an answer
+/// comes as another one.
+#[derive(Drop)]
+struct Garbler {
+    odt: Odt,
+    random: Random,
+    waiting: Vec<u8>,
+    tally: Tally,
+}
+
+impl Line for Garbler {
+    ghost use Rattle.std.specs.Prelude.{None};
+
+    ghost fault_count = { λ _. 0 };
+
+    ghost last_fault = { λ _. None };
+
+    fn send(&mut self, key: u8) -> Result<(), LineFault> {
+        self.tally.count(key);
+        if self.random.next() % 50 == 0 {
+            return Ok(());
+        }
+        for character in self.odt.take(key) {
+            let heard = match self.random.next() % 50 {
+                0 => (self.random.next() % 256) as u8,
+                _ => character,
+            };
+            let _ = self.waiting.push(heard);
+        }
+        Ok(())
+    }
+
+    fn hear(&mut self) -> Result<Heard, LineFault> {
+        if self.waiting.is_empty() {
+            return Ok(Heard::Quiet);
+        }
+        Ok(Heard::Got(self.waiting.remove(0)))
+    }
+
+    fn failures(&self) -> u64 {
+        0
+    }
+
+    fn failed(&self) -> bool {
+        false
+    }
+}
+
+#[test]
+fn consoles_that_are_heard_badly(rt: HostRuntime) -> Result<(), Fail> {
+    const BOUND: u64 = 22 + 7 + 23 * 1001;
+    let mut starts: u64 = 0;
+    for seed in 0..50 {
+        let mut line = Garbler {
+            odt: Odt::new(rt.alloc(), 28672, PLAIN_STYLE)?,
+            random: Random(seed),
+            waiting: Vec::new(rt.alloc()),
+            tally: Tally::NONE,
+        };
+        let mut keep = MemoryKeep::new(rt.alloc(), 2, None)?;
+        drive(core_of(rt.alloc(), 1000)?, &mut line, &mut keep, 100_000);
+        assert!(rt; line.tally.keys <= BOUND, "{seed}");
+        assert_eq!(rt; line.tally.blind_starts, 0, "{seed}");
+        assert!(rt; line.tally.starts <= 1, "{seed}");
+        starts = starts.saturating_add(line.tally.starts);
+    }
+    assert!(rt; starts > 25, "most loads come to their start");
     Ok(())
 }

@@ -275,11 +275,11 @@ fn full_image(rt: HostRuntime) -> Result<(), Fail> {
     Ok(())
 }
 
-/// A tape of a thousand blocks of one byte, at every second address from this one on.
-fn every_second_byte(alloc: Global, first: u16) -> Result<Tape, Fail> {
+/// A tape of so many blocks of one byte, at every second address from this one on.
+fn every_second_byte(alloc: Global, first: u16, count: u16) -> Result<Tape, Fail> {
     let mut blocks = Vec::new(alloc);
-    for number in 0..1000u16 {
-        let address = first.wrapping_add(2 * number);
+    for number in 0..count {
+        let address = first.wrapping_add(number.wrapping_mul(2));
         blocks.push(Block {
             address,
             bytes: Vec::from_slice(alloc, &[full_byte(address)])?,
@@ -289,10 +289,14 @@ fn every_second_byte(alloc: Global, first: u16) -> Result<Tape, Fail> {
 }
 
 #[test]
-fn a_thousand_blocks(rt: HostRuntime) -> Result<(), Fail> {
+fn a_thousand_blocks_and_three_hundred_patches(rt: HostRuntime) -> Result<(), Fail> {
     let mut tapes = Vec::new(rt.alloc());
-    tapes.push(every_second_byte(rt.alloc(), 1)?)?;
-    tapes.push(every_second_byte(rt.alloc(), 0)?)?;
+    tapes.push(every_second_byte(rt.alloc(), 1, 1000)?)?;
+    tapes.push(every_second_byte(rt.alloc(), 0, 1000)?)?;
+    for number in 0..300u16 {
+        // Each patch says again what the tapes before it say.
+        tapes.push(every_second_byte(rt.alloc(), number, 1)?)?;
+    }
     assert_full_words(&rt, &Plan::of_all(rt.alloc(), &tapes)?, 1000);
     Ok(())
 }

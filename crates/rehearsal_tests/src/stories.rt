@@ -97,18 +97,22 @@ const STORIES: [(&str, &[u8], &str, &str); 13] = [
     ),
 ];
 
+/// Rehearses a script with one tape, and answers how that ended and what was printed.
+fn rehearsed(
+    alloc: Global,
+    mut tape: &[u8],
+    mut script: &[u8],
+) -> (Result<(), CommandFault>, Vec<u8>) {
+    let mut out = Vec::new(alloc);
+    let done = rehearse_to(alloc, slice::from_mut(&mut tape), &mut script, &mut out);
+    (done, out)
+}
+
 #[test]
 fn stories_of_losses(rt: HostRuntime) -> Result<(), Fail> {
     for row in &STORIES {
-        let (story, mut tape, script, expected) = *row;
-        let mut script = script.as_bytes();
-        let mut out = Vec::new(rt.alloc());
-        let done = rehearse_to(
-            rt.alloc(),
-            slice::from_mut(&mut tape),
-            &mut script,
-            &mut out,
-        );
+        let (story, tape, script, expected) = *row;
+        let (done, out) = rehearsed(rt.alloc(), tape, script.as_bytes());
         assert_eq!(rt; done, Ok(()), "{story}");
         assert!(rt; out.as_slice() == expected.as_bytes(), "{story}");
     }
@@ -141,14 +145,7 @@ const REFUSED: [(&str, u32, &str); 6] = [
 fn refused_scripts_print_nothing(rt: HostRuntime) {
     for row in &REFUSED {
         let (script, line, reason) = *row;
-        let (mut tape, mut script) = (ONE_WORD.as_slice(), script.as_bytes());
-        let mut out = Vec::new(rt.alloc());
-        let done = rehearse_to(
-            rt.alloc(),
-            slice::from_mut(&mut tape),
-            &mut script,
-            &mut out,
-        );
+        let (done, out) = rehearsed(rt.alloc(), &ONE_WORD, script.as_bytes());
         assert_eq!(rt; done, Err(CommandFault::Script(line)), "{reason}");
         assert!(rt; out.is_empty(), "{reason}");
     }
@@ -202,14 +199,7 @@ fn last_line(front: &[u8]) -> u32 {
 fn a_script_cut_at_each_byte(rt: HostRuntime) {
     for length in 0..STALE.len() {
         let front = &STALE.as_bytes()[..length];
-        let (mut tape, mut script) = (ONE_WORD.as_slice(), front);
-        let mut out = Vec::new(rt.alloc());
-        let done = rehearse_to(
-            rt.alloc(),
-            slice::from_mut(&mut tape),
-            &mut script,
-            &mut out,
-        );
+        let (done, out) = rehearsed(rt.alloc(), &ONE_WORD, front);
         let expected = if WHOLE_FRONTS.contains(&length) {
             Ok(())
         } else {

@@ -3,6 +3,7 @@
 use failing_devices::BrokenOutput;
 use load_record::RecordError;
 use requests::{Failure, OneTape, Status, tell};
+use std::alloc::Global;
 use std::io;
 use std::io::Write;
 use std::test::Fail;
@@ -135,31 +136,25 @@ const NAMES: [(&str, &str); 13] = [
     ),
 ];
 
-/// Tells a failure, and checks that this is its line, told in one write.
-fn told_as(
-    rt: &HostRuntime,
-    failure: Failure<'_>,
-    status: Status,
-    words: &str,
-    name: &str,
-) -> Result<(), Fail> {
-    let alloc = rt.alloc();
+/// Tells a failure, and answers its status and what standard error then has.
+fn told(alloc: Global, failure: Failure<'_>) -> (Status, CountedOutput) {
     let mut err = CountedOutput {
         written: Vec::new(alloc),
         writes: 0,
     };
-    assert_eq!(rt; tell(alloc, failure, &mut err), status, "{words}{name}");
-    let line = format!(in alloc; "ldaodt: {words}{name}\n")?;
-    assert!(rt; err.written.as_slice() == line.as_bytes(), "{words}{name}");
-    assert_eq!(rt; err.writes, 1, "{words}{name}");
-    Ok(())
+    let status = tell(alloc, failure, &mut err);
+    (status, err)
 }
 
 #[test]
 fn each_failure_is_one_line(rt: HostRuntime) -> Result<(), Fail> {
     for row in &FAILURES {
-        let (failure, status, words) = *row;
-        told_as(&rt, failure, status, words, "")?;
+        let (failure, wanted, words) = *row;
+        let line = format!(in rt.alloc(); "ldaodt: {words}\n")?;
+        let (status, err) = told(rt.alloc(), failure);
+        assert_eq!(rt; status, wanted, "{words}");
+        assert!(rt; err.written.as_slice() == line.as_bytes(), "{words}");
+        assert_eq!(rt; err.writes, 1, "{words}");
     }
     Ok(())
 }
@@ -168,28 +163,21 @@ fn each_failure_is_one_line(rt: HostRuntime) -> Result<(), Fail> {
 fn names_cannot_break_a_line(rt: HostRuntime) -> Result<(), Fail> {
     for row in &NAMES {
         let (name, shown) = *row;
-        let status = Status::DeviceFailed;
-        told_as(
-            &rt,
-            Failure::CannotRead(name),
-            status,
-            "cannot read ",
-            shown,
-        )?;
-        told_as(
-            &rt,
-            Failure::CannotWriteFile(name),
-            status,
-            "cannot write ",
-            shown,
-        )?;
-        told_as(
-            &rt,
-            Failure::CannotConnect(name),
-            status,
-            "cannot connect to ",
-            shown,
-        )?;
+        let failures = [
+            (Failure::CannotRead(name), "cannot read"),
+            (Failure::CannotWriteFile(name), "cannot write"),
+            (Failure::CannotConnect(name), "cannot connect to"),
+        ];
+        for (failure, words) in failures {
+            let line = format!(in rt.alloc(); "ldaodt: {words} {shown}\n")?;
+            let (status, err) = told(rt.alloc(), failure);
+            assert_eq!(rt; status, Status::DeviceFailed, "{words} {shown}");
+            assert!(rt;
+                err.written.as_slice() == line.as_bytes(),
+                "{words} {shown}"
+            );
+            assert_eq!(rt; err.writes, 1, "{words} {shown}");
+        }
     }
     Ok(())
 }
@@ -201,12 +189,8 @@ fn a_long_name_is_one_write(rt: HostRuntime) -> Result<(), Fail> {
         name.push('\u{1b}')?;
         name.push('é')?;
     }
-    let mut err = CountedOutput {
-        written: Vec::new(rt.alloc()),
-        writes: 0,
-    };
-    let failure = Failure::CannotRead(name.as_str());
-    assert_eq!(rt; tell(rt.alloc(), failure, &mut err), Status::DeviceFailed);
+    let (status, err) = told(rt.alloc(), Failure::CannotRead(name.as_str()));
+    assert_eq!(rt; status, Status::DeviceFailed);
     // Twenty bytes of words, the line's end, and eight bytes for each pair.
     assert_eq!(rt; (err.written.len(), err.writes), (160_021, 1));
     Ok(())

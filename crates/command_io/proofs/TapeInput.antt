@@ -12,7 +12,7 @@ use Rattle.tape_blocks.specs.Input.{IsReadFrom}
 use Rattle.std.proofs.Common.{Result, Ok, Err}
 use Rattle.command_io.specs.Input.{TakesAtMost}
 use Rattle.command_io.specs.TapeFile.{IsInput, IsRefusedInput, input_limit}
-use Rattle.command_io.specs.Tapes.{IsTapeTaken, TapeText}
+use Rattle.command_io.specs.Tapes.{IsTapeTaken}
 
 -- what a reader has left, where it tells
 abbrev pub left_of : Option (List ℕ) → List ℕ

@@ -8,6 +8,10 @@ pub record WritesAllBut (before after : Option (List ℕ)) (text left : List ℕ
   pub whole : text ≡ written ++ left
   pub appended : Appends before after written
 
+-- a front of the text was written and nothing else: none of it, some or all
+abbrev pub WritesFront : Option (List ℕ) → Option (List ℕ) → List ℕ → Type 0
+WritesFront before after text = (left : List ℕ) × WritesAllBut before after text left
+
 -- a prefix of the text was written and nothing else, and something of the text is missing
 abbrev pub WritesPrefix : Option (List ℕ) → Option (List ℕ) → List ℕ → Type 0
 WritesPrefix before after text = (left : List ℕ) × (0 < length left) × WritesAllBut before after text left

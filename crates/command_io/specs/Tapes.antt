@@ -24,6 +24,10 @@ AreTaken [] [] [] = ⊤
 AreTaken (before ∷ befores) (after ∷ afters) (t ∷ texts) = IsTapeTaken before after t × AreTaken befores afters texts
 AreTaken befores afters texts = ⊥
 
+-- a tape was taken of each of the inputs
+abbrev pub AreAllTaken : List (Option (List ℕ)) → List (Option (List ℕ)) → Type 0
+AreAllTaken befores afters = (texts : List TapeText) × AreTaken befores afters texts
+
 -- of each input so many bytes were taken as a tape may need, or fewer
 abbrev pub TakeAtMost : List (Option (List ℕ)) → List (Option (List ℕ)) → Type 0
 TakeAtMost befores afters = AllZip (λ before after. TakesAtMost before after input_limit) befores afters

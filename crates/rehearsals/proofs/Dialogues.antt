@@ -1,30 +1,40 @@
 -- A load on a line that loses nothing, event by event, and what is written of it.
-use Rattle.std.proofs.Common.{◌≡◌, List, [], ◌∷◌, ◌++◌, ℕ, Option, Some, None, IsSome, replicate, false, refl, sym, ap, ◌∙◌, subst, append_assoc, append-nil}
-use Rattle.std.specs.Prelude.{slice_get, length}
-use Rattle.std.specs.List.{slice_range}
-use Rattle.std.proofs.lemmas.List.{take_rest}
+use Rattle.std.proofs.Common.{◌≡◌, ◌<◌, List, [], ◌∷◌, ◌++◌, ℕ, Option, Some, None, IsSome, replicate, false, refl, sym, ap, ◌∙◌, subst, inl, inr, arith, codes, append_assoc, append-nil}
+use Rattle.std.specs.Prelude.{slice_get, length, is_some}
+use Rattle.std.specs.List.{slice_range, flat_map}
+use Rattle.std.proofs.lemmas.Bool.{false≢true}
+use Rattle.std.proofs.lemmas.List.{take_rest, length-append}
 use Rattle.std.proofs.Math.Seq.{drop-append_seam}
 use Rattle.std.proofs.KnownBytes.{Appends-nil, Appends-trans}
-use Rattle.std.specs.Io.KnownBytes.{Appends}
+use Rattle.std.specs.Io.KnownBytes.{Appends, Keeps}
 use Rattle.tape_blocks.specs.Tape.{TapeValue}
 use Rattle.tape_image.specs.Plan.{plan_of_all}
 use Rattle.odt_machine.specs.declared.style.Style.{Style}
-use Rattle.odt_machine.specs.Machine.{Machine}
+use Rattle.odt_machine.specs.Machine.{Machine, IsMachine}
 use Rattle.odt_machine.specs.KeyTable.{take_of}
 use Rattle.host_core.specs.declared.phase.End.{End}
 use Rattle.host_core.specs.Core.{ended, begun}
+use Rattle.host_core.specs.Host.{IsHost}
 use Rattle.line_world.specs.declared.event.Event.{Event}
 use Rattle.line_world.specs.Scene.{Scene}
+use Rattle.line_world.specs.Invariant.{IsKept}
 use Rattle.line_world.specs.Opening.{opened}
+use Rattle.line_world.specs.Runs.{RunsTo}
 use Rattle.line_world.specs.World.{happens, after, first_event, first_of, IsCleanRun}
-use Rattle.rehearsals.specs.Dialogue.{WritesSome, Talks, IsDialogue, dialogue_opening, dialogue_patience}
-use Rattle.command_io.specs.Output.{WritesPrefix}
+use Rattle.line_world.proofs.Opening.{opening_kept}
+use Rattle.command_io.specs.declared.fault.CommandFault.{CommandFault}
+use Rattle.command_io.specs.declared.fault.CommandFault.TheVariants as fault
+use Rattle.command_io.specs.Output.{WritesFront, WritesPrefix}
+use Rattle.command_io.specs.Tapes.{AreTapes, AreAllTaken, AreTapesFault, tapes_of}
+use Rattle.command_io.specs.Text.{line}
+use Rattle.load_reports.specs.Report.{counts_text, end_name, mode_name, word_text, report}
+use Rattle.rehearsals.specs.Dialogue.{Talks, IsDialogueText, IsDialogue, IsDialogueInPart, IsDialogueFault, IsTalkFault, dialogue_opening, dialogue_patience}
 use Rattle.rehearsals.specs.declared.exchange.Exchange.{Exchange}
 use Rattle.rehearsals.specs.KeyLines.{Answered, Gathers, Holds, Notes, answered_in, answered_keys, key_text, last_line}
-use Rattle.rehearsals.specs.Rehearsal.{machine_of}
+use Rattle.rehearsals.specs.Rehearsal.{IsMachineFault, machine_of}
+use Rattle.rehearsals.proofs.CleanRuns.{ComesToEnd, comes_to_end}
+use Rattle.command_io.proofs.Fronts.{front_behind, front_whole, prefix_behind, prefix_longer}
 use Rattle.rehearsals.proofs.KeyTexts.{gathered_text}
-use Rattle.load_reports.specs.Report.{report}
-use Rattle.command_io.specs.Tapes.{AreTapes, tapes_of}
 
 -- events that end from one world on end from an earlier one on, lead to the same world and tell the same; what was told so far is written
 pub record Conversation (start w : Scene) (exchange : Exchange) (before now : Option (List ℕ)) : Type 0 where
@@ -34,6 +44,8 @@ pub record Conversation (start w : Scene) (exchange : Exchange) (before now : Op
   pub written : Appends before now told
   pub goes : (events : List Event) → IsCleanRun w events
       → (all : List Event) × IsCleanRun start all × (after w events ≡ after start all) × (key_text (answered_keys start all) ≡ told ++ key_text (gathered ++ answered_keys w events))
+  pub rest : (all : List Event) → IsCleanRun start all
+      → (events : List Event) × IsCleanRun w events × (key_text (answered_keys start all) ≡ told ++ key_text (gathered ++ answered_keys w events))
 
 pub conversation_none : (w : Scene) (exchange : Exchange) (out : Option (List ℕ)) → Gathers [] exchange → Conversation w w exchange out out
 conversation_none w exchange out gathers = record {
@@ -42,7 +54,23 @@ conversation_none w exchange out gathers = record {
   gathers = gathers;
   written = Appends-nil out;
   goes = λ events clean. (events, clean, refl, refl);
+  rest = λ all clean. (all, clean, refl);
 }
+
+-- where a life has no end, a clean line goes on with its next event
+clean_more : (w : Scene) (events : List Event) → ended w.core.phase ≡ None → IsCleanRun w events
+    → (more : List Event) × IsCleanRun (happens w (first_event w)) more × (answered_keys w events ≡ answered_in w (first_event w) ++ answered_keys (happens w (first_event w)) more)
+clean_more w [] on clean = absurd (false≢true (sym (ap is_some on) ∙ clean))
+clean_more w (event ∷ more) on clean = (
+  more,
+  subst (λ e. IsCleanRun (happens w e) more) clean.1 clean.2,
+  ap (λ e. answered_in w e ++ answered_keys (happens w e) more) clean.1,
+)
+
+-- where a life has an end, nothing is left
+clean_none : (w : Scene) (end : End) (events : List Event) → ended w.core.phase ≡ Some end → IsCleanRun w events → events ≡ []
+clean_none w end [] is clean = refl
+clean_none w end (event ∷ more) is clean = absurd (let none = clean.0 in cc)
 
 -- the next event of a clean line, told
 pub conversation_more : (start w next : Scene) (exchange noted : Exchange) (before between now : Option (List ℕ)) → ended w.core.phase ≡ None → next ≡ happens w (first_event w)
@@ -64,7 +92,38 @@ conversation_more start w next exchange noted before between now on is notes so 
                 ∙ sym (append_assoc so.told more.told (key_text (more.left ++ answered_keys (happens w (first_event w)) events)))
                 ∙ ap (λ v. (so.told ++ more.told) ++ key_text (more.left ++ answered_keys v events)) (sym is),
           );
+      rest = λ all clean.
+          let left = so.rest all clean in
+          let later = clean_more w left.0 on left.1 in (
+            later.0,
+            subst (λ v. IsCleanRun v later.0) (sym is) later.1,
+            left.2 ∙ ap (λ ks. so.told ++ key_text (so.gathered ++ ks)) later.2 ∙ ap (λ l. so.told ++ l) (more.text (answered_keys (happens w (first_event w)) later.0))
+                ∙ sym (append_assoc so.told more.told (key_text (more.left ++ answered_keys (happens w (first_event w)) later.0)))
+                ∙ ap (λ v. (so.told ++ more.told) ++ key_text (more.left ++ answered_keys v later.0)) (sym is),
+          );
     }
+
+-- a turn that fails
+pub conversation_stops : (start w : Scene) (exchange : Exchange) (before between now : Option (List ℕ)) → Conversation start w exchange before between → ended w.core.phase ≡ None
+    → ((gathered : List Answered) → Gathers gathered exchange → (more : List Answered) → WritesFront between now (key_text (gathered ++ (answered_in w (first_event w) ++ more))))
+    → (all : List Event) → IsCleanRun start all → WritesFront before now (key_text (answered_keys start all))
+conversation_stops start w exchange before between now so on front all clean =
+    let left = so.rest all clean in
+    let later = clean_more w left.0 on left.1 in
+    subst (WritesFront before now) (sym (left.2 ∙ ap (λ ks. so.told ++ key_text (so.gathered ++ ks)) later.2))
+    (front_behind before between now so.told (key_text (so.gathered ++ (answered_in w (first_event w) ++ answered_keys (happens w (first_event w)) later.0))) so.written
+    (front so.gathered so.gathers (answered_keys (happens w (first_event w)) later.0)))
+
+-- a last line that fails
+pub conversation_unfinished : (start w : Scene) (end : End) (exchange : Exchange) (before between now : Option (List ℕ)) → Conversation start w exchange before between → ended w.core.phase ≡ Some end
+    → ((held : List Answered) → Holds held exchange → WritesFront between now (last_line held))
+    → (all : List Event) → IsCleanRun start all → WritesFront before now (key_text (answered_keys start all))
+conversation_unfinished start w end exchange before between now so is front all clean =
+    let left = so.rest all clean in
+    let text : key_text (answered_keys start all) ≡ so.told ++ last_line so.gathered =
+    left.2 ∙ ap (λ es. so.told ++ key_text (so.gathered ++ answered_keys w es)) (clean_none w end left.0 is left.1)
+    ∙ ap (λ g. so.told ++ key_text g) (append-nil so.gathered) ∙ ap (λ l. so.told ++ l) (gathered_text so.gathered so.gathers.echoes) in
+    subst (WritesFront before now) (sym text) (front_behind before between now so.told (last_line so.gathered) so.written (front so.gathered so.gathers.holds))
 
 -- the end, and the line under way with it
 pub conversation_ends : (start w : Scene) (end : End) (exchange : Exchange) (before between now : Option (List ℕ)) → Conversation start w exchange before between → ended w.core.phase ≡ Some end
@@ -88,7 +147,7 @@ none_answered w none = quiet w.down w.up none
     quiet (c ∷ down) up none = cc
 
 -- the key under way is answered next, by what joins the answers under way
-pub one_answered : (w next : Scene) (key : ℕ) → slice_get w.down 0 ≡ Some key → next ≡ happens w (first_event w)
+one_answered : (w next : Scene) (key : ℕ) → slice_get w.down 0 ≡ Some key → next ≡ happens w (first_event w)
     → (answered : Answered) × (answered_in w (first_event w) ≡ answered ∷ []) × (answered.key ≡ key) × (next.up ≡ w.up ++ answered.answer)
 one_answered w next key some is = taken w.down some is
   where
@@ -98,33 +157,128 @@ one_answered w next key some is = taken w.down some is
     taken (c ∷ down) some is = (record { key = c; answer = (take_of w.machine c).answer }, refl, cc, ap (λ (v : Scene). v.up) is)
 
 -- what stands behind a list that was joined
-pub joined_after : (xs ys : List ℕ) → slice_range (xs ++ ys) (length xs) (length (xs ++ ys)) ≡ ys
+joined_after : (xs ys : List ℕ) → slice_range (xs ++ ys) (length xs) (length (xs ++ ys)) ≡ ys
 joined_after xs ys = take_rest (xs ++ ys) (length xs) ∙ drop-append_seam xs ys
 
-pub answered_is : (a : Answered) (key : ℕ) (answer : List ℕ) → a.key ≡ key → a.answer ≡ answer → a ≡ record { key = key; answer = answer }
+answered_is : (a : Answered) (key : ℕ) (answer : List ℕ) → a.key ≡ key → a.answer ≡ answer → a ≡ record { key = key; answer = answer }
 answered_is a key answer same_key same_answer = ap (λ k. record { key = k; answer = a.answer }) same_key ∙ ap (λ l. record { key = key; answer = l }) same_answer
 
-pub writes_more : (before between after : Option (List ℕ)) → WritesSome before between → WritesSome between after → WritesSome before after
-writes_more before between after first second = (first.0 ++ second.0, Appends-trans before between after first.0 second.0 first.1 second.1)
+-- the key under way is answered next, by the answers that were not there before
+pub answered_next : (w next : Scene) (key : ℕ) (waiting up answer : List ℕ) → slice_get w.down 0 ≡ Some key → next ≡ happens w (first_event w) → waiting ≡ w.up → up ≡ next.up
+    → answer ≡ slice_range up (length waiting) (length up) → answered_in w (first_event w) ≡ record { key = key; answer = answer } ∷ []
+answered_next w next key waiting up answer first is waiting_is up_is answer_is =
+    let one = one_answered w next key first is in
+    let behind : slice_range up (length waiting) (length up) ≡ one.0.answer =
+    ap (λ l. slice_range l (length waiting) (length l)) (up_is ∙ one.3)
+    ∙ ap (λ l. slice_range (w.up ++ one.0.answer) (length l) (length (w.up ++ one.0.answer))) waiting_is ∙ joined_after w.up one.0.answer in
+    one.1 ∙ ap (λ a. a ∷ []) (answered_is one.0 key answer one.2 (sym behind ∙ sym answer_is))
 
--- a prefix of a text is some text
-pub writes_prefix : (before after : Option (List ℕ)) (text : List ℕ) → WritesPrefix before after text → WritesSome before after
-writes_prefix before after text w = (w.2.written, w.2.appended)
-
--- a dialogue from its parts
-pub dialogue_made : (inputs rests : List (Option (List ℕ))) (before between now : Option (List ℕ)) (words : ℕ) (style : Style) (end : End) (tapes opened_tapes : List TapeValue) (lengths : List ℕ) (odt : Machine) (world last : Scene) (waiting start told shown : List ℕ)
-    → AreTapes inputs rests tapes lengths → opened_tapes ≡ tapes → odt ≡ machine_of style (replicate words 0) → waiting ≡ [] → world ≡ opened odt (begun (plan_of_all opened_tapes) 0 false dialogue_patience) waiting
-    → Talks world last end before between → start ≡ [] → told ≡ start ++ report last → shown ≡ told → Appends between now shown → IsDialogue inputs rests before now words style end
-dialogue_made inputs rests before between now words style end tapes opened_tapes lengths odt world last waiting start told shown are same odt_is waits world_is talks none told_is shown_is written =
-    let opens : world ≡ dialogue_opening (tapes_of are.texts) words style = world_is ∙ ap (λ m. opened m (begun (plan_of_all opened_tapes) 0 false dialogue_patience) waiting) odt_is
+-- the world of a dialogue, from its parts
+pub opens_dialogue : (words : ℕ) (style : Style) (tapes opened_tapes known : List TapeValue) (odt : Machine) (world : Scene) (waiting : List ℕ)
+    → opened_tapes ≡ tapes → tapes ≡ known → odt ≡ machine_of style (replicate words 0) → waiting ≡ [] → world ≡ opened odt (begun (plan_of_all opened_tapes) 0 false dialogue_patience) waiting
+    → world ≡ dialogue_opening known words style
+opens_dialogue words style tapes opened_tapes known odt world waiting same is odt_is waits world_is =
+    world_is ∙ ap (λ m. opened m (begun (plan_of_all opened_tapes) 0 false dialogue_patience) waiting) odt_is
     ∙ ap (λ ws. opened (machine_of style (replicate words 0)) (begun (plan_of_all opened_tapes) 0 false dialogue_patience) ws) waits
-    ∙ ap (λ ts. dialogue_opening ts words style) (same ∙ are.tapes_are) in
-    let all : shown ≡ report last = shown_is ∙ told_is ∙ ap (λ s. s ++ report last) none in
-    let spoken = subst (λ w. Talks w last end before between) opens talks in
-    record {
-      texts = are.texts;
-      taken = are.taken;
-      last = last;
-      run = spoken.run;
-      written = Appends-trans before between now (key_text (answered_keys (dialogue_opening (tapes_of are.texts) words style) spoken.run.events)) (report last) spoken.told (subst (Appends between now) all written);
-    }
+    ∙ ap (λ ts. dialogue_opening ts words style) (same ∙ is)
+
+-- no tapes were taken
+pub tapes_fault : (inputs rests : List (Option (List ℕ))) (out : Option (List ℕ)) (words : ℕ) (style : Style) (why : CommandFault) → Keeps out out → AreTapesFault inputs rests why → IsDialogueFault inputs rests out out words style why
+tapes_fault inputs rests out words style (fault.Tape number refusal) keeps failed = (failed, keeps)
+tapes_fault inputs rests out words style (fault.ReadTape number) keeps failed = (failed, keeps)
+tapes_fault inputs rests out words style fault.Memory keeps failed = inl keeps
+tapes_fault inputs rests out words style (fault.Script line) keeps failed = absurd failed
+tapes_fault inputs rests out words style fault.TooLarge keeps failed = absurd failed
+tapes_fault inputs rests out words style fault.ReadScript keeps failed = absurd failed
+tapes_fault inputs rests out words style fault.ReadKeys keeps failed = absurd failed
+tapes_fault inputs rests out words style fault.Write keeps failed = absurd failed
+
+-- no machine was made
+pub machine_fault : (inputs rests : List (Option (List ℕ))) (out : Option (List ℕ)) (words : ℕ) (style : Style) (why : CommandFault) → AreAllTaken inputs rests → Keeps out out → IsMachineFault words why
+    → IsDialogueFault inputs rests out out words style why
+machine_fault inputs rests out words style fault.TooLarge taken keeps failed = (taken, failed, keeps)
+machine_fault inputs rests out words style fault.Memory taken keeps failed = inl keeps
+machine_fault inputs rests out words style (fault.Tape number refusal) taken keeps failed = absurd failed
+machine_fault inputs rests out words style (fault.Script line) taken keeps failed = absurd failed
+machine_fault inputs rests out words style (fault.ReadTape number) taken keeps failed = absurd failed
+machine_fault inputs rests out words style fault.ReadScript taken keeps failed = absurd failed
+machine_fault inputs rests out words style fault.ReadKeys taken keeps failed = absurd failed
+machine_fault inputs rests out words style fault.Write taken keeps failed = absurd failed
+
+some_report : (counts end mode words : List ℕ) → 0 < length (((line counts ++ end) ++ mode) ++ words)
+some_report counts end mode words = omega (arith, length-append ((line counts ++ end) ++ mode) words, length-append (line counts ++ end) mode, length-append (line counts) end, length-append counts (10 ∷ []))
+
+-- a report has some text
+report_some : (w : Scene) → 0 < length (report w)
+report_some w =
+    some_report (counts_text w) (line (codes "end " ++ end_name (ended w.core.phase))) (line (codes "odt " ++ mode_name w.machine.mode))
+    (flat_map (λ word. line (word_text w.machine.memory word)) w.core.plan.words)
+
+module _ (inputs rests : List (Option (List ℕ))) (words : ℕ) (style : Style) (tapes : List TapeValue) (lengths : List ℕ) (are : AreTapes inputs rests tapes lengths) (world : Scene)
+    (opens : world ≡ dialogue_opening (tapes_of are.texts) words style) where
+  -- the text of a run from there
+  text_is : (last : Scene) (end : End) (run : RunsTo world last end) → IsDialogueText inputs rests words style end (key_text (answered_keys world run.events) ++ report last)
+  text_is last end run =
+      subst (λ v. (r : RunsTo v last end) → IsDialogueText inputs rests words style end (key_text (answered_keys v r.events) ++ report last)) (sym opens)
+      (λ r. record { texts = are.texts; taken = are.taken; last = last; run = r; told = refl }) run
+
+  kept : IsMachine (machine_of style (replicate words 0)) → IsHost world.core → IsKept world
+  kept machine host =
+      subst IsKept (sym opens)
+      (opening_kept (machine_of style (replicate words 0)) (plan_of_all (tapes_of are.texts)) 0 dialogue_patience [] machine (subst (λ (w : Scene). IsHost w.core) opens host) (omega arith) refl (λ i below. absurd (omega arith)))
+
+  -- the conversation stopped
+  pub stopped_in_talk : (odt : Machine) (before now : Option (List ℕ)) (why : CommandFault) → odt ≡ machine_of style (replicate words 0) → IsMachine odt → IsHost world.core → IsTalkFault why
+      → ((events : List Event) → IsCleanRun world events → WritesFront before now (key_text (answered_keys world events))) → IsDialogueFault inputs rests before now words style why
+  stopped_in_talk odt before now why odt_is machine host talk front = told why talk
+    where
+      ends : ComesToEnd world
+      ends = comes_to_end world (kept (subst IsMachine odt_is machine) host)
+
+      part : IsDialogueInPart inputs rests before now words style
+      part = record {
+        end = ends.end;
+        text = key_text (answered_keys world ends.run.events) ++ report ends.last;
+        is_text = text_is ends.last ends.end ends.run;
+        written = prefix_longer before now (key_text (answered_keys world ends.run.events)) (report ends.last) (report_some ends.last) (front ends.run.events ends.run.clean);
+      }
+
+      told : (other : CommandFault) → IsTalkFault other → IsDialogueFault inputs rests before now words style other
+      told fault.Write talk = part
+      told fault.Memory talk = inr part
+      told (fault.Tape number refusal) talk = absurd talk
+      told (fault.Script line) talk = absurd talk
+      told fault.TooLarge talk = absurd talk
+      told (fault.ReadTape number) talk = absurd talk
+      told fault.ReadScript talk = absurd talk
+      told fault.ReadKeys talk = absurd talk
+
+  -- the report was not made
+  pub no_report : (last : Scene) (end : End) (before now : Option (List ℕ)) → Talks world last end before now → IsDialogueInPart inputs rests before now words style
+  no_report last end before now talks = record {
+    end = end;
+    text = key_text (answered_keys world talks.run.events) ++ report last;
+    is_text = text_is last end talks.run;
+    written = prefix_longer before now (key_text (answered_keys world talks.run.events)) (report last) (report_some last) (front_whole before now (key_text (answered_keys world talks.run.events)) talks.told);
+  }
+
+  -- the report was written in part
+  pub report_in_part : (last : Scene) (end : End) (before between now : Option (List ℕ)) (start told shown : List ℕ) → Talks world last end before between
+      → start ≡ [] → told ≡ start ++ report last → shown ≡ told → WritesPrefix between now shown → IsDialogueInPart inputs rests before now words style
+  report_in_part last end before between now start told shown talks none told_is shown_is written = record {
+    end = end;
+    text = key_text (answered_keys world talks.run.events) ++ report last;
+    is_text = text_is last end talks.run;
+    written = prefix_behind before between now (key_text (answered_keys world talks.run.events)) (report last) talks.told
+        (subst (WritesPrefix between now) (shown_is ∙ told_is ∙ ap (λ s. s ++ report last) none) written);
+  }
+
+  -- all was written
+  pub dialogue_made : (last : Scene) (end : End) (before between now : Option (List ℕ)) (start told shown : List ℕ) → Talks world last end before between
+      → start ≡ [] → told ≡ start ++ report last → shown ≡ told → Appends between now shown → IsDialogue inputs rests before now words style end
+  dialogue_made last end before between now start told shown talks none told_is shown_is written = record {
+    text = key_text (answered_keys world talks.run.events) ++ report last;
+    is_text = text_is last end talks.run;
+    written = Appends-trans before between now (key_text (answered_keys world talks.run.events)) (report last) talks.told
+        (subst (Appends between now) (shown_is ∙ told_is ∙ ap (λ s. s ++ report last) none) written);
+  }

@@ -2,4 +2,5 @@ pub mod Plays
 pub mod Openings
 pub mod Rehearsals
 pub mod KeyTexts
+pub mod CleanRuns
 pub mod Dialogues

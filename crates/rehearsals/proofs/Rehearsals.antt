@@ -15,9 +15,9 @@ use Rattle.rehearsals.specs.Played.{Played, not_possible_lines}
 use Rattle.load_reports.specs.Report.{report}
 use Rattle.command_io.specs.Input.{IsTaken}
 use Rattle.command_io.specs.TapeFile.{IsInput, input_limit}
-use Rattle.command_io.specs.Tapes.{AreTapes}
+use Rattle.command_io.specs.Tapes.{AreTapes, AreAllTaken}
 use Rattle.loss_scripts.specs.Script.{IsScript, IsRefusedScript, IsRefusedLine}
-use Rattle.rehearsals.specs.Rehearsal.{IsScriptInput, IsPlayFault, IsRehearseFault, IsRehearsal, IsRehearsed, AllLie, after_puts, machine_of, opening}
+use Rattle.rehearsals.specs.Rehearsal.{IsScriptInput, IsScriptInputFault, IsPlayFault, IsRehearseFault, IsRehearsal, IsRehearsed, AllLie, after_puts, machine_of, opening}
 use Rattle.command_io.specs.declared.fault.CommandFault.{CommandFault}
 use Rattle.command_io.specs.declared.fault.CommandFault.TheVariants as fault
 use Rattle.loss_scripts.specs.declared.script.Script.{Script}
@@ -45,17 +45,29 @@ refused_input before after bytes read number taken same refused =
     refused
 
 -- what a rehearsal that was not played says of the inputs
-pub play_fault : (inputs rests : List (Option (List ℕ))) (script out : Option (List ℕ)) (played : Script) (why : CommandFault) → IsScriptInput script played → Keeps out out → IsPlayFault (replicate played.words 0) played.puts.items why
+pub play_fault : (inputs rests : List (Option (List ℕ))) (script out : Option (List ℕ)) (played : Script) (why : CommandFault) → AreAllTaken inputs rests → IsScriptInput script played → Keeps out out
+    → IsPlayFault (replicate played.words 0) played.puts.items why → IsRehearseFault inputs rests script out out why
+play_fault inputs rests script out played (fault.Script number) taken is keeps refused =
+    (taken, record { text = is.text; is_input = is.is_input; refused = inr (played, is.is_script, refused) }, keeps)
+play_fault inputs rests script out played fault.Memory taken is keeps refused = keeps
+play_fault inputs rests script out played (fault.Tape number refusal) taken is keeps refused = absurd refused
+play_fault inputs rests script out played fault.TooLarge taken is keeps refused = absurd refused
+play_fault inputs rests script out played (fault.ReadTape number) taken is keeps refused = absurd refused
+play_fault inputs rests script out played fault.ReadScript taken is keeps refused = absurd refused
+play_fault inputs rests script out played fault.ReadKeys taken is keeps refused = absurd refused
+play_fault inputs rests script out played fault.Write taken is keeps refused = absurd refused
+
+-- what a script that was not taken says of the inputs
+pub script_fault : (inputs rests : List (Option (List ℕ))) (script out : Option (List ℕ)) (why : CommandFault) → AreAllTaken inputs rests → Keeps out out → IsScriptInputFault script why
     → IsRehearseFault inputs rests script out out why
-play_fault inputs rests script out played (fault.Script number) is keeps refused =
-    (record { text = is.text; is_input = is.is_input; refused = inr (played, is.is_script, refused) }, keeps)
-play_fault inputs rests script out played fault.Memory is keeps refused = keeps
-play_fault inputs rests script out played (fault.Tape number refusal) is keeps refused = absurd refused
-play_fault inputs rests script out played fault.TooLarge is keeps refused = absurd refused
-play_fault inputs rests script out played (fault.ReadTape number) is keeps refused = absurd refused
-play_fault inputs rests script out played fault.ReadScript is keeps refused = absurd refused
-play_fault inputs rests script out played fault.ReadKeys is keeps refused = absurd refused
-play_fault inputs rests script out played fault.Write is keeps refused = absurd refused
+script_fault inputs rests script out (fault.Script number) taken keeps refused = (taken, record { text = refused.0; is_input = refused.1; refused = inl refused.2 }, keeps)
+script_fault inputs rests script out fault.ReadScript taken keeps refused = (taken, keeps)
+script_fault inputs rests script out fault.Memory taken keeps refused = keeps
+script_fault inputs rests script out (fault.Tape number refusal) taken keeps refused = absurd refused
+script_fault inputs rests script out fault.TooLarge taken keeps refused = absurd refused
+script_fault inputs rests script out (fault.ReadTape number) taken keeps refused = absurd refused
+script_fault inputs rests script out fault.ReadKeys taken keeps refused = absurd refused
+script_fault inputs rests script out fault.Write taken keeps refused = absurd refused
 
 -- a machine after puts
 abbrev machine_with : Machine → List PutLine → Machine

@@ -19,7 +19,7 @@ use Rattle.rehearsals.specs.Played.{Played, not_possible_lines}
 use Rattle.load_reports.specs.Report.{report}
 use Rattle.loss_scripts.specs.Script.{IsScript, IsRefusedScript}
 use Rattle.command_io.specs.TapeFile.{IsInput}
-use Rattle.command_io.specs.Tapes.{TapeText, AreTaken, AreTapesFault, tapes_of}
+use Rattle.command_io.specs.Tapes.{TapeText, AreTaken, AreAllTaken, AreTapesFault, tapes_of}
 
 -- the memory after these words are put into it, in order
 abbrev pub after_puts : List ℕ → List PutLine → List ℕ
@@ -77,13 +77,13 @@ pub record IsRehearsed (inputs rests : List (Option (List ℕ))) (script_input :
   pub is_script : IsScriptInput script_input script
   pub rehearsal : IsRehearsal (tapes_of texts) script text
 
--- how a rehearsal fails: a refusal only where it is that of a tape's input, by its number, or the script's, a failed read, or want of memory, before
--- anything is written; or a failed write, with a prefix of the text written
+-- how a rehearsal fails: a refusal or a failed read of a tape's input, by its number; the script's only where the tapes were taken first; or want of
+-- memory, all before anything is written; or a failed write, with a prefix of the text written
 abbrev pub IsRehearseFault : List (Option (List ℕ)) → List (Option (List ℕ)) → Option (List ℕ) → Option (List ℕ) → Option (List ℕ) → CommandFault → Type 0
 IsRehearseFault inputs rests script before after (fault.Tape number refusal) = AreTapesFault inputs rests (fault.Tape number refusal) × Keeps before after
-IsRehearseFault inputs rests script before after (fault.Script number) = IsRefusedScriptInput script number × Keeps before after
+IsRehearseFault inputs rests script before after (fault.Script number) = AreAllTaken inputs rests × IsRefusedScriptInput script number × Keeps before after
 IsRehearseFault inputs rests script before after (fault.ReadTape number) = AreTapesFault inputs rests (fault.ReadTape number) × Keeps before after
-IsRehearseFault inputs rests script before after fault.ReadScript = Keeps before after
+IsRehearseFault inputs rests script before after fault.ReadScript = AreAllTaken inputs rests × Keeps before after
 IsRehearseFault inputs rests script before after fault.Memory = Keeps before after
 IsRehearseFault inputs rests script before after fault.Write = (text : List ℕ) × IsRehearsed inputs rests script text × WritesPrefix before after text
 IsRehearseFault inputs rests script before after fault.TooLarge = ⊥

@@ -1,9 +1,11 @@
 //! The command `dialogue`: a load into a simulated machine, shown as it goes.
-ghost use Rattle.std.specs.Prelude.{◌≡◌, ◌<◌, List, map, OnOk, IfOk, IfErr};
+ghost use Rattle.std.specs.Prelude.{◌≡◌, ◌<◌, ◌++◌, List, map, OnOk, OnErr, IfOk, IfErr};
+ghost use Rattle.command_io.specs.Output.{WritesFront};
 ghost use Rattle.host_core.specs.Core.{ended};
-ghost use Rattle.line_world.specs.World.{happens, first_event, work_left};
-ghost use Rattle.rehearsals.specs.Dialogue.{IsDialogue, IsDialogueFault, Talks, WritesSome, IsTalkFault};
-ghost use Rattle.rehearsals.specs.KeyLines.{Answered, Gathers, Notes, answered_in};
+ghost use Rattle.line_world.specs.declared.event.Event.{Event};
+ghost use Rattle.line_world.specs.World.{happens, first_event, work_left, IsCleanRun};
+ghost use Rattle.rehearsals.specs.Dialogue.{IsDialogue, IsDialogueFault, Talks, IsTalkFault};
+ghost use Rattle.rehearsals.specs.KeyLines.{Answered, Gathers, Notes, answered_in, answered_keys, key_text};
 
 use crate::exchange::Exchange;
 use crate::opening::{open, zeroed};
@@ -23,7 +25,8 @@ const PATIENCE: u32 = 8;
 ///
 /// `Tape` is the refusal of an input, `ReadTape` a failed read, by the input's number from 1, and
 /// `TooLarge` a machine of more than 28,672 words: these come in this order, before the first byte of
-/// output. `Write` is a failed write. `Memory` comes only where a growth was refused.
+/// output. `Write` is a failed write. `Memory` comes only where a growth was refused, perhaps after
+/// some of the text was written.
 pub fn dialogue_to<R: Read, W: Write>(
     alloc: Global,
     tapes: &mut [R],
@@ -32,7 +35,7 @@ pub fn dialogue_to<R: Read, W: Write>(
     out: &mut W,
 ) -> Result<End, CommandFault>
     ensures ok { IfOk result (IsDialogue (map R.remaining tapes.old) (map R.remaining tapes.new) (W.contents out.old) (W.contents out.new) words style) }
-    ensures err { IfErr result (IsDialogueFault (map R.remaining tapes.old) (map R.remaining tapes.new) (W.contents out.old) (W.contents out.new) words) }
+    ensures err { IfErr result (IsDialogueFault (map R.remaining tapes.old) (map R.remaining tapes.new) (W.contents out.old) (W.contents out.new) words style) }
 {
     let taken = take_tapes(alloc, tapes)?;
     let odt = zeroed(alloc, words, style)?;
@@ -47,7 +50,7 @@ pub fn dialogue_to<R: Read, W: Write>(
 // A clean line up to the first end, each exchange written when it is over.
 fn talk<W: Write>(alloc: Global, world: &mut World, out: &mut W) -> Result<End, CommandFault>
     ensures ok { IfOk result (λ end. Talks world.old world.new end (W.contents out.old) (W.contents out.new)) }
-    ensures written { WritesSome (W.contents out.old) (W.contents out.new) }
+    ensures front { OnErr result ((events : List Event) → IsCleanRun world.old events → WritesFront (W.contents out.old) (W.contents out.new) (key_text (answered_keys world.old events))) }
     ensures err { IfErr result IsTalkFault }
 {
     let mut exchange = Exchange::new(alloc);
@@ -69,7 +72,7 @@ fn turn<W: Write>(
     ensures world { world.new ≡ happens world.old (first_event world.old) }
     ensures ok { OnOk result ((gathered : List Answered) → Gathers gathered exchange.old → Notes gathered (answered_in world.old (first_event world.old)) exchange.new (W.contents out.old) (W.contents out.new)) }
     ensures work { ended world.old.core.phase ≡ None → work_left world.new < work_left world.old }
-    ensures written { WritesSome (W.contents out.old) (W.contents out.new) }
+    ensures front { OnErr result ((gathered : List Answered) → Gathers gathered exchange.old → (more : List Answered) → WritesFront (W.contents out.old) (W.contents out.new) (key_text (gathered ++ (answered_in world.old (first_event world.old) ++ more)))) }
     ensures err { IfErr result IsTalkFault }
 {
     let event = world.next_event();

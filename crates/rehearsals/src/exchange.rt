@@ -1,8 +1,9 @@
 //! The lines of a dialogue: keys, and what the console answered to them.
-ghost use Rattle.std.specs.Prelude.{◌≡◌, ◌++◌, ◌∷◌, [], List, codes, OnOk, IfErr};
+ghost use Rattle.std.specs.Prelude.{◌≡◌, ◌++◌, ◌∷◌, [], List, codes, OnOk, OnErr, IfErr};
 ghost use Rattle.std.specs.Io.KnownBytes.{Appends};
-ghost use Rattle.rehearsals.specs.Dialogue.{WritesSome, IsTalkFault};
-ghost use Rattle.rehearsals.specs.KeyLines.{Answered, Gathers, Holds, Notes, last_line, shown};
+ghost use Rattle.command_io.specs.Output.{WritesFront};
+ghost use Rattle.rehearsals.specs.Dialogue.{IsTalkFault};
+ghost use Rattle.rehearsals.specs.KeyLines.{Answered, Gathers, Holds, Notes, key_text, last_line, shown};
 
 use command_io::{CommandFault, write_whole};
 use odt_machine::{CARRIAGE_RETURN, LINE_FEED, SPACE};
@@ -37,7 +38,7 @@ impl Exchange {
         out: &mut W,
     ) -> Result<(), CommandFault>
         ensures ok { OnOk result ((gathered : List Answered) → Gathers gathered self.old → Notes gathered (record { key = key; answer = answer.now } ∷ []) self.new (W.contents out.old) (W.contents out.new)) }
-        ensures written { WritesSome (W.contents out.old) (W.contents out.new) }
+        ensures front { OnErr result ((gathered : List Answered) → Gathers gathered self.old → (more : List Answered) → WritesFront (W.contents out.old) (W.contents out.new) (key_text (gathered ++ (record { key = key; answer = answer.now } ∷ more)))) }
         ensures err { IfErr result IsTalkFault }
     {
         show(&mut self.keys, &[key])?;
@@ -51,7 +52,7 @@ impl Exchange {
     /// Writes the line under way, if keys are gathered.
     pub fn finish<W: Write>(&mut self, out: &mut W) -> Result<(), CommandFault>
         ensures ok { OnOk result ((held : List Answered) → Holds held self.old → Appends (W.contents out.old) (W.contents out.new) (last_line held) × Holds [] self.new) }
-        ensures written { WritesSome (W.contents out.old) (W.contents out.new) }
+        ensures front { OnErr result ((held : List Answered) → Holds held self.old → WritesFront (W.contents out.old) (W.contents out.new) (last_line held)) }
         ensures err { IfErr result IsTalkFault }
     {
         if self.keys.is_empty() {

@@ -3,6 +3,8 @@ ghost use Rattle.std.specs.Prelude.{◌≡◌, ℕ, ◌≤◌, false, length, re
 ghost use Rattle.odt_machine.specs.declared.mode.Mode.TheVariants.{Prompt};
 ghost use Rattle.tape_image.specs.Plan.{plan_of_all};
 ghost use Rattle.host_core.specs.Core.{begun};
+ghost use Rattle.host_core.specs.Host.{IsHost};
+ghost use Rattle.odt_machine.specs.Machine.{IsMachine};
 ghost use Rattle.line_world.specs.Opening.{opened};
 ghost use Rattle.rehearsals.specs.Rehearsal.{after_puts, AllLie, IsRefusedPut, IsMachineFault, machine_of};
 
@@ -27,6 +29,7 @@ pub fn open(
     requires prompt { odt.mode ≡ Prompt }
     requires few { length waiting.now ≤ 32 }
     ensures ok { IfOk result (λ world. world ≡ opened odt (begun (plan_of_all tapes.now) 0 false patience) waiting.now) }
+    ensures host { IfOk result (λ world. IsHost world.core) }
     ensures err { IfErr result (λ fault. fault ≡ CommandFault.Memory) }
 {
     let plan = Plan::of_all(alloc, tapes)?;
@@ -46,6 +49,7 @@ pub fn open(
 /// A zeroed machine. `TooLarge` exactly above 28,672 words, else `Memory`.
 pub fn zeroed(alloc: Global, words: u16, style: Style) -> Result<Odt, CommandFault>
     ensures ok { IfOk result (λ odt. odt ≡ machine_of style (replicate words 0)) }
+    ensures machine { IfOk result IsMachine }
     ensures err { IfErr result (IsMachineFault words) }
 {
     match Odt::new(alloc, words, style) {

@@ -1,13 +1,10 @@
-use Rattle.std.proofs.Common.{rules, ℕ, ◌≤◌, ◌+◌, List, Option, Result, Ok, Err, OnErr, ◌++◌, length, take, arith}
+use Rattle.std.proofs.Common.{rules, ℕ, ◌≤◌, ◌+◌, List, Option, ◌++◌, length, take, arith}
 use Rattle.std.proofs.lemmas.List.{length-append, length-take}
 use Rattle.std.proofs.KnownBytes.{Consumes-trans}
 use Rattle.std.specs.Io.KnownBytes.{Consumes}
 use Rattle.command_io.specs.Input.{TakesAtMost}
+use Rattle.command_io.proofs.Faults.{on_err}
 use Rattle.command_io.proofs.input.read_up_to.Goals as goal
-
-on_err : {T E : Type 0} (r : Result T E) (P : Type 0) → P → OnErr r P
-on_err (Ok x) P h = tt
-on_err (Err e) P h = h
 
 -- bytes that were gathered, and then those of a read within the room that was left
 taken_more : (a b d : Option (List ℕ)) (bytes piece : List ℕ) (n limit : ℕ) → Consumes a b bytes → Consumes b d (take n piece)

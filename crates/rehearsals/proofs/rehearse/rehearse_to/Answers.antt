@@ -5,15 +5,22 @@ use Rattle.command_io.specs.Output.{WritesPrefix}
 use Rattle.rehearsals.specs.Rehearsal.{IsRehearseFault}
 use Rattle.command_io.specs.declared.fault.CommandFault.TheVariants.{Write}
 use Rattle.command_io.proofs.Faults.{fault_is}
-use Rattle.rehearsals.proofs.Rehearsals.{play_fault, rehearsed}
+use Rattle.rehearsals.proofs.Rehearsals.{play_fault, script_fault, rehearsed}
 use Rattle.rehearsals.proofs.rehearse.rehearse_to.Goals as goal
+
+pub returns-in_err-script-clause-err : goal.returns-in_err-script-clause-err
+returns-in_err-script-clause-err g c =
+    fault_is c.from_residual-in_err-script.result c.in_err-script.field-0.0
+    (IsRehearseFault (map g.R.Read.remaining c.args.tapes.now) (map g.R.Read.remaining c.take_tapes.new.inputs) (g.S.Read.remaining c.args.script.now) (g.W.Write.contents c.args.out.now) (g.W.Write.contents c.args.out.now))
+    c.from_residual-in_err-script.ensures.1
+    (script_fault _ _ _ _ _ (c.in_ok-taken.ensures.ok.texts, c.in_ok-taken.ensures.ok.taken) (Keeps-refl (g.W.Write.contents c.args.out.now)) c.in_err-script.ensures.err)
 
 pub returns-in_err-text-clause-err : goal.returns-in_err-text-clause-err
 returns-in_err-text-clause-err g c =
     fault_is c.from_residual-in_err-text.result c.in_err-text.field-0.0
     (IsRehearseFault (map g.R.Read.remaining c.args.tapes.now) (map g.R.Read.remaining c.take_tapes.new.inputs) (g.S.Read.remaining c.args.script.now) (g.W.Write.contents c.args.out.now) (g.W.Write.contents c.args.out.now))
     c.from_residual-in_err-text.ensures.1
-    (play_fault _ _ _ _ c.in_ok-script.script _ c.in_ok-script.ensures.ok (Keeps-refl (g.W.Write.contents c.args.out.now)) c.in_err-text.ensures.err)
+    (play_fault _ _ _ _ c.in_ok-script.script _ (c.in_ok-taken.ensures.ok.texts, c.in_ok-taken.ensures.ok.taken) c.in_ok-script.ensures.ok (Keeps-refl (g.W.Write.contents c.args.out.now)) c.in_err-text.ensures.err)
 
 pub returns-in_err-write_whole-clause-err : goal.returns-in_err-write_whole-clause-err
 returns-in_err-write_whole-clause-err g c =

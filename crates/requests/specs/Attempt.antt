@@ -170,7 +170,7 @@ IsFaulty CheckInput input input' out out' failure =
 IsFaulty (Check names) input input' out out' failure =
     OfFiles names.items (λ held rests. HasFault (IsCheckFault held rests out out') names.items (codes "standard input") failure) × (input' ≡ input)
 IsFaulty (Dialogue names console) input input' out out' failure =
-    OfFiles names.items (λ held rests. HasFault (IsDialogueFault held rests out out' console.words) names.items (codes "standard input") failure) × (input' ≡ input)
+    OfFiles names.items (λ held rests. HasFault (IsDialogueFault held rests out out' console.words console.style) names.items (codes "standard input") failure) × (input' ≡ input)
 IsFaulty (Rehearse tape script more) input input' out out' failure =
     OfFiles (tape ∷ more.items) (λ held rests. IsRehearsalFailure (tape ∷ more.items) script.now held rests out out' failure) × (input' ≡ input)
 IsFaulty (TypeKeys console) input input' out out' failure = IsTypingFailure console input input' out out' failure

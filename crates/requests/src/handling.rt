@@ -141,7 +141,7 @@ fn show_dialogue<'a, F: Files, W: Write>(
     out: &mut W,
 ) -> Result<Status, Failure<'a>>
     ensures ok { IfOk result (λ status. OfFiles names.now (λ held rests. (end : End) × IsDialogue held rests (W.contents out.old) (W.contents out.new) console.words console.style end × (status ≡ end_status end))) }
-    ensures err { IfErr result (λ failure. FailsUnopened names.now (W.contents out.old) (W.contents out.new) failure ⊎ OfFiles names.now (λ held rests. HasFault (IsDialogueFault held rests (W.contents out.old) (W.contents out.new) console.words) names.now (codes "standard input") failure)) }
+    ensures err { IfErr result (λ failure. FailsUnopened names.now (W.contents out.old) (W.contents out.new) failure ⊎ OfFiles names.now (λ held rests. HasFault (IsDialogueFault held rests (W.contents out.old) (W.contents out.new) console.words console.style) names.now (codes "standard input") failure)) }
 {
     let mut files = open_all(rt, alloc, names)?;
     dialogue(alloc, names, &mut files, console, out)
@@ -155,7 +155,7 @@ fn dialogue<'a, R: Read, W: Write>(
     out: &mut W,
 ) -> Result<Status, Failure<'a>>
     ensures ok { IfOk result (λ status. (end : End) × IsDialogue (map R.remaining tapes.old) (map R.remaining tapes.new) (W.contents out.old) (W.contents out.new) console.words console.style end × (status ≡ end_status end)) }
-    ensures err { IfErr result (HasFault (IsDialogueFault (map R.remaining tapes.old) (map R.remaining tapes.new) (W.contents out.old) (W.contents out.new) console.words) names.now (codes "standard input")) }
+    ensures err { IfErr result (HasFault (IsDialogueFault (map R.remaining tapes.old) (map R.remaining tapes.new) (W.contents out.old) (W.contents out.new) console.words console.style) names.now (codes "standard input")) }
 {
     match dialogue_to(alloc, tapes, console.words, console.style, out) {
         Ok(end) => Ok(Status::of_end(end)),

@@ -21,7 +21,7 @@ module _ (out out' out'' : Known) (kept : Keeps out' out'') where
   checked held rests is = record { texts = is.texts; taken = is.taken; written = Appends-kept out out' out'' _ is.written kept }
 
   dialogue : (held rests : List Known) (console : Console) (end : End) → IsDialogue held rests out out' console.words console.style end → IsDialogue held rests out out'' console.words console.style end
-  dialogue held rests console end is = record { texts = is.texts; taken = is.taken; last = is.last; run = is.run; written = Appends-kept out out' out'' _ is.written kept }
+  dialogue held rests console end is = record { text = is.text; is_text = is.is_text; written = Appends-kept out out' out'' is.text is.written kept }
 
   rehearsed : (held rests : List Known) → IsRehearsedInto held rests out out' → IsRehearsedInto held rests out out''
   rehearsed held rests is = record { script_held = is.script_held; text = is.text; rehearsed = is.rehearsed; written = Appends-kept out out' out'' _ is.written kept }

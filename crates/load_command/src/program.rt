@@ -6,15 +6,19 @@ ghost use Rattle.command_io.specs.TapeFile.{IsRefusedInput};
 ghost use Rattle.tape_check.specs.CheckText.{IsChecked};
 ghost use Rattle.requests.specs.Status.{status_code, IsCheckStatus};
 
-use crate::command_line::parse;
+use crate::command_line::{NoRequest, parse};
 use clap::Error;
 use clap::error::ErrorKind;
+use command_io::write_whole;
 use requests::{Failure, Status, attempt, tell};
 use std::alloc::Global;
 use std::io::{Print, Read, Write};
 use std::net::Net;
 use std::rt::Files;
 use std::time::Clock;
+
+/// What is said of words that the parser let pass and that mean nothing.
+const MEANINGLESS: &str = "ldaodt: the command line is not understood\n";
 
 /// Does what the words after the program's name ask for, and answers the exit status.
 ///
@@ -38,27 +42,37 @@ pub fn program<F: Files + Net + Clock, R: Read, W: Write, E: Write, T: Print>(
 {
     let status = match parse(alloc, words) {
         Ok(request) => attempt(rt, alloc, request, input, out, err, terminal),
-        Err(error) => explain(&error, out, err),
+        Err(NoRequest::Answered(error)) => explain(alloc, &error, out, err),
+        Err(NoRequest::Meaningless) => refuse(MEANINGLESS, err),
     };
     status.code()
 }
 
-/// Prints why there was nothing to do: help, the version, or what is wrong with the words.
-fn explain<W: Write, E: Write>(error: &Error, out: &mut W, err: &mut E) -> Status {
+/// Says why there was nothing to do: help, the version, or what is wrong with the words.
+fn explain<W: Write, E: Write>(alloc: Global, error: &Error, out: &mut W, err: &mut E) -> Status {
+    let Ok(text) = format!(in alloc; "{error}") else {
+        return tell(Failure::NoMemory, err);
+    };
     match error.kind() {
         ErrorKind::OutOfMemory => tell(Failure::NoMemory, err),
-        ErrorKind::DisplayHelp | ErrorKind::DisplayVersion => {
-            if write!(out, "{error}").is_ok() && out.flush().is_ok() {
-                Status::Done
-            } else {
-                tell(Failure::CannotWrite, err)
-            }
-        }
-        _ => {
-            let _ = write!(err, "{error}");
-            Status::BadCommandLine
-        }
+        ErrorKind::DisplayHelp | ErrorKind::DisplayVersion => show(alloc, &text, out, err),
+        _ => refuse(&text, err),
     }
+}
+
+/// Prints a text that was asked for.
+fn show<W: Write, E: Write>(alloc: Global, text: &str, out: &mut W, err: &mut E) -> Status {
+    if write_whole(out, text.as_bytes()).is_ok() && out.flush().is_ok() {
+        Status::Done
+    } else {
+        tell(Failure::CannotWrite, err)
+    }
+}
+
+/// Says what is wrong with the words, in one write.
+fn refuse<E: Write>(text: &str, err: &mut E) -> Status {
+    let _ = write_whole(err, text.as_bytes());
+    Status::BadCommandLine
 }
 
 #[cfg(test)]

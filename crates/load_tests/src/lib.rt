@@ -17,6 +17,4 @@ mod progress;
 #[cfg(test)]
 mod records;
 #[cfg(test)]
-mod simulated;
-#[cfg(test)]
 mod tapes;

@@ -47,6 +47,12 @@ const SMALL: Console = Console {
     style: PLAIN_STYLE,
 };
 
+/// A console over more memory than there may be.
+const TOO_LARGE: Console = Console {
+    words: 28_673,
+    style: PLAIN_STYLE,
+};
+
 /// A console with no memory.
 const NO_MEMORY: Console = Console {
     words: 0,
@@ -83,7 +89,7 @@ fn request(alloc: Global, asked: Asked) -> Result<Request<'static>, Fail> {
 type Row = (Asked, &'static [u8], Status, &'static str, &'static str);
 
 /// Requests, first those that are done and then those that can't be.
-const REQUESTS: [Row; 19] = [
+const REQUESTS: [Row; 30] = [
     (Asked::Input, &ONE_WORD, Status::Done, ONE_WORD_TEXT, ""),
     (
         Asked::Check(&["one-word.lda"]),
@@ -204,6 +210,83 @@ const REQUESTS: [Row; 19] = [
         Status::DeviceFailed,
         "",
         "ldaodt: cannot read no-such.lda\n",
+    ),
+    (
+        Asked::Check(&["no\nsuch\u{1b}.lda"]),
+        &[],
+        Status::DeviceFailed,
+        "",
+        "ldaodt: cannot read no\\nsuch\\u{1b}.lda\n",
+    ),
+    (
+        Asked::Check(&["one-word.lda", ""]),
+        &[],
+        Status::DeviceFailed,
+        "",
+        "ldaodt: cannot read ''\n",
+    ),
+    (
+        Asked::Dialogue(&["."], LARGEST),
+        &[],
+        Status::DeviceFailed,
+        "",
+        "ldaodt: cannot read .\n",
+    ),
+    (
+        Asked::Dialogue(&["one-word.lda", "./."], LARGEST),
+        &[],
+        Status::DeviceFailed,
+        "",
+        "ldaodt: cannot read ./.\n",
+    ),
+    (
+        Asked::Dialogue(&["no-such.lda"], LARGEST),
+        &[],
+        Status::DeviceFailed,
+        "",
+        "ldaodt: cannot read no-such.lda\n",
+    ),
+    (
+        Asked::Dialogue(&["bad-sum.lda"], TOO_LARGE),
+        &[],
+        Status::Refused,
+        "",
+        "ldaodt: tape refused at 0: BadSum\n",
+    ),
+    (
+        Asked::Dialogue(&["one-word.lda"], TOO_LARGE),
+        &[],
+        Status::BadCommandLine,
+        "",
+        "ldaodt: machine too large\n",
+    ),
+    (
+        Asked::Type(TOO_LARGE),
+        b"0/",
+        Status::BadCommandLine,
+        "",
+        "ldaodt: machine too large\n",
+    ),
+    (
+        Asked::Rehearse(".", "misspelled.script", &["./."]),
+        &[],
+        Status::DeviceFailed,
+        "",
+        "ldaodt: cannot read .\n",
+    ),
+    (
+        Asked::Rehearse("one-word.lda", ".", &[]),
+        &[],
+        Status::DeviceFailed,
+        "",
+        "ldaodt: cannot read .\n",
+    ),
+    (
+        Asked::Rehearse("one-word.lda", ".", &["./."]),
+        &[],
+        Status::DeviceFailed,
+        "",
+        "ldaodt: cannot read ./.\n",
     ),
 ];
 

@@ -12,6 +12,10 @@ mod checks;
 #[cfg(test)]
 mod endings;
 #[cfg(test)]
+mod faults;
+#[cfg(test)]
+mod keys;
+#[cfg(test)]
 mod tapes;
 #[cfg(test)]
 mod typing;

@@ -1,1 +1,7 @@
-pub mod Checks
+pub mod Errors
+pub mod Kept
+pub mod Lines
+pub mod Loads
+pub mod Names
+pub mod RecordNames
+pub mod Unopened

@@ -1,9 +1,15 @@
 -- How the program's failures are named, told and ended with (this project's own).
-use Rattle.std.specs.Prelude.{◌≡◌, ℕ, ◌-◌, nat_lt, if◌then◌else◌, List, ◌++◌, length, slice_get, Option, Some, None, codes, decimal, ⊤}
+use Rattle.std.specs.Prelude.{◌≡◌, ◌⊎◌, ℕ, ◌-◌, nat_lt, if◌then◌else◌, List, [], ◌∷◌, ◌++◌, length, slice_get, Option, Some, None, codes, decimal, encode_utf8}
 use Rattle.std.specs.Borrow.{Bor}
+use Rattle.std.specs.Char.{is_control}
+use Rattle.std.specs.Char.Escape.{escape_default}
+use Rattle.std.specs.List.{flat_map}
+use Rattle.std.specs.Str.{chars}
+use Rattle.std.specs.Io.KnownBytes.{Appends}
 use Rattle.tape_blocks.specs.Fault.{why_text, read_error_text}
 use Rattle.tape_blocks.specs.declared.fault.ReadError.TheVariants as reading
-use Rattle.command_io.specs.TapeFile.{IsRefusedInput}
+use Rattle.command_io.specs.Output.{WritesPrefix}
+use Rattle.command_io.specs.Text.{line}
 use Rattle.requests.specs.declared.failure.Failure.{Failure}
 use Rattle.requests.specs.declared.failure.OneTape.{OneTape}
 use Rattle.requests.specs.declared.failure.Failure.TheVariants.{CannotRead, CannotWrite, CannotWriteFile, CannotConnect, LineFailed, TapeRefused, OneTapeRefused, ScriptRefused, RecordRefused, TooLarge, BadWord, NoMemory}
@@ -26,7 +32,7 @@ status_of (CannotConnect address) = DeviceFailed
 status_of LineFailed = DeviceFailed
 status_of (TapeRefused refusal) = Refused
 status_of (OneTapeRefused tape) = Refused
-status_of (ScriptRefused line) = Refused
+status_of (ScriptRefused number) = Refused
 status_of (RecordRefused reason) = Refused
 status_of TooLarge = BadCommandLine
 status_of BadWord = BadCommandLine
@@ -36,21 +42,45 @@ status_of NoMemory = OutOfMemory
 abbrev pub one_tape_text : OneTape → List ℕ
 one_tape_text tape = decimal tape.number ++ (codes " refused at " ++ (decimal tape.fault.at ++ (codes ": " ++ why_text tape.fault.why)))
 
--- what a failure's line says, after the program's name
-abbrev pub failure_text : Failure → List ℕ
-failure_text (CannotRead name) = codes "cannot read " ++ name.now
-failure_text CannotWrite = codes "cannot write output"
-failure_text (CannotWriteFile name) = codes "cannot write " ++ name.now
-failure_text (CannotConnect address) = codes "cannot connect to " ++ address.now
-failure_text LineFailed = codes "line failed"
-failure_text (TapeRefused refusal) = read_error_text (reading.Tape refusal)
-failure_text (OneTapeRefused tape) = codes "tape " ++ one_tape_text tape
-failure_text (ScriptRefused line) = codes "script refused at line " ++ decimal line
-failure_text (RecordRefused why.NotARecord) = codes "record refused: NotARecord"
-failure_text (RecordRefused (why.Foreign line)) = codes "record refused at line " ++ decimal line
-failure_text TooLarge = codes "machine too large"
-failure_text BadWord = codes "a word of the command line is not UTF-8"
-failure_text NoMemory = read_error_text reading.Memory
+-- a character of a name, as a fault shows it: a control character by its escape, any other as it is
+abbrev pub shown_char : ℕ → List ℕ
+shown_char c = if is_control c then escape_default c else encode_utf8 c
+
+-- a name as a fault shows it: one that is empty by its quotes alone
+abbrev pub shown_name : List ℕ → List ℕ
+shown_name [] = codes "''"
+shown_name (b ∷ bs) = flat_map shown_char (chars (b ∷ bs))
+
+-- what a failure's line says after the program's name, up to the name at its end where it has one
+abbrev pub failure_words : Failure → List ℕ
+failure_words (CannotRead name) = codes "cannot read "
+failure_words CannotWrite = codes "cannot write output"
+failure_words (CannotWriteFile name) = codes "cannot write "
+failure_words (CannotConnect address) = codes "cannot connect to "
+failure_words LineFailed = codes "line failed"
+failure_words (TapeRefused refusal) = read_error_text (reading.Tape refusal)
+failure_words (OneTapeRefused tape) = codes "tape " ++ one_tape_text tape
+failure_words (ScriptRefused number) = codes "script refused at line " ++ decimal number
+failure_words (RecordRefused why.NotARecord) = codes "record refused: NotARecord"
+failure_words (RecordRefused (why.Foreign number)) = codes "record refused at line " ++ decimal number
+failure_words TooLarge = codes "machine too large"
+failure_words BadWord = codes "a word of the command line is not UTF-8"
+failure_words NoMemory = read_error_text reading.Memory
+
+-- the name at the end of a failure's line, where it has one
+abbrev pub failure_name : Failure → List ℕ
+failure_name (CannotRead name) = shown_name name.now
+failure_name (CannotWriteFile name) = shown_name name.now
+failure_name (CannotConnect address) = shown_name address.now
+failure_name other = []
+
+-- the line of a failure on standard error
+abbrev pub fault_line : Failure → List ℕ
+fault_line failure = line (codes "ldaodt: " ++ (failure_words failure ++ failure_name failure))
+
+-- standard error tells of a failure: its line was written there and nothing else; or, where that output fails, a prefix of the line
+abbrev pub IsTold : Option (List ℕ) → Option (List ℕ) → Failure → Type 0
+IsTold err err' failure = Appends err err' (fault_line failure) ⊎ WritesPrefix err err' (fault_line failure)
 
 -- the failure is that a file of this name can't be read
 abbrev pub NamesFile : List ℕ → Failure → Type 0
@@ -91,19 +121,10 @@ IsStopFailure stop.TurnsOver file failure = ⊥
 -- the failure that a command's fault is, where its tapes and its script have these names: of several tapes the number is told
 abbrev pub IsFailureOf : CommandFault → List (Bor (List ℕ)) → List ℕ → Failure → Type 0
 IsFailureOf (fault.Tape number refusal) tapes script failure = failure ≡ (if nat_lt 1 (length tapes) then OneTapeRefused (record { number = number; fault = refusal }) else TapeRefused refusal)
-IsFailureOf (fault.Script line) tapes script failure = failure ≡ ScriptRefused line
+IsFailureOf (fault.Script number) tapes script failure = failure ≡ ScriptRefused number
 IsFailureOf fault.TooLarge tapes script failure = failure ≡ TooLarge
 IsFailureOf (fault.ReadTape number) tapes script failure = NamesTape (slice_get tapes (number - 1)) failure
 IsFailureOf fault.ReadScript tapes script failure = NamesFile script failure
 IsFailureOf fault.ReadKeys tapes script failure = NamesFile (codes "standard input") failure
 IsFailureOf fault.Write tapes script failure = failure ≡ CannotWrite
 IsFailureOf fault.Memory tapes script failure = failure ≡ NoMemory
-
--- how a check of standard input fails: the tape is refused only where the input is, it can't be read, the output can't be
--- written, or want of memory
-abbrev pub IsCheckFailure : Option (List ℕ) → Failure → Type 0
-IsCheckFailure input (TapeRefused refusal) = IsRefusedInput input refusal
-IsCheckFailure input (CannotRead file) = file.now ≡ codes "standard input"
-IsCheckFailure input CannotWrite = ⊤
-IsCheckFailure input NoMemory = ⊤
-IsCheckFailure input other = ⊥

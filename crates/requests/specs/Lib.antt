@@ -1,2 +1,3 @@
-pub mod Status
+pub mod Attempt
 pub mod Failure
+pub mod Status

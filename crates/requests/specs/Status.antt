@@ -1,5 +1,5 @@
 -- The exit status of the program (this project's own).
-use Rattle.std.specs.Prelude.{ℕ, ⊤}
+use Rattle.std.specs.Prelude.{◌≡◌, ℕ}
 use Rattle.host_core.specs.declared.phase.End.{End}
 use Rattle.host_core.specs.declared.phase.End.TheVariants as end
 use Rattle.load_engine.specs.declared.stop.Stop.{Stop}
@@ -27,17 +27,9 @@ end_status end.GaveUp = NotLoaded
 end_status end.Uncertain = Uncertain
 end_status end.MaybeStarted = Uncertain
 
--- how the program ended where a load stopped so and was reported
-abbrev pub stop_status : Stop → Status
-stop_status (stop.Ended end) = end_status end
-stop_status (stop.LineFailed fault) = DeviceFailed
-stop_status (stop.KeepFailed fault) = DeviceFailed
-stop_status stop.TurnsOver = NotLoaded
-
--- the statuses that a check ends with
-abbrev pub IsCheckStatus : Status → Type 0
-IsCheckStatus Done = ⊤
-IsCheckStatus Refused = ⊤
-IsCheckStatus DeviceFailed = ⊤
-IsCheckStatus NoMemory = ⊤
-IsCheckStatus other = ⊥
+-- how the program ended where a load stopped so and was reported: where its line or its keeper failed, that is a failure and no ending
+abbrev pub IsStopStatus : Stop → Status → Type 0
+IsStopStatus (stop.Ended end) status = status ≡ end_status end
+IsStopStatus stop.TurnsOver status = status ≡ NotLoaded
+IsStopStatus (stop.LineFailed fault) status = ⊥
+IsStopStatus (stop.KeepFailed fault) status = ⊥

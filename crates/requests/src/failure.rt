@@ -3,7 +3,7 @@ use command_io::CommandFault;
 use load_record::RecordError;
 use machine_load::LoadFault;
 use std::fmt;
-use tape_blocks::{Fault, ReadError};
+use tape_blocks::Fault;
 
 /// Why the program did not do what it was asked, in the words of its line on standard error.
 #[derive(Clone, Copy, Debug, PartialEq, Eq)]
@@ -123,32 +123,3 @@ impl fmt::Display for OneTape {
 
 /// What standard input is called in place of a file's name.
 pub const STANDARD_INPUT: &str = "standard input";
-
-impl fmt::Display for Failure<'_> {
-    ghost use Rattle.std.specs.Prelude.{Some};
-    ghost use Rattle.requests.specs.Failure.{failure_text};
-
-    ghost output = { λ failure. Some (failure_text failure) };
-
-    fn fmt<W: fmt::Write>(&self, f: &mut fmt::Formatter<W>) -> fmt::Result {
-        match self {
-            Failure::CannotRead(name) => write!(f, "cannot read {name}"),
-            Failure::CannotWrite => f.write_str("cannot write output"),
-            Failure::CannotWriteFile(name) => write!(f, "cannot write {name}"),
-            Failure::CannotConnect(address) => write!(f, "cannot connect to {address}"),
-            Failure::LineFailed => f.write_str("line failed"),
-            Failure::TapeRefused(fault) => write!(f, "{}", ReadError::Tape(*fault)),
-            Failure::OneTapeRefused(tape) => write!(f, "tape {tape}"),
-            Failure::ScriptRefused(line) => write!(f, "script refused at line {line}"),
-            Failure::RecordRefused(RecordError::NotARecord) => {
-                f.write_str("record refused: NotARecord")
-            }
-            Failure::RecordRefused(RecordError::Foreign(line)) => {
-                write!(f, "record refused at line {line}")
-            }
-            Failure::TooLarge => f.write_str("machine too large"),
-            Failure::BadWord => f.write_str("a word of the command line is not UTF-8"),
-            Failure::NoMemory => write!(f, "{}", ReadError::Memory),
-        }
-    }
-}

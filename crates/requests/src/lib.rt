@@ -9,11 +9,16 @@
 #![tactic(auto)]
 
 mod failure;
+mod files;
 mod handling;
+mod loading;
 mod request;
 mod status;
+mod telling;
+mod words;
 
 pub use failure::{Failure, OneTape, STANDARD_INPUT};
-pub use handling::{attempt, tell};
+pub use handling::attempt;
 pub use request::{Console, Load, Request};
 pub use status::Status;
+pub use telling::tell;

@@ -1,0 +1,22 @@
+use Rattle.std.proofs.Common.{◌∷◌, ◌∙◌, length, inl, inr, refl, subst, ap, arith}
+use Rattle.requests.specs.Failure.{IsFailureOf}
+use Rattle.requests.proofs.Errors.{error_is}
+use Rattle.requests.proofs.Unopened.{more_unopened, of_files}
+use Rattle.requests.proofs.handling.rehearse.Goals as goal
+
+pub returns-in_err-open_more-clause-err : goal.returns-in_err-open_more-clause-err
+returns-in_err-open_more-clause-err g c =
+    error_is c.from_residual-in_err-open_more.result c.in_err-open_more.field-0.0 _ c.from_residual-in_err-open_more.ensures.1
+    (inl (more_unopened c.args.tape c.args.script c.args.more.now c.in_err-open_more.field-0.0 c.in_err-open_more.ensures.err, refl))
+
+pub returns-clause-err : goal.returns-clause-err
+returns-clause-err g c =
+    inr (of_files _ (c.args.tape ∷ c.args.more.now) c.deref_mut.result.now c.rehearse_to.new.tapes _
+    (let same = ap length c.deref_mut.ensures.value in let more = c.in_ok-open_more.ensures.ok in let one = c.in_ok-tapes.ensures.ok in omega arith) (
+      _,
+      record {
+        fault = c.in-Err.fault;
+        is_so = c.in-Err.ensures.err;
+        is_called = subst (λ names. IsFailureOf c.in-Err.fault names c.args.script.now c.of.result) (c.deref.ensures.value ∙ c.in_ok-names.ensures.ok) c.of.ensures;
+      },
+    ))

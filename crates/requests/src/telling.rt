@@ -1,0 +1,141 @@
+//! The line of a failure on standard error.
+//!
+//! It is gathered first and written in one write, so that nothing else can stand in its midst.
+ghost use Rattle.std.specs.Prelude.{◌≡◌, ◌<◌, OnOk, OnErr, IsTrue};
+ghost use Rattle.std.specs.Char.{is_control, digit_char};
+ghost use Rattle.std.specs.Char.Escape.{escape_default};
+ghost use Rattle.std.specs.Io.KnownBytes.{Appends};
+ghost use Rattle.command_io.specs.Output.{WritesPrefix};
+ghost use Rattle.requests.specs.Failure.{status_of, failure_name, fault_line, shown_char, shown_name, IsTold};
+
+use crate::failure::Failure;
+use crate::status::Status;
+use crate::words::line_words;
+use arrayvec::ArrayVec;
+use command_io::{WriteFailed, write_whole};
+use std::alloc::Global;
+use std::io::Write;
+
+/// A character as it is shown: four bytes, or an escape of six.
+type Shown = ArrayVec<u8, 6>;
+
+/// Prints the line of a failure, in one write, and answers the status that tells of it.
+///
+/// In a name a control character is shown by its escape, and an empty name by two quotes. A line that
+/// there is no memory for is written in pieces. What can't be written is not told.
+pub fn tell<E: Write>(alloc: Global, failure: Failure<'_>, err: &mut E) -> Status
+    ensures status { result ≡ status_of failure.entry }
+    ensures told { IsTold (E.contents err.old) (E.contents err.new) failure.entry }
+{
+    let _ = write_at_once(alloc, failure, err);
+    failure.status()
+}
+
+/// Writes a failure's line, in one write where there is memory to gather it in. The line that says there
+/// is none needs none.
+fn write_at_once<E: Write>(
+    alloc: Global,
+    failure: Failure<'_>,
+    err: &mut E,
+) -> Result<(), WriteFailed>
+    ensures ok { OnOk result (Appends (E.contents err.old) (E.contents err.new) (fault_line failure.entry)) }
+    ensures err { OnErr result (WritesPrefix (E.contents err.old) (E.contents err.new) (fault_line failure.entry)) }
+{
+    if let Failure::NoMemory = failure {
+        return write_whole(err, b"ldaodt: out of memory\n");
+    }
+    let mut gathered = Vec::new(alloc);
+    match write_line(&mut gathered, failure) {
+        Ok(()) => write_whole(err, &gathered),
+        Err(_) => write_line(err, failure),
+    }
+}
+
+/// Writes a failure's line in pieces. At the first write that fails it stops.
+fn write_line<W: Write>(out: &mut W, failure: Failure<'_>) -> Result<(), WriteFailed>
+    ensures ok { OnOk result (Appends (W.contents out.old) (W.contents out.new) (fault_line failure.entry)) }
+    ensures err { OnErr result (WritesPrefix (W.contents out.old) (W.contents out.new) (fault_line failure.entry)) }
+{
+    let words = line_words(failure)?;
+    write_whole(out, words.as_str().as_bytes())?;
+    write_shown_name(out, failure)?;
+    write_whole(out, b"\n")
+}
+
+/// Writes the name at the end of a failure's line, where it has one.
+fn write_shown_name<W: Write>(out: &mut W, failure: Failure<'_>) -> Result<(), WriteFailed>
+    ensures ok { OnOk result (Appends (W.contents out.old) (W.contents out.new) (failure_name failure.entry)) }
+    ensures err { OnErr result (WritesPrefix (W.contents out.old) (W.contents out.new) (failure_name failure.entry)) }
+{
+    match failure {
+        Failure::CannotRead(name) | Failure::CannotWriteFile(name) | Failure::CannotConnect(name) =>
+            write_name(out, name),
+        _ => Ok(()),
+    }
+}
+
+/// Writes a name as a fault shows it.
+fn write_name<W: Write>(out: &mut W, name: &str) -> Result<(), WriteFailed>
+    ensures ok { OnOk result (Appends (W.contents out.old) (W.contents out.new) (shown_name name.now)) }
+    ensures err { OnErr result (WritesPrefix (W.contents out.old) (W.contents out.new) (shown_name name.now)) }
+{
+    if name.is_empty() {
+        return write_whole(out, b"''");
+    }
+    for character in name.chars() {
+        let piece = shown(character);
+        write_whole(out, &piece)?;
+    }
+    Ok(())
+}
+
+/// A character as a fault shows it.
+fn shown(character: char) -> Shown
+    ensures { result.items ≡ shown_char character }
+{
+    if character.is_control() {
+        return escape(character);
+    }
+    let mut bytes = [0u8; 4];
+    let text = character.encode_utf8(&mut bytes);
+    let mut shown = Shown::new();
+    shown.try_extend_from_slice(text.as_bytes()).unwrap();
+    shown
+}
+
+/// The escape of a control character: `\n`, `\r`, `\t`, or its code in hexadecimal.
+fn escape(character: char) -> Shown
+    requires { IsTrue (is_control character) }
+    ensures { result.items ≡ escape_default character }
+{
+    let code = character as u32;
+    let mut escape = Shown::new();
+    escape.push(b'\\');
+    match code {
+        9 => escape.push(b't'),
+        10 => escape.push(b'n'),
+        13 => escape.push(b'r'),
+        _ => {
+            escape.push(b'u');
+            escape.push(b'{');
+            if code >= 16 {
+                escape.push(hex_digit(code / 16));
+            }
+            escape.push(hex_digit(code % 16));
+            escape.push(b'}');
+        }
+    }
+    escape
+}
+
+/// The hexadecimal digit of a number below 16.
+fn hex_digit(number: u32) -> u8
+    requires { number < 16 }
+    ensures { result ≡ digit_char number }
+{
+    if number < 10 {
+        b'0' + number as u8
+    } else {
+        b'a' + (number - 10) as u8
+    }
+}

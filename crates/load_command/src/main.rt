@@ -22,7 +22,7 @@ fn main(rt: HostRuntime) -> ExitCode {
     let mut err = rt.stderr();
     let words = match words::words_of(&rt) {
         Ok(words) => words,
-        Err(failure) => return ExitCode::from(tell(failure, &mut err).code()),
+        Err(failure) => return ExitCode::from(tell(alloc, failure, &mut err).code()),
     };
     let screen = rt.stderr();
     let terminal = screen.is_terminal().then_some(&screen);

@@ -1,11 +1,24 @@
-//! Inputs that fail once and would then go on, where no other crate's tests have them.
+//! Devices that fail once and would then go on, where no other crate's tests have them: the tape of a
+//! dialogue, and the record of a load, as it is read and as it is written.
 
 use crate::tapes::ONE_WORD;
-use command_io::CommandFault;
-use failing_devices::BrokenInput;
-use odt_machine::{LARGEST_WORDS, PLAIN_STYLE};
+use command_io::{CommandFault, InputFault, read_up_to};
+use failing_devices::{BrokenInput, BrokenOutput};
+use honest_line::MemoryLine;
+use host_core::End;
+use load_devices::{KeepFault, LineFault};
+use load_engine::Stop;
+use load_record::{FileKeep, RECORD_LIMIT};
+use machine_load::{BeginFault, LoadFault, Surroundings, Unwatched, load};
+use odt_machine::{LARGEST_WORDS, Odt, PLAIN_STYLE};
 use rehearsals::dialogue_to;
-use std::slice;
+use std::alloc::Global;
+use std::cell::RefCell;
+use std::io::{ErrorKind, Write};
+use std::test::Fail;
+use std::{io, slice};
+use tape_blocks::read_tape;
+use tape_image::Plan;
 
 #[test]
 fn the_tape_of_a_dialogue(rt: HostRuntime) {
@@ -24,4 +37,217 @@ fn the_tape_of_a_dialogue(rt: HostRuntime) {
         assert!(rt; out.is_empty(), "byte {place}");
         assert_eq!(rt; (tape.failures, tape.later_reads), (1, 0), "byte {place}");
     }
+}
+
+/// An output that is looked at once the load has let it go.
+#[derive(Drop)]
+struct SharedOutput<'a> {
+    output: &'a RefCell<BrokenOutput>,
+}
+
+impl Write for SharedOutput<'_> {
+    fn write(&mut self, buf: &[u8]) -> io::Result<usize> {
+        match self.output.try_borrow_mut() {
+            Ok(mut output) => output.write(buf),
+            Err(_) => Err(io::Error::from(ErrorKind::Other)),
+        }
+    }
+
+    fn flush(&mut self) -> io::Result<()> {
+        Ok(())
+    }
+}
+
+/// A console in memory, and a record whose input and output may fail.
+#[derive(Drop)]
+struct Frail<'a> {
+    input: BrokenInput<'a>,
+    line: Option<MemoryLine>,
+    output: &'a RefCell<BrokenOutput>,
+}
+
+impl<'a> Surroundings for Frail<'a> {
+    type Line = MemoryLine;
+
+    type Keeper = FileKeep<SharedOutput<'a>>;
+
+    fn read_record(&mut self, alloc: Global) -> Result<Vec<u8>, InputFault> {
+        read_up_to(alloc, &mut self.input, RECORD_LIMIT + 1)
+    }
+
+    fn connect(&mut self) -> Result<MemoryLine, LineFault> {
+        match self.line.take() {
+            Some(line) => Ok(line),
+            None => Err(LineFault::Connect),
+        }
+    }
+
+    fn begin_record(
+        &mut self,
+        _alloc: Global,
+        plan: &Plan,
+        verified: u32,
+    ) -> Result<FileKeep<SharedOutput<'a>>, BeginFault> {
+        let output = self.output;
+        let mut keeper = FileKeep::new(SharedOutput { output });
+        keeper.begin(plan, verified)?;
+        Ok(keeper)
+    }
+}
+
+/// The plan of the smallest tape.
+fn plan(alloc: Global) -> Result<Plan, Fail> {
+    let (tape, _) = read_tape(alloc, &ONE_WORD)?;
+    Ok(Plan::of(alloc, &tape)?)
+}
+
+/// The record of the smallest tape's word, without the mark.
+const VERIFIED: &[u8] = b"LDAODT 1\n001000 177777 011064\n";
+
+/// A place that no record has.
+const NOWHERE: usize = usize::MAX;
+
+/// A line to a machine that holds this at 001000.
+fn line(alloc: Global, word: u16) -> Result<MemoryLine, Fail> {
+    let mut odt = Odt::new(alloc, LARGEST_WORDS, PLAIN_STYLE)?;
+    odt.put(0o001000, word);
+    Ok(MemoryLine::new(alloc, odt, Vec::new(alloc), 1000, None)?)
+}
+
+#[test]
+fn the_record_that_is_read(rt: HostRuntime) -> Result<(), Fail> {
+    for place in 0..=VERIFIED.len() {
+        let output = RefCell::new(BrokenOutput::new(Vec::new(rt.alloc()), 1));
+        let mut around = Frail {
+            input: BrokenInput::new(VERIFIED, place),
+            line: Some(line(rt.alloc(), 0)?),
+            output: &output,
+        };
+        let mut out = Vec::new(rt.alloc());
+        let done = load(
+            rt.alloc(),
+            plan(rt.alloc())?,
+            8,
+            &mut around,
+            &mut out,
+            &Unwatched,
+        );
+        assert_eq!(rt; done, Err(LoadFault::ReadRecord), "byte {place}");
+        assert!(rt; out.is_empty(), "byte {place}");
+        let input = &around.input;
+        assert_eq!(rt; (input.failures, input.later_reads), (1, 0), "byte {place}");
+        assert!(rt; around.line.is_some(), "nobody connected, at {place}");
+        drop(around);
+        assert_eq!(rt;
+            output.into_inner().failures,
+            0,
+            "nothing was begun, at {place}"
+        );
+    }
+    Ok(())
+}
+
+/// The whole record of a load of the smallest tape.
+const RECORD: &[u8] = b"LDAODT 2\n001000 011064\nG\n";
+
+/// How a load ends.
+type Outcome = Result<Stop, LoadFault>;
+
+/// The record could not be begun.
+const UNBEGUN: Outcome = Err(LoadFault::WriteRecord);
+
+/// A word or the mark could not be kept.
+const UNKEPT: Outcome = Ok(Stop::KeepFailed(KeepFault::Write));
+
+/// A load that was begun with a record, the word in the machine's memory, which write of its own record
+/// fails, and then how it ends, how many bytes of that record were written before, and what is reported.
+type Row = (&'static [u8], u16, u32, Outcome, usize, &'static str);
+
+/// A write takes seven bytes at most: two for the header, two for the word, one for the mark.
+const WRITES: [Row; 10] = [
+    (b"", 0, 1, UNBEGUN, 0, ""),
+    (b"", 0, 2, UNBEGUN, 7, ""),
+    (
+        b"",
+        0,
+        3,
+        UNKEPT,
+        9,
+        "sent 23 spent 0 verified 1 of 1\nend KeepFailed\n",
+    ),
+    (
+        b"",
+        0,
+        4,
+        UNKEPT,
+        16,
+        "sent 23 spent 0 verified 1 of 1\nend KeepFailed\n",
+    ),
+    (
+        b"",
+        0,
+        5,
+        UNKEPT,
+        22,
+        "sent 30 spent 0 verified 1 of 1\nend KeepFailed\n",
+    ),
+    (
+        b"",
+        0,
+        6,
+        Ok(Stop::Ended(End::Started)),
+        25,
+        "sent 30 spent 0 verified 1 of 1\nend Started\n",
+    ),
+    (VERIFIED, 0o011064, 3, UNBEGUN, 9, ""),
+    (VERIFIED, 0o011064, 4, UNBEGUN, 16, ""),
+    (
+        VERIFIED,
+        0o011064,
+        5,
+        UNKEPT,
+        22,
+        "sent 8 spent 0 verified 1 of 1\nend KeepFailed\n",
+    ),
+    (
+        VERIFIED,
+        0o011064,
+        6,
+        Ok(Stop::Ended(End::Started)),
+        25,
+        "sent 8 spent 0 verified 1 of 1\nend Started\n",
+    ),
+];
+
+#[test]
+fn the_record_that_is_written(rt: HostRuntime) -> Result<(), Fail> {
+    for row in &WRITES {
+        let (record, word, number, ended, written, report) = *row;
+        let output = RefCell::new(BrokenOutput::new(Vec::new(rt.alloc()), number));
+        let mut around = Frail {
+            input: BrokenInput::new(record, NOWHERE),
+            line: Some(line(rt.alloc(), word)?),
+            output: &output,
+        };
+        let mut out = Vec::new(rt.alloc());
+        let done = load(
+            rt.alloc(),
+            plan(rt.alloc())?,
+            8,
+            &mut around,
+            &mut out,
+            &Unwatched,
+        );
+        assert_eq!(rt; done, ended, "write {number}");
+        assert!(rt; out.as_slice() == report.as_bytes(), "write {number}");
+        drop(around);
+        let output = output.into_inner();
+        assert_eq!(rt; output.later_writes, 0, "write {number}");
+        assert_eq!(rt; output.written.len(), written, "write {number}");
+        assert!(rt;
+            RECORD.starts_with(output.written.as_slice()),
+            "write {number}"
+        );
+    }
+    Ok(())
 }

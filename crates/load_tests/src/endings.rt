@@ -3,7 +3,7 @@
 use crate::tapes::{NO_WORD, ONE_WORD, TWO_WORDS};
 use failing_devices::{BrokenOutput, UnflushedOutput};
 use requests::{Load, Request, Status, attempt};
-use simulated_system::{AMPLE, Setting, System};
+use simulated_system::{AMPLE, QUIET_MS, Setting, System};
 use std::alloc::Global;
 use std::fs;
 use std::io::{ErrorKind, Stderr};
@@ -16,6 +16,9 @@ const NOBODY: Option<&Stderr> = None;
 const WHOLE: &str = "LDAODT 1\n001000 177777 011064\nG\n";
 
 const WHOLE_ANEW: &str = "LDAODT 2\n001000 011064\nG\n";
+
+/// How many mishaps a load survives.
+const PATIENCE: u32 = 3;
 
 /// A load, and what must come of it.
 #[derive(Clone, Copy, Debug)]
@@ -50,7 +53,7 @@ const STARTED: Row = Row {
 /// A record of the smallest tape's word, without the mark.
 const VERIFIED: &str = "LDAODT 1\n001000 177777 011064\n";
 
-const ROWS: [Row; 15] = [
+const ROWS: [Row; 16] = [
     STARTED,
     Row {
         name: "nothing to do",
@@ -181,6 +184,17 @@ const ROWS: [Row; 15] = [
         ..STARTED
     },
     Row {
+        name: "a console that answers nothing: one key to begin with and one for each mishap",
+        setting: Setting {
+            deaf: true,
+            ..AMPLE
+        },
+        after: Some("LDAODT 2\n"),
+        status: Status::NotLoaded,
+        out: "sent 4 spent 3 verified 0 of 1\nend GaveUp\n",
+        ..STARTED
+    },
+    Row {
         name: "a tape with a stray byte",
         tape: b"A",
         after: None,
@@ -193,7 +207,7 @@ const ROWS: [Row; 15] = [
 ];
 
 /// A load of a tape, recorded under this name.
-fn load_of(alloc: Global, record: Option<&str>) -> Result<Request<'_>, Fail> {
+pub fn load_of(alloc: Global, record: Option<&str>) -> Result<Request<'_>, Fail> {
     let mut tapes = Vec::new(alloc);
     tapes.push("a.lda")?;
     Ok(Request::Load(
@@ -201,8 +215,8 @@ fn load_of(alloc: Global, record: Option<&str>) -> Result<Request<'_>, Fail> {
         Load {
             address: "127.0.0.1:2323",
             record,
-            patience: 8,
-            quiet_ms: 2000,
+            patience: PATIENCE,
+            quiet_ms: QUIET_MS,
         },
     ))
 }
@@ -319,12 +333,11 @@ fn a_report_that_can_not_be_written_is_told_alone(rt: HostRuntime) -> Result<(),
     fs::write(&rt, "a.lda", ONE_WORD)?;
     let wanted: &[u8] = b"ldaodt: cannot write output\n";
     for setting in &UNREPORTED {
-        let system = System::new(&rt, *setting);
         let mut input: &[u8] = &[];
         let mut out = BrokenOutput::new(Vec::new(rt.alloc()), 1);
         let mut err = Vec::new(rt.alloc());
         let status = attempt(
-            &system,
+            &System::new(&rt, *setting),
             rt.alloc(),
             load_of(rt.alloc(), None)?,
             &mut input,
@@ -338,7 +351,7 @@ fn a_report_that_can_not_be_written_is_told_alone(rt: HostRuntime) -> Result<(),
         err.clear();
         let mut out = UnflushedOutput;
         let status = attempt(
-            &system,
+            &System::new(&rt, *setting),
             rt.alloc(),
             load_of(rt.alloc(), None)?,
             &mut input,
@@ -349,5 +362,28 @@ fn a_report_that_can_not_be_written_is_told_alone(rt: HostRuntime) -> Result<(),
         assert_eq!(rt; status, Status::DeviceFailed);
         assert!(rt; err.as_slice() == wanted);
     }
+    Ok(fs::remove_file(&rt, "a.lda")?)
+}
+
+/// The longest record that is read, in bytes.
+const LONGEST: usize = 1_048_576;
+
+#[test]
+fn a_record_that_is_too_long_is_none(rt: HostRuntime) -> Result<(), Fail> {
+    fs::write(&rt, "a.lda", ONE_WORD)?;
+    // Behind the header nothing but a torn piece, which is dropped.
+    let mut record = Vec::from_slice(rt.alloc(), b"LDAODT 1\n")?;
+    record.resize(LONGEST + 1, b'x')?;
+    fs::write(&rt, "a.record", record.as_slice())?;
+    let refused = load(&rt, AMPLE, load_of(rt.alloc(), Some("a.record"))?);
+    assert_eq!(rt; refused.status, Status::Refused);
+    let wanted: &[u8] = b"ldaodt: record refused: NotARecord\n";
+    assert!(rt; refused.err.as_slice() == wanted);
+    record.truncate(LONGEST);
+    fs::write(&rt, "a.record", record.as_slice())?;
+    let ended = load(&rt, AMPLE, load_of(rt.alloc(), Some("a.record"))?);
+    assert_eq!(rt; ended.status, Status::Done);
+    assert!(rt; holds(&rt, "a.record", Some(WHOLE_ANEW)));
+    forget(&rt, "a.record")?;
     Ok(fs::remove_file(&rt, "a.lda")?)
 }

@@ -17,4 +17,8 @@ mod progress;
 #[cfg(test)]
 mod records;
 #[cfg(test)]
+mod replacing;
+#[cfg(test)]
+mod scarce;
+#[cfg(test)]
 mod tapes;

@@ -1,12 +1,17 @@
 //! What a person sees while a load goes on.
 
+use crate::endings::load_of;
+use crate::tapes::ONE_WORD;
 use machine_load::{Onlooker, ProgressLine};
+use requests::{Status, attempt};
+use simulated_system::{AMPLE, System};
+use std::alloc::Global;
 use std::cell::{Cell, RefCell};
 use std::fmt::Display;
-use std::io;
 use std::io::Print;
 use std::test::Fail;
 use std::time::{Clock, Duration};
+use std::{fs, io};
 
 /// A clock that stands where it is set, in milliseconds.
 #[derive(Drop)]
@@ -29,6 +34,15 @@ impl Clock for SetClock {
 struct LastText {
     text: RefCell<Vec<u8>>,
     writes: Cell<u32>,
+}
+
+impl LastText {
+    fn new(alloc: Global) -> LastText {
+        LastText {
+            text: RefCell::new(Vec::new(alloc)),
+            writes: Cell::new(0),
+        }
+    }
 }
 
 impl Print for LastText {
@@ -103,10 +117,7 @@ fn a_load_is_shown_at_its_pace(rt: HostRuntime) -> Result<(), Fail> {
     let clock = SetClock {
         millis: Cell::new(0),
     };
-    let terminal = LastText {
-        text: RefCell::new(Vec::new(rt.alloc())),
-        writes: Cell::new(0),
-    };
+    let terminal = LastText::new(rt.alloc());
     let line = ProgressLine::new(&clock, &terminal);
     line.begins(500, 2000);
     for row in &STORY {
@@ -131,4 +142,27 @@ fn holds(terminal: &LastText, text: &str) -> bool {
         Ok(shown) => shown.as_slice() == text.as_bytes(),
         Err(_) => false,
     }
+}
+
+#[test]
+fn nothing_of_it_is_left_behind_a_load(rt: HostRuntime) -> Result<(), Fail> {
+    fs::write(&rt, "a.lda", ONE_WORD)?;
+    let terminal = LastText::new(rt.alloc());
+    let mut input: &[u8] = &[];
+    let mut out = Vec::new(rt.alloc());
+    let mut err = Vec::new(rt.alloc());
+    let status = attempt(
+        &System::new(&rt, AMPLE),
+        rt.alloc(),
+        load_of(rt.alloc(), None)?,
+        &mut input,
+        &mut out,
+        &mut err,
+        Some(&terminal),
+    );
+    assert_eq!(rt; status, Status::Done);
+    // The clock stands still, so that the line is shown once, and then cleared.
+    assert_eq!(rt; terminal.writes.get(), 2);
+    assert!(rt; holds(&terminal, "\r\x1b[K"));
+    Ok(fs::remove_file(&rt, "a.lda")?)
 }

@@ -2,7 +2,8 @@
 //!
 //! A `Famine` takes all memory, and then leaves rooms that grow: a call that is tried in each of them
 //! has its growths refused in turn, until a room serves. It goes by the address space, and expects the
-//! system's usual answer to requests for more memory than the machine has (overcommit 0).
+//! system's usual answer to requests for more memory than the machine has (overcommit 0). Where no
+//! address is free the stack can't grow either, so a good piece of it is there before.
 //!
 //! What a try needs beside the call, inputs and room for outputs, is made before the famine begins.
 //! The tests of the library and of the commands use it; the program does not.
@@ -31,6 +32,13 @@ const SMALL: usize = 1040;
 /// How many blocks may be taken in all.
 const BLOCKS: usize = 200_000;
 
+/// How much of the stack is there in a famine, in pages: 2 MiB, more than a call of the tests needs, and a
+/// quarter of what the system usually allows.
+const STACK_PAGES: usize = 512;
+
+/// How many bytes a page of the stack has.
+const PAGE: usize = 4096;
+
 /// All memory but what it leaves.
 #[derive(Drop)]
 pub struct Famine {
@@ -44,6 +52,9 @@ impl Famine {
     pub fn begin(alloc: Global) -> Result<Famine, AllocError>
         ensures { IfOk result (λ famine. famine.room ≡ 0) }
     {
+        if !uses_stack(1) {
+            return Err(AllocError);
+        }
         let mut regions = Vec::with_capacity(alloc, ROOMS)?;
         let taken = Vec::with_capacity(alloc, BLOCKS)?;
         for _ in 0..ROOMS {
@@ -77,6 +88,20 @@ impl Famine {
     }
 }
 
+/// Writes many pages of the stack, so that the system has them mapped from then on, and answers whether they
+/// hold what was written, as they do: what nobody reads might be left out.
+// In the frame of its caller the pages would lie above the calls that are to find them.
+#[inline(never)]
+fn uses_stack(mark: u8) -> bool {
+    let pages = [[mark; PAGE]; STACK_PAGES];
+    is_marked(&pages, mark)
+}
+
+/// Whether the mark is on every page.
+fn is_marked(pages: &[[u8; PAGE]], mark: u8) -> bool {
+    pages.iter().all(|page| page.contains(&mark))
+}
+
 /// Takes what memory there is.
 fn take_all(alloc: Global, taken: &mut Vec<Vec<u8>>) -> Result<(), AllocError> {
     for power in (11..47u32).rev() {
@@ -98,3 +123,6 @@ fn take(alloc: Global, taken: &mut Vec<Vec<u8>>, size: usize) -> Result<(), Allo
     }
     Ok(())
 }
+
+#[cfg(test)]
+mod tests;

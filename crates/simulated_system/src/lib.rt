@@ -1,4 +1,4 @@
-//! A system for tests: its files are real, but have room for so many bytes alone, and behind every
+//! A system for tests: its files are real, but have room for so many bytes alone, and behind one
 //! address of its network answers a simulated console, which may close the line after a while.
 //!
 //! The tests of `load` use it, over requests and over the words of a command line; the program does not.
@@ -6,12 +6,12 @@
 
 use arrayvec::ArrayVec;
 use odt_machine::{LARGEST_WORDS, Odt, PLAIN_STYLE};
-use std::alloc::Allocator;
+use std::alloc::{Allocator, Global};
 use std::cell::Cell;
 use std::fs::{File, Metadata, OpenFile, OpenOptions};
 use std::io;
 use std::io::{ErrorKind, Read, Seek, SeekFrom, Write};
-use std::net::{Net, OpenListener, OpenStream, SocketAddr};
+use std::net::{Ipv4Addr, Net, OpenListener, OpenStream, SocketAddr};
 use std::os::fd::{AsRawFd, RawFd};
 use std::rt::Files;
 use std::time::{Clock, Duration};
@@ -26,6 +26,9 @@ pub struct Setting {
     /// How many reads the console answers before it closes the line; with none nobody listens.
     pub reads: u32,
 
+    /// Whether the console answers no key at all.
+    pub deaf: bool,
+
     /// How many bytes each new file takes.
     pub room: usize,
 }
@@ -35,15 +38,34 @@ pub const AMPLE: Setting = Setting {
     words: LARGEST_WORDS,
     memory: &[],
     reads: 1_000_000,
+    deaf: false,
     room: 1_000_000,
 };
+
+/// Where the console is: this port of 127.0.0.1.
+pub const PORT: u16 = 2323;
+
+/// How long silence lasts there, in milliseconds. A console takes no other time limit.
+pub const QUIET_MS: u32 = 2000;
 
 /// A system of one setting.
 #[derive(Drop)]
 pub struct System<'a> {
     rt: &'a HostRuntime,
     setting: Setting,
+
+    /// The console's machine, until somebody is connected to it: to connect takes no memory.
+    machine: Cell<Option<Odt>>,
     connections: Cell<u32>,
+}
+
+/// The machine of a setting, where there is memory for it.
+fn machine_of(alloc: Global, setting: Setting) -> Option<Odt> {
+    let mut odt = Odt::new(alloc, setting.words, PLAIN_STYLE).ok()?;
+    for (address, value) in setting.memory {
+        odt.put(*address, *value);
+    }
+    Some(odt)
 }
 
 impl<'a> System<'a> {
@@ -51,6 +73,7 @@ impl<'a> System<'a> {
         System {
             rt,
             setting,
+            machine: Cell::new(machine_of(rt.alloc(), setting)),
             connections: Cell::new(0),
         }
     }
@@ -67,6 +90,7 @@ pub struct Console {
     odt: Odt,
     answer: ArrayVec<u8, 64>,
     reads: u32,
+    deaf: bool,
 }
 
 impl Read for Console {
@@ -88,6 +112,7 @@ impl Read for Console {
 impl Write for Console {
     fn write(&mut self, buf: &[u8]) -> io::Result<usize> {
         match buf.first() {
+            Some(_) if self.deaf => Ok(1),
             Some(key) => {
                 let answer = self.odt.take(*key);
                 let _ = self.answer.try_extend_from_slice(&answer);
@@ -103,8 +128,12 @@ impl Write for Console {
 }
 
 impl OpenStream for Console {
-    fn set_read_timeout(&self, _time: Option<Duration>) -> io::Result<()> {
-        Ok(())
+    fn set_read_timeout(&self, time: Option<Duration>) -> io::Result<()> {
+        if time == Some(Duration::from_millis(u64::from(QUIET_MS))) {
+            Ok(())
+        } else {
+            Err(io::Error::from(ErrorKind::InvalidInput))
+        }
     }
 }
 
@@ -123,22 +152,21 @@ impl Net for System<'_> {
         Err(io::Error::from(ErrorKind::Unsupported))
     }
 
-    fn connect(&self, _address: SocketAddr) -> io::Result<Console> {
+    fn connect(&self, address: SocketAddr) -> io::Result<Console> {
         self.connections
             .set(self.connections.get().saturating_add(1));
-        if self.setting.reads == 0 {
+        let is_there = address == SocketAddr::from((Ipv4Addr::LOCALHOST, PORT));
+        if self.setting.reads == 0 || !is_there {
             return Err(io::Error::from(ErrorKind::ConnectionRefused));
         }
-        let Ok(mut odt) = Odt::new(self.rt.alloc(), self.setting.words, PLAIN_STYLE) else {
-            return Err(io::Error::from(ErrorKind::OutOfMemory));
+        let Some(odt) = self.machine.replace(None) else {
+            return Err(io::Error::from(ErrorKind::ConnectionRefused));
         };
-        for (address, value) in self.setting.memory {
-            odt.put(*address, *value);
-        }
         Ok(Console {
             odt,
             answer: ArrayVec::new(),
             reads: self.setting.reads,
+            deaf: self.setting.deaf,
         })
     }
 }

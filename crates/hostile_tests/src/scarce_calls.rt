@@ -4,20 +4,16 @@ use crate::tapes::{NOTHING, ONE_WORD, OVERLAP, PADDED, WRONG_SUM};
 use honest_line::MemoryLine;
 use load_devices::{Keep, Line, MemoryKeep};
 use odt_machine::{LARGEST_WORDS, Odt, PLAIN_STYLE};
+use scarce_memory::{Famine, ROOMS};
 use std::alloc::Global;
-use std::slice;
 use std::test::Fail;
-use tape_blocks::{
-    Fault, Fed, FromError, ReadError, Tape, TapeReader, Why, read_from, read_tape, write_tape,
-};
+use tape_blocks::{Fault, ReadError, Tape, Why, read_tape, write_tape};
 use tape_image::Plan;
 
 /// A call that takes memory.
 #[derive(Clone, Copy, Debug)]
 enum Call {
     Read,
-    ReadFrom,
-    Feed,
     Write,
     Plan,
     PlanOfAll,
@@ -33,8 +29,6 @@ enum Answer {
     Tape(usize, u32),
     /// The tape is refused.
     Refused(Fault),
-    /// An input that is in memory could not be read, or want of memory was forgotten.
-    Wrong,
     /// A text of so many bytes.
     Text(usize),
     /// A plan of so many words.
@@ -53,7 +47,7 @@ const WRONG_SUM_FAULT: Fault = Fault {
 
 /// Calls, the texts of the tapes that they have, what they answer with ample memory, and why the row
 /// is here.
-const CALLS: [(Call, &[&[u8]], Answer, &str); 16] = [
+const CALLS: [(Call, &[&[u8]], Answer, &str); 12] = [
     (Call::Read, &[&ONE_WORD], Answer::Tape(1, 16), "one block"),
     (
         Call::Read,
@@ -63,30 +57,6 @@ const CALLS: [(Call, &[&[u8]], Answer, &str); 16] = [
     ),
     (
         Call::Read,
-        &[&WRONG_SUM],
-        Answer::Refused(WRONG_SUM_FAULT),
-        "a refusal waits behind the growths",
-    ),
-    (
-        Call::ReadFrom,
-        &[&PADDED],
-        Answer::Tape(1, 59),
-        "bytes around it",
-    ),
-    (
-        Call::ReadFrom,
-        &[&WRONG_SUM],
-        Answer::Refused(WRONG_SUM_FAULT),
-        "a refusal waits behind the growths",
-    ),
-    (
-        Call::Feed,
-        &[&ONE_WORD],
-        Answer::Tape(1, 16),
-        "byte by byte",
-    ),
-    (
-        Call::Feed,
         &[&WRONG_SUM],
         Answer::Refused(WRONG_SUM_FAULT),
         "a refusal waits behind the growths",
@@ -120,42 +90,6 @@ fn read(alloc: Global, text: &[u8]) -> Option<Answer> {
     }
 }
 
-fn take(alloc: Global, mut input: &[u8]) -> Option<Answer> {
-    match read_from(alloc, &mut input) {
-        Ok((tape, length)) => Some(Answer::Tape(tape.blocks().len(), length)),
-        Err(FromError::Tape(fault)) => Some(Answer::Refused(fault)),
-        Err(FromError::Memory) => None,
-        Err(FromError::Io) => Some(Answer::Wrong),
-    }
-}
-
-/// Feeds a text byte by byte, up to the end of the tape.
-fn feed(alloc: Global, text: &[u8]) -> Option<Answer> {
-    let mut reader = TapeReader::new(alloc);
-    let mut length: u32 = 0;
-    for byte in text {
-        length = length.saturating_add(1);
-        match reader.feed(slice::from_ref(byte)) {
-            Ok(Fed::More) => {}
-            Ok(Fed::Done(_)) => break,
-            Err(ReadError::Tape(fault)) => return Some(Answer::Refused(fault)),
-            Err(ReadError::Memory) => return remembered(reader, text),
-        }
-    }
-    match reader.finish() {
-        Ok(tape) => Some(Answer::Tape(tape.blocks().len(), length)),
-        Err(_) => Some(Answer::Wrong),
-    }
-}
-
-/// A reader that wanted memory once goes on to say so.
-fn remembered(mut reader: TapeReader, text: &[u8]) -> Option<Answer> {
-    let fed = reader.feed(text);
-    let finished = reader.finish().err();
-    let remembers = fed == Err(ReadError::Memory) && finished == Some(ReadError::Memory);
-    if remembers { None } else { Some(Answer::Wrong) }
-}
-
 fn machine(alloc: Global) -> Option<Answer> {
     let odt = Odt::new(alloc, LARGEST_WORDS, PLAIN_STYLE).ok()?;
     Some(Answer::Machine(odt.peek(0o157776)))
@@ -177,8 +111,6 @@ fn keeper(alloc: Global) -> Option<Answer> {
 fn ask(alloc: Global, call: Call, texts: &[&[u8]], tapes: &[Tape]) -> Option<Answer> {
     match call {
         Call::Read => read(alloc, texts.first()?),
-        Call::ReadFrom => take(alloc, texts.first()?),
-        Call::Feed => feed(alloc, texts.first()?),
         Call::Write => {
             let text = write_tape(alloc, tapes.first()?).ok()?;
             Some(Answer::Text(text.len()))
@@ -208,6 +140,24 @@ fn tapes_of(alloc: Global, texts: &[&[u8]]) -> Result<Vec<Tape>, Fail> {
     Ok(tapes)
 }
 
+/// The first answer but that for want of memory, in rooms that grow, and how often that came before.
+fn first_answer(
+    alloc: Global,
+    call: Call,
+    texts: &[&[u8]],
+) -> Result<(Option<Answer>, usize), Fail> {
+    let tapes = tapes_of(alloc, texts)?;
+    let mut famine = Famine::begin(alloc)?;
+    for refusals in 0..ROOMS {
+        famine.leave_more(alloc)?;
+        let found = ask(alloc, call, texts, &tapes);
+        if found.is_some() {
+            return Ok((found, refusals));
+        }
+    }
+    Ok((None, ROOMS))
+}
+
 #[test]
 fn ample_memory_is_enough(rt: HostRuntime) -> Result<(), Fail> {
     for row in &CALLS {
@@ -215,6 +165,17 @@ fn ample_memory_is_enough(rt: HostRuntime) -> Result<(), Fail> {
         let tapes = tapes_of(rt.alloc(), texts)?;
         let found = ask(rt.alloc(), call, texts, &tapes);
         assert_eq!(rt; found, Some(ample), "{call:?}: {reason}");
+    }
+    Ok(())
+}
+
+#[test]
+fn each_growth_is_refused_in_turn(rt: HostRuntime) -> Result<(), Fail> {
+    for row in &CALLS {
+        let (call, texts, ample, reason) = *row;
+        let (found, refusals) = first_answer(rt.alloc(), call, texts)?;
+        assert_eq!(rt; found, Some(ample), "{call:?}: {reason}");
+        assert!(rt; refusals > 0, "{call:?}: {reason}");
     }
     Ok(())
 }

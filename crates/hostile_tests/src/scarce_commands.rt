@@ -5,6 +5,7 @@ use command_io::CommandFault;
 use host_core::End;
 use odt_machine::{LARGEST_WORDS, PLAIN_STYLE};
 use rehearsals::{dialogue_to, rehearse_to};
+use scarce_memory::{Famine, ROOMS};
 use std::alloc::Global;
 use std::slice;
 use std::test::Fail;
@@ -102,6 +103,30 @@ fn run(alloc: Global, command: Command, mut tape: &[u8], out: &mut Vec<u8>) -> O
     Ok(None)
 }
 
+/// The first outcome but want of memory, in rooms that grow, with what was then written to `out`, and
+/// how often memory was wanting before. Each time the beginning of the text was written.
+fn first_outcome(
+    alloc: Global,
+    command: Command,
+    tape: &[u8],
+    text: &str,
+    out: &mut Vec<u8>,
+) -> Result<(Outcome, usize), Fail> {
+    let mut famine = Famine::begin(alloc)?;
+    for refusals in 0..ROOMS {
+        famine.leave_more(alloc)?;
+        out.clear();
+        let outcome = run(alloc, command, tape, out);
+        if outcome != Err(CommandFault::Memory) {
+            return Ok((outcome, refusals));
+        }
+        if !text.as_bytes().starts_with(out.as_slice()) {
+            return Err(Fail::from("what was written is no beginning of the whole"));
+        }
+    }
+    Ok((Err(CommandFault::Memory), ROOMS))
+}
+
 #[test]
 fn ample_memory_is_enough(rt: HostRuntime) {
     for row in &COMMANDS {
@@ -114,4 +139,17 @@ fn ample_memory_is_enough(rt: HostRuntime) {
         );
         assert!(rt; out.as_slice() == text.as_bytes(), "{command:?}");
     }
+}
+
+#[test]
+fn each_growth_is_refused_in_turn(rt: HostRuntime) -> Result<(), Fail> {
+    for row in &COMMANDS {
+        let (command, tape, ample, text) = *row;
+        let mut out = Vec::with_capacity(rt.alloc(), 1024)?;
+        let (outcome, refusals) = first_outcome(rt.alloc(), command, tape, text, &mut out)?;
+        assert_eq!(rt; outcome, ample, "{command:?}");
+        assert!(rt; out.as_slice() == text.as_bytes(), "{command:?}");
+        assert!(rt; refusals > 0, "{command:?}");
+    }
+    Ok(())
 }

@@ -1,0 +1,288 @@
+//! Requests, each done as the program does it, over files. Loads that come to a console are tried where
+//! there is a simulated one.
+
+use crate::tapes::{NOTHING, ONE_WORD, WRONG_SUM};
+use odt_machine::{LARGEST_WORDS, PLAIN_STYLE};
+use requests::{Console, Load, Request, Status, attempt};
+use scarce_memory::{Famine, ROOMS};
+use std::alloc::{AllocError, Global};
+use std::fs;
+use std::io::Stderr;
+use std::test::Fail;
+
+/// The files that the requests name.
+const FILES: [(&str, &[u8]); 6] = [
+    ("scarce-one-word.lda", &ONE_WORD),
+    ("scarce-wrong-sum.lda", &WRONG_SUM),
+    ("scarce-nothing.lda", &NOTHING),
+    ("scarce.script", b"clean"),
+    ("scarce-loss.script", b"to 4\ndown 0\nquiet\nclean\n"),
+    ("scarce.record", b"LDAODT 1\n001000 177777 011064\nG\n"),
+];
+
+/// No terminal looks on.
+const NOBODY: Option<&Stderr> = None;
+
+/// A load whose start was typed in an earlier life, so that nothing is connected to.
+const MARKED_LOAD: Load<'static> = Load {
+    address: "127.0.0.1:1",
+    record: Some("scarce.record"),
+    patience: 8,
+    quiet_ms: 2000,
+};
+
+/// A load through a port where nobody listens.
+const VAIN_LOAD: Load<'static> = Load {
+    record: None,
+    ..MARKED_LOAD
+};
+
+/// A console over all the memory that there may be.
+const LARGEST: Console = Console {
+    words: LARGEST_WORDS,
+    style: PLAIN_STYLE,
+};
+
+/// What `check` prints of the smallest tape.
+const CHECKED: &str =
+    "blocks 1 data 2 read 16\nstart 001000\ncanonical yes\nwords 1\n001000 177777 011064\n";
+
+/// What `check` prints of the smallest tape, and the same tape again.
+const CHECKED_TWICE: &str =
+    "blocks 1 data 2 read 16\nstart 001000\ncanonical yes\nblocks 1 data 2 read 16\nstart 001000\ncanonical yes\nwords 1\n001000 177777 011064\n";
+
+/// A dialogue that ends at once: the machine has no memory at 001000.
+const SMALL: Console = Console {
+    words: 256,
+    style: PLAIN_STYLE,
+};
+
+/// What it prints.
+const SMALL_MACHINE: &str =
+    "Z -> ?<CR><LF>@\n001000/ -> 001000/?<CR><LF>@\nsent 8 lost 0 spent 0 verified 0 of 1\nend NoWord 001000\nodt Prompt\n001000 ------ absent\n";
+
+/// What is reported where the third digit was lost.
+const DIGIT_LOST: &str =
+    "sent 34 lost 1 spent 1 verified 1 of 1\nend Started\nodt Running 001000\n001000 011064 stands\n";
+
+/// What is asked for, with the names that a request has in a vector.
+#[derive(Clone, Copy, Debug)]
+enum Asked {
+    CheckInput,
+    Check(&'static [&'static str]),
+    Dialogue(&'static [&'static str], Console),
+    Rehearse(&'static str, &'static str),
+    Type(Console),
+    Load(&'static [&'static str], Load<'static>),
+}
+
+/// The request of a row.
+fn request_of(alloc: Global, asked: Asked) -> Result<Request<'static>, AllocError> {
+    Ok(match asked {
+        Asked::CheckInput => Request::CheckInput,
+        Asked::Check(tapes) => Request::Check(Vec::from_slice(alloc, tapes)?),
+        Asked::Dialogue(tapes, console) => {
+            Request::Dialogue(Vec::from_slice(alloc, tapes)?, console)
+        }
+        Asked::Rehearse(tape, script) => Request::Rehearse(tape, script, Vec::new(alloc)),
+        Asked::Type(console) => Request::Type(console),
+        Asked::Load(tapes, load) => Request::Load(Vec::from_slice(alloc, tapes)?, load),
+    })
+}
+
+/// What is asked for, what stands on standard input, and with ample memory how it ends, the output and
+/// the line on standard error.
+type Row = (Asked, &'static [u8], Status, &'static str, &'static str);
+
+/// Requests of each command, some of them refused behind their growths.
+const REQUESTS: [Row; 11] = [
+    (Asked::CheckInput, &ONE_WORD, Status::Done, CHECKED, ""),
+    (
+        Asked::CheckInput,
+        &WRONG_SUM,
+        Status::Refused,
+        "",
+        "ldaodt: tape refused at 9: BadSum\n",
+    ),
+    (
+        Asked::Check(&["scarce-one-word.lda", "scarce-one-word.lda"]),
+        &[],
+        Status::Done,
+        CHECKED_TWICE,
+        "",
+    ),
+    (
+        Asked::Rehearse("scarce-nothing.lda", "scarce.script"),
+        &[],
+        Status::Done,
+        "sent 0 lost 0 spent 0 verified 0 of 0\nend Loaded\nodt Prompt\n",
+        "",
+    ),
+    (
+        Asked::Rehearse("scarce-one-word.lda", "scarce-loss.script"),
+        &[],
+        Status::Done,
+        DIGIT_LOST,
+        "",
+    ),
+    (
+        Asked::Dialogue(&["scarce-one-word.lda"], SMALL),
+        &[],
+        Status::NotLoaded,
+        SMALL_MACHINE,
+        "",
+    ),
+    (
+        Asked::Dialogue(&["scarce-wrong-sum.lda"], LARGEST),
+        &[],
+        Status::Refused,
+        "",
+        "ldaodt: tape refused at 9: BadSum\n",
+    ),
+    (
+        Asked::Load(&["scarce-wrong-sum.lda"], VAIN_LOAD),
+        &[],
+        Status::Refused,
+        "",
+        "ldaodt: tape refused at 9: BadSum\n",
+    ),
+    (Asked::Type(LARGEST), b"0/", Status::Done, "0/000000 ", ""),
+    (
+        Asked::Load(&["scarce-one-word.lda"], MARKED_LOAD),
+        &[],
+        Status::Uncertain,
+        "sent 0 spent 0 verified 1 of 1\nend MaybeStarted\n",
+        "",
+    ),
+    (
+        Asked::Load(&["scarce-one-word.lda"], VAIN_LOAD),
+        &[],
+        Status::DeviceFailed,
+        "",
+        "ldaodt: cannot connect to 127.0.0.1:1\n",
+    ),
+];
+
+/// What a request left.
+#[derive(Drop)]
+struct Ended {
+    status: Status,
+    out: Vec<u8>,
+    err: Vec<u8>,
+}
+
+/// Does a request, in place of what the one before it left.
+fn run(rt: &HostRuntime, request: Request<'_>, mut input: &[u8], ended: &mut Ended) {
+    ended.out.clear();
+    ended.err.clear();
+    ended.status = attempt(
+        rt,
+        rt.alloc(),
+        request,
+        &mut input,
+        &mut ended.out,
+        &mut ended.err,
+        NOBODY,
+    );
+}
+
+/// The line for want of memory.
+const OUT_OF_MEMORY: &[u8] = b"ldaodt: out of memory\n";
+
+/// Whether a request ended for want of memory as it has to, where this is the whole output.
+fn is_orderly(ended: &Ended, whole: &str) -> bool {
+    whole.as_bytes().starts_with(ended.out.as_slice()) && ended.err.as_slice() == OUT_OF_MEMORY
+}
+
+/// Does a request in rooms that grow until memory is not wanting, and answers how often it was.
+fn run_scarcely(
+    rt: &HostRuntime,
+    asked: Asked,
+    input: &[u8],
+    whole: &str,
+    ended: &mut Ended,
+) -> Result<usize, Fail> {
+    let mut famine = Famine::begin(rt.alloc())?;
+    let mut refusals = 0usize;
+    for _ in 0..ROOMS {
+        famine.leave_more(rt.alloc())?;
+        // The names stand in the same room.
+        let Ok(request) = request_of(rt.alloc(), asked) else {
+            continue;
+        };
+        run(rt, request, input, ended);
+        if ended.status != Status::NoMemory {
+            return Ok(refusals);
+        }
+        if !is_orderly(ended, whole) {
+            return Err(Fail::from("not what want of memory leaves"));
+        }
+        refusals = refusals.saturating_add(1);
+    }
+    Err(Fail::from("no room serves"))
+}
+
+/// Puts the files there.
+fn put_files(rt: &HostRuntime) -> Result<(), Fail> {
+    for (name, bytes) in FILES {
+        fs::write(rt, name, bytes)?;
+    }
+    Ok(())
+}
+
+fn remove_files(rt: &HostRuntime) -> Result<(), Fail> {
+    for (name, _) in FILES {
+        fs::remove_file(rt, name)?;
+    }
+    Ok(())
+}
+
+/// An ending with room for what a request writes.
+fn no_ending(alloc: Global) -> Result<Ended, Fail> {
+    Ok(Ended {
+        status: Status::Done,
+        out: Vec::with_capacity(alloc, 1024)?,
+        err: Vec::with_capacity(alloc, 1024)?,
+    })
+}
+
+#[test]
+fn each_growth_is_refused_in_turn(rt: HostRuntime) -> Result<(), Fail> {
+    put_files(&rt)?;
+    let mut ended = no_ending(rt.alloc())?;
+    for row in &REQUESTS {
+        let (asked, input, status, out, err) = *row;
+        let refusals = run_scarcely(&rt, asked, input, out, &mut ended)?;
+        assert!(rt; refusals > 0, "{asked:?}");
+        assert_eq!(rt; ended.status, status, "{asked:?}");
+        assert!(rt; ended.out.as_slice() == out.as_bytes(), "{asked:?}");
+        assert!(rt; ended.err.as_slice() == err.as_bytes(), "{asked:?}");
+    }
+    remove_files(&rt)
+}
+
+#[test]
+fn ample_memory_is_enough(rt: HostRuntime) -> Result<(), Fail> {
+    put_files(&rt)?;
+    let mut ended = no_ending(rt.alloc())?;
+    for row in &REQUESTS {
+        let (asked, input, status, out, err) = *row;
+        run(&rt, request_of(rt.alloc(), asked)?, input, &mut ended);
+        assert_eq!(rt; ended.status, status, "{asked:?}");
+        assert!(rt; ended.out.as_slice() == out.as_bytes(), "{asked:?}");
+        assert!(rt; ended.err.as_slice() == err.as_bytes(), "{asked:?}");
+    }
+    remove_files(&rt)
+}
+
+#[test]
+fn the_line_for_want_of_memory_takes_none(rt: HostRuntime) -> Result<(), Fail> {
+    let mut ended = no_ending(rt.alloc())?;
+    let famine = Famine::begin(rt.alloc())?;
+    run(&rt, Request::CheckInput, &ONE_WORD, &mut ended);
+    drop(famine);
+    assert_eq!(rt; ended.status, Status::NoMemory);
+    assert!(rt; ended.out.is_empty());
+    assert!(rt; ended.err.as_slice() == OUT_OF_MEMORY);
+    Ok(())
+}

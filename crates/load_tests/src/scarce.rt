@@ -1,0 +1,170 @@
+//! Want of memory while a load goes on: each growth is refused in turn, those behind the connection, too.
+
+use crate::tapes::ONE_WORD;
+use requests::{Load, Request, Status, attempt};
+use scarce_memory::{Famine, ROOMS};
+use simulated_system::{AMPLE, QUIET_MS, Setting, System};
+use std::alloc::{AllocError, Global};
+use std::fs;
+use std::io::Stderr;
+use std::test::Fail;
+use tape_blocks::{Block, Tape, write_tape};
+
+/// No terminal looks on.
+const NOBODY: Option<&Stderr> = None;
+
+/// How many words a long tape has: as many things have to have room in a record that is kept in memory.
+const WORDS: usize = 2000;
+
+/// A machine that is no larger than that tape needs, since there is one for each room before memory is taken.
+const SETTING: Setting = Setting {
+    words: 2256,
+    ..AMPLE
+};
+
+/// The files of the load.
+const TAPE: &str = "scarce-load.lda";
+
+const RECORD: &str = "scarce-load.record";
+
+/// What is reported of a tape of so many zeroes: a key to begin with, and of each word, which stands already,
+/// its address, the slash and the return.
+const ZEROES_LOADED: &str = "sent 16001 spent 0 verified 2000 of 2000\nend Loaded\n";
+
+/// What is reported of the smallest tape.
+const STARTED: &str = "sent 30 spent 0 verified 1 of 1\nend Started\n";
+
+/// Puts the tape of zeroes there: zeroes at 001000, and no start.
+fn put_zeroes(rt: &HostRuntime) -> Result<(), Fail> {
+    let mut blocks = Vec::new(rt.alloc());
+    blocks.push(Block {
+        address: 0o1000,
+        bytes: vec![in rt.alloc(); 0u8; 2 * WORDS]?,
+    })?;
+    let Ok(tape) = Tape::new(blocks, 1) else {
+        return Err(Fail::from("no tape"));
+    };
+    let text = write_tape(rt.alloc(), &tape)?;
+    Ok(fs::write(rt, TAPE, text.as_slice())?)
+}
+
+/// A long name of the record, so that the file beside it has one, too, which takes memory.
+fn long_name(alloc: Global) -> Result<String, Fail> {
+    let mut name = String::new(alloc);
+    for _ in 0..1000 {
+        name.push_str("./")?;
+    }
+    name.push_str(RECORD)?;
+    Ok(name)
+}
+
+/// What a load left.
+#[derive(Drop)]
+struct Ended {
+    status: Status,
+    out: Vec<u8>,
+    err: Vec<u8>,
+}
+
+/// Loads the tape, in place of what the load before it left. The error is that the request itself has no room.
+fn load(
+    system: &System<'_>,
+    alloc: Global,
+    record: Option<&str>,
+    ended: &mut Ended,
+) -> Result<(), AllocError> {
+    let mut tapes = Vec::new(alloc);
+    tapes.push(TAPE)?;
+    let load = Load {
+        address: "127.0.0.1:2323",
+        record,
+        patience: 0,
+        quiet_ms: QUIET_MS,
+    };
+    ended.out.clear();
+    ended.err.clear();
+    let mut input: &[u8] = &[];
+    ended.status = attempt(
+        system,
+        alloc,
+        Request::Load(tapes, load),
+        &mut input,
+        &mut ended.out,
+        &mut ended.err,
+        NOBODY,
+    );
+    Ok(())
+}
+
+/// Whether a load ended for want of memory as it has to: nothing is reported and no record is begun.
+fn is_orderly(rt: &HostRuntime, ended: &Ended) -> bool {
+    ended.status == Status::NoMemory
+        && ended.out.is_empty()
+        && ended.err.as_slice() == b"ldaodt: out of memory\n".as_slice()
+        && fs::metadata(rt, RECORD).is_err()
+}
+
+/// Loads in rooms that grow until memory is not wanting, and answers how often it was behind the connection.
+fn load_scarcely(
+    rt: &HostRuntime,
+    record: Option<&str>,
+    systems: &[System<'_>],
+    ended: &mut Ended,
+) -> Result<u32, Fail> {
+    let mut famine = Famine::begin(rt.alloc())?;
+    let mut refusals = 0u32;
+    for system in systems {
+        famine.leave_more(rt.alloc())?;
+        if load(system, rt.alloc(), record, ended).is_err() {
+            continue;
+        }
+        if ended.status != Status::NoMemory {
+            return Ok(refusals);
+        }
+        if !is_orderly(rt, ended) {
+            return Err(Fail::from("not what want of memory leaves"));
+        }
+        refusals = refusals.saturating_add(system.connections());
+    }
+    Err(Fail::from("no room serves"))
+}
+
+/// Loads so, with a system for each room, and answers what the load left and how often it was refused behind the
+/// connection.
+fn load_at_last(rt: &HostRuntime, record: Option<&str>) -> Result<(Ended, u32), Fail> {
+    let mut systems = Vec::new(rt.alloc());
+    for _ in 0..ROOMS {
+        systems.push(System::new(rt, SETTING))?;
+    }
+    let mut ended = Ended {
+        status: Status::Uncertain,
+        out: Vec::with_capacity(rt.alloc(), 1024)?,
+        err: Vec::with_capacity(rt.alloc(), 1024)?,
+    };
+    let refusals = load_scarcely(rt, record, &systems, &mut ended)?;
+    Ok((ended, refusals))
+}
+
+#[test]
+fn each_growth_of_a_load_is_refused_in_turn(rt: HostRuntime) -> Result<(), Fail> {
+    put_zeroes(&rt)?;
+    let (ended, refusals) = load_at_last(&rt, None)?;
+    assert_eq!(rt; ended.status, Status::Done);
+    assert!(rt; ended.out.as_slice() == ZEROES_LOADED.as_bytes());
+    assert!(rt; ended.err.is_empty());
+    assert!(rt; refusals > 0);
+    Ok(fs::remove_file(&rt, TAPE)?)
+}
+
+#[test]
+fn each_growth_of_a_load_with_a_record_is_refused_in_turn(rt: HostRuntime) -> Result<(), Fail> {
+    fs::write(&rt, TAPE, ONE_WORD)?;
+    let name = long_name(rt.alloc())?;
+    let (ended, refusals) = load_at_last(&rt, Some(name.as_str()))?;
+    assert_eq!(rt; ended.status, Status::Done);
+    assert!(rt; ended.out.as_slice() == STARTED.as_bytes());
+    assert!(rt; ended.err.is_empty());
+    assert!(rt; refusals > 0);
+    fs::remove_file(&rt, RECORD)?;
+    Ok(fs::remove_file(&rt, TAPE)?)
+}

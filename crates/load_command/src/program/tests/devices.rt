@@ -68,7 +68,12 @@ impl Write for Counted {
 }
 
 /// Words, and the status: what is said goes to standard output where it is 0, and else to standard error.
-const ANSWERED: [(&[&str], u8); 3] = [(&["--help"], 0), (&["help", "load"], 0), (&["check"], 2)];
+const ANSWERED: [(&[&str], u8); 4] = [
+    (&["--help"], 0),
+    (&["help", "load"], 0),
+    (&["check"], 2),
+    (&["check", "no-such.lda"], 4),
+];
 
 #[test]
 fn each_answer_is_one_write(rt: HostRuntime) -> Result<(), Fail> {

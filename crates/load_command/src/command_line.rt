@@ -1,28 +1,14 @@
 //! The command line: which words ask for what.
 ghost use Rattle.std.specs.Prelude.{◌≡◌, []};
 
-use clap::{Arg, ArgAction, ArgMatches, Command, Error, value_parser};
+mod commands;
+mod texts;
+
+use clap::{ArgMatches, Error};
+use commands::{ADDRESS, MORE, PATIENCE, QUIET, RECORD, SCRIPT, STYLE, TAPE, WORDS};
 use odt_machine::{LARGEST_WORDS, PLAIN_STYLE, Style};
 use requests::{Console, Load, Request};
 use std::alloc::{AllocError, Global};
-
-const TAPE: &str = "TAPE";
-
-const SCRIPT: &str = "SCRIPT";
-
-const MORE: &str = "MORE";
-
-const WORDS: &str = "words";
-
-const STYLE: &str = "style";
-
-const ADDRESS: &str = "HOST:PORT";
-
-const RECORD: &str = "record";
-
-const PATIENCE: &str = "patience";
-
-const QUIET: &str = "quiet";
 
 /// How many mishaps a load survives where nothing else is said.
 const PLAIN_PATIENCE: u16 = 8;
@@ -30,192 +16,107 @@ const PLAIN_PATIENCE: u16 = 8;
 /// How many milliseconds of silence mean that nothing more is coming, where nothing else is said.
 const PLAIN_QUIET: u16 = 2000;
 
-/// Reads the words after the program's name. The error's text is for standard output where help or
-/// the version was asked for, else for standard error.
-pub fn parse<'a>(alloc: Global, words: &'a [String]) -> Result<Request<'a>, Error>
+/// Why words ask for nothing that could be done.
+#[derive(Debug, Drop)]
+pub enum NoRequest {
+    /// Help or the version was asked for, the words are refused, or a growth of memory was.
+    Answered(Error),
+    /// The parser let words pass that mean nothing here. No such words are known.
+    Meaningless,
+}
+
+impl From<Error> for NoRequest {
+    fn from(error: Error) -> NoRequest {
+        NoRequest::Answered(error)
+    }
+}
+
+impl From<AllocError> for NoRequest {
+    fn from(refused: AllocError) -> NoRequest {
+        NoRequest::Answered(Error::from(refused))
+    }
+}
+
+/// Reads the words after the program's name. Without any the tape on standard input is to be checked.
+pub fn parse<'a>(alloc: Global, words: &'a [String]) -> Result<Request<'a>, NoRequest>
     ensures { words.now ≡ [] → result ≡ Ok Request.CheckInput }
 {
     if words.is_empty() {
         return Ok(Request::CheckInput);
     }
-    let matches = ldaodt(alloc)?.try_get_matches_from(words)?;
-    Ok(match matches.subcommand() {
-        Some(("check", found)) => Request::Check(tapes_of(alloc, found)?),
-        Some(("dialogue", found)) => Request::Dialogue(tapes_of(alloc, found)?, console_of(found)),
-        Some(("rehearse", found)) => Request::Rehearse(
-            text_of(found, TAPE),
-            text_of(found, SCRIPT),
-            more_of(alloc, found)?,
-        ),
-        Some(("type", found)) => Request::Type(console_of(found)),
-        Some(("load", found)) => Request::Load(tapes_of(alloc, found)?, load_of(found)),
-        // One of the subcommands above is required, so this is no words.
-        _ => Request::CheckInput,
-    })
+    let matches = commands::ldaodt(alloc)?.try_get_matches_from(words)?;
+    match matches.subcommand() {
+        Some(("check", found)) => Ok(Request::Check(tapes_of(alloc, found)?)),
+        Some(("dialogue", found)) => Ok(Request::Dialogue(
+            tapes_of(alloc, found)?,
+            console_of(found)?,
+        )),
+        Some(("rehearse", found)) => Ok(Request::Rehearse(
+            text_of(found, TAPE)?,
+            text_of(found, SCRIPT)?,
+            joined(alloc, &[], found)?,
+        )),
+        Some(("type", found)) => Ok(Request::Type(console_of(found)?)),
+        Some(("load", found)) => Ok(Request::Load(tapes_of(alloc, found)?, load_of(found)?)),
+        _ => Err(NoRequest::Meaningless),
+    }
 }
 
-/// The text of a required argument, which a parse that succeeds has met.
-fn text_of<'a>(found: &ArgMatches<'a>, name: &str) -> &'a str {
-    found.get_str(name).unwrap_or("")
+/// The text of a required argument.
+fn text_of<'a>(found: &ArgMatches<'a>, name: &str) -> Result<&'a str, NoRequest> {
+    found.get_str(name).ok_or(NoRequest::Meaningless)
 }
 
 /// The names of the tapes, in order.
-fn tapes_of<'a>(alloc: Global, found: &ArgMatches<'a>) -> Result<Vec<&'a str>, AllocError> {
+fn tapes_of<'a>(alloc: Global, found: &ArgMatches<'a>) -> Result<Vec<&'a str>, NoRequest> {
+    let first = text_of(found, TAPE)?;
+    Ok(joined(alloc, &[first], found)?)
+}
+
+/// These names, and behind them those of further tapes. Without any of those there is no entry.
+fn joined<'a>(
+    alloc: Global,
+    first: &[&'a str],
+    found: &ArgMatches<'a>,
+) -> Result<Vec<&'a str>, AllocError> {
     let mut names = Vec::new(alloc);
-    names.push(text_of(found, TAPE))?;
+    names.extend_from_slice(first)?;
     names.extend_from_slice(found.get_strs(MORE).unwrap_or(&[]))?;
     Ok(names)
 }
 
-/// The names of the tapes behind the first, in order.
-fn more_of<'a>(alloc: Global, found: &ArgMatches<'a>) -> Result<Vec<&'a str>, AllocError> {
-    let mut names = Vec::new(alloc);
-    names.extend_from_slice(found.get_strs(MORE).unwrap_or(&[]))?;
-    Ok(names)
+/// The console of two options.
+fn console_of(found: &ArgMatches<'_>) -> Result<Console, NoRequest> {
+    Ok(Console {
+        words: number_of(found, WORDS, LARGEST_WORDS)?,
+        style: style_of(found)?,
+    })
 }
 
-/// The console of two options that have defaults, which are repeated here.
-fn console_of(found: &ArgMatches<'_>) -> Console {
-    let words = found.get_one::<u16>(WORDS);
-    let style = found.get_one::<u8>(STYLE);
-    Console {
-        words: words.unwrap_or(LARGEST_WORDS),
-        style: style.and_then(Style::from_number).unwrap_or(PLAIN_STYLE),
+/// The style whose number is given, or the plain one.
+fn style_of(found: &ArgMatches<'_>) -> Result<Style, NoRequest> {
+    match found.try_get_one::<u8>(STYLE) {
+        Ok(Some(number)) => Style::from_number(number).ok_or(NoRequest::Meaningless),
+        Ok(None) => Ok(PLAIN_STYLE),
+        Err(_) => Err(NoRequest::Meaningless),
     }
 }
 
-/// The load of its words. The two numbers have defaults, which are repeated here.
-fn load_of<'a>(found: &ArgMatches<'a>) -> Load<'a> {
-    let patience = found.get_one::<u16>(PATIENCE);
-    let quiet_ms = found.get_one::<u16>(QUIET);
-    Load {
-        address: text_of(found, ADDRESS),
+/// The number that an option gives, or the one that is meant without it.
+fn number_of(found: &ArgMatches<'_>, name: &str, otherwise: u16) -> Result<u16, NoRequest> {
+    match found.try_get_one::<u16>(name) {
+        Ok(Some(number)) => Ok(number),
+        Ok(None) => Ok(otherwise),
+        Err(_) => Err(NoRequest::Meaningless),
+    }
+}
+
+/// The load of an address and its options.
+fn load_of<'a>(found: &ArgMatches<'a>) -> Result<Load<'a>, NoRequest> {
+    Ok(Load {
+        address: text_of(found, ADDRESS)?,
         record: found.get_str(RECORD),
-        patience: u32::from(patience.unwrap_or(PLAIN_PATIENCE)),
-        quiet_ms: u32::from(quiet_ms.unwrap_or(PLAIN_QUIET)),
-    }
-}
-
-fn ldaodt<'a>(alloc: Global) -> Result<Command<'a>, AllocError> {
-    Command::new(alloc, "ldaodt")
-        .bin_name("ldaodt")?
-        .no_binary_name(true)
-        .version("0.1.0")
-        .about("Loads a PDP-11 absolute loader tape through the console ODT of an LSI-11")
-        .after_help("With no command the tape on standard input is checked.")
-        .subcommand_required(true)
-        .subcommand(load_command(alloc)?)?
-        .subcommand(check_command(alloc)?)?
-        .subcommand(dialogue_command(alloc)?)?
-        .subcommand(rehearse_command(alloc)?)?
-        .subcommand(type_command(alloc)?)
-}
-
-fn load_command<'a>(alloc: Global) -> Result<Command<'a>, AllocError> {
-    Command::new(alloc, "load")
-        .about("Loads tapes, as one, into a machine over TCP, through its console")
-        .arg(tape_argument(alloc))?
-        .arg(address_argument(alloc))?
-        .arg(more_argument(alloc))?
-        .arg(record_option(alloc))?
-        .arg(patience_option(alloc))?
-        .arg(quiet_option(alloc))
-}
-
-fn check_command<'a>(alloc: Global) -> Result<Command<'a>, AllocError> {
-    Command::new(alloc, "check")
-        .about("Checks tapes and lists the words that they make together")
-        .arg(tape_argument(alloc))?
-        .arg(more_argument(alloc))
-}
-
-fn dialogue_command<'a>(alloc: Global) -> Result<Command<'a>, AllocError> {
-    Command::new(alloc, "dialogue")
-        .about("Loads tapes, as one, into a simulated zeroed machine and shows all that passes")
-        .arg(tape_argument(alloc))?
-        .arg(more_argument(alloc))?
-        .arg(words_option(alloc))?
-        .arg(style_option(alloc))
-}
-
-fn rehearse_command<'a>(alloc: Global) -> Result<Command<'a>, AllocError> {
-    Command::new(alloc, "rehearse")
-        .about("Rehearses a script of what the line loses")
-        .arg(tape_argument(alloc))?
-        .arg(script_argument(alloc))?
-        .arg(more_argument(alloc))
-}
-
-fn type_command<'a>(alloc: Global) -> Result<Command<'a>, AllocError> {
-    Command::new(alloc, "type")
-        .about("Types standard input into a simulated console and prints the answers")
-        .arg(words_option(alloc))?
-        .arg(style_option(alloc))
-}
-
-fn tape_argument<'a>(alloc: Global) -> Arg<'a> {
-    Arg::new(alloc, TAPE).required(true).help("The tape's file")
-}
-
-fn script_argument<'a>(alloc: Global) -> Arg<'a> {
-    Arg::new(alloc, SCRIPT)
-        .required(true)
-        .help("The script's file")
-}
-
-fn more_argument<'a>(alloc: Global) -> Arg<'a> {
-    Arg::new(alloc, MORE)
-        .num_args(0..)
-        .action(ArgAction::Append)
-        .help("The files of further tapes, whose bytes replace those of earlier ones")
-}
-
-fn words_option<'a>(alloc: Global) -> Arg<'a> {
-    Arg::new(alloc, WORDS)
-        .long(WORDS)
-        .value_name("N")
-        .value_parser(value_parser!(u16).range(0..=28672))
-        .default_value("28672")
-        .help("Words of the machine's memory")
-}
-
-fn style_option<'a>(alloc: Global) -> Arg<'a> {
-    Arg::new(alloc, STYLE)
-        .long(STYLE)
-        .value_name("N")
-        .value_parser(value_parser!(u8).range(0..=7))
-        .default_value("0")
-        .help(
-            "How the console answers: 1 a space before digits, 2 two returns, 4 echoes of illegal keys, or their sum",
-        )
-}
-
-fn address_argument<'a>(alloc: Global) -> Arg<'a> {
-    Arg::new(alloc, ADDRESS)
-        .required(true)
-        .help("Where the console is: an address or a name, and a port")
-}
-
-fn record_option<'a>(alloc: Global) -> Arg<'a> {
-    Arg::new(alloc, RECORD).long(RECORD).value_name("FILE").help(
-        "Where the verified words are kept, so that a later load goes on from them",
-    )
-}
-
-fn patience_option<'a>(alloc: Global) -> Arg<'a> {
-    Arg::new(alloc, PATIENCE)
-        .long(PATIENCE)
-        .value_name("N")
-        .value_parser(value_parser!(u16).range(0..=1000))
-        .default_value("8")
-        .help("How many mishaps the load survives")
-}
-
-fn quiet_option<'a>(alloc: Global) -> Arg<'a> {
-    Arg::new(alloc, QUIET)
-        .long(QUIET)
-        .value_name("MS")
-        .value_parser(value_parser!(u16).range(1..=60000))
-        .default_value("2000")
-        .help("Milliseconds of silence after which nothing more is coming")
+        patience: u32::from(number_of(found, PATIENCE, PLAIN_PATIENCE)?),
+        quiet_ms: u32::from(number_of(found, QUIET, PLAIN_QUIET)?),
+    })
 }

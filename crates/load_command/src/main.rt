@@ -5,24 +5,25 @@
 
 mod command_line;
 mod program;
+mod words;
 
-use requests::{Failure, tell};
+use requests::tell;
+use std::fs;
 use std::fs::File;
-use std::io::{ErrorKind, IsTerminal};
+use std::io::IsTerminal;
 use std::os::fd::{AsRawFd, IntoRawFd, RawFd};
 use std::process::ExitCode;
-use std::{env, fs, io};
 
 fn main(rt: HostRuntime) -> ExitCode {
     fill_standard_descriptors(&rt);
+    let alloc = rt.alloc();
     let mut input = rt.stdin();
     let mut out = rt.stdout();
     let mut err = rt.stderr();
-    let words = match words(&rt) {
+    let words = match words::words_of(&rt) {
         Ok(words) => words,
-        Err(error) => return ExitCode::from(tell(failure_of(&error), &mut err).code()),
+        Err(failure) => return ExitCode::from(tell(alloc, failure, &mut err).code()),
     };
-    let alloc = rt.alloc();
     let screen = rt.stderr();
     let terminal = screen.is_terminal().then_some(&screen);
     let code = program::program(&rt, alloc, &words, &mut input, &mut out, &mut err, terminal);
@@ -47,22 +48,5 @@ fn fill_standard_descriptors(rt: &HostRuntime) {
 fn keep_up_to(file: File, most: RawFd) {
     if file.as_raw_fd() <= most {
         let _ = file.into_raw_fd();
-    }
-}
-
-/// The words after the program's name.
-fn words(rt: &HostRuntime) -> io::Result<Vec<String>> {
-    let mut words = Vec::new(rt.alloc());
-    for word in env::args(rt)?.skip(1) {
-        words.push(word)?;
-    }
-    Ok(words)
-}
-
-/// Why the words can't be had: one of them is no text, or want of memory.
-fn failure_of(error: &io::Error) -> Failure<'static> {
-    match error.kind() {
-        ErrorKind::InvalidData => Failure::BadWord,
-        _ => Failure::NoMemory,
     }
 }

@@ -1,20 +1,25 @@
 //! The body of `main`, over any files, input and outputs.
-ghost use Rattle.std.specs.Prelude.{◌≡◌, ℕ, List, Option, ◌∷◌, []};
+ghost use Rattle.std.specs.Prelude.{◌≡◌, []};
 ghost use Rattle.std.specs.Mem.{FitsInMemory};
-ghost use Rattle.tape_blocks.specs.declared.fault.Fault.{Fault as TapeFault};
-ghost use Rattle.command_io.specs.TapeFile.{IsRefusedInput};
-ghost use Rattle.tape_check.specs.CheckText.{IsChecked};
-ghost use Rattle.requests.specs.Status.{status_code, IsCheckStatus};
+ghost use Rattle.requests.specs.declared.request.Request.{Request};
+ghost use Rattle.requests.specs.declared.status.Status.{Status};
+ghost use Rattle.requests.specs.Attempt.{IsAttempted};
+ghost use Rattle.requests.specs.Status.{status_code};
+ghost use Rattle.load_command.specs.Answer.{IsAnswered, IsExplained, WritesSome};
 
-use crate::command_line::parse;
+use crate::command_line::{NoRequest, parse};
 use clap::Error;
 use clap::error::ErrorKind;
+use command_io::write_whole;
 use requests::{Failure, Status, attempt, tell};
 use std::alloc::Global;
 use std::io::{Print, Read, Write};
 use std::net::Net;
 use std::rt::Files;
 use std::time::Clock;
+
+/// What is said of words that the parser let pass and that mean nothing.
+const MEANINGLESS: &str = "ldaodt: the command line is not understood\n";
 
 /// Does what the words after the program's name ask for, and answers the exit status.
 ///
@@ -32,33 +37,66 @@ pub fn program<F: Files + Net + Clock, R: Read, W: Write, E: Write, T: Print>(
 ) -> u8
     requires { FitsInMemory R.row }
     // With no words, the tape on the input is checked.
-    ensures checked { words.now ≡ [] → result ≡ 0 → (rests : List (Option (List ℕ))) × IsChecked (R.remaining input.old ∷ []) rests (W.contents out.old) (W.contents out.new) }
-    ensures refused { words.now ≡ [] → result ≡ 3 → (fault : TapeFault) × IsRefusedInput (R.remaining input.old) fault }
-    ensures status { words.now ≡ [] → (status : Status) × IsCheckStatus status × (result ≡ status_code status) }
+    ensures checked { words.now ≡ [] → (status : Status) × IsAttempted Request.CheckInput (R.remaining input.old) (R.remaining input.new) (W.contents out.old) (W.contents out.new) (E.contents err.old) (E.contents err.new) status × (result ≡ status_code status) }
+    // Whatever the words are, they ask for something that is then attempted, or they are explained.
+    ensures answered { (status : Status) × IsAnswered (R.remaining input.old) (R.remaining input.new) (W.contents out.old) (W.contents out.new) (E.contents err.old) (E.contents err.new) status × (result ≡ status_code status) }
 {
-    let status = match parse(alloc, words) {
-        Ok(request) => attempt(rt, alloc, request, input, out, err, terminal),
-        Err(error) => explain(&error, out, err),
-    };
-    status.code()
+    answer(rt, alloc, words, input, out, err, terminal).code()
 }
 
-/// Prints why there was nothing to do: help, the version, or what is wrong with the words.
-fn explain<W: Write, E: Write>(error: &Error, out: &mut W, err: &mut E) -> Status {
-    match error.kind() {
-        ErrorKind::OutOfMemory => tell(Failure::NoMemory, err),
-        ErrorKind::DisplayHelp | ErrorKind::DisplayVersion => {
-            if write!(out, "{error}").is_ok() && out.flush().is_ok() {
-                Status::Done
-            } else {
-                tell(Failure::CannotWrite, err)
-            }
-        }
-        _ => {
-            let _ = write!(err, "{error}");
-            Status::BadCommandLine
-        }
+/// Does what the words ask for, or explains them.
+fn answer<F: Files + Net + Clock, R: Read, W: Write, E: Write, T: Print>(
+    rt: &F,
+    alloc: Global,
+    words: &[String],
+    input: &mut R,
+    out: &mut W,
+    err: &mut E,
+    terminal: Option<&T>,
+) -> Status
+    requires { FitsInMemory R.row }
+    ensures checked { words.now ≡ [] → IsAttempted Request.CheckInput (R.remaining input.old) (R.remaining input.new) (W.contents out.old) (W.contents out.new) (E.contents err.old) (E.contents err.new) result }
+    ensures answered { IsAnswered (R.remaining input.old) (R.remaining input.new) (W.contents out.old) (W.contents out.new) (E.contents err.old) (E.contents err.new) result }
+{
+    match parse(alloc, words) {
+        Ok(request) => attempt(rt, alloc, request, input, out, err, terminal),
+        Err(NoRequest::Answered(error)) => explain(alloc, error, out, err),
+        Err(NoRequest::Meaningless) => refuse(MEANINGLESS, err),
     }
+}
+
+/// Says why there was nothing to do: help, the version, or what is wrong with the words.
+fn explain<W: Write, E: Write>(alloc: Global, error: Error, out: &mut W, err: &mut E) -> Status
+    ensures { IsExplained (W.contents out.old) (W.contents out.new) (E.contents err.old) (E.contents err.new) result }
+{
+    let Ok(text) = format!(in alloc; "{error}") else {
+        return tell(alloc, Failure::NoMemory, err);
+    };
+    match error.kind() {
+        ErrorKind::OutOfMemory => tell(alloc, Failure::NoMemory, err),
+        ErrorKind::DisplayHelp | ErrorKind::DisplayVersion => show(alloc, &text, out, err),
+        _ => refuse(&text, err),
+    }
+}
+
+/// Prints a text that was asked for.
+fn show<W: Write, E: Write>(alloc: Global, text: &str, out: &mut W, err: &mut E) -> Status
+    ensures { IsExplained (W.contents out.old) (W.contents out.new) (E.contents err.old) (E.contents err.new) result }
+{
+    if write_whole(out, text.as_bytes()).is_ok() && out.flush().is_ok() {
+        Status::Done
+    } else {
+        tell(alloc, Failure::CannotWrite, err)
+    }
+}
+
+/// Says what is wrong with the words, in one write.
+fn refuse<E: Write>(text: &str, err: &mut E) -> Status
+    ensures written { WritesSome (E.contents err.old) (E.contents err.new) }
+    ensures status { result ≡ Status.BadCommandLine }
+{
+    let _ = write_whole(err, text.as_bytes());
+    Status::BadCommandLine
 }
 
 #[cfg(test)]

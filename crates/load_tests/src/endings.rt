@@ -1,9 +1,9 @@
 //! How loads end: the status, the report, the line on standard error, and what the record then holds.
 
-use crate::simulated::{AMPLE, QUIET_MS, Setting, System};
 use crate::tapes::{NO_WORD, ONE_WORD, TWO_WORDS};
 use failing_devices::{BrokenOutput, UnflushedOutput};
 use requests::{Load, Request, Status, attempt};
+use simulated_system::{AMPLE, QUIET_MS, Setting, System};
 use std::alloc::Global;
 use std::fs;
 use std::io::{ErrorKind, Stderr};

@@ -21,6 +21,4 @@ mod replacing;
 #[cfg(test)]
 mod scarce;
 #[cfg(test)]
-mod simulated;
-#[cfg(test)]
 mod tapes;

@@ -1,10 +1,10 @@
 //! What a person sees while a load goes on.
 
 use crate::endings::load_of;
-use crate::simulated::{AMPLE, System};
 use crate::tapes::ONE_WORD;
 use machine_load::{Onlooker, ProgressLine};
 use requests::{Status, attempt};
+use simulated_system::{AMPLE, System};
 use std::alloc::Global;
 use std::cell::{Cell, RefCell};
 use std::fmt::Display;

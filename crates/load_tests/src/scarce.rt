@@ -1,9 +1,9 @@
 //! Want of memory while a load goes on: each growth is refused in turn, those behind the connection, too.
 
-use crate::simulated::{AMPLE, QUIET_MS, Setting, System};
 use crate::tapes::ONE_WORD;
 use requests::{Load, Request, Status, attempt};
 use scarce_memory::{Famine, ROOMS};
+use simulated_system::{AMPLE, QUIET_MS, Setting, System};
 use std::alloc::{AllocError, Global};
 use std::fs;
 use std::io::Stderr;

@@ -1,5 +1,8 @@
-//! A system for tests: the files are real, but have room for so many bytes alone, and behind one address
-//! answers a simulated console.
+//! A system for tests: its files are real, but have room for so many bytes alone, and behind one
+//! address of its network answers a simulated console, which may close the line after a while.
+//!
+//! The tests of `load` use it, over requests and over the words of a command line; the program does not.
+#![tactic(auto)]
 
 use arrayvec::ArrayVec;
 use odt_machine::{LARGEST_WORDS, Odt, PLAIN_STYLE};

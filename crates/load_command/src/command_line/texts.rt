@@ -1,0 +1,94 @@
+//! What help says behind the usage, the arguments and the options, in lines of less than 80 columns.
+
+/// Of the program.
+pub(crate) const PROGRAM: &str = "\
+With no command the tape on standard input is checked. Several tapes are loaded
+as one, in their order: where two have a byte for one address the later tape's
+counts, and the start is that of the last tape alone.
+
+Exit status:
+  0  done; help was asked for
+  2  the command line was refused
+  3  a tape, a script or a record was refused
+  4  a file could not be read or something not be written, there was no
+     connection, or the line failed
+  5  a load ended GaveUp, NoWord, WontHold or TurnsOver
+  6  a load ended Uncertain or MaybeStarted: the program may be running
+  7  out of memory
+Each fault is one line on standard error.
+
+Example, the tape on standard input:
+  ldaodt < first.lda
+
+'ldaodt COMMAND --help' has a command's options and an example. The manual page
+ldaodt(1) says it whole; docs/SCRIPTS.md describes the scripts of rehearse.";
+
+/// Of `load`.
+pub(crate) const LOAD: &str = "\
+Each word is looked at, deposited where it is not there yet, and read back; at
+the end the program is started, once at most.
+
+Exit status:
+  0  the load ended Loaded or Started
+  3  a tape or the record was refused
+  4  a file could not be read or something not be written, there was no
+     connection, or the line failed
+  5  the load ended GaveUp, NoWord, WontHold or TurnsOver
+  6  it ended Uncertain or MaybeStarted: look at the machine before all else
+
+Example, a machine on a serial adapter:
+  socat TCP-LISTEN:2323,bind=127.0.0.1,reuseaddr /dev/ttyUSB0 &
+  ldaodt load first.lda 127.0.0.1:2323 --record first.record";
+
+/// Of `check`.
+pub(crate) const CHECK: &str = "\
+The line of a word has its address, its mask and its value, all octal. The mask
+says which bytes of the word the tape has: 000377 the low one, 177400 the high
+one, 177777 both.
+
+Exit status:
+  0  each is a tape
+  3  one is refused: the line on standard error says at which byte, from 0
+  4  a file could not be read, or the output not be written
+
+Example:
+  ldaodt check first.lda";
+
+/// Of `dialogue`.
+pub(crate) const DIALOGUE: &str = "\
+On the left is what the loader types, on the right what the console prints, a
+space as '_', CR as '<CR>' and LF as '<LF>'. Memory is zero at the beginning.
+
+Exit status:
+  0  the load ended Loaded or Started
+  3  a tape was refused
+  4  a file could not be read, or the output not be written
+  5  the load ended NoWord: the machine has no memory there
+
+Example, a console that prints a space before the digits of a word:
+  ldaodt dialogue --style 1 first.lda";
+
+/// Of `rehearse`.
+pub(crate) const REHEARSE: &str = "\
+A script says which character is delivered when, and which one is lost, a line
+for each. docs/SCRIPTS.md and the manual page ldaodt(1) describe its lines.
+
+Exit status:
+  0  the script was rehearsed, however the load ended
+  3  a tape or the script was refused
+  4  a file could not be read, or the output not be written
+
+Example, the fourth key is lost:
+  printf 'to 4\\ndown 0\\nquiet\\nclean\\n' > lossy.script
+  ldaodt rehearse first.lda lossy.script";
+
+/// Of `type`.
+pub(crate) const TYPE: &str = "\
+An LF is typed as CR. It ends with its input, or after 1048576 keys.
+
+Exit status:
+  0  all was typed, or as many keys as that
+  4  standard input could not be read, or the output not be written
+
+Example, a word is deposited and looked at again:
+  printf '001000/011064\\n001000/\\n' | ldaodt type";

@@ -77,7 +77,8 @@ Exit status:
   6  it ended Uncertain or MaybeStarted: look at the machine before all else
 
 Example, a machine on a serial adapter:
-  socat TCP-LISTEN:2323,bind=127.0.0.1,reuseaddr /dev/ttyUSB0 &
+  socat TCP-LISTEN:2323,bind=127.0.0.1,reuseaddr,nodelay \\
+    /dev/ttyUSB0,b9600,raw,echo=0 &
   ldaodt load first.lda 127.0.0.1:2323 --record first.record
 ",
     ),

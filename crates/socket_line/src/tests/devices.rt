@@ -150,21 +150,21 @@ pub struct Faulty<'a> {
 }
 
 impl Faulty<'_> {
-    fn fail(&self) -> io::Result<usize> {
+    fn fault(&self) -> io::Error {
         self.calls.set(self.calls.get().saturating_add(1));
-        Err(io::Error::from(self.kind))
+        io::Error::from(self.kind)
     }
 }
 
 impl Read for Faulty<'_> {
     fn read(&mut self, _buf: &mut [u8]) -> io::Result<usize> {
-        self.fail()
+        Err(self.fault())
     }
 }
 
 impl Write for Faulty<'_> {
     fn write(&mut self, _buf: &[u8]) -> io::Result<usize> {
-        self.fail()
+        Err(self.fault())
     }
 
     fn flush(&mut self) -> io::Result<()> {

@@ -2,13 +2,15 @@
 mod devices;
 
 use super::*;
-use devices::{Interrupted, TwoAddresses};
+use devices::{Faulty, Interrupted, Noted, Settings, TwoAddresses};
 use host_core::Heard;
 use load_devices::{Line, LineFault};
+use std::cell::Cell;
 use std::io;
-use std::io::{Read, Write};
+use std::io::{ErrorKind, Read, Write};
 use std::net::{TcpListener, TcpStream};
 use std::test::Fail;
+use std::time::Duration;
 
 /// A line and the console's end of it, connected by a port of 127.0.0.1.
 fn ends(rt: &HostRuntime, quiet_ms: u32) -> Result<(SocketLine<TcpStream>, TcpStream), Fail> {
@@ -107,4 +109,63 @@ fn an_interrupted_read_is_begun_again(rt: HostRuntime) {
             Err(fault) => assert_eq!(rt; Err(fault), heard),
         }
     }
+}
+
+#[test]
+fn a_stream_is_set_to_the_quiet_time_and_to_wait_for_nothing(rt: HostRuntime) {
+    let settings = Settings {
+        time_limit: Cell::new(None),
+        is_prompt: Cell::new(false),
+    };
+    let stream = Noted {
+        settings: &settings,
+    };
+    assert!(rt; SocketLine::new(stream, 50).is_ok());
+    let quiet_time = Some(Duration::from_millis(50));
+    assert_eq!(rt; settings.time_limit.get(), quiet_time);
+    assert!(rt; settings.is_prompt.get());
+}
+
+/// How a stream's calls fail, and what is heard then.
+const FAULTS: [(ErrorKind, Result<Heard, LineFault>); 4] = [
+    (ErrorKind::WouldBlock, Ok(Heard::Quiet)),
+    (ErrorKind::TimedOut, Ok(Heard::Quiet)),
+    (ErrorKind::ConnectionReset, Err(LineFault::Receive)),
+    (ErrorKind::Other, Err(LineFault::Receive)),
+];
+
+#[test]
+fn a_call_that_failed_is_not_repeated(rt: HostRuntime) {
+    for row in &FAULTS {
+        let (kind, heard) = *row;
+        let calls = Cell::new(0);
+        let stream = Faulty {
+            kind,
+            calls: &calls,
+        };
+        match SocketLine::new(stream, 50) {
+            Ok(mut line) => {
+                assert_eq!(rt; line.hear(), heard, "{kind:?}");
+                assert_eq!(rt; calls.get(), 1, "{kind:?}");
+                assert_eq!(rt; line.send(b'Z'), Err(LineFault::Send), "{kind:?}");
+                assert_eq!(rt; calls.get(), 2, "{kind:?}");
+            }
+            Err(fault) => assert_eq!(rt; Err(fault), heard),
+        }
+    }
+}
+
+#[test]
+fn an_interrupted_key_is_not_sent_again(rt: HostRuntime) {
+    let calls = Cell::new(0);
+    let stream = Faulty {
+        kind: ErrorKind::Interrupted,
+        calls: &calls,
+    };
+    let sent = match SocketLine::new(stream, 50) {
+        Ok(mut line) => line.send(b'Z'),
+        Err(fault) => Err(fault),
+    };
+    assert_eq!(rt; sent, Err(LineFault::Send));
+    assert_eq!(rt; calls.get(), 1);
 }

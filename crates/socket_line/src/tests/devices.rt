@@ -100,3 +100,80 @@ impl OpenStream for Interrupted {
         Ok(())
     }
 }
+
+/// What a stream was set to.
+#[derive(Drop)]
+pub struct Settings {
+    pub time_limit: Cell<Option<Duration>>,
+    pub is_prompt: Cell<bool>,
+}
+
+/// A stream that notes what it is set to.
+#[derive(Drop)]
+pub struct Noted<'a> {
+    pub settings: &'a Settings,
+}
+
+impl Read for Noted<'_> {
+    fn read(&mut self, _buf: &mut [u8]) -> io::Result<usize> {
+        Ok(0)
+    }
+}
+
+impl Write for Noted<'_> {
+    fn write(&mut self, buf: &[u8]) -> io::Result<usize> {
+        Ok(buf.len())
+    }
+
+    fn flush(&mut self) -> io::Result<()> {
+        Ok(())
+    }
+}
+
+impl OpenStream for Noted<'_> {
+    fn set_read_timeout(&self, time: Option<Duration>) -> io::Result<()> {
+        self.settings.time_limit.set(time);
+        Ok(())
+    }
+
+    fn set_nodelay(&self, nodelay: bool) -> io::Result<()> {
+        self.settings.is_prompt.set(nodelay);
+        Ok(())
+    }
+}
+
+/// A stream whose calls fail in one way, and are counted.
+#[derive(Drop)]
+pub struct Faulty<'a> {
+    pub kind: ErrorKind,
+    pub calls: &'a Cell<u32>,
+}
+
+impl Faulty<'_> {
+    fn fault(&self) -> io::Error {
+        self.calls.set(self.calls.get().saturating_add(1));
+        io::Error::from(self.kind)
+    }
+}
+
+impl Read for Faulty<'_> {
+    fn read(&mut self, _buf: &mut [u8]) -> io::Result<usize> {
+        Err(self.fault())
+    }
+}
+
+impl Write for Faulty<'_> {
+    fn write(&mut self, _buf: &[u8]) -> io::Result<usize> {
+        Err(self.fault())
+    }
+
+    fn flush(&mut self) -> io::Result<()> {
+        Ok(())
+    }
+}
+
+impl OpenStream for Faulty<'_> {
+    fn set_read_timeout(&self, _time: Option<Duration>) -> io::Result<()> {
+        Ok(())
+    }
+}

@@ -9,6 +9,7 @@ mod devices;
 mod help;
 mod loads;
 mod refused;
+mod scarce;
 mod tapes;
 
 /// No terminal looks on.

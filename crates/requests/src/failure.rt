@@ -35,8 +35,8 @@ pub enum Failure<'a> {
 }
 
 impl<'a> Failure<'a> {
-    ghost use Rattle.std.specs.Prelude.{◌≡◌};
-    ghost use Rattle.requests.specs.Failure.{status_of, IsFailureOf, IsLoadFailureOf};
+    ghost use Rattle.std.specs.Prelude.{◌≡◌, ◌-◌, slice_get};
+    ghost use Rattle.requests.specs.Failure.{status_of, IsFailureOf, IsLoadFailureOf, NamesTape};
 
     /// The failure that a command's fault is, where its tapes and its script have these names. A tape
     /// that has no name is standard input's.
@@ -53,14 +53,22 @@ impl<'a> Failure<'a> {
             }
             CommandFault::Script(line) => Failure::ScriptRefused(line),
             CommandFault::TooLarge => Failure::TooLarge,
-            CommandFault::ReadTape(number) => match tapes.get(number.saturating_sub(1)) {
-                Some(name) => Failure::CannotRead(name),
-                None => Failure::CannotRead(STANDARD_INPUT),
-            },
+            CommandFault::ReadTape(number) => Failure::unread_tape(number, tapes),
             CommandFault::ReadScript => Failure::CannotRead(script),
             CommandFault::ReadKeys => Failure::CannotRead(STANDARD_INPUT),
             CommandFault::Write => Failure::CannotWrite,
             CommandFault::Memory => Failure::NoMemory,
+        }
+    }
+
+    // The failure that the tape of this number, from 1, can't be read: standard input's, where no
+    // tape has a name.
+    fn unread_tape(number: usize, tapes: &[&'a str]) -> Failure<'a>
+        ensures { NamesTape (slice_get tapes.now (number - 1)) result }
+    {
+        match tapes.get(number.saturating_sub(1)) {
+            Some(name) => Failure::CannotRead(name),
+            None => Failure::CannotRead(STANDARD_INPUT),
         }
     }
 

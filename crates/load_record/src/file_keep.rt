@@ -136,6 +136,3 @@ impl<W: Write> Keep for FileKeep<W> {
         self.is_broken()
     }
 }
-
-#[cfg(test)]
-mod tests;

@@ -13,8 +13,6 @@ mod file_keep;
 mod law;
 mod line;
 mod output;
-#[cfg(test)]
-mod plans;
 mod reader;
 mod run;
 mod version;

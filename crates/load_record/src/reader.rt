@@ -184,6 +184,3 @@ fn held(begun: OpenRun, next: &[Word], text: &[u8]) -> u8
     }
     run.count
 }
-
-#[cfg(test)]
-mod tests;

@@ -1,3 +1,4 @@
+pub mod DiskRecord
 pub mod Durable
 pub mod Load
 pub mod LoadFault

@@ -1,9 +1,11 @@
 //! A record that is written anew: the old one is replaced whole, or stays.
 
-ghost use Rattle.std.specs.Prelude.{false, IfOk};
+ghost use Rattle.std.specs.Prelude.{◌≡◌, false, IfOk, IfErr, IfSome};
 ghost use Rattle.std.specs.Io.KnownBytes.{Appends};
+ghost use Rattle.load_devices.specs.declared.fault.KeepFault.TheVariants as keep;
 ghost use Rattle.load_record.specs.declared.version.Version.TheVariants.{Second};
 ghost use Rattle.load_record.specs.RecordText.{record_text};
+ghost use Rattle.machine_load.specs.DiskRecord.{HasBegun, IsUnbegun};
 
 use crate::begin_fault::BeginFault;
 use crate::durable::DurableWriter;
@@ -28,13 +30,18 @@ pub type DiskRecord<F> = FileKeep<DurableWriter<F>>;
 /// and renamed over it; so whatever happens meanwhile, FILE is the old record or the new one. Where no
 /// file can be made there or be renamed, or FILE is a link, a device or a pipe, which a rename would
 /// replace, it is written in place.
+///
+/// The fault is `Keep` with `Write`, where the record can't be written, or `Memory`.
 pub fn begin_record<F: Files>(
     files: &F,
     alloc: Global,
     name: &str,
     plan: &Plan,
     verified: u32,
-) -> Result<DiskRecord<F::File>, BeginFault> {
+) -> Result<DiskRecord<F::File>, BeginFault>
+    ensures begun { IfOk result (HasBegun plan.now verified) }
+    ensures fault { IfErr result IsUnbegun }
+{
     if is_replaceable(files, name) {
         let beside = format!(in alloc; "{name}{BESIDE}")?;
         if let Some(keeper) = begin_beside(files, name, &beside, plan, verified)? {
@@ -62,7 +69,10 @@ fn begin_beside<F: Files>(
     beside: &str,
     plan: &Plan,
     verified: u32,
-) -> Result<Option<DiskRecord<F::File>>, KeepFault> {
+) -> Result<Option<DiskRecord<F::File>>, KeepFault>
+    ensures begun { IfOk result (λ kept. IfSome kept (HasBegun plan.now verified)) }
+    ensures fault { IfErr result (λ fault. fault ≡ keep.Write) }
+{
     let Some(file) = create_new(files, beside) else {
         return Ok(None);
     };
@@ -104,6 +114,8 @@ fn begun<T: OpenFile + Write + Drop>(
     verified: u32,
 ) -> Result<DiskRecord<T>, KeepFault>
     ensures written { IfOk result (λ keeper. Appends (T.contents file) keeper.text (record_text Second plan.now verified false)) }
+    ensures begun { IfOk result (HasBegun plan.now verified) }
+    ensures fault { IfErr result (λ fault. fault ≡ keep.Write) }
 {
     let mut keeper = FileKeep::new(DurableWriter { file });
     keeper.begin(plan, verified)?;
@@ -112,7 +124,9 @@ fn begun<T: OpenFile + Write + Drop>(
 
 // Brings the renaming to the disk. A folder that may not be read, or that has no disk behind it, is
 // taken as synced.
-fn sync_folder<F: Files>(files: &F, name: &str) -> Result<(), KeepFault> {
+fn sync_folder<F: Files>(files: &F, name: &str) -> Result<(), KeepFault>
+    ensures fault { IfErr result (λ fault. fault ≡ keep.Write) }
+{
     let folder = match name.rsplit_once('/') {
         None => ".",
         Some(("", _)) => "/",

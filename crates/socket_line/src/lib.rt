@@ -10,8 +10,6 @@
 mod receive;
 mod socket_line;
 mod stream;
-#[cfg(test)]
-mod tests;
 
 pub use receive::Receive;
 pub use socket_line::SocketLine;

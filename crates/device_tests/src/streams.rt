@@ -1,0 +1,133 @@
+//! A network and a stream that do as a test says.
+
+use std::cell::Cell;
+use std::io;
+use std::io::{ErrorKind, Read, Write};
+use std::net::{Ipv4Addr, Net, OpenStream, SocketAddr, TcpListener, TcpStream};
+use std::time::Duration;
+
+/// A network where each name has two addresses, and nobody listens at the first.
+#[derive(Drop)]
+pub struct TwoAddresses<'a> {
+    rt: &'a HostRuntime,
+    second: SocketAddr,
+    tried: Cell<u32>,
+}
+
+impl<'a> TwoAddresses<'a> {
+    pub fn new(rt: &'a HostRuntime, second: SocketAddr) -> TwoAddresses<'a> {
+        TwoAddresses {
+            rt,
+            second,
+            tried: Cell::new(0),
+        }
+    }
+
+    /// How many addresses were tried.
+    pub fn tried(&self) -> u32 {
+        self.tried.get()
+    }
+}
+
+impl Net for TwoAddresses<'_> {
+    type Stream = TcpStream;
+
+    type Listener = TcpListener;
+
+    fn bind(&self, address: SocketAddr) -> io::Result<TcpListener> {
+        Net::bind(self.rt, address)
+    }
+
+    fn connect(&self, address: SocketAddr) -> io::Result<TcpStream> {
+        self.tried.set(self.tried.get().saturating_add(1));
+        if address == self.second {
+            Net::connect(self.rt, address)
+        } else {
+            Err(io::Error::from(ErrorKind::ConnectionRefused))
+        }
+    }
+
+    fn lookup_host(&self, _host: &str, _port: u16, found: &mut [SocketAddr]) -> io::Result<usize> {
+        if found.len() < 2 {
+            return Ok(0);
+        }
+        found[0] = SocketAddr::from((Ipv4Addr::LOCALHOST, 9));
+        found[1] = self.second;
+        Ok(2)
+    }
+}
+
+/// What a stream was set to, and how often it was read, written and flushed.
+#[derive(Drop)]
+pub struct Notes {
+    pub calls: Cell<u32>,
+    pub time_limit: Cell<Option<Duration>>,
+    pub is_prompt: Cell<bool>,
+}
+
+impl Notes {
+    /// Nothing was asked yet.
+    pub fn new() -> Notes {
+        Notes {
+            calls: Cell::new(0),
+            time_limit: Cell::new(None),
+            is_prompt: Cell::new(false),
+        }
+    }
+}
+
+/// A stream of which some calls fail in one way: so many, from the first of them on, counted from 0. A
+/// read that does not fail gives an `A`, and a write takes everything.
+#[derive(Drop)]
+pub struct Faulty<'a> {
+    pub kind: ErrorKind,
+    pub first: u32,
+    pub faults: u32,
+    pub notes: &'a Notes,
+}
+
+impl Faulty<'_> {
+    // One more call, which may be one that fails.
+    fn called(&self) -> io::Result<()> {
+        let number = self.notes.calls.get();
+        self.notes.calls.set(number.saturating_add(1));
+        if number >= self.first && number.saturating_sub(self.first) < self.faults {
+            return Err(io::Error::from(self.kind));
+        }
+        Ok(())
+    }
+}
+
+impl Read for Faulty<'_> {
+    fn read(&mut self, buf: &mut [u8]) -> io::Result<usize> {
+        self.called()?;
+        if buf.is_empty() {
+            return Ok(0);
+        }
+        buf[0] = b'A';
+        Ok(1)
+    }
+}
+
+impl Write for Faulty<'_> {
+    fn write(&mut self, buf: &[u8]) -> io::Result<usize> {
+        self.called()?;
+        Ok(buf.len())
+    }
+
+    fn flush(&mut self) -> io::Result<()> {
+        self.called()
+    }
+}
+
+impl OpenStream for Faulty<'_> {
+    fn set_read_timeout(&self, time: Option<Duration>) -> io::Result<()> {
+        self.notes.time_limit.set(time);
+        Ok(())
+    }
+
+    fn set_nodelay(&self, nodelay: bool) -> io::Result<()> {
+        self.notes.is_prompt.set(nodelay);
+        Ok(())
+    }
+}

@@ -16,27 +16,3 @@ pub fn push_digit(value: u16, character: u8) -> Option<u16>
         _ => None,
     }
 }
-
-#[cfg(test)]
-mod tests {
-    use super::*;
-
-    #[test]
-    fn typed_digits(rt: HostRuntime) {
-        for (value, key, want, reason) in [
-            (0, b'5', Some(5), "the first digit"),
-            (0o12, b'3', Some(0o123), "a digit comes in at the right"),
-            (
-                0o123456,
-                b'7',
-                Some(0o34567),
-                "a seventh digit pushes the first out",
-            ),
-            (65535, b'7', Some(65535), "sixteen bits stay sixteen"),
-            (1, b'8', None, "8 is no octal digit"),
-            (1, b'/', None, "a command's key"),
-        ] {
-            assert_eq!(rt; push_digit(value, key), want, "{reason}");
-        }
-    }
-}

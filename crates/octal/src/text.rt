@@ -45,35 +45,3 @@ pub fn read_oct6(text: &[u8; 6]) -> Option<u16>
     }
     Some(word)
 }
-
-#[cfg(test)]
-mod tests {
-    use super::*;
-
-    #[test]
-    fn words_and_texts(rt: HostRuntime) {
-        for (word, text, reason) in [
-            (0, b"000000", "six digits even for zero"),
-            (7, b"000007", "the largest digit"),
-            (8, b"000010", "the second place is eight"),
-            (0o1000, b"001000", "a usual load address"),
-            (0o123456, b"123456", "each place has its own digit"),
-            (65535, b"177777", "the largest word begins with 1"),
-        ] {
-            assert_eq!(rt; oct6(word), *text, "{reason}");
-            assert_eq!(rt; read_oct6(text), Some(word), "{reason}");
-        }
-        for (text, reason) in [
-            (
-                b"200000",
-                "a word has sixteen bits, so the first digit is 0 or 1",
-            ),
-            (b"777777", "the same for the largest digit"),
-            (b"000008", "8 is no octal digit"),
-            (b"00000/", "the character before the digits"),
-            (b" 01000", "a space is no digit"),
-        ] {
-            assert_eq!(rt; read_oct6(text), None, "{reason}");
-        }
-    }
-}

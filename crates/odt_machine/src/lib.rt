@@ -25,6 +25,3 @@ pub use key::Key;
 pub use machine::{LARGEST_WORDS, Odt, OdtError};
 pub use mode::Mode;
 pub use style::{PLAIN_STYLE, Style};
-
-#[cfg(test)]
-mod tests;

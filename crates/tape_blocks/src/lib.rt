@@ -35,6 +35,3 @@ pub use law::{one_reading, one_tape};
 pub use reader::{Fed, TapeReader, read_tape};
 pub use tape::{BadTape, TAPE_LIMIT, Tape};
 pub use writer::write_tape;
-
-#[cfg(test)]
-mod tests;

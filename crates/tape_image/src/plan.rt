@@ -116,6 +116,3 @@ fn program_start(start: u16) -> Option<u16>
 {
     (start % 2 == 0).then_some(start)
 }
-
-#[cfg(test)]
-mod tests;

@@ -1,4 +1,7 @@
-use super::*;
+//! The console's key table by hand, styles and machines of each size.
+
+use odt_machine::{Mode, Odt, OdtError, PLAIN_STYLE, Style};
+use std::alloc::Global;
 use std::test::Fail;
 
 /// A mode and the key typed in it; then the mode after it, the answer and the word at 000002; and
@@ -175,125 +178,102 @@ const ROWS: [(Mode, u8, Mode, &str, u16, &str); 21] = [
     ),
 ];
 
+/// A machine of four words in this mode. The word at 000002 holds 123456.
+fn machine_in(alloc: Global, mode: Mode) -> Result<Odt, Fail> {
+    let mut odt = Odt::new(alloc, 4, PLAIN_STYLE)?;
+    odt.put(2, 0o123456);
+    Ok(odt.with_mode(mode)?)
+}
+
 #[test]
 fn each_line_of_the_key_table(rt: HostRuntime) -> Result<(), Fail> {
     for row in &ROWS {
         let (mode, key, after, answer, word, reason) = *row;
-        let mut odt = Odt::new(rt.alloc(), 4, PLAIN_STYLE)?;
-        assert!(rt; odt.put(2, 0o123456));
-        let mut odt = odt.with_mode(mode)?;
-        assert_eq!(rt; odt.take(key).as_slice(), answer.as_bytes(), "{reason}");
-        assert_eq!(rt; odt.mode(), after, "{reason}");
-        assert_eq!(rt; odt.peek(2), Some(word), "{reason}");
+        let mut odt = machine_in(rt.alloc(), mode)?;
+        assert!(rt; odt.take(key).as_slice() == answer.as_bytes(), "{reason}");
+        assert!(rt;
+            odt.mode() == after && odt.peek(2) == Some(word),
+            "{reason}"
+        );
     }
     Ok(())
 }
+
+/// A style's number, what it answers to an illegal key and to the slash that opens a word of zero, and why the row
+/// is here.
+const STYLES: [(u8, &str, &str, &str); 8] = [
+    (0, "?\r\n@", "/000000 ", "the shortest answers"),
+    (
+        1,
+        "?\r\n@",
+        "/ 000000 ",
+        "a space before the digits: nine characters",
+    ),
+    (2, "?\r\r\n@", "/000000 ", "two returns"),
+    (3, "?\r\r\n@", "/ 000000 ", "a space and two returns"),
+    (4, "Z?\r\n@", "/000000 ", "an illegal key is echoed"),
+    (5, "Z?\r\n@", "/ 000000 ", "a space and an echo"),
+    (6, "Z?\r\r\n@", "/000000 ", "two returns and an echo"),
+    (7, "Z?\r\r\n@", "/ 000000 ", "all three"),
+];
 
 #[test]
 fn eight_styles(rt: HostRuntime) -> Result<(), Fail> {
-    for (number, illegal, opened, reason) in [
-        (0, "?\r\n@", "/000000 ", "the shortest answers"),
-        (
-            1,
-            "?\r\n@",
-            "/ 000000 ",
-            "a space before the digits: nine characters",
-        ),
-        (2, "?\r\r\n@", "/000000 ", "two returns"),
-        (3, "?\r\r\n@", "/ 000000 ", "a space and two returns"),
-        (4, "Z?\r\n@", "/000000 ", "an illegal key is echoed"),
-        (5, "Z?\r\n@", "/ 000000 ", "a space and an echo"),
-        (6, "Z?\r\r\n@", "/000000 ", "two returns and an echo"),
-        (7, "Z?\r\r\n@", "/ 000000 ", "all three"),
-    ] {
+    for row in &STYLES {
+        let (number, illegal, opened, reason) = *row;
         let style = Style::from_number(number).ok_or("a style")?;
-        assert_eq!(rt; style.number(), number, "{reason}");
         let mut odt = Odt::new(rt.alloc(), 1, style)?;
-        assert_eq!(rt; odt.style(), style, "{reason}");
-        assert_eq!(rt; odt.take(b'Z').as_slice(), illegal.as_bytes(), "{reason}");
-        assert_eq!(rt; odt.take(b'0').as_slice(), b"0".as_slice(), "{reason}");
-        assert_eq!(rt; odt.take(b'/').as_slice(), opened.as_bytes(), "{reason}");
+        assert!(rt; odt.style().number() == number, "{reason}");
+        assert!(rt; odt.take(b'Z').as_slice() == illegal.as_bytes(), "{reason}");
+        odt.take(b'0');
+        assert!(rt; odt.take(b'/').as_slice() == opened.as_bytes(), "{reason}");
     }
-    assert_eq!(rt; Style::from_number(8), None);
+    assert!(rt; Style::from_number(8).is_none());
     Ok(())
 }
 
 #[test]
-fn machines_of_each_size(rt: HostRuntime) -> Result<(), Fail> {
-    assert_eq!(rt;
-        Odt::new(rt.alloc(), 28673, PLAIN_STYLE).err(),
-        Some(OdtError::TooLarge)
-    );
-
+fn the_largest_machine(rt: HostRuntime) -> Result<(), Fail> {
+    let error = Odt::new(rt.alloc(), 28673, PLAIN_STYLE).err();
+    assert!(rt; error == Some(OdtError::TooLarge));
     let mut odt = Odt::new(rt.alloc(), 28672, PLAIN_STYLE)?;
-    assert_eq!(rt; odt.top(), 57344);
+    assert!(rt; odt.top() == 57344);
     assert!(rt; odt.put(0o157776, 1), "the last word below the I/O page");
     assert!(rt; !odt.put(0o157777, 1), "an odd address");
     assert!(rt; !odt.put(0o160000, 1), "the I/O page");
-    assert_eq!(rt; odt.peek(0o157776), Some(1));
-    assert_eq!(rt; odt.peek(0o157774), Some(0));
-    assert_eq!(rt; odt.peek(0o160000), None);
-
-    for (mode, reason) in [
-        (Mode::Number(0, 0), "a number has a digit"),
-        (Mode::Number(0, 8), "seven stands for more"),
-        (Mode::Opened(0o1001), "an odd address"),
-        (Mode::Opened(0o160000), "no word at the top"),
-        (Mode::Typing(0o1000, 0, 8), "seven stands for more"),
-        (Mode::Typing(0o1000, 0, 0), "a value has a digit"),
-        (Mode::Typing(0o160000, 0, 1), "no word at the top"),
-    ] {
-        match odt.with_mode(mode) {
-            Ok(_) => return Err("accepted")?,
-            Err(same) => odt = same,
-        }
-        assert_eq!(rt; odt.mode(), Mode::Prompt, "{reason}");
-        assert_eq!(rt; odt.peek(0o157776), Some(1), "{reason}");
-    }
-    let odt = odt.with_mode(Mode::Number(0, 7))?;
-    assert_eq!(rt; odt.mode(), Mode::Number(0, 7));
-
-    let mut empty = Odt::new(rt.alloc(), 0, PLAIN_STYLE)?;
-    assert_eq!(rt; empty.top(), 0);
-    assert!(rt; !empty.put(0, 1), "no word at all");
-    assert_eq!(rt; empty.take(b'0').as_slice(), b"0".as_slice());
-    assert_eq!(rt; empty.take(b'/').as_slice(), b"/?\r\n@".as_slice());
+    assert!(rt; odt.peek(0o157776) == Some(1) && odt.peek(0o157774) == Some(0));
+    assert!(rt; odt.peek(0o160000).is_none());
     Ok(())
 }
 
+/// Modes of a machine of four words, whether typing can reach them, and why the row is here.
+const MODES: [(Mode, bool, &str); 9] = [
+    (Mode::Number(0, 7), true, "seven digits or more"),
+    (Mode::Number(0, 0), false, "a number has a digit"),
+    (Mode::Number(0, 8), false, "seven stands for more"),
+    (Mode::Opened(6), true, "the last word"),
+    (Mode::Opened(5), false, "an odd address"),
+    (Mode::Opened(8), false, "no word at the top"),
+    (Mode::Typing(2, 0, 8), false, "seven stands for more"),
+    (Mode::Typing(2, 0, 0), false, "a value has a digit"),
+    (Mode::Typing(8, 0, 1), false, "no word at the top"),
+];
+
 #[test]
-fn every_key_in_every_mode(rt: HostRuntime) -> Result<(), Fail> {
-    let all = Style::from_number(7).ok_or("a style")?;
-    for mode in [
-        Mode::Prompt,
-        Mode::Number(0o1000, 6),
-        Mode::Opened(0),
-        Mode::Typing(0, 0o1000, 6),
-        Mode::Running(0),
-    ] {
-        for key in 0..=255u8 {
-            let mut odt = Odt::new(rt.alloc(), 512, all)?.with_mode(mode)?;
-            let answer = odt.take(key);
-            assert!(rt; answer.len() <= 9, "{mode:?} answers {key} too long");
-            let silent = matches!(mode, Mode::Running(_));
-            assert_eq!(rt; answer.is_empty(), silent, "{mode:?} and {key}");
-        }
+fn modes_that_typing_reaches(rt: HostRuntime) -> Result<(), Fail> {
+    for row in &MODES {
+        let (mode, is_one, reason) = *row;
+        let odt = Odt::new(rt.alloc(), 4, PLAIN_STYLE)?;
+        assert!(rt; odt.with_mode(mode).is_ok() == is_one, "{reason}");
     }
     Ok(())
 }
 
 #[test]
-fn a_person_types(rt: HostRuntime) -> Result<(), Fail> {
-    let mut odt = Odt::new(rt.alloc(), 28672, PLAIN_STYLE)?;
-    let mut printed = Vec::new(rt.alloc());
-    for key in b"001000/011064\r001000/\r9" {
-        for character in odt.take(*key) {
-            printed.push(character)?;
-        }
-    }
-    assert_eq!(rt;
-        printed.as_slice(),
-        b"001000/000000 011064\r\n@001000/011064 \r\n@?\r\n@".as_slice()
-    );
+fn a_machine_of_no_words(rt: HostRuntime) -> Result<(), Fail> {
+    let mut odt = Odt::new(rt.alloc(), 0, PLAIN_STYLE)?;
+    assert!(rt; odt.top() == 0 && !odt.put(0, 1));
+    odt.take(b'0');
+    assert!(rt; odt.take(b'/').as_slice() == b"/?\r\n@".as_slice());
     Ok(())
 }

@@ -247,6 +247,3 @@ fn let_through(
         }
     }
 }
-
-#[cfg(test)]
-mod tests;

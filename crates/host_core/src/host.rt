@@ -8,8 +8,6 @@ ghost use Rattle.host_core.specs.Opening.{refusal_of};
 ghost use Rattle.host_core.specs.PhaseTable.{move};
 ghost use Rattle.host_core.specs.Steps.{IsVerifying, IsMarking};
 
-#[cfg(test)]
-mod tests;
 mod turns;
 
 use crate::heard::Heard;

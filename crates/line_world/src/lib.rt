@@ -9,8 +9,6 @@
 #![tactic(auto)]
 
 mod event;
-#[cfg(test)]
-mod losses_tests;
 mod setup;
 mod world;
 

@@ -296,6 +296,3 @@ fn send(down: &mut ArrayVec<u8, 1>, key: Option<u8>)
         down.push(key);
     }
 }
-
-#[cfg(test)]
-mod tests;

@@ -16,6 +16,3 @@ pub use item::{Item, Kept};
 pub use keep::Keep;
 pub use line::Line;
 pub use memory_keep::MemoryKeep;
-
-#[cfg(test)]
-mod tests;

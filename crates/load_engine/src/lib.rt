@@ -10,6 +10,3 @@ mod stop;
 
 pub use driving::drive;
 pub use stop::Stop;
-
-#[cfg(test)]
-mod tests;

@@ -1,5 +1,12 @@
-use super::*;
-use odt_machine::PLAIN_STYLE;
+//! The line in memory: what it loses, how it fails, and how much may be said on it.
+
+use crate::checks::check_that;
+use honest_line::{Loss, MemoryLine};
+use host_core::Heard;
+use load_devices::{Line, LineFault};
+use odt_machine::{Mode, Odt, PLAIN_STYLE};
+use std::alloc::Global;
+use std::process::Abort;
 use std::test::Fail;
 
 fn line_with(
@@ -16,10 +23,29 @@ fn line_with(
     Ok(MemoryLine::new(alloc, odt, list, room, fail_at)?)
 }
 
-/// A key, and what is heard then, over any line.
-fn ask<L: Line>(line: &mut L, key: u8) -> Result<Heard, LineFault> {
+/// `Z` is sent so often.
+fn send_so_often(line: &mut MemoryLine, times: u32) -> Result<(), LineFault> {
+    for _ in 0..times {
+        line.send(b'Z')?;
+    }
+    Ok(())
+}
+
+/// A key, and what is heard then.
+fn ask(line: &mut MemoryLine, key: u8) -> Result<Heard, LineFault> {
     line.send(key)?;
     line.hear()
+}
+
+/// The text is heard, and then nothing.
+fn hears(rt: &impl Abort, line: &mut MemoryLine, text: &[u8], reason: &str) -> Result<(), Fail> {
+    for character in text {
+        let heard = line.hear()?;
+        check_that(rt, heard == Heard::Got(*character), reason);
+    }
+    let heard = line.hear()?;
+    check_that(rt, heard == Heard::Quiet, reason);
+    Ok(())
 }
 
 /// The losses; what is heard where `Z` is sent twice, and is answered `?`, CR, LF and `@` each time;
@@ -54,17 +80,18 @@ const LOSSES: [(&[Loss], &[u8], &str); 9] = [
 
 #[test]
 fn what_is_lost(rt: HostRuntime) -> Result<(), Fail> {
-    for (losses, heard, reason) in &LOSSES {
+    for row in &LOSSES {
+        let (losses, text, reason) = *row;
         let mut line = line_with(rt.alloc(), losses, 20, None)?;
-        line.send(b'Z')?;
-        line.send(b'Z')?;
-        assert_eq!(rt; line.waiting(), *heard, "{reason}");
-        for character in *heard {
-            assert_eq!(rt; line.hear()?, Heard::Got(*character), "{reason}");
-        }
-        assert_eq!(rt; line.hear()?, Heard::Quiet, "{reason}");
-        assert_eq!(rt; line.items().len(), heard.len() + 3, "{reason}");
-        assert_eq!(rt; line.failures(), 0, "{reason}");
+        send_so_often(&mut line, 2)?;
+        check_that(&rt, line.waiting() == text, reason);
+        hears(&rt, &mut line, text, reason)?;
+        check_that(
+            &rt,
+            line.items().len() == text.len().saturating_add(3),
+            reason,
+        );
+        check_that(&rt, line.failures() == 0, reason);
     }
     Ok(())
 }
@@ -134,16 +161,22 @@ const FAULTS: [(u32, Option<u64>, [Result<Heard, LineFault>; 3], &str); 6] = [
     ),
 ];
 
+/// `Z` is sent and one thing is heard, with this answer.
+fn answers(rt: &impl Abort, line: &mut MemoryLine, answer: Result<Heard, LineFault>, reason: &str) {
+    let before = line.failures();
+    check_that(rt, ask(line, b'Z') == answer, reason);
+    check_that(rt, line.failed() == answer.is_err(), reason);
+    let failures = before.saturating_add(if answer.is_err() { 1 } else { 0 });
+    check_that(rt, line.failures() == failures, reason);
+}
+
 #[test]
 fn how_it_fails(rt: HostRuntime) -> Result<(), Fail> {
-    for (room, fail_at, answers, reason) in &FAULTS {
-        let mut line = line_with(rt.alloc(), &[], *room, *fail_at)?;
-        for answer in answers {
-            let before = line.failures();
-            assert_eq!(rt; ask(&mut line, b'Z'), *answer, "{reason}");
-            assert_eq!(rt; line.failed(), answer.is_err(), "{reason}");
-            let one = if answer.is_err() { 1 } else { 0 };
-            assert_eq!(rt; line.failures(), before.saturating_add(one), "{reason}");
+    for row in &FAULTS {
+        let (room, fail_at, outcomes, reason) = *row;
+        let mut line = line_with(rt.alloc(), &[], room, fail_at)?;
+        for answer in outcomes {
+            answers(&rt, &mut line, answer, reason);
         }
     }
     Ok(())
@@ -152,15 +185,20 @@ fn how_it_fails(rt: HostRuntime) -> Result<(), Fail> {
 #[test]
 fn it_is_full_where_many_wait(rt: HostRuntime) -> Result<(), Fail> {
     let mut line = line_with(rt.alloc(), &[], 100, None)?;
-    for _ in 0..14 {
-        line.send(b'Z')?;
-    }
-    assert_eq!(rt; line.waiting().len(), 56);
-    assert_eq!(rt; line.send(b'Z'), Err(LineFault::Full));
-    assert_eq!(rt; line.hear()?, Heard::Got(b'?'));
-    assert_eq!(rt; line.send(b'1'), Ok(()));
-    assert_eq!(rt; line.waiting().len(), 56);
-    assert_eq!(rt; line.odt().mode(), odt_machine::Mode::Number(1, 1));
+    send_so_often(&mut line, 14)?;
+    check_that(&rt, line.waiting().len() == 56, "fourteen answers wait");
+    answers(
+        &rt,
+        &mut line,
+        Err(LineFault::Full),
+        "no room for a fifteenth",
+    );
+    let heard = line.hear()?;
+    check_that(&rt, heard == Heard::Got(b'?'), "the first that waits");
+    line.send(b'1')?;
+    check_that(&rt, line.waiting().len() == 56, "one came for one");
+    let mode = line.odt().mode();
+    check_that(&rt, mode == Mode::Number(1, 1), "the key was taken");
     Ok(())
 }
 
@@ -168,16 +206,15 @@ fn it_is_full_where_many_wait(rt: HostRuntime) -> Result<(), Fail> {
 fn a_line_on_which_much_is_said(rt: HostRuntime) -> Result<(), Fail> {
     const TIMES: u32 = 20_000;
     let mut line = line_with(rt.alloc(), &[Loss::Up(79_999)], 5 * TIMES, None)?;
-    for time in 1..=TIMES {
-        line.send(b'Z')?;
-        for character in b"?\r\n@" {
-            // The last line feed of all is lost.
-            if time < TIMES || *character != b'\n' {
-                assert_eq!(rt; line.hear()?, Heard::Got(*character), "{time}");
-            }
+    for _ in 1..TIMES {
+        answers(&rt, &mut line, Ok(Heard::Got(b'?')), "a whole answer");
+        for character in b"\r\n@" {
+            let heard = line.hear()?;
+            check_that(&rt, heard == Heard::Got(*character), "a whole answer");
         }
     }
-    assert_eq!(rt; line.hear()?, Heard::Quiet);
-    assert_eq!(rt; line.hear(), Err(LineFault::Full));
+    line.send(b'Z')?;
+    hears(&rt, &mut line, b"?\r@", "the last line feed of all is lost")?;
+    answers(&rt, &mut line, Err(LineFault::Full), "no room is left");
     Ok(())
 }

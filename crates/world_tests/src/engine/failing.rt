@@ -113,26 +113,38 @@ fn said_before(alloc: Global, call: usize) -> Result<Vec<Item>, Fail> {
     Ok(items)
 }
 
+/// A load whose call with this number fails stops so, and this is said and kept.
+fn stops_so(
+    rt: &impl Abort,
+    alloc: Global,
+    call: usize,
+    stop: Stop,
+    items: &[Item],
+    kept: &[Kept],
+) -> Result<(), Fail> {
+    let (expected_stop, count) = expected(call);
+    let news = whole_news()?;
+    assert!(rt; stop == expected_stop, "call {call}");
+    assert!(rt;
+        items == said_before(alloc, call)?.as_slice(),
+        "call {call}"
+    );
+    assert!(rt; kept == &news[..count.min(2)], "call {call}");
+    Ok(())
+}
+
 #[test]
 fn each_call_of_the_line_fails(rt: HostRuntime) -> Result<(), Fail> {
     let alloc = rt.alloc();
-    let news = whole_news()?;
     for call in 1..=CALLS.len() + 1 {
-        let said = said_before(alloc, call)?;
         let fail_at = Some(call as u64);
-        let outcome = driven(alloc, Setting { fail_at, ..AMPLE })?;
-        let (stop, kept) = expected(call);
-        assert_eq!(rt; outcome.stop, stop, "from call {call} on");
-        assert_eq!(rt;
-            outcome.keep.kept(),
-            &news[..kept.min(2)],
-            "from call {call} on"
-        );
-        assert_eq!(rt;
-            outcome.line.items(),
-            said.as_slice(),
-            "from call {call} on"
-        );
+        let Outcome {
+            stop,
+            line,
+            keep,
+            ..
+        } = driven(alloc, Setting { fail_at, ..AMPLE })?;
+        stops_so(&rt, alloc, call, stop, line.items(), keep.kept())?;
     }
     Ok(())
 }
@@ -140,7 +152,6 @@ fn each_call_of_the_line_fails(rt: HostRuntime) -> Result<(), Fail> {
 #[test]
 fn one_call_of_the_line_fails(rt: HostRuntime) -> Result<(), Fail> {
     let alloc = rt.alloc();
-    let news = whole_news()?;
     for call in 1..=CALLS.len() {
         let mut line = FailsOnce {
             line: line_of(alloc, AMPLE)?,
@@ -150,13 +161,14 @@ fn one_call_of_the_line_fails(rt: HostRuntime) -> Result<(), Fail> {
             fault: None,
         };
         let mut keep = MemoryKeep::new(alloc, 2, None)?;
-        let (_, stopped) = drive(core_of(alloc, 8)?, &mut line, &mut keep, 1000);
-        let (stop, kept) = expected(call);
-        let said = said_before(alloc, call)?;
-        assert_eq!(rt; stopped, stop, "at call {call}");
-        assert_eq!(rt; keep.kept(), &news[..kept.min(2)], "at call {call}");
-        assert_eq!(rt; line.line.items(), said.as_slice(), "at call {call}");
-        assert_eq!(rt; line.calls, call as u64, "no call after call {call}");
+        let host = fresh_host(alloc, &ONE_WORD, 8)?;
+        let (_, stop) = drive_on(host, &mut line, &mut keep, 1000);
+        stops_so(&rt, alloc, call, stop, line.line.items(), keep.kept())?;
+        check_that(
+            &rt,
+            line.calls == call as u64,
+            "no call after the failing one",
+        );
     }
     Ok(())
 }

@@ -1,4 +1,8 @@
-use super::*;
+//! The keeper in memory, and the texts of the devices' faults.
+
+use crate::checks::check_that;
+use load_devices::{Keep, KeepFault, Kept, LineFault, MemoryKeep};
+use std::process::Abort;
 use std::test::Fail;
 use tape_image::Word;
 
@@ -51,24 +55,35 @@ const ROWS: [(u32, Option<u32>, [Option<KeepFault>; 3], usize, &str); 6] = [
     ),
 ];
 
+/// The next call has this outcome, and so many calls have failed then.
+fn keeps_so(
+    rt: &impl Abort,
+    keep: &mut MemoryKeep,
+    item: Kept,
+    fault: Option<KeepFault>,
+    reason: &str,
+) {
+    let before = keep.failures();
+    let outcome = match item {
+        Kept::Word(word) => keep.add(word),
+        Kept::Go => keep.mark(),
+    };
+    check_that(rt, outcome.err() == fault, reason);
+    check_that(rt, keep.failed() == fault.is_some(), reason);
+    let failures = before.saturating_add(if fault.is_some() { 1 } else { 0 });
+    check_that(rt, keep.failures() == failures, reason);
+}
+
 #[test]
 fn a_keeper_keeps_and_fails_by_its_numbers(rt: HostRuntime) -> Result<(), Fail> {
-    let Some(word) = Word::new(0o1000, 0o177777, 0o11064) else {
-        panic!(rt; "no word");
-    };
+    let word = Kept::Word(Word::new(0o1000, 0o177777, 0o11064).ok_or("no word")?);
     for row in &ROWS {
-        let (room, fail_at, faults, count, reason) = *row;
+        let (room, fail_at, [first, second, third], kept, reason) = *row;
         let mut keep = MemoryKeep::new(rt.alloc(), room, fail_at)?;
-        let outcomes = [
-            keep.add(word).err(),
-            keep.mark().err(),
-            keep.add(word).err(),
-        ];
-        let failures = faults.iter().filter(|fault| fault.is_some()).count();
-        assert_eq!(rt; outcomes, faults, "{reason}");
-        assert_eq!(rt; keep.kept().len(), count, "{reason}");
-        assert_eq!(rt; keep.failures(), failures as u64, "{reason}");
-        assert_eq!(rt; keep.failed(), faults[2].is_some(), "{reason}");
+        keeps_so(&rt, &mut keep, word, first, reason);
+        keeps_so(&rt, &mut keep, Kept::Go, second, reason);
+        keeps_so(&rt, &mut keep, word, third, reason);
+        check_that(&rt, keep.kept().len() == kept, reason);
     }
     Ok(())
 }
@@ -83,8 +98,9 @@ fn a_keeper_of_the_largest_load(rt: HostRuntime) -> Result<(), Fail> {
         keep.add(word)?;
     }
     keep.mark()?;
-    assert_eq!(rt; keep.kept().len(), 28673);
-    assert_eq!(rt; keep.mark(), Err(KeepFault::Full));
+    check_that(&rt, keep.kept().len() == 28673, "every word and the mark");
+    let outcome = keep.mark();
+    check_that(&rt, outcome == Err(KeepFault::Full), "no more");
     Ok(())
 }
 
@@ -100,14 +116,14 @@ fn faults_have_texts(rt: HostRuntime) -> Result<(), Fail> {
         (LineFault::Noise, "nothing but noise on the line"),
     ] {
         let (fault, text) = *row;
-        assert_eq!(rt; format!(in alloc; "{fault}")?.as_str(), text);
+        check_that(&rt, format!(in alloc; "{fault}")?.as_str() == text, text);
     }
     for row in &[
         (KeepFault::Write, "cannot keep the progress"),
         (KeepFault::Full, "no room to keep the progress"),
     ] {
         let (fault, text) = *row;
-        assert_eq!(rt; format!(in alloc; "{fault}")?.as_str(), text);
+        check_that(&rt, format!(in alloc; "{fault}")?.as_str() == text, text);
     }
     Ok(())
 }

@@ -20,10 +20,14 @@ impl SlowConsole {
         filler: u16,
         style: Style,
     ) -> Result<SlowConsole, AllocError> {
+        let mut memory = Vec::new(alloc);
+        for _ in 0..words {
+            memory.push(filler)?;
+        }
         Ok(SlowConsole {
             alloc,
             style,
-            memory: vec![in alloc; filler; usize::from(words)]?,
+            memory,
             line: String::new(alloc),
         })
     }

@@ -1,5 +1,5 @@
 use super::{SlowConsole, SlowHost};
-use crate::Event;
+use line_world::Event;
 use std::alloc::{AllocError, Global};
 
 /// Console and host at the ends of a line: the keys and the answers that are under way.

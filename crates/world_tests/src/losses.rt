@@ -3,24 +3,19 @@
 
 mod slow_model;
 
-use crate::{Event, World};
-use host_core::{End, HostCore, Progress};
+use crate::tapes::{OVERLAP, fresh_host};
+use crate::worlds::world_of;
+use host_core::End;
+use line_world::{Event, World};
 use odt_machine::{Odt, Style};
 use slow_model::{SlowConsole, SlowHost, SlowLine, SlowWord};
 use std::alloc::{AllocError, Global};
 use std::process::Abort;
 use std::test::Fail;
-use tape_blocks::read_tape;
-use tape_image::Plan;
-
-/// Two blocks, the second over a byte of the first, and the start 001000.
-const TAPE: &[u8] = b"\x01\x00\x08\x00\x00\x02\x11\x22\xC2\
-    \x01\x00\x08\x00\x01\x02\x33\x44\x7D\
-    \x01\x00\x06\x00\x00\x02\xF7";
 
 const START: u16 = 0o001000;
 
-/// The words of that tape. Of the second it gives the low byte alone.
+/// The words of the tape. Of the second it gives the low byte alone.
 const WORDS: &[SlowWord] = &[
     SlowWord {
         address: 0o001000,
@@ -202,19 +197,8 @@ impl Setting<'_> {
         for word in 0..self.load.words {
             assert!(rt; odt.put(word.wrapping_mul(2), self.load.filler));
         }
-        let (tape, _) = read_tape(alloc, TAPE)?;
-        let plan = Plan::of(alloc, &tape)?;
-        let progress = Progress {
-            verified: 0,
-            going: false,
-        };
-        let Ok(core) = HostCore::new(plan, progress, self.patience) else {
-            panic!(rt; "a host with nothing verified is refused");
-        };
-        let Ok(world) = World::new(odt, core, &[]) else {
-            panic!(rt; "a world at its opening is refused");
-        };
-        Ok(world)
+        let core = fresh_host(alloc, &OVERLAP, self.patience)?;
+        Ok(world_of(odt, core, &[])?)
     }
 
     // Plays the load to its end, and tells whether the loss fell in it. After each event the world
@@ -238,10 +222,9 @@ impl Setting<'_> {
         }
         assert!(rt; line.host.end.is_some(), "no end in {story:?} of {self:?}");
         if !fell && story.restart.is_none() {
-            assert_eq!(rt; line.host.end, Some(self.load.end), "{self:?}");
-            assert_eq!(rt;
-                line.console.word(0o001002),
-                self.load.second_word,
+            assert!(rt; line.host.end == Some(self.load.end), "{self:?}");
+            assert!(rt;
+                line.console.word(0o001002) == self.load.second_word,
                 "{self:?}"
             );
         }
@@ -257,9 +240,8 @@ impl Setting<'_> {
                 restart: None,
             };
             let fell = self.play(rt, alloc, story)?;
-            assert_eq!(rt;
-                fell,
-                number < length,
+            assert!(rt;
+                fell == (number < length),
                 "character {number} {way:?} of {self:?}"
             );
         }

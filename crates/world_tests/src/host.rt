@@ -1,52 +1,15 @@
-mod rows;
+//! What a host types, whatever answers, and how it begins.
 
-use super::*;
+mod phases;
+
+use crate::checks::check_that;
+use crate::tapes::{HIGH_BYTE, NOTHING, ONE_WORD, OVERLAP, fresh_host, plan_of};
+use host_core::{BadProgress, End, Heard, HostCore, Progress};
 use std::alloc::Global;
 use std::test::Fail;
-use tape_blocks::read_tape;
-
-/// A tape of one block, the word 011064 at 001000, that starts at 001000.
-const ONE_WORD: [u8; 16] = [
-    0x01, 0x00, 0x08, 0x00, 0x00, 0x02, 0x34, 0x12, 0xAF, 0x01, 0x00, 0x06, 0x00, 0x00, 0x02, 0xF7,
-];
-
-/// A tape of two blocks, the second over the end of the first: the word 031421 at 001000 and the byte 104
-/// at 001002. It starts at 001000.
-const TWO_WORDS: [u8; 25] = [
-    0x01, 0x00, 0x08, 0x00, 0x00, 0x02, 0x11, 0x22, 0xC2, 0x01, 0x00, 0x08, 0x00, 0x01, 0x02, 0x33,
-    0x44, 0x7D, 0x01, 0x00, 0x06, 0x00, 0x00, 0x02, 0xF7,
-];
-
-/// A tape with one byte, 125 at 001001, and no start.
-const HIGH_BYTE: [u8; 15] = [
-    0x01, 0x00, 0x07, 0x00, 0x01, 0x02, 0x55, 0xA0, 0x01, 0x00, 0x06, 0x00, 0x01, 0x00, 0xF8,
-];
-
-/// A tape with neither words nor a start.
-const NOTHING: [u8; 7] = [0x01, 0x00, 0x06, 0x00, 0x01, 0x00, 0xF8];
 
 /// In a text of what is heard: nothing comes for the quiet time.
 const PAUSE: u8 = b'~';
-
-/// A character that no phase waits for.
-const BELL: u8 = 0x07;
-
-fn plan_of(alloc: Global, tape: &[u8]) -> Result<Plan, Fail> {
-    let (tape, _) = read_tape(alloc, tape)?;
-    Ok(Plan::of(alloc, &tape)?)
-}
-
-/// A fresh host for the tape.
-fn host_of(alloc: Global, tape: &[u8], patience: u32) -> Result<HostCore, Fail> {
-    let nothing = Progress {
-        verified: 0,
-        going: false,
-    };
-    match HostCore::new(plan_of(alloc, tape)?, nothing, patience) {
-        Ok(host) => Ok(host),
-        Err((_, why)) => Err(why)?,
-    }
-}
 
 fn heard_of(c: u8) -> Heard {
     match c {
@@ -55,11 +18,16 @@ fn heard_of(c: u8) -> Heard {
     }
 }
 
+/// The key with which the host answers. What its contract promises of it, no test needs.
+fn answer(host: &mut HostCore, heard: Heard) -> Option<u8> {
+    host.step(heard)
+}
+
 /// What the host types while it hears the text.
 fn typed(alloc: Global, host: &mut HostCore, text: &str) -> Result<Vec<u8>, Fail> {
     let mut keys = Vec::new(alloc);
     for &c in text.as_bytes() {
-        if let Some(key) = host.step(heard_of(c)) {
+        if let Some(key) = answer(host, heard_of(c)) {
             keys.push(key)?;
         }
     }
@@ -97,7 +65,7 @@ const LOADS: [(&[u8], &str, &str, Option<End>, &str); 7] = [
         "no memory at the address",
     ),
     (
-        &TWO_WORDS,
+        &OVERLAP,
         "~?\r\n@001000/000000 031421\r\n@001000/031421 \r\n@001002/000000 000104\r\n@001002/000104 \r\n@001000G",
         "Z001000/031421\r001000/\r001002/000104\r001002/\r001000G",
         Some(End::Started),
@@ -123,46 +91,50 @@ const LOADS: [(&[u8], &str, &str, Option<End>, &str); 7] = [
 fn whole_loads(rt: HostRuntime) -> Result<(), Fail> {
     for row in &LOADS {
         let (tape, heard, wanted, end, reason) = *row;
-        let mut host = host_of(rt.alloc(), tape, 8)?;
+        let mut host = fresh_host(rt.alloc(), tape, 8)?;
         let keys = typed(rt.alloc(), &mut host, heard)?;
-        assert_eq!(rt; keys.as_slice(), wanted.as_bytes(), "{reason}");
-        assert_eq!(rt; host.sent_count(), keys.len() as u64, "{reason}");
-        assert_eq!(rt; (host.end(), host.spent()), (end, 0), "{reason}");
+        check_that(&rt, keys.as_slice() == wanted.as_bytes(), reason);
+        check_that(&rt, host.sent_count() == keys.len() as u64, reason);
+        check_that(&rt, host.end() == end, reason);
+        check_that(&rt, host.spent() == 0, reason);
     }
     Ok(())
 }
 
+/// What is heard, how often and with which patience; how many keys are sent, each a `Z`; and the end.
+const PEERS: [(&str, u32, u32, u64, Option<End>, &str); 5] = [
+    (
+        "~",
+        10,
+        8,
+        9,
+        Some(End::GaveUp),
+        "a dead line: one Z and one for each mishap",
+    ),
+    (
+        "~x",
+        9,
+        8,
+        9,
+        Some(End::GaveUp),
+        "each Z is answered by a character that it can't mean",
+    ),
+    ("A", 100, 8, 0, None, "a line that never becomes quiet"),
+    ("~", 2, 0, 1, Some(End::GaveUp), "no patience at all"),
+    ("~", 2, 1, 2, None, "the first timeout is forgiven"),
+];
+
 #[test]
 fn peers_that_never_answer_rightly(rt: HostRuntime) -> Result<(), Fail> {
-    let rows = [
-        (
-            "~",
-            10,
-            8,
-            9,
-            Some(End::GaveUp),
-            "a dead line: one Z and one for each mishap",
-        ),
-        (
-            "~x",
-            9,
-            8,
-            9,
-            Some(End::GaveUp),
-            "each Z is answered by a character that it can't mean",
-        ),
-        ("A", 100, 8, 0, None, "a line that never becomes quiet"),
-        ("~", 2, 0, 1, Some(End::GaveUp), "no patience at all"),
-        ("~", 2, 1, 2, None, "the first timeout is forgiven"),
-    ];
-    for (text, times, patience, wanted, end, reason) in rows {
-        let mut host = host_of(rt.alloc(), &ONE_WORD, patience)?;
+    for row in &PEERS {
+        let (text, times, patience, sent, end, reason) = *row;
+        let mut host = fresh_host(rt.alloc(), &ONE_WORD, patience)?;
         for _ in 0..times {
-            for key in typed(rt.alloc(), &mut host, text)? {
-                assert_eq!(rt; key, b'Z', "{reason}");
-            }
+            let keys = typed(rt.alloc(), &mut host, text)?;
+            check_that(&rt, keys.iter().all(|key| *key == b'Z'), reason);
         }
-        assert_eq!(rt; (host.sent_count(), host.end()), (wanted, end), "{reason}");
+        check_that(&rt, host.sent_count() == sent, reason);
+        check_that(&rt, host.end() == end, reason);
     }
     Ok(())
 }
@@ -245,7 +217,7 @@ fn progress_to_begin_with(rt: HostRuntime) -> Result<(), Fail> {
     for row in &BEGINNINGS {
         let (tape, verified, going, wanted, reason) = *row;
         let begun = beginning(rt.alloc(), tape, Progress { verified, going })?;
-        assert_eq!(rt; begun, wanted, "{reason}");
+        check_that(&rt, begun == wanted, reason);
     }
     Ok(())
 }

@@ -1,0 +1,184 @@
+//! The phase table, row by row: what each phase lists, what it sends, and where it leads.
+
+use super::*;
+use std::process::Abort;
+
+/// A phase by the text that leads a host for the one word to it; the characters that it lists, any
+/// other being a mishap; and the key that each of these makes the host send.
+type Row = (&'static str, &'static [u8], Option<u8>);
+
+/// The phases that wait for an answer. Where one leads is seen by what the next one lists.
+const WAITING: [Row; 28] = [
+    ("~", b"Z?", None),
+    ("~Z", b"?", None),
+    ("~?", b"\r", None),
+    ("~Z?", b"\r", None),
+    ("~?\r", b"\r\n", None),
+    ("~?\r\r", b"\n", None),
+    ("~?\r\n", b"@", Some(b'0')),
+    ("~?\r\r\n", b"@", Some(b'0')),
+    ("~?\r\n@", b"0", Some(b'0')),
+    ("~?\r\n@0", b"0", Some(b'1')),
+    ("~?\r\n@00100", b"0", Some(b'/')),
+    ("~?\r\n@001000", b"/", None),
+    ("~?\r\n@001000/", b" 01?", None),
+    ("~?\r\n@001000/ ", b"01", None),
+    ("~?\r\n@001000/1", b"01234567", None),
+    ("~?\r\n@001000/ 17777", b"01234567", None),
+    ("~?\r\n@001000/011064", b" ", Some(b'\r')),
+    ("~?\r\n@001000/111064", b" ", Some(b'0')),
+    ("~?\r\n@001000/000000 0", b"1", Some(b'1')),
+    ("~?\r\n@001000/000000 01106", b"4", Some(b'\r')),
+    ("~?\r\n@001000/000000 011064", b"\r", None),
+    ("~?\r\n@001000/000000 011064\r", b"\r\n", None),
+    ("~?\r\n@001000/000000 011064\r\r", b"\n", None),
+    ("~?\r\n@001000/000000 011064\r\n", b"@", Some(b'0')),
+    ("~?\r\n@001000/000000 011064\r\n@001000/011060", b" ", None),
+    ("~?\r\n@001000/011064 \r\n", b"@", Some(b'0')),
+    ("~?\r\n@001000/011064 \r\n@0", b"0", Some(b'1')),
+    ("~?\r\n@001000/011064 \r\n@00100", b"0", Some(b'G')),
+];
+
+/// What leads to an end, or is no mishap though nothing is listed: the text before it, what is heard,
+/// the key that it makes the host send, and the end then.
+const OTHERS: [(&str, u8, Option<u8>, Option<End>); 12] = [
+    ("", b'x', None, None),
+    ("", PAUSE, Some(b'Z'), None),
+    ("~?\r\n@001000/", b'?', None, Some(End::NoWord(0o1000))),
+    ("~?\r\n@001000/?", b'0', None, Some(End::NoWord(0o1000))),
+    (
+        "~?\r\n@001000/000000 011064\r\n@001000/011060",
+        b' ',
+        None,
+        Some(End::WontHold(0o1000)),
+    ),
+    (
+        "~?\r\n@001000/000000 011064\r\n@001000/",
+        b'?',
+        None,
+        Some(End::NoWord(0o1000)),
+    ),
+    (
+        "~?\r\n@001000/011064 \r\n@001000",
+        b'G',
+        None,
+        Some(End::Started),
+    ),
+    (
+        "~?\r\n@001000/011064 \r\n@001000",
+        b'x',
+        None,
+        Some(End::Uncertain),
+    ),
+    (
+        "~?\r\n@001000/011064 \r\n@001000",
+        PAUSE,
+        None,
+        Some(End::Uncertain),
+    ),
+    (
+        "~?\r\n@001000/011064 \r\n@001000G",
+        b'x',
+        None,
+        Some(End::Started),
+    ),
+    (
+        "~?\r\n@001000/011064 \r\n@001000G",
+        PAUSE,
+        None,
+        Some(End::Started),
+    ),
+    ("~?\r\n@001000/?", PAUSE, None, Some(End::NoWord(0o1000))),
+];
+
+/// A host for the one word that has heard the text.
+fn host_after(alloc: Global, patience: u32, text: &str) -> Result<HostCore, Fail> {
+    let mut host = fresh_host(alloc, &ONE_WORD, patience)?;
+    let _ = typed(alloc, &mut host, text)?;
+    Ok(host)
+}
+
+#[test]
+fn each_phase_lists_its_characters(rt: HostRuntime) -> Result<(), Fail> {
+    for row in &WAITING {
+        let (before, listed, key) = *row;
+        for character in 0..=255 {
+            let mut host = host_after(rt.alloc(), 1, before)?;
+            let key_sent = answer(&mut host, Heard::Got(character));
+            let wanted = if listed.contains(&character) {
+                (key, 0)
+            } else {
+                (None, 1)
+            };
+            check_that(&rt, (key_sent, host.spent()) == wanted, before);
+        }
+    }
+    Ok(())
+}
+
+/// A mishap: the patience, what is heard and then silence, the keys, the mishaps, and the end.
+const MISHAPS: [(u32, &str, &str, u32, Option<End>); 4] = [
+    (1, "\x07~", "Z", 1, None),
+    (1, "~", "Z", 1, None),
+    (0, "\x07~", "", 0, Some(End::GaveUp)),
+    (0, "~", "", 0, Some(End::GaveUp)),
+];
+
+#[test]
+fn each_phase_meets_a_mishap(rt: HostRuntime) -> Result<(), Fail> {
+    for row in &WAITING {
+        let (before, ..) = *row;
+        for mishap in &MISHAPS {
+            let (patience, heard, wanted, spent, end) = *mishap;
+            let mut host = host_after(rt.alloc(), patience, before)?;
+            let keys = typed(rt.alloc(), &mut host, heard)?;
+            check_that(&rt, keys.as_slice() == wanted.as_bytes(), before);
+            check_that(&rt, (host.spent(), host.end()) == (spent, end), before);
+        }
+    }
+    Ok(())
+}
+
+#[test]
+fn each_end_and_each_silence(rt: HostRuntime) -> Result<(), Fail> {
+    for row in &OTHERS {
+        let (before, heard, key, end) = *row;
+        let mut host = host_after(rt.alloc(), 1, before)?;
+        let key_sent = answer(&mut host, heard_of(heard));
+        check_that(&rt, (key_sent, host.end()) == (key, end), before);
+        check_that(&rt, host.spent() == 0, before);
+    }
+    Ok(())
+}
+
+/// A host that has heard the text begins a new life in which it keeps so many words.
+fn begins_again(rt: &impl Abort, alloc: Global, before: &str, kept: u32) -> Result<(), Fail> {
+    let mut host = host_after(alloc, 1, before)?;
+    let Progress { verified, going } = host.progress();
+    host.restart(kept);
+    let wanted = Progress {
+        verified: if kept == 0 { 0 } else { verified },
+        going,
+    };
+    let end = if going { Some(End::MaybeStarted) } else { None };
+    check_that(rt, (host.progress(), host.end()) == (wanted, end), before);
+    check_that(rt, (host.spent(), host.sent_count()) == (0, 0), before);
+    check_that(rt, host.patience() == 1, before);
+    check_that(rt, answer(&mut host, Heard::Got(b'?')).is_none(), before);
+    Ok(())
+}
+
+#[test]
+fn each_phase_begins_again(rt: HostRuntime) -> Result<(), Fail> {
+    for kept in [0, 1, u32::MAX] {
+        for row in &WAITING {
+            let (before, ..) = *row;
+            begins_again(&rt, rt.alloc(), before, kept)?;
+        }
+        for row in &OTHERS {
+            let (before, ..) = *row;
+            begins_again(&rt, rt.alloc(), before, kept)?;
+        }
+    }
+    Ok(())
+}

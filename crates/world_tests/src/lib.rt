@@ -1,0 +1,27 @@
+//! Tests of what stands below the commands: the host's core, the simulated world, the devices of a
+//! load, the line in memory and the engine.
+//!
+//! Contracts say what each of them does; here stand what no clause can say: that they succeed where
+//! memory is ample, also at the largest sizes, and that the tables and definitions mean what the
+//! pages in `docs/` say. The world is played beside a slow model of its own, and the engine beside
+//! peers that are no console.
+//!
+//! They stand in a crate of their own, since a crate with tests is proved twice.
+#![tactic(auto)]
+
+#[cfg(test)]
+mod checks;
+#[cfg(test)]
+mod devices;
+#[cfg(test)]
+mod engine;
+#[cfg(test)]
+mod host;
+#[cfg(test)]
+mod losses;
+#[cfg(test)]
+mod memory_line;
+#[cfg(test)]
+mod tapes;
+#[cfg(test)]
+mod worlds;

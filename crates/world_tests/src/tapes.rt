@@ -1,0 +1,53 @@
+//! The tapes that the tests load, with their plans and hosts.
+
+use host_core::{BadProgress, HostCore, Progress};
+use std::alloc::Global;
+use std::test::Fail;
+use tape_blocks::read_tape;
+use tape_image::Plan;
+
+/// A tape of one block, the word 011064 at 001000, that starts at 001000.
+pub const ONE_WORD: [u8; 16] = [
+    0x01, 0x00, 0x08, 0x00, 0x00, 0x02, 0x34, 0x12, 0xAF, 0x01, 0x00, 0x06, 0x00, 0x00, 0x02, 0xF7,
+];
+
+/// A tape of two blocks that overlap at 001001, the bytes 021 042 and then 063 104: the word 031421 at
+/// 001000 and the byte 104 at 001002. It starts at 001000.
+pub const OVERLAP: [u8; 25] = [
+    0x01, 0x00, 0x08, 0x00, 0x00, 0x02, 0x11, 0x22, 0xC2, 0x01, 0x00, 0x08, 0x00, 0x01, 0x02, 0x33,
+    0x44, 0x7D, 0x01, 0x00, 0x06, 0x00, 0x00, 0x02, 0xF7,
+];
+
+/// A tape with one byte, 125 at 001001, and no start.
+pub const HIGH_BYTE: [u8; 15] = [
+    0x01, 0x00, 0x07, 0x00, 0x01, 0x02, 0x55, 0xA0, 0x01, 0x00, 0x06, 0x00, 0x01, 0x00, 0xF8,
+];
+
+/// A tape with neither words nor a start.
+pub const NOTHING: [u8; 7] = [0x01, 0x00, 0x06, 0x00, 0x01, 0x00, 0xF8];
+
+/// A tape with a start alone, at 001000.
+pub const START_ALONE: [u8; 7] = [0x01, 0x00, 0x06, 0x00, 0x00, 0x02, 0xF7];
+
+/// The plan of a tape.
+pub fn plan_of(alloc: Global, tape: &[u8]) -> Result<Plan, Fail> {
+    let (tape, _) = read_tape(alloc, tape)?;
+    Ok(Plan::of(alloc, &tape)?)
+}
+
+/// A host of this patience that has verified so many words of the plan, without the mark.
+pub fn host_for(plan: Plan, verified: u32, patience: u32) -> Result<HostCore, BadProgress> {
+    let progress = Progress {
+        verified,
+        going: false,
+    };
+    match HostCore::new(plan, progress, patience) {
+        Ok(host) => Ok(host),
+        Err((_, why)) => Err(why),
+    }
+}
+
+/// A host of this patience that has verified nothing of the tape.
+pub fn fresh_host(alloc: Global, tape: &[u8], patience: u32) -> Result<HostCore, Fail> {
+    Ok(host_for(plan_of(alloc, tape)?, 0, patience)?)
+}

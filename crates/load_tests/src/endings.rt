@@ -1,24 +1,23 @@
 //! How loads end: the status, the report, the line on standard error, and what the record then holds.
 
+use crate::attempts::{NOBODY, attempt_on, load_of};
 use crate::tapes::{NO_WORD, ONE_WORD, TWO_WORDS};
 use failing_devices::{BrokenOutput, UnflushedOutput};
-use requests::{Load, Request, Status, attempt};
-use simulated_system::{AMPLE, QUIET_MS, Setting, System};
-use std::alloc::Global;
+use requests::{Request, Status};
+use simulated_system::{AMPLE, Setting, System};
 use std::fs;
-use std::io::{ErrorKind, Stderr};
+use std::io::{ErrorKind, Write};
 use std::test::Fail;
 
-/// No terminal looks on.
-const NOBODY: Option<&Stderr> = None;
+/// The files of a load.
+const TAPE: &str = "a.lda";
+
+const RECORD: &str = "a.record";
 
 /// Whole records of the smallest tape, in both versions.
 const WHOLE: &str = "LDAODT 1\n001000 177777 011064\nG\n";
 
 const WHOLE_ANEW: &str = "LDAODT 2\n001000 011064\nG\n";
-
-/// How many mishaps a load survives.
-const PATIENCE: u32 = 3;
 
 /// A load, and what must come of it.
 #[derive(Clone, Copy, Debug)]
@@ -41,7 +40,7 @@ const STARTED: Row = Row {
     name: "a whole load",
     tape: &ONE_WORD,
     setting: AMPLE,
-    record: "a.record",
+    record: RECORD,
     before: None,
     after: Some(WHOLE_ANEW),
     connections: 1,
@@ -206,21 +205,6 @@ const ROWS: [Row; 16] = [
     },
 ];
 
-/// A load of a tape, recorded under this name.
-pub fn load_of(alloc: Global, record: Option<&str>) -> Result<Request<'_>, Fail> {
-    let mut tapes = Vec::new(alloc);
-    tapes.push("a.lda")?;
-    Ok(Request::Load(
-        tapes,
-        Load {
-            address: "127.0.0.1:2323",
-            record,
-            patience: PATIENCE,
-            quiet_ms: QUIET_MS,
-        },
-    ))
-}
-
 /// What a load left.
 #[derive(Drop)]
 struct Ended {
@@ -230,27 +214,12 @@ struct Ended {
     connections: u32,
 }
 
-/// Does the load of a row.
-fn run(rt: &HostRuntime, row: &Row) -> Result<Ended, Fail> {
-    let request = load_of(rt.alloc(), Some(row.record))?;
-    Ok(load(rt, row.setting, request))
-}
-
 /// Does a request on a system of this setting.
 fn load(rt: &HostRuntime, setting: Setting, request: Request<'_>) -> Ended {
     let system = System::new(rt, setting);
-    let mut input: &[u8] = &[];
     let mut out = Vec::new(rt.alloc());
     let mut err = Vec::new(rt.alloc());
-    let status = attempt(
-        &system,
-        rt.alloc(),
-        request,
-        &mut input,
-        &mut out,
-        &mut err,
-        NOBODY,
-    );
+    let status = attempt_on(&system, rt.alloc(), request, &mut out, &mut err, NOBODY);
     Ended {
         status,
         out,
@@ -286,8 +255,8 @@ fn forget(rt: &HostRuntime, name: &str) -> Result<(), Fail> {
 
 /// Puts the tape there, and the record where there is to be one.
 fn prepare(rt: &HostRuntime, row: &Row) -> Result<(), Fail> {
-    fs::write(rt, "a.lda", row.tape)?;
-    forget(rt, "a.record")?;
+    fs::write(rt, TAPE, row.tape)?;
+    forget(rt, RECORD)?;
     if let Some(text) = row.before {
         fs::write(rt, row.record, text)?;
     }
@@ -308,21 +277,32 @@ fn is_as_wanted(rt: &HostRuntime, ended: &Ended, row: &Row) -> bool {
 fn loads_end_with_their_status(rt: HostRuntime) -> Result<(), Fail> {
     for row in &ROWS {
         prepare(&rt, row)?;
-        let ended = run(&rt, row)?;
+        let request = load_of(rt.alloc(), TAPE, Some(row.record))?;
+        let ended = load(&rt, row.setting, request);
         let name = row.name;
         assert!(rt; is_as_wanted(&rt, &ended, row), "{name}");
     }
-    forget(&rt, "a.record")?;
-    Ok(fs::remove_file(&rt, "a.lda")?)
+    forget(&rt, RECORD)?;
+    Ok(fs::remove_file(&rt, TAPE)?)
 }
 
 #[test]
 fn a_load_without_a_record_keeps_it_in_memory(rt: HostRuntime) -> Result<(), Fail> {
-    fs::write(&rt, "a.lda", ONE_WORD)?;
-    let ended = load(&rt, AMPLE, load_of(rt.alloc(), None)?);
-    assert_eq!(rt; ended.status, Status::Done);
+    fs::write(&rt, TAPE, ONE_WORD)?;
+    let ended = load(&rt, AMPLE, load_of(rt.alloc(), TAPE, None)?);
+    assert!(rt; ended.status == Status::Done);
     assert!(rt; ended.out.as_slice() == STARTED.out.as_bytes());
-    Ok(fs::remove_file(&rt, "a.lda")?)
+    Ok(fs::remove_file(&rt, TAPE)?)
+}
+
+/// Loads the tape into an output that fails, and answers whether that is told alone.
+fn is_told_alone<W: Write>(rt: &HostRuntime, setting: Setting, out: &mut W) -> Result<bool, Fail> {
+    let system = System::new(rt, setting);
+    let mut err = Vec::new(rt.alloc());
+    let request = load_of(rt.alloc(), TAPE, None)?;
+    let status = attempt_on(&system, rt.alloc(), request, out, &mut err, NOBODY);
+    let wanted: &[u8] = b"ldaodt: cannot write output\n";
+    Ok(status == Status::DeviceFailed && err.as_slice() == wanted)
 }
 
 /// The settings in which a load ends, and then its report can't be written.
@@ -330,60 +310,37 @@ const UNREPORTED: [Setting; 2] = [AMPLE, Setting { reads: 3, ..AMPLE }];
 
 #[test]
 fn a_report_that_can_not_be_written_is_told_alone(rt: HostRuntime) -> Result<(), Fail> {
-    fs::write(&rt, "a.lda", ONE_WORD)?;
-    let wanted: &[u8] = b"ldaodt: cannot write output\n";
+    fs::write(&rt, TAPE, ONE_WORD)?;
     for setting in &UNREPORTED {
-        let mut input: &[u8] = &[];
-        let mut out = BrokenOutput::new(Vec::new(rt.alloc()), 1);
-        let mut err = Vec::new(rt.alloc());
-        let status = attempt(
-            &System::new(&rt, *setting),
-            rt.alloc(),
-            load_of(rt.alloc(), None)?,
-            &mut input,
-            &mut out,
-            &mut err,
-            NOBODY,
-        );
-        assert_eq!(rt; status, Status::DeviceFailed);
-        assert!(rt; err.as_slice() == wanted);
-        assert_eq!(rt; out.later_writes, 0);
-        err.clear();
-        let mut out = UnflushedOutput;
-        let status = attempt(
-            &System::new(&rt, *setting),
-            rt.alloc(),
-            load_of(rt.alloc(), None)?,
-            &mut input,
-            &mut out,
-            &mut err,
-            NOBODY,
-        );
-        assert_eq!(rt; status, Status::DeviceFailed);
-        assert!(rt; err.as_slice() == wanted);
+        let mut broken = BrokenOutput::new(Vec::new(rt.alloc()), 1);
+        assert!(rt; is_told_alone(&rt, *setting, &mut broken)?);
+        assert!(rt; broken.later_writes == 0);
+        assert!(rt; is_told_alone(&rt, *setting, &mut UnflushedOutput)?);
     }
-    Ok(fs::remove_file(&rt, "a.lda")?)
+    Ok(fs::remove_file(&rt, TAPE)?)
 }
 
 /// The longest record that is read, in bytes.
 const LONGEST: usize = 1_048_576;
 
+/// What is said of a text that is no record.
+const NO_RECORD: &str = "ldaodt: record refused: NotARecord\n";
+
 #[test]
 fn a_record_that_is_too_long_is_none(rt: HostRuntime) -> Result<(), Fail> {
-    fs::write(&rt, "a.lda", ONE_WORD)?;
+    fs::write(&rt, TAPE, ONE_WORD)?;
     // Behind the header nothing but a torn piece, which is dropped.
     let mut record = Vec::from_slice(rt.alloc(), b"LDAODT 1\n")?;
     record.resize(LONGEST + 1, b'x')?;
-    fs::write(&rt, "a.record", record.as_slice())?;
-    let refused = load(&rt, AMPLE, load_of(rt.alloc(), Some("a.record"))?);
-    assert_eq!(rt; refused.status, Status::Refused);
-    let wanted: &[u8] = b"ldaodt: record refused: NotARecord\n";
-    assert!(rt; refused.err.as_slice() == wanted);
+    fs::write(&rt, RECORD, record.as_slice())?;
+    let refused = load(&rt, AMPLE, load_of(rt.alloc(), TAPE, Some(RECORD))?);
+    assert!(rt; refused.status == Status::Refused);
+    assert!(rt; refused.err.as_slice() == NO_RECORD.as_bytes());
     record.truncate(LONGEST);
-    fs::write(&rt, "a.record", record.as_slice())?;
-    let ended = load(&rt, AMPLE, load_of(rt.alloc(), Some("a.record"))?);
-    assert_eq!(rt; ended.status, Status::Done);
-    assert!(rt; holds(&rt, "a.record", Some(WHOLE_ANEW)));
-    forget(&rt, "a.record")?;
-    Ok(fs::remove_file(&rt, "a.lda")?)
+    fs::write(&rt, RECORD, record.as_slice())?;
+    let ended = load(&rt, AMPLE, load_of(rt.alloc(), TAPE, Some(RECORD))?);
+    assert!(rt; ended.status == Status::Done);
+    assert!(rt; holds(&rt, RECORD, Some(WHOLE_ANEW)));
+    forget(&rt, RECORD)?;
+    Ok(fs::remove_file(&rt, TAPE)?)
 }

@@ -9,6 +9,8 @@
 #![tactic(auto)]
 
 #[cfg(test)]
+mod attempts;
+#[cfg(test)]
 mod endings;
 #[cfg(test)]
 mod looped;

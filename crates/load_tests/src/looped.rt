@@ -1,6 +1,6 @@
 //! A load over a socket of 127.0.0.1 whose other end is played by the same thread.
 
-use crate::tapes::ONE_WORD;
+use crate::tapes::plan_of_one_word;
 use host_core::{End, Heard, HostCore, Progress};
 use load_devices::{Line, LineFault};
 use load_engine::{Stop, drive};
@@ -11,8 +11,6 @@ use std::io;
 use std::io::{Read, Write};
 use std::net::{TcpListener, TcpStream};
 use std::test::Fail;
-use tape_blocks::read_tape;
-use tape_image::Plan;
 
 /// A line over a socket: after each key the machine at the far end takes it and answers.
 #[derive(Drop)]
@@ -100,10 +98,7 @@ fn looped(rt: &HostRuntime) -> Result<LoopedLine, Fail> {
 #[test]
 fn a_tape_is_loaded_over_a_socket(rt: HostRuntime) -> Result<(), Fail> {
     let alloc = rt.alloc();
-    let Ok((tape, _)) = read_tape(alloc, &ONE_WORD) else {
-        return Err(Fail::from("no tape"));
-    };
-    let plan = Plan::of(alloc, &tape)?;
+    let plan = plan_of_one_word(alloc)?;
     let mut keeper = FileKeep::new(Vec::new(alloc));
     assert!(rt; keeper.begin(&plan, 0).is_ok());
     let nothing = Progress {
@@ -115,9 +110,9 @@ fn a_tape_is_loaded_over_a_socket(rt: HostRuntime) -> Result<(), Fail> {
     };
     let mut line = looped(&rt)?;
     let (core, stop) = drive(core, &mut line, &mut keeper, 52);
-    assert_eq!(rt; stop, Stop::Ended(End::Started));
-    assert_eq!(rt; (core.sent_count(), line.keys), (30, 30));
-    assert_eq!(rt; line.odt.peek(0o001000), Some(0o011064));
+    assert!(rt; stop == Stop::Ended(End::Started));
+    assert!(rt; core.sent_count() == 30 && line.keys == 30);
+    assert!(rt; line.odt.peek(0o001000) == Some(0o011064));
     let record: &[u8] = b"LDAODT 2\n001000 011064\nG\n";
     assert!(rt; keeper.writer().as_slice() == record);
     Ok(())

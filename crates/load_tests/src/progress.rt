@@ -1,10 +1,9 @@
 //! What a person sees while a load goes on.
 
-use crate::endings::load_of;
-use crate::tapes::ONE_WORD;
+use crate::attempts::{attempt_on, load_of};
+use crate::tapes::{ONE_WORD, TWO_WORDS};
 use machine_load::{Onlooker, ProgressLine};
-use requests::{Status, attempt};
-use simulated_system::{AMPLE, System};
+use simulated_system::{AMPLE, Setting, System};
 use std::alloc::Global;
 use std::cell::{Cell, RefCell};
 use std::fmt::Display;
@@ -29,23 +28,39 @@ impl Clock for SetClock {
     }
 }
 
-/// A terminal that keeps what was written last, and counts the writes.
+/// A terminal that keeps what was written, and counts the writes.
 #[derive(Drop)]
-struct LastText {
+struct Screen {
     text: RefCell<Vec<u8>>,
     writes: Cell<u32>,
 }
 
-impl LastText {
-    fn new(alloc: Global) -> LastText {
-        LastText {
+impl Screen {
+    fn new(alloc: Global) -> Screen {
+        Screen {
             text: RefCell::new(Vec::new(alloc)),
             writes: Cell::new(0),
         }
     }
+
+    /// Whether this was written last.
+    fn shows(&self, last: &str) -> bool {
+        match self.text.try_borrow() {
+            Ok(text) => text.ends_with(last.as_bytes()),
+            Err(_) => false,
+        }
+    }
+
+    /// Whether this is all that was written.
+    fn has_shown(&self, all: &str) -> bool {
+        match self.text.try_borrow() {
+            Ok(text) => text.as_slice() == all.as_bytes(),
+            Err(_) => false,
+        }
+    }
 }
 
-impl Print for LastText {
+impl Print for Screen {
     fn print<D: Display + Drop>(&self, _value: D) -> io::Result<()> {
         Err(io::Error::from(io::ErrorKind::Unsupported))
     }
@@ -57,7 +72,6 @@ impl Print for LastText {
     fn write_all(&self, bytes: &[u8]) -> io::Result<()> {
         self.writes.set(self.writes.get().saturating_add(1));
         if let Ok(mut text) = self.text.try_borrow_mut() {
-            text.clear();
             text.extend_from_slice(bytes)?;
         }
         Ok(())
@@ -71,7 +85,10 @@ enum Step {
     Resynchronised,
 }
 
-/// The time in milliseconds, what happens, how often something was shown by then, and what last.
+/// When the load begins, in milliseconds of its clock.
+const BEGINNING: u64 = 7_000_000;
+
+/// The time since then in milliseconds, what happens, how often something was shown by then, and what last.
 const STORY: [(u64, Step, u32, &str); 7] = [
     (
         10,
@@ -115,54 +132,70 @@ const STORY: [(u64, Step, u32, &str); 7] = [
 #[test]
 fn a_load_is_shown_at_its_pace(rt: HostRuntime) -> Result<(), Fail> {
     let clock = SetClock {
-        millis: Cell::new(0),
+        millis: Cell::new(BEGINNING),
     };
-    let terminal = LastText::new(rt.alloc());
+    let terminal = Screen::new(rt.alloc());
     let line = ProgressLine::new(&clock, &terminal);
     line.begins(500, 2000);
     for row in &STORY {
         let (millis, step, writes, text) = *row;
-        clock.millis.set(millis);
+        clock.millis.set(BEGINNING.saturating_add(millis));
         match step {
             Step::Verified => line.verifies(),
             Step::Resynchronised => line.sends(b'Z'),
         }
         line.sends(b'/');
-        assert_eq!(rt; terminal.writes.get(), writes, "{millis}");
-        assert!(rt; holds(&terminal, text), "{millis}");
+        assert!(rt; terminal.writes.get() == writes, "{millis}");
+        assert!(rt; terminal.shows(text), "{millis}");
     }
     line.ends();
-    assert!(rt; holds(&terminal, "\r\x1b[K"));
+    assert!(rt; terminal.shows("\r\x1b[K"));
     Ok(())
 }
 
-/// Whether the terminal shows this text.
-fn holds(terminal: &LastText, text: &str) -> bool {
-    match terminal.text.try_borrow() {
-        Ok(shown) => shown.as_slice() == text.as_bytes(),
-        Err(_) => false,
-    }
-}
+/// The clock moves on, so that everything is shown.
+const TICKING: Setting = Setting {
+    tick: 1000,
+    ..AMPLE
+};
+
+/// A tape, its record where there is one, a system, and all that is shown of the load.
+type Shown = (&'static [u8], &'static str, Setting, &'static str);
+
+const SHOWN: [Shown; 3] = [
+    // A clock that stands still: the line is shown once, and then cleared.
+    (&ONE_WORD, "", AMPLE, "\r0 of 1 words, 0%\x1b[K\r\x1b[K"),
+    // A word is verified already; then the first key, and the other word.
+    (
+        &TWO_WORDS,
+        "LDAODT 2\n001000 031421",
+        TICKING,
+        "\r1 of 2 words, 50%\x1b[K\r1 of 2 words, 50%\x1b[K\r2 of 2 words, 100%, 0:00 left\x1b[K\r\x1b[K",
+    ),
+    // A word that the record has no room for is none that is kept.
+    (
+        &ONE_WORD,
+        "",
+        Setting { room: 9, ..TICKING },
+        "\r0 of 1 words, 0%\x1b[K\r0 of 1 words, 0%\x1b[K\r\x1b[K",
+    ),
+];
 
 #[test]
-fn nothing_of_it_is_left_behind_a_load(rt: HostRuntime) -> Result<(), Fail> {
-    fs::write(&rt, "a.lda", ONE_WORD)?;
-    let terminal = LastText::new(rt.alloc());
-    let mut input: &[u8] = &[];
-    let mut out = Vec::new(rt.alloc());
-    let mut err = Vec::new(rt.alloc());
-    let status = attempt(
-        &System::new(&rt, AMPLE),
-        rt.alloc(),
-        load_of(rt.alloc(), None)?,
-        &mut input,
-        &mut out,
-        &mut err,
-        Some(&terminal),
-    );
-    assert_eq!(rt; status, Status::Done);
-    // The clock stands still, so that the line is shown once, and then cleared.
-    assert_eq!(rt; terminal.writes.get(), 2);
-    assert!(rt; holds(&terminal, "\r\x1b[K"));
-    Ok(fs::remove_file(&rt, "a.lda")?)
+fn a_load_is_shown_and_nothing_of_it_is_left(rt: HostRuntime) -> Result<(), Fail> {
+    for row in &SHOWN {
+        let (tape, record, setting, shown) = *row;
+        fs::write(&rt, "p.lda", tape)?;
+        fs::write(&rt, "p.record", record)?;
+        let terminal = Screen::new(rt.alloc());
+        let mut out = Vec::new(rt.alloc());
+        let mut err = Vec::new(rt.alloc());
+        let request = load_of(rt.alloc(), "p.lda", Some("p.record"))?;
+        let system = System::new(&rt, setting);
+        let looks_on = Some(&terminal);
+        attempt_on(&system, rt.alloc(), request, &mut out, &mut err, looks_on);
+        assert!(rt; terminal.has_shown(shown), "{shown:?}");
+    }
+    fs::remove_file(&rt, "p.record")?;
+    Ok(fs::remove_file(&rt, "p.lda")?)
 }

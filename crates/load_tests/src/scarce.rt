@@ -1,17 +1,14 @@
 //! Want of memory while a load goes on: each growth is refused in turn, those behind the connection, too.
 
+use crate::attempts::{NOBODY, attempt_on, load_of};
 use crate::tapes::ONE_WORD;
-use requests::{Load, Request, Status, attempt};
+use requests::Status;
 use scarce_memory::{Famine, ROOMS};
-use simulated_system::{AMPLE, QUIET_MS, Setting, System};
+use simulated_system::{AMPLE, Setting, System};
 use std::alloc::{AllocError, Global};
 use std::fs;
-use std::io::Stderr;
 use std::test::Fail;
 use tape_blocks::{Block, Tape, write_tape};
-
-/// No terminal looks on.
-const NOBODY: Option<&Stderr> = None;
 
 /// How many words a long tape has: as many things have to have room in a record that is kept in memory.
 const WORDS: usize = 2000;
@@ -73,26 +70,11 @@ fn load(
     record: Option<&str>,
     ended: &mut Ended,
 ) -> Result<(), AllocError> {
-    let mut tapes = Vec::new(alloc);
-    tapes.push(TAPE)?;
-    let load = Load {
-        address: "127.0.0.1:2323",
-        record,
-        patience: 0,
-        quiet_ms: QUIET_MS,
-    };
+    let request = load_of(alloc, TAPE, record)?;
     ended.out.clear();
     ended.err.clear();
-    let mut input: &[u8] = &[];
-    ended.status = attempt(
-        system,
-        alloc,
-        Request::Load(tapes, load),
-        &mut input,
-        &mut ended.out,
-        &mut ended.err,
-        NOBODY,
-    );
+    let (out, err) = (&mut ended.out, &mut ended.err);
+    ended.status = attempt_on(system, alloc, request, out, err, NOBODY);
     Ok(())
 }
 
@@ -149,7 +131,7 @@ fn load_at_last(rt: &HostRuntime, record: Option<&str>) -> Result<(Ended, u32), 
 fn each_growth_of_a_load_is_refused_in_turn(rt: HostRuntime) -> Result<(), Fail> {
     put_zeroes(&rt)?;
     let (ended, refusals) = load_at_last(&rt, None)?;
-    assert_eq!(rt; ended.status, Status::Done);
+    assert!(rt; ended.status == Status::Done);
     assert!(rt; ended.out.as_slice() == ZEROES_LOADED.as_bytes());
     assert!(rt; ended.err.is_empty());
     assert!(rt; refusals > 0);
@@ -161,7 +143,7 @@ fn each_growth_of_a_load_with_a_record_is_refused_in_turn(rt: HostRuntime) -> Re
     fs::write(&rt, TAPE, ONE_WORD)?;
     let name = long_name(rt.alloc())?;
     let (ended, refusals) = load_at_last(&rt, Some(name.as_str()))?;
-    assert_eq!(rt; ended.status, Status::Done);
+    assert!(rt; ended.status == Status::Done);
     assert!(rt; ended.out.as_slice() == STARTED.as_bytes());
     assert!(rt; ended.err.is_empty());
     assert!(rt; refusals > 0);

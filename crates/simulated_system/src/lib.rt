@@ -31,15 +31,19 @@ pub struct Setting {
 
     /// How many bytes each new file takes.
     pub room: usize,
+
+    /// How many milliseconds pass from one look at the clock to the next.
+    pub tick: u64,
 }
 
-/// Ample memory, a patient console and large files.
+/// Ample memory, a patient console, large files and a clock that stands still.
 pub const AMPLE: Setting = Setting {
     words: LARGEST_WORDS,
     memory: &[],
     reads: 1_000_000,
     deaf: false,
     room: 1_000_000,
+    tick: 0,
 };
 
 /// Where the console is: this port of 127.0.0.1.
@@ -57,6 +61,9 @@ pub struct System<'a> {
     /// The console's machine, until somebody is connected to it: to connect takes no memory.
     machine: Cell<Option<Odt>>,
     connections: Cell<u32>,
+
+    /// The clock's time in milliseconds.
+    time: Cell<u64>,
 }
 
 /// The machine of a setting, where there is memory for it.
@@ -75,6 +82,7 @@ impl<'a> System<'a> {
             setting,
             machine: Cell::new(machine_of(rt.alloc(), setting)),
             connections: Cell::new(0),
+            time: Cell::new(0),
         }
     }
 
@@ -191,11 +199,13 @@ impl AsRawFd for Nobody {
 
 impl Clock for System<'_> {
     fn monotonic(&self) -> io::Result<Duration> {
-        Ok(Duration::from_millis(0))
+        let time = self.time.get();
+        self.time.set(time.saturating_add(self.setting.tick));
+        Ok(Duration::from_millis(time))
     }
 
     fn since_1970(&self) -> io::Result<Duration> {
-        Ok(Duration::from_millis(0))
+        self.monotonic()
     }
 }
 

@@ -199,8 +199,8 @@ fn each_line_of_the_key_table(rt: HostRuntime) -> Result<(), Fail> {
     Ok(())
 }
 
-/// A style's number, what it answers to an illegal key and to the slash that opens a word of zero, and why the row
-/// is here.
+/// A style's number, what it answers to an illegal key and to the slash that opens a word of zero,
+/// and why the row is here.
 const STYLES: [(u8, &str, &str, &str); 8] = [
     (0, "?\r\n@", "/000000 ", "the shortest answers"),
     (

@@ -1,12 +1,9 @@
 //! How `type` ends where its keys or its answers fail.
 
+use crate::attempts::attempted;
 use failing_devices::{BrokenInput, BrokenOutput, UnflushedOutput};
 use odt_machine::{LARGEST_WORDS, PLAIN_STYLE};
-use requests::{Console, Request, Status, attempt};
-use std::io::Stderr;
-
-/// No terminal looks on.
-const NOBODY: Option<&Stderr> = None;
+use requests::{Console, Request, Status};
 
 /// Typing into a console over all the memory that there may be.
 fn typing() -> Request<'static> {
@@ -30,21 +27,15 @@ fn a_failed_key_is_a_failed_device(rt: HostRuntime) {
     for place in 0..7 {
         let mut keys = BrokenInput::new(KEYS, place);
         let mut out = Vec::new(rt.alloc());
-        let mut err = Vec::new(rt.alloc());
-        let ended = attempt(
-            &rt,
-            rt.alloc(),
-            typing(),
-            &mut keys,
-            &mut out,
-            &mut err,
-            NOBODY,
-        );
-        assert_eq!(rt; ended, Status::DeviceFailed, "before key {place}");
+        let (status, err) = attempted(&rt, typing(), &mut keys, &mut out);
+        assert!(rt; status == Status::DeviceFailed, "before key {place}");
         // Digits are echoed, so what was read is what was answered.
         assert!(rt; out.as_slice() == &KEYS[..place], "before key {place}");
         assert!(rt; err.as_slice() == KEYS_FAILED, "before key {place}");
-        assert_eq!(rt; (keys.failures, keys.later_reads), (1, 0), "{place}");
+        assert!(rt;
+            keys.failures == 1 && keys.later_reads == 0,
+            "before key {place}"
+        );
     }
 }
 
@@ -52,36 +43,17 @@ fn a_failed_key_is_a_failed_device(rt: HostRuntime) {
 fn an_output_that_fails_at_once(rt: HostRuntime) {
     let mut keys = KEYS;
     let mut out = BrokenOutput::new(Vec::new(rt.alloc()), 1);
-    let mut err = Vec::new(rt.alloc());
-    let ended = attempt(
-        &rt,
-        rt.alloc(),
-        typing(),
-        &mut keys,
-        &mut out,
-        &mut err,
-        NOBODY,
-    );
-    assert_eq!(rt; ended, Status::DeviceFailed);
+    let (status, err) = attempted(&rt, typing(), &mut keys, &mut out);
+    assert!(rt; status == Status::DeviceFailed);
     assert!(rt; out.written.is_empty());
-    assert_eq!(rt; (out.failures, out.later_writes), (1, 0));
+    assert!(rt; out.failures == 1 && out.later_writes == 0);
     assert!(rt; err.as_slice() == ANSWERS_FAILED);
 }
 
 #[test]
 fn an_output_that_fails_at_its_flush(rt: HostRuntime) {
     let mut keys = KEYS;
-    let mut out = UnflushedOutput;
-    let mut err = Vec::new(rt.alloc());
-    let ended = attempt(
-        &rt,
-        rt.alloc(),
-        typing(),
-        &mut keys,
-        &mut out,
-        &mut err,
-        NOBODY,
-    );
-    assert_eq!(rt; ended, Status::DeviceFailed);
+    let (status, err) = attempted(&rt, typing(), &mut keys, &mut UnflushedOutput);
+    assert!(rt; status == Status::DeviceFailed);
     assert!(rt; err.as_slice() == ANSWERS_FAILED);
 }

@@ -4,7 +4,6 @@ use command_io::CommandFault;
 use console_typing::type_to;
 use failing_devices::{BrokenInput, BrokenOutput};
 use odt_machine::{Mode, Odt, PLAIN_STYLE};
-use std::alloc::Global;
 use std::test::Fail;
 
 /// A deposit at 001000, a look at it, and an illegal key.
@@ -46,25 +45,20 @@ fn keys_are_answered(rt: HostRuntime) -> Result<(), Fail> {
     let mut odt = Odt::new(rt.alloc(), 28672, PLAIN_STYLE)?;
     let mut keys = KEYS;
     let mut out = Vec::new(rt.alloc());
-    assert_eq!(rt; type_to(&mut odt, &mut keys, &mut out), Ok(23));
+    assert!(rt; type_to(&mut odt, &mut keys, &mut out) == Ok(23));
     assert!(rt; out.as_slice() == ANSWERS);
-    assert_eq!(rt; odt.peek(0o1000), Some(0o11064));
+    assert!(rt; odt.peek(0o1000) == Some(0o11064));
     Ok(())
-}
-
-/// So many digits.
-fn digits(alloc: Global, length: usize) -> Result<Vec<u8>, Fail> {
-    Ok(vec![in alloc; b'1'; length]?)
 }
 
 #[test]
 fn the_keys_past_the_limit_stay_unread(rt: HostRuntime) -> Result<(), Fail> {
-    let many = digits(rt.alloc(), 1_048_579)?;
+    let many = vec![in rt.alloc(); b'1'; 1_048_579]?;
     let mut odt = Odt::new(rt.alloc(), 0, PLAIN_STYLE)?;
     let mut keys = many.as_slice();
     let mut out = Vec::new(rt.alloc());
-    assert_eq!(rt; type_to(&mut odt, &mut keys, &mut out), Ok(1_048_576));
-    assert_eq!(rt; (keys.len(), out.len()), (3, 1_048_576));
+    assert!(rt; type_to(&mut odt, &mut keys, &mut out) == Ok(1_048_576));
+    assert!(rt; keys.len() == 3 && out.len() == 1_048_576);
     Ok(())
 }
 
@@ -74,14 +68,14 @@ fn the_keys_fail_once(rt: HostRuntime) -> Result<(), Fail> {
         let mut odt = Odt::new(rt.alloc(), 28672, PLAIN_STYLE)?;
         let mut keys = BrokenInput::new(KEYS, place);
         let mut out = Vec::new(rt.alloc());
-        assert_eq!(rt;
-            type_to(&mut odt, &mut keys, &mut out),
-            Err(CommandFault::ReadKeys),
+        let ended = type_to(&mut odt, &mut keys, &mut out);
+        assert!(rt; ended == Err(CommandFault::ReadKeys), "before key {place}");
+        assert!(rt;
+            keys.failures == 1 && keys.later_reads == 0,
             "before key {place}"
         );
-        assert_eq!(rt; (keys.failures, keys.later_reads), (1, 0), "{place}");
-        assert_eq!(rt; odt.mode(), *mode, "{place}");
-        assert!(rt; ANSWERS.starts_with(out.as_slice()), "{place}");
+        assert!(rt; odt.mode() == *mode, "before key {place}");
+        assert!(rt; ANSWERS.starts_with(out.as_slice()), "before key {place}");
     }
     Ok(())
 }
@@ -92,13 +86,16 @@ fn the_output_fails_once(rt: HostRuntime) -> Result<(), Fail> {
         let mut odt = Odt::new(rt.alloc(), 28672, PLAIN_STYLE)?;
         let mut keys = KEYS;
         let mut out = BrokenOutput::new(Vec::new(rt.alloc()), number);
-        assert_eq!(rt;
-            type_to(&mut odt, &mut keys, &mut out),
-            Err(CommandFault::Write),
+        let ended = type_to(&mut odt, &mut keys, &mut out);
+        assert!(rt; ended == Err(CommandFault::Write), "write {number}");
+        assert!(rt;
+            out.failures == 1 && out.later_writes == 0,
             "write {number}"
         );
-        assert_eq!(rt; (out.failures, out.later_writes), (1, 0), "{number}");
-        assert!(rt; ANSWERS.starts_with(out.written.as_slice()), "{number}");
+        assert!(rt;
+            ANSWERS.starts_with(out.written.as_slice()),
+            "write {number}"
+        );
     }
     Ok(())
 }

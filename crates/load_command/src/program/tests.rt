@@ -15,10 +15,13 @@ mod tapes;
 /// No terminal looks on.
 const NOBODY: Option<&Stderr> = None;
 
-/// The words of a command line.
-fn line(alloc: Global, words: &[&str]) -> Result<Vec<String>, Fail> {
+/// The words of a command line, which stand with a space between them. Nothing is no word.
+fn line(alloc: Global, words: &str) -> Result<Vec<String>, Fail> {
     let mut line = Vec::new(alloc);
-    for word in words {
+    if words.is_empty() {
+        return Ok(line);
+    }
+    for word in words.split(' ') {
         line.push(String::from_str(alloc, word)?)?;
     }
     Ok(line)
@@ -32,11 +35,18 @@ struct Ended {
     err: Vec<u8>,
 }
 
+/// Whether a run ended with this status, and wrote this.
+fn is_end(ended: &Ended, status: u8, out: &str, err: &str) -> bool {
+    ended.status == status
+        && ended.out.as_slice() == out.as_bytes()
+        && ended.err.as_slice() == err.as_bytes()
+}
+
 /// Runs the program on these words, with this on its standard input.
 fn run<F: Files + Net + Clock>(
     system: &F,
     alloc: Global,
-    words: &[&str],
+    words: &str,
     mut input: &[u8],
 ) -> Result<Ended, Fail> {
     let line = line(alloc, words)?;

@@ -39,14 +39,14 @@ const STARTS: [(&[&[u8]], &[&str]); 4] = [
 
 #[test]
 fn the_words_stand_behind_the_name(rt: HostRuntime) -> Result<(), Fail> {
-    for row in &STARTS {
+    for (place, row) in STARTS.iter().enumerate() {
         let (arguments, wanted) = *row;
         let Ok(words) = words_of(&(Started { arguments }, rt.alloc())) else {
             return Err(Fail::from("no words"));
         };
-        assert_eq!(rt; words.len(), wanted.len(), "{wanted:?}");
+        assert!(rt; words.len() == wanted.len(), "{place}");
         for (word, text) in words.iter().zip(wanted.iter()) {
-            assert!(rt; word.as_str() == *text, "{wanted:?}");
+            assert!(rt; word.as_str() == *text, "{place}: {word}");
         }
     }
     Ok(())

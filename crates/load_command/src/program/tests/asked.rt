@@ -5,66 +5,43 @@ use crate::command_line::parse;
 use requests::Request;
 
 /// Words, and what they ask for, in a text.
-const ASKED: [(&[&str], &str); 18] = [
-    (&[], "CheckInput"),
-    (&["check", "a.lda"], "Check [a.lda]"),
+const ASKED: [(&str, &str); 18] = [
+    ("", "CheckInput"),
+    ("check a.lda", "Check [a.lda]"),
+    ("check a.lda b.lda c.lda", "Check [a.lda b.lda c.lda]"),
+    ("dialogue a.lda", "Dialogue [a.lda] 28672 0"),
     (
-        &["check", "a.lda", "b.lda", "c.lda"],
-        "Check [a.lda b.lda c.lda]",
-    ),
-    (&["dialogue", "a.lda"], "Dialogue [a.lda] 28672 0"),
-    (
-        &["dialogue", "a.lda", "b.lda", "--words", "256"],
+        "dialogue a.lda b.lda --words 256",
         "Dialogue [a.lda b.lda] 256 0",
     ),
+    ("dialogue --style 7 a.lda", "Dialogue [a.lda] 28672 7"),
+    ("rehearse a.lda b.script", "Rehearse a.lda b.script []"),
     (
-        &["dialogue", "--style", "7", "a.lda"],
-        "Dialogue [a.lda] 28672 7",
-    ),
-    (
-        &["rehearse", "a.lda", "b.script"],
-        "Rehearse a.lda b.script []",
-    ),
-    (
-        &["rehearse", "a.lda", "b.script", "c.lda", "d.lda"],
+        "rehearse a.lda b.script c.lda d.lda",
         "Rehearse a.lda b.script [c.lda d.lda]",
     ),
-    (&["type"], "Type 28672 0"),
-    (&["type", "--words", "0", "--style", "0"], "Type 0 0"),
-    (&["type", "--style", "7", "--words=28672"], "Type 28672 7"),
+    ("type", "Type 28672 0"),
+    ("type --words 0 --style 0", "Type 0 0"),
+    ("type --style 7 --words=28672", "Type 28672 7"),
     (
-        &["load", "a.lda", "localhost:2323"],
+        "load a.lda localhost:2323",
         "Load [a.lda] localhost:2323 None 8 2000",
     ),
     (
-        &["load", "a.lda", "b:1", "--record", "a.record"],
+        "load a.lda b:1 --record a.record",
         "Load [a.lda] b:1 Some a.record 8 2000",
     ),
     (
-        &["load", "a.lda", "b:1", "--patience", "0"],
+        "load a.lda b:1 --patience 0",
         "Load [a.lda] b:1 None 0 2000",
     ),
+    ("load a.lda b:1 --quiet 1", "Load [a.lda] b:1 None 8 1"),
     (
-        &["load", "a.lda", "b:1", "--quiet", "1"],
-        "Load [a.lda] b:1 None 8 1",
-    ),
-    (
-        &[
-            "load",
-            "--record=a.record",
-            "--patience",
-            "1000",
-            "--quiet",
-            "60000",
-            "a.lda",
-            "[::1]:23",
-            "b.lda",
-            "c.lda",
-        ],
+        "load --record=a.record --patience 1000 --quiet 60000 a.lda [::1]:23 b.lda c.lda",
         "Load [a.lda b.lda c.lda] [::1]:23 Some a.record 1000 60000",
     ),
-    (&["check", "--", "--help"], "Check [--help]"),
-    (&["check", ""], "Check []"),
+    ("check -- --help", "Check [--help]"),
+    ("check ", "Check []"),
 ];
 
 /// Puts names at the end of a text.
@@ -125,7 +102,7 @@ fn words_ask_for_requests(rt: HostRuntime) -> Result<(), Fail> {
             return Err(Fail::from("words that ask for something are refused"));
         };
         let found = told(rt.alloc(), &request)?;
-        assert!(rt; found.as_str() == asked, "{words:?}: {found}");
+        assert!(rt; found.as_str() == asked, "{found}");
     }
     Ok(())
 }

@@ -34,122 +34,86 @@ const REHEARSED: &str =
     "sent 34 lost 1 spent 1 verified 1 of 1\nend Started\nodt Running 001000\n001000 011064 stands\n";
 
 /// Words, what stands on standard input, and what must come: the status, the output and standard error.
-type Row = (
-    &'static [&'static str],
-    &'static [u8],
-    u8,
-    &'static str,
-    &'static str,
-);
+type Row = (&'static str, &'static [u8], u8, &'static str, &'static str);
 
 /// Commands that are done, and then some that can't be.
 const ROWS: [Row; 20] = [
-    (&[], &FIRST, 0, CHECKED, ""),
-    (&["check", "first.lda"], &[], 0, CHECKED, ""),
+    ("", &FIRST, 0, CHECKED, ""),
+    ("check first.lda", &[], 0, CHECKED, ""),
+    ("check first.lda no-word.lda", &[], 0, CHECKED_BOTH, ""),
+    ("dialogue --style 7 first.lda", &[], 0, LAVISH, ""),
+    ("dialogue first.lda --words 256", &[], 5, SMALL, ""),
     (
-        &["check", "first.lda", "no-word.lda"],
-        &[],
-        0,
-        CHECKED_BOTH,
-        "",
-    ),
-    (
-        &["dialogue", "--style", "7", "first.lda"],
-        &[],
-        0,
-        LAVISH,
-        "",
-    ),
-    (
-        &["dialogue", "first.lda", "--words", "256"],
-        &[],
-        5,
-        SMALL,
-        "",
-    ),
-    (
-        &["rehearse", "first.lda", "fourth-key-lost.script"],
+        "rehearse first.lda fourth-key-lost.script",
         &[],
         0,
         REHEARSED,
         "",
     ),
     // The last word of the largest memory is at 157776, that of 28671 words at 157774.
-    (&["type"], b"157776/", 0, "157776/000000 ", ""),
+    ("type", b"157776/", 0, "157776/000000 ", ""),
+    ("type --words 28672", b"157776/", 0, "157776/000000 ", ""),
     (
-        &["type", "--words", "28672"],
-        b"157776/",
-        0,
-        "157776/000000 ",
-        "",
-    ),
-    (
-        &["type", "--words", "28671"],
+        "type --words 28671",
         b"157776/157774/",
         0,
         "157776/?\r\n@157774/000000 ",
         "",
     ),
     (
-        &["type", "--words", "256", "--style", "1"],
+        "type --words 256 --style 1",
         b"001000/000776/\n",
         0,
         "001000/?\r\n@000776/ 000000 \r\n@",
         "",
     ),
+    ("", &WRONG_SUM, 3, "", "ldaodt: tape refused at 9: BadSum\n"),
     (
-        &[],
-        &WRONG_SUM,
-        3,
-        "",
-        "ldaodt: tape refused at 9: BadSum\n",
-    ),
-    (
-        &["check", "wrong-sum.lda"],
+        "check wrong-sum.lda",
         &[],
         3,
         "",
         "ldaodt: tape refused at 9: BadSum\n",
     ),
     (
-        &["dialogue", "first.lda", "wrong-sum.lda"],
+        "dialogue first.lda wrong-sum.lda",
         &[],
         3,
         "",
         "ldaodt: tape 2 refused at 9: BadSum\n",
     ),
     (
-        &["rehearse", "first.lda", "misspelled.script"],
+        "rehearse first.lda misspelled.script",
         &[],
         3,
         "",
         "ldaodt: script refused at line 2\n",
     ),
     (
-        &["check", "no-such.lda"],
+        "check no-such.lda",
         &[],
         4,
         "",
         "ldaodt: cannot read no-such.lda\n",
     ),
-    (&["check", ".."], &[], 4, "", "ldaodt: cannot read ..\n"),
-    (&["dialogue", "."], &[], 4, "", "ldaodt: cannot read .\n"),
+    ("check ..", &[], 4, "", "ldaodt: cannot read ..\n"),
+    ("dialogue .", &[], 4, "", "ldaodt: cannot read .\n"),
     (
-        &["rehearse", ".", "fourth-key-lost.script"],
+        "rehearse . fourth-key-lost.script",
         &[],
         4,
         "",
         "ldaodt: cannot read .\n",
     ),
     (
-        &["rehearse", "first.lda", "."],
+        "rehearse first.lda .",
         &[],
         4,
         "",
         "ldaodt: cannot read .\n",
     ),
     (
-        &["rehearse", "first.lda", "fourth-key-lost.script", ".."],
+        "rehearse first.lda fourth-key-lost.script ..",
         &[],
         4,
         "",
@@ -165,16 +129,10 @@ fn commands_print_and_end(rt: HostRuntime) -> Result<(), Fail> {
     for row in &ROWS {
         let (words, input, status, out, err) = *row;
         let ended = run(&rt, rt.alloc(), words, input)?;
-        assert_eq!(rt; ended.status, status, "{words:?}");
+        let (printed, told) = (shown(&ended.out), shown(&ended.err));
         assert!(rt;
-            shown(&ended.out) == out,
-            "{words:?}: {}",
-            shown(&ended.out)
-        );
-        assert!(rt;
-            shown(&ended.err) == err,
-            "{words:?}: {}",
-            shown(&ended.err)
+            is_end(&ended, status, out, err),
+            "{words}: {printed}{told}"
         );
     }
     for (name, _) in FILES {

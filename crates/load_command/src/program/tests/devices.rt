@@ -10,7 +10,7 @@ const CANNOT_WRITE: &str = "ldaodt: cannot write output\n";
 /// Runs the program on these words over these outputs, with nothing on standard input.
 fn run_over<W: Write, E: Write>(
     rt: &HostRuntime,
-    words: &[&str],
+    words: &str,
     out: &mut W,
     err: &mut E,
 ) -> Result<u8, Fail> {
@@ -20,7 +20,7 @@ fn run_over<W: Write, E: Write>(
 }
 
 /// Words that have something printed.
-const PRINTING: [&[&str]; 3] = [&["--help"], &["help", "load"], &["--version"]];
+const PRINTING: [&str; 3] = ["--help", "help load", "--version"];
 
 #[test]
 fn help_that_can_not_be_written_is_told(rt: HostRuntime) -> Result<(), Fail> {
@@ -29,14 +29,12 @@ fn help_that_can_not_be_written_is_told(rt: HostRuntime) -> Result<(), Fail> {
             let mut out = BrokenOutput::new(Vec::new(rt.alloc()), fails_at);
             let mut err = Vec::new(rt.alloc());
             let status = run_over(&rt, words, &mut out, &mut err)?;
-            assert_eq!(rt; status, 4, "{words:?}");
-            assert!(rt; shown(&err) == CANNOT_WRITE, "{words:?}");
-            assert_eq!(rt; (out.failures, out.later_writes), (1, 0), "{words:?}");
+            assert!(rt; status == 4 && shown(&err) == CANNOT_WRITE, "{words}");
+            assert!(rt; out.failures == 1 && out.later_writes == 0, "{words}");
         }
         let mut err = Vec::new(rt.alloc());
         let status = run_over(&rt, words, &mut UnflushedOutput, &mut err)?;
-        assert_eq!(rt; status, 4, "{words:?}");
-        assert!(rt; shown(&err) == CANNOT_WRITE, "{words:?}");
+        assert!(rt; status == 4 && shown(&err) == CANNOT_WRITE, "{words}");
     }
     Ok(())
 }
@@ -44,9 +42,8 @@ fn help_that_can_not_be_written_is_told(rt: HostRuntime) -> Result<(), Fail> {
 #[test]
 fn a_command_whose_output_fails_to_flush_says_so(rt: HostRuntime) -> Result<(), Fail> {
     let mut err = Vec::new(rt.alloc());
-    let status = run_over(&rt, &["type"], &mut UnflushedOutput, &mut err)?;
-    assert_eq!(rt; status, 4);
-    assert!(rt; shown(&err) == CANNOT_WRITE);
+    let status = run_over(&rt, "type", &mut UnflushedOutput, &mut err)?;
+    assert!(rt; status == 4 && shown(&err) == CANNOT_WRITE);
     Ok(())
 }
 
@@ -68,11 +65,11 @@ impl Write for Counted {
 }
 
 /// Words, and the status: what is said goes to standard output where it is 0, and else to standard error.
-const ANSWERED: [(&[&str], u8); 4] = [
-    (&["--help"], 0),
-    (&["help", "load"], 0),
-    (&["check"], 2),
-    (&["check", "no-such.lda"], 4),
+const ANSWERED: [(&str, u8); 4] = [
+    ("--help", 0),
+    ("help load", 0),
+    ("check", 2),
+    ("check no-such.lda", 4),
 ];
 
 #[test]
@@ -81,13 +78,10 @@ fn each_answer_is_one_write(rt: HostRuntime) -> Result<(), Fail> {
         let (words, status) = *row;
         let mut out = Counted { writes: 0 };
         let mut err = Counted { writes: 0 };
-        assert_eq!(rt;
-            run_over(&rt, words, &mut out, &mut err)?,
-            status,
-            "{words:?}"
-        );
-        let wanted = if status == 0 { (1, 0) } else { (0, 1) };
-        assert_eq!(rt; (out.writes, err.writes), wanted, "{words:?}");
+        let ended = run_over(&rt, words, &mut out, &mut err)?;
+        assert!(rt; ended == status, "{words}: {ended}");
+        let (printed, told) = if status == 0 { (1, 0) } else { (0, 1) };
+        assert!(rt; out.writes == printed && err.writes == told, "{words}");
     }
     Ok(())
 }
@@ -98,12 +92,9 @@ fn what_can_not_be_told_is_not(rt: HostRuntime) -> Result<(), Fail> {
         let (words, status) = *row;
         let mut out = Counted { writes: 0 };
         let mut err = BrokenOutput::new(Vec::new(rt.alloc()), 1);
-        assert_eq!(rt;
-            run_over(&rt, words, &mut out, &mut err)?,
-            status,
-            "{words:?}"
-        );
-        assert_eq!(rt; err.later_writes, 0, "{words:?}");
+        let ended = run_over(&rt, words, &mut out, &mut err)?;
+        assert!(rt; ended == status, "{words}: {ended}");
+        assert!(rt; err.later_writes == 0, "{words}");
     }
     Ok(())
 }

@@ -15,7 +15,7 @@ const VERIFIED: &str = "LDAODT 2\n001000 011064\n";
 /// A load, and what must come of it.
 #[derive(Clone, Copy, Debug)]
 struct Row {
-    words: &'static [&'static str],
+    words: &'static str,
     setting: Setting,
     /// What the record `a.record` holds before and after, where it is there.
     before: Option<&'static str>,
@@ -27,13 +27,7 @@ struct Row {
 
 /// A whole load of the first tape.
 const STARTED: Row = Row {
-    words: &[
-        "load",
-        "first.lda",
-        "127.0.0.1:2323",
-        "--record",
-        "a.record",
-    ],
+    words: "load first.lda 127.0.0.1:2323 --record a.record",
     setting: AMPLE,
     before: None,
     after: Some(MARKED),
@@ -43,12 +37,12 @@ const STARTED: Row = Row {
 };
 
 /// A tape of two words, loaded into a machine that then closes the line.
-const TWO: &[&str] = &["load", "two.lda", "127.0.0.1:2323", "--record", "a.record"];
+const TWO: &str = "load two.lda 127.0.0.1:2323 --record a.record";
 
 const ROWS: [Row; 10] = [
     STARTED,
     Row {
-        words: &["load", "no-word.lda", "127.0.0.1:2323"],
+        words: "load no-word.lda 127.0.0.1:2323",
         after: None,
         out: "sent 0 spent 0 verified 0 of 0\nend Loaded\n",
         ..STARTED
@@ -77,7 +71,7 @@ const ROWS: [Row; 10] = [
         ..STARTED
     },
     Row {
-        words: &["load", "first.lda", "127.0.0.1:2323", "--record", "."],
+        words: "load first.lda 127.0.0.1:2323 --record .",
         after: None,
         status: 4,
         out: "",
@@ -116,7 +110,7 @@ const ROWS: [Row; 10] = [
         ..STARTED
     },
     Row {
-        words: &["load", "first.lda", "127.0.0.1:2323"],
+        words: "load first.lda 127.0.0.1:2323",
         setting: Setting {
             words: 256,
             ..AMPLE
@@ -156,7 +150,7 @@ fn is_record(rt: &HostRuntime, wanted: Option<&str>) -> bool {
 }
 
 /// Runs the program on these words, on a system of this setting.
-fn run_with(rt: &HostRuntime, setting: Setting, words: &[&str]) -> Result<Ended, Fail> {
+fn run_with(rt: &HostRuntime, setting: Setting, words: &str) -> Result<Ended, Fail> {
     let system = System::new(rt, setting);
     run(&system, rt.alloc(), words, &[])
 }
@@ -167,29 +161,13 @@ fn loads_end_with_their_status(rt: HostRuntime) -> Result<(), Fail> {
         fs::write(&rt, name, bytes)?;
     }
     for row in &ROWS {
-        let Row {
-            words,
-            setting,
-            before,
-            after,
-            status,
-            out,
-            err,
-        } = *row;
-        put_record(&rt, before)?;
-        let ended = run_with(&rt, setting, words)?;
-        assert_eq!(rt; ended.status, status, "{words:?}");
-        assert!(rt;
-            shown(&ended.out) == out,
-            "{words:?}: {}",
-            shown(&ended.out)
-        );
-        assert!(rt;
-            shown(&ended.err) == err,
-            "{words:?}: {}",
-            shown(&ended.err)
-        );
-        assert!(rt; is_record(&rt, after), "{words:?}");
+        put_record(&rt, row.before)?;
+        let words = row.words;
+        let ended = run_with(&rt, row.setting, words)?;
+        let (printed, told) = (shown(&ended.out), shown(&ended.err));
+        let is_end = is_end(&ended, row.status, row.out, row.err);
+        assert!(rt; is_end, "{words}: {printed}{told}");
+        assert!(rt; is_record(&rt, row.after), "{words}: the record");
     }
     put_record(&rt, None)?;
     for (name, _) in TAPES {
@@ -206,18 +184,10 @@ fn nobody_listens_at_a_closed_port(rt: HostRuntime) -> Result<(), Fail> {
     drop(listener);
     fs::write(&rt, "first.lda", FIRST)?;
     put_record(&rt, Some(VERIFIED))?;
-    let words = [
-        "load",
-        "first.lda",
-        address.as_str(),
-        "--record",
-        "a.record",
-    ];
+    let words = format!(in alloc; "load first.lda {address} --record a.record")?;
     let ended = run(&rt, alloc, &words, &[])?;
     let err = format!(in alloc; "ldaodt: cannot connect to {address}\n")?;
-    assert_eq!(rt; ended.status, 4);
-    assert!(rt; ended.out.is_empty());
-    assert!(rt; shown(&ended.err) == err.as_str(), "{}", shown(&ended.err));
+    assert!(rt; is_end(&ended, 4, "", &err), "{}", shown(&ended.err));
     assert!(rt; is_record(&rt, Some(VERIFIED)));
     put_record(&rt, None)?;
     Ok(fs::remove_file(&rt, "first.lda")?)
@@ -227,10 +197,9 @@ fn nobody_listens_at_a_closed_port(rt: HostRuntime) -> Result<(), Fail> {
 #[test]
 fn a_full_device_is_no_record(rt: HostRuntime) -> Result<(), Fail> {
     fs::write(&rt, "first.lda", FIRST)?;
-    let words = ["load", "first.lda", "b:1", "--record", "/dev/full"];
-    let ended = run_with(&rt, AMPLE, &words)?;
-    assert_eq!(rt; ended.status, 3);
-    assert!(rt; ended.out.is_empty());
-    assert!(rt; shown(&ended.err) == "ldaodt: record refused: NotARecord\n");
+    let words = "load first.lda b:1 --record /dev/full";
+    let ended = run_with(&rt, AMPLE, words)?;
+    let err = "ldaodt: record refused: NotARecord\n";
+    assert!(rt; is_end(&ended, 3, "", err), "{}", shown(&ended.err));
     Ok(fs::remove_file(&rt, "first.lda")?)
 }

@@ -3,9 +3,9 @@
 use super::*;
 
 /// Words, and what then stands on standard error.
-const REFUSED: [(&[&str], &str); 24] = [
+const REFUSED: [(&str, &str); 24] = [
     (
-        &["check"],
+        "check",
         "error: the following required arguments were not provided:
   <TAPE>
 
@@ -15,7 +15,7 @@ For more information, try '--help'.
 ",
     ),
     (
-        &["dialogue"],
+        "dialogue",
         "error: the following required arguments were not provided:
   <TAPE>
 
@@ -25,7 +25,7 @@ For more information, try '--help'.
 ",
     ),
     (
-        &["rehearse", "a.lda"],
+        "rehearse a.lda",
         "error: the following required arguments were not provided:
   <SCRIPT>
 
@@ -35,7 +35,7 @@ For more information, try '--help'.
 ",
     ),
     (
-        &["load"],
+        "load",
         "error: the following required arguments were not provided:
   <TAPE>
   <HOST:PORT>
@@ -46,7 +46,7 @@ For more information, try '--help'.
 ",
     ),
     (
-        &["load", "a.lda"],
+        "load a.lda",
         "error: the following required arguments were not provided:
   <HOST:PORT>
 
@@ -56,56 +56,56 @@ For more information, try '--help'.
 ",
     ),
     (
-        &["load", "a.lda", "b:1", "--patience", "1001"],
+        "load a.lda b:1 --patience 1001",
         "error: invalid value '1001' for '--patience <N>': 1001 is not in 0..=1000
 
 For more information, try '--help'.
 ",
     ),
     (
-        &["load", "a.lda", "b:1", "--quiet", "0"],
+        "load a.lda b:1 --quiet 0",
         "error: invalid value '0' for '--quiet <MS>': 0 is not in 1..=60000
 
 For more information, try '--help'.
 ",
     ),
     (
-        &["load", "a.lda", "b:1", "--quiet", "60001"],
+        "load a.lda b:1 --quiet 60001",
         "error: invalid value '60001' for '--quiet <MS>': 60001 is not in 1..=60000
 
 For more information, try '--help'.
 ",
     ),
     (
-        &["load", "a.lda", "b:1", "--record"],
+        "load a.lda b:1 --record",
         "error: a value is required for '--record <FILE>' but none was supplied
 
 For more information, try '--help'.
 ",
     ),
     (
-        &["type", "--words", "28673"],
+        "type --words 28673",
         "error: invalid value '28673' for '--words <N>': 28673 is not in 0..=28672
 
 For more information, try '--help'.
 ",
     ),
     (
-        &["dialogue", "a.lda", "--words", "65536"],
+        "dialogue a.lda --words 65536",
         "error: invalid value '65536' for '--words <N>': 65536 is not in 0..=28672
 
 For more information, try '--help'.
 ",
     ),
     (
-        &["type", "--words", "1000x"],
+        "type --words 1000x",
         "error: invalid value '1000x' for '--words <N>': invalid digit found in string
 
 For more information, try '--help'.
 ",
     ),
     (
-        &["type", "--words", "-1"],
+        "type --words -1",
         "error: unexpected argument '-1' found
 
 Usage: ldaodt type [OPTIONS]
@@ -114,21 +114,21 @@ For more information, try '--help'.
 ",
     ),
     (
-        &["type", "--words=-1"],
+        "type --words=-1",
         "error: invalid value '-1' for '--words <N>': -1 is not in 0..=28672
 
 For more information, try '--help'.
 ",
     ),
     (
-        &["type", "--words"],
+        "type --words",
         "error: a value is required for '--words <N>' but none was supplied
 
 For more information, try '--help'.
 ",
     ),
     (
-        &["type", "--words", "1", "--words", "2"],
+        "type --words 1 --words 2",
         "error: the argument '--words <N>' cannot be used multiple times
 
 Usage: ldaodt type [OPTIONS]
@@ -137,14 +137,14 @@ For more information, try '--help'.
 ",
     ),
     (
-        &["type", "--style", "8"],
+        "type --style 8",
         "error: invalid value '8' for '--style <N>': 8 is not in 0..=7
 
 For more information, try '--help'.
 ",
     ),
     (
-        &["type", "a.lda"],
+        "type a.lda",
         "error: unexpected argument 'a.lda' found
 
 Usage: ldaodt type [OPTIONS]
@@ -153,7 +153,7 @@ For more information, try '--help'.
 ",
     ),
     (
-        &["check", "a.lda", "--words", "1"],
+        "check a.lda --words 1",
         "error: unexpected argument '--words' found
 
   tip: to pass '--words' as a value, use '-- --words'
@@ -164,7 +164,7 @@ For more information, try '--help'.
 ",
     ),
     (
-        &["a.lda"],
+        "a.lda",
         "error: unrecognized subcommand 'a.lda'
 
 Usage: ldaodt [COMMAND]
@@ -173,7 +173,7 @@ For more information, try '--help'.
 ",
     ),
     (
-        &["chek", "a.lda"],
+        "chek a.lda",
         "error: unrecognized subcommand 'chek'
 
   tip: a similar subcommand exists: 'check'
@@ -184,7 +184,7 @@ For more information, try '--help'.
 ",
     ),
     (
-        &["--dry-run"],
+        "--dry-run",
         "error: unexpected argument '--dry-run' found
 
 Usage: ldaodt [COMMAND]
@@ -193,7 +193,7 @@ For more information, try '--help'.
 ",
     ),
     (
-        &["help", "a.lda"],
+        "help a.lda",
         "error: unrecognized subcommand 'a.lda'
 
 Usage: ldaodt [COMMAND]
@@ -202,7 +202,7 @@ For more information, try '--help'.
 ",
     ),
     (
-        &["--"],
+        "--",
         "error: 'ldaodt' requires a subcommand but one was not provided
   [subcommands: load, check, dialogue, rehearse, type, help]
 
@@ -218,13 +218,8 @@ fn other_words_are_refused(rt: HostRuntime) -> Result<(), Fail> {
     for row in &REFUSED {
         let (words, err) = *row;
         let ended = run(&rt, rt.alloc(), words, &[])?;
-        assert_eq!(rt; ended.status, 2, "{words:?}");
-        assert!(rt; ended.out.is_empty(), "{words:?}");
-        assert!(rt;
-            shown(&ended.err) == err,
-            "{words:?}: {}",
-            shown(&ended.err)
-        );
+        let (printed, told) = (shown(&ended.out), shown(&ended.err));
+        assert!(rt; is_end(&ended, 2, "", err), "{words}: {printed}{told}");
     }
     Ok(())
 }

@@ -8,6 +8,7 @@ use std::alloc::Global;
 use std::io::Write;
 use std::slice;
 use std::test::Fail;
+use tape_blocks::{Block, Tape, write_tape};
 use tape_check::check_to;
 
 /// How many blocks the tape has.
@@ -19,9 +20,6 @@ const WORDS_OF_BLOCK: u16 = 28;
 /// How many words memory has.
 const WORDS: u16 = 28672;
 
-/// The end of a tape that starts nothing.
-const NO_START: [u8; 7] = [0x01, 0x00, 0x06, 0x00, 0x01, 0x00, 0xF8];
-
 /// The address of the word of this number.
 fn address_of(number: u16) -> u16 {
     number.wrapping_mul(2)
@@ -32,41 +30,43 @@ fn value_at(address: u16) -> u16 {
     u16::MAX - address
 }
 
-/// Puts bytes at the end of a text, and adds them to a sum.
-fn put_summed(text: &mut Vec<u8>, sum: &mut u8, bytes: &[u8]) -> Result<(), Fail> {
-    for byte in bytes {
-        *sum = sum.wrapping_add(*byte);
-    }
-    text.extend_from_slice(bytes)?;
-    Ok(())
+/// Puts characters at the end of a text, and then a word's six octal digits.
+fn put_octal(text: &mut Vec<u8>, before: &[u8], word: u16) -> Result<(), Fail> {
+    text.extend_from_slice(before)?;
+    Ok(write!(text, "{word:06o}")?)
 }
 
-/// Puts the block with the words from this number on: 56 bytes, so that its count is 62.
-fn put_block(text: &mut Vec<u8>, first: u16) -> Result<(), Fail> {
-    let mut sum = 0;
-    put_summed(text, &mut sum, &[1, 0, 62, 0])?;
-    put_summed(text, &mut sum, &address_of(first).to_le_bytes())?;
+/// The block with the words from this number on.
+fn block(alloc: Global, first: u16) -> Result<Block, Fail> {
+    let mut bytes = Vec::new(alloc);
     for place in 0..WORDS_OF_BLOCK {
         let value = value_at(address_of(first.wrapping_add(place)));
-        put_summed(text, &mut sum, &value.to_le_bytes())?;
+        bytes.extend_from_slice(&value.to_le_bytes())?;
     }
-    text.push(sum.wrapping_neg())?;
-    Ok(())
+    let address = address_of(first);
+    Ok(Block { address, bytes })
 }
 
 /// A tape of 1,024 blocks that fills memory and starts nothing.
-pub fn full_tape(alloc: Global) -> Result<Vec<u8>, Fail> {
-    let mut text = Vec::new(alloc);
-    for block in 0..BLOCKS {
-        put_block(&mut text, block.wrapping_mul(WORDS_OF_BLOCK))?;
+pub fn full_tape(alloc: Global) -> Result<Tape, Fail> {
+    let mut blocks = Vec::new(alloc);
+    for number in 0..BLOCKS {
+        blocks.push(block(alloc, number.wrapping_mul(WORDS_OF_BLOCK))?)?;
     }
-    text.extend_from_slice(&NO_START)?;
-    Ok(text)
+    match Tape::new(blocks, 1) {
+        Ok(tape) => Ok(tape),
+        Err(_) => Err(Fail::from("these blocks make no tape")),
+    }
+}
+
+/// The text of that tape.
+fn full_text(alloc: Global) -> Result<Vec<u8>, Fail> {
+    Ok(write_tape(alloc, &full_tape(alloc)?)?)
 }
 
 #[test]
 fn a_full_image_is_checked(rt: HostRuntime) -> Result<(), Fail> {
-    let tape = full_tape(rt.alloc())?;
+    let tape = full_text(rt.alloc())?;
     let mut expected = Vec::from_slice(
         rt.alloc(),
         b"blocks 1024 data 57344 read 64519\nno start 000001\ncanonical yes\nwords 28672\n",
@@ -74,13 +74,14 @@ fn a_full_image_is_checked(rt: HostRuntime) -> Result<(), Fail> {
     for number in 0..WORDS {
         let address = address_of(number);
         let value = value_at(address);
-        writeln!(expected, "{address:06o} 177777 {value:06o}")?;
+        put_octal(&mut expected, b"", address)?;
+        put_octal(&mut expected, b" 177777 ", value)?;
+        expected.push(b'\n')?;
     }
     let mut input = tape.as_slice();
     let mut out = Vec::new(rt.alloc());
     let done = check_to(rt.alloc(), slice::from_mut(&mut input), &mut out);
-    assert_eq!(rt; done, Ok(()));
-    assert!(rt; out.as_slice() == expected.as_slice());
+    assert!(rt; done == Ok(()) && out.as_slice() == expected.as_slice());
     Ok(())
 }
 
@@ -89,22 +90,28 @@ fn put_standing(text: &mut Vec<u8>) -> Result<(), Fail> {
     for number in 0..WORDS {
         let address = address_of(number);
         let value = value_at(address);
-        writeln!(text, "{address:06o} {value:06o} stands")?;
+        put_octal(text, b"", address)?;
+        put_octal(text, b" ", value)?;
+        text.extend_from_slice(b" stands\n")?;
     }
     Ok(())
 }
 
 #[test]
 fn a_full_image_is_loaded(rt: HostRuntime) -> Result<(), Fail> {
-    let tape = full_tape(rt.alloc())?;
+    let tape = full_text(rt.alloc())?;
     let mut expected = Vec::from_slice(rt.alloc(), b"Z -> ?<CR><LF>@\n")?;
     for number in 0..WORDS {
         let address = address_of(number);
         let value = value_at(address);
-        writeln!(expected, "{address:06o}/ -> {address:06o}/000000_")?;
-        writeln!(expected, "{value:06o}<CR> -> {value:06o}<CR><LF>@")?;
-        writeln!(expected, "{address:06o}/ -> {address:06o}/{value:06o}_")?;
-        expected.extend_from_slice(b"<CR> -> <CR><LF>@\n")?;
+        put_octal(&mut expected, b"", address)?;
+        put_octal(&mut expected, b"/ -> ", address)?;
+        put_octal(&mut expected, b"/000000_\n", value)?;
+        put_octal(&mut expected, b"<CR> -> ", value)?;
+        put_octal(&mut expected, b"<CR><LF>@\n", address)?;
+        put_octal(&mut expected, b"/ -> ", address)?;
+        put_octal(&mut expected, b"/", value)?;
+        expected.extend_from_slice(b"_\n<CR> -> <CR><LF>@\n")?;
     }
     expected.extend_from_slice(
         b"sent 630785 lost 0 spent 0 verified 28672 of 28672\nend Loaded\nodt Prompt\n",
@@ -119,8 +126,7 @@ fn a_full_image_is_loaded(rt: HostRuntime) -> Result<(), Fail> {
         PLAIN_STYLE,
         &mut out,
     );
-    assert_eq!(rt; done, Ok(End::Loaded));
-    assert!(rt; out.as_slice() == expected.as_slice());
+    assert!(rt; done == Ok(End::Loaded) && out.as_slice() == expected.as_slice());
     Ok(())
 }
 
@@ -134,7 +140,9 @@ fn long_script(alloc: Global) -> Result<Vec<u8>, Fail> {
     for number in 0..WORDS {
         let address = address_of(number);
         let value = value_at(address);
-        writeln!(text, "put {address:06o} {value:06o}")?;
+        put_octal(&mut text, b"put ", address)?;
+        put_octal(&mut text, b" ", value)?;
+        text.push(b'\n')?;
     }
     for _ in 0..IMPOSSIBLE {
         text.extend_from_slice(b"take\n")?;
@@ -145,7 +153,7 @@ fn long_script(alloc: Global) -> Result<Vec<u8>, Fail> {
 
 #[test]
 fn a_full_image_is_rehearsed(rt: HostRuntime) -> Result<(), Fail> {
-    let tape = full_tape(rt.alloc())?;
+    let tape = full_text(rt.alloc())?;
     let script = long_script(rt.alloc())?;
     let mut expected = Vec::new(rt.alloc());
     for number in 0..IMPOSSIBLE {
@@ -164,7 +172,6 @@ fn a_full_image_is_rehearsed(rt: HostRuntime) -> Result<(), Fail> {
         &mut lines,
         &mut out,
     );
-    assert_eq!(rt; done, Ok(()));
-    assert!(rt; out.as_slice() == expected.as_slice());
+    assert!(rt; done == Ok(()) && out.as_slice() == expected.as_slice());
     Ok(())
 }

@@ -11,7 +11,6 @@ use odt_machine::{LARGEST_WORDS, Odt, PLAIN_STYLE};
 use std::alloc::Global;
 use std::fs;
 use std::test::Fail;
-use tape_blocks::read_tape;
 use tape_image::Plan;
 
 /// Room for all that is said in a load of the whole image: 40 answers and 22 keys for each word, and
@@ -52,14 +51,13 @@ impl Surroundings for InMemory {
 
 #[test]
 fn a_full_image_is_loaded_over_a_line(rt: HostRuntime) -> Result<(), Fail> {
-    let (tape, _) = read_tape(rt.alloc(), &full_tape(rt.alloc())?)?;
-    let plan = Plan::of(rt.alloc(), &tape)?;
+    let plan = Plan::of(rt.alloc(), &full_tape(rt.alloc())?)?;
     let odt = Odt::new(rt.alloc(), LARGEST_WORDS, PLAIN_STYLE)?;
     let line = MemoryLine::new(rt.alloc(), odt, Vec::new(rt.alloc()), ROOM, None)?;
     let mut around = InMemory { line: Some(line) };
     let mut out = Vec::new(rt.alloc());
     let done = load(rt.alloc(), plan, 8, &mut around, &mut out, &Unwatched);
-    assert_eq!(rt; done, Ok(Stop::Ended(End::Loaded)));
+    assert!(rt; done == Ok(Stop::Ended(End::Loaded)));
     let report: &[u8] = b"sent 630785 spent 0 verified 28672 of 28672\nend Loaded\n";
     assert!(rt; out.as_slice() == report);
     Ok(())
@@ -79,9 +77,11 @@ fn a_record_is_read_past_its_limit(rt: HostRuntime) -> Result<(), Fail> {
     };
     let read = around.read_record(rt.alloc());
     fs::remove_file(&rt, "long.record")?;
-    assert_eq!(rt;
-        read.map(|bytes| bytes.len()),
-        Ok(1_048_577),
+    let Ok(read) = read else {
+        return Err(Fail::from("the record is not read"));
+    };
+    assert!(rt;
+        read.len() == 1_048_577,
         "one byte more than a record may have"
     );
     Ok(())

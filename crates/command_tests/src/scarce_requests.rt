@@ -246,17 +246,22 @@ fn no_ending(alloc: Global) -> Result<Ended, Fail> {
     })
 }
 
+/// Whether a request ended as with ample memory.
+fn has_ended(ended: &Ended, row: &Row) -> bool {
+    let (_, _, status, out, err) = *row;
+    ended.status == status
+        && ended.out.as_slice() == out.as_bytes()
+        && ended.err.as_slice() == err.as_bytes()
+}
+
 #[test]
 fn each_growth_is_refused_in_turn(rt: HostRuntime) -> Result<(), Fail> {
     put_files(&rt)?;
     let mut ended = no_ending(rt.alloc())?;
     for row in &REQUESTS {
-        let (asked, input, status, out, err) = *row;
+        let (asked, input, _, out, _) = *row;
         let refusals = run_scarcely(&rt, asked, input, out, &mut ended)?;
-        assert!(rt; refusals > 0, "{asked:?}");
-        assert_eq!(rt; ended.status, status, "{asked:?}");
-        assert!(rt; ended.out.as_slice() == out.as_bytes(), "{asked:?}");
-        assert!(rt; ended.err.as_slice() == err.as_bytes(), "{asked:?}");
+        assert!(rt; has_ended(&ended, row) && refusals > 0, "{asked:?}");
     }
     remove_files(&rt)
 }
@@ -266,11 +271,9 @@ fn ample_memory_is_enough(rt: HostRuntime) -> Result<(), Fail> {
     put_files(&rt)?;
     let mut ended = no_ending(rt.alloc())?;
     for row in &REQUESTS {
-        let (asked, input, status, out, err) = *row;
+        let (asked, input, _, _, _) = *row;
         run(&rt, request_of(rt.alloc(), asked)?, input, &mut ended);
-        assert_eq!(rt; ended.status, status, "{asked:?}");
-        assert!(rt; ended.out.as_slice() == out.as_bytes(), "{asked:?}");
-        assert!(rt; ended.err.as_slice() == err.as_bytes(), "{asked:?}");
+        assert!(rt; has_ended(&ended, row), "{asked:?}");
     }
     remove_files(&rt)
 }
@@ -281,8 +284,6 @@ fn the_line_for_want_of_memory_takes_none(rt: HostRuntime) -> Result<(), Fail> {
     let famine = Famine::begin(rt.alloc())?;
     run(&rt, Request::CheckInput, &ONE_WORD, &mut ended);
     drop(famine);
-    assert_eq!(rt; ended.status, Status::NoMemory);
-    assert!(rt; ended.out.is_empty());
-    assert!(rt; ended.err.as_slice() == OUT_OF_MEMORY);
+    assert!(rt; ended.status == Status::NoMemory && is_orderly(&ended, ""));
     Ok(())
 }

@@ -1,6 +1,5 @@
 //! Records of which one byte was changed.
 
-use crate::changes::changed;
 use crate::tapes::ONE_WORD;
 use load_record::{RecordError, read_record};
 use std::alloc::Global;
@@ -26,6 +25,9 @@ type Said = Result<(u32, bool), RecordError>;
 fn expected(record: &[u8], place: usize, other: u8) -> Said {
     const HEADER: usize = 9;
     const DIGIT: usize = 7;
+    if record.get(place) == Some(&other) {
+        return Ok((1, true));
+    }
     if place == DIGIT && matches!(other, b'1' | b'2') {
         return Err(RecordError::Foreign(2));
     }
@@ -42,10 +44,11 @@ fn expected(record: &[u8], place: usize, other: u8) -> Said {
 /// The first change of the byte at this place that is not read as it has to be, if there is one.
 fn misread(alloc: Global, record: &[u8], place: usize, plan: &Plan) -> Result<Option<u8>, Fail> {
     for other in OTHERS {
-        if record.get(place) == Some(&other) {
-            continue;
-        }
-        let text = changed(alloc, record, place, other)?;
+        let mut text = Vec::from_slice(alloc, record)?;
+        let Some(byte) = text.get_mut(place) else {
+            return Ok(Some(other));
+        };
+        *byte = other;
         let said = read_record(&text, plan).map(|progress| (progress.verified, progress.going));
         if said != expected(record, place, other) {
             return Ok(Some(other));
@@ -60,8 +63,10 @@ fn each_byte_of_a_record_is_changed(rt: HostRuntime) -> Result<(), Fail> {
     let plan = Plan::of(rt.alloc(), &tape)?;
     for record in &RECORDS {
         for place in 0..record.len() {
-            let found = misread(rt.alloc(), record, place, &plan)?;
-            assert_eq!(rt; found, None, "byte {place}");
+            assert!(rt;
+                misread(rt.alloc(), record, place, &plan)?.is_none(),
+                "byte {place}"
+            );
         }
     }
     Ok(())

@@ -11,7 +11,7 @@ use tape_blocks::{Fault, ReadError, Tape, Why, read_tape, write_tape};
 use tape_image::Plan;
 
 /// A call that takes memory.
-#[derive(Clone, Copy, Debug)]
+#[derive(Clone, Copy)]
 enum Call {
     Read,
     Write,
@@ -23,7 +23,7 @@ enum Call {
 }
 
 /// What a call answers with ample memory, as far as its contract does not say it: that it is that.
-#[derive(Clone, Copy, Debug, PartialEq, Eq)]
+#[derive(Clone, Copy, PartialEq)]
 enum Answer {
     /// A tape of so many blocks, and how many bytes it has.
     Tape(usize, u32),
@@ -48,7 +48,12 @@ const WRONG_SUM_FAULT: Fault = Fault {
 /// Calls, the texts of the tapes that they have, what they answer with ample memory, and why the row
 /// is here.
 const CALLS: [(Call, &[&[u8]], Answer, &str); 12] = [
-    (Call::Read, &[&ONE_WORD], Answer::Tape(1, 16), "one block"),
+    (
+        Call::Read,
+        &[&ONE_WORD],
+        Answer::Tape(1, 16),
+        "a block is read",
+    ),
     (
         Call::Read,
         &[&PADDED],
@@ -61,8 +66,18 @@ const CALLS: [(Call, &[&[u8]], Answer, &str); 12] = [
         Answer::Refused(WRONG_SUM_FAULT),
         "a refusal waits behind the growths",
     ),
-    (Call::Write, &[&ONE_WORD], Answer::Text(16), "one block"),
-    (Call::Write, &[&NOTHING], Answer::Text(7), "no block"),
+    (
+        Call::Write,
+        &[&ONE_WORD],
+        Answer::Text(16),
+        "a block is written",
+    ),
+    (
+        Call::Write,
+        &[&NOTHING],
+        Answer::Text(7),
+        "no block is written",
+    ),
     (Call::Plan, &[&ONE_WORD], Answer::Plan(1), "one word"),
     (Call::Plan, &[&NOTHING], Answer::Plan(0), "no word"),
     (Call::PlanOfAll, &[], Answer::Plan(0), "no tape"),
@@ -164,7 +179,7 @@ fn ample_memory_is_enough(rt: HostRuntime) -> Result<(), Fail> {
         let (call, texts, ample, reason) = *row;
         let tapes = tapes_of(rt.alloc(), texts)?;
         let found = ask(rt.alloc(), call, texts, &tapes);
-        assert_eq!(rt; found, Some(ample), "{call:?}: {reason}");
+        assert!(rt; found == Some(ample), "{reason}");
     }
     Ok(())
 }
@@ -174,8 +189,7 @@ fn each_growth_is_refused_in_turn(rt: HostRuntime) -> Result<(), Fail> {
     for row in &CALLS {
         let (call, texts, ample, reason) = *row;
         let (found, refusals) = first_answer(rt.alloc(), call, texts)?;
-        assert_eq!(rt; found, Some(ample), "{call:?}: {reason}");
-        assert!(rt; refusals > 0, "{call:?}: {reason}");
+        assert!(rt; found == Some(ample) && refusals > 0, "{reason}");
     }
     Ok(())
 }

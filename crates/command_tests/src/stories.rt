@@ -16,7 +16,7 @@ pub const STALE_REPORT: &str =
     "line 3: not possible\nline 5: not possible\nline 7: not possible\nline 9: not possible\nsent 30 lost 0 spent 0 verified 1 of 1\nend Started\nodt Running 001000\n001000 011064 stands\n";
 
 /// The stories of what a line can lose: the tape, the script, and what must be printed.
-const STORIES: [(&str, &[u8], &str, &str); 13] = [
+const STORIES: [(&str, &[u8], &str, &str); 14] = [
     (
         "the third digit is lost",
         &ONE_WORD,
@@ -90,6 +90,12 @@ const STORIES: [(&str, &[u8], &str, &str); 13] = [
         "sent 0 lost 0 spent 0 verified 0 of 1\nend MaybeStarted\nodt Number 001000 6\n001000 011064 stands\n",
     ),
     (
+        "a lavish console answers the first key with six characters",
+        &ONE_WORD,
+        "style 7\n\nto 1\ntake\nhear 6\nhear\nup 0\n",
+        "line 6: not possible\nline 7: not possible\nsent 2 lost 0 spent 0 verified 0 of 1\nend none\nodt Prompt\n001000 000000 differs\n",
+    ),
+    (
         "no event happens",
         &ONE_WORD,
         "# nothing\r\n",
@@ -98,7 +104,7 @@ const STORIES: [(&str, &[u8], &str, &str); 13] = [
 ];
 
 /// Rehearses a script with one tape, and answers how that ended and what was printed.
-fn rehearsed(
+pub fn rehearsed(
     alloc: Global,
     mut tape: &[u8],
     mut script: &[u8],
@@ -108,15 +114,27 @@ fn rehearsed(
     (done, out)
 }
 
+/// Whether a rehearsal ends so, and prints just this.
+fn ends_with(
+    alloc: Global,
+    tape: &[u8],
+    script: &str,
+    ended: Result<(), CommandFault>,
+    printed: &str,
+) -> bool {
+    let (done, out) = rehearsed(alloc, tape, script.as_bytes());
+    done == ended && out.as_slice() == printed.as_bytes()
+}
+
 #[test]
-fn stories_of_losses(rt: HostRuntime) -> Result<(), Fail> {
+fn stories_of_losses(rt: HostRuntime) {
     for row in &STORIES {
         let (story, tape, script, expected) = *row;
-        let (done, out) = rehearsed(rt.alloc(), tape, script.as_bytes());
-        assert_eq!(rt; done, Ok(()), "{story}");
-        assert!(rt; out.as_slice() == expected.as_bytes(), "{story}");
+        assert!(rt;
+            ends_with(rt.alloc(), tape, script, Ok(()), expected),
+            "{story}"
+        );
     }
-    Ok(())
 }
 
 /// Scripts that are refused, with the line and the reason. The tape and the form of each line come first.
@@ -145,20 +163,17 @@ const REFUSED: [(&str, u32, &str); 6] = [
 fn refused_scripts_print_nothing(rt: HostRuntime) {
     for row in &REFUSED {
         let (script, line, reason) = *row;
-        let (done, out) = rehearsed(rt.alloc(), &ONE_WORD, script.as_bytes());
-        assert_eq!(rt; done, Err(CommandFault::Script(line)), "{reason}");
-        assert!(rt; out.is_empty(), "{reason}");
+        let refused = Err(CommandFault::Script(line));
+        assert!(rt;
+            ends_with(rt.alloc(), &ONE_WORD, script, refused, ""),
+            "{reason}"
+        );
     }
-}
-
-/// So many empty lines.
-fn empty_lines(alloc: Global, count: usize) -> Result<Vec<u8>, Fail> {
-    Ok(vec![in alloc; b'\n'; count]?)
 }
 
 #[test]
 fn a_script_that_is_too_long(rt: HostRuntime) -> Result<(), Fail> {
-    let text = empty_lines(rt.alloc(), 1_048_585)?;
+    let text = vec![in rt.alloc(); b'\n'; 1_048_585]?;
     let (mut tape, mut script) = (ONE_WORD.as_slice(), text.as_slice());
     let mut out = Vec::new(rt.alloc());
     let done = rehearse_to(
@@ -167,11 +182,9 @@ fn a_script_that_is_too_long(rt: HostRuntime) -> Result<(), Fail> {
         &mut script,
         &mut out,
     );
-    assert_eq!(rt; done, Err(CommandFault::Script(0)));
-    assert!(rt; out.is_empty());
-    assert_eq!(rt;
-        script.len(),
-        8,
+    assert!(rt; done == Err(CommandFault::Script(0)) && out.is_empty());
+    assert!(rt;
+        script.len() == 8,
         "what stands behind 1,048,577 bytes is not taken"
     );
     Ok(())
@@ -184,10 +197,10 @@ const WHOLE_FRONTS: [usize; 30] = [
     72, 78, 79, 83, 84, 89,
 ];
 
-/// The line at which a front of a script is refused where it is none: the last.
-fn last_line(front: &[u8]) -> u32 {
+/// The number of the line in which the byte at a place of a text stands.
+pub fn line_of(text: &str, place: usize) -> u32 {
     let mut line: u32 = 1;
-    for byte in front {
+    for byte in text.as_bytes().iter().take(place) {
         if *byte == b'\n' {
             line = line.saturating_add(1);
         }
@@ -195,21 +208,21 @@ fn last_line(front: &[u8]) -> u32 {
     line
 }
 
+/// Whether the front of the script of this length is rehearsed, or refused at its last line with
+/// nothing printed, as it has to be.
+fn is_judged(alloc: Global, length: usize) -> bool {
+    let front = STALE.as_bytes().get(..length).unwrap_or_default();
+    let (done, out) = rehearsed(alloc, &ONE_WORD, front);
+    if WHOLE_FRONTS.contains(&length) {
+        done == Ok(()) && !out.is_empty()
+    } else {
+        done == Err(CommandFault::Script(line_of(STALE, length))) && out.is_empty()
+    }
+}
+
 #[test]
 fn a_script_cut_at_each_byte(rt: HostRuntime) {
     for length in 0..STALE.len() {
-        let front = &STALE.as_bytes()[..length];
-        let (done, out) = rehearsed(rt.alloc(), &ONE_WORD, front);
-        let expected = if WHOLE_FRONTS.contains(&length) {
-            Ok(())
-        } else {
-            Err(CommandFault::Script(last_line(front)))
-        };
-        assert_eq!(rt; done, expected, "the first {length} bytes");
-        assert_eq!(rt;
-            out.is_empty(),
-            expected.is_err(),
-            "the first {length} bytes"
-        );
+        assert!(rt; is_judged(rt.alloc(), length), "the first {length} bytes");
     }
 }

@@ -1,8 +1,8 @@
-//! Devices that fail once and would then go on, where no other crate's tests have them: the tape of a
-//! dialogue, and the record of a load, as it is read and as it is written.
+//! Devices that fail once and would then go on: the record of a load, as it is read and as it is
+//! written.
 
 use crate::tapes::ONE_WORD;
-use command_io::{CommandFault, InputFault, read_up_to};
+use command_io::{InputFault, read_up_to};
 use failing_devices::{BrokenInput, BrokenOutput};
 use honest_line::MemoryLine;
 use host_core::End;
@@ -11,33 +11,13 @@ use load_engine::Stop;
 use load_record::{FileKeep, RECORD_LIMIT};
 use machine_load::{BeginFault, LoadFault, Surroundings, Unwatched, load};
 use odt_machine::{LARGEST_WORDS, Odt, PLAIN_STYLE};
-use rehearsals::dialogue_to;
 use std::alloc::Global;
 use std::cell::RefCell;
+use std::io;
 use std::io::{ErrorKind, Write};
 use std::test::Fail;
-use std::{io, slice};
 use tape_blocks::read_tape;
 use tape_image::Plan;
-
-#[test]
-fn the_tape_of_a_dialogue(rt: HostRuntime) {
-    // Nothing is read behind the tape's last byte, so a device that fails there is no fault.
-    for place in 0..ONE_WORD.len() {
-        let mut tape = BrokenInput::new(&ONE_WORD, place);
-        let mut out = Vec::new(rt.alloc());
-        let done = dialogue_to(
-            rt.alloc(),
-            slice::from_mut(&mut tape),
-            LARGEST_WORDS,
-            PLAIN_STYLE,
-            &mut out,
-        );
-        assert_eq!(rt; done, Err(CommandFault::ReadTape(1)), "byte {place}");
-        assert!(rt; out.is_empty(), "byte {place}");
-        assert_eq!(rt; (tape.failures, tape.later_reads), (1, 0), "byte {place}");
-    }
-}
 
 /// An output that is looked at once the load has let it go.
 #[derive(Drop)]
@@ -114,35 +94,33 @@ fn line(alloc: Global, word: u16) -> Result<MemoryLine, Fail> {
     Ok(MemoryLine::new(alloc, odt, Vec::new(alloc), 1000, None)?)
 }
 
+/// Whether a load whose record fails before a byte ends there: nobody connects, nothing is begun, and
+/// nothing is reported.
+fn reading_stops(alloc: Global, place: usize) -> Result<bool, Fail> {
+    let output = RefCell::new(BrokenOutput::new(Vec::new(alloc), 1));
+    let mut around = Frail {
+        input: BrokenInput::new(VERIFIED, place),
+        line: Some(line(alloc, 0)?),
+        output: &output,
+    };
+    let mut out = Vec::new(alloc);
+    let done = load(alloc, plan(alloc)?, 8, &mut around, &mut out, &Unwatched);
+    let asked = (around.input.failures, around.input.later_reads);
+    let is_unconnected = around.line.is_some();
+    drop(around);
+    Ok(
+        done == Err(LoadFault::ReadRecord)
+            && asked == (1, 0)
+            && is_unconnected
+            && out.is_empty()
+            && output.into_inner().failures == 0,
+    )
+}
+
 #[test]
 fn the_record_that_is_read(rt: HostRuntime) -> Result<(), Fail> {
     for place in 0..=VERIFIED.len() {
-        let output = RefCell::new(BrokenOutput::new(Vec::new(rt.alloc()), 1));
-        let mut around = Frail {
-            input: BrokenInput::new(VERIFIED, place),
-            line: Some(line(rt.alloc(), 0)?),
-            output: &output,
-        };
-        let mut out = Vec::new(rt.alloc());
-        let done = load(
-            rt.alloc(),
-            plan(rt.alloc())?,
-            8,
-            &mut around,
-            &mut out,
-            &Unwatched,
-        );
-        assert_eq!(rt; done, Err(LoadFault::ReadRecord), "byte {place}");
-        assert!(rt; out.is_empty(), "byte {place}");
-        let input = &around.input;
-        assert_eq!(rt; (input.failures, input.later_reads), (1, 0), "byte {place}");
-        assert!(rt; around.line.is_some(), "nobody connected, at {place}");
-        drop(around);
-        assert_eq!(rt;
-            output.into_inner().failures,
-            0,
-            "nothing was begun, at {place}"
-        );
+        assert!(rt; reading_stops(rt.alloc(), place)?, "byte {place}");
     }
     Ok(())
 }
@@ -230,22 +208,18 @@ fn the_record_that_is_written(rt: HostRuntime) -> Result<(), Fail> {
             output: &output,
         };
         let mut out = Vec::new(rt.alloc());
-        let done = load(
-            rt.alloc(),
-            plan(rt.alloc())?,
-            8,
-            &mut around,
-            &mut out,
-            &Unwatched,
+        let plan = plan(rt.alloc())?;
+        let done = load(rt.alloc(), plan, 8, &mut around, &mut out, &Unwatched);
+        assert!(rt;
+            done == ended && out.as_slice() == report.as_bytes(),
+            "write {number}"
         );
-        assert_eq!(rt; done, ended, "write {number}");
-        assert!(rt; out.as_slice() == report.as_bytes(), "write {number}");
         drop(around);
         let output = output.into_inner();
-        assert_eq!(rt; output.later_writes, 0, "write {number}");
-        assert_eq!(rt; output.written.len(), written, "write {number}");
+        assert!(rt; output.later_writes == 0, "write {number}");
+        let is_front = RECORD.starts_with(&output.written);
         assert!(rt;
-            RECORD.starts_with(output.written.as_slice()),
+            output.written.len() == written && is_front,
             "write {number}"
         );
     }

@@ -1,0 +1,117 @@
+//! Devices that fail once in the middle of a rehearsal or a dialogue, and would then go on.
+
+use crate::stories::{STALE, STALE_REPORT};
+use crate::tapes::ONE_WORD;
+use crate::transcripts::PLAIN;
+use command_io::CommandFault;
+use failing_devices::{BrokenInput, BrokenOutput};
+use odt_machine::{LARGEST_WORDS, PLAIN_STYLE};
+use rehearsals::{dialogue_to, rehearse_to};
+use std::alloc::Global;
+use std::slice;
+
+/// The device that fails: before a byte of its input, or at a write, by its number.
+#[derive(Clone, Copy, Debug)]
+enum Failing {
+    Tape(usize),
+    Script(usize),
+    Output(u32),
+}
+
+/// A place that no input has.
+const NOWHERE: usize = usize::MAX;
+
+/// A write that no command comes to.
+const NEVER: u32 = u32::MAX;
+
+/// Where the tape, the script and the output fail, and the fault that it makes.
+fn places(failing: Failing) -> (usize, usize, u32, CommandFault) {
+    match failing {
+        Failing::Tape(place) => (place, NOWHERE, NEVER, CommandFault::ReadTape(1)),
+        Failing::Script(place) => (NOWHERE, place, NEVER, CommandFault::ReadScript),
+        Failing::Output(number) => (NOWHERE, NOWHERE, number, CommandFault::Write),
+    }
+}
+
+/// Whether an output has what a command that stopped may have written of its text: the beginning, or
+/// nothing where it was not the output that failed.
+fn has_front(out: &BrokenOutput, text: &str) -> bool {
+    let written = out.written.as_slice();
+    written.is_empty() || out.failures == 1 && text.as_bytes().starts_with(written)
+}
+
+/// Whether a rehearsal stops at a device that fails, and asks it no second time.
+fn rehearsal_stops(alloc: Global, failing: Failing) -> bool {
+    let (tape_place, script_place, number, fault) = places(failing);
+    let mut tape = BrokenInput::new(&ONE_WORD, tape_place);
+    let mut script = BrokenInput::new(STALE.as_bytes(), script_place);
+    let mut out = BrokenOutput::new(Vec::new(alloc), number);
+    let done = rehearse_to(alloc, slice::from_mut(&mut tape), &mut script, &mut out);
+    done == Err(fault)
+        && tape.failures.max(script.failures).max(out.failures) == 1
+        && tape
+            .later_reads
+            .max(script.later_reads)
+            .max(out.later_writes)
+            == 0
+        && has_front(&out, STALE_REPORT)
+}
+
+/// The same of a dialogue, which has no script.
+fn dialogue_stops(alloc: Global, failing: Failing) -> bool {
+    let (place, _, number, fault) = places(failing);
+    let mut tape = BrokenInput::new(&ONE_WORD, place);
+    let mut out = BrokenOutput::new(Vec::new(alloc), number);
+    let done = dialogue_to(
+        alloc,
+        slice::from_mut(&mut tape),
+        LARGEST_WORDS,
+        PLAIN_STYLE,
+        &mut out,
+    );
+    done == Err(fault)
+        && tape.failures.max(out.failures) == 1
+        && tape.later_reads.max(out.later_writes) == 0
+        && has_front(&out, PLAIN)
+}
+
+#[test]
+fn the_tape_fails_once(rt: HostRuntime) {
+    // Nothing is read behind the tape's last byte, so a device that fails there is no fault.
+    for place in 0..ONE_WORD.len() {
+        let failing = Failing::Tape(place);
+        assert!(rt; rehearsal_stops(rt.alloc(), failing), "{failing:?}");
+        assert!(rt; dialogue_stops(rt.alloc(), failing), "{failing:?}");
+    }
+}
+
+#[test]
+fn the_script_fails_once(rt: HostRuntime) {
+    for place in 0..=STALE.len() {
+        assert!(rt;
+            rehearsal_stops(rt.alloc(), Failing::Script(place)),
+            "byte {place}"
+        );
+    }
+}
+
+// A write takes seven bytes at most, so a text has at least so many writes.
+#[test]
+fn the_output_of_a_rehearsal_fails_once(rt: HostRuntime) {
+    for number in 1..=STALE_REPORT.len().div_ceil(7) as u32 {
+        assert!(rt;
+            rehearsal_stops(rt.alloc(), Failing::Output(number)),
+            "write {number}"
+        );
+    }
+}
+
+#[test]
+fn the_output_of_a_dialogue_fails_once(rt: HostRuntime) {
+    for number in 1..=PLAIN.len().div_ceil(7) as u32 {
+        assert!(rt;
+            dialogue_stops(rt.alloc(), Failing::Output(number)),
+            "write {number}"
+        );
+    }
+}

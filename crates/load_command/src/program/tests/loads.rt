@@ -39,7 +39,7 @@ const STARTED: Row = Row {
 /// A tape of two words, loaded into a machine that then closes the line.
 const TWO: &str = "load two.lda 127.0.0.1:2323 --record a.record";
 
-const ROWS: [Row; 10] = [
+const ROWS: [Row; 11] = [
     STARTED,
     Row {
         words: "load no-word.lda 127.0.0.1:2323",
@@ -65,6 +65,15 @@ const ROWS: [Row; 10] = [
         setting: Setting { reads: 0, ..AMPLE },
         before: Some(VERIFIED),
         after: Some(VERIFIED),
+        status: 4,
+        out: "",
+        err: "ldaodt: cannot connect to 127.0.0.1:2323\n",
+        ..STARTED
+    },
+    // The simulated console takes no quiet time but the one that is meant where none is given.
+    Row {
+        words: "load first.lda 127.0.0.1:2323 --quiet 1999",
+        after: None,
         status: 4,
         out: "",
         err: "ldaodt: cannot connect to 127.0.0.1:2323\n",

@@ -252,6 +252,21 @@ fn is_so(rt: &HostRuntime, row: &Row) -> Result<bool, Fail> {
     Ok(status == wanted && out.as_slice() == text.as_bytes() && err.as_slice() == line.as_bytes())
 }
 
+/// How many tapes a large request names.
+const MANY: usize = 300;
+
+/// Whether so many tapes are opened and checked: three lines of each, 51 bytes, and the one word.
+fn are_many_checked(rt: &HostRuntime) -> Result<bool, Fail> {
+    let mut tapes = Vec::new(rt.alloc());
+    for _ in 0..MANY {
+        tapes.push("one-word.lda")?;
+    }
+    let mut input: &[u8] = &[];
+    let mut out = Vec::new(rt.alloc());
+    let (status, err) = attempted(rt, Request::Check(tapes), &mut input, &mut out);
+    Ok(status == Status::Done && err.is_empty() && out.len() == 51 * MANY + 29)
+}
+
 #[test]
 fn requests_end_with_their_status(rt: HostRuntime) -> Result<(), Fail> {
     put_files(&rt)?;
@@ -259,6 +274,8 @@ fn requests_end_with_their_status(rt: HostRuntime) -> Result<(), Fail> {
         let is_so = is_so(&rt, row)?;
         assert!(rt; is_so, "{}{}", row.3, row.4);
     }
+    let are_many_checked = are_many_checked(&rt)?;
+    assert!(rt; are_many_checked, "many tapes");
     for file in &FILES {
         fs::remove_file(&rt, file.0)?;
     }

@@ -2,12 +2,12 @@
 use Rattle.std.specs.Prelude.{◌≡◌, ◌⊎◌, ℕ, List}
 use Rattle.command_io.specs.Output.{WritesFront}
 use Rattle.requests.specs.Attempt.{Known, IsAttempted}
-use Rattle.requests.specs.Explained.{IsShown}
-use Rattle.requests.specs.Failure.{IsTold}
-use Rattle.requests.specs.declared.failure.Failure.TheVariants as failure
+use Rattle.endings.specs.Explained.{IsShown}
+use Rattle.endings.specs.Failure.{IsTold}
+use Rattle.endings.specs.declared.failure.Failure.TheVariants as failure
 use Rattle.requests.specs.declared.request.Request.{Request}
-use Rattle.requests.specs.declared.status.Status.{Status}
-use Rattle.requests.specs.declared.status.Status.TheVariants.{BadCommandLine, NoMemory}
+use Rattle.endings.specs.declared.status.Status.{Status}
+use Rattle.endings.specs.declared.status.Status.TheVariants.{BadCommandLine, NoMemory}
 
 -- words that ask for nothing to be done are explained: a text that was asked for is shown; or the words are refused, and standard
 -- error says why, or a front of it; or memory was wanting

@@ -6,7 +6,7 @@
 mod command_line;
 mod program;
 
-use requests::{tell, words_of};
+use endings::{tell, words_of};
 use std::fs;
 use std::fs::File;
 use std::io::IsTerminal;

@@ -2,15 +2,16 @@
 ghost use Rattle.std.specs.Prelude.{◌≡◌, []};
 ghost use Rattle.std.specs.Mem.{FitsInMemory};
 ghost use Rattle.requests.specs.declared.request.Request.{Request};
-ghost use Rattle.requests.specs.declared.status.Status.{Status};
+ghost use Rattle.endings.specs.declared.status.Status.{Status};
 ghost use Rattle.requests.specs.Attempt.{IsAttempted};
-ghost use Rattle.requests.specs.Status.{status_code};
+ghost use Rattle.endings.specs.Status.{status_code};
 ghost use Rattle.load_command.specs.Answer.{IsAnswered, IsExplained};
 
 use crate::command_line::{NoRequest, parse};
 use clap::Error;
 use clap::error::ErrorKind;
-use requests::{Failure, Status, attempt, refuse, show, tell};
+use endings::{Failure, Status, refuse, show, tell};
+use requests::attempt;
 use std::alloc::Global;
 use std::io::{Print, Read, Write};
 use std::net::Net;

@@ -10,7 +10,7 @@ use Rattle.rehearsals.specs.Dialogue.{IsDialogue}
 use Rattle.requests.specs.declared.request.Console.{Console}
 use Rattle.requests.specs.declared.request.Request.{Request}
 use Rattle.requests.specs.declared.request.Request.TheVariants.{CheckInput, Check, Dialogue, Rehearse, «Type» as TypeKeys, Load}
-use Rattle.requests.specs.declared.status.Status.{Status}
+use Rattle.endings.specs.declared.status.Status.{Status}
 use Rattle.requests.specs.Attempt.{Known, Name, OfFiles, IsRehearsedInto, IsTypedThrough, IsLoadReported, IsLoaded, IsDone}
 
 of_files_kept : (names : List Name) (P Q : List Known → List Known → Type 0) → ((held rests : List Known) → P held rests → Q held rests) → OfFiles names P → OfFiles names Q

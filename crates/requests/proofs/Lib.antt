@@ -1,7 +1,5 @@
 pub mod Errors
 pub mod Kept
-pub mod Lines
 pub mod Loads
-pub mod Names
 pub mod RecordNames
 pub mod Unopened

@@ -5,9 +5,9 @@ use Rattle.tape_image.specs.Plan.{PlanValue, plan_of_all}
 use Rattle.load_engine.specs.declared.stop.Stop.{Stop}
 use Rattle.command_io.specs.Tapes.{TapeText, AreTaken, tapes_of}
 use Rattle.requests.specs.declared.request.Load.{Load}
-use Rattle.requests.specs.declared.status.Status.{Status}
-use Rattle.requests.specs.declared.failure.Failure.{Failure}
-use Rattle.requests.specs.Status.{IsStopStatus}
+use Rattle.endings.specs.declared.status.Status.{Status}
+use Rattle.endings.specs.declared.failure.Failure.{Failure}
+use Rattle.endings.specs.Status.{IsStopStatus}
 use Rattle.requests.specs.Attempt.{Known, Name, OfFiles, FailsUnopened, IsLoaded, IsLoadReported, IsLoadFailure, IsPlanFailure}
 use Rattle.requests.proofs.Unopened.{of_files}
 

@@ -22,12 +22,12 @@ use Rattle.requests.specs.declared.request.Console.{Console}
 use Rattle.requests.specs.declared.request.Load.{Load as LoadOptions}
 use Rattle.requests.specs.declared.request.Request.{Request}
 use Rattle.requests.specs.declared.request.Request.TheVariants.{CheckInput, Check, Dialogue, Rehearse, «Type» as TypeKeys, Load}
-use Rattle.requests.specs.declared.status.Status.{Status}
-use Rattle.requests.specs.declared.status.Status.TheVariants.{Done}
-use Rattle.requests.specs.declared.failure.Failure.{Failure}
-use Rattle.requests.specs.declared.failure.Failure.TheVariants.{CannotRead, CannotWrite, TooLarge, NoMemory}
-use Rattle.requests.specs.Status.{end_status, IsStopStatus}
-use Rattle.requests.specs.Failure.{status_of, IsTold, IsFailureOf, IsLoadFailureOf, IsStopFailure}
+use Rattle.endings.specs.declared.status.Status.{Status}
+use Rattle.endings.specs.declared.status.Status.TheVariants.{Done}
+use Rattle.endings.specs.declared.failure.Failure.{Failure}
+use Rattle.endings.specs.declared.failure.Failure.TheVariants.{CannotRead, CannotWrite, TooLarge, NoMemory}
+use Rattle.endings.specs.Status.{end_status, IsStopStatus}
+use Rattle.endings.specs.Failure.{status_of, IsTold, IsFailureOf, IsLoadFailureOf, IsStopFailure}
 
 -- what a reader has left or a writer holds, as far as its type tells
 abbrev pub Known : Type 0

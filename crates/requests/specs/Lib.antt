@@ -1,4 +1,1 @@
 pub mod Attempt
-pub mod Explained
-pub mod Failure
-pub mod Status

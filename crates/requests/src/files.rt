@@ -2,7 +2,7 @@
 ghost use Rattle.std.specs.Prelude.{◌≡◌, ◌+◌, ◌∷◌, [], length, IfOk, IfErr, OnOk, Contains};
 ghost use Rattle.requests.specs.Attempt.{IsUnopened};
 
-use crate::failure::Failure;
+use endings::Failure;
 use std::alloc::Global;
 use std::fs;
 use std::io::BufReader;

@@ -5,15 +5,13 @@ ghost use Rattle.tape_check.specs.CheckText.{IsChecked};
 ghost use Rattle.tape_check.specs.CheckFault.{IsCheckFault};
 ghost use Rattle.rehearsals.specs.Dialogue.{IsDialogue, IsDialogueFault};
 ghost use Rattle.requests.specs.Attempt.{OfFiles, HasFault, FailsUnopened, IsRehearsedInto, IsRehearsalFailure, IsTypedThrough, IsTypingFailure, IsDone, IsFaulty, IsNotBegun, IsFailed, IsAttempted};
-ghost use Rattle.requests.specs.Status.{end_status};
+ghost use Rattle.endings.specs.Status.{end_status};
 
-use crate::failure::{Failure, STANDARD_INPUT};
 use crate::files::{joined, open, open_all, open_more};
 use crate::loading::load_tapes;
 use crate::request::{Console, Request};
-use crate::status::Status;
-use crate::telling::tell;
 use console_typing::type_to;
+use endings::{Failure, STANDARD_INPUT, Status, tell};
 use host_core::End;
 use odt_machine::{Odt, OdtError};
 use rehearsals::{dialogue_to, rehearse_to};

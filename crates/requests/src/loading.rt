@@ -3,14 +3,13 @@ ghost use Rattle.std.specs.Prelude.{◌≡◌, ◌⊎◌, List, map, codes, IfOk
 ghost use Rattle.tape_image.specs.Plan.{plan_of_all};
 ghost use Rattle.command_io.specs.Tapes.{TapeText, AreTaken, AreTapesFault, tapes_of};
 ghost use Rattle.requests.specs.Attempt.{OfFiles, HasFault, FailsUnopened, IsLoaded, IsLoadReported, IsLoadFailure, IsPlanFailure, ComesToNothing};
-ghost use Rattle.requests.specs.Failure.{IsStopFailure};
-ghost use Rattle.requests.specs.Status.{IsStopStatus};
+ghost use Rattle.endings.specs.Failure.{IsStopFailure};
+ghost use Rattle.endings.specs.Status.{IsStopStatus};
 
-use crate::failure::{Failure, STANDARD_INPUT};
 use crate::files::open_all;
 use crate::request::Load;
-use crate::status::Status;
 use command_io::take_tapes;
+use endings::{Failure, STANDARD_INPUT, Status};
 use load_engine::Stop;
 use machine_load::{Address, LoadFault, Onlooker, ProgressLine, Recorded, Unrecorded, Unwatched};
 use std::alloc::Global;

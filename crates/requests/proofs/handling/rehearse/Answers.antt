@@ -1,5 +1,5 @@
 use Rattle.std.proofs.Common.{◌∷◌, ◌∙◌, length, inl, inr, refl, subst, ap, arith}
-use Rattle.requests.specs.Failure.{IsFailureOf}
+use Rattle.endings.specs.Failure.{IsFailureOf}
 use Rattle.requests.proofs.Errors.{error_is}
 use Rattle.requests.proofs.Unopened.{more_unopened, of_files}
 use Rattle.requests.proofs.handling.rehearse.Goals as goal

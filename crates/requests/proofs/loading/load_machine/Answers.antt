@@ -1,7 +1,7 @@
 use Rattle.std.proofs.Common.{inr, refl, subst}
 use Rattle.std.proofs.lemmas.Result.{IfOk-weaker, IfErr-weaker}
-use Rattle.requests.specs.Failure.{IsStopFailure}
-use Rattle.requests.specs.Status.{IsStopStatus}
+use Rattle.endings.specs.Failure.{IsStopFailure}
+use Rattle.endings.specs.Status.{IsStopStatus}
 use Rattle.requests.proofs.RecordNames.{record_named}
 use Rattle.requests.proofs.loading.load_machine.Goals as goal
 

@@ -4,8 +4,8 @@ use Rattle.host_core.specs.declared.phase.End.{End}
 use Rattle.host_core.specs.declared.phase.End.TheVariants as end
 use Rattle.load_engine.specs.declared.stop.Stop.{Stop}
 use Rattle.load_engine.specs.declared.stop.Stop.TheVariants as stop
-use Rattle.requests.specs.declared.status.Status.{Status}
-use Rattle.requests.specs.declared.status.Status.TheVariants.{Done, BadCommandLine, Refused, DeviceFailed, NotLoaded, Uncertain, NoMemory}
+use Rattle.endings.specs.declared.status.Status.{Status}
+use Rattle.endings.specs.declared.status.Status.TheVariants.{Done, BadCommandLine, Refused, DeviceFailed, NotLoaded, Uncertain, NoMemory}
 
 -- the number of each ending
 abbrev pub status_code : Status → ℕ

@@ -10,9 +10,9 @@ use Rattle.tape_blocks.specs.Fault.{why_text, read_error_text}
 use Rattle.tape_blocks.specs.declared.fault.ReadError.TheVariants as reading
 use Rattle.command_io.specs.Output.{WritesPrefix}
 use Rattle.command_io.specs.Text.{line}
-use Rattle.requests.specs.declared.failure.Failure.{Failure}
-use Rattle.requests.specs.declared.failure.OneTape.{OneTape}
-use Rattle.requests.specs.declared.failure.Failure.TheVariants.{CannotRead, CannotWrite, CannotWriteFile, CannotConnect, LineFailed, TapeRefused, OneTapeRefused, ScriptRefused, RecordRefused, TooLarge, BadWord, NoMemory}
+use Rattle.endings.specs.declared.failure.Failure.{Failure}
+use Rattle.endings.specs.declared.failure.OneTape.{OneTape}
+use Rattle.endings.specs.declared.failure.Failure.TheVariants.{CannotRead, CannotWrite, CannotWriteFile, CannotConnect, LineFailed, TapeRefused, OneTapeRefused, ScriptRefused, RecordRefused, TooLarge, BadWord, NoMemory}
 use Rattle.command_io.specs.declared.fault.CommandFault.{CommandFault}
 use Rattle.command_io.specs.declared.fault.CommandFault.TheVariants as fault
 use Rattle.load_engine.specs.declared.stop.Stop.{Stop}
@@ -20,8 +20,8 @@ use Rattle.load_engine.specs.declared.stop.Stop.TheVariants as stop
 use Rattle.load_record.specs.declared.reader.RecordError.TheVariants as why
 use Rattle.machine_load.specs.declared.fault.LoadFault.{LoadFault}
 use Rattle.machine_load.specs.declared.fault.LoadFault.TheVariants as load
-use Rattle.requests.specs.declared.status.Status.{Status}
-use Rattle.requests.specs.declared.status.Status.TheVariants.{BadCommandLine, Refused, DeviceFailed, NoMemory as OutOfMemory}
+use Rattle.endings.specs.declared.status.Status.{Status}
+use Rattle.endings.specs.declared.status.Status.TheVariants.{BadCommandLine, Refused, DeviceFailed, NoMemory as OutOfMemory}
 
 -- the exit status that tells of a failure
 abbrev pub status_of : Failure → Status

@@ -21,7 +21,7 @@ pub enum Status {
 
 impl Status {
     ghost use Rattle.std.specs.Prelude.{◌≡◌};
-    ghost use Rattle.requests.specs.Status.{status_code, end_status};
+    ghost use Rattle.endings.specs.Status.{status_code, end_status};
 
     /// The status after a load that ended so.
     pub fn of_end(end: End) -> Status

@@ -6,11 +6,11 @@ ghost use Rattle.std.specs.Char.{is_control, digit_char};
 ghost use Rattle.std.specs.Char.Escape.{escape_default};
 ghost use Rattle.std.specs.Io.KnownBytes.{Appends};
 ghost use Rattle.command_io.specs.Output.{WritesPrefix};
-ghost use Rattle.requests.specs.Failure.{status_of, failure_name, fault_line, shown_char, shown_name, IsTold};
+ghost use Rattle.endings.specs.Failure.{status_of, failure_name, fault_line, shown_char, shown_name, IsTold};
 
 use crate::failure::Failure;
+use crate::line_words::line_words;
 use crate::status::Status;
-use crate::words::line_words;
 use arrayvec::ArrayVec;
 use command_io::{WriteFailed, write_whole};
 use std::alloc::Global;

@@ -4,7 +4,7 @@ use Rattle.std.specs.Str.{chars, IsUtf8}
 use Rattle.std.specs.List.{flat_map}
 use Rattle.std.proofs.lemmas.Bool.{false≢true}
 use Rattle.std.proofs.lemmas.Str.{chars_past_char, chars-nil}
-use Rattle.requests.specs.Failure.{shown_char, shown_name}
+use Rattle.endings.specs.Failure.{shown_char, shown_name}
 
 -- characters, one after another, as they are shown
 abbrev pub shown_text : List ℕ → List ℕ

@@ -2,7 +2,7 @@
 ghost use Rattle.std.specs.Prelude.{◌≡◌, OnOk, OnErr};
 ghost use Rattle.std.specs.Io.KnownBytes.{Appends};
 ghost use Rattle.command_io.specs.Output.{WritesFront};
-ghost use Rattle.requests.specs.Explained.{IsShown};
+ghost use Rattle.endings.specs.Explained.{IsShown};
 
 use crate::failure::Failure;
 use crate::status::Status;

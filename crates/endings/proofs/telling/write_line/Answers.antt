@@ -1,10 +1,10 @@
 use Rattle.std.proofs.Common.{◌≡◌, ◌++◌, ◌∷◌, [], ◌∙◌, ℕ, List, Option, codes, sym, subst, arith}
 use Rattle.std.proofs.lemmas.Result.{on_err_weaker}
 use Rattle.command_io.specs.Output.{WritesAllBut}
-use Rattle.requests.specs.declared.failure.Failure.{Failure}
-use Rattle.requests.specs.Failure.{failure_words, failure_name, fault_line}
-use Rattle.requests.proofs.Lines.{on_any_err, none_written, no_prefix, piece_written, piece_cut, line_pieces}
-use Rattle.requests.proofs.telling.write_line.Goals as goal
+use Rattle.endings.specs.declared.failure.Failure.{Failure}
+use Rattle.endings.specs.Failure.{failure_words, failure_name, fault_line}
+use Rattle.endings.proofs.Lines.{on_any_err, none_written, no_prefix, piece_written, piece_cut, line_pieces}
+use Rattle.endings.proofs.telling.write_line.Goals as goal
 
 -- the line, before any of its three pieces is written
 unwritten : (a : Option (List ℕ)) (f : Failure) (words : List ℕ) → words ≡ codes "ldaodt: " ++ failure_words f → WritesAllBut a a (fault_line f) (words ++ (failure_name f ++ 10 ∷ []))

@@ -1,6 +1,6 @@
 //! The words of a failure's line.
 ghost use Rattle.std.specs.Prelude.{◌≡◌, ◌++◌, IfOk, codes};
-ghost use Rattle.requests.specs.Failure.{failure_words};
+ghost use Rattle.endings.specs.Failure.{failure_words};
 
 use crate::failure::Failure;
 use arrayvec::ArrayString;

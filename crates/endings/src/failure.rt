@@ -36,7 +36,7 @@ pub enum Failure<'a> {
 
 impl<'a> Failure<'a> {
     ghost use Rattle.std.specs.Prelude.{◌≡◌, ◌-◌, slice_get};
-    ghost use Rattle.requests.specs.Failure.{status_of, IsFailureOf, IsLoadFailureOf, NamesTape};
+    ghost use Rattle.endings.specs.Failure.{status_of, IsFailureOf, IsLoadFailureOf, NamesTape};
 
     /// The failure that a command's fault is, where its tapes and its script have these names. A tape
     /// that has no name is standard input's.
@@ -117,7 +117,7 @@ pub struct OneTape {
 
 impl fmt::Display for OneTape {
     ghost use Rattle.std.specs.Prelude.{Some};
-    ghost use Rattle.requests.specs.Failure.{one_tape_text};
+    ghost use Rattle.endings.specs.Failure.{one_tape_text};
 
     ghost output = { λ tape. Some (one_tape_text tape) };
 

@@ -3,9 +3,9 @@ use Rattle.std.specs.Str.Iter.{chars_rest}
 use Rattle.std.specs.Io.KnownBytes.{Appends}
 use Rattle.std.proofs.lemmas.Str.{IsUtf8-past_char}
 use Rattle.command_io.specs.Output.{WritesAllBut, WritesPrefix}
-use Rattle.requests.proofs.Lines.{on_any_err, piece_written, piece_cut, all_written}
-use Rattle.requests.proofs.Names.{shown_text, shown_text-char, shown_text-none, shown_name-some}
-use Rattle.requests.proofs.telling.write_name.Goals as goal
+use Rattle.endings.proofs.Lines.{on_any_err, piece_written, piece_cut, all_written}
+use Rattle.endings.proofs.Names.{shown_text, shown_text-char, shown_text-none, shown_name-some}
+use Rattle.endings.proofs.telling.write_name.Goals as goal
 
 pub loop-character-preserved : goal.loop-character-preserved
 loop-character-preserved g c =

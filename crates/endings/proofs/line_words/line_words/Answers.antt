@@ -1,8 +1,8 @@
 use Rattle.std.proofs.Common.{◌≡◌, ◌++◌, ◌∙◌, ap}
 use Rattle.std.proofs.lemmas.Fmt.{contents_after_writes}
-use Rattle.requests.specs.Failure.{failure_words}
+use Rattle.endings.specs.Failure.{failure_words}
 use Rattle.std.specs.Prelude.{codes}
-use Rattle.requests.proofs.words.line_words.Goals as goal
+use Rattle.endings.proofs.line_words.line_words.Goals as goal
 
 pub returns-in-Ok : goal.returns-in-Ok
 returns-in-Ok c =

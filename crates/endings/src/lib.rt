@@ -1,0 +1,20 @@
+//! How the program ends: its exit status, and what it says where it did not do what it was asked.
+//!
+//! A `Failure` has one line on standard error and one status. `tell` prints the line, in one write, and
+//! answers the status; a file's name in it can't break the line. Words of the command line that ask for
+//! nothing to be done are explained: `show` prints help to standard output, `refuse` says on standard
+//! error what is wrong with them.
+#![tactic(auto)]
+
+mod explaining;
+mod failure;
+mod line_words;
+mod process_words;
+mod status;
+mod telling;
+
+pub use explaining::{refuse, show};
+pub use failure::{Failure, OneTape, STANDARD_INPUT};
+pub use process_words::words_of;
+pub use status::Status;
+pub use telling::tell;

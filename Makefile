@@ -1,4 +1,4 @@
-# What a person does here: make, make demo, make install, make test, make bench, make hostile.
+# What a person does here: make, make demo, make check, make install, make test, make bench, make hostile.
 # All but install and uninstall need rt, the command of the Rattle toolchain, on the PATH.
 
 built := crates/load_command/out/load_command
@@ -8,7 +8,7 @@ PREFIX ?= /usr/local
 program := $(DESTDIR)$(PREFIX)/bin/ldaodt
 manual := $(DESTDIR)$(PREFIX)/share/man/man1/ldaodt.1
 
-.PHONY: all ldaodt test demo bench hostile install uninstall toolchain
+.PHONY: all ldaodt test check demo bench hostile install uninstall toolchain
 
 all: ldaodt
 
@@ -20,9 +20,14 @@ ldaodt: toolchain
 	@echo "./$@ is proved and built"
 
 # The merge gate: every proof from nothing, the must-fail edits, the tests, the program's stored run;
-# then the examples, and each transcript of the documents, against the program that was just built.
+# then the program that was just built, tried from outside.
 test: toolchain
 	@tools/gate
+
+# The built program from outside: the examples, each transcript of the documents and of tests/, and the
+# tests of tests/. A minute at most.
+check: ldaodt
+	@tools/check-program
 
 # The main jobs: a tape that is a real program, its load over TCP into a simulated machine, the same
 # load character by character, and a lost digit.
@@ -37,8 +42,8 @@ bench: ldaodt
 	@tools/bench
 	@tools/bench-load
 
-# The built program in bad company: little memory, full and closed outputs, a peer that hangs up, lost
-# characters and kills. It takes minutes and depends on time, so it is no part of the gate.
+# The built program in bad company: little memory, full disks, a peer that hangs up, lost characters and
+# kills. It takes minutes and depends on time, so it is no part of the gate.
 hostile: ldaodt
 	@tools/hostile
 

@@ -73,10 +73,8 @@ class Peer:
         # How many characters, keys and answers together, pass before the line breaks (None: it holds),
         # and whether a key that is the last of them still reaches the machine.
         self.close_after, self.takes_last = close_after, takes_last
-        self.keys = self.answered = self.lost = 0
+        self.connections = self.keys = self.answered = self.lost = 0
         self.tell = tell or (lambda _text: None)
-        self.idle = threading.Event()
-        self.idle.set()
         self.listener = socket.create_server(("127.0.0.1", port))
         self.port = self.listener.getsockname()[1]
         threading.Thread(target=self.serve, daemon=True).start()
@@ -87,16 +85,15 @@ class Peer:
                 connection, _ = self.listener.accept()
             except OSError:
                 return
-            self.idle.clear()
+            self.connections += 1
             self.tell("connected")
             with connection:
-                connection.setsockopt(socket.IPPROTO_TCP, socket.TCP_NODELAY, 1)
                 try:
+                    connection.setsockopt(socket.IPPROTO_TCP, socket.TCP_NODELAY, 1)
                     self.talk(connection)
                 except OSError:
                     pass
             self.tell(f"gone: {self.keys} keys, {self.answered} characters answered, {self.lost} lost")
-            self.idle.set()
 
     def talk(self, connection):
         if self.is_over():
@@ -138,15 +135,16 @@ class Peer:
         return self.close_after is not None and self.keys + self.answered >= self.close_after
 
     def settle(self, seconds=10):
-        """Waits until what the last caller sent is taken and its connection has ended."""
-        deadline = time.monotonic() + seconds
-        while time.monotonic() < deadline:
-            time.sleep(0.01)
-            if self.idle.wait(0.1):
-                return True
-        return False
+        """Waits until all earlier callers are served, and what they sent is taken: connections are served in turn,
+        so one of our own, which asks for nothing and isn't counted, ends after theirs."""
+        with socket.create_connection(("127.0.0.1", self.port), seconds) as ours:
+            ours.shutdown(socket.SHUT_WR)
+            while ours.recv(64):
+                pass
+        self.connections -= 1
 
     def close(self):
+        self.listener.shutdown(socket.SHUT_RDWR)
         self.listener.close()
 
 

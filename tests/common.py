@@ -1,0 +1,102 @@
+"""What the tests share: a folder for each test, the program run in it, and a machine to load."""
+import os
+import shutil
+import sys
+import tempfile
+import time
+import unittest
+
+sys.path.insert(0, os.path.join(os.path.dirname(os.path.dirname(os.path.realpath(__file__))), "tools"))
+import odt_peer
+from outside import FIRST, TOP, Answer, bytes_of, run
+
+# The tapes that the tests name, by the names that they have in a test's folder.
+TAPES = {
+    "first.lda": FIRST,
+    "no-word.lda": f"{TOP}/examples/losses/no-start.lda",
+    "two-words.lda": f"{TOP}/tests/tapes/two-words.lda",
+    "bad-sum.lda": f"{TOP}/examples/refused/bad-sum.lda",
+}
+
+# A silence long enough for a console on this computer.
+QUIET = 100
+
+
+class Console(odt_peer.Machine):
+    """A machine that keeps which keys were typed at it, and when."""
+
+    def __init__(self, words=28672, memory=None):
+        super().__init__(words)
+        self.typed, self.times = "", []
+        for address, value in (memory or {}).items():
+            self.words[address // 2] = value
+
+    def take(self, key):
+        self.typed += key
+        self.times.append(time.monotonic())
+        return super().take(key)
+
+
+class DeafConsole(Console):
+    """It answers nothing."""
+
+    def take(self, key):
+        super().take(key)
+        return ""
+
+
+class LateConsole(Console):
+    """It answers its fifth key late."""
+
+    def __init__(self, seconds):
+        super().__init__()
+        self.seconds = seconds
+
+    def take(self, key):
+        answer = super().take(key)
+        if len(self.typed) == 5:
+            time.sleep(self.seconds)
+        return answer
+
+
+class Case(unittest.TestCase):
+    """A test with a folder of its own, in which the program is run."""
+
+    maxDiff = None
+
+    def setUp(self):
+        self.room = tempfile.mkdtemp(prefix="outside-")
+        self.addCleanup(shutil.rmtree, self.room)
+
+    def path(self, name):
+        return os.path.join(self.room, name)
+
+    def put(self, name, data):
+        """Puts a file into the test's folder."""
+        with open(self.path(name), "wb") as file:
+            file.write(data)
+
+    def put_tapes(self, *names):
+        for name in names:
+            shutil.copyfile(TAPES[name], self.path(name))
+
+    def ldaodt(self, words, keys=b"", **more):
+        """Runs the program in the test's folder; words that stand in one text have no spaces in them."""
+        words = words.split() if isinstance(words, str) else words
+        return run(words, keys, cwd=self.room, seconds=60, **more)
+
+    def ends(self, given, status, out="", err=""):
+        """Asserts how a run ended."""
+        self.assertEqual(given, Answer(status, out, err))
+
+    def console_at(self, machine, **named):
+        """Puts a machine behind a port; `named` says after how many characters the line breaks."""
+        peer = odt_peer.Peer(machine, **named)
+        self.addCleanup(peer.close)
+        peer.address = f"127.0.0.1:{peer.port}"
+        return peer
+
+    def holds(self, files):
+        """Asserts that the test's folder has these files, and no others but tapes."""
+        there = {name: bytes_of(self.path(name)).decode() for name in os.listdir(self.room) if name not in TAPES}
+        self.assertEqual(there, files)

@@ -1,0 +1,305 @@
+"""Loads of a machine behind a port of this computer: how they end, what the record then holds, and what was typed.
+
+How many characters a load sends is counted from what it types (docs/MAP.md, "The life of one word"): `Z` first,
+which is answered by four characters; for a word that has to be deposited 22 keys, answered by 40 characters;
+for one that stands already 8, answered by 17; and 7 for the start, each echoed.
+"""
+import os
+import socket
+import stat
+import time
+import unittest
+from concurrent.futures import ThreadPoolExecutor
+
+from common import QUIET, Case, Console, DeafConsole, LateConsole
+from outside import NO_OUTPUT, Answer
+
+# Records of first.lda: whole, as it is written today and as it was written once, and without the mark.
+MARKED = "LDAODT 2\n001000 011064\nG\n"
+OLD_MARKED = "LDAODT 1\n001000 177777 011064\nG\n"
+VERIFIED = "LDAODT 2\n001000 011064\n"
+OLD_VERIFIED = "LDAODT 1\n001000 177777 011064\n"
+
+# All that is typed at a machine of zeroed memory to load and start first.lda, and what is then reported.
+WHOLE = "Z001000/011064\r001000/\r001000G"
+STARTED = "sent 30 spent 0 verified 1 of 1\nend Started\n"
+NO_RECORD = "ldaodt: record refused: NotARecord\n"
+
+
+class Loads(Case):
+    """A load has first.lda in its folder, and a record where a test puts one."""
+
+    def setUp(self):
+        super().setUp()
+        self.put_tapes("first.lda", "no-word.lda", "two-words.lda")
+
+    def load(self, peer, words, quiet=QUIET, **more):
+        """Loads at a console: `words` are the tape and all that stands behind the address."""
+        tape, *rest = words.split()
+        given = self.ldaodt(["load", tape, peer.address, "--quiet", str(quiet), *rest], **more)
+        peer.settle()
+        self.assertLessEqual(peer.machine.typed.count("G"), 1)
+        return given
+
+    def recorded(self, peer, tape="first.lda", **more):
+        return self.load(peer, f"{tape} --record a.record", **more)
+
+    def was_typed(self, peer, keys, connections=1):
+        """Asserts what was typed, and how many connections there were."""
+        self.assertEqual((peer.machine.typed, peer.connections), (keys, connections))
+
+
+class Endings(Loads):
+    """How loads end."""
+
+    def test_a_whole_load(self):
+        peer = self.console_at(Console())
+        self.ends(self.recorded(peer), 0, STARTED)
+        self.holds({"a.record": MARKED})
+        self.was_typed(peer, WHOLE)
+        self.assertEqual((peer.machine.word(0o1000), peer.machine.starts), (0o011064, [0o1000]))
+
+    def test_a_program_is_never_started_twice(self):
+        peer = self.console_at(Console())
+        self.ends(self.recorded(peer), 0, STARTED)
+        for _ in range(2):
+            self.ends(self.recorded(peer), 6, "sent 0 spent 0 verified 1 of 1\nend MaybeStarted\n")
+        self.holds({"a.record": MARKED})
+        self.was_typed(peer, WHOLE)
+
+    def test_without_a_record_none_is_made(self):
+        peer = self.console_at(Console())
+        self.ends(self.load(peer, "first.lda"), 0, STARTED)
+        self.holds({})
+        self.was_typed(peer, WHOLE)
+
+    def test_nothing_to_do(self):
+        peer = self.console_at(Console())
+        for words in ("no-word.lda", "no-word.lda --record a.record"):
+            self.ends(self.load(peer, words), 0, "sent 0 spent 0 verified 0 of 0\nend Loaded\n")
+        self.holds({})
+        self.was_typed(peer, "", connections=0)
+
+    def test_a_start_that_was_marked_before(self):
+        peer = self.console_at(Console())
+        for record in (MARKED, OLD_MARKED):
+            self.put("a.record", record.encode())
+            self.ends(self.recorded(peer), 6, "sent 0 spent 0 verified 1 of 1\nend MaybeStarted\n")
+            self.holds({"a.record": record})
+        self.was_typed(peer, "", connections=0)
+
+    def test_a_word_that_is_verified_is_not_looked_at(self):
+        peer = self.console_at(Console(memory={0o1000: 0o011064}))
+        self.put("a.record", OLD_VERIFIED.encode())
+        self.ends(self.recorded(peer), 0, "sent 8 spent 0 verified 1 of 1\nend Started\n")
+        self.holds({"a.record": MARKED})
+        self.was_typed(peer, "Z001000G")
+
+    def test_no_memory_at_the_word(self):
+        """256 words of memory end right below 001000."""
+        peer = self.console_at(Console(words=256))
+        self.ends(self.load(peer, "first.lda"), 5, "sent 8 spent 0 verified 0 of 1\nend NoWord 001000\n")
+        self.holds({})
+        self.ends(self.recorded(peer), 5, "sent 8 spent 0 verified 0 of 1\nend NoWord 001000\n")
+        self.holds({"a.record": "LDAODT 2\n"})
+        self.was_typed(peer, "Z001000/" * 2, connections=2)
+
+    def test_a_machine_that_hangs_up_and_the_load_after_it(self):
+        """The first `Z` and the first word are 1 + 4 + 22 + 40 = 67 characters, and one key more is sent."""
+        peer = self.console_at(Console(), close_after=67)
+        hung_up = self.recorded(peer, "two-words.lda")
+        self.ends(hung_up, 4, "sent 24 spent 0 verified 1 of 2\nend LineFailed\n", "ldaodt: line failed\n")
+        self.holds({"a.record": "LDAODT 2\n001000 031421"})
+        # The word that it has is not looked at again; the one that it lacks stands, but for a byte that is not the tape's.
+        peer.close_after, peer.machine = None, Console(memory={0o1000: 0o031421, 0o1002: 0o125504})
+        self.ends(self.recorded(peer, "two-words.lda"), 0, "sent 16 spent 0 verified 2 of 2\nend Started\n")
+        self.holds({"a.record": "LDAODT 2\n001000 031421\nH 001002 000377 000104\nG\n"})
+        self.was_typed(peer, "Z001002/\r001000G", connections=2)
+        self.assertEqual(peer.machine.word(0o1002), 0o125504)
+
+    def test_nobody_listens(self):
+        """The port is taken, so that nobody else can have it, and not listened at."""
+        with socket.socket() as taken:
+            taken.bind(("127.0.0.1", 0))
+            address = f"127.0.0.1:{taken.getsockname()[1]}"
+            for record in (VERIFIED, OLD_VERIFIED):
+                self.put("a.record", record.encode())
+                given = self.ldaodt(f"load first.lda {address} --record a.record")
+                self.ends(given, 4, "", f"ldaodt: cannot connect to {address}\n")
+                self.holds({"a.record": record})
+
+    def test_a_refused_tape_comes_before_all(self):
+        peer = self.console_at(Console())
+        self.put("stray.lda", b"A")
+        self.put("a.record", b"hello\n")
+        self.ends(self.recorded(peer, "stray.lda"), 3, "", "ldaodt: tape refused at 0: Stray\n")
+        self.holds({"stray.lda": "A", "a.record": "hello\n"})
+        self.was_typed(peer, "", connections=0)
+
+    def test_a_report_that_can_not_be_written_is_told_alone(self):
+        """Also where the line failed, here after `Z` and two characters of its answer."""
+        for close_after in (None, 3):
+            peer = self.console_at(Console(), close_after=close_after)
+            for before in ("> /dev/full", ">&-"):
+                self.ends(self.load(peer, "first.lda", before=before), 4, "", NO_OUTPUT)
+                peer.machine, peer.keys, peer.answered = Console(), 0, 0
+            self.assertEqual(peer.connections, 2)
+
+
+class Words(Loads):
+    """The words of a load."""
+
+    def test_options_may_stand_before_the_tape(self):
+        """The tapes are one, in their order, those behind the address too: first.lda's word counts, and its start."""
+        record = "LDAODT 2\n001000 011064\nH 001002 000377 000104\nG\n"
+        self.put("a.record", record.encode())
+        given = self.ldaodt("load --record=a.record --patience 1000 --quiet 60000 two-words.lda [::1]:23 no-word.lda first.lda")
+        self.ends(given, 6, "sent 0 spent 0 verified 2 of 2\nend MaybeStarted\n")
+        self.holds({"a.record": record})
+
+    def test_the_ends_of_the_ranges(self):
+        """No console is needed: the record says that the start was marked."""
+        self.put("a.record", MARKED.encode())
+        for option in ("--patience 0", "--patience 1000", "--quiet 1", "--quiet 60000"):
+            given = self.ldaodt(f"load first.lda 127.0.0.1:1 --record a.record {option}")
+            self.ends(given, 6, "sent 0 spent 0 verified 1 of 1\nend MaybeStarted\n")
+
+    def test_a_name_in_place_of_the_address(self):
+        peer = self.console_at(Console())
+        given = self.ldaodt(f"load first.lda localhost:{peer.port} --quiet {QUIET}")
+        self.ends(given, 0, STARTED)
+
+    def test_no_address(self):
+        for address in ("127.0.0.1", "127.0.0.1:", ":", "127.0.0.1:65536", "127.0.0.1:x"):
+            self.ends(self.ldaodt(f"load first.lda {address}"), 4, "", f"ldaodt: cannot connect to {address}\n")
+
+
+class Silence(Loads):
+    """The quiet time, and the patience with mishaps."""
+
+    def test_a_deaf_console_gets_one_key_and_one_for_each_mishap(self):
+        """The keys come no faster than the quiet time, which passes before the first, too."""
+        for option, keys in (("--patience 3", 4), ("--patience 0", 1), ("", 9)):
+            peer = self.console_at(DeafConsole())
+            with self.subTest(option):
+                began = time.monotonic()
+                given = self.load(peer, f"first.lda --record a.record {option}")
+                self.ends(given, 5, f"sent {keys} spent {keys - 1} verified 0 of 1\nend GaveUp\n")
+                self.holds({"a.record": "LDAODT 2\n"})
+                self.was_typed(peer, "Z" * keys)
+                for number, typed_at in enumerate(peer.machine.times, 1):
+                    self.assertGreaterEqual(typed_at - began, number * QUIET / 1000)
+
+    def test_a_late_answer(self):
+        """With no patience at all. A fifth key whose echo is late was sent, and no sixth where the load gave up."""
+        gave_up = Answer(5, "sent 5 spent 0 verified 0 of 1\nend GaveUp\n", "")
+        started = Answer(0, STARTED, "")
+        rows = (
+            ("", 1.5, started),
+            ("", 4.0, gave_up),
+            ("--quiet 300", 1.5, gave_up),
+            ("--quiet 3000", 2.3, started),
+        )
+        peers = [self.console_at(LateConsole(late)) for _, late, _ in rows]
+        with ThreadPoolExecutor(len(rows)) as pool:
+            answers = list(pool.map(lambda peer, row: self.ldaodt(f"load first.lda {peer.address} --patience 0 {row[0]}"), peers, rows))
+        for (option, late, wanted), given in zip(rows, answers):
+            with self.subTest(option, late=late):
+                self.assertEqual(given, wanted)
+
+
+class Records(Loads):
+    """Records that can't be read or written, and how one is replaced."""
+
+    def test_texts_that_are_no_record_of_this_tape(self):
+        peer = self.console_at(Console())
+        for text, why in (("hello\n", "refused: NotARecord"), ("LDAODT 1\n001000 177777 011065\n", "refused at line 2")):
+            self.put("a.record", text.encode())
+            self.ends(self.recorded(peer), 3, "", f"ldaodt: record {why}\n")
+            self.holds({"a.record": text})
+        self.was_typed(peer, "", connections=0)
+
+    def test_a_record_is_at_most_a_mebibyte(self):
+        """Behind the header stands nothing but a torn piece, which is dropped."""
+        peer = self.console_at(Console())
+        longest = b"LDAODT 1\n".ljust(1 << 20, b"x")
+        self.put("a.record", longest + b"x")
+        self.ends(self.recorded(peer), 3, "", NO_RECORD)
+        self.was_typed(peer, "", connections=0)
+        self.holds({"a.record": longest.decode() + "x"})
+        self.put("a.record", longest)
+        self.ends(self.recorded(peer), 0, STARTED)
+        self.holds({"a.record": MARKED})
+
+    def test_a_device_without_end_is_no_record(self):
+        peer = self.console_at(Console())
+        for device in ("/dev/full", "/dev/zero"):
+            self.ends(self.load(peer, f"first.lda --record {device}"), 3, "", NO_RECORD)
+        self.was_typed(peer, "", connections=0)
+
+    def test_names_that_can_not_be_read(self):
+        """A folder, and a name below a file."""
+        peer = self.console_at(Console())
+        for name in (".", "first.lda/a.record"):
+            self.ends(self.load(peer, f"first.lda --record {name}"), 4, "", f"ldaodt: cannot read {name}\n")
+        self.holds({})
+        self.was_typed(peer, "", connections=0)
+
+    def test_a_missing_folder(self):
+        """It is seen once there is a connection."""
+        peer = self.console_at(Console())
+        given = self.load(peer, "first.lda --record no-such/a.record")
+        self.ends(given, 4, "", "ldaodt: cannot write no-such/a.record\n")
+        self.holds({})
+        self.was_typed(peer, "", connections=1)
+
+    def test_a_full_disk_leaves_the_old_record(self):
+        for record in (VERIFIED, OLD_VERIFIED):
+            peer = self.console_at(Console())
+            self.put("a.record", record.encode())
+            self.ends(self.recorded(peer, file_size=0), 4, "", "ldaodt: cannot write a.record\n")
+            self.holds({"a.record": record})
+            self.was_typed(peer, "")
+
+    def test_a_disk_that_becomes_full(self):
+        """The header has nine bytes, the first word's 13 have no room, and the start's key is not sent: 1 + 22 keys."""
+        for size, record, sent, keys in (
+            (9, "LDAODT 2\n", 23, WHOLE[:23]),
+            (15, "LDAODT 2\n001000", 23, WHOLE[:23]),
+            (22, VERIFIED[:-1], 29, WHOLE[:29]),
+            (24, VERIFIED + "G", 29, WHOLE[:29]),
+        ):
+            peer = self.console_at(Console())
+            with self.subTest(size):
+                given = self.recorded(peer, file_size=size)
+                self.ends(given, 4, f"sent {sent} spent 0 verified 1 of 1\nend KeepFailed\n", "ldaodt: cannot write a.record\n")
+                self.holds({"a.record": record})
+                self.was_typed(peer, keys)
+                os.remove(self.path("a.record"))
+
+    def test_a_record_is_replaced_by_a_new_file(self):
+        """It keeps its permissions. What a killed load left beside it is taken away."""
+        peer = self.console_at(Console())
+        self.put("a.record", b"")
+        os.chmod(self.path("a.record"), 0o600)
+        os.link(self.path("a.record"), self.path("b.record"))
+        self.put("a.record.ldaodt-new", b"cut short")
+        self.ends(self.recorded(peer), 0, STARTED)
+        self.holds({"a.record": MARKED, "b.record": ""})
+        self.assertEqual(stat.S_IMODE(os.stat(self.path("a.record")).st_mode), 0o600)
+
+    def test_a_link_is_written_in_place(self):
+        peer = self.console_at(Console())
+        os.symlink("b.record", self.path("a.record"))
+        self.put("b.record", b"")
+        self.ends(self.recorded(peer), 0, STARTED)
+        self.assertTrue(os.path.islink(self.path("a.record")))
+        self.holds({"a.record": MARKED, "b.record": MARKED})
+
+    def test_a_device_that_takes_all_is_a_record(self):
+        peer = self.console_at(Console())
+        self.ends(self.load(peer, "first.lda --record /dev/null"), 0, STARTED)
+
+
+if __name__ == "__main__":
+    unittest.main()

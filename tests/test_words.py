@@ -1,0 +1,71 @@
+"""Words of the command line that are no text, empty or odd."""
+import unittest
+
+from common import Case
+from outside import FIRST, LOST_DIGIT, bytes_of
+
+NO_TEXT = "ldaodt: a word of the command line is not UTF-8\n"
+CHECKED = "blocks 1 data 2 read 16\nstart 001000\ncanonical yes\nwords 1\n001000 177777 011064\n"
+
+# Names of files that are not there, and how a fault shows them.
+SHOWN = (
+    ("", "''"),
+    ("a b.lda", "a b.lda"),
+    ("it's \"a\\b\".lda", "it's \"a\\b\".lda"),
+    ("two\nlines", "two\\nlines"),
+    ("over\rwritten", "over\\rwritten"),
+    ("\t", "\\t"),
+    ("\x1b[2Jcleared", "\\u{1b}[2Jcleared"),
+    ("\x1f\x20", "\\u{1f} "),
+    ("~\x7f", "~\\u{7f}"),
+    ("\x80\x9b\x9f", "\\u{80}\\u{9b}\\u{9f}"),
+    ("\xa0", "\xa0"),
+    ("\xc4rger\u0301 \u2028\U0001f4fc\U0010ffff", "\xc4rger\u0301 \u2028\U0001f4fc\U0010ffff"),
+    ("--help", "--help"),
+    ("x" * 100000, "x" * 100000),
+)
+
+
+class Words(Case):
+    """Each word is a text, and a name stands in a fault so that the fault stays one line."""
+
+    def test_a_word_that_is_no_text(self):
+        for words in ([b"check", b"\xff"], [b"\xff"], [b"check", b"k\xe4se.lda"], [b"check", b"first.lda", b"\xed\xa0\x80"]):
+            self.ends(self.ldaodt(words), 2, "", NO_TEXT)
+
+    def test_a_name_stands_in_its_fault_as_one_line(self):
+        for name, shown in SHOWN:
+            with self.subTest(shown):
+                self.ends(self.ldaodt(["check", "--", name]), 4, "", f"ldaodt: cannot read {shown}\n")
+
+    def test_so_does_an_address(self):
+        self.put_tapes("first.lda")
+        for name, shown in SHOWN[:-1]:
+            with self.subTest(shown):
+                self.ends(self.ldaodt(["load", "first.lda", "--", name]), 4, "", f"ldaodt: cannot connect to {shown}\n")
+
+    def test_odd_names_of_files_that_are_there(self):
+        for name in ("a b.lda", "two\nlines", "k\xe4se.lda", "--help", "-", "'"):
+            with self.subTest(name):
+                self.put(name, bytes_of(FIRST))
+                self.ends(self.ldaodt(["check", "--", name]), 0, CHECKED)
+
+    def test_a_word_that_is_empty_is_a_word(self):
+        self.ends(self.ldaodt(["check", ""]), 4, "", "ldaodt: cannot read ''\n")
+        given = self.ldaodt([""])
+        self.assertEqual((given.status, given.out), (2, ""))
+        self.assertTrue(given.err.startswith("error: "), given)
+
+    def test_the_name_of_the_program_is_no_word(self):
+        for name in ("", "check", "--help"):
+            self.ends(self.ldaodt("", bytes_of(FIRST), name=name), 0, CHECKED)
+
+    def test_a_thousand_words(self):
+        given = self.ldaodt(["check"] + [FIRST] * 1000)
+        self.ends(given, 0, "".join(CHECKED.splitlines(True)[:3]) * 1000 + "words 1\n001000 177777 011064\n")
+        given = self.ldaodt(["rehearse", FIRST, LOST_DIGIT] + [FIRST] * 1000)
+        self.ends(given, 0, "sent 34 lost 1 spent 1 verified 1 of 1\nend Started\nodt Running 001000\n001000 011064 stands\n")
+
+
+if __name__ == "__main__":
+    unittest.main()

@@ -1,0 +1,143 @@
+"""The built program, run from outside: what tests/ and tools/hostile share."""
+import collections
+import glob
+import os
+import resource
+import shutil
+import subprocess
+import sys
+import tempfile
+
+TOP = os.path.dirname(os.path.dirname(os.path.realpath(__file__)))
+PROGRAM = f"{TOP}/ldaodt"
+FIRST = f"{TOP}/examples/first.lda"
+HELLO = f"{TOP}/examples/hello.lda"
+BAD_TAPE = f"{TOP}/examples/refused/bad-sum.lda"
+LOST_DIGIT = f"{TOP}/examples/losses/third-digit-lost.script"
+NO_OUTPUT = "ldaodt: cannot write output\n"
+NO_MEMORY = "ldaodt: out of memory\n"
+
+Answer = collections.namedtuple("Answer", "status out err")
+
+
+def text_of(written):
+    """What was written, as a text in which each byte can still be told."""
+    return written.decode("utf-8", "surrogateescape")
+
+
+# Starts a program that can't write past a place in a file, and is not killed for trying.
+SMALL_FILES = """
+import os, resource, signal, sys
+signal.signal(signal.SIGXFSZ, signal.SIG_IGN)
+resource.setrlimit(resource.RLIMIT_FSIZE, (int(sys.argv[1]), int(sys.argv[1])))
+os.execv(sys.argv[2], sys.argv[2:])
+"""
+
+
+def run(words, keys=b"", before="", file_size=None, name=PROGRAM, setup=None, seconds=120, **more):
+    """Runs ldaodt on these words and keys: after redirections by a shell, with a limit to how long a file may get,
+    under another name, or after a setup of the process."""
+    command = [name, *(it if isinstance(it, bytes) else it.encode() for it in words)]
+    if before:
+        command = ["bash", "-c", f'exec "$@" {before}', "bash", *command]
+    elif file_size is not None:
+        command = [sys.executable, "-c", SMALL_FILES, str(file_size), *command]
+    elif name != PROGRAM:
+        more["executable"] = PROGRAM
+    given = {"stdout": subprocess.PIPE, "stderr": subprocess.PIPE, **({} if "stdin" in more else {"input": keys}), **more}
+    try:
+        ran = subprocess.run(command, preexec_fn=setup, timeout=seconds, **given)
+    except subprocess.TimeoutExpired:
+        return Answer(None, "", f"it did not end within {seconds} seconds")
+    return Answer(ran.returncode, text_of(ran.stdout or b""), text_of(ran.stderr or b""))
+
+
+def block(address, data):
+    """A block of a tape; without data it is the transfer block."""
+    head = [1, 0, (len(data) + 6) & 255, (len(data) + 6) >> 8, address & 255, address >> 8, *data]
+    return bytes([*head, -sum(head) & 255])
+
+
+def bytes_of(path):
+    """What a file holds; none where it is not there."""
+    try:
+        with open(path, "rb") as file:
+            return file.read()
+    except FileNotFoundError:
+        return b""
+
+
+# ---------------------------------------------------------------- want of memory
+
+PAGE = 4 << 10
+MOST = 256 << 20
+
+
+class Loader:
+    """The system's loader, which tells in a file whether it gave the program control.
+
+    Where memory is too short for that, it is the loader that fails or is killed, and not the program.
+    """
+
+    def __init__(self):
+        self.room = tempfile.mkdtemp(prefix="loader-")
+
+    def start(self, once, size):
+        """Runs the program once with so many bytes of address space; returns whether it began, and its answer."""
+        env = {**os.environ, "LD_DEBUG": "files", "LD_DEBUG_OUTPUT": f"{self.room}/told"}
+        setup = None if size is None else lambda: resource.setrlimit(resource.RLIMIT_AS, (size, size))
+        try:
+            given = once(setup, env)
+        except subprocess.SubprocessError:
+            given = None
+        has_begun = False
+        for name in glob.glob(f"{self.room}/told.*"):
+            with open(name, encoding="latin-1") as file:
+                has_begun |= "transferring control: " in file.read()
+            os.remove(name)
+        return has_begun, given
+
+    def least(self, once):
+        """The fewest bytes, in whole pages, with which the program begins."""
+        too_few, enough = 0, MOST
+        while enough - too_few > PAGE:
+            middle = (too_few + enough) // 2 // PAGE * PAGE
+            has_begun, _ = self.start(once, middle)
+            too_few, enough = (too_few, middle) if has_begun else (middle, enough)
+        return enough
+
+    def close(self):
+        shutil.rmtree(self.room)
+
+
+def is_want(given, whole):
+    """Whether a run ended for want of memory as it has to, where the other had ample memory."""
+    return given is not None and given.status == 7 and given.err == NO_MEMORY and whole.out.startswith(given.out)
+
+
+def sweep(once, whole, step=PAGE, enough=64):
+    """Runs the program with more and more memory: `once` does it, with a setup and an environment.
+
+    From the least with which it begins at all, until it has ended as with ample memory so many times in
+    turn. In between nothing is right but status 7 with its line, and a front of the output. Returns how often
+    memory was wanting, and what was wrong, if anything was.
+    """
+    loader = Loader()
+    try:
+        has_begun, ample = loader.start(once, None)
+        if not has_begun or ample != whole:
+            return 0, f"with no limit: {ample}, {'begun' if has_begun else 'and the loader told of no beginning'}"
+        wanting = in_turn = 0
+        size = loader.least(once)
+        while in_turn < enough and size < MOST:
+            has_begun, given = loader.start(once, size)
+            if given == whole:
+                in_turn += 1
+            elif is_want(given, whole):
+                wanting, in_turn = wanting + 1, 0
+            elif has_begun:
+                return wanting, f"with {size >> 10} KiB: {given}"
+            size += step
+        return wanting, None if in_turn == enough else f"not ample with {size >> 10} KiB"
+    finally:
+        loader.close()

@@ -1,17 +1,17 @@
-//! Devices that fail once in the middle of a rehearsal or a dialogue, and would then go on.
+//! Devices that fail once in the middle of a check, a rehearsal or a dialogue, and would then go on.
 
-use crate::stories::{STALE, STALE_REPORT};
-use crate::tapes::ONE_WORD;
-use crate::transcripts::PLAIN;
+use crate::changed_scripts::{STALE, STALE_REPORT};
+use crate::tapes::{ONE_WORD, ONE_WORD_DIALOGUE, ONE_WORD_TEXT};
 use command_io::CommandFault;
 use failing_devices::{BrokenInput, BrokenOutput};
 use odt_machine::{LARGEST_WORDS, PLAIN_STYLE};
 use rehearsals::{dialogue_to, rehearse_to};
 use std::alloc::Global;
 use std::slice;
+use tape_check::check_to;
 
 /// The device that fails: before a byte of its input, or at a write, by its number.
-#[derive(Clone, Copy, Debug)]
+#[derive(Clone, Copy)]
 enum Failing {
     Tape(usize),
     Script(usize),
@@ -72,7 +72,20 @@ fn dialogue_stops(alloc: Global, failing: Failing) -> bool {
     done == Err(fault)
         && tape.failures.max(out.failures) == 1
         && tape.later_reads.max(out.later_writes) == 0
-        && has_front(&out, PLAIN)
+        && has_front(&out, ONE_WORD_DIALOGUE)
+}
+
+/// The same of a check, each of whose writes takes seven bytes, as long as there are so many.
+fn check_stops(alloc: Global, failing: Failing) -> bool {
+    let (place, _, number, fault) = places(failing);
+    let mut tape = BrokenInput::new(&ONE_WORD, place);
+    let mut out = BrokenOutput::new(Vec::new(alloc), number);
+    let done = check_to(alloc, slice::from_mut(&mut tape), &mut out);
+    done == Err(fault)
+        && tape.failures.max(out.failures) == 1
+        && tape.later_reads.max(out.later_writes) == 0
+        && has_front(&out, ONE_WORD_TEXT)
+        && (out.failures == 0 || out.written.len() / 7 == number.saturating_sub(1) as usize)
 }
 
 #[test]
@@ -80,8 +93,9 @@ fn the_tape_fails_once(rt: HostRuntime) {
     // Nothing is read behind the tape's last byte, so a device that fails there is no fault.
     for place in 0..ONE_WORD.len() {
         let failing = Failing::Tape(place);
-        assert!(rt; rehearsal_stops(rt.alloc(), failing), "{failing:?}");
-        assert!(rt; dialogue_stops(rt.alloc(), failing), "{failing:?}");
+        assert!(rt; check_stops(rt.alloc(), failing), "byte {place}");
+        assert!(rt; rehearsal_stops(rt.alloc(), failing), "byte {place}");
+        assert!(rt; dialogue_stops(rt.alloc(), failing), "byte {place}");
     }
 }
 
@@ -97,6 +111,16 @@ fn the_script_fails_once(rt: HostRuntime) {
 
 // A write takes seven bytes at most, so a text has at least so many writes.
 #[test]
+fn the_output_of_a_check_fails_once(rt: HostRuntime) {
+    for number in 1..=ONE_WORD_TEXT.len().div_ceil(7) as u32 {
+        assert!(rt;
+            check_stops(rt.alloc(), Failing::Output(number)),
+            "write {number}"
+        );
+    }
+}
+
+#[test]
 fn the_output_of_a_rehearsal_fails_once(rt: HostRuntime) {
     for number in 1..=STALE_REPORT.len().div_ceil(7) as u32 {
         assert!(rt;
@@ -108,7 +132,7 @@ fn the_output_of_a_rehearsal_fails_once(rt: HostRuntime) {
 
 #[test]
 fn the_output_of_a_dialogue_fails_once(rt: HostRuntime) {
-    for number in 1..=PLAIN.len().div_ceil(7) as u32 {
+    for number in 1..=ONE_WORD_DIALOGUE.len().div_ceil(7) as u32 {
         assert!(rt;
             dialogue_stops(rt.alloc(), Failing::Output(number)),
             "write {number}"

@@ -1,41 +1,55 @@
-//! Tests of the commands, and of the calls below them: of printed texts, of the largest sizes, and of
-//! hostile use.
+//! Tests of the commands, of the requests for them, and of the calls below, as far as they can only be
+//! made inside the process: of the largest sizes, and of hostile use.
 //!
 //! Contracts say what the calls answer beside the answer for want of memory, and let that one come at
 //! any time; here stands what no clause can say: that they succeed where memory is ample, however
 //! large the tapes and scripts are; that with a growth refused they answer just that, with nothing
-//! written but the beginning of the whole; that a device that failed is not asked again; that `type`
-//! answers before it reads on; and that the definitions mean what the pages in `docs/` say (expected
-//! texts come from there, row by row).
+//! written but the beginning of the whole; that a device that failed is not asked again, and how much
+//! is read; that each byte of a script and of a record, changed, gives an answer or the refusal of its
+//! line; that `type` answers before it reads on; that a record is on the disk before it replaces the
+//! old one; and what is shown of a load while it goes on.
 //!
-//! They stand in a crate of their own, since a crate with tests is proved twice.
+//! What the built program shows from outside is tested in `tests/` at the top. These tests stand in a
+//! crate of their own, since a crate with tests is proved twice.
 #![tactic(auto)]
 
 #[cfg(test)]
+mod attempts;
+#[cfg(test)]
+mod changed_records;
+#[cfg(test)]
 mod changed_scripts;
 #[cfg(test)]
-mod device_fails_once;
+mod explaining;
 #[cfg(test)]
 mod failing;
 #[cfg(test)]
+mod failing_records;
+#[cfg(test)]
+mod failing_requests;
+#[cfg(test)]
+mod faults;
+#[cfg(test)]
 mod large;
+#[cfg(test)]
+mod limits;
 #[cfg(test)]
 mod loads;
 #[cfg(test)]
-mod records;
+mod progress;
+#[cfg(test)]
+mod replacing;
 #[cfg(test)]
 mod scarce_calls;
 #[cfg(test)]
 mod scarce_commands;
 #[cfg(test)]
+mod scarce_loads;
+#[cfg(test)]
 mod scarce_requests;
-#[cfg(test)]
-mod scripts;
-#[cfg(test)]
-mod stories;
 #[cfg(test)]
 mod tapes;
 #[cfg(test)]
-mod transcripts;
-#[cfg(test)]
 mod typing;
+#[cfg(test)]
+mod words;

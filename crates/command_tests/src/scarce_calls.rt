@@ -174,17 +174,6 @@ fn first_answer(
 }
 
 #[test]
-fn ample_memory_is_enough(rt: HostRuntime) -> Result<(), Fail> {
-    for row in &CALLS {
-        let (call, texts, ample, reason) = *row;
-        let tapes = tapes_of(rt.alloc(), texts)?;
-        let found = ask(rt.alloc(), call, texts, &tapes);
-        assert!(rt; found == Some(ample), "{reason}");
-    }
-    Ok(())
-}
-
-#[test]
 fn each_growth_is_refused_in_turn(rt: HostRuntime) -> Result<(), Fail> {
     for row in &CALLS {
         let (call, texts, ample, reason) = *row;

@@ -1,7 +1,6 @@
 //! The commands, over inputs and outputs in memory.
 
-use crate::tapes::{NOTHING, ONE_WORD, PADDED, WRONG_SUM};
-use crate::transcripts::PLAIN;
+use crate::tapes::{NOTHING, ONE_WORD, ONE_WORD_DIALOGUE, ONE_WORD_TEXT, PADDED, WRONG_SUM};
 use command_io::CommandFault;
 use host_core::End;
 use odt_machine::{LARGEST_WORDS, PLAIN_STYLE};
@@ -14,7 +13,7 @@ use tape_blocks::{Fault, Why};
 use tape_check::check_to;
 
 /// A command, with its script if it has one.
-#[derive(Clone, Copy, Debug)]
+#[derive(Clone, Copy)]
 enum Command {
     Check,
     Dialogue,
@@ -26,12 +25,7 @@ type Outcome = Result<Option<End>, CommandFault>;
 
 /// Commands and their tapes, and how they end and what they write with ample memory.
 const COMMANDS: [(Command, &[u8], Outcome, &str); 8] = [
-    (
-        Command::Check,
-        &ONE_WORD,
-        Ok(None),
-        "blocks 1 data 2 read 16\nstart 001000\ncanonical yes\nwords 1\n001000 177777 011064\n",
-    ),
+    (Command::Check, &ONE_WORD, Ok(None), ONE_WORD_TEXT),
     (
         Command::Check,
         &PADDED,
@@ -45,7 +39,12 @@ const COMMANDS: [(Command, &[u8], Outcome, &str); 8] = [
         "blocks 0 data 0 read 7\nno start 000001\ncanonical yes\nwords 0\n",
     ),
     (Command::Check, &WRONG_SUM, Err(WRONG_SUM_FAULT), ""),
-    (Command::Dialogue, &ONE_WORD, Ok(Some(End::Started)), PLAIN),
+    (
+        Command::Dialogue,
+        &ONE_WORD,
+        Ok(Some(End::Started)),
+        ONE_WORD_DIALOGUE,
+    ),
     (Command::Dialogue, &WRONG_SUM, Err(WRONG_SUM_FAULT), ""),
     (
         Command::Rehearse("clean"),
@@ -120,26 +119,13 @@ fn first_outcome(
 }
 
 #[test]
-fn ample_memory_is_enough(rt: HostRuntime) {
-    for row in &COMMANDS {
-        let (command, tape, ample, text) = *row;
-        let mut out = Vec::new(rt.alloc());
-        let outcome = run(rt.alloc(), command, tape, &mut out);
-        assert!(rt;
-            outcome == ample && out.as_slice() == text.as_bytes(),
-            "{command:?}"
-        );
-    }
-}
-
-#[test]
 fn each_growth_is_refused_in_turn(rt: HostRuntime) -> Result<(), Fail> {
-    for row in &COMMANDS {
+    for (place, row) in COMMANDS.iter().enumerate() {
         let (command, tape, ample, text) = *row;
         let mut out = Vec::with_capacity(rt.alloc(), 1024)?;
         let (outcome, refusals) = first_outcome(rt.alloc(), command, tape, text, &mut out)?;
         let is_whole = outcome == ample && out.as_slice() == text.as_bytes();
-        assert!(rt; is_whole && refusals > 0, "{command:?}");
+        assert!(rt; is_whole && refusals > 0, "row {place}");
     }
     Ok(())
 }

@@ -1,13 +1,14 @@
 //! Requests, each done as the program does it, over files. Loads that come to a console are tried where
 //! there is a simulated one.
 
-use crate::tapes::{NOTHING, ONE_WORD, WRONG_SUM};
+use crate::attempts::{Ended, OUT_OF_MEMORY, run};
+use crate::tapes::{NOTHING, ONE_WORD, ONE_WORD_TEXT, WRONG_SUM};
+use endings::Status;
 use odt_machine::{LARGEST_WORDS, PLAIN_STYLE};
-use requests::{Console, Load, Request, Status, attempt};
+use requests::{Console, Load, Request};
 use scarce_memory::{Famine, ROOMS};
 use std::alloc::{AllocError, Global};
 use std::fs;
-use std::io::Stderr;
 use std::test::Fail;
 
 /// The files that the requests name.
@@ -20,9 +21,6 @@ const FILES: [(&str, &[u8]); 6] = [
     ("scarce.record", b"LDAODT 1\n001000 177777 011064\nG\n"),
 ];
 
-/// No terminal looks on.
-const NOBODY: Option<&Stderr> = None;
-
 /// A load whose start was typed in an earlier life, so that nothing is connected to.
 const MARKED_LOAD: Load<'static> = Load {
     address: "127.0.0.1:1",
@@ -33,8 +31,10 @@ const MARKED_LOAD: Load<'static> = Load {
 
 /// A load through a port where nobody listens.
 const VAIN_LOAD: Load<'static> = Load {
+    address: "127.0.0.1:1",
     record: None,
-    ..MARKED_LOAD
+    patience: 8,
+    quiet_ms: 2000,
 };
 
 /// A console over all the memory that there may be.
@@ -42,10 +42,6 @@ const LARGEST: Console = Console {
     words: LARGEST_WORDS,
     style: PLAIN_STYLE,
 };
-
-/// What `check` prints of the smallest tape.
-const CHECKED: &str =
-    "blocks 1 data 2 read 16\nstart 001000\ncanonical yes\nwords 1\n001000 177777 011064\n";
 
 /// What `check` prints of the smallest tape, and the same tape again.
 const CHECKED_TWICE: &str =
@@ -66,7 +62,7 @@ const DIGIT_LOST: &str =
     "sent 34 lost 1 spent 1 verified 1 of 1\nend Started\nodt Running 001000\n001000 011064 stands\n";
 
 /// What is asked for, with the names that a request has in a vector.
-#[derive(Clone, Copy, Debug)]
+#[derive(Clone, Copy)]
 enum Asked {
     CheckInput,
     Check(&'static [&'static str]),
@@ -96,7 +92,13 @@ type Row = (Asked, &'static [u8], Status, &'static str, &'static str);
 
 /// Requests of each command, some of them refused behind their growths.
 const REQUESTS: [Row; 11] = [
-    (Asked::CheckInput, &ONE_WORD, Status::Done, CHECKED, ""),
+    (
+        Asked::CheckInput,
+        &ONE_WORD,
+        Status::Done,
+        ONE_WORD_TEXT,
+        "",
+    ),
     (
         Asked::CheckInput,
         &WRONG_SUM,
@@ -163,35 +165,10 @@ const REQUESTS: [Row; 11] = [
     ),
 ];
 
-/// What a request left.
-#[derive(Drop)]
-struct Ended {
-    status: Status,
-    out: Vec<u8>,
-    err: Vec<u8>,
-}
-
-/// Does a request, in place of what the one before it left.
-fn run(rt: &HostRuntime, request: Request<'_>, mut input: &[u8], ended: &mut Ended) {
-    ended.out.clear();
-    ended.err.clear();
-    ended.status = attempt(
-        rt,
-        rt.alloc(),
-        request,
-        &mut input,
-        &mut ended.out,
-        &mut ended.err,
-        NOBODY,
-    );
-}
-
-/// The line for want of memory.
-const OUT_OF_MEMORY: &[u8] = b"ldaodt: out of memory\n";
-
 /// Whether a request ended for want of memory as it has to, where this is the whole output.
 fn is_orderly(ended: &Ended, whole: &str) -> bool {
-    whole.as_bytes().starts_with(ended.out.as_slice()) && ended.err.as_slice() == OUT_OF_MEMORY
+    whole.as_bytes().starts_with(ended.out.as_slice())
+        && ended.err.as_slice() == OUT_OF_MEMORY.as_bytes()
 }
 
 /// Does a request in rooms that grow until memory is not wanting, and answers how often it was.
@@ -237,50 +214,21 @@ fn remove_files(rt: &HostRuntime) -> Result<(), Fail> {
     Ok(())
 }
 
-/// An ending with room for what a request writes.
-fn no_ending(alloc: Global) -> Result<Ended, Fail> {
-    Ok(Ended {
-        status: Status::Done,
-        out: Vec::with_capacity(alloc, 1024)?,
-        err: Vec::with_capacity(alloc, 1024)?,
-    })
-}
-
-/// Whether a request ended as with ample memory.
-fn has_ended(ended: &Ended, row: &Row) -> bool {
-    let (_, _, status, out, err) = *row;
-    ended.status == status
-        && ended.out.as_slice() == out.as_bytes()
-        && ended.err.as_slice() == err.as_bytes()
-}
-
 #[test]
 fn each_growth_is_refused_in_turn(rt: HostRuntime) -> Result<(), Fail> {
     put_files(&rt)?;
-    let mut ended = no_ending(rt.alloc())?;
+    let mut ended = Ended::with_room(rt.alloc())?;
     for row in &REQUESTS {
-        let (asked, input, _, out, _) = *row;
+        let (asked, input, status, out, line) = *row;
         let refusals = run_scarcely(&rt, asked, input, out, &mut ended)?;
-        assert!(rt; has_ended(&ended, row) && refusals > 0, "{asked:?}");
-    }
-    remove_files(&rt)
-}
-
-#[test]
-fn ample_memory_is_enough(rt: HostRuntime) -> Result<(), Fail> {
-    put_files(&rt)?;
-    let mut ended = no_ending(rt.alloc())?;
-    for row in &REQUESTS {
-        let (asked, input, _, _, _) = *row;
-        run(&rt, request_of(rt.alloc(), asked)?, input, &mut ended);
-        assert!(rt; has_ended(&ended, row), "{asked:?}");
+        assert!(rt; ended.is(status, out, line) && refusals > 0, "{out}{line}");
     }
     remove_files(&rt)
 }
 
 #[test]
 fn the_line_for_want_of_memory_takes_none(rt: HostRuntime) -> Result<(), Fail> {
-    let mut ended = no_ending(rt.alloc())?;
+    let mut ended = Ended::with_room(rt.alloc())?;
     let famine = Famine::begin(rt.alloc())?;
     run(&rt, Request::CheckInput, &ONE_WORD, &mut ended);
     drop(famine);

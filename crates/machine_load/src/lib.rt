@@ -7,7 +7,7 @@
 //! on the disk (`DurableWriter`). An `Onlooker` sees how far the load is and decides nothing;
 //! `ProgressLine` shows it on a terminal.
 //!
-//! The crate `requests` calls it, and its tests stand in `load_tests`.
+//! The crate `requests` calls it, and its tests stand in `command_tests`.
 #![tactic(auto)]
 
 mod begin_fault;

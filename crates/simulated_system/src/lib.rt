@@ -1,10 +1,15 @@
 //! A system for tests: its files are real, but have room for so many bytes alone, and behind one
-//! address of its network answers a simulated console, which may close the line after a while.
+//! address of its network answers a simulated console, which may close the line after a while. What is
+//! asked of its files can be noted, step by step, and one step can be made to fail.
 //!
-//! The tests of `load` use it, over requests and over the words of a command line; the program does not.
+//! The tests of requests, of loads and of their records use it; the program does not.
 #![tactic(auto)]
 
+mod notes;
+
+use crate::notes::note;
 use arrayvec::ArrayVec;
+pub use notes::{Failing, Notes, Step};
 use odt_machine::{LARGEST_WORDS, Odt, PLAIN_STYLE};
 use std::alloc::{Allocator, Global};
 use std::cell::Cell;
@@ -58,6 +63,9 @@ pub struct System<'a> {
     rt: &'a HostRuntime,
     setting: Setting,
 
+    /// What is asked of the files, where that is noted.
+    notes: Option<&'a Notes>,
+
     /// The console's machine, until somebody is connected to it: to connect takes no memory.
     machine: Cell<Option<Odt>>,
     connections: Cell<u32>,
@@ -80,10 +88,17 @@ impl<'a> System<'a> {
         System {
             rt,
             setting,
+            notes: None,
             machine: Cell::new(machine_of(rt.alloc(), setting)),
             connections: Cell::new(0),
             time: Cell::new(0),
         }
+    }
+
+    /// The same system, whose notes say what is asked of its files and which step fails.
+    pub fn noted(mut self, notes: &'a Notes) -> System<'a> {
+        self.notes = Some(notes);
+        self
     }
 
     /// How often somebody tried to connect.
@@ -211,19 +226,21 @@ impl Clock for System<'_> {
 
 /// A file that takes so many bytes and then is full.
 #[derive(Drop)]
-pub struct RoomyFile {
+pub struct RoomyFile<'a> {
     file: File,
     room: usize,
+    notes: Option<&'a Notes>,
 }
 
-impl Read for RoomyFile {
+impl Read for RoomyFile<'_> {
     fn read(&mut self, buf: &mut [u8]) -> io::Result<usize> {
         self.file.read(buf)
     }
 }
 
-impl Write for RoomyFile {
+impl Write for RoomyFile<'_> {
     fn write(&mut self, buf: &[u8]) -> io::Result<usize> {
+        note(self.notes, Step::Write)?;
         let most = buf.len().min(self.room);
         if most == 0 {
             return Err(io::Error::from(ErrorKind::StorageFull));
@@ -234,17 +251,17 @@ impl Write for RoomyFile {
     }
 
     fn flush(&mut self) -> io::Result<()> {
-        Ok(())
+        note(self.notes, Step::Flush)
     }
 }
 
-impl Seek for RoomyFile {
+impl Seek for RoomyFile<'_> {
     fn seek(&mut self, to: SeekFrom) -> io::Result<u64> {
         self.file.seek(to)
     }
 }
 
-impl OpenFile for RoomyFile {
+impl OpenFile for RoomyFile<'_> {
     fn metadata(&self) -> io::Result<Metadata> {
         self.file.metadata()
     }
@@ -254,59 +271,75 @@ impl OpenFile for RoomyFile {
     }
 
     fn sync_all(&self) -> io::Result<()> {
+        note(self.notes, Step::SyncAll)?;
         self.file.sync_all()
     }
 
     fn sync_data(&self) -> io::Result<()> {
+        note(self.notes, Step::SyncData)?;
         self.file.sync_data()
     }
 }
 
-impl Files for System<'_> {
-    type File = RoomyFile;
+/// Where a file of this name is: what would stand in the system's root stands in the test's own folder.
+fn found(path: &str) -> &str {
+    match path.strip_prefix('/') {
+        Some("") => ".",
+        Some(name) if !name.contains('/') => name,
+        _ => path,
+    }
+}
+
+impl<'a> Files for System<'a> {
+    type File = RoomyFile<'a>;
 
     type Dir = <HostRuntime as Files>::Dir;
 
-    fn open_file(&self, how: &OpenOptions, path: &str) -> io::Result<RoomyFile> {
+    fn open_file(&self, how: &OpenOptions, path: &str) -> io::Result<RoomyFile<'a>> {
+        if let Some(notes) = self.notes {
+            notes.take(notes.opening(path))?;
+        }
         Ok(RoomyFile {
-            file: Files::open_file(self.rt, how, path)?,
+            file: Files::open_file(self.rt, how, found(path))?,
             room: self.setting.room,
+            notes: self.notes,
         })
     }
 
     fn open_dir(&self, path: &str) -> io::Result<<HostRuntime as Files>::Dir> {
-        Files::open_dir(self.rt, path)
+        Files::open_dir(self.rt, found(path))
     }
 
     fn metadata(&self, path: &str) -> io::Result<Metadata> {
-        Files::metadata(self.rt, path)
+        Files::metadata(self.rt, found(path))
     }
 
     fn symlink_metadata(&self, path: &str) -> io::Result<Metadata> {
-        Files::symlink_metadata(self.rt, path)
+        Files::symlink_metadata(self.rt, found(path))
     }
 
     fn copy(&self, from: &str, to: &str) -> io::Result<u64> {
-        Files::copy(self.rt, from, to)
+        Files::copy(self.rt, found(from), found(to))
     }
 
     fn rename(&self, from: &str, to: &str) -> io::Result<()> {
-        Files::rename(self.rt, from, to)
+        note(self.notes, Step::Rename)?;
+        Files::rename(self.rt, found(from), found(to))
     }
 
     fn remove_file(&self, path: &str) -> io::Result<()> {
-        Files::remove_file(self.rt, path)
+        Files::remove_file(self.rt, found(path))
     }
 
     fn create_dir(&self, path: &str) -> io::Result<()> {
-        Files::create_dir(self.rt, path)
+        Files::create_dir(self.rt, found(path))
     }
 
     fn remove_dir(&self, path: &str) -> io::Result<()> {
-        Files::remove_dir(self.rt, path)
+        Files::remove_dir(self.rt, found(path))
     }
 
     fn remove_dir_all<B: Allocator>(&self, alloc: B, path: &str) -> io::Result<()> {
-        Files::remove_dir_all(self.rt, alloc, path)
+        Files::remove_dir_all(self.rt, alloc, found(path))
     }
 }

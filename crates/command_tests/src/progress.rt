@@ -1,7 +1,7 @@
 //! What a person sees while a load goes on.
 
 use crate::attempts::{attempt_on, load_of};
-use crate::tapes::{ONE_WORD, TWO_WORDS};
+use crate::tapes::{ONE_WORD, OVERLAP};
 use machine_load::{Onlooker, ProgressLine};
 use simulated_system::{AMPLE, Setting, System};
 use std::alloc::Global;
@@ -79,7 +79,7 @@ impl Print for Screen {
 }
 
 /// What happens to a load of 2,000 words, 500 of them verified before.
-#[derive(Clone, Copy, Debug)]
+#[derive(Clone, Copy)]
 enum Step {
     Verified,
     Resynchronised,
@@ -153,30 +153,33 @@ fn a_load_is_shown_at_its_pace(rt: HostRuntime) -> Result<(), Fail> {
     Ok(())
 }
 
-/// The clock moves on, so that everything is shown.
-const TICKING: Setting = Setting {
-    tick: 1000,
-    ..AMPLE
-};
-
-/// A tape, its record where there is one, a system, and all that is shown of the load.
-type Shown = (&'static [u8], &'static str, Setting, &'static str);
+/// A tape, its record where there is one, how many milliseconds pass from one look at the clock to the next,
+/// how many bytes the record has room for, and all that is shown of the load.
+type Shown = (&'static [u8], &'static str, u64, usize, &'static str);
 
 const SHOWN: [Shown; 3] = [
     // A clock that stands still: the line is shown once, and then cleared.
-    (&ONE_WORD, "", AMPLE, "\r0 of 1 words, 0%\x1b[K\r\x1b[K"),
+    (
+        &ONE_WORD,
+        "",
+        0,
+        1_000_000,
+        "\r0 of 1 words, 0%\x1b[K\r\x1b[K",
+    ),
     // A word is verified already; then the first key, and the other word.
     (
-        &TWO_WORDS,
+        &OVERLAP,
         "LDAODT 2\n001000 031421",
-        TICKING,
+        1000,
+        1_000_000,
         "\r1 of 2 words, 50%\x1b[K\r1 of 2 words, 50%\x1b[K\r2 of 2 words, 100%, 0:00 left\x1b[K\r\x1b[K",
     ),
     // A word that the record has no room for is none that is kept.
     (
         &ONE_WORD,
         "",
-        Setting { room: 9, ..TICKING },
+        1000,
+        9,
         "\r0 of 1 words, 0%\x1b[K\r0 of 1 words, 0%\x1b[K\r\x1b[K",
     ),
 ];
@@ -184,14 +187,21 @@ const SHOWN: [Shown; 3] = [
 #[test]
 fn a_load_is_shown_and_nothing_of_it_is_left(rt: HostRuntime) -> Result<(), Fail> {
     for row in &SHOWN {
-        let (tape, record, setting, shown) = *row;
+        let (tape, record, tick, room, shown) = *row;
         fs::write(&rt, "p.lda", tape)?;
         fs::write(&rt, "p.record", record)?;
         let terminal = Screen::new(rt.alloc());
         let mut out = Vec::new(rt.alloc());
         let mut err = Vec::new(rt.alloc());
         let request = load_of(rt.alloc(), "p.lda", Some("p.record"))?;
-        let system = System::new(&rt, setting);
+        let system = System::new(
+            &rt,
+            Setting {
+                tick,
+                room,
+                ..AMPLE
+            },
+        );
         let looks_on = Some(&terminal);
         attempt_on(&system, rt.alloc(), request, &mut out, &mut err, looks_on);
         assert!(rt; terminal.has_shown(shown), "{shown:?}");

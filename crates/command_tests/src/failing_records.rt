@@ -1,7 +1,7 @@
 //! Devices that fail once and would then go on: the record of a load, as it is read and as it is
 //! written.
 
-use crate::tapes::ONE_WORD;
+use crate::tapes::plan_of_one_word;
 use command_io::{InputFault, read_up_to};
 use failing_devices::{BrokenInput, BrokenOutput};
 use honest_line::MemoryLine;
@@ -16,7 +16,6 @@ use std::cell::RefCell;
 use std::io;
 use std::io::{ErrorKind, Write};
 use std::test::Fail;
-use tape_blocks::read_tape;
 use tape_image::Plan;
 
 /// An output that is looked at once the load has let it go.
@@ -75,12 +74,6 @@ impl<'a> Surroundings for Frail<'a> {
     }
 }
 
-/// The plan of the smallest tape.
-fn plan(alloc: Global) -> Result<Plan, Fail> {
-    let (tape, _) = read_tape(alloc, &ONE_WORD)?;
-    Ok(Plan::of(alloc, &tape)?)
-}
-
 /// The record of the smallest tape's word, without the mark.
 const VERIFIED: &[u8] = b"LDAODT 1\n001000 177777 011064\n";
 
@@ -104,7 +97,8 @@ fn reading_stops(alloc: Global, place: usize) -> Result<bool, Fail> {
         output: &output,
     };
     let mut out = Vec::new(alloc);
-    let done = load(alloc, plan(alloc)?, 8, &mut around, &mut out, &Unwatched);
+    let plan = plan_of_one_word(alloc)?;
+    let done = load(alloc, plan, 8, &mut around, &mut out, &Unwatched);
     let asked = (around.input.failures, around.input.later_reads);
     let is_unconnected = around.line.is_some();
     drop(around);
@@ -208,7 +202,7 @@ fn the_record_that_is_written(rt: HostRuntime) -> Result<(), Fail> {
             output: &output,
         };
         let mut out = Vec::new(rt.alloc());
-        let plan = plan(rt.alloc())?;
+        let plan = plan_of_one_word(rt.alloc())?;
         let done = load(rt.alloc(), plan, 8, &mut around, &mut out, &Unwatched);
         assert!(rt;
             done == ended && out.as_slice() == report.as_bytes(),

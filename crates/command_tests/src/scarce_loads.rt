@@ -1,8 +1,8 @@
 //! Want of memory while a load goes on: each growth is refused in turn, those behind the connection, too.
 
-use crate::attempts::{NOBODY, attempt_on, load_of};
+use crate::attempts::{Ended, NOBODY, OUT_OF_MEMORY, attempt_on, load_of};
 use crate::tapes::ONE_WORD;
-use requests::Status;
+use endings::Status;
 use scarce_memory::{Famine, ROOMS};
 use simulated_system::{AMPLE, Setting, System};
 use std::alloc::{AllocError, Global};
@@ -55,14 +55,6 @@ fn long_name(alloc: Global) -> Result<String, Fail> {
     Ok(name)
 }
 
-/// What a load left.
-#[derive(Drop)]
-struct Ended {
-    status: Status,
-    out: Vec<u8>,
-    err: Vec<u8>,
-}
-
 /// Loads the tape, in place of what the load before it left. The error is that the request itself has no room.
 fn load(
     system: &System<'_>,
@@ -80,10 +72,7 @@ fn load(
 
 /// Whether a load ended for want of memory as it has to: nothing is reported and no record is begun.
 fn is_orderly(rt: &HostRuntime, ended: &Ended) -> bool {
-    ended.status == Status::NoMemory
-        && ended.out.is_empty()
-        && ended.err.as_slice() == b"ldaodt: out of memory\n".as_slice()
-        && fs::metadata(rt, RECORD).is_err()
+    ended.is(Status::NoMemory, "", OUT_OF_MEMORY) && fs::metadata(rt, RECORD).is_err()
 }
 
 /// Loads in rooms that grow until memory is not wanting, and answers how often it was behind the connection.
@@ -118,11 +107,7 @@ fn load_at_last(rt: &HostRuntime, record: Option<&str>) -> Result<(Ended, u32), 
     for _ in 0..ROOMS {
         systems.push(System::new(rt, SETTING))?;
     }
-    let mut ended = Ended {
-        status: Status::Uncertain,
-        out: Vec::with_capacity(rt.alloc(), 1024)?,
-        err: Vec::with_capacity(rt.alloc(), 1024)?,
-    };
+    let mut ended = Ended::with_room(rt.alloc())?;
     let refusals = load_scarcely(rt, record, &systems, &mut ended)?;
     Ok((ended, refusals))
 }
@@ -131,10 +116,7 @@ fn load_at_last(rt: &HostRuntime, record: Option<&str>) -> Result<(Ended, u32), 
 fn each_growth_of_a_load_is_refused_in_turn(rt: HostRuntime) -> Result<(), Fail> {
     put_zeroes(&rt)?;
     let (ended, refusals) = load_at_last(&rt, None)?;
-    assert!(rt; ended.status == Status::Done);
-    assert!(rt; ended.out.as_slice() == ZEROES_LOADED.as_bytes());
-    assert!(rt; ended.err.is_empty());
-    assert!(rt; refusals > 0);
+    assert!(rt; ended.is(Status::Done, ZEROES_LOADED, "") && refusals > 0);
     Ok(fs::remove_file(&rt, TAPE)?)
 }
 
@@ -143,10 +125,7 @@ fn each_growth_of_a_load_with_a_record_is_refused_in_turn(rt: HostRuntime) -> Re
     fs::write(&rt, TAPE, ONE_WORD)?;
     let name = long_name(rt.alloc())?;
     let (ended, refusals) = load_at_last(&rt, Some(name.as_str()))?;
-    assert!(rt; ended.status == Status::Done);
-    assert!(rt; ended.out.as_slice() == STARTED.as_bytes());
-    assert!(rt; ended.err.is_empty());
-    assert!(rt; refusals > 0);
+    assert!(rt; ended.is(Status::Done, STARTED, "") && refusals > 0);
     fs::remove_file(&rt, RECORD)?;
     Ok(fs::remove_file(&rt, TAPE)?)
 }

@@ -1,0 +1,89 @@
+//! Requests, attempted as the program does it.
+
+use endings::Status;
+use requests::{Load, Request, attempt};
+use simulated_system::{QUIET_MS, System};
+use std::alloc::{AllocError, Global};
+use std::io::{Print, Stderr, Write};
+
+/// No terminal looks on.
+pub const NOBODY: Option<&Stderr> = None;
+
+/// What is said of want of memory.
+pub const OUT_OF_MEMORY: &str = "ldaodt: out of memory\n";
+
+/// What a request left.
+#[derive(Drop)]
+pub struct Ended {
+    pub status: Status,
+    pub out: Vec<u8>,
+    pub err: Vec<u8>,
+}
+
+impl Ended {
+    /// Nothing yet, with room for what a request writes, so that it takes no memory of the request's.
+    pub fn with_room(alloc: Global) -> Result<Ended, AllocError> {
+        Ok(Ended {
+            status: Status::Uncertain,
+            out: Vec::with_capacity(alloc, 1024)?,
+            err: Vec::with_capacity(alloc, 1024)?,
+        })
+    }
+
+    /// Whether it ended with this status, and wrote this.
+    pub fn is(&self, status: Status, out: &str, err: &str) -> bool {
+        self.status == status
+            && self.out.as_slice() == out.as_bytes()
+            && self.err.as_slice() == err.as_bytes()
+    }
+}
+
+/// Does a request over the test's files, in place of what the one before it left.
+pub fn run(rt: &HostRuntime, request: Request<'_>, mut input: &[u8], ended: &mut Ended) {
+    ended.out.clear();
+    ended.err.clear();
+    ended.status = attempt(
+        rt,
+        rt.alloc(),
+        request,
+        &mut input,
+        &mut ended.out,
+        &mut ended.err,
+        NOBODY,
+    );
+}
+
+/// How many mishaps a load survives.
+const PATIENCE: u32 = 3;
+
+/// A load of a tape, recorded under this name. The error is that the request itself has no room.
+pub fn load_of<'a>(
+    alloc: Global,
+    tape: &'a str,
+    record: Option<&'a str>,
+) -> Result<Request<'a>, AllocError> {
+    let mut tapes = Vec::new(alloc);
+    tapes.push(tape)?;
+    Ok(Request::Load(
+        tapes,
+        Load {
+            address: "127.0.0.1:2323",
+            record,
+            patience: PATIENCE,
+            quiet_ms: QUIET_MS,
+        },
+    ))
+}
+
+/// Does a request, with nothing on standard input, and answers how it ended.
+pub fn attempt_on<W: Write, T: Print>(
+    system: &System<'_>,
+    alloc: Global,
+    request: Request<'_>,
+    out: &mut W,
+    err: &mut Vec<u8>,
+    terminal: Option<&T>,
+) -> Status {
+    let mut input: &[u8] = &[];
+    attempt(system, alloc, request, &mut input, out, err, terminal)
+}

@@ -1,0 +1,131 @@
+//! Requests whose standard input or output fails: what they end with, and that it is not asked again.
+
+use crate::attempts::{NOBODY, load_of};
+use crate::tapes::ONE_WORD;
+use endings::Status;
+use failing_devices::{BrokenInput, BrokenOutput, UnflushedOutput};
+use odt_machine::{LARGEST_WORDS, PLAIN_STYLE};
+use requests::{Console, Request, attempt};
+use simulated_system::{AMPLE, Setting, System};
+use std::alloc::{AllocError, Global};
+use std::fs;
+use std::io::Write;
+use std::test::Fail;
+
+/// What is asked for.
+#[derive(Clone, Copy)]
+enum Asked {
+    CheckInput,
+    Type,
+    Load,
+}
+
+/// The tape that is loaded.
+const TAPE: &str = "failing.lda";
+
+/// The request.
+fn request_of(alloc: Global, asked: Asked) -> Result<Request<'static>, AllocError> {
+    match asked {
+        Asked::CheckInput => Ok(Request::CheckInput),
+        Asked::Type => Ok(Request::Type(Console {
+            words: LARGEST_WORDS,
+            style: PLAIN_STYLE,
+        })),
+        Asked::Load => load_of(alloc, TAPE, None),
+    }
+}
+
+/// The keys that open a word.
+const KEYS: &[u8] = b"001000/";
+
+/// What is said where the input fails.
+const INPUT_FAILED: &[u8] = b"ldaodt: cannot read standard input\n";
+
+/// What is said where the output fails.
+const OUTPUT_FAILED: &[u8] = b"ldaodt: cannot write output\n";
+
+/// Whether a request whose input fails before the byte at this place says so and reads no more, where this is
+/// printed by then.
+fn input_stops(
+    rt: &HostRuntime,
+    asked: Asked,
+    bytes: &[u8],
+    place: usize,
+    printed: &[u8],
+) -> Result<bool, Fail> {
+    let system = System::new(rt, AMPLE);
+    let request = request_of(rt.alloc(), asked)?;
+    let mut input = BrokenInput::new(bytes, place);
+    let mut out = Vec::new(rt.alloc());
+    let mut err = Vec::new(rt.alloc());
+    let status = attempt(
+        &system,
+        rt.alloc(),
+        request,
+        &mut input,
+        &mut out,
+        &mut err,
+        NOBODY,
+    );
+    Ok(
+        status == Status::DeviceFailed
+            && out.as_slice() == printed
+            && err.as_slice() == INPUT_FAILED
+            && (input.failures, input.later_reads) == (1, 0),
+    )
+}
+
+#[test]
+fn standard_input_fails(rt: HostRuntime) -> Result<(), Fail> {
+    assert!(rt; input_stops(&rt, Asked::CheckInput, &ONE_WORD, 0, &[])?);
+    for (place, _) in KEYS.iter().enumerate() {
+        // Digits are echoed, so what was read is what was answered.
+        let answered = KEYS.get(..place).unwrap_or_default();
+        let stops = input_stops(&rt, Asked::Type, KEYS, place, answered)?;
+        assert!(rt; stops, "before key {place}");
+    }
+    Ok(())
+}
+
+/// What is asked for, what stands on standard input, and how many reads the console behind the port answers.
+type Row = (Asked, &'static [u8], u32);
+
+/// Requests that print. The last is a load whose line fails before its report does.
+const PRINTING: [Row; 4] = [
+    (Asked::CheckInput, &ONE_WORD, 0),
+    (Asked::Type, KEYS, 0),
+    (Asked::Load, &[], 1_000_000),
+    (Asked::Load, &[], 3),
+];
+
+/// Whether a request says that this output fails, and nothing else.
+fn is_told_alone<W: Write>(rt: &HostRuntime, row: &Row, out: &mut W) -> Result<bool, Fail> {
+    let (asked, mut input, reads) = *row;
+    let system = System::new(rt, Setting { reads, ..AMPLE });
+    let request = request_of(rt.alloc(), asked)?;
+    let mut err = Vec::new(rt.alloc());
+    let status = attempt(
+        &system,
+        rt.alloc(),
+        request,
+        &mut input,
+        out,
+        &mut err,
+        NOBODY,
+    );
+    Ok(status == Status::DeviceFailed && err.as_slice() == OUTPUT_FAILED)
+}
+
+#[test]
+fn standard_output_fails(rt: HostRuntime) -> Result<(), Fail> {
+    fs::write(&rt, TAPE, ONE_WORD)?;
+    for (place, row) in PRINTING.iter().enumerate() {
+        let mut broken = BrokenOutput::new(Vec::new(rt.alloc()), 1);
+        assert!(rt; is_told_alone(&rt, row, &mut broken)?, "row {place}");
+        let asked = (broken.failures, broken.later_writes, broken.written.len());
+        assert!(rt; asked == (1, 0, 0), "row {place}");
+        let is_told = is_told_alone(&rt, row, &mut UnflushedOutput)?;
+        assert!(rt; is_told, "row {place}, at the flush");
+    }
+    Ok(fs::remove_file(&rt, TAPE)?)
+}

@@ -5,9 +5,8 @@
 
 mod command_line;
 mod program;
-mod words;
 
-use requests::tell;
+use requests::{tell, words_of};
 use std::fs;
 use std::fs::File;
 use std::io::IsTerminal;
@@ -20,7 +19,7 @@ fn main(rt: HostRuntime) -> ExitCode {
     let mut input = rt.stdin();
     let mut out = rt.stdout();
     let mut err = rt.stderr();
-    let words = match words::words_of(&rt) {
+    let words = match words_of(&rt) {
         Ok(words) => words,
         Err(failure) => return ExitCode::from(tell(alloc, failure, &mut err).code()),
     };

@@ -5,13 +5,12 @@ ghost use Rattle.requests.specs.declared.request.Request.{Request};
 ghost use Rattle.requests.specs.declared.status.Status.{Status};
 ghost use Rattle.requests.specs.Attempt.{IsAttempted};
 ghost use Rattle.requests.specs.Status.{status_code};
-ghost use Rattle.load_command.specs.Answer.{IsAnswered, IsExplained, WritesSome};
+ghost use Rattle.load_command.specs.Answer.{IsAnswered, IsExplained};
 
 use crate::command_line::{NoRequest, parse};
 use clap::Error;
 use clap::error::ErrorKind;
-use command_io::write_whole;
-use requests::{Failure, Status, attempt, tell};
+use requests::{Failure, Status, attempt, refuse, show, tell};
 use std::alloc::Global;
 use std::io::{Print, Read, Write};
 use std::net::Net;
@@ -78,26 +77,3 @@ fn explain<W: Write, E: Write>(alloc: Global, error: Error, out: &mut W, err: &m
         _ => refuse(&text, err),
     }
 }
-
-/// Prints a text that was asked for.
-fn show<W: Write, E: Write>(alloc: Global, text: &str, out: &mut W, err: &mut E) -> Status
-    ensures { IsExplained (W.contents out.old) (W.contents out.new) (E.contents err.old) (E.contents err.new) result }
-{
-    if write_whole(out, text.as_bytes()).is_ok() && out.flush().is_ok() {
-        Status::Done
-    } else {
-        tell(alloc, Failure::CannotWrite, err)
-    }
-}
-
-/// Says what is wrong with the words, in one write.
-fn refuse<E: Write>(text: &str, err: &mut E) -> Status
-    ensures written { WritesSome (E.contents err.old) (E.contents err.new) }
-    ensures status { result ≡ Status.BadCommandLine }
-{
-    let _ = write_whole(err, text.as_bytes());
-    Status::BadCommandLine
-}
-
-#[cfg(test)]
-mod tests;

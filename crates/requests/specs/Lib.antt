@@ -1,3 +1,4 @@
 pub mod Attempt
+pub mod Explained
 pub mod Failure
 pub mod Status

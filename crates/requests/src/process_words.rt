@@ -2,13 +2,14 @@
 ghost use Rattle.std.specs.Prelude.{◌≡◌, ◌≢◌};
 ghost use Rattle.std.specs.IoError.{error_kind};
 
-use requests::Failure;
+use crate::failure::Failure;
 use std::alloc::AllocGlobal;
 use std::io::ErrorKind;
 use std::rt::Env;
 use std::{env, io};
 
-/// The words after the program's name, or why they can't be had.
+/// The words after the program's name, or why they can't be had: `BadWord` where one of them is not
+/// UTF-8, `NoMemory` where a growth was refused.
 pub fn words_of<R: Env + AllocGlobal>(rt: &R) -> Result<Vec<String>, Failure<'static>> {
     let all = match env::args(rt) {
         Ok(all) => all,
@@ -33,6 +34,3 @@ fn failure_of(error: &io::Error) -> Failure<'static>
         _ => Failure::NoMemory,
     }
 }
-
-#[cfg(test)]
-mod tests;

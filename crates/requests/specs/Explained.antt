@@ -1,0 +1,15 @@
+-- What becomes of words that ask for nothing to be done (this project's own).
+use Rattle.std.specs.Prelude.{◌≡◌, ℕ, List}
+use Rattle.std.specs.Io.KnownBytes.{Appends}
+use Rattle.command_io.specs.Output.{WritesFront}
+use Rattle.requests.specs.Attempt.{Known}
+use Rattle.requests.specs.Failure.{IsTold}
+use Rattle.requests.specs.declared.failure.Failure.TheVariants as failure
+use Rattle.requests.specs.declared.status.Status.{Status}
+use Rattle.requests.specs.declared.status.Status.TheVariants.{Done, DeviceFailed}
+
+-- a text that was asked for is shown: it is printed whole; or it can't be printed, and standard error says so
+abbrev pub IsShown : List ℕ → Known → Known → Known → Known → Status → Type 0
+IsShown text out out' err err' Done = Appends out out' text × (err' ≡ err)
+IsShown text out out' err err' DeviceFailed = WritesFront out out' text × IsTold err err' failure.CannotWrite
+IsShown text out out' err err' other = ⊥

@@ -10,11 +10,11 @@ use Rattle.load_devices.specs.declared.fault.KeepFault.TheVariants.{Write}
 use Rattle.load_record.specs.declared.version.Version.TheVariants.{Second}
 use Rattle.load_record.specs.declared.run.OpenRun.{OpenRun}
 use Rattle.command_io.specs.declared.output.WriteFailed.{WriteFailed}
-use Rattle.command_io.specs.Output.{WritesFront}
+use Rattle.command_io.specs.Output.{WritesPrefix}
 use Rattle.load_record.specs.Keeper.{Keeper, Wrote, Failed, HoldsRecord}
 use Rattle.load_record.specs.RecordText.{second_piece, second_run, words_text}
 use Rattle.load_record.proofs.Pieces.{words_text-more, open_run-more}
-use Rattle.command_io.proofs.Fronts.{front_whole}
+use Rattle.command_io.proofs.Fronts.{front_prefix, front_whole}
 use Rattle.load_record.proofs.Writing.{Appends-kept, front_kept, no_front}
 
 -- what a call answers, and how it leaves the count
@@ -39,13 +39,13 @@ failed_before before after (Err fault) text had counts kept =
 
 -- a call whose write failed, or whose flush
 pub failed_now : (before after : Keeper) (between : Option (List ℕ)) (written : Result (Option OpenRun) WriteFailed) (result : Result (Unit {0}) KeepFault) (text : List ℕ) (run : Option OpenRun)
-    → before.failures ≤ 0 → IfOk written (λ now_open. (now_open ≡ run) × Appends before.text between text) → OnErr written (WritesFront before.text between text)
+    → before.failures ≤ 0 → IfOk written (λ now_open. (now_open ≡ run) × Appends before.text between text) → OnErr written (WritesPrefix before.text between text)
     → Keeps between after.text → Counts before after result → FailsAs before after result text
 failed_now before after between written (Ok x) text run none ok err kept counts = tt
 failed_now before after between (Ok now_open) (Err fault) text run none ok err kept counts =
     (counts.0, record { counted = counts.1; part = front_whole before.text after.text text (Appends-kept before.text between after.text text ok.1 kept); silent = λ had. absurd (omega arith) })
 failed_now before after between (Err failed) (Err fault) text run none ok err kept counts =
-    (counts.0, record { counted = counts.1; part = front_kept before.text between after.text text err kept; silent = λ had. absurd (omega arith) })
+    (counts.0, record { counted = counts.1; part = front_kept before.text between after.text text (front_prefix before.text between text err) kept; silent = λ had. absurd (omega arith) })
 
 -- a call that wrote its text
 pub wrote_now : (before after : Keeper) (between : Option (List ℕ)) (written : Result (Option OpenRun) WriteFailed) (result : Result (Unit {0}) KeepFault) (text : List ℕ) (run : Option OpenRun)

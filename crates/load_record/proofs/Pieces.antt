@@ -1,6 +1,6 @@
 -- The pieces of a record, as they are put together to be written.
-use Rattle.std.proofs.Common.{◌≡◌, ℕ, ◌+◌, ◌-◌, ◌<◌, true, false, cond, List, [], ◌∷◌, ◌++◌, length, get_or, take, drop, take-append-drop, Option, Some, None, ap, sym, refl, ◌∙◌, subst, append_assoc, append-nil}
-use Rattle.std.proofs.lemmas.List.{take_rest, take_more, drop_more}
+use Rattle.std.proofs.Common.{◌≡◌, ℕ, ◌+◌, ◌-◌, ◌<◌, true, false, cond, List, [], ◌∷◌, ◌++◌, length, get_or, take, drop, take-append-drop, Option, Some, None, arith, ap, sym, refl, ◌∙◌, subst, append_assoc, append-nil}
+use Rattle.std.proofs.lemmas.List.{length-append, take_rest, take_more, drop_more}
 use Rattle.std.proofs.lemmas.Option.{slice_get_within, get_or_from_slice_get}
 use Rattle.std.specs.List.{slice_get}
 use Rattle.std.proofs.KnownBytes.{Appends-trans}
@@ -10,8 +10,8 @@ use Rattle.tape_image.specs.Plan.{PlanValue}
 use Rattle.load_record.specs.declared.version.Version.{Version}
 use Rattle.load_record.specs.declared.version.Version.TheVariants.{Second}
 use Rattle.load_record.specs.declared.run.OpenRun.{OpenRun}
-use Rattle.command_io.specs.Output.{WritesFront}
-use Rattle.command_io.proofs.Fronts.{front_longer, front_behind}
+use Rattle.command_io.specs.Output.{WritesPrefix}
+use Rattle.command_io.proofs.Fronts.{prefix_behind}
 use Rattle.load_record.specs.Lines.{header, half_line, value_text, run_text, is_full}
 use Rattle.load_record.specs.RecordText.{ending, joins, begun_text, second_piece, second_run, piece, run_after, pieces, run_over, open_run, words_text}
 
@@ -77,13 +77,21 @@ pieces_around words i w run within at now_open =
     ∙ pieces-append Second None (take i words) (w ∷ drop (i + 1) words)
     ∙ ap (λ r. pieces Second None (take i words) ++ (second_piece r w ++ pieces Second (second_run r w) (drop (i + 1) words))) (sym now_open)
 
+-- a prefix of a text is one of a longer text
+prefix_more : (before after : Option (List ℕ)) (text more : List ℕ) → WritesPrefix before after text → WritesPrefix before after (text ++ more)
+prefix_more before after text more (left, missing, w) = (
+  left ++ more,
+  omega (arith, length-append left more, missing),
+  record { written = w.written; whole = ap (λ l. l ++ more) w.whole ∙ append_assoc w.written left more; appended = w.appended },
+)
+
 -- a word of some words failed
-pub words_front : (words : List WordValue) (i : ℕ) (w : WordValue) (run : Option OpenRun) (a b c : Option (List ℕ)) → i < length words → w ≡ get_or words i w → run ≡ run_over Second None (take i words)
-    → Appends a b (pieces Second None (take i words)) → WritesFront b c (second_piece run w) → WritesFront a c (pieces Second None words)
-words_front words i w run a b c within at now_open before part =
-    subst (WritesFront a c) (sym (pieces_around words i w run within at now_open))
-    (front_behind a b c (pieces Second None (take i words)) (second_piece run w ++ pieces Second (second_run run w) (drop (i + 1) words)) before
-    (front_longer b c (second_piece run w) (pieces Second (second_run run w) (drop (i + 1) words)) part))
+pub words_prefix : (words : List WordValue) (i : ℕ) (w : WordValue) (run : Option OpenRun) (a b c : Option (List ℕ)) → i < length words → w ≡ get_or words i w → run ≡ run_over Second None (take i words)
+    → Appends a b (pieces Second None (take i words)) → WritesPrefix b c (second_piece run w) → WritesPrefix a c (pieces Second None words)
+words_prefix words i w run a b c within at now_open before part =
+    subst (WritesPrefix a c) (sym (pieces_around words i w run within at now_open))
+    (prefix_behind a b c (pieces Second None (take i words)) (second_piece run w ++ pieces Second (second_run run w) (drop (i + 1) words)) before
+    (prefix_more b c (second_piece run w) (pieces Second (second_run run w) (drop (i + 1) words)) part))
 
 -- one word more is written
 pub words_more : (words : List WordValue) (i : ℕ) (w : WordValue) (run after : Option OpenRun) (a b c : Option (List ℕ)) → i < length words → w ≡ get_or words i w
@@ -103,17 +111,17 @@ begin_text run plan k =
     append_assoc (ending run) (header Second ++ 10 ∷ []) (pieces Second None (take k plan.words)) ∙ ap (λ l. ending run ++ l) (sym (words_text-of plan k))
 
 -- the header failed
-pub header_front : (run : Option OpenRun) (plan : PlanValue) (k : ℕ) (a b : Option (List ℕ)) → WritesFront a b (ending run ++ (header Second ++ 10 ∷ []))
-    → WritesFront a b (ending run ++ words_text Second plan k)
-header_front run plan k a b part =
-    subst (WritesFront a b) (begin_text run plan k) (front_longer a b (ending run ++ (header Second ++ 10 ∷ [])) (pieces Second None (take k plan.words)) part)
+pub header_prefix : (run : Option OpenRun) (plan : PlanValue) (k : ℕ) (a b : Option (List ℕ)) → WritesPrefix a b (ending run ++ (header Second ++ 10 ∷ []))
+    → WritesPrefix a b (ending run ++ words_text Second plan k)
+header_prefix run plan k a b part =
+    subst (WritesPrefix a b) (begin_text run plan k) (prefix_more a b (ending run ++ (header Second ++ 10 ∷ [])) (pieces Second None (take k plan.words)) part)
 
 -- the words behind the header failed
-pub begin_front : (run : Option OpenRun) (plan : PlanValue) (k : ℕ) (words : List WordValue) (a b c : Option (List ℕ)) → words ≡ take k plan.words
-    → Appends a b (ending run ++ (header Second ++ 10 ∷ [])) → WritesFront b c (pieces Second None words) → WritesFront a c (ending run ++ words_text Second plan k)
-begin_front run plan k words a b c these head part =
-    subst (WritesFront a c) (ap (λ l. (ending run ++ (header Second ++ 10 ∷ [])) ++ pieces Second None l) these ∙ begin_text run plan k)
-    (front_behind a b c (ending run ++ (header Second ++ 10 ∷ [])) (pieces Second None words) head part)
+pub begin_prefix : (run : Option OpenRun) (plan : PlanValue) (k : ℕ) (words : List WordValue) (a b c : Option (List ℕ)) → words ≡ take k plan.words
+    → Appends a b (ending run ++ (header Second ++ 10 ∷ [])) → WritesPrefix b c (pieces Second None words) → WritesPrefix a c (ending run ++ words_text Second plan k)
+begin_prefix run plan k words a b c these head part =
+    subst (WritesPrefix a c) (ap (λ l. (ending run ++ (header Second ++ 10 ∷ [])) ++ pieces Second None l) these ∙ begin_text run plan k)
+    (prefix_behind a b c (ending run ++ (header Second ++ 10 ∷ [])) (pieces Second None words) head part)
 
 -- header and words are written
 pub begin_whole : (run now_open : Option OpenRun) (plan : PlanValue) (k : ℕ) (words : List WordValue) (a b c : Option (List ℕ)) → words ≡ take k plan.words

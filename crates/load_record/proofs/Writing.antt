@@ -3,7 +3,6 @@ use Rattle.std.proofs.Common.{◌≡◌, ℕ, List, [], Option, Some, None, refl
 use Rattle.std.proofs.KnownBytes.{Appends-nil}
 use Rattle.std.specs.Io.KnownBytes.{Appends, Keeps}
 use Rattle.command_io.specs.Output.{WritesFront, WritesPrefix}
-use Rattle.command_io.proofs.Fronts.{front_prefix}
 
 -- what was written stays
 pub Appends-kept : (a b c : Option (List ℕ)) (text : List ℕ) → Appends a b text → Keeps b c → Appends a c text
@@ -48,6 +47,6 @@ pub on_ok_map : {T E : Type 0} (r : Result T E) (P Q : Type 0) → (P → Q) →
 on_ok_map (Ok x) P Q f p = f p
 on_ok_map (Err e) P Q f p = tt
 
--- a prefix of an equal text is a front
-pub err_same : {T E : Type 0} (r : Result T E) (a b : Option (List ℕ)) (text other : List ℕ) → text ≡ other → OnErr r (WritesPrefix a b text) → OnErr r (WritesFront a b other)
-err_same r a b text other e h = on_err_map r (WritesPrefix a b text) (WritesFront a b other) (λ part. subst (WritesFront a b) e (front_prefix a b text part)) h
+-- a prefix of an equal text
+pub err_same : {T E : Type 0} (r : Result T E) (a b : Option (List ℕ)) (text other : List ℕ) → text ≡ other → OnErr r (WritesPrefix a b text) → OnErr r (WritesPrefix a b other)
+err_same r a b text other e h = subst (λ l. OnErr r (WritesPrefix a b l)) e h

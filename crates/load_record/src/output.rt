@@ -2,7 +2,7 @@
 ghost use Rattle.std.specs.Prelude.{◌≡◌, ℕ, ◌≤◌, List, ◌++◌, [], ◌∷◌, drop, OnErr, OnOk, IfOk, None};
 ghost use Rattle.std.specs.Io.KnownBytes.{Appends, Keeps};
 ghost use Rattle.load_record.specs.declared.version.Version.TheVariants.{Second};
-ghost use Rattle.command_io.specs.Output.{WritesFront};
+ghost use Rattle.command_io.specs.Output.{WritesPrefix};
 ghost use Rattle.load_record.specs.RecordText.{ending, joins, mark_text, open_run, pieces, run_over, second_piece, second_run, words_text};
 
 use crate::line::{ended_half_line, ended_run_text, value_text};
@@ -20,7 +20,7 @@ pub(crate) fn write_begin<W: Write>(
     verified: u32,
 ) -> Result<Option<OpenRun>, WriteFailed>
     ensures ok { IfOk result (λ now_open. (now_open ≡ open_run Second plan.now verified) × Appends (W.contents out.old) (W.contents out.new) (ending run ++ words_text Second plan.now verified)) }
-    ensures err { OnErr result (WritesFront (W.contents out.old) (W.contents out.new) (ending run ++ words_text Second plan.now verified)) }
+    ensures err { OnErr result (WritesPrefix (W.contents out.old) (W.contents out.new) (ending run ++ words_text Second plan.now verified)) }
 {
     write_whole(out, &b"\nLDAODT 2\n"[front_of_line(run)..])?;
     let words = plan.words();
@@ -32,7 +32,7 @@ pub(crate) fn write_begin<W: Write>(
 /// stands open then.
 fn write_words<W: Write>(out: &mut W, words: &[Word]) -> Result<Option<OpenRun>, WriteFailed>
     ensures ok { IfOk result (λ now_open. (now_open ≡ run_over Second None words.now) × Appends (W.contents out.old) (W.contents out.new) (pieces Second None words.now)) }
-    ensures err { OnErr result (WritesFront (W.contents out.old) (W.contents out.new) (pieces Second None words.now)) }
+    ensures err { OnErr result (WritesPrefix (W.contents out.old) (W.contents out.new) (pieces Second None words.now)) }
 {
     let mut run = None;
     for word in words {
@@ -48,7 +48,7 @@ pub(crate) fn write_word<W: Write>(
     word: Word,
 ) -> Result<Option<OpenRun>, WriteFailed>
     ensures ok { IfOk result (λ now_open. (now_open ≡ second_run run word) × Appends (W.contents out.old) (W.contents out.new) (second_piece run word)) }
-    ensures err { OnErr result (WritesFront (W.contents out.old) (W.contents out.new) (second_piece run word)) }
+    ensures err { OnErr result (WritesPrefix (W.contents out.old) (W.contents out.new) (second_piece run word)) }
 {
     write_piece(out, run, word)?;
     Ok(run_after(run, word))
@@ -80,7 +80,7 @@ fn joins(run: Option<OpenRun>, word: Word) -> bool
 /// the end of that, the beginning of a run line, or a whole line.
 fn write_piece<W: Write>(out: &mut W, run: Option<OpenRun>, word: Word) -> Result<(), WriteFailed>
     ensures ok { OnOk result (Appends (W.contents out.old) (W.contents out.new) (second_piece run word)) }
-    ensures err { OnErr result (WritesFront (W.contents out.old) (W.contents out.new) (second_piece run word)) }
+    ensures err { OnErr result (WritesPrefix (W.contents out.old) (W.contents out.new) (second_piece run word)) }
 {
     if joins(run, word) {
         return write_whole(out, &value_text(word));
@@ -99,7 +99,7 @@ pub(crate) fn write_mark<W: Write>(
     run: Option<OpenRun>,
 ) -> Result<Option<OpenRun>, WriteFailed>
     ensures ok { IfOk result (λ now_open. (now_open ≡ None) × Appends (W.contents out.old) (W.contents out.new) (mark_text run)) }
-    ensures err { OnErr result (WritesFront (W.contents out.old) (W.contents out.new) (mark_text run)) }
+    ensures err { OnErr result (WritesPrefix (W.contents out.old) (W.contents out.new) (mark_text run)) }
 {
     write_whole(out, &b"\nG\n"[front_of_line(run)..])?;
     Ok(None)

@@ -11,9 +11,9 @@ use Rattle.machine_load.specs.declared.begin_fault.BeginFault.{BeginFault}
 use Rattle.machine_load.specs.declared.begin_fault.BeginFault.TheVariants as begin
 use Rattle.command_io.specs.Output.{WritesAllBut}
 use Rattle.machine_load.specs.Load.{IsRecordText, IsCutShort}
-use Rattle.machine_load.specs.Step.{Step, ReadRecord, Connect, BeginRecord}
+use Rattle.machine_load.specs.Step.{Step, ReadRecord, Connect, NotRead, NotConnected, NotBegun}
 use Rattle.machine_load.specs.declared.fault.LoadFault.{LoadFault}
-use Rattle.machine_load.specs.declared.fault.LoadFault.TheVariants.{Record, ReadRecord as RecordNotRead, Connect as NotConnected, WriteRecord, WriteOutput, Memory}
+use Rattle.machine_load.specs.declared.fault.LoadFault.TheVariants.{Record, ReadRecord as RecordNotRead, Connect as LineNotConnected, WriteRecord, WriteOutput, Memory}
 
 -- the record's text says no progress of the plan, for this reason
 pub record IsRefusedRecord (record_told : Option (List ℕ)) (plan : PlanValue) (why : RecordError) : Type 0 where
@@ -30,19 +30,19 @@ abbrev pub fault_of_begin : BeginFault → LoadFault
 fault_of_begin (begin.Keep fault) = WriteRecord
 fault_of_begin begin.Memory = Memory
 
--- how a life fails to open: its record can't be read, or is refused
-abbrev pub IsOpeningFault : Option (List ℕ) → PlanValue → LoadFault → Type 0
-IsOpeningFault told plan RecordNotRead = ⊤
-IsOpeningFault told plan (Record why) = IsRefusedRecord told plan why
-IsOpeningFault told plan Memory = ⊤
-IsOpeningFault told plan NotConnected = ⊥
-IsOpeningFault told plan WriteRecord = ⊥
-IsOpeningFault told plan WriteOutput = ⊥
+-- how a life fails to open: its record can't be read, or is read and refused
+abbrev pub IsOpeningFault : Option (List Step) → Option (List Step) → Option (List ℕ) → PlanValue → LoadFault → Type 0
+IsOpeningFault steps steps' told plan RecordNotRead = Gains steps steps' (NotRead ∷ [])
+IsOpeningFault steps steps' told plan (Record why) = Gains steps steps' (ReadRecord ∷ []) × IsRefusedRecord told plan why
+IsOpeningFault steps steps' told plan Memory = ⊤
+IsOpeningFault steps steps' told plan LineNotConnected = ⊥
+IsOpeningFault steps steps' told plan WriteRecord = ⊥
+IsOpeningFault steps steps' told plan WriteOutput = ⊥
 
 -- how an opened life comes to no line or no record: without a connection the record is as it was
 abbrev pub IsDrivingFault : Option (List Step) → Option (List Step) → Option (List ℕ) → Option (List ℕ) → LoadFault → Type 0
-IsDrivingFault steps steps' told told' NotConnected = Gains steps steps' (Connect ∷ []) × Untouched told told'
-IsDrivingFault steps steps' told told' WriteRecord = Gains steps steps' (Connect ∷ BeginRecord ∷ [])
+IsDrivingFault steps steps' told told' LineNotConnected = Gains steps steps' (NotConnected ∷ []) × Untouched told told'
+IsDrivingFault steps steps' told told' WriteRecord = Gains steps steps' (Connect ∷ NotBegun ∷ [])
 IsDrivingFault steps steps' told told' Memory = ⊤
 IsDrivingFault steps steps' told told' RecordNotRead = ⊥
 IsDrivingFault steps steps' told told' (Record why) = ⊥
@@ -54,7 +54,7 @@ IsReportFault out out' report WriteOutput = (missing : List ℕ) × WritesAllBut
 IsReportFault out out' report Memory = ⊤
 IsReportFault out out' report RecordNotRead = ⊥
 IsReportFault out out' report (Record why) = ⊥
-IsReportFault out out' report NotConnected = ⊥
+IsReportFault out out' report LineNotConnected = ⊥
 IsReportFault out out' report WriteRecord = ⊥
 
 -- so far was gone, with nothing reported, and with the record as it was
@@ -66,9 +66,9 @@ pub record StopsAfter (steps steps_after : Option (List Step)) (record_told reco
 -- how a load comes to nothing: a record that can't be read or is refused comes before the connection, a connection that can't be
 -- made before the record is touched, a record that can't be written before the first key, a report that can't be written last
 abbrev pub IsLoadFault : PlanValue → ℕ → Option (List Step) → Option (List Step) → Option (List ℕ) → Option (List ℕ) → Option (List ℕ) → Option (List ℕ) → LoadFault → Type 0
-IsLoadFault plan patience steps steps' told told' out out' RecordNotRead = StopsAfter steps steps' told told' out out' (ReadRecord ∷ [])
+IsLoadFault plan patience steps steps' told told' out out' RecordNotRead = StopsAfter steps steps' told told' out out' (NotRead ∷ [])
 IsLoadFault plan patience steps steps' told told' out out' (Record why) = StopsAfter steps steps' told told' out out' (ReadRecord ∷ []) × IsRefusedRecord told plan why
-IsLoadFault plan patience steps steps' told told' out out' NotConnected = StopsAfter steps steps' told told' out out' (ReadRecord ∷ Connect ∷ [])
-IsLoadFault plan patience steps steps' told told' out out' WriteRecord = Gains steps steps' (ReadRecord ∷ Connect ∷ BeginRecord ∷ []) × Untouched out out'
+IsLoadFault plan patience steps steps' told told' out out' LineNotConnected = StopsAfter steps steps' told told' out out' (ReadRecord ∷ NotConnected ∷ [])
+IsLoadFault plan patience steps steps' told told' out out' WriteRecord = Gains steps steps' (ReadRecord ∷ Connect ∷ NotBegun ∷ []) × Untouched out out'
 IsLoadFault plan patience steps steps' told told' out out' WriteOutput = IsCutShort told plan patience steps steps' told' out out'
 IsLoadFault plan patience steps steps' told told' out out' Memory = ⊤

@@ -62,8 +62,8 @@ fn open<S: Surroundings>(
     around: &mut S,
 ) -> Result<HostCore, LoadFault>
     ensures opened { IfOk result (IsOpening (S.record_text around.old) plan patience) }
-    ensures fault { IfErr result (IsOpeningFault (S.record_text around.old) plan) }
-    ensures step { Gains (S.steps around.old) (S.steps around.new) (ReadRecord ∷ []) }
+    ensures step { OnOk result (Gains (S.steps around.old) (S.steps around.new) (ReadRecord ∷ [])) }
+    ensures fault { IfErr result (IsOpeningFault (S.steps around.old) (S.steps around.new) (S.record_text around.old) plan) }
     ensures same { Keeps (S.record_text around.old) (S.record_text around.new) }
 {
     let record = around.read_record(alloc)?;

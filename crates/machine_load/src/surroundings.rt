@@ -2,7 +2,7 @@ ghost use Rattle.std.specs.Prelude.{ℕ, List, [], ◌∷◌, Option, None, IfOk
 ghost use Rattle.std.specs.Io.KnownBytes.{Keeps};
 ghost use Rattle.load_devices.specs.Told.{Gains};
 ghost use Rattle.machine_load.specs.Load.{IsBegun, IsRecordText};
-ghost use Rattle.machine_load.specs.Step.{Step, ReadRecord, Connect, BeginRecord};
+ghost use Rattle.machine_load.specs.Step.{Step, read_step, connect_step, begin_step};
 
 use crate::begin_fault::BeginFault;
 use command_io::InputFault;
@@ -19,7 +19,7 @@ pub trait Surroundings {
     /// Who keeps the progress of the life that begins.
     type Keeper: Keep + Drop;
 
-    /// What was asked so far, in its order; None where the type doesn't tell.
+    /// What was asked so far, in its order, with what was answered; None where the type doesn't tell.
     ghost steps: { Self → Option (List Step) } = { λ _. None };
 
     /// What the record is; None where the type doesn't tell.
@@ -27,13 +27,13 @@ pub trait Surroundings {
 
     /// The record of earlier lives: no bytes where there is none.
     fn read_record(&mut self, alloc: Global) -> Result<Vec<u8>, InputFault>
-        ensures step { Gains (steps self.old) (steps self.new) (ReadRecord ∷ []) }
+        ensures step { Gains (steps self.old) (steps self.new) (read_step result ∷ []) }
         ensures text { IfOk result (λ bytes. IsRecordText (record_text self.old) bytes.items) }
         ensures same { Keeps (record_text self.old) (record_text self.new) };
 
     /// A connection to the console.
     fn connect(&mut self) -> Result<Self::Line, LineFault>
-        ensures step { Gains (steps self.old) (steps self.new) (Connect ∷ []) }
+        ensures step { Gains (steps self.old) (steps self.new) (connect_step result ∷ []) }
         ensures same { Keeps (record_text self.old) (record_text self.new) };
 
     /// Writes the record anew, with the first verified words of the plan, and keeps it from there on.
@@ -43,6 +43,6 @@ pub trait Surroundings {
         plan: &Plan,
         verified: u32,
     ) -> Result<Self::Keeper, BeginFault>
-        ensures step { Gains (steps self.old) (steps self.new) (BeginRecord ∷ []) }
+        ensures step { Gains (steps self.old) (steps self.new) (begin_step result ∷ []) }
         ensures begun { OnOk result (IsBegun (record_text self.new) plan.now verified) };
 }

@@ -1,4 +1,4 @@
-use Rattle.load_record.proofs.Pieces.{words_front, words_more}
+use Rattle.load_record.proofs.Pieces.{words_prefix, words_more}
 use Rattle.load_record.proofs.Writing.{on_err}
 use Rattle.load_record.proofs.output.write_words.Goals as goal
 
@@ -9,4 +9,4 @@ loop-word-preserved g c =
 pub returns-in_err-run-clause-err : goal.returns-in_err-run-clause-err
 returns-in_err-run-clause-err g c =
     on_err c.from_residual.result _
-    (words_front c.args.words.now c.loop-word.word-index c.word-item.result c.loop-word.run _ _ _ c.loop-word-test.true c.word-item.is c.loop-word.invariant.0 c.loop-word.invariant.1 c.in_err-run.ensures.err)
+    (words_prefix c.args.words.now c.loop-word.word-index c.word-item.result c.loop-word.run _ _ _ c.loop-word-test.true c.word-item.is c.loop-word.invariant.0 c.loop-word.invariant.1 c.in_err-run.ensures.err)

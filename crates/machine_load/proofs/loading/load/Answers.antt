@@ -11,7 +11,7 @@ returns-in_err-tell-clause-fault g c =
     (of_report _ _ _ _ _ _ _ _ c.in_ok-core-2.core c.in_ok-core-2.stop c.in_err-tell.field-0.0 (record {
       first = c.in_ok-core.core;
       steps_between = _;
-      read_first = c.open.ensures.step;
+      read_first = c.in_ok-core.ensures.step;
       opened = c.in_ok-core.ensures.opened;
       life = c.in_ok-core-2.ensures.life;
     }) c.in_err-tell.ensures.err)
@@ -22,7 +22,7 @@ returns-clause-reported g c = record {
   load = record {
     first = c.in_ok-core.core;
     steps_between = _;
-    read_first = c.open.ensures.step;
+    read_first = c.in_ok-core.ensures.step;
     opened = c.in_ok-core.ensures.opened;
     life = c.in_ok-core-2.ensures.life;
   };

@@ -18,8 +18,8 @@ TAPES = {
     "bad-sum.lda": f"{TOP}/examples/refused/bad-sum.lda",
 }
 
-# A silence long enough for a console on this computer.
-QUIET = 100
+# A silence long enough for a console on this computer, also on one that is busy.
+QUIET = 200
 
 
 class Console(odt_peer.Machine):

@@ -262,20 +262,20 @@ class Records(Loads):
             self.was_typed(peer, "")
 
     def test_a_disk_that_becomes_full(self):
-        """The header has nine bytes, the first word's 13 have no room, and the start's key is not sent: 1 + 22 keys."""
-        for size, record, sent, keys in (
-            (9, "LDAODT 2\n", 23, WHOLE[:23]),
-            (15, "LDAODT 2\n001000", 23, WHOLE[:23]),
-            (22, VERIFIED[:-1], 29, WHOLE[:29]),
-            (24, VERIFIED + "G", 29, WHOLE[:29]),
-        ):
+        """What can't be kept isn't acted upon: the key that was due is counted, and not sent.
+
+        The header has nine bytes, the word's line 13 and its end, and the mark two. The word is kept when it was read
+        back, before the CR that closes it, so after 22 keys; the mark before `G`, so after 29.
+        """
+        for size, record, keys in ((9, "LDAODT 2\n", 22), (15, "LDAODT 2\n001000", 22), (22, VERIFIED[:-1], 29), (24, VERIFIED + "G", 29)):
             peer = self.console_at(Console())
             with self.subTest(size):
                 given = self.recorded(peer, file_size=size)
-                self.ends(given, 4, f"sent {sent} spent 0 verified 1 of 1\nend KeepFailed\n", "ldaodt: cannot write a.record\n")
+                report = f"sent {keys + 1} spent 0 verified 1 of 1\nend KeepFailed\n"
+                self.ends(given, 4, report, "ldaodt: cannot write a.record\n")
                 self.holds({"a.record": record})
-                self.was_typed(peer, keys)
-                os.remove(self.path("a.record"))
+                self.was_typed(peer, WHOLE[:keys])
+            os.remove(self.path("a.record"))
 
     def test_a_record_is_replaced_by_a_new_file(self):
         """It keeps its permissions. What a killed load left beside it is taken away."""

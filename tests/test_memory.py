@@ -10,26 +10,42 @@ import unittest
 from concurrent.futures import ProcessPoolExecutor
 
 from common import Case
-from outside import FIRST, Answer, bytes_of, run, sweep
+from outside import FIRST, block, bytes_of, run, sweep
 
+# Words of a large tape, which is loaded at 001000 and starts there: more than what the program has room for at once.
+LARGE = [(0o1000 + 2 * place, 0o12345 + place) for place in range(5000)]
+
+# The records say that the start was typed in an earlier life.
 FILES = {
-    "scarce.lda": bytes_of(FIRST),
-    "scarce.script": b"clean",
-    "scarce.record": b"LDAODT 2\n001000 011064\nG\n",
+    "small.lda": bytes_of(FIRST),
+    "small.script": b"clean",
+    "small.record": b"LDAODT 2\n001000 011064\nG\n",
+    "large.lda": block(0o1000, b"".join(value.to_bytes(2, "little") for _, value in LARGE)) + block(0o1000, b""),
+    "full.lda": block(0, b"\x55" * 57344) + block(0, b""),
+    "large.script": b"# nothing\n" * 20000 + b"clean",
+    "large.record": "".join(["LDAODT 1\n", *(f"{address:06o} 177777 {value:06o}\n" for address, value in LARGE), "G\n"]).encode(),
 }
 
 # Words for each command, for help and for a refusal, what stands on standard input, and the status with ample memory.
 # Nothing is connected to: one load has its end already, to the other nobody answers.
 LINES = (
-    ("", bytes_of(FIRST), 0),
-    ("check scarce.lda scarce.lda", b"", 0),
-    ("dialogue scarce.lda --words 512", b"", 0),
-    ("rehearse scarce.lda scarce.script", b"", 0),
+    ("", FILES["small.lda"], 0),
+    ("", FILES["large.lda"], 0),
+    ("check small.lda small.lda", b"", 0),
+    ("check large.lda large.lda", b"", 0),
+    ("dialogue small.lda --words 512", b"", 0),
+    ("dialogue large.lda", b"", 0),
+    ("rehearse small.lda small.script", b"", 0),
+    ("rehearse large.lda large.script small.lda", b"", 0),
     ("type --words 512", b"001000/", 0),
-    ("load --record scarce.record scarce.lda [::1]:1", b"", 6),
-    ("load scarce.lda 127.0.0.1:1", b"", 4),
+    ("type", b"001000/" * 10000, 0),
+    ("load --record small.record small.lda [::1]:1", b"", 6),
+    ("load --record large.record large.lda [::1]:1", b"", 6),
+    ("load small.lda 127.0.0.1:1", b"", 4),
+    ("load full.lda 127.0.0.1:1 --record none.record", b"", 4),
     ("help load", b"", 0),
-    ("load scarce.lda", b"", 2),
+    ("load small.lda", b"", 2),
+    ("x" * 100000, b"", 2),
 )
 
 PROCESSES = 4
@@ -56,7 +72,7 @@ class Memory(Case):
     def test_each_command_with_more_and_more_memory(self):
         with ProcessPoolExecutor(PROCESSES, multiprocessing.get_context("spawn")) as pool:
             for line, (wanting, wrong) in zip(LINES, pool.map(swept, LINES)):
-                with self.subTest(line[0]):
+                with self.subTest(line[0][:40]):
                     self.assertIsNone(wrong)
                     self.assertGreaterEqual(wanting, FEWEST)
 

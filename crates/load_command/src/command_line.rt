@@ -1,5 +1,6 @@
 //! The command line: which words ask for what.
-ghost use Rattle.std.specs.Prelude.{◌≡◌, []};
+ghost use Rattle.std.specs.Prelude.{◌≡◌, [], IfOk};
+ghost use Rattle.load_command.specs.Answer.{IsOutOfMemory};
 
 mod commands;
 mod texts;
@@ -26,12 +27,18 @@ pub enum NoRequest {
 }
 
 impl From<Error> for NoRequest {
+    ghost use Rattle.load_command.specs.declared.command_line.NoRequest.TheVariants.{Answered};
+
+    ghost from_gives = { λ error answer. answer ≡ Answered error };
+
     fn from(error: Error) -> NoRequest {
         NoRequest::Answered(error)
     }
 }
 
 impl From<AllocError> for NoRequest {
+    ghost from_gives = { λ _ answer. IsOutOfMemory answer };
+
     fn from(refused: AllocError) -> NoRequest {
         NoRequest::Answered(Error::from(refused))
     }
@@ -39,7 +46,8 @@ impl From<AllocError> for NoRequest {
 
 /// Reads the words after the program's name. Without any the tape on standard input is to be checked.
 pub fn parse<'a>(alloc: Global, words: &'a [String]) -> Result<Request<'a>, NoRequest>
-    ensures { words.now ≡ [] → result ≡ Ok Request.CheckInput }
+    ensures none { words.now ≡ [] → result ≡ Ok Request.CheckInput }
+    ensures some { IfOk result (λ request. request ≡ Request.CheckInput → words.now ≡ []) }
 {
     if words.is_empty() {
         return Ok(Request::CheckInput);

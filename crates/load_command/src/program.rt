@@ -1,11 +1,12 @@
 //! The body of `main`, over any files, input and outputs.
-ghost use Rattle.std.specs.Prelude.{◌≡◌, []};
+ghost use Rattle.std.specs.Prelude.{◌≡◌, ◌≢◌, ◌⊎◌, []};
 ghost use Rattle.std.specs.Mem.{FitsInMemory};
 ghost use Rattle.requests.specs.declared.request.Request.{Request};
 ghost use Rattle.endings.specs.declared.status.Status.{Status};
 ghost use Rattle.requests.specs.Attempt.{IsAttempted};
 ghost use Rattle.endings.specs.Status.{status_code};
-ghost use Rattle.load_command.specs.Answer.{IsAnswered, IsExplained};
+ghost use Rattle.clap.specs.Values.{kind_of};
+ghost use Rattle.load_command.specs.Answer.{IsAnswered, IsExplained, IsHelp, IsSomeShown, IsRefused, IsWanting};
 
 use crate::command_line::{NoRequest, parse};
 use clap::Error;
@@ -38,8 +39,9 @@ pub fn program<F: Files + Net + Clock, R: Read, W: Write, E: Write, T: Print>(
     requires { FitsInMemory R.row }
     // With no words, the tape on the input is checked.
     ensures checked { words.now ≡ [] → (status : Status) × IsAttempted Request.CheckInput (R.remaining input.old) (R.remaining input.new) (W.contents out.old) (W.contents out.new) (E.contents err.old) (E.contents err.new) status × (result ≡ status_code status) }
-    // Whatever the words are, they ask for something that is then attempted, or they are explained.
-    ensures answered { (status : Status) × IsAnswered (R.remaining input.old) (R.remaining input.new) (W.contents out.old) (W.contents out.new) (E.contents err.old) (E.contents err.new) status × (result ≡ status_code status) }
+    // Whatever the words are, they ask for something that is then attempted, or they are explained. Only where
+    // there are none, the input is checked.
+    ensures answered { (status : Status) × IsAnswered (words.now ≡ []) (R.remaining input.old) (R.remaining input.new) (W.contents out.old) (W.contents out.new) (E.contents err.old) (E.contents err.new) status × (result ≡ status_code status) }
 {
     answer(rt, alloc, words, input, out, err, terminal).code()
 }
@@ -56,7 +58,7 @@ fn answer<F: Files + Net + Clock, R: Read, W: Write, E: Write, T: Print>(
 ) -> Status
     requires { FitsInMemory R.row }
     ensures checked { words.now ≡ [] → IsAttempted Request.CheckInput (R.remaining input.old) (R.remaining input.new) (W.contents out.old) (W.contents out.new) (E.contents err.old) (E.contents err.new) result }
-    ensures answered { IsAnswered (R.remaining input.old) (R.remaining input.new) (W.contents out.old) (W.contents out.new) (E.contents err.old) (E.contents err.new) result }
+    ensures answered { IsAnswered (words.now ≡ []) (R.remaining input.old) (R.remaining input.new) (W.contents out.old) (W.contents out.new) (E.contents err.old) (E.contents err.new) result }
 {
     match parse(alloc, words) {
         Ok(request) => attempt(rt, alloc, request, input, out, err, terminal),
@@ -67,7 +69,10 @@ fn answer<F: Files + Net + Clock, R: Read, W: Write, E: Write, T: Print>(
 
 /// Says why there was nothing to do: help, the version, or what is wrong with the words.
 fn explain<W: Write, E: Write>(alloc: Global, error: Error, out: &mut W, err: &mut E) -> Status
-    ensures { IsExplained (W.contents out.old) (W.contents out.new) (E.contents err.old) (E.contents err.new) result }
+    ensures explained { IsExplained (W.contents out.old) (W.contents out.new) (E.contents err.old) (E.contents err.new) result }
+    ensures help { IsHelp (kind_of error) → IsSomeShown (W.contents out.old) (W.contents out.new) (E.contents err.old) (E.contents err.new) result ⊎ IsWanting (W.contents out.old) (W.contents out.new) (E.contents err.old) (E.contents err.new) result }
+    ensures memory { kind_of error ≡ ErrorKind.OutOfMemory → IsWanting (W.contents out.old) (W.contents out.new) (E.contents err.old) (E.contents err.new) result }
+    ensures other { (kind_of error ≢ ErrorKind.DisplayHelp) → (kind_of error ≢ ErrorKind.DisplayVersion) → (kind_of error ≢ ErrorKind.OutOfMemory) → IsRefused (W.contents out.old) (W.contents out.new) (E.contents err.old) (E.contents err.new) result ⊎ IsWanting (W.contents out.old) (W.contents out.new) (E.contents err.old) (E.contents err.new) result }
 {
     let Ok(text) = format!(in alloc; "{error}") else {
         return tell(alloc, Failure::NoMemory, err);

@@ -62,8 +62,6 @@ class LateConsole(Console):
 class Case(unittest.TestCase):
     """A test with a folder of its own, in which the program is run."""
 
-    maxDiff = None
-
     def setUp(self):
         self.room = tempfile.mkdtemp(prefix="outside-")
         self.addCleanup(shutil.rmtree, self.room)
@@ -85,9 +83,15 @@ class Case(unittest.TestCase):
         words = words.split() if isinstance(words, str) else words
         return run(words, keys, cwd=self.room, seconds=60, **more)
 
+    def is_so(self, given, wanted):
+        """Asserts that what came is what was wanted, and shows no more of either than a person would read: unittest
+        would look for what differs in a mebibyte, too, and not come to an end."""
+        if given != wanted:
+            self.fail(f"it is\n  {given!r:.2000}\nand not\n  {wanted!r:.2000}")
+
     def ends(self, given, status, out="", err=""):
         """Asserts how a run ended."""
-        self.assertEqual(given, Answer(status, out, err))
+        self.is_so(given, Answer(status, out, err))
 
     def console_at(self, machine, **named):
         """Puts a machine behind a port; `named` says after how many characters the line breaks."""
@@ -99,4 +103,4 @@ class Case(unittest.TestCase):
     def holds(self, files):
         """Asserts that the test's folder has these files, and no others but tapes."""
         there = {name: bytes_of(self.path(name)).decode() for name in os.listdir(self.room) if name not in TAPES}
-        self.assertEqual(there, files)
+        self.is_so(there, files)

@@ -64,7 +64,7 @@ class Outputs(Case):
             peer = self.console_at(Console())
             self.ends(self.ldaodt(f"load first.lda {peer.address} --quiet {QUIET}", before=before), 4, "", NO_OUTPUT)
             peer.settle()
-            self.assertEqual(peer.machine.starts, [0o1000])
+            self.is_so(peer.machine.starts, [0o1000])
 
     def test_standard_error_that_can_not_be_written(self):
         """The status stays, and what is printed."""
@@ -74,7 +74,7 @@ class Outputs(Case):
                     self.ends(self.ldaodt(words, before=before), status)
             for words, keys in PRINTING.items():
                 with self.subTest(words):
-                    self.assertEqual(self.ldaodt(words, keys, before=before), self.ldaodt(words, keys))
+                    self.is_so(self.ldaodt(words, keys, before=before), self.ldaodt(words, keys))
 
     def test_what_is_told_is_told_alone(self):
         for words, (status, text) in TOLD.items():
@@ -98,9 +98,9 @@ class Descriptors(Case):
             for close_after, status, record in ((None, 0, "LDAODT 2\n001000 011064\nG\n"), (40, 4, "LDAODT 2\n")):
                 with self.subTest(closed, close_after=close_after):
                     given, peer = self.load_without(closed, close_after)
-                    self.assertEqual(given.status, 4 if " >&-" in f" {closed}" else status)
+                    self.is_so(given.status, 4 if " >&-" in f" {closed}" else status)
                     self.holds({"a.record": record})
-                    self.assertEqual(peer.machine.starts, [] if close_after else [0o1000])
+                    self.is_so(peer.machine.starts, [] if close_after else [0o1000])
                     os.remove(self.path("a.record"))
 
 
@@ -125,20 +125,20 @@ class Writes(Case):
         self.put_tapes("first.lda")
         for words in ("--help", "help load", "--version", "check first.lda"):
             with self.subTest(words):
-                self.assertEqual(self.written(words.split(), "stdout"), [self.ldaodt(words).out.encode()])
-                self.assertEqual(self.written(words.split(), "stderr"), [])
+                self.is_so(self.written(words.split(), "stdout"), [self.ldaodt(words).out.encode()])
+                self.is_so(self.written(words.split(), "stderr"), [])
 
     def test_what_is_told(self):
         self.put_tapes("first.lda", "bad-sum.lda")
         for words, (_, text) in TOLD.items():
             with self.subTest(words):
-                self.assertEqual(self.written(words.split(), "stderr"), [text.encode()])
-                self.assertEqual(self.written(words.split(), "stdout"), [])
+                self.is_so(self.written(words.split(), "stderr"), [text.encode()])
+                self.is_so(self.written(words.split(), "stdout"), [])
 
     def test_a_long_name(self):
         """Each pair of an escape character and a letter of two bytes is shown in eight bytes."""
         told = self.written(["check", "\x1b\xe9" * 20000], "stderr")
-        self.assertEqual(told, [b"ldaodt: cannot read " + b"\\u{1b}\xc3\xa9" * 20000 + b"\n"])
+        self.is_so(told, [b"ldaodt: cannot read " + b"\\u{1b}\xc3\xa9" * 20000 + b"\n"])
 
 
 class Input(Case):
@@ -156,7 +156,7 @@ class Input(Case):
 
     def test_who_does_not_read_standard_input_does_without(self):
         self.put_tapes("first.lda")
-        self.assertEqual(self.ldaodt("check first.lda", before="<&-"), self.ldaodt("check first.lda"))
+        self.is_so(self.ldaodt("check first.lda", before="<&-"), self.ldaodt("check first.lda"))
 
 
 if __name__ == "__main__":

@@ -53,7 +53,7 @@ class Words(Case):
     def test_a_word_that_is_empty_is_a_word(self):
         self.ends(self.ldaodt(["check", ""]), 4, "", "ldaodt: cannot read ''\n")
         given = self.ldaodt([""])
-        self.assertEqual((given.status, given.out), (2, ""))
+        self.is_so((given.status, given.out), (2, ""))
         self.assertTrue(given.err.startswith("error: "), given)
 
     def test_the_name_of_the_program_is_no_word(self):

@@ -45,7 +45,7 @@ impl From<AllocError> for NoRequest {
 }
 
 /// Reads the words after the program's name. Without any the tape on standard input is to be checked.
-pub fn parse<'a>(alloc: Global, words: &'a [String]) -> Result<Request<'a>, NoRequest>
+pub(crate) fn parse<'a>(alloc: Global, words: &'a [String]) -> Result<Request<'a>, NoRequest>
     ensures none { words.now ≡ [] → result ≡ Ok Request.CheckInput }
     ensures some { IfOk result (λ request. request ≡ Request.CheckInput → words.now ≡ []) }
 {

@@ -27,7 +27,7 @@ const MEANINGLESS: &str = "ldaodt: the command line is not understood\n";
 /// Reports and help go to `out`, which is flushed; refused command lines and faults go to `err`,
 /// a fault as one line. What can't be written to `err` is not told. A load shows on the terminal, where
 /// there is one, how far it is.
-pub fn program<F: Files + Net + Clock, R: Read, W: Write, E: Write, T: Print>(
+pub(crate) fn program<F: Files + Net + Clock, R: Read, W: Write, E: Write, T: Print>(
     rt: &F,
     alloc: Global,
     words: &[String],

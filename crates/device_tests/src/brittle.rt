@@ -17,7 +17,7 @@ pub struct Brittle {
 
 impl Brittle {
     /// A writer that fails at the call of this number, from 1; with 0 none fails.
-    pub fn new(alloc: Global, taken: usize, fails_at: u32) -> Brittle {
+    pub(crate) fn new(alloc: Global, taken: usize, fails_at: u32) -> Brittle {
         Brittle {
             text: Vec::new(alloc),
             taken,

@@ -1,7 +1,7 @@
 //! Keepers of a record: which text they write, that each call flushes, and that a fault stays.
 
 use crate::brittle::Brittle;
-use crate::plans::{full_image, one_word, seventeen_words, two_words};
+use crate::plans::{one_word, two_words};
 use host_core::Progress;
 use load_devices::{Keep, KeepFault};
 use load_record::{FileKeep, read_record};
@@ -46,20 +46,16 @@ fn assert_record(rt: &impl Abort, alloc: Global, plan: &Plan, text: &[u8]) {
     }
 }
 
-/// The records of the plans of one word, of two and of seventeen.
+/// The records of the plans of one word and of two.
 const ONE_WORD: &[u8] = b"LDAODT 2\n001000 011064\nG\n";
 
 const TWO_WORDS: &[u8] = b"LDAODT 2\n001000 031421\nH 001002 000377 000104\nG\n";
-
-const SEVENTEEN_WORDS: &[u8; 141] =
-    b"LDAODT 2\n001000 000000 000000 000000 000000 000000 000000 000000 000000 000000 000000 000000 000000 000000 000000 000000 000000\n001040 000000";
 
 #[test]
 fn records_of_plans(rt: HostRuntime) -> Result<(), Fail> {
     let alloc = rt.alloc();
     assert_record(&rt, alloc, &one_word(alloc)?, ONE_WORD);
     assert_record(&rt, alloc, &two_words(alloc)?, TWO_WORDS);
-    assert_record(&rt, alloc, &seventeen_words(alloc)?, SEVENTEEN_WORDS);
     Ok(())
 }
 
@@ -81,22 +77,6 @@ fn a_record_is_begun_again(rt: HostRuntime) -> Result<(), Fail> {
     let begun = keep.begin(&plan, 9);
     assert!(rt; begun.is_ok(), "more words than the plan has");
     assert!(rt; keep.writer().text.len() == 48 + 46);
-    Ok(())
-}
-
-/// The words of a full image.
-const ALL: u32 = 28672;
-
-#[test]
-fn the_record_of_a_full_image(rt: HostRuntime) -> Result<(), Fail> {
-    let plan = full_image(rt.alloc())?;
-    for begun in &[0, ALL] {
-        let mut keep = keeper(rt.alloc(), 24, 0);
-        assert!(rt; keep_all(&mut keep, &plan, *begun).is_ok());
-        // A header, 1,792 runs of 119 bytes, and a mark.
-        assert!(rt; keep.writer().text.len() == 213_259);
-        assert!(rt; says_all(&keep, &plan, ALL));
-    }
     Ok(())
 }
 

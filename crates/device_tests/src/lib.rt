@@ -1,8 +1,8 @@
-//! Tests of what a load stands on: the reader and the keeper of its record, and the line over a socket.
+//! Tests of what a load stands on: the keeper of its record, and the line over a socket.
 //!
-//! Contracts say what a text is read as, which bytes a keeper writes, and what is made of the bytes of a
-//! stream; here stand examples of all that, and what no clause can say: that each call of a keeper
-//! flushes, that no device is asked again that has failed, and what a socket is set to.
+//! Contracts say which bytes a keeper writes, and what is made of the bytes of a stream; here stand
+//! examples of all that, and what no clause can say: that each call of a keeper flushes, that no device
+//! is asked again that has failed, and what a socket is set to.
 //!
 //! They stand in a crate of their own, since a crate with tests is proved twice.
 #![tactic(auto)]
@@ -13,8 +13,6 @@ mod brittle;
 mod keeping;
 #[cfg(test)]
 mod plans;
-#[cfg(test)]
-mod reading;
 #[cfg(test)]
 mod sockets;
 #[cfg(test)]

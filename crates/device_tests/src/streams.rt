@@ -15,7 +15,7 @@ pub struct TwoAddresses<'a> {
 }
 
 impl<'a> TwoAddresses<'a> {
-    pub fn new(rt: &'a HostRuntime, second: SocketAddr) -> TwoAddresses<'a> {
+    pub(crate) fn new(rt: &'a HostRuntime, second: SocketAddr) -> TwoAddresses<'a> {
         TwoAddresses {
             rt,
             second,
@@ -24,7 +24,7 @@ impl<'a> TwoAddresses<'a> {
     }
 
     /// How many addresses were tried.
-    pub fn tried(&self) -> u32 {
+    pub(crate) fn tried(&self) -> u32 {
         self.tried.get()
     }
 }
@@ -67,7 +67,7 @@ pub struct Notes {
 
 impl Notes {
     /// Nothing was asked yet.
-    pub fn new() -> Notes {
+    pub(crate) fn new() -> Notes {
         Notes {
             calls: Cell::new(0),
             time_limit: Cell::new(None),

@@ -1,8 +1,10 @@
-//! Tests of tapes: how they are read, written and made, and the plans that they give.
+//! Tests of tapes that only a call in the process can make: tapes fed in pieces and read of devices, made of
+//! blocks and written, and want of memory.
 //!
 //! Contracts say exactly what each call answers, beside the answer for want of memory; here stands that
-//! this one comes only where a growth is refused, with tapes of the largest sizes too, that a device that
-//! failed is not asked again, and tables of tapes and words by hand, for a definition misread.
+//! this one comes only where a growth is refused, with the longest tape too, that a device that failed is not
+//! asked again, and, for a definition misread, tables of blocks and words that no command makes. What tapes
+//! are read as and what words they give is tried from outside, in `tests/test_tapes.py`.
 //!
 //! They stand in a crate of their own, since a crate with tests is proved twice.
 #![tactic(auto)]
@@ -12,15 +14,9 @@ mod making;
 #[cfg(test)]
 mod pieces;
 #[cfg(test)]
-mod plans;
-#[cfg(test)]
-mod reading;
-#[cfg(test)]
 mod scarce_plans;
 #[cfg(test)]
 mod scarce_tapes;
-#[cfg(test)]
-mod second_reader;
 #[cfg(test)]
 mod tapes;
 #[cfg(test)]

@@ -1,11 +1,16 @@
-//! Tapes that are made of blocks, written, and read again.
+//! Calls that no command makes: a tape is made of blocks, written, and read again of its text.
 
+use crate::tapes::{ONE_BLOCK, push_block, tape_of};
 use std::alloc::{AllocError, Global};
 use std::test::Fail;
-use tape_blocks::{BadTape, Block, Tape, read_from, read_tape, write_tape};
+use tape_blocks::{BadTape, Block, Tape, read_tape, write_tape};
+use tape_image::Plan;
 
 /// Blocks of zeros: how many, their address and their length.
 type Run = (usize, u16, usize);
+
+/// As much as a tape holds.
+const LONGEST: [Run; 2] = [(18, 0, 57_344), (1, 0, 16_244)];
 
 fn blocks_of(alloc: Global, runs: &[Run]) -> Result<Vec<Block>, AllocError> {
     let mut blocks = Vec::new(alloc);
@@ -21,70 +26,86 @@ fn blocks_of(alloc: Global, runs: &[Run]) -> Result<Vec<Block>, AllocError> {
     Ok(blocks)
 }
 
-/// The lengths of a tape's text: as it is written, as it is read, and as it is read of an input.
-fn lengths(alloc: Global, tape: &Tape) -> Result<[usize; 3], Fail> {
-    let text = write_tape(alloc, tape)?;
-    let (_, read) = read_tape(alloc, &text)?;
-    let (_, taken) = read_from(alloc, &mut text.as_slice())?;
-    Ok([text.len(), read as usize, taken as usize])
+/// What is wrong with a tape of these blocks, if anything is.
+fn wrong_with(alloc: Global, runs: &[Run]) -> Result<Option<BadTape>, AllocError> {
+    match Tape::new(blocks_of(alloc, runs)?, 0o1000) {
+        Ok(_tape) => Ok(None),
+        Err((_blocks, bad)) => Ok(Some(bad)),
+    }
 }
 
-/// Why the row is there, blocks, and the length of the tape in bytes or what is wrong.
-const LISTS: [(&str, &[Run], Result<usize, BadTape>); 11] = [
-    ("no block at all", &[], Ok(7)),
+/// Why the row is there, blocks, and what is wrong with them.
+const LISTS: [(&str, &[Run], Option<BadTape>); 11] = [
+    ("no block at all", &[], None),
     (
         "a good block and then an empty one",
         &[(1, 0o1000, 2), (1, 0o1000, 0)],
-        Err(BadTape::EmptyBlock(1)),
+        Some(BadTape::EmptyBlock(1)),
     ),
     (
         "two bytes at 157777",
         &[(1, 0o157777, 2)],
-        Err(BadTape::BlockPastTop(0)),
+        Some(BadTape::BlockPastTop(0)),
     ),
-    ("one byte there", &[(1, 0o157777, 1)], Ok(15)),
+    ("one byte there", &[(1, 0o157777, 1)], None),
     (
         "an empty block past the top is empty",
         &[(1, 0o177777, 0)],
-        Err(BadTape::EmptyBlock(0)),
+        Some(BadTape::EmptyBlock(0)),
     ),
     (
         "the first bad block decides",
         &[(2, 0, 1), (1, 0o160000, 1), (1, 0, 0)],
-        Err(BadTape::BlockPastTop(2)),
+        Some(BadTape::BlockPastTop(2)),
     ),
     (
         "past 16 bits",
         &[(1, 0o177777, 57_344)],
-        Err(BadTape::BlockPastTop(0)),
+        Some(BadTape::BlockPastTop(0)),
     ),
-    ("a thousand blocks", &[(1000, 0o1000, 1)], Ok(8007)),
-    (
-        "as much as a tape holds",
-        &[(18, 0, 57_344), (1, 0, 16_244)],
-        Ok(1_048_576),
-    ),
+    ("a thousand blocks", &[(1000, 0o1000, 1)], None),
+    ("as much as a tape holds", &LONGEST, None),
     (
         "a byte more",
         &[(18, 0, 57_344), (1, 0, 16_245)],
-        Err(BadTape::TooMuch),
+        Some(BadTape::TooMuch),
     ),
     (
         "too much, and a bad block behind it",
         &[(19, 0, 57_344), (1, 0, 0)],
-        Err(BadTape::EmptyBlock(19)),
+        Some(BadTape::EmptyBlock(19)),
     ),
 ];
 
 #[test]
-fn tapes_are_made_of_good_blocks_and_read_again(rt: HostRuntime) -> Result<(), Fail> {
+fn lists_of_blocks_make_tapes_or_do_not(rt: HostRuntime) -> Result<(), Fail> {
     for row in &LISTS {
         let (reason, runs, expected) = *row;
-        let made = match Tape::new(blocks_of(rt.alloc(), runs)?, 0o1000) {
-            Ok(tape) => Ok(lengths(rt.alloc(), &tape)?),
-            Err((_blocks, bad)) => Err(bad),
-        };
-        assert!(rt; made == expected.map(|length| [length; 3]), "{reason}");
+        let bad = wrong_with(rt.alloc(), runs)?;
+        assert!(rt; bad == expected, "{reason}");
     }
+    Ok(())
+}
+
+#[test]
+fn a_tape_is_written_and_read_again(rt: HostRuntime) -> Result<(), Fail> {
+    let mut blocks = Vec::new(rt.alloc());
+    push_block(rt.alloc(), &mut blocks, 0o1000, &[0x34, 0x12])?;
+    let text = write_tape(rt.alloc(), &tape_of(blocks, 0o1000)?)?;
+    assert!(rt; text.as_slice() == ONE_BLOCK);
+    let (tape, used) = read_tape(rt.alloc(), &text)?;
+    assert!(rt; used == 16 && tape.start() == 0o1000);
+    let plan = Plan::of(rt.alloc(), &tape)?;
+    assert!(rt; plan.byte_at(0o1001) == Some(0x12));
+    assert!(rt; plan.byte_at(0o1002).is_none());
+    Ok(())
+}
+
+#[test]
+fn the_longest_tape_is_written_and_read_again(rt: HostRuntime) -> Result<(), Fail> {
+    let tape = tape_of(blocks_of(rt.alloc(), &LONGEST)?, 0o1000)?;
+    let text = write_tape(rt.alloc(), &tape)?;
+    let (_, used) = read_tape(rt.alloc(), &text)?;
+    assert!(rt; text.len() == 1_048_576 && used == 1_048_576);
     Ok(())
 }

@@ -1,7 +1,6 @@
-//! Tapes in pieces, and tapes of readers.
+//! Tapes in pieces, and tapes of devices.
 
-use crate::reading::zeros_and;
-use crate::tapes::{ONE_BLOCK, PADDED};
+use crate::tapes::ONE_BLOCK;
 use std::io;
 use std::io::{ErrorKind, Read};
 use std::test::Fail;
@@ -40,42 +39,6 @@ fn a_tape_that_ends_between_blocks_has_no_transfer_block(rt: HostRuntime) {
     let mut reader = TapeReader::new(rt.alloc());
     assert!(rt; reader.feed(&ONE_BLOCK[..9]) == Ok(Fed::More));
     assert!(rt; reader.finish().err() == Some(ReadError::Tape(fault)));
-}
-
-#[test]
-fn what_follows_a_tape_stays_in_the_input(rt: HostRuntime) -> Result<(), Fail> {
-    let mut input = PADDED;
-    let (tape, used) = read_from(rt.alloc(), &mut input)?;
-    assert!(rt; used == 59);
-    assert!(rt; input == [0xFF, 0xFF].as_slice());
-    assert!(rt; tape.written_length() == 16, "its plain text is shorter");
-    Ok(())
-}
-
-/// Bytes 00 without end, as many as each read asks for.
-#[derive(Drop)]
-struct Blank {
-    taken: usize,
-}
-
-impl Read for Blank {
-    fn read(&mut self, buf: &mut [u8]) -> io::Result<usize> {
-        buf.fill(0);
-        self.taken = self.taken.saturating_add(buf.len());
-        Ok(buf.len())
-    }
-}
-
-#[test]
-fn a_byte_more_than_a_tape_has_is_taken_at_most(rt: HostRuntime) {
-    let mut input = Blank { taken: 0 };
-    let fault = Fault {
-        at: 1_048_576,
-        why: Why::TooLong,
-    };
-    let error = read_from(rt.alloc(), &mut input).err();
-    assert!(rt; error == Some(FromError::Tape(fault)));
-    assert!(rt; input.taken == 1_048_577);
 }
 
 /// Counts its reads. Gives so many bytes a read at most, and fails before the byte at one place:
@@ -124,7 +87,9 @@ fn a_device_that_fails_is_not_asked_again(rt: HostRuntime) {
 #[test]
 fn a_block_is_one_read(rt: HostRuntime) -> Result<(), Fail> {
     let mut text = Vec::from_slice(rt.alloc(), &[1, 0, 0xF6, 0xDF, 0, 0])?;
-    text.extend_from_slice(&zeros_and(rt.alloc(), 57_328, &[0x2A])?)?;
+    let zeros = vec![in rt.alloc(); 0u8; 57_328]?;
+    text.extend_from_slice(&zeros)?;
+    text.push(0x2A)?;
     text.extend_from_slice(ONE_BLOCK)?;
     let mut device = Device {
         bytes: &text,

@@ -1,7 +1,6 @@
 //! Want of memory: a plan is asked for in rooms that grow, so that each of its growths is refused in turn
 //! until the room serves.
 
-use crate::plans::tape;
 use crate::tapes::{push_block, tape_of};
 use scarce_memory::{Famine, ROOMS};
 use std::alloc::Global;
@@ -26,9 +25,14 @@ fn least_room(alloc: Global, tapes: &[Tape]) -> Result<usize, Fail> {
 
 #[test]
 fn each_growth_of_a_plan_is_refused_in_turn(rt: HostRuntime) -> Result<(), Fail> {
+    let mut first = Vec::new(rt.alloc());
+    push_block(rt.alloc(), &mut first, 0o777, &[1, 2])?;
+    push_block(rt.alloc(), &mut first, 0o2000, &[3; 40])?;
+    let mut second = Vec::new(rt.alloc());
+    push_block(rt.alloc(), &mut second, 0o1000, &[4])?;
     let mut tapes = Vec::new(rt.alloc());
-    tapes.push(tape(rt.alloc(), &[(0o777, &[1, 2]), (0o2000, &[3; 40])], 1)?)?;
-    tapes.push(tape(rt.alloc(), &[(0o1000, &[4])], 0o1000)?)?;
+    tapes.push(tape_of(first, 1)?)?;
+    tapes.push(tape_of(second, 0o1000)?)?;
     // The table's 112 places alone are more than this, and each page is.
     assert!(rt; least_room(rt.alloc(), &tapes)? > 3 * 1024);
     Ok(())

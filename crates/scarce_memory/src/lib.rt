@@ -123,6 +123,3 @@ fn take(alloc: Global, taken: &mut Vec<Vec<u8>>, size: usize) -> Result<(), Allo
     }
     Ok(())
 }
-
-#[cfg(test)]
-mod tests;

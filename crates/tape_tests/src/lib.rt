@@ -4,7 +4,8 @@
 //! Contracts say exactly what each call answers, beside the answer for want of memory; here stands that
 //! this one comes only where a growth is refused, with the longest tape too, that a device that failed is not
 //! asked again, and, for a definition misread, tables of blocks and words that no command makes. What tapes
-//! are read as and what words they give is tried from outside, in `tests/test_tapes.py`.
+//! are read as and what words they give is tried from outside, in `tests/test_tapes.py`. The famine by which
+//! memory is wanting is tried here too.
 //!
 //! They stand in a crate of their own, since a crate with tests is proved twice.
 #![tactic(auto)]
@@ -15,6 +16,8 @@ mod making;
 mod pieces;
 #[cfg(test)]
 mod scarce_plans;
+#[cfg(test)]
+mod scarce_rooms;
 #[cfg(test)]
 mod scarce_tapes;
 #[cfg(test)]

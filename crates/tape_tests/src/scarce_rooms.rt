@@ -1,7 +1,11 @@
 //! What a call finds in a famine.
 
-use super::*;
+use scarce_memory::{Famine, ROOMS};
+use std::alloc::{AllocError, Global};
 use std::test::Fail;
+
+/// How many bytes a page of the stack has.
+const PAGE: usize = 4096;
 
 /// How many pages of the stack a deep call has for itself.
 const DEPTH: usize = 384;
@@ -11,6 +15,11 @@ const DEPTH: usize = 384;
 fn call_deeply(mark: u8) -> bool {
     let pages = [[mark; PAGE]; DEPTH];
     is_marked(&pages, mark)
+}
+
+/// Whether the mark is on every page.
+fn is_marked(pages: &[[u8; PAGE]], mark: u8) -> bool {
+    pages.iter().all(|page| page.contains(&mark))
 }
 
 #[test]

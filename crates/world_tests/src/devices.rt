@@ -55,6 +55,15 @@ const ROWS: [(u32, Option<u32>, [Option<KeepFault>; 3], usize, &str); 6] = [
     ),
 ];
 
+/// The fault of a call. What its contract promises of it, no test needs.
+fn fault_of(keep: &mut MemoryKeep, item: Kept) -> Option<KeepFault> {
+    let outcome = match item {
+        Kept::Word(word) => keep.add(word),
+        Kept::Go => keep.mark(),
+    };
+    outcome.err()
+}
+
 /// The next call has this outcome, and so many calls have failed then.
 fn keeps_so(
     rt: &impl Abort,
@@ -64,11 +73,7 @@ fn keeps_so(
     reason: &str,
 ) {
     let before = keep.failures();
-    let outcome = match item {
-        Kept::Word(word) => keep.add(word),
-        Kept::Go => keep.mark(),
-    };
-    check_that(rt, outcome.err() == fault, reason);
+    check_that(rt, fault_of(keep, item) == fault, reason);
     check_that(rt, keep.failed() == fault.is_some(), reason);
     let failures = before.saturating_add(if fault.is_some() { 1 } else { 0 });
     check_that(rt, keep.failures() == failures, reason);

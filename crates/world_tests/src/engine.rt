@@ -239,18 +239,29 @@ fn fails_so(rt: &impl Abort, outcome: &Outcome, line: bool, keep: bool, reason: 
     check_that(rt, outcome.keep.failures() == keep as u64, reason);
 }
 
+/// So much was sent, heard and kept.
+fn says_so(
+    rt: &impl Abort,
+    outcome: &Outcome,
+    (keys, heard, kept): (usize, usize, usize),
+    reason: &str,
+) -> Result<(), Fail> {
+    let news = whole_news()?;
+    let items = outcome.line.items();
+    check_that(rt, keys_of(items) == keys, reason);
+    check_that(rt, items.len() == keys.saturating_add(heard), reason);
+    check_that(rt, outcome.keep.kept() == &news[..kept.min(2)], reason);
+    Ok(())
+}
+
 #[test]
 fn worked_drives(rt: HostRuntime) -> Result<(), Fail> {
-    let news = whole_news()?;
     for row in &ROWS {
         let (setting, stop, keys, heard, kept, spent, reason) = *row;
         let outcome = driven(rt.alloc(), setting)?;
         check_that(&rt, outcome.stop == stop, reason);
-        let items = outcome.line.items();
-        check_that(&rt, keys_of(items) == keys, reason);
-        check_that(&rt, items.len() == keys.saturating_add(heard), reason);
-        check_that(&rt, outcome.keep.kept() == &news[..kept.min(2)], reason);
         check_that(&rt, outcome.core.spent() == spent, reason);
+        says_so(&rt, &outcome, (keys, heard, kept), reason)?;
         let has_line_fault = matches!(stop, Stop::LineFailed(_));
         let has_keep_fault = matches!(stop, Stop::KeepFailed(_));
         fails_so(&rt, &outcome, has_line_fault, has_keep_fault, reason);

@@ -3,7 +3,7 @@
 mod phases;
 
 use crate::checks::check_that;
-use crate::tapes::{HIGH_BYTE, NOTHING, ONE_WORD, OVERLAP, fresh_host, plan_of};
+use crate::tapes::{HIGH_BYTE, NOTHING, ONE_WORD, fresh_host, plan_of};
 use host_core::{BadProgress, End, Heard, HostCore, Progress};
 use std::alloc::Global;
 use std::test::Fail;
@@ -32,73 +32,6 @@ fn typed(alloc: Global, host: &mut HostCore, text: &str) -> Result<Vec<u8>, Fail
         }
     }
     Ok(keys)
-}
-
-/// Whole loads: the tape, what is heard, the keys that answer it, and how the load ends.
-const LOADS: [(&[u8], &str, &str, Option<End>, &str); 7] = [
-    (
-        &ONE_WORD,
-        "~?\r\n@001000/000000 011064\r\n@001000/011064 \r\n@001000G",
-        "Z001000/011064\r001000/\r001000G",
-        Some(End::Started),
-        "a word is looked at, stored, checked, closed, and the program is started",
-    ),
-    (
-        &ONE_WORD,
-        "~Z?\r\r\n@001000/ 000000 011064\r\r\n@001000/ 011064 \r\r\n@001000G",
-        "Z001000/011064\r001000/\r001000G",
-        Some(End::Started),
-        "a console that echoes Z, prints a space before the digits and two returns",
-    ),
-    (
-        &ONE_WORD,
-        "~?\r\n@001000/011064 \r\n@001000G",
-        "Z001000/\r001000G",
-        Some(End::Started),
-        "a word that stands is not stored again",
-    ),
-    (
-        &ONE_WORD,
-        "~?\r\n@001000/?\r\n@",
-        "Z001000/",
-        Some(End::NoWord(0o1000)),
-        "no memory at the address",
-    ),
-    (
-        &OVERLAP,
-        "~?\r\n@001000/000000 031421\r\n@001000/031421 \r\n@001002/000000 000104\r\n@001002/000104 \r\n@001000G",
-        "Z001000/031421\r001000/\r001002/000104\r001002/\r001000G",
-        Some(End::Started),
-        "after a closed word the next one is looked at",
-    ),
-    (
-        &HIGH_BYTE,
-        "~?\r\n@001000/125252 052652\r\n@001000/052652 \r\n@",
-        "Z001000/052652\r001000/\r",
-        Some(End::Loaded),
-        "only the byte of the tape changes, and without a start nothing is started",
-    ),
-    (
-        &NOTHING,
-        "~?\r\n@",
-        "",
-        Some(End::Loaded),
-        "nothing to load",
-    ),
-];
-
-#[test]
-fn whole_loads(rt: HostRuntime) -> Result<(), Fail> {
-    for row in &LOADS {
-        let (tape, heard, wanted, end, reason) = *row;
-        let mut host = fresh_host(rt.alloc(), tape, 8)?;
-        let keys = typed(rt.alloc(), &mut host, heard)?;
-        check_that(&rt, keys.as_slice() == wanted.as_bytes(), reason);
-        check_that(&rt, host.sent_count() == keys.len() as u64, reason);
-        check_that(&rt, host.end() == end, reason);
-        check_that(&rt, host.spent() == 0, reason);
-    }
-    Ok(())
 }
 
 /// What is heard, how often and with which patience; how many keys are sent, each a `Z`; and the end.

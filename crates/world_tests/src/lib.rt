@@ -3,8 +3,9 @@
 //!
 //! Contracts say what each of them does; here stand what no clause can say: that they succeed where
 //! memory is ample, also at the largest sizes, and that the tables and definitions mean what the
-//! pages in `docs/` say. The world is played beside a slow model of its own, and the engine beside
-//! peers that are no console.
+//! pages in `docs/` say. The host hears characters that no console answers, and the engine is played
+//! beside peers that are no console. Loads in which a line loses characters, and lives of a host, are
+//! rehearsed from outside, in `tests/` at the top of the repository.
 //!
 //! They stand in a crate of their own, since a crate with tests is proved twice.
 #![tactic(auto)]
@@ -17,8 +18,6 @@ mod devices;
 mod engine;
 #[cfg(test)]
 mod host;
-#[cfg(test)]
-mod losses;
 #[cfg(test)]
 mod memory_line;
 #[cfg(test)]

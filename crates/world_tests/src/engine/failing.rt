@@ -3,7 +3,7 @@ use super::*;
 /// The calls of a whole load, counted by hand: `h` hears one thing, `s` sends a key. A line each for
 /// `Z`, its answer, the address, the reading, the deposit, its answer, the address again, the reading
 /// (after which the word is closed), its answer, the start address, and the echo of `G`.
-const CALLS: &[u8] = b"hs\
+const CALLS: &str = "hs\
     hhhhs\
     hshshshshshs\
     hhhhhhhhs\
@@ -14,6 +14,9 @@ const CALLS: &[u8] = b"hs\
     hhhs\
     hshshshshshs\
     h";
+
+/// How many calls there are.
+const LAST: usize = 82;
 
 /// The keys of these calls.
 const KEYS: &[u8] = b"Z001000/011064\r001000/\r001000G";
@@ -81,17 +84,25 @@ impl<L: Line> Line for FailsOnce<L> {
     }
 }
 
+/// The kind of the call with this number, 0 where there is none.
+fn kind_of(call: usize) -> u8 {
+    let calls = CALLS.as_bytes();
+    calls.get(call.saturating_sub(1)).copied().unwrap_or(0)
+}
+
 /// How a load stops whose call with this number fails, and how many things are kept.
 fn expected(call: usize) -> (Stop, usize) {
-    let kept = match call {
-        0..CLOSE => 0,
-        CLOSE..START => 1,
-        _ => 2,
+    let kept = if call < CLOSE {
+        0
+    } else if call < START {
+        1
+    } else {
+        2
     };
-    let stop = match CALLS.get(call.saturating_sub(1)) {
-        Some(b's') => Stop::LineFailed(LineFault::Send),
-        Some(_) => Stop::LineFailed(LineFault::Receive),
-        None => Stop::Ended(End::Started),
+    let stop = match kind_of(call) {
+        b's' => Stop::LineFailed(LineFault::Send),
+        b'h' => Stop::LineFailed(LineFault::Receive),
+        _ => Stop::Ended(End::Started),
     };
     (stop, kept)
 }
@@ -101,7 +112,7 @@ fn said_before(alloc: Global, call: usize) -> Result<Vec<Item>, Fail> {
     let mut items = Vec::new(alloc);
     let mut keys = KEYS.iter();
     let mut heard = HEARD.iter();
-    for kind in CALLS.iter().take(call.saturating_sub(1)) {
+    for kind in CALLS.as_bytes().iter().take(call.saturating_sub(1)) {
         items.push(match kind {
             b's' => Item::Sent(*keys.next().ok_or("a key")?),
             _ => Item::Heard(match heard.next().ok_or("a thing heard")? {
@@ -136,7 +147,7 @@ fn stops_so(
 #[test]
 fn each_call_of_the_line_fails(rt: HostRuntime) -> Result<(), Fail> {
     let alloc = rt.alloc();
-    for call in 1..=CALLS.len() + 1 {
+    for call in 1..=LAST + 1 {
         let fail_at = Some(call as u64);
         let Outcome {
             stop,
@@ -149,20 +160,29 @@ fn each_call_of_the_line_fails(rt: HostRuntime) -> Result<(), Fail> {
     Ok(())
 }
 
+/// A load over a line whose call with this number fails.
+fn driven_once(
+    alloc: Global,
+    call: usize,
+) -> Result<(Stop, FailsOnce<MemoryLine>, MemoryKeep), Fail> {
+    let mut line = FailsOnce {
+        line: line_of(alloc, AMPLE)?,
+        fail_at: call as u64,
+        calls: 0,
+        failures: 0,
+        fault: None,
+    };
+    let mut keep = MemoryKeep::new(alloc, 2, None)?;
+    let host = fresh_host(alloc, &ONE_WORD, 8)?;
+    let (_, stop) = drive_on(host, &mut line, &mut keep, 1000);
+    Ok((stop, line, keep))
+}
+
 #[test]
 fn one_call_of_the_line_fails(rt: HostRuntime) -> Result<(), Fail> {
     let alloc = rt.alloc();
-    for call in 1..=CALLS.len() {
-        let mut line = FailsOnce {
-            line: line_of(alloc, AMPLE)?,
-            fail_at: call as u64,
-            calls: 0,
-            failures: 0,
-            fault: None,
-        };
-        let mut keep = MemoryKeep::new(alloc, 2, None)?;
-        let host = fresh_host(alloc, &ONE_WORD, 8)?;
-        let (_, stop) = drive_on(host, &mut line, &mut keep, 1000);
+    for call in 1..=LAST {
+        let (stop, line, keep) = driven_once(alloc, call)?;
         stops_so(&rt, alloc, call, stop, line.line.items(), keep.kept())?;
         check_that(
             &rt,

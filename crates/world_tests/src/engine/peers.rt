@@ -244,21 +244,26 @@ impl Line for Garbler {
     }
 }
 
+/// What is typed at a console that is heard badly.
+fn typed_at(alloc: Global, seed: u64) -> Result<Tally, Fail> {
+    let mut line = Garbler {
+        odt: Odt::new(alloc, 28672, PLAIN_STYLE)?,
+        random: Random(seed),
+        waiting: Vec::new(alloc),
+        tally: Tally::NONE,
+    };
+    let mut keep = MemoryKeep::new(alloc, 2, None)?;
+    let host = fresh_host(alloc, &ONE_WORD, 1000)?;
+    drive_on(host, &mut line, &mut keep, 100_000);
+    Ok(line.tally)
+}
+
 #[test]
 fn consoles_that_are_heard_badly(rt: HostRuntime) -> Result<(), Fail> {
     const BOUND: u64 = 22 + 7 + 23 * 1001;
     let mut starts: u64 = 0;
     for seed in 0..50 {
-        let mut line = Garbler {
-            odt: Odt::new(rt.alloc(), 28672, PLAIN_STYLE)?,
-            random: Random(seed),
-            waiting: Vec::new(rt.alloc()),
-            tally: Tally::NONE,
-        };
-        let mut keep = MemoryKeep::new(rt.alloc(), 2, None)?;
-        let host = fresh_host(rt.alloc(), &ONE_WORD, 1000)?;
-        drive_on(host, &mut line, &mut keep, 100_000);
-        let tally = line.tally;
+        let tally = typed_at(rt.alloc(), seed)?;
         let is_safe = tally.keys <= BOUND && tally.blind_starts == 0 && tally.starts <= 1;
         assert!(rt; is_safe, "{seed}");
         starts = starts.saturating_add(tally.starts);

@@ -1,7 +1,6 @@
 //! The phase table, row by row: what each phase lists, what it sends, and where it leads.
 
 use super::*;
-use std::process::Abort;
 
 /// A phase by the text that leads a host for the one word to it; the characters that it lists, any
 /// other being a mishap; and the key that each of these makes the host send.
@@ -98,42 +97,31 @@ fn host_after(alloc: Global, patience: u32, text: &str) -> Result<HostCore, Fail
     Ok(host)
 }
 
+/// The key that a host which has heard the text sends at a character, the mishaps then, and the key at
+/// the silence after it.
+fn steps_after(
+    alloc: Global,
+    text: &str,
+    character: u8,
+) -> Result<(Option<u8>, u32, Option<u8>), Fail> {
+    let mut host = host_after(alloc, 1, text)?;
+    let key = answer(&mut host, Heard::Got(character));
+    let spent = host.spent();
+    Ok((key, spent, answer(&mut host, Heard::Quiet)))
+}
+
 #[test]
 fn each_phase_lists_its_characters(rt: HostRuntime) -> Result<(), Fail> {
     for row in &WAITING {
         let (before, listed, key) = *row;
         for character in 0..=255 {
-            let mut host = host_after(rt.alloc(), 1, before)?;
-            let key_sent = answer(&mut host, Heard::Got(character));
-            let wanted = if listed.contains(&character) {
-                (key, 0)
+            let (key_sent, spent, then) = steps_after(rt.alloc(), before, character)?;
+            let is_so = if listed.contains(&character) {
+                (key_sent, spent) == (key, 0)
             } else {
-                (None, 1)
+                (key_sent, spent, then) == (None, 1, Some(b'Z'))
             };
-            check_that(&rt, (key_sent, host.spent()) == wanted, before);
-        }
-    }
-    Ok(())
-}
-
-/// A mishap: the patience, what is heard and then silence, the keys, the mishaps, and the end.
-const MISHAPS: [(u32, &str, &str, u32, Option<End>); 4] = [
-    (1, "\x07~", "Z", 1, None),
-    (1, "~", "Z", 1, None),
-    (0, "\x07~", "", 0, Some(End::GaveUp)),
-    (0, "~", "", 0, Some(End::GaveUp)),
-];
-
-#[test]
-fn each_phase_meets_a_mishap(rt: HostRuntime) -> Result<(), Fail> {
-    for row in &WAITING {
-        let (before, ..) = *row;
-        for mishap in &MISHAPS {
-            let (patience, heard, wanted, spent, end) = *mishap;
-            let mut host = host_after(rt.alloc(), patience, before)?;
-            let keys = typed(rt.alloc(), &mut host, heard)?;
-            check_that(&rt, keys.as_slice() == wanted.as_bytes(), before);
-            check_that(&rt, (host.spent(), host.end()) == (spent, end), before);
+            check_that(&rt, is_so, before);
         }
     }
     Ok(())
@@ -147,38 +135,6 @@ fn each_end_and_each_silence(rt: HostRuntime) -> Result<(), Fail> {
         let key_sent = answer(&mut host, heard_of(heard));
         check_that(&rt, (key_sent, host.end()) == (key, end), before);
         check_that(&rt, host.spent() == 0, before);
-    }
-    Ok(())
-}
-
-/// A host that has heard the text begins a new life in which it keeps so many words.
-fn begins_again(rt: &impl Abort, alloc: Global, before: &str, kept: u32) -> Result<(), Fail> {
-    let mut host = host_after(alloc, 1, before)?;
-    let Progress { verified, going } = host.progress();
-    host.restart(kept);
-    let wanted = Progress {
-        verified: if kept == 0 { 0 } else { verified },
-        going,
-    };
-    let end = if going { Some(End::MaybeStarted) } else { None };
-    check_that(rt, (host.progress(), host.end()) == (wanted, end), before);
-    check_that(rt, (host.spent(), host.sent_count()) == (0, 0), before);
-    check_that(rt, host.patience() == 1, before);
-    check_that(rt, answer(&mut host, Heard::Got(b'?')).is_none(), before);
-    Ok(())
-}
-
-#[test]
-fn each_phase_begins_again(rt: HostRuntime) -> Result<(), Fail> {
-    for kept in [0, 1, u32::MAX] {
-        for row in &WAITING {
-            let (before, ..) = *row;
-            begins_again(&rt, rt.alloc(), before, kept)?;
-        }
-        for row in &OTHERS {
-            let (before, ..) = *row;
-            begins_again(&rt, rt.alloc(), before, kept)?;
-        }
     }
     Ok(())
 }

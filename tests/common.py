@@ -1,14 +1,16 @@
 """What the tests share: a folder for each test, the program run in it, and a machine to load."""
 import os
 import shutil
+import subprocess
 import sys
 import tempfile
 import time
 import unittest
+from concurrent.futures import ThreadPoolExecutor
 
 sys.path.insert(0, os.path.join(os.path.dirname(os.path.dirname(os.path.realpath(__file__))), "tools"))
 import odt_peer
-from outside import FIRST, TOP, Answer, bytes_of, run
+from outside import FIRST, PROGRAM, TOP, Answer, bytes_of, run, text_of
 
 # The tapes that the tests name, by the names that they have in a test's folder.
 TAPES = {
@@ -104,3 +106,37 @@ class Case(unittest.TestCase):
         """Asserts that the test's folder has these files, and no others but tapes."""
         there = {name: bytes_of(self.path(name)).decode() for name in os.listdir(self.room) if name not in TAPES}
         self.is_so(there, files)
+
+
+# Runs a command for each name on its input, with the name as its last word, and keeps beside that file what it
+# printed and how it ended.
+EACH_NAME = """
+while IFS= read -r name; do
+    "$@" "$name" < /dev/null > "$name.out" 2> "$name.err"
+    echo $? > "$name.status"
+done
+"""
+SHELLS = 4
+
+
+def each_file(room, words, names):
+    """Runs the program once for each of these files in a folder, with its name behind these words; returns the
+    answers. Shells start it, some at a time, so that thousands of runs take seconds."""
+    command = ["bash", "-c", EACH_NAME, "bash", PROGRAM, *words]
+    share = lambda first: "".join(f"{name}\n" for name in names[first::SHELLS])
+    with ThreadPoolExecutor(SHELLS) as pool:
+        ran = [pool.submit(subprocess.run, command, input=share(first), text=True, cwd=room, check=True) for first in range(SHELLS)]
+        for shell in ran:
+            shell.result()
+    kept = lambda name, what: text_of(bytes_of(os.path.join(room, f"{name}.{what}")))
+    return [Answer(int(kept(name, "status")), kept(name, "out"), kept(name, "err")) for name in names]
+
+
+def changes(text, others):
+    """A text cut at each byte, and with each byte changed to each of the others, left out, or doubled."""
+    found = {text[:length] for length in range(len(text) + 1)}
+    for place, byte in enumerate(text):
+        before, after = text[:place], text[place + 1:]
+        found.update(before + bytes([other]) + after for other in others)
+        found.update((before + after, before + bytes([byte, byte]) + after))
+    return sorted(found)

@@ -1,5 +1,7 @@
-"""Outputs that are full, closed, or read by nobody; answers that have to be one write; and input that can't be read."""
+"""Outputs that are full, closed, or read by nobody; answers that have to be one write; when keys are answered; and
+input that can't be read."""
 import os
+import select
 import socket
 import subprocess
 import unittest
@@ -26,6 +28,9 @@ TOLD = {
     "check bad-sum.lda": (3, "ldaodt: tape refused at 9: BadSum\n"),
     "check no-such.lda": (4, "ldaodt: cannot read no-such.lda\n"),
     "load first.lda x:y": (4, "ldaodt: cannot connect to x:y\n"),
+    "check first.lda first.lda long": (3, "ldaodt: tape 3 refused at 1048576: TooLong\n"),
+    "rehearse first.lda long": (3, "ldaodt: script refused at line 0\n"),
+    "load first.lda x:y --record long": (3, "ldaodt: record refused: NotARecord\n"),
     "--dry-run": (2, "error: unexpected argument '--dry-run' found\n\nUsage: ldaodt [COMMAND]\n\nFor more information, try '--help'.\n"),
 }
 
@@ -34,12 +39,18 @@ TOLD = {
 CLOSED = ("<&-", ">&-", "2>&-", "<&- >&-", "<&- 2>&-", ">&- 2>&-", "<&- >&- 2>&-")
 
 
+# The files that these words name: two tapes, and what is longer than a tape, a script or a record may be.
+def put_files(case):
+    case.put_tapes("first.lda", "bad-sum.lda")
+    case.put("long", bytes((1 << 20) + 1))
+
+
 class Outputs(Case):
-    """The tapes that the words name are there."""
+    """The files that the words name are there."""
 
     def setUp(self):
         super().setUp()
-        self.put_tapes("first.lda", "bad-sum.lda")
+        put_files(self)
 
     def test_standard_output_that_can_not_be_written(self):
         """Full, or closed; whether or not that can be told."""
@@ -107,12 +118,13 @@ class Descriptors(Case):
 class Writes(Case):
     """Each answer is one write, so that lines of several programs on one terminal don't mix."""
 
-    def written(self, words, descriptor, keys=b""):
-        """Runs the program, and returns each write to a descriptor: over such a socket each is a message."""
+    def written(self, words, descriptor, keys=b"", other=subprocess.DEVNULL):
+        """Runs the program, and returns each write to a descriptor: over such a socket each is a message. What is
+        written to the other one goes nowhere, or to this file."""
         ours, theirs = socket.socketpair(socket.AF_UNIX, socket.SOCK_SEQPACKET)
         with ours:
             with theirs:
-                streams = {"stdout": subprocess.DEVNULL, "stderr": subprocess.DEVNULL, descriptor: theirs.fileno()}
+                streams = {"stdout": other, "stderr": other, descriptor: theirs.fileno()}
                 ran = subprocess.Popen([PROGRAM, *words], cwd=self.room, stdin=subprocess.PIPE, **streams)
                 ran.stdin.write(keys)
                 ran.stdin.close()
@@ -128,8 +140,15 @@ class Writes(Case):
                 self.is_so(self.written(words.split(), "stdout"), [self.ldaodt(words).out.encode()])
                 self.is_so(self.written(words.split(), "stderr"), [])
 
+    def test_what_can_not_be_printed(self):
+        self.put_tapes("first.lda")
+        with open("/dev/full", "wb") as full:
+            for words, keys in PRINTING.items():
+                with self.subTest(words):
+                    self.is_so(self.written(words.split(), "stderr", keys, other=full), [NO_OUTPUT.encode()])
+
     def test_what_is_told(self):
-        self.put_tapes("first.lda", "bad-sum.lda")
+        put_files(self)
         for words, (_, text) in TOLD.items():
             with self.subTest(words):
                 self.is_so(self.written(words.split(), "stderr"), [text.encode()])
@@ -139,6 +158,48 @@ class Writes(Case):
         """Each pair of an escape character and a letter of two bytes is shown in eight bytes."""
         told = self.written(["check", "\x1b\xe9" * 20000], "stderr")
         self.is_so(told, [b"ldaodt: cannot read " + b"\\u{1b}\xc3\xa9" * 20000 + b"\n"])
+
+
+class Keys(Case):
+    """All keys of a read are answered before more is read."""
+
+    def answer(self, typing, length):
+        """So many characters of the answers, once they are there; fewer where none come for a minute."""
+        answer = b""
+        while len(answer) < length and select.select([typing.stdout], [], [], 60)[0]:
+            piece = os.read(typing.stdout.fileno(), length - len(answer))
+            if not piece:
+                break
+            answer += piece
+        return answer
+
+    def are_answered(self, pieces):
+        """Types pieces of keys, each once the one before it is answered."""
+        typing = subprocess.Popen([PROGRAM, "type"], stdin=subprocess.PIPE, stdout=subprocess.PIPE)
+        with typing:
+            for keys, answer in pieces:
+                with self.subTest(keys):
+                    typing.stdin.write(keys)
+                    typing.stdin.flush()
+                    self.is_so(self.answer(typing, len(answer)), answer)
+            typing.stdin.close()
+            self.is_so(typing.stdout.read(), b"")
+        self.is_so(typing.returncode, 0)
+
+    def test_keys_that_come_in_pieces(self):
+        """A line feed is typed as a return."""
+        self.are_answered((
+            (b"001000/", b"001000/000000 "),
+            (b"011064\n", b"011064\r\n@"),
+            (b"Z", b"?\r\n@"),
+            (b"001000/\n", b"001000/011064 \r\n@"),
+        ))
+
+    def test_keys_that_come_one_by_one(self):
+        opened = [(b"0", b"0"), (b"0", b"0"), (b"1", b"1"), (b"0", b"0"), (b"0", b"0"), (b"0", b"0")]
+        value = [(b"0", b"0"), (b"1", b"1"), (b"1", b"1"), (b"0", b"0"), (b"6", b"6"), (b"4", b"4")]
+        deposit = [*opened, (b"/", b"/000000 "), *value, (b"\r", b"\r\n@")]
+        self.are_answered([*deposit, *opened, (b"/", b"/011064 "), (b"9", b"?\r\n@"), *opened, (b"G", b"G")])
 
 
 class Input(Case):

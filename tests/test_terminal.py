@@ -1,25 +1,43 @@
 """Standard error on a terminal: one line says how far a load is, and nothing of it is left."""
 import os
 import pty
+import time
 import unittest
 
-from common import QUIET, Case, Console
+from common import QUIET, Case, Console, DeafConsole
 
-FIRST_SHOWN = "\r0 of 1 words, 0%\x1b[K"
+# Each line that is shown, and its end, which takes away what is left of the one before it.
+SHOWN = "\r{}\x1b[K"
+FIRST_SHOWN = SHOWN.format("0 of 1 words, 0%")
 CLEARED = "\r\x1b[K"
 STARTED = "sent 30 spent 0 verified 1 of 1\nend Started\n"
 
 
-class Terminal(Case):
-    """A load of the smallest tape whose standard error is a terminal."""
+class SlowConsole(Console):
+    """It takes its time for each key behind some: a line is shown a tenth of a second after the one before it, or later."""
 
-    def load_at_a_terminal(self, close_after=None):
+    def __init__(self, keys, **named):
+        super().__init__(**named)
+        self.keys = keys
+
+    def take(self, key):
+        answer = super().take(key)
+        if len(self.typed) > self.keys:
+            time.sleep(0.15)
+        return answer
+
+
+class Terminal(Case):
+    """A load whose standard error is a terminal."""
+
+    def load_at_a_terminal(self, machine=None, words="first.lda", quiet=QUIET, close_after=None, **more):
         """Returns the answer, and all that came to the terminal, which writes a return before each line feed."""
-        self.put_tapes("first.lda")
-        peer = self.console_at(Console(), close_after=close_after)
+        self.put_tapes("first.lda", "two-words.lda")
+        tape, *rest = words.split()
+        peer = self.console_at(machine or Console(), close_after=close_after)
         ours, theirs = pty.openpty()
         try:
-            given = self.ldaodt(f"load first.lda {peer.address} --quiet {QUIET}", stderr=theirs)
+            given = self.ldaodt(["load", tape, peer.address, "--quiet", str(quiet), *rest], stderr=theirs, **more)
         finally:
             os.close(theirs)
         shown = b""
@@ -44,6 +62,30 @@ class Terminal(Case):
         self.is_so((given.status, given.out), (4, "sent 1 spent 0 verified 0 of 1\nend LineFailed\n"))
         self.assertTrue(shown.startswith(FIRST_SHOWN), repr(shown))
         self.assertTrue(shown.endswith(f"{CLEARED}ldaodt: line failed\r\n"), repr(shown))
+
+    def test_mishaps_are_counted(self):
+        """Each key waits for the quiet time, so that a line is shown with each: at the beginning, with the first key,
+        and with each one more, which follows a mishap."""
+        given, shown = self.load_at_a_terminal(DeafConsole(), "first.lda --patience 3")
+        self.is_so((given.status, given.out), (5, "sent 4 spent 3 verified 0 of 1\nend GaveUp\n"))
+        mishaps = "".join(SHOWN.format(f"0 of 1 words, 0%, {text}") for text in ("1 mishap", "2 mishaps", "3 mishaps"))
+        self.is_so(shown, FIRST_SHOWN * 2 + mishaps + CLEARED)
+
+    def test_words_of_the_record_count(self):
+        """Of the second word's eight keys and the start's seven the last ten are slow."""
+        self.put("a.record", b"LDAODT 2\n001000 031421")
+        machine = SlowConsole(6, memory={0o1002: 0o104})
+        given, shown = self.load_at_a_terminal(machine, "two-words.lda --record a.record", quiet=1000)
+        self.is_so((given.status, given.out), (0, "sent 16 spent 0 verified 2 of 2\nend Started\n"))
+        self.assertTrue(shown.startswith(SHOWN.format("1 of 2 words, 50%")), repr(shown))
+        self.assertTrue(shown.endswith(SHOWN.format("2 of 2 words, 100%, 0:00 left") + CLEARED), repr(shown))
+
+    def test_a_word_that_can_not_be_kept_does_not_count(self):
+        """The record has room for its header alone. The keys that look at the word again are slow."""
+        given, shown = self.load_at_a_terminal(SlowConsole(19), "first.lda --record a.record", quiet=1000, file_size=9)
+        self.is_so((given.status, given.out), (4, "sent 23 spent 0 verified 1 of 1\nend KeepFailed\n"))
+        self.assertTrue(shown.endswith(f"{CLEARED}ldaodt: cannot write a.record\r\n"), repr(shown))
+        self.is_so(set(shown[:shown.index(CLEARED)].split("\r")), {"", FIRST_SHOWN[1:]})
 
 
 if __name__ == "__main__":

@@ -1,7 +1,7 @@
 """Words of the command line that are no text, empty or odd."""
 import unittest
 
-from common import Case
+from common import Case, Console
 from outside import FIRST, LOST_DIGIT, bytes_of
 
 NO_TEXT = "ldaodt: a word of the command line is not UTF-8\n"
@@ -43,6 +43,17 @@ class Words(Case):
         for name, shown in SHOWN[:-1]:
             with self.subTest(shown):
                 self.ends(self.ldaodt(["load", "first.lda", "--", name]), 4, "", f"ldaodt: cannot connect to {shown}\n")
+
+    def test_so_does_a_record(self):
+        """In a folder that is not there: it is seen once there is a connection."""
+        self.put_tapes("first.lda")
+        peer = self.console_at(Console())
+        for name, shown in SHOWN[1:-1]:
+            with self.subTest(shown):
+                given = self.ldaodt(["load", "first.lda", peer.address, "--record", f"no-such/{name}"])
+                self.ends(given, 4, "", f"ldaodt: cannot write no-such/{shown}\n")
+        peer.settle()
+        self.is_so((peer.connections, peer.machine.typed), (len(SHOWN) - 2, ""))
 
     def test_odd_names_of_files_that_are_there(self):
         for name in ("a b.lda", "two\nlines", "k\xe4se.lda", "--help", "-", "'"):

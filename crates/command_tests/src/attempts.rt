@@ -22,7 +22,7 @@ pub struct Ended {
 
 impl Ended {
     /// Nothing yet, with room for what a request writes, so that it takes no memory of the request's.
-    pub fn with_room(alloc: Global) -> Result<Ended, AllocError> {
+    pub(crate) fn with_room(alloc: Global) -> Result<Ended, AllocError> {
         Ok(Ended {
             status: Status::Uncertain,
             out: Vec::with_capacity(alloc, 1024)?,
@@ -31,7 +31,7 @@ impl Ended {
     }
 
     /// Whether it ended with this status, and wrote this.
-    pub fn is(&self, status: Status, out: &str, err: &str) -> bool {
+    pub(crate) fn is(&self, status: Status, out: &str, err: &str) -> bool {
         self.status == status
             && self.out.as_slice() == out.as_bytes()
             && self.err.as_slice() == err.as_bytes()
@@ -39,7 +39,7 @@ impl Ended {
 }
 
 /// Does a request over the test's files, in place of what the one before it left.
-pub fn run(rt: &HostRuntime, request: Request<'_>, mut input: &[u8], ended: &mut Ended) {
+pub(crate) fn run(rt: &HostRuntime, request: Request<'_>, mut input: &[u8], ended: &mut Ended) {
     ended.out.clear();
     ended.err.clear();
     ended.status = attempt(
@@ -57,7 +57,7 @@ pub fn run(rt: &HostRuntime, request: Request<'_>, mut input: &[u8], ended: &mut
 const PATIENCE: u32 = 3;
 
 /// A load of a tape, recorded under this name. The error is that the request itself has no room.
-pub fn load_of<'a>(
+pub(crate) fn load_of<'a>(
     alloc: Global,
     tape: &'a str,
     record: Option<&'a str>,
@@ -76,7 +76,7 @@ pub fn load_of<'a>(
 }
 
 /// Does a request, with nothing on standard input, and answers how it ended.
-pub fn attempt_on<W: Write, T: Print>(
+pub(crate) fn attempt_on<W: Write, T: Print>(
     system: &System<'_>,
     alloc: Global,
     request: Request<'_>,

@@ -1,6 +1,5 @@
 //! Devices that fail once in the middle of a check, a rehearsal or a dialogue, and would then go on.
 
-use crate::changed_scripts::{STALE, STALE_REPORT};
 use crate::tapes::{ONE_WORD, ONE_WORD_DIALOGUE, ONE_WORD_TEXT};
 use command_io::CommandFault;
 use failing_devices::{BrokenInput, BrokenOutput};
@@ -9,6 +8,14 @@ use rehearsals::{dialogue_to, rehearse_to};
 use std::alloc::Global;
 use std::slice;
 use tape_check::check_to;
+
+/// A script in which characters of an earlier session wait, and look like echoes.
+const STALE: &str =
+    "wait 78 3F 0D 0A 40 30 30 31\nhear\ndown 0\nhear 4\ndown 0\nhear\ndown 0\nhear\ndown 0\nhear\nclean\n";
+
+/// What is reported of it: the host ignored them all, so there was no key to lose.
+const STALE_REPORT: &str =
+    "line 3: not possible\nline 5: not possible\nline 7: not possible\nline 9: not possible\nsent 30 lost 0 spent 0 verified 1 of 1\nend Started\nodt Running 001000\n001000 011064 stands\n";
 
 /// The device that fails: before a byte of its input, or at a write, by its number.
 #[derive(Clone, Copy)]

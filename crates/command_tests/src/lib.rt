@@ -1,40 +1,31 @@
 //! Tests of the commands, of the requests for them, and of the calls below, as far as they can only be
-//! made inside the process: of the largest sizes, and of hostile use.
+//! made inside the process.
 //!
 //! Contracts say what the calls answer beside the answer for want of memory, and let that one come at
-//! any time; here stands what no clause can say: that they succeed where memory is ample, however
-//! large the tapes and scripts are; that with a growth refused they answer just that, with nothing
-//! written but the beginning of the whole; that a device that failed is not asked again, and how much
-//! is read; that each byte of a script and of a record, changed, gives an answer or the refusal of its
-//! line; that `type` answers before it reads on; that a record is on the disk before it replaces the
-//! old one; and what is shown of a load while it goes on.
+//! any time; here stands what no clause can say: that they succeed where memory is ample; that with a
+//! growth refused they answer just that, with nothing written but the beginning of the whole; that a
+//! device that failed is not asked again; that a record is on the disk before it replaces the old one;
+//! and at what pace a load is shown while it goes on.
 //!
-//! What the built program shows from outside is tested in `tests/` at the top. These tests stand in a
-//! crate of their own, since a crate with tests is proved twice.
+//! What the built program shows from outside is tested in `tests/` at the top: the largest sizes and
+//! scripts and records with a byte changed among it. These tests stand in a crate of their own, since a
+//! crate with tests is proved twice.
 #![tactic(auto)]
 
 #[cfg(test)]
 mod attempts;
 #[cfg(test)]
-mod changed_records;
-#[cfg(test)]
-mod changed_scripts;
-#[cfg(test)]
-mod explaining;
-#[cfg(test)]
 mod failing;
+#[cfg(test)]
+mod failing_keys;
 #[cfg(test)]
 mod failing_records;
 #[cfg(test)]
 mod failing_requests;
 #[cfg(test)]
-mod faults;
-#[cfg(test)]
-mod large;
+mod failing_texts;
 #[cfg(test)]
 mod limits;
-#[cfg(test)]
-mod loads;
 #[cfg(test)]
 mod progress;
 #[cfg(test)]
@@ -49,7 +40,3 @@ mod scarce_loads;
 mod scarce_requests;
 #[cfg(test)]
 mod tapes;
-#[cfg(test)]
-mod typing;
-#[cfg(test)]
-mod words;

@@ -1,36 +1,14 @@
-//! What no command line can ask for, a check of no tape and a machine that is too large, and how much of a
-//! script is read.
+//! What no command line can ask for: a check of no tape, and a machine that is too large.
 
 use crate::attempts::{Ended, run};
 use crate::tapes::{ONE_WORD, WRONG_SUM};
-use command_io::CommandFault;
 use endings::Status;
 use odt_machine::PLAIN_STYLE;
-use rehearsals::rehearse_to;
 use requests::{Console, Request};
 use std::alloc::{AllocError, Global};
+use std::fs;
 use std::test::Fail;
-use std::{fs, slice};
 use tape_check::check_to;
-
-#[test]
-fn a_script_that_is_too_long(rt: HostRuntime) -> Result<(), Fail> {
-    let text = vec![in rt.alloc(); b'\n'; 1_048_585]?;
-    let (mut tape, mut script) = (ONE_WORD.as_slice(), text.as_slice());
-    let mut out = Vec::new(rt.alloc());
-    let done = rehearse_to(
-        rt.alloc(),
-        slice::from_mut(&mut tape),
-        &mut script,
-        &mut out,
-    );
-    assert!(rt; done == Err(CommandFault::Script(0)) && out.is_empty());
-    assert!(rt;
-        script.len() == 8,
-        "what stands behind 1,048,577 bytes is not taken"
-    );
-    Ok(())
-}
 
 #[test]
 fn no_tape_has_no_word(rt: HostRuntime) {

@@ -1,16 +1,13 @@
-//! What a person sees while a load goes on.
+//! At what pace a person sees how far a load is: over a clock that stands where it is set.
 
-use crate::attempts::{attempt_on, load_of};
-use crate::tapes::{ONE_WORD, OVERLAP};
 use machine_load::{Onlooker, ProgressLine};
-use simulated_system::{AMPLE, Setting, System};
 use std::alloc::Global;
 use std::cell::{Cell, RefCell};
 use std::fmt::Display;
+use std::io;
 use std::io::Print;
 use std::test::Fail;
 use std::time::{Clock, Duration};
-use std::{fs, io};
 
 /// A clock that stands where it is set, in milliseconds.
 #[derive(Drop)]
@@ -47,14 +44,6 @@ impl Screen {
     fn shows(&self, last: &str) -> bool {
         match self.text.try_borrow() {
             Ok(text) => text.ends_with(last.as_bytes()),
-            Err(_) => false,
-        }
-    }
-
-    /// Whether this is all that was written.
-    fn has_shown(&self, all: &str) -> bool {
-        match self.text.try_borrow() {
-            Ok(text) => text.as_slice() == all.as_bytes(),
             Err(_) => false,
         }
     }
@@ -151,61 +140,4 @@ fn a_load_is_shown_at_its_pace(rt: HostRuntime) -> Result<(), Fail> {
     line.ends();
     assert!(rt; terminal.shows("\r\x1b[K"));
     Ok(())
-}
-
-/// A tape, its record where there is one, how many milliseconds pass from one look at the clock to the next,
-/// how many bytes the record has room for, and all that is shown of the load.
-type Shown = (&'static [u8], &'static str, u64, usize, &'static str);
-
-const SHOWN: [Shown; 3] = [
-    // A clock that stands still: the line is shown once, and then cleared.
-    (
-        &ONE_WORD,
-        "",
-        0,
-        1_000_000,
-        "\r0 of 1 words, 0%\x1b[K\r\x1b[K",
-    ),
-    // A word is verified already; then the first key, and the other word.
-    (
-        &OVERLAP,
-        "LDAODT 2\n001000 031421",
-        1000,
-        1_000_000,
-        "\r1 of 2 words, 50%\x1b[K\r1 of 2 words, 50%\x1b[K\r2 of 2 words, 100%, 0:00 left\x1b[K\r\x1b[K",
-    ),
-    // A word that the record has no room for is none that is kept.
-    (
-        &ONE_WORD,
-        "",
-        1000,
-        9,
-        "\r0 of 1 words, 0%\x1b[K\r0 of 1 words, 0%\x1b[K\r\x1b[K",
-    ),
-];
-
-#[test]
-fn a_load_is_shown_and_nothing_of_it_is_left(rt: HostRuntime) -> Result<(), Fail> {
-    for row in &SHOWN {
-        let (tape, record, tick, room, shown) = *row;
-        fs::write(&rt, "p.lda", tape)?;
-        fs::write(&rt, "p.record", record)?;
-        let terminal = Screen::new(rt.alloc());
-        let mut out = Vec::new(rt.alloc());
-        let mut err = Vec::new(rt.alloc());
-        let request = load_of(rt.alloc(), "p.lda", Some("p.record"))?;
-        let system = System::new(
-            &rt,
-            Setting {
-                tick,
-                room,
-                ..AMPLE
-            },
-        );
-        let looks_on = Some(&terminal);
-        attempt_on(&system, rt.alloc(), request, &mut out, &mut err, looks_on);
-        assert!(rt; terminal.has_shown(shown), "{shown:?}");
-    }
-    fs::remove_file(&rt, "p.record")?;
-    Ok(fs::remove_file(&rt, "p.lda")?)
 }

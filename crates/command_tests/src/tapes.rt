@@ -40,7 +40,7 @@ pub const OVERLAP: [u8; 25] = [
 ];
 
 /// The plan of the smallest tape.
-pub fn plan_of_one_word(alloc: Global) -> Result<Plan, Fail> {
+pub(crate) fn plan_of_one_word(alloc: Global) -> Result<Plan, Fail> {
     let (tape, _) = read_tape(alloc, &ONE_WORD)?;
     Ok(Plan::of(alloc, &tape)?)
 }

@@ -1,7 +1,6 @@
-//! Texts that explain, help and refusals, over outputs that fail.
+//! Lines of faults and texts that explain, help and refusals, over outputs that fail once.
 
-use crate::faults::CountedOutput;
-use endings::{Status, refuse, show};
+use endings::{Failure, Status, refuse, show, tell};
 use failing_devices::{BrokenOutput, UnflushedOutput};
 use std::alloc::Global;
 use std::io::Write;
@@ -12,11 +11,11 @@ const TEXT: &str = "Usage: ldaodt\n";
 /// What is said where it can't be shown.
 const CANNOT_WRITE: &[u8] = b"ldaodt: cannot write output\n";
 
-/// Whether a text that can't be shown on an output is told on standard error, in one write.
+/// Whether a text that can't be shown on an output is told on standard error.
 fn is_told<W: Write>(alloc: Global, out: &mut W) -> bool {
-    let mut err = CountedOutput::new(alloc);
+    let mut err = Vec::new(alloc);
     let status = show(alloc, TEXT, out, &mut err);
-    status == Status::DeviceFailed && err.writes == 1 && err.written.as_slice() == CANNOT_WRITE
+    status == Status::DeviceFailed && err.as_slice() == CANNOT_WRITE
 }
 
 #[test]
@@ -52,5 +51,21 @@ fn what_can_not_be_told_is_not(rt: HostRuntime) {
             err.failures == 1 && err.later_writes == 0,
             "write {number}"
         );
+    }
+}
+
+#[test]
+fn standard_error_fails_once(rt: HostRuntime) {
+    for number in 1..6 {
+        let mut err = BrokenOutput::new(Vec::new(rt.alloc()), number);
+        let status = tell(
+            rt.alloc(),
+            Failure::CannotRead("no-such-tape.lda"),
+            &mut err,
+        );
+        assert!(rt; status == Status::DeviceFailed, "{number}");
+        assert!(rt; err.failures == 1 && err.later_writes == 0, "{number}");
+        let line: &[u8] = b"ldaodt: cannot read no-such-tape.lda\n";
+        assert!(rt; line.starts_with(err.written.as_slice()), "{number}");
     }
 }

@@ -1,0 +1,138 @@
+"""The largest tapes, scripts, records and loads: each is done as a small one is.
+
+A full image has 28,672 words: all of memory. How many characters a load sends is counted as in test_loads.py.
+"""
+import os
+import unittest
+from concurrent.futures import ThreadPoolExecutor
+
+from common import QUIET, Case, Console
+from odt_peer import Peer
+from outside import block
+
+WORDS = 28672
+# Twenty-eight words in each block, none of them zero, since addresses end below 177777.
+IMAGE = [(address, 0o177777 - address) for address in range(0, 2 * WORDS, 2)]
+BLOCKS = [IMAGE[first:first + 28] for first in range(0, WORDS, 28)]
+TAPE = b"".join(block(words[0][0], b"".join(value.to_bytes(2, "little") for _, value in words)) for words in BLOCKS)
+
+CHECKED = "blocks 1024 data 57344 read 64519\nno start 000001\ncanonical yes\nwords 28672\n"
+STANDING = "".join(f"{address:06o} {value:06o} stands\n" for address, value in IMAGE)
+
+
+def record_of(words, version):
+    """A record of version 1, or of version 2 with runs of 16 words; each line has its end but that of the last run."""
+    if version == 1:
+        return "LDAODT 1\n" + "".join(f"{address:06o} 177777 {value:06o}\n" for address, value in words)
+    runs = [words[first:first + 16] for first in range(0, len(words), 16)]
+    return "LDAODT 2\n" + "\n".join(f"{run[0][0]:06o}" + "".join(f" {value:06o}" for _, value in run) for run in runs)
+
+
+class FullImage(Case):
+    """A tape of 1,024 blocks that fills memory: with no start, and with one at 000000."""
+
+    def setUp(self):
+        super().setUp()
+        self.put("full.lda", TAPE + block(1, b""))
+        self.put("starting.lda", TAPE + block(0, b""))
+
+    def recorded(self, tape, record, peer):
+        """Loads with a record, and returns the answer and the record that is left."""
+        self.put("a.record", record.encode())
+        given = self.ldaodt(f"load {tape} {peer.address} --quiet {QUIET} --record a.record")
+        peer.settle()
+        with open(self.path("a.record"), encoding="ascii") as file:
+            return given, file.read()
+
+    def test_it_is_checked(self):
+        words = "".join(f"{address:06o} 177777 {value:06o}\n" for address, value in IMAGE)
+        self.ends(self.ldaodt("check full.lda"), 0, CHECKED + words)
+
+    def test_it_is_loaded_by_a_dialogue(self):
+        """22 keys for each word, behind the first."""
+        talk = "".join(
+            f"{address:06o}/ -> {address:06o}/000000_\n{value:06o}<CR> -> {value:06o}<CR><LF>@\n"
+            f"{address:06o}/ -> {address:06o}/{value:06o}_\n<CR> -> <CR><LF>@\n"
+            for address, value in IMAGE
+        )
+        report = "sent 630785 lost 0 spent 0 verified 28672 of 28672\nend Loaded\nodt Prompt\n"
+        self.ends(self.ldaodt("dialogue full.lda"), 0, "Z -> ?<CR><LF>@\n" + talk + report + STANDING)
+
+    def test_it_is_rehearsed(self):
+        """Each word is in memory before, so that it has 8 keys. At the opening no key goes down: no take is possible."""
+        puts = "".join(f"put {address:06o} {value:06o}\n" for address, value in IMAGE)
+        self.put("long.script", (puts + "take\n" * 20000 + "clean\n").encode())
+        impossible = "".join(f"line {WORDS + number}: not possible\n" for number in range(1, 20001))
+        report = "sent 229377 lost 0 spent 0 verified 28672 of 28672\nend Loaded\nodt Prompt\n"
+        self.ends(self.ldaodt("rehearse full.lda long.script"), 0, impossible + report + STANDING)
+
+    def test_the_longest_records(self):
+        """How long they are stands in docs/RECORD.md, with the mark and its two bytes."""
+        peer = self.console_at(Console(), close_after=0)
+        whole = {version: record_of(IMAGE, version) for version in (1, 2)}
+        self.is_so((len(whole[1] + "G\n"), len(whole[2] + "\nG\n")), (602123, 213259))
+        for marked in (whole[1] + "G\n", whole[2] + "\nG\n"):
+            given, left = self.recorded("starting.lda", marked, peer)
+            self.ends(given, 6, "sent 0 spent 0 verified 28672 of 28672\nend MaybeStarted\n")
+            self.is_so(left, marked)
+        self.is_so(peer.connections, 0)
+        # Without the mark there is a start to type: the record is written anew, and the line breaks.
+        for unmarked in whole.values():
+            given, left = self.recorded("starting.lda", unmarked, peer)
+            self.ends(given, 4, "sent 0 spent 0 verified 28672 of 28672\nend LineFailed\n", "ldaodt: line failed\n")
+            self.is_so(left, whole[2])
+        self.is_so((peer.connections, peer.machine.typed), (2, ""))
+
+    def test_a_load_goes_on_behind_a_long_record(self):
+        """Of the last 500 words each other one stands: of the rest one half has 22 keys, the other 8."""
+        done, due = IMAGE[:-500], IMAGE[-500:]
+        peer = self.console_at(Console(memory=dict(due[::2])))
+        given, left = self.recorded("starting.lda", record_of(done, 2), peer)
+        self.ends(given, 0, f"sent {1 + 250 * 22 + 250 * 8 + 7} spent 0 verified 28672 of 28672\nend Started\n")
+        self.is_so(left, record_of(IMAGE, 2) + "\nG\n")
+        self.is_so([(address, peer.machine.word(address)) for address, _ in due], due)
+        self.is_so((set(peer.machine.words[:len(done)]), peer.machine.starts), ({0}, [0]))
+
+
+class BabblingPeer(Peer):
+    """Before it is a console, it sends so many characters that nobody asked for."""
+
+    def __init__(self, machine, count):
+        super().__init__(machine)
+        self.count = count
+
+    def talk(self, connection):
+        connection.sendall(b"@" * self.count)
+        super().talk(connection)
+
+
+class Turns(Case):
+    """A load has ten million turns: characters that are heard, and silences."""
+
+    def test_as_many_turns_as_a_load_may_have_and_one_more(self):
+        """A load of first.lda hears silence, 4 characters to `Z`, 40 to the word, and the 7 of the start."""
+        self.put_tapes("first.lda")
+        most = 10_000_000 - 1 - 4 - 40 - 7
+        peers = [BabblingPeer(Console(), count) for count in (most, most + 1)]
+        for peer in peers:
+            self.addCleanup(peer.close)
+        with ThreadPoolExecutor(len(peers)) as pool:
+            enough, too_many = pool.map(lambda peer: self.ldaodt(f"load first.lda 127.0.0.1:{peer.port} --quiet 2000"), peers)
+        self.ends(enough, 0, "sent 30 spent 0 verified 1 of 1\nend Started\n")
+        self.ends(too_many, 5, "sent 30 spent 0 verified 1 of 1\nend TurnsOver\n")
+
+
+class TooLong(Case):
+    """What is longer than it may be: a file that never ends comes to an end, too."""
+
+    def test_tapes_and_scripts_without_end(self):
+        """They are named by a link, so that no fault of the program, run by root, could do a device harm."""
+        self.put_tapes("first.lda")
+        os.symlink("/dev/zero", self.path("zero"))
+        self.ends(self.ldaodt("check zero"), 3, "", "ldaodt: tape refused at 1048576: TooLong\n")
+        self.ends(self.ldaodt("check first.lda first.lda zero"), 3, "", "ldaodt: tape 3 refused at 1048576: TooLong\n")
+        self.ends(self.ldaodt("rehearse first.lda zero"), 3, "", "ldaodt: script refused at line 0\n")
+
+
+if __name__ == "__main__":
+    unittest.main()

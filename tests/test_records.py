@@ -1,0 +1,220 @@
+"""Records of loads, cut and changed at each byte and written by hand, against a second reader of records.
+
+The reader is written from docs/RECORD.md: it makes the texts that may come next and looks which of them is there. A
+load whose record it refuses is refused, connects to nobody, and leaves the record as it was; so does a load of a
+record with the mark, which is over. Any other load connects, writes its record anew with the words that it found, and
+here the line breaks at once: so its report says how many words those are, and nothing was typed.
+"""
+import os
+import threading
+import unittest
+
+from common import Case, Console, changes, each_file
+from outside import Answer, block
+
+# Three words with both bytes, the low byte of a word, the high byte of another, and two words more.
+PIECES = ((0o1000, b"\x34\x12\x56\x9a\x00\x00"), (0o1006, b"\x41"), (0o1011, b"\xc1"), (0o1020, b"\x00\xff\xff\x00"))
+# Eighteen words: a run that is as long as a run may be, and two words more.
+ROW = ((0o2000, bytes(range(1, 37))),)
+OTHERS = b"\n 01247GH\r\xff"
+
+LONGEST_RUN = 16
+NO_RECORD = "NotARecord"
+
+
+def words_of(pieces):
+    """The words of some pieces of memory, which don't overlap: address, mask and value, in their order."""
+    held = {address + place: byte for address, data in pieces for place, byte in enumerate(data)}
+    words = []
+    for address in sorted({address & ~1 for address in held}):
+        mask = (0o377 if address in held else 0) | (0o177400 if address + 1 in held else 0)
+        words.append((address, mask, held.get(address, 0) | held.get(address + 1, 0) << 8))
+    return words
+
+
+def tape_of(pieces, start):
+    return b"".join(block(address, data) for address, data in pieces) + block(start, b"")
+
+
+def run_of(words, count):
+    """The line of a run of the next words, without its end; none where they make no run."""
+    run = words[:count]
+    if len(run) < count or any(it[:2] != (run[0][0] + 2 * place, 0o177777) for place, it in enumerate(run)):
+        return None
+    return f"{run[0][0]:06o}" + "".join(f" {value:06o}" for _, _, value in run)
+
+
+def lines_of(words, version):
+    """Each line that may stand next in a record where these words are due, and how many of them it has."""
+    if version == 1:
+        return {"%06o %06o %06o" % words[0]: 1} if words else {}
+    lines = {run_of(words, count): count for count in range(1, LONGEST_RUN + 1)}
+    if words and words[0][1] != 0o177777:
+        lines["H %06o %06o %06o" % words[0]] = 1
+    lines.pop(None, None)
+    return lines
+
+
+def read(record, words, has_start):
+    """What is refused of a record: no record at all, or a line by its number; or how many words it says are verified,
+    and whether it has the mark."""
+    *lines, torn = record.decode("latin-1").split("\n")
+    if len(record) > 1 << 20:
+        return NO_RECORD
+    if not lines:
+        return 0, False
+    if lines[0] not in ("LDAODT 1", "LDAODT 2"):
+        return NO_RECORD
+    version, done, is_marked = int(lines[0][-1]), 0, False
+    for number, line in enumerate(lines[1:], 2):
+        count = 0 if is_marked else lines_of(words[done:], version).get(line, 0)
+        is_due = has_start and done == len(words) and not is_marked
+        if not count and not (line == "G" and is_due):
+            return number
+        done, is_marked = done + count, is_marked or not count
+    if version == 2:
+        done += max((count for text, count in lines_of(words[done:], 2).items() if text[0] != "H" and torn.startswith(text)), default=0)
+    return done, is_marked
+
+
+def written(words):
+    """The record of version 2 with these words; the line of a run at its end is open."""
+    record, rest = "LDAODT 2\n", list(words)
+    while rest:
+        line, count = max(lines_of(rest, 2).items(), key=lambda it: it[1])
+        rest = rest[count:]
+        record += line + ("\n" if rest or line[0] == "H" else "")
+    return record
+
+
+def whole_record(words, version, mark="G\n"):
+    """A whole record, each line with its end."""
+    if version == 1:
+        return "LDAODT 1\n" + "".join("%06o %06o %06o\n" % it for it in words) + mark
+    return written(words).rstrip("\n") + "\n" + mark
+
+
+class Records(Case):
+    """Loads of which each finds a record, and a line that breaks before anything was typed."""
+
+    def loaded(self, pieces, start, records):
+        """Loads the tape of these pieces with each of the records, and asserts what comes of each. Returns how many
+        were refused, were over, and went on to the line."""
+        words, has_start = words_of(pieces), start % 2 == 0
+        self.put("tape.lda", tape_of(pieces, start))
+        peer = self.console_at(Console(), close_after=0)
+        names = [f"{number}.record" for number in range(len(records))]
+        for name, record in zip(names, records):
+            self.put(name, record)
+        answers = each_file(self.room, ["load", "tape.lda", peer.address, "--quiet", "60000", "--record"], names)
+        counts = [0, 0, 0]
+        for name, record, given in zip(names, records, answers):
+            with self.subTest(record[:200]):
+                wanted, left, kind = self.wanted(read(record, words, has_start), words, has_start, record)
+                self.is_so(given, wanted)
+                with open(self.path(name), "rb") as file:
+                    self.is_so(file.read(), left)
+                counts[kind] += 1
+        peer.settle()
+        self.is_so((peer.connections, peer.machine.typed), (counts[2], ""))
+        self.is_so([name for name in os.listdir(self.room) if name.endswith("ldaodt-new")], [])
+        return counts
+
+    def wanted(self, said, words, has_start, record):
+        """The answer of a load, the record that it leaves, and whether that was refused, over, or went on."""
+        if said == NO_RECORD:
+            return Answer(3, "", f"ldaodt: record refused: {said}\n"), record, 0
+        if isinstance(said, int):
+            return Answer(3, "", f"ldaodt: record refused at line {said}\n"), record, 0
+        count, is_marked = said
+        report = f"sent 0 spent 0 verified {count} of {len(words)}\n"
+        if is_marked:
+            return Answer(6, f"{report}end MaybeStarted\n", ""), record, 1
+        if count == len(words) and not has_start:
+            return Answer(0, f"{report}end Loaded\n", ""), record, 1
+        return Answer(4, f"{report}end LineFailed\n", "ldaodt: line failed\n"), written(words[:count]).encode(), 2
+
+    def test_each_byte_is_changed(self):
+        for version in (1, 2):
+            record = whole_record(words_of(PIECES), version).encode()
+            refused, over, went_on = self.loaded(PIECES, 0o1000, changes(record, OTHERS))
+            self.assertGreater(refused, 1000)
+            self.is_so(over, 1)
+            self.assertGreater(went_on, len(record))
+
+    def test_each_byte_is_changed_of_a_record_with_an_open_run(self):
+        words = words_of(ROW)
+        for count in (LONGEST_RUN, len(words)):
+            self.loaded(ROW, 0o2000, changes(written(words[:count]).encode(), b"\n 3"))
+
+    def test_records_of_a_tape_that_starts_nothing(self):
+        """The mark is due in none."""
+        words = words_of(PIECES)
+        records = [whole_record(words, version, mark).encode() for version in (1, 2) for mark in ("", "G\n", "G")]
+        self.is_so(self.loaded(PIECES, 1, records), [2, 4, 0])
+
+    def test_runs_may_be_shorter_and_not_longer(self):
+        words = words_of(ROW)
+        line = lambda first, count: f"{words[first][0]:06o}" + "".join(f" {value:06o}" for _, _, value in words[first:first + count]) + "\n"
+        wholes = ((16, 2), (15, 3), (1,) * 18, (2, 16), (9, 9))
+        too_long = ((17, 1), (1, 17), (18,))
+        records = []
+        for counts in wholes + too_long:
+            firsts = [sum(counts[:place]) for place in range(len(counts))]
+            records.append(("LDAODT 2\n" + "".join(line(*it) for it in zip(firsts, counts)) + "G\n").encode())
+        self.is_so(self.loaded(ROW, 0o2000, records), [len(too_long), len(wholes), 0])
+
+    def test_a_run_has_neighbours_with_both_bytes_alone(self):
+        """In PIECES the fourth word has one byte, the fifth too, and the sixth does not stand behind the fifth."""
+        words = [it[2] for it in words_of(PIECES)]
+        head = "LDAODT 2\n001000 %06o %06o %06o" % tuple(words[:3])
+        halves = "\nH 001006 000377 %06o\nH 001010 177400 %06o\n" % tuple(words[3:5])
+        records = (
+            head + " %06o\n" % words[3],
+            head + "\n001006 %06o\n" % words[3],
+            head + halves.replace("H", "001006 000377 000101\nH", 1),
+            head + halves.replace("000377", "177777"),
+            head + halves + "001012 %06o\n" % words[5],
+            head + halves + "H 001020 177777 %06o\n" % words[5],
+            head.replace("001000", "H 001000") + "\n",
+        )
+        self.is_so(self.loaded(PIECES, 0o1000, [it.encode() for it in records]), [len(records), 0, 0])
+        # Behind the last line end the same is no fault: the words are counted up to there.
+        torn = (head + " %06o" % words[3], head + "\n001006 %06o" % words[3], head + "7", head + "\nG", head + halves[:-1])
+        self.is_so(self.loaded(PIECES, 0o1000, [it.encode() for it in torn]), [0, 0, len(torn)])
+
+    def test_marks(self):
+        """The mark is due behind all words, and once."""
+        for version in (1, 2):
+            whole = whole_record(words_of(PIECES), version)
+            lines = whole.splitlines(True)
+            records = [whole + "G\n", whole + "\n", whole + lines[1], "".join(lines[:-2]) + "G\n", lines[0] + "G\n", whole.replace("G", "g"), whole.replace("G", "G ")]
+            self.is_so(self.loaded(PIECES, 0o1000, [it.encode() for it in records]), [len(records), 0, 0])
+            self.is_so(self.loaded(PIECES, 0o1000, [(whole + torn).encode() for torn in ("", "G", "x", "001000 011064")]), [0, 4, 0])
+
+    def test_headers(self):
+        words = words_of(PIECES)
+        refused = ("LDAODT 0\n", "LDAODT 3\n", "LDAODT 2 \n", "ldaodt 2\n", "LDAODT2\n", "LDAODT 2\r\n", "\n", "\nLDAODT 2\n", "LDAODT 22\n")
+        empty = ("", "LDAODT 2", "LDAODT 1\n", "LDAODT 2\n", "hello", "G", "\xff\0")
+        self.is_so(self.loaded(PIECES, 0o1000, [it.encode("latin-1") for it in refused]), [len(refused), 0, 0])
+        self.is_so(self.loaded(PIECES, 0o1000, [it.encode("latin-1") for it in empty]), [0, 0, len(empty)])
+        # The lines of one version are none of the other.
+        swapped = [whole_record(words, version).replace(f"T {version}", f"T {3 - version}").encode() for version in (1, 2)]
+        self.is_so(self.loaded(PIECES, 0o1000, swapped), [2, 0, 0])
+
+    def test_one_byte_more_than_a_record_has_is_read(self):
+        """Behind that one, seven stay in the pipe."""
+        self.put("tape.lda", tape_of(PIECES, 0o1000))
+        os.mkfifo(self.path("a.record"))
+        rest = os.open(self.path("a.record"), os.O_RDONLY | os.O_NONBLOCK)
+        self.addCleanup(os.close, rest)
+        writer = threading.Thread(target=self.put, args=("a.record", b"7" * ((1 << 20) + 1) + b"behind."))
+        writer.start()
+        self.ends(self.ldaodt("load tape.lda [::1]:1 --record a.record"), 3, "", "ldaodt: record refused: NotARecord\n")
+        os.set_blocking(rest, True)
+        self.is_so(b"".join(iter(lambda: os.read(rest, 1 << 20), b"")), b"behind.")
+        writer.join()
+
+
+if __name__ == "__main__":
+    unittest.main()

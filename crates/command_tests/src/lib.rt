@@ -33,8 +33,6 @@ mod replacing;
 #[cfg(test)]
 mod scarce_calls;
 #[cfg(test)]
-mod scarce_commands;
-#[cfg(test)]
 mod scarce_loads;
 #[cfg(test)]
 mod scarce_requests;

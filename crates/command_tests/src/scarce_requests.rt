@@ -2,7 +2,7 @@
 //! there is a simulated one.
 
 use crate::attempts::{Ended, OUT_OF_MEMORY, run};
-use crate::tapes::{NOTHING, ONE_WORD, ONE_WORD_TEXT, WRONG_SUM};
+use crate::tapes::{NOTHING, ONE_WORD, ONE_WORD_DIALOGUE, ONE_WORD_TEXT, PADDED, WRONG_SUM};
 use endings::Status;
 use odt_machine::{LARGEST_WORDS, PLAIN_STYLE};
 use requests::{Console, Load, Request};
@@ -91,12 +91,19 @@ fn request_of(alloc: Global, asked: Asked) -> Result<Request<'static>, AllocErro
 type Row = (Asked, &'static [u8], Status, &'static str, &'static str);
 
 /// Requests of each command, some of them refused behind their growths.
-const REQUESTS: [Row; 11] = [
+const REQUESTS: [Row; 13] = [
     (
         Asked::CheckInput,
         &ONE_WORD,
         Status::Done,
         ONE_WORD_TEXT,
+        "",
+    ),
+    (
+        Asked::CheckInput,
+        &PADDED,
+        Status::Done,
+        "blocks 1 data 2 read 59\nstart 001000\ncanonical no\nwords 1\n001000 177777 011064\n",
         "",
     ),
     (
@@ -132,6 +139,13 @@ const REQUESTS: [Row; 11] = [
         &[],
         Status::NotLoaded,
         SMALL_MACHINE,
+        "",
+    ),
+    (
+        Asked::Dialogue(&["scarce-one-word.lda"], LARGEST),
+        &[],
+        Status::Done,
+        ONE_WORD_DIALOGUE,
         "",
     ),
     (

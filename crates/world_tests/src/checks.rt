@@ -3,6 +3,6 @@
 use std::process::Abort;
 
 /// Ends the test where this is not so; the reason says why it should be.
-pub fn check_that(rt: &impl Abort, is_so: bool, reason: &str) {
+pub(crate) fn check_that(rt: &impl Abort, is_so: bool, reason: &str) {
     assert!(rt; is_so, "{reason}");
 }

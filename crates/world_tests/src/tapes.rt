@@ -7,26 +7,26 @@ use tape_blocks::read_tape;
 use tape_image::Plan;
 
 /// A tape of one block, the word 011064 at 001000, that starts at 001000.
-pub const ONE_WORD: [u8; 16] = [
+pub(crate) const ONE_WORD: [u8; 16] = [
     0x01, 0x00, 0x08, 0x00, 0x00, 0x02, 0x34, 0x12, 0xAF, 0x01, 0x00, 0x06, 0x00, 0x00, 0x02, 0xF7,
 ];
 
 /// A tape with one byte, 125 at 001001, and no start.
-pub const HIGH_BYTE: [u8; 15] = [
+pub(crate) const HIGH_BYTE: [u8; 15] = [
     0x01, 0x00, 0x07, 0x00, 0x01, 0x02, 0x55, 0xA0, 0x01, 0x00, 0x06, 0x00, 0x01, 0x00, 0xF8,
 ];
 
 /// A tape with neither words nor a start.
-pub const NOTHING: [u8; 7] = [0x01, 0x00, 0x06, 0x00, 0x01, 0x00, 0xF8];
+pub(crate) const NOTHING: [u8; 7] = [0x01, 0x00, 0x06, 0x00, 0x01, 0x00, 0xF8];
 
 /// The plan of a tape.
-pub fn plan_of(alloc: Global, tape: &[u8]) -> Result<Plan, Fail> {
+pub(crate) fn plan_of(alloc: Global, tape: &[u8]) -> Result<Plan, Fail> {
     let (tape, _) = read_tape(alloc, tape)?;
     Ok(Plan::of(alloc, &tape)?)
 }
 
 /// A host of this patience that has verified so many words of the plan, without the mark.
-pub fn host_for(plan: Plan, verified: u32, patience: u32) -> Result<HostCore, BadProgress> {
+pub(crate) fn host_for(plan: Plan, verified: u32, patience: u32) -> Result<HostCore, BadProgress> {
     let progress = Progress {
         verified,
         going: false,
@@ -38,6 +38,6 @@ pub fn host_for(plan: Plan, verified: u32, patience: u32) -> Result<HostCore, Ba
 }
 
 /// A host of this patience that has verified nothing of the tape.
-pub fn fresh_host(alloc: Global, tape: &[u8], patience: u32) -> Result<HostCore, Fail> {
+pub(crate) fn fresh_host(alloc: Global, tape: &[u8], patience: u32) -> Result<HostCore, Fail> {
     Ok(host_for(plan_of(alloc, tape)?, 0, patience)?)
 }

@@ -178,10 +178,9 @@ class Keys(Case):
         typing = subprocess.Popen([PROGRAM, "type"], stdin=subprocess.PIPE, stdout=subprocess.PIPE)
         with typing:
             for keys, answer in pieces:
-                with self.subTest(keys):
-                    typing.stdin.write(keys)
-                    typing.stdin.flush()
-                    self.is_so(self.answer(typing, len(answer)), answer)
+                typing.stdin.write(keys)
+                typing.stdin.flush()
+                self.is_so((keys, self.answer(typing, len(answer))), (keys, answer))
             typing.stdin.close()
             self.is_so(typing.stdout.read(), b"")
         self.is_so(typing.returncode, 0)

@@ -10,7 +10,7 @@ import threading
 import unittest
 
 from common import Case, Console, changes, each_file
-from outside import Answer, block
+from outside import Answer, tape_of
 
 # Three words with both bytes, the low byte of a word, the high byte of another, and two words more.
 PIECES = ((0o1000, b"\x34\x12\x56\x9a\x00\x00"), (0o1006, b"\x41"), (0o1011, b"\xc1"), (0o1020, b"\x00\xff\xff\x00"))
@@ -30,10 +30,6 @@ def words_of(pieces):
         mask = (0o377 if address in held else 0) | (0o177400 if address + 1 in held else 0)
         words.append((address, mask, held.get(address, 0) | held.get(address + 1, 0) << 8))
     return words
-
-
-def tape_of(pieces, start):
-    return b"".join(block(address, data) for address, data in pieces) + block(start, b"")
 
 
 def run_of(words, count):

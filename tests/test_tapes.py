@@ -14,7 +14,7 @@ import unittest
 from concurrent.futures import ProcessPoolExecutor
 
 from common import Case
-from outside import FIRST, HELLO, PROGRAM, TOP, Answer, block, bytes_of, run, text_of
+from outside import FIRST, HELLO, PROGRAM, TOP, Answer, block, bytes_of, run, tape_of, text_of
 
 # ---------------------------------------------------------------- the second reader
 
@@ -145,11 +145,6 @@ class Compared(Case):
 
 
 # ---------------------------------------------------------------- tapes
-
-def tape_of(blocks, start=1):
-    """The plain tape of blocks, each an address and its bytes."""
-    return b"".join(block(*one) for one in [*blocks, (start, b"")])
-
 
 def zeros_and(count, end=b""):
     return bytes(count) + end

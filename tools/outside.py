@@ -58,6 +58,11 @@ def block(address, data):
     return bytes([*head, -sum(head) & 255])
 
 
+def tape_of(blocks, start=1):
+    """The plain tape of blocks, each an address and its bytes. An odd start is none."""
+    return b"".join(block(*one) for one in [*blocks, (start, b"")])
+
+
 def bytes_of(path):
     """What a file holds; none where it is not there."""
     try:

@@ -95,7 +95,7 @@ fn load_scarcely(
         if !is_orderly(rt, ended) {
             return Err(Fail::from("not what want of memory leaves"));
         }
-        refusals = refusals.saturating_add(system.connections());
+        refusals = refusals.saturating_add(system.connections.get());
     }
     Err(Fail::from("no room serves"))
 }

@@ -5,6 +5,8 @@
 //! The tests of requests, of loads and of their records use it; the program does not.
 #![tactic(auto)]
 
+ghost use Rattle.std.specs.Prelude.{◌≡◌, IsSome};
+
 mod notes;
 
 use crate::notes::note;
@@ -68,7 +70,9 @@ pub struct System<'a> {
 
     /// The console's machine, until somebody is connected to it: to connect takes no memory.
     machine: Cell<Option<Odt>>,
-    connections: Cell<u32>,
+
+    /// How often somebody tried to connect.
+    pub connections: Cell<u32>,
 
     /// The clock's time in milliseconds.
     time: Cell<u64>,
@@ -84,7 +88,10 @@ fn machine_of(alloc: Global, setting: Setting) -> Option<Odt> {
 }
 
 impl<'a> System<'a> {
-    pub fn new(rt: &'a HostRuntime, setting: Setting) -> System<'a> {
+    /// A system of this setting, to which nobody has connected yet.
+    pub fn new(rt: &'a HostRuntime, setting: Setting) -> System<'a>
+        ensures { result.setting ≡ setting }
+    {
         System {
             rt,
             setting,
@@ -96,14 +103,12 @@ impl<'a> System<'a> {
     }
 
     /// The same system, whose notes say what is asked of its files and which step fails.
-    pub fn noted(mut self, notes: &'a Notes) -> System<'a> {
+    pub fn noted(mut self, notes: &'a Notes) -> System<'a>
+        ensures noted { IsSome result.notes }
+        ensures same { result.setting ≡ self.entry.setting }
+    {
         self.notes = Some(notes);
         self
-    }
-
-    /// How often somebody tried to connect.
-    pub fn connections(&self) -> u32 {
-        self.connections.get()
     }
 }
 

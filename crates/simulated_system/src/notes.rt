@@ -1,4 +1,5 @@
 //! What is asked of a system's files, step by step.
+ghost use Rattle.std.specs.Prelude.{◌≡◌};
 
 use std::alloc::Global;
 use std::cell::RefCell;
@@ -27,15 +28,17 @@ pub type Failing = Option<(Step, ErrorKind)>;
 /// The steps that were asked for, and the one that fails.
 #[derive(Drop)]
 pub struct Notes {
-    steps: RefCell<Vec<Step>>,
+    pub steps: RefCell<Vec<Step>>,
     failing: Failing,
     /// The name of the record's folder.
     folder: &'static str,
 }
 
 impl Notes {
-    /// Nothing was asked yet.
-    pub fn new(alloc: Global, failing: Failing, folder: &'static str) -> Notes {
+    /// Nothing was asked yet; this step is to fail.
+    pub fn new(alloc: Global, failing: Failing, folder: &'static str) -> Notes
+        ensures { result.failing ≡ failing }
+    {
         Notes {
             steps: RefCell::new(Vec::new(alloc)),
             failing,
@@ -43,16 +46,8 @@ impl Notes {
         }
     }
 
-    /// Whether just these steps were asked for, in this order.
-    pub fn are(&self, wanted: &[Step]) -> bool {
-        match self.steps.try_borrow() {
-            Ok(steps) => steps.as_slice() == wanted,
-            Err(_) => false,
-        }
-    }
-
     /// What opening a file of this name is.
-    pub fn opening(&self, path: &str) -> Step {
+    pub(crate) fn opening(&self, path: &str) -> Step {
         if path == self.folder {
             Step::OpenFolder
         } else if path.ends_with("-new") {
@@ -63,7 +58,7 @@ impl Notes {
     }
 
     /// Takes note of a step, which may be the one that fails.
-    pub fn take(&self, step: Step) -> io::Result<()> {
+    pub(crate) fn take(&self, step: Step) -> io::Result<()> {
         if let Ok(mut steps) = self.steps.try_borrow_mut() {
             steps.push(step)?;
         }
@@ -75,7 +70,7 @@ impl Notes {
 }
 
 /// Takes note of a step where there are notes.
-pub fn note(notes: Option<&Notes>, step: Step) -> io::Result<()> {
+pub(crate) fn note(notes: Option<&Notes>, step: Step) -> io::Result<()> {
     match notes {
         Some(notes) => notes.take(step),
         None => Ok(()),

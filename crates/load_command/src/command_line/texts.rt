@@ -15,7 +15,7 @@ Exit status:
   5  a load ended GaveUp, NoWord, WontHold or TurnsOver
   6  a load ended Uncertain or MaybeStarted: the program may be running
   7  out of memory
-Each fault is one line on standard error.
+Each fault but a refused command line is one line on standard error.
 
 Example, the tape on standard input:
   ldaodt < first.lda
@@ -26,7 +26,8 @@ ldaodt(1) says it whole; docs/SCRIPTS.md describes the scripts of rehearse.";
 /// Of `load`.
 pub(crate) const LOAD: &str = "\
 Each word is looked at, deposited where it is not there yet, and read back; at
-the end the program is started, once at most.
+the end the program is started, once at most. Without --record a later load
+knows nothing of that, and may start it again.
 
 Exit status:
   0  the load ended Loaded or Started
@@ -38,7 +39,7 @@ Exit status:
 
 Example, a machine on a serial adapter:
   socat TCP-LISTEN:2323,bind=127.0.0.1,reuseaddr,nodelay \\
-    /dev/ttyUSB0,b9600,raw,echo=0 &
+    /dev/ttyUSB0,b9600,raw,echo=0,crtscts=0,clocal=1 &
   ldaodt load first.lda 127.0.0.1:2323 --record first.record";
 
 /// Of `check`.

@@ -7,11 +7,12 @@ pub enum Status {
     Done,
     /// The command line was refused.
     BadCommandLine,
-    /// The tape or the script was refused.
+    /// A tape, the script or the record was refused.
     Refused,
-    /// A file, standard input or standard output failed.
+    /// A file, standard input or standard output failed, no connection was made, or the line of a load
+    /// or its record failed.
     DeviceFailed,
-    /// The load gave up, or a word was not there or did not hold.
+    /// The load gave up, a word was not there or did not hold, or the turns were over with no end.
     NotLoaded,
     /// The load may have started the program, or not.
     Uncertain,

@@ -3,7 +3,7 @@
 //! `HostCore` loads a plan of words through a console: it types each word's address, reads the word,
 //! mends it where it differs, and reads it back before it counts as verified; then it types the
 //! start. It is told what was heard, a character or that nothing came, and answers the character
-//! to send. There is no line, no clock and no memory here: the crate `line_world` has those.
+//! to send. There is no line, no clock and no memory here: the crate `line_world` has line and memory.
 //!
 //! The contract of `step` is the phase table. Above it stand the laws of every life, whatever it
 //! hears: no more characters are sent than the character bound (`sent_count`), nothing is sent once

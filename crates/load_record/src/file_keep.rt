@@ -1,4 +1,4 @@
-//! Writing a record, word for word.
+//! Writing a record, a word at a time.
 ghost use Rattle.std.specs.Prelude.{◌≡◌, [], ◌++◌, ℕ, ◌+◌, ◌-◌, ◌^◌, min, ◌<◌, ◌↔◌, IsTrue, IsOk, OnOk, OnErr, IfOk, IfErr, Some, None, slice_get, true, false};
 ghost use Rattle.std.specs.Io.KnownBytes.{Keeps};
 ghost use Rattle.tape_image.specs.Plan.{PlanValue};

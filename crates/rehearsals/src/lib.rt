@@ -1,9 +1,9 @@
 //! Loads into a simulated machine: the commands `rehearse` and `dialogue`.
 //!
-//! `rehearse_to` opens the world that a tape and a script set up, lets the script's lines happen to
-//! it, and prints the lines that were not possible and then the report. `dialogue_to` loads a tape
-//! into a zeroed machine on a line that loses nothing, and prints what is typed and answered as it
-//! goes, and the report.
+//! Both take tapes, one from each input, and load them as one. `rehearse_to` opens the world that
+//! they and a script set up, lets the script's lines happen to it, and prints the lines that were not
+//! possible and then the report. `dialogue_to` loads them into a zeroed machine on a line that loses
+//! nothing, and prints what is typed and answered as it goes, and the report.
 //!
 //! Both move their world only by the calls of `line_world::World`, whose contract is that memory is
 //! safe whatever the line does. The crate `requests` calls both.

@@ -6,7 +6,7 @@
 //! address is free the stack can't grow either, so a good piece of it is there before.
 //!
 //! What a try needs beside the call, inputs and room for outputs, is made before the famine begins.
-//! The tests of the library and of the commands use it; the program does not.
+//! The tests of the tapes and of the commands use it; the program does not.
 #![tactic(auto)]
 
 ghost use Rattle.std.specs.Prelude.{◌≡◌, ◌<◌, IfOk, OnOk};

@@ -1,7 +1,7 @@
 //! Tests of what stands below the commands: the host's core, the simulated world, the devices of a
 //! load, the line in memory and the engine.
 //!
-//! Contracts say what each of them does; here stand what no clause can say: that they succeed where
+//! Contracts say what each of them does; here stands what no clause can say: that they succeed where
 //! memory is ample, also at the largest sizes, and that the tables and definitions mean what the
 //! pages in `docs/` say. The host hears characters that no console answers, and the engine is played
 //! beside peers that are no console. Loads in which a line loses characters, and lives of a host, are

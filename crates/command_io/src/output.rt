@@ -1,7 +1,7 @@
 //! Writing a text whole, or a prefix of it.
 ghost use Rattle.std.specs.Prelude.{OnOk, OnErr};
 ghost use Rattle.std.specs.Io.KnownBytes.{Appends};
-ghost use Rattle.command_io.specs.Output.{WritesPrefix};
+ghost use Rattle.command_io.specs.Output.{WritesFront, WritesPrefix};
 
 use std::io::Write;
 
@@ -20,6 +20,20 @@ pub fn write_whole<W: Write>(out: &mut W, text: &[u8]) -> Result<(), WriteFailed
             Ok(0) | Err(_) => return Err(WriteFailed),
             Ok(count) => left = &left[count..],
         }
+    }
+    Ok(())
+}
+
+/// Writes a text and flushes it, so that nothing of it waits in the program.
+///
+/// The fault says that something of the text may be missing: a write failed, or the flush did.
+pub fn write_and_flush<W: Write>(out: &mut W, text: &[u8]) -> Result<(), WriteFailed>
+    ensures ok { OnOk result (Appends (W.contents out.old) (W.contents out.new) text.now) }
+    ensures err { OnErr result (WritesFront (W.contents out.old) (W.contents out.new) text.now) }
+{
+    write_whole(out, text)?;
+    if out.flush().is_err() {
+        return Err(WriteFailed);
     }
     Ok(())
 }

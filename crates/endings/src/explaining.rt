@@ -1,13 +1,12 @@
 //! Texts for words that ask for nothing to be done: help, the version, or what is wrong with the words.
-ghost use Rattle.std.specs.Prelude.{◌≡◌, OnOk, OnErr};
-ghost use Rattle.std.specs.Io.KnownBytes.{Appends};
+ghost use Rattle.std.specs.Prelude.{◌≡◌};
 ghost use Rattle.command_io.specs.Output.{WritesFront};
 ghost use Rattle.endings.specs.Explained.{IsShown};
 
 use crate::failure::Failure;
 use crate::status::Status;
 use crate::telling::tell;
-use command_io::{WriteFailed, write_whole};
+use command_io::{write_and_flush, write_whole};
 use std::alloc::Global;
 use std::io::Write;
 
@@ -16,22 +15,10 @@ use std::io::Write;
 pub fn show<W: Write, E: Write>(alloc: Global, text: &str, out: &mut W, err: &mut E) -> Status
     ensures { IsShown text.now (W.contents out.old) (W.contents out.new) (E.contents err.old) (E.contents err.new) result }
 {
-    match print(text, out) {
+    match write_and_flush(out, text.as_bytes()) {
         Ok(()) => Status::Done,
         Err(_) => tell(alloc, Failure::CannotWrite, err),
     }
-}
-
-/// Writes a text and flushes it.
-fn print<W: Write>(text: &str, out: &mut W) -> Result<(), WriteFailed>
-    ensures ok { OnOk result (Appends (W.contents out.old) (W.contents out.new) text.now) }
-    ensures err { OnErr result (WritesFront (W.contents out.old) (W.contents out.new) text.now) }
-{
-    write_whole(out, text.as_bytes())?;
-    if out.flush().is_err() {
-        return Err(WriteFailed);
-    }
-    Ok(())
 }
 
 /// Says what is wrong with the words, in one write. What can't be written is not told.

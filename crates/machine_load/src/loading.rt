@@ -12,7 +12,7 @@ use crate::fault::LoadFault;
 use crate::report::put_load_report;
 use crate::surroundings::Surroundings;
 use crate::watched::{Onlooker, WatchedKeeper, WatchedLine};
-use command_io::write_whole;
+use command_io::write_and_flush;
 use host_core::HostCore;
 use load_engine::{Stop, drive};
 use load_record::read_record;
@@ -123,9 +123,6 @@ fn tell<W: Write>(
     ensures err { IfErr result (IsReportFault (W.contents out.old) (W.contents out.new) (load_report core.now stop)) }
 {
     put_load_report(&mut report, core, stop)?;
-    write_whole(out, &report)?;
-    match out.flush() {
-        Ok(()) => Ok(()),
-        Err(_) => Err(LoadFault::WriteOutput),
-    }
+    write_and_flush(out, &report)?;
+    Ok(())
 }

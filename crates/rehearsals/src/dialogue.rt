@@ -1,6 +1,7 @@
 //! The command `dialogue`: a load into a simulated machine, shown as it goes.
 ghost use Rattle.std.specs.Prelude.{◌≡◌, ◌<◌, ◌++◌, List, map, OnOk, OnErr, IfOk, IfErr};
 ghost use Rattle.command_io.specs.Output.{WritesFront};
+ghost use Rattle.command_io.specs.Tapes.{TakeAtMost};
 ghost use Rattle.host_core.specs.Core.{ended};
 ghost use Rattle.line_world.specs.declared.event.Event.{Event};
 ghost use Rattle.line_world.specs.World.{happens, first_event, work_left, IsCleanRun};
@@ -36,6 +37,7 @@ pub fn dialogue_to<R: Read, W: Write>(
 ) -> Result<End, CommandFault>
     ensures ok { IfOk result (IsDialogue (map R.remaining tapes.old) (map R.remaining tapes.new) (W.contents out.old) (W.contents out.new) words style) }
     ensures err { IfErr result (IsDialogueFault (map R.remaining tapes.old) (map R.remaining tapes.new) (W.contents out.old) (W.contents out.new) words style) }
+    ensures at_most { TakeAtMost (map R.remaining tapes.old) (map R.remaining tapes.new) }
 {
     let taken = take_tapes(alloc, tapes)?;
     let odt = zeroed(alloc, words, style)?;

@@ -104,6 +104,7 @@ impl TapeReader {
         // A refused growth is the last word.
         ensures memory { IsOutOfMemory self.new ↔ (result ≡ Err ReadError.Memory) }
         ensures memory_stays { IsOutOfMemory self.old → IsOutOfMemory self.new }
+        ensures memory_is_new { (IsOpen self.old → ⊥) → result ≡ Err ReadError.Memory → IsOutOfMemory self.old }
 
         // Bytes 00 between blocks take no memory.
         ensures blank { IsOpen self.old → self.old.part ≡ [] → All (λ byte. byte ≡ 0) piece.now → result ≡ Err ReadError.Memory → ⊥ }

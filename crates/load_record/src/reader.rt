@@ -27,11 +27,11 @@ const RUN_VALUE: usize = 7;
 #[derive(Clone, Copy, Debug, PartialEq, Eq, Error)]
 pub enum RecordError {
     /// The first line is no header, or the text has more than 1,048,576 bytes.
-    #[error("record refused: NotARecord")]
+    #[error("not a record")]
     NotARecord,
 
     /// The line of this number, counted from 1, does not hold what the plan has next.
-    #[error("record refused at line {0}")]
+    #[error("line {0} does not say what the tape has next")]
     Foreign(u32),
 }
 

@@ -9,13 +9,15 @@ import os
 import threading
 import unittest
 
-from common import Case, Console, changes, each_file
-from outside import Answer, tape_of
+from common import QUIET, Case, Console, changes, each_file
+from outside import Answer, bytes_of, tape_of
 
 # Three words with both bytes, the low byte of a word, the high byte of another, and two words more.
 PIECES = ((0o1000, b"\x34\x12\x56\x9a\x00\x00"), (0o1006, b"\x41"), (0o1011, b"\xc1"), (0o1020, b"\x00\xff\xff\x00"))
 # Eighteen words: a run that is as long as a run may be, and two words more.
 ROW = ((0o2000, bytes(range(1, 37))),)
+# A word, and the low byte of one.
+WORD_AND_BYTE = ((0o1000, b"\x11\x33\x44"),)
 OTHERS = b"\n 0127G\xff"
 
 LONGEST_RUN = 16
@@ -142,6 +144,25 @@ class Records(Case):
         words = words_of(ROW)
         for count in (LONGEST_RUN, len(words)):
             self.loaded(ROW, 0o2000, changes(written(words[:count]).encode(), b"\n3"))
+
+    def test_a_record_is_cut_at_each_byte(self):
+        """By hand: how many words count of the first bytes, the fewest first; the whole record has the mark too."""
+        record = b"LDAODT 2\n001000 031421\nH 001002 000377 000104\nG\n"
+        done = [0] * 22 + [1] * 24 + [2] * 2
+        cut = [record[:length] for length in range(len(record))]
+        self.is_so([read(it, words_of(WORD_AND_BYTE), True) for it in cut], [(count, False) for count in done])
+        self.is_so(self.loaded(WORD_AND_BYTE, 0o1000, [*cut, record]), [0, 1, 48])
+
+    def test_a_seventeenth_word_begins_another_run(self):
+        """The words stand in memory already: one `Z`, and for each word its address, `/` and a return."""
+        record = "LDAODT 2\n001000" + 16 * " 000000" + "\n001040 000000"
+        self.is_so(len(record), 141)
+        self.put("tape.lda", tape_of([(0o1000, bytes(34))]))
+        peer = self.console_at(Console())
+        load = f"load tape.lda {peer.address} --quiet {QUIET} --record a.record"
+        self.ends(self.ldaodt(load), 0, "sent 137 spent 0 verified 17 of 17\nend Loaded\n")
+        self.is_so(bytes_of(self.path("a.record")), record.encode())
+        self.ends(self.ldaodt(load), 0, "sent 0 spent 0 verified 17 of 17\nend Loaded\n")
 
     def test_records_of_a_tape_that_starts_nothing(self):
         """The mark is due in none."""

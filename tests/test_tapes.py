@@ -310,6 +310,11 @@ WORDS = (
         "addresses rise, whatever the order of the blocks",
     ),
     (
+        [(0o777, "11 22"), (0o1000, "33 44")],
+        "000776 177400 010400\n001000 177777 042063",
+        "a later block lies over the end of one that reaches from a page of memory into the next",
+    ),
+    (
         [(0o776, "01 02 03 04"), (0o777, "05 06")],
         "000776 177777 002401\n001000 177777 002006",
         "a later block lies over the middle of an earlier one",

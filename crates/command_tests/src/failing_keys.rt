@@ -59,6 +59,17 @@ fn the_keys_fail_once(rt: HostRuntime) -> Result<(), Fail> {
 }
 
 #[test]
+fn nothing_fails(rt: HostRuntime) -> Result<(), Fail> {
+    let mut odt = Odt::new(rt.alloc(), 28672, PLAIN_STYLE)?;
+    let mut keys = KEYS;
+    let mut out = Vec::new(rt.alloc());
+    let ended = type_to(&mut odt, &mut keys, &mut out);
+    assert!(rt; ended == Ok(23), "each key is counted");
+    assert!(rt; out.as_slice() == ANSWERS);
+    Ok(())
+}
+
+#[test]
 fn the_answers_fail_once(rt: HostRuntime) -> Result<(), Fail> {
     for number in 1..8 {
         let mut odt = Odt::new(rt.alloc(), 28672, PLAIN_STYLE)?;

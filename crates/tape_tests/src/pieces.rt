@@ -1,8 +1,10 @@
 //! Tapes in pieces, and tapes of devices.
 
-use crate::tapes::ONE_BLOCK;
+use crate::tapes::{ONE_BLOCK, OVERLAPPING};
+use std::alloc::Global;
 use std::io;
 use std::io::{ErrorKind, Read};
+use std::process::Abort;
 use std::test::Fail;
 use tape_blocks::{Fault, Fed, FromError, ReadError, TapeReader, Why, read_from};
 
@@ -28,6 +30,22 @@ const FOLLOWED: &[u8] = &[
 fn what_follows_in_a_piece_is_not_the_tapes(rt: HostRuntime) {
     let mut reader = TapeReader::new(rt.alloc());
     assert!(rt; reader.feed(FOLLOWED) == Ok(Fed::Done(16)));
+    assert!(rt;
+        reader.feed(FOLLOWED) == Ok(Fed::Done(0)),
+        "nor what comes later"
+    );
+}
+
+#[test]
+fn a_fault_is_answered_again(rt: HostRuntime) {
+    let fault = ReadError::Tape(Fault {
+        at: 2,
+        why: Why::Stray,
+    });
+    let mut reader = TapeReader::new(rt.alloc());
+    assert!(rt; reader.feed(b"\x00\x00\x41") == Err(fault));
+    assert!(rt; reader.feed(ONE_BLOCK) == Err(fault));
+    assert!(rt; reader.finish().err() == Some(fault));
 }
 
 #[test]
@@ -39,6 +57,123 @@ fn a_tape_that_ends_between_blocks_has_no_transfer_block(rt: HostRuntime) {
     let mut reader = TapeReader::new(rt.alloc());
     assert!(rt; reader.feed(&ONE_BLOCK[..9]) == Ok(Fed::More));
     assert!(rt; reader.finish().err() == Some(ReadError::Tape(fault)));
+}
+
+/// How an input is read: how many bytes its tape has and where that starts; or at which byte it is refused,
+/// and why.
+type Reading = Result<(usize, u16), (u32, Why)>;
+
+/// Forty bytes 00 before a tape, three in it, and two bytes behind it.
+const PADDED: &[u8] = b"\0\0\0\0\0\0\0\0\0\0\0\0\0\0\0\0\0\0\0\0\
+    \0\0\0\0\0\0\0\0\0\0\0\0\0\0\0\0\0\0\0\0\
+    \x01\x00\x08\x00\x00\x02\x34\x12\xAF\0\0\0\x01\x00\x06\x00\x00\x02\xF7\xFF\xFF";
+
+/// Inputs, how each is read, and why the row is there.
+const INPUTS: [(&[u8], Reading, &str); 18] = [
+    (ONE_BLOCK, Ok((16, 0o1000)), "one block"),
+    (PADDED, Ok((59, 0o1000)), "blank tape, and bytes behind"),
+    (b"\x01\x00\x06\x00\x01\x00\xF8", Ok((7, 1)), "no block"),
+    (
+        b"\x01\x00\x08\x00\x00\x02\x34\x12\xAF\x01\x00\x06\x00\x00\x02\xF6",
+        Err((9, Why::BadSum)),
+        "a wrong sum of the transfer block",
+    ),
+    (b"", Err((0, Why::NoTransfer)), "nothing"),
+    (b"\x01", Err((0, Why::Cut)), "half a mark"),
+    (b"\x01\x01", Err((1, Why::BadMark)), "a bad mark"),
+    (b"\x00\x00\x41", Err((2, Why::Stray)), "a stray byte"),
+    (
+        b"\x01\x00\x08\x00\x00\x02\x34\x12\xAF",
+        Err((9, Why::NoTransfer)),
+        "a block alone",
+    ),
+    (
+        b"\x01\x00\x08\x00\x00\x02\x34\x12\xAF\x01\x00\x06\x00\x00\x02",
+        Err((9, Why::Cut)),
+        "a transfer block without its sum",
+    ),
+    (b"\x01\x00\x05", Err((0, Why::Cut)), "half a count"),
+    (b"\x01\x00\x05\x00", Err((2, Why::BadCount)), "a count of 5"),
+    (
+        b"\x01\x00\x05\x00\x00\x00\xFA",
+        Err((2, Why::BadCount)),
+        "bytes behind a bad count",
+    ),
+    (
+        b"\x01\x00\x07\x00\xFF\xDF\x55\xC5\x01\x00\x06\x00\x01\x00\xF8",
+        Ok((15, 1)),
+        "the last byte of memory",
+    ),
+    (
+        b"\x01\x00\x08\x00\xFF\xDF\x55\x55\x6F",
+        Err((4, Why::PastTop)),
+        "a byte past memory",
+    ),
+    (
+        b"\x01\x00\x08\x00\xFF\xDF\x55\x55\x6E",
+        Err((0, Why::BadSum)),
+        "a byte past memory, and a wrong sum",
+    ),
+    (
+        b"\x01\x00\x07\x00\x01\x02\x55\xA0\x01\x00\x06\x00\x01\x00\xF8",
+        Ok((15, 1)),
+        "a high byte alone",
+    ),
+    (OVERLAPPING, Ok((25, 0o1000)), "two blocks"),
+];
+
+/// How many bytes of a piece belong to the tape.
+fn used_of(fed: Fed, piece: &[u8]) -> usize {
+    match fed {
+        Fed::More => piece.len(),
+        Fed::Done(used) => used,
+    }
+}
+
+/// How an input is read that is fed as a first piece and then in pieces of this length.
+fn reading_of(
+    alloc: Global,
+    first: &[u8],
+    rest: &[u8],
+    length: usize,
+) -> Result<(usize, u16), ReadError> {
+    let mut reader = TapeReader::new(alloc);
+    let mut used = used_of(reader.feed(first)?, first);
+    for piece in rest.chunks(length.max(1)) {
+        used = used.saturating_add(used_of(reader.feed(piece)?, piece));
+    }
+    Ok((used, reader.finish()?.start()))
+}
+
+/// The input is read so wherever it is cut, also where what stands behind the cut comes byte by byte.
+fn assert_reading(
+    rt: &impl Abort,
+    alloc: Global,
+    text: &[u8],
+    expected: Result<(usize, u16), ReadError>,
+    reason: &str,
+) {
+    for place in 0..=text.len() {
+        let (first, rest) = text.split_at(place);
+        let whole = reading_of(alloc, first, rest, usize::MAX);
+        let bytes = reading_of(alloc, first, rest, 1);
+        assert!(rt;
+            whole == expected && bytes == expected,
+            "{reason}, cut at {place}"
+        );
+    }
+}
+
+#[test]
+fn where_an_input_is_cut_decides_nothing(rt: HostRuntime) {
+    for row in &INPUTS {
+        let (text, reading, reason) = *row;
+        let expected = match reading {
+            Ok(tape) => Ok(tape),
+            Err((at, why)) => Err(ReadError::Tape(Fault { at, why })),
+        };
+        assert_reading(&rt, rt.alloc(), text, expected, reason);
+    }
 }
 
 /// Counts its reads. Gives so many bytes a read at most, and fails before the byte at one place:

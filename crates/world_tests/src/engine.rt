@@ -96,34 +96,49 @@ fn keys_of(items: &[Item]) -> usize {
         .count()
 }
 
-/// The setting; how the drive stopped, the keys sent, the things heard, the things kept, the mishaps;
-/// and why the row is here.
-const ROWS: [(Setting, Stop, usize, usize, usize, u32, &str); 12] = [
+/// What a drive comes to: how it stops, the keys sent, the things heard, the things kept, and the mishaps.
+#[derive(Clone, Copy)]
+struct Course {
+    stop: Stop,
+    keys: usize,
+    heard: usize,
+    kept: usize,
+    spent: u32,
+}
+
+/// The setting, what a drive in it comes to, and why the row is here.
+const ROWS: [(Setting, Course, &str); 12] = [
     (
         Setting { turns: 52, ..AMPLE },
-        Stop::Ended(End::Started),
-        30,
-        52,
-        2,
-        0,
+        Course {
+            stop: Stop::Ended(End::Started),
+            keys: 30,
+            heard: 52,
+            kept: 2,
+            spent: 0,
+        },
         "the whole load",
     ),
     (
         Setting { turns: 51, ..AMPLE },
-        Stop::TurnsOver,
-        30,
-        51,
-        2,
-        0,
+        Course {
+            stop: Stop::TurnsOver,
+            keys: 30,
+            heard: 51,
+            kept: 2,
+            spent: 0,
+        },
         "one turn short: the start is sent, its echo is not heard",
     ),
     (
         Setting { turns: 0, ..AMPLE },
-        Stop::TurnsOver,
-        0,
-        0,
-        0,
-        0,
+        Course {
+            stop: Stop::TurnsOver,
+            keys: 0,
+            heard: 0,
+            kept: 0,
+            spent: 0,
+        },
         "no turn",
     ),
     (
@@ -131,11 +146,13 @@ const ROWS: [(Setting, Stop, usize, usize, usize, u32, &str); 12] = [
             fail_at: Some(81),
             ..AMPLE
         },
-        Stop::LineFailed(LineFault::Send),
-        29,
-        51,
-        2,
-        0,
+        Course {
+            stop: Stop::LineFailed(LineFault::Send),
+            keys: 29,
+            heard: 51,
+            kept: 2,
+            spent: 0,
+        },
         "the start is not sent, and its mark is kept",
     ),
     (
@@ -143,11 +160,13 @@ const ROWS: [(Setting, Stop, usize, usize, usize, u32, &str); 12] = [
             keep_fail_at: Some(2),
             ..AMPLE
         },
-        Stop::KeepFailed(KeepFault::Write),
-        29,
-        51,
-        1,
-        0,
+        Course {
+            stop: Stop::KeepFailed(KeepFault::Write),
+            keys: 29,
+            heard: 51,
+            kept: 1,
+            spent: 0,
+        },
         "the mark is not kept, and the start is not sent",
     ),
     (
@@ -156,29 +175,35 @@ const ROWS: [(Setting, Stop, usize, usize, usize, u32, &str); 12] = [
             turns: 59,
             ..AMPLE
         },
-        Stop::Ended(End::Started),
-        34,
-        59,
-        2,
-        1,
+        Course {
+            stop: Stop::Ended(End::Started),
+            keys: 34,
+            heard: 59,
+            kept: 2,
+            spent: 1,
+        },
         "the third digit is lost",
     ),
     (
         Setting { room: 80, ..AMPLE },
-        Stop::LineFailed(LineFault::Full),
-        29,
-        51,
-        2,
-        0,
+        Course {
+            stop: Stop::LineFailed(LineFault::Full),
+            keys: 29,
+            heard: 51,
+            kept: 2,
+            spent: 0,
+        },
         "no room for the start",
     ),
     (
         Setting { room: 81, ..AMPLE },
-        Stop::LineFailed(LineFault::Full),
-        30,
-        51,
-        2,
-        0,
+        Course {
+            stop: Stop::LineFailed(LineFault::Full),
+            keys: 30,
+            heard: 51,
+            kept: 2,
+            spent: 0,
+        },
         "no room for its echo",
     ),
     (
@@ -186,11 +211,13 @@ const ROWS: [(Setting, Stop, usize, usize, usize, u32, &str); 12] = [
             keep_room: 0,
             ..AMPLE
         },
-        Stop::KeepFailed(KeepFault::Full),
-        22,
-        42,
-        0,
-        0,
+        Course {
+            stop: Stop::KeepFailed(KeepFault::Full),
+            keys: 22,
+            heard: 42,
+            kept: 0,
+            spent: 0,
+        },
         "no room for the word",
     ),
     (
@@ -198,11 +225,13 @@ const ROWS: [(Setting, Stop, usize, usize, usize, u32, &str); 12] = [
             keep_room: 1,
             ..AMPLE
         },
-        Stop::KeepFailed(KeepFault::Full),
-        29,
-        51,
-        1,
-        0,
+        Course {
+            stop: Stop::KeepFailed(KeepFault::Full),
+            keys: 29,
+            heard: 51,
+            kept: 1,
+            spent: 0,
+        },
         "no room for the mark",
     ),
     (
@@ -210,11 +239,13 @@ const ROWS: [(Setting, Stop, usize, usize, usize, u32, &str); 12] = [
             words: 256,
             ..AMPLE
         },
-        Stop::Ended(End::NoWord(0o1000)),
-        8,
-        13,
-        0,
-        0,
+        Course {
+            stop: Stop::Ended(End::NoWord(0o1000)),
+            keys: 8,
+            heard: 13,
+            kept: 0,
+            spent: 0,
+        },
         "memory ends right before the word",
     ),
     (
@@ -222,11 +253,13 @@ const ROWS: [(Setting, Stop, usize, usize, usize, u32, &str); 12] = [
             keep_fail_at: Some(1),
             ..AMPLE
         },
-        Stop::KeepFailed(KeepFault::Write),
-        22,
-        42,
-        0,
-        0,
+        Course {
+            stop: Stop::KeepFailed(KeepFault::Write),
+            keys: 22,
+            heard: 42,
+            kept: 0,
+            spent: 0,
+        },
         "the word is not kept",
     ),
 ];
@@ -240,30 +273,33 @@ fn fails_so(rt: &impl Abort, outcome: &Outcome, line: bool, keep: bool, reason: 
 }
 
 /// So much was sent, heard and kept.
-fn says_so(
-    rt: &impl Abort,
-    outcome: &Outcome,
-    (keys, heard, kept): (usize, usize, usize),
-    reason: &str,
-) -> Result<(), Fail> {
+fn says_so(rt: &impl Abort, outcome: &Outcome, course: Course, reason: &str) -> Result<(), Fail> {
     let news = whole_news()?;
     let items = outcome.line.items();
-    check_that(rt, keys_of(items) == keys, reason);
-    check_that(rt, items.len() == keys.saturating_add(heard), reason);
-    check_that(rt, outcome.keep.kept() == &news[..kept.min(2)], reason);
+    check_that(rt, keys_of(items) == course.keys, reason);
+    check_that(
+        rt,
+        items.len() == course.keys.saturating_add(course.heard),
+        reason,
+    );
+    check_that(
+        rt,
+        outcome.keep.kept() == &news[..course.kept.min(2)],
+        reason,
+    );
     Ok(())
 }
 
 #[test]
 fn worked_drives(rt: HostRuntime) -> Result<(), Fail> {
     for row in &ROWS {
-        let (setting, stop, keys, heard, kept, spent, reason) = *row;
+        let (setting, course, reason) = *row;
         let outcome = driven(rt.alloc(), setting)?;
-        check_that(&rt, outcome.stop == stop, reason);
-        check_that(&rt, outcome.core.spent() == spent, reason);
-        says_so(&rt, &outcome, (keys, heard, kept), reason)?;
-        let has_line_fault = matches!(stop, Stop::LineFailed(_));
-        let has_keep_fault = matches!(stop, Stop::KeepFailed(_));
+        check_that(&rt, outcome.stop == course.stop, reason);
+        check_that(&rt, outcome.core.spent() == course.spent, reason);
+        says_so(&rt, &outcome, course, reason)?;
+        let has_line_fault = matches!(course.stop, Stop::LineFailed(_));
+        let has_keep_fault = matches!(course.stop, Stop::KeepFailed(_));
         fails_so(&rt, &outcome, has_line_fault, has_keep_fault, reason);
     }
     Ok(())

@@ -1,5 +1,5 @@
-//! Tests of what stands below the commands: the host's core, the simulated world, the devices of a
-//! load, the line in memory and the engine.
+//! Tests of what stands below the commands: the simulated console, the host's core, the simulated
+//! world, the devices of a load, the line in memory and the engine.
 //!
 //! Contracts say what each of them does; here stands what no clause can say: that they succeed where
 //! memory is ample, also at the largest sizes, and that the tables and definitions mean what the
@@ -12,6 +12,8 @@
 
 #[cfg(test)]
 mod checks;
+#[cfg(test)]
+mod consoles;
 #[cfg(test)]
 mod devices;
 #[cfg(test)]

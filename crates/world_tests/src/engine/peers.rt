@@ -26,18 +26,18 @@ struct Tally {
     keys: u64,
     starts: u64,
     blind_starts: u64,
-    last_six: u64,
+    last_six: [u8; 6],
 }
 
-/// The digits 001000 as one number, a byte each.
-const START_DIGITS: u64 = 0x3030_3130_3030;
+/// The start address of the tape.
+const START_DIGITS: [u8; 6] = *b"001000";
 
 impl Tally {
     const NONE: Tally = Tally {
         keys: 0,
         starts: 0,
         blind_starts: 0,
-        last_six: 0,
+        last_six: [0; 6],
     };
 
     fn count(&mut self, key: u8) {
@@ -48,7 +48,8 @@ impl Tally {
             }
         }
         self.keys = self.keys.saturating_add(1);
-        self.last_six = self.last_six % (1 << 40) * 256 + u64::from(key);
+        let [_, second, third, fourth, fifth, sixth] = self.last_six;
+        self.last_six = [second, third, fourth, fifth, sixth, key];
     }
 }
 

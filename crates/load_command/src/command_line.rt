@@ -1,5 +1,5 @@
 //! The command line: which words ask for what.
-ghost use Rattle.std.specs.Prelude.{◌≡◌, [], IfOk};
+ghost use Rattle.std.specs.Prelude.{◌≡◌, ◌≢◌, [], IfOk};
 ghost use Rattle.load_command.specs.Answer.{IsOutOfMemory};
 
 mod commands;
@@ -53,21 +53,41 @@ pub(crate) fn parse<'a>(alloc: Global, words: &'a [String]) -> Result<Request<'a
         return Ok(Request::CheckInput);
     }
     let matches = commands::ldaodt(alloc)?.try_get_matches_from(words)?;
+    request_of(alloc, &matches)
+}
+
+/// What the parsed words ask for, where there were any.
+fn request_of<'a>(alloc: Global, matches: &ArgMatches<'a>) -> Result<Request<'a>, NoRequest>
+    ensures { IfOk result (λ request. request ≢ Request.CheckInput) }
+{
     match matches.subcommand() {
         Some(("check", found)) => Ok(Request::Check(tapes_of(alloc, found)?)),
-        Some(("dialogue", found)) => Ok(Request::Dialogue(
-            tapes_of(alloc, found)?,
-            console_of(found)?,
-        )),
-        Some(("rehearse", found)) => Ok(Request::Rehearse(
-            text_of(found, TAPE)?,
-            text_of(found, SCRIPT)?,
-            joined(alloc, &[], found)?,
-        )),
+        Some(("dialogue", found)) => dialogue_of(alloc, found),
+        Some(("rehearse", found)) => rehearsal_of(alloc, found),
         Some(("type", found)) => Ok(Request::Type(console_of(found)?)),
-        Some(("load", found)) => Ok(Request::Load(tapes_of(alloc, found)?, load_of(found)?)),
+        Some(("load", found)) => {
+            let load = load_of(found)?;
+            Ok(Request::Load(tapes_of(alloc, found)?, load))
+        }
         _ => Err(NoRequest::Meaningless),
     }
+}
+
+/// The dialogue of tapes with a console.
+fn dialogue_of<'a>(alloc: Global, found: &ArgMatches<'a>) -> Result<Request<'a>, NoRequest>
+    ensures { IfOk result (λ request. request ≢ Request.CheckInput) }
+{
+    let console = console_of(found)?;
+    Ok(Request::Dialogue(tapes_of(alloc, found)?, console))
+}
+
+/// The rehearsal of a tape, its script and further tapes.
+fn rehearsal_of<'a>(alloc: Global, found: &ArgMatches<'a>) -> Result<Request<'a>, NoRequest>
+    ensures { IfOk result (λ request. request ≢ Request.CheckInput) }
+{
+    let tape = text_of(found, TAPE)?;
+    let script = text_of(found, SCRIPT)?;
+    Ok(Request::Rehearse(tape, script, joined(alloc, &[], found)?))
 }
 
 /// The text of a required argument.

@@ -43,49 +43,63 @@ const LAVISH_STYLE: Style = Style {
 
 /// All words that the program knows.
 pub(crate) fn ldaodt<'a>(alloc: Global) -> Result<Command<'a>, AllocError> {
-    Command::new(alloc, "ldaodt")
-        .bin_name("ldaodt")?
+    let program = Command::new(alloc, "ldaodt")
         .no_binary_name(true)
         .version("0.1.0")
         .about("Loads a PDP-11 absolute loader tape through the console ODT of an LSI-11")
         .override_usage("ldaodt [COMMAND]")
         .after_help(texts::PROGRAM)
         .subcommand_required(true)
-        .subcommand(load_command(alloc)?)?
-        .subcommand(check_command(alloc)?)?
-        .subcommand(dialogue_command(alloc)?)?
-        .subcommand(rehearse_command(alloc)?)?
-        .subcommand(type_command(alloc)?)
+        .bin_name("ldaodt")?;
+    with_simulations(alloc, with_machine_and_tapes(alloc, program)?)
+}
+
+/// The program with the commands that load a machine or look at tapes.
+fn with_machine_and_tapes<'a>(
+    alloc: Global,
+    program: Command<'a>,
+) -> Result<Command<'a>, AllocError> {
+    let program = with_command(program, load_command(alloc))?;
+    with_command(program, check_command(alloc))
+}
+
+/// The program with the commands that simulate a machine.
+fn with_simulations<'a>(alloc: Global, program: Command<'a>) -> Result<Command<'a>, AllocError> {
+    let program = with_command(program, dialogue_command(alloc))?;
+    let program = with_command(program, rehearse_command(alloc))?;
+    with_command(program, type_command(alloc))
+}
+
+/// The program with one more command, where memory sufficed for that.
+fn with_command<'a>(
+    program: Command<'a>,
+    command: Result<Command<'a>, AllocError>,
+) -> Result<Command<'a>, AllocError> {
+    program.subcommand(command?)
 }
 
 fn load_command<'a>(alloc: Global) -> Result<Command<'a>, AllocError> {
-    Command::new(alloc, "load")
+    let command = Command::new(alloc, "load")
         .about("Loads a machine whose console is reached over TCP")
         .after_help(texts::LOAD)
         .arg(tape_argument(alloc))?
         .arg(address_argument(alloc))?
-        .arg(more_argument(alloc))?
-        .arg(record_option(alloc))?
-        .arg(patience_option(alloc))?
-        .arg(quiet_option(alloc))
+        .arg(more_argument(alloc))?;
+    with_load_options(alloc, command)
 }
 
 fn check_command<'a>(alloc: Global) -> Result<Command<'a>, AllocError> {
-    Command::new(alloc, "check")
+    let command = Command::new(alloc, "check")
         .about("Checks tapes and lists the words that they make together")
-        .after_help(texts::CHECK)
-        .arg(tape_argument(alloc))?
-        .arg(more_argument(alloc))
+        .after_help(texts::CHECK);
+    with_tapes(alloc, command)
 }
 
 fn dialogue_command<'a>(alloc: Global) -> Result<Command<'a>, AllocError> {
-    Command::new(alloc, "dialogue")
+    let command = Command::new(alloc, "dialogue")
         .about("Loads a simulated machine and shows all that passes")
-        .after_help(texts::DIALOGUE)
-        .arg(tape_argument(alloc))?
-        .arg(more_argument(alloc))?
-        .arg(words_option(alloc))?
-        .arg(style_option(alloc))
+        .after_help(texts::DIALOGUE);
+    with_console(alloc, with_tapes(alloc, command)?)
 }
 
 fn rehearse_command<'a>(alloc: Global) -> Result<Command<'a>, AllocError> {
@@ -98,11 +112,28 @@ fn rehearse_command<'a>(alloc: Global) -> Result<Command<'a>, AllocError> {
 }
 
 fn type_command<'a>(alloc: Global) -> Result<Command<'a>, AllocError> {
-    Command::new(alloc, "type")
+    let command = Command::new(alloc, "type")
         .about("Types standard input into a simulated console, which answers")
-        .after_help(texts::TYPE)
-        .arg(words_option(alloc))?
-        .arg(style_option(alloc))
+        .after_help(texts::TYPE);
+    with_console(alloc, command)
+}
+
+/// A command with its tapes as arguments.
+fn with_tapes<'a>(alloc: Global, command: Command<'a>) -> Result<Command<'a>, AllocError> {
+    command.arg(tape_argument(alloc))?.arg(more_argument(alloc))
+}
+
+/// A command with the options of a simulated console.
+fn with_console<'a>(alloc: Global, command: Command<'a>) -> Result<Command<'a>, AllocError> {
+    command.arg(words_option(alloc))?.arg(style_option(alloc))
+}
+
+/// A command with the options of a load.
+fn with_load_options<'a>(alloc: Global, command: Command<'a>) -> Result<Command<'a>, AllocError> {
+    command
+        .arg(record_option(alloc))?
+        .arg(patience_option(alloc))?
+        .arg(quiet_option(alloc))
 }
 
 fn tape_argument<'a>(alloc: Global) -> Arg<'a> {

@@ -6,7 +6,7 @@ use scarce_memory::{Famine, ROOMS};
 use std::alloc::Global;
 use std::process::Abort;
 use std::test::Fail;
-use tape_blocks::{Fault, FromError, TapeReader, Why, read_from, write_tape};
+use tape_blocks::{Fault, Fed, FromError, ReadError, TapeReader, Why, read_from, write_tape};
 
 /// A block and a transfer block with a wrong sum: the refusal waits behind the growths.
 const WRONG_SUM: &[u8] = &[
@@ -109,5 +109,22 @@ fn each_growth_of_a_reader_is_refused_in_turn(rt: HostRuntime) -> Result<(), Fai
     ] {
         assert_refused_in_turn(&rt, rt.alloc(), text, expected, least)?;
     }
+    Ok(())
+}
+
+#[test]
+fn blank_tape_takes_no_memory_and_a_block_does(rt: HostRuntime) -> Result<(), Fail> {
+    let mut reader = TapeReader::new(rt.alloc());
+    let famine = Famine::begin(rt.alloc())?;
+    let blank = reader.feed(&[0; 1000]);
+    let block = reader.feed(ONE_BLOCK);
+    drop(famine);
+    assert!(rt; blank == Ok(Fed::More), "no copy of it is kept");
+    assert!(rt; block == Err(ReadError::Memory));
+    assert!(rt;
+        reader.feed(&[0]) == Err(ReadError::Memory),
+        "its last word"
+    );
+    assert!(rt; reader.finish().err() == Some(ReadError::Memory));
     Ok(())
 }

@@ -28,7 +28,7 @@ use Rattle.command_io.specs.Output.{WritesFront, WritesPrefix}
 use Rattle.command_io.specs.Tapes.{AreTapes, AreAllTaken, AreTapesFault, tapes_of}
 use Rattle.command_io.specs.Text.{line}
 use Rattle.load_reports.specs.Report.{counts_text, end_name, mode_name, word_text, report}
-use Rattle.rehearsals.specs.Dialogue.{Talks, IsDialogueText, IsDialogue, IsDialogueInPart, IsDialogueFault, IsTalkFault, dialogue_opening, dialogue_patience}
+use Rattle.rehearsals.specs.Dialogue.{Talks, IsDialogueText, IsDialogue, IsDialogueInPart, IsDialogueFault, IsReportFault, IsTalkFault, dialogue_opening, dialogue_patience}
 use Rattle.rehearsals.specs.declared.exchange.Exchange.{Exchange}
 use Rattle.rehearsals.specs.KeyLines.{Answered, Gathers, Holds, Notes, answered_in, answered_keys, key_text, last_line}
 use Rattle.rehearsals.specs.Rehearsal.{IsMachineFault, machine_of}
@@ -254,7 +254,7 @@ module _ (inputs rests : List (Option (List ℕ))) (words : ℕ) (style : Style)
       told fault.ReadKeys talk = absurd talk
 
   -- the report was not made
-  pub no_report : (last : Scene) (end : End) (before now : Option (List ℕ)) → Talks world last end before now → IsDialogueInPart inputs rests before now words style
+  no_report : (last : Scene) (end : End) (before now : Option (List ℕ)) → Talks world last end before now → IsDialogueInPart inputs rests before now words style
   no_report last end before now talks = record {
     end = end;
     text = key_text (answered_keys world talks.run.events) ++ report last;
@@ -263,22 +263,29 @@ module _ (inputs rests : List (Option (List ℕ))) (words : ℕ) (style : Style)
   }
 
   -- the report was written in part
-  pub report_in_part : (last : Scene) (end : End) (before between now : Option (List ℕ)) (start told shown : List ℕ) → Talks world last end before between
-      → start ≡ [] → told ≡ start ++ report last → shown ≡ told → WritesPrefix between now shown → IsDialogueInPart inputs rests before now words style
-  report_in_part last end before between now start told shown talks none told_is shown_is written = record {
+  report_in_part : (last : Scene) (end : End) (before between now : Option (List ℕ)) → Talks world last end before between → WritesPrefix between now (report last) → IsDialogueInPart inputs rests before now words style
+  report_in_part last end before between now talks written = record {
     end = end;
     text = key_text (answered_keys world talks.run.events) ++ report last;
     is_text = text_is last end talks.run;
-    written = prefix_behind before between now (key_text (answered_keys world talks.run.events)) (report last) talks.told
-        (subst (WritesPrefix between now) (shown_is ∙ told_is ∙ ap (λ s. s ++ report last) none) written);
+    written = prefix_behind before between now (key_text (answered_keys world talks.run.events)) (report last) talks.told written;
   }
 
+  -- the report was not written whole
+  pub report_failed : (last : Scene) (end : End) (before between now : Option (List ℕ)) (why : CommandFault) → Talks world last end before between → IsReportFault between now (report last) why → IsDialogueFault inputs rests before now words style why
+  report_failed last end before between now fault.Write talks failed = report_in_part last end before between now talks failed
+  report_failed last end before between now fault.Memory talks failed = inr (no_report last end before now (subst (Talks world last end before) (sym failed) talks))
+  report_failed last end before between now (fault.Tape number refusal) talks failed = absurd failed
+  report_failed last end before between now (fault.Script line) talks failed = absurd failed
+  report_failed last end before between now fault.TooLarge talks failed = absurd failed
+  report_failed last end before between now (fault.ReadTape number) talks failed = absurd failed
+  report_failed last end before between now fault.ReadScript talks failed = absurd failed
+  report_failed last end before between now fault.ReadKeys talks failed = absurd failed
+
   -- all was written
-  pub dialogue_made : (last : Scene) (end : End) (before between now : Option (List ℕ)) (start told shown : List ℕ) → Talks world last end before between
-      → start ≡ [] → told ≡ start ++ report last → shown ≡ told → Appends between now shown → IsDialogue inputs rests before now words style end
-  dialogue_made last end before between now start told shown talks none told_is shown_is written = record {
+  pub dialogue_made : (last : Scene) (end : End) (before between now : Option (List ℕ)) → Talks world last end before between → Appends between now (report last) → IsDialogue inputs rests before now words style end
+  dialogue_made last end before between now talks written = record {
     text = key_text (answered_keys world talks.run.events) ++ report last;
     is_text = text_is last end talks.run;
-    written = Appends-trans before between now (key_text (answered_keys world talks.run.events)) (report last) talks.told
-        (subst (Appends between now) (shown_is ∙ told_is ∙ ap (λ s. s ++ report last) none) written);
+    written = Appends-trans before between now (key_text (answered_keys world talks.run.events)) (report last) talks.told written;
   }

@@ -69,3 +69,9 @@ abbrev pub IsTalkFault : CommandFault → Type 0
 IsTalkFault fault.Write = ⊤
 IsTalkFault fault.Memory = ⊤
 IsTalkFault other = ⊥
+
+-- a report was not written: a prefix of it was, or for want of memory nothing
+abbrev pub IsReportFault : Option (List ℕ) → Option (List ℕ) → List ℕ → CommandFault → Type 0
+IsReportFault before now text fault.Write = WritesPrefix before now text
+IsReportFault before now text fault.Memory = now ≡ before
+IsReportFault before now text other = ⊥

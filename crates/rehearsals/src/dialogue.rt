@@ -1,11 +1,13 @@
 //! The command `dialogue`: a load into a simulated machine, shown as it goes.
 ghost use Rattle.std.specs.Prelude.{◌≡◌, ◌<◌, ◌++◌, List, map, OnOk, OnErr, IfOk, IfErr};
+ghost use Rattle.std.specs.Io.KnownBytes.{Appends};
 ghost use Rattle.command_io.specs.Output.{WritesFront};
 ghost use Rattle.command_io.specs.Tapes.{TakeAtMost};
 ghost use Rattle.host_core.specs.Core.{ended};
 ghost use Rattle.line_world.specs.declared.event.Event.{Event};
 ghost use Rattle.line_world.specs.World.{happens, first_event, work_left, IsCleanRun};
-ghost use Rattle.rehearsals.specs.Dialogue.{IsDialogue, IsDialogueFault, Talks, IsTalkFault};
+ghost use Rattle.load_reports.specs.Report.{report};
+ghost use Rattle.rehearsals.specs.Dialogue.{IsDialogue, IsDialogueFault, IsReportFault, Talks, IsTalkFault};
 ghost use Rattle.rehearsals.specs.KeyLines.{Answered, Gathers, Notes, answered_in, answered_keys, key_text};
 
 use crate::exchange::Exchange;
@@ -43,10 +45,19 @@ pub fn dialogue_to<R: Read, W: Write>(
     let odt = zeroed(alloc, words, style)?;
     let mut world = open(alloc, &taken.tapes, odt, PATIENCE, &[])?;
     let end = talk(alloc, &mut world, out)?;
-    let mut report = Vec::new(alloc);
-    put_report(&mut report, &world)?;
-    write_whole(out, &report)?;
+    write_report(alloc, &world, out)?;
     Ok(end)
+}
+
+// The report of a world, gathered and then written whole.
+fn write_report<W: Write>(alloc: Global, world: &World, out: &mut W) -> Result<(), CommandFault>
+    ensures ok { OnOk result (Appends (W.contents out.old) (W.contents out.new) (report world.now)) }
+    ensures err { IfErr result (IsReportFault (W.contents out.old) (W.contents out.new) (report world.now)) }
+{
+    let mut text = Vec::new(alloc);
+    put_report(&mut text, world)?;
+    write_whole(out, &text)?;
+    Ok(())
 }
 
 // A clean line up to the first end, each exchange written when it is over.

@@ -1,9 +1,8 @@
-use Rattle.std.proofs.Common.{refl, sym, subst, map, inl, inr}
+use Rattle.std.proofs.Common.{refl, sym, subst, map, inl}
 use Rattle.std.proofs.KnownBytes.{Keeps-refl}
 use Rattle.rehearsals.specs.Dialogue.{IsDialogueFault}
-use Rattle.command_io.specs.declared.fault.CommandFault.TheVariants.{Write, Memory}
 use Rattle.command_io.proofs.Faults.{fault_is}
-use Rattle.rehearsals.proofs.Dialogues.{opens_dialogue, tapes_fault, machine_fault, stopped_in_talk, no_report, report_in_part, dialogue_made}
+use Rattle.rehearsals.proofs.Dialogues.{opens_dialogue, tapes_fault, machine_fault, stopped_in_talk, report_failed, dialogue_made}
 use Rattle.rehearsals.proofs.dialogue.dialogue_to.Goals as goal
 
 pub returns-in_err-taken-clause-err : goal.returns-in_err-taken-clause-err
@@ -34,29 +33,19 @@ returns-in_err-end-clause-err g c =
     (opens_dialogue c.args.words c.args.style c.in_ok-taken.taken.tapes.items c.deref.result.now _ c.in_ok-odt.odt c.in_ok-world.world _ c.deref.ensures.value c.in_ok-taken.ensures.ok.tapes_are c.in_ok-odt.ensures.ok refl c.in_ok-world.ensures.ok)
     c.in_ok-odt.odt (g.W.Write.contents c.args.out.now) (g.W.Write.contents c.talk.new.out) _ c.in_ok-odt.ensures.ok c.in_ok-odt.ensures.machine c.in_ok-world.ensures.host c.in_err-end.ensures.err c.in_err-end.ensures.front)
 
-pub returns-in_err-put_report-clause-err : goal.returns-in_err-put_report-clause-err
-returns-in_err-put_report-clause-err g c =
-    fault_is c.from_residual-in_err-put_report.result Memory
-    (IsDialogueFault (map g.R.Read.remaining c.args.tapes.now) (map g.R.Read.remaining c.take_tapes.new.inputs) (g.W.Write.contents c.args.out.now) (g.W.Write.contents c.talk.new.out) c.args.words c.args.style)
-    c.from_residual-in_err-put_report.ensures.1
-    (inr
-    (no_report (map g.R.Read.remaining c.args.tapes.now) (map g.R.Read.remaining c.take_tapes.new.inputs) c.args.words c.args.style c.in_ok-taken.taken.tapes.items c.in_ok-taken.taken.lengths.items c.in_ok-taken.ensures.ok c.in_ok-world.world
+pub returns-in_err-write_report-clause-err : goal.returns-in_err-write_report-clause-err
+returns-in_err-write_report-clause-err g c =
+    fault_is c.from_residual-in_err-write_report.result c.in_err-write_report.field-0.0
+    (IsDialogueFault (map g.R.Read.remaining c.args.tapes.now) (map g.R.Read.remaining c.take_tapes.new.inputs) (g.W.Write.contents c.args.out.now) (g.W.Write.contents c.write_report.new.out) c.args.words c.args.style)
+    c.from_residual-in_err-write_report.ensures.1
+    (report_failed (map g.R.Read.remaining c.args.tapes.now) (map g.R.Read.remaining c.take_tapes.new.inputs) c.args.words c.args.style c.in_ok-taken.taken.tapes.items c.in_ok-taken.taken.lengths.items c.in_ok-taken.ensures.ok c.in_ok-world.world
     (opens_dialogue c.args.words c.args.style c.in_ok-taken.taken.tapes.items c.deref.result.now _ c.in_ok-odt.odt c.in_ok-world.world _ c.deref.ensures.value c.in_ok-taken.ensures.ok.tapes_are c.in_ok-odt.ensures.ok refl c.in_ok-world.ensures.ok)
-    c.talk.new.world c.in_ok-end.end (g.W.Write.contents c.args.out.now) (g.W.Write.contents c.talk.new.out) c.in_ok-end.ensures.ok))
-
-pub returns-in_err-write_whole-clause-err : goal.returns-in_err-write_whole-clause-err
-returns-in_err-write_whole-clause-err g c =
-    fault_is c.from_residual-in_err-write_whole.result Write
-    (IsDialogueFault (map g.R.Read.remaining c.args.tapes.now) (map g.R.Read.remaining c.take_tapes.new.inputs) (g.W.Write.contents c.args.out.now) (g.W.Write.contents c.write_whole.new.out) c.args.words c.args.style)
-    c.from_residual-in_err-write_whole.ensures.1
-    (report_in_part (map g.R.Read.remaining c.args.tapes.now) (map g.R.Read.remaining c.take_tapes.new.inputs) c.args.words c.args.style c.in_ok-taken.taken.tapes.items c.in_ok-taken.taken.lengths.items c.in_ok-taken.ensures.ok c.in_ok-world.world
-    (opens_dialogue c.args.words c.args.style c.in_ok-taken.taken.tapes.items c.deref.result.now _ c.in_ok-odt.odt c.in_ok-world.world _ c.deref.ensures.value c.in_ok-taken.ensures.ok.tapes_are c.in_ok-odt.ensures.ok refl c.in_ok-world.ensures.ok)
-    c.talk.new.world c.in_ok-end.end (g.W.Write.contents c.args.out.now) (g.W.Write.contents c.talk.new.out) (g.W.Write.contents c.write_whole.new.out) _ _ _
-    c.in_ok-end.ensures.ok c.new-report.ensures.items c.in_ok-put_report.ensures c.deref-2.ensures.value c.in_err-write_whole.ensures.err)
+    c.talk.new.world c.in_ok-end.end (g.W.Write.contents c.args.out.now) (g.W.Write.contents c.talk.new.out) (g.W.Write.contents c.write_report.new.out) _
+    c.in_ok-end.ensures.ok c.in_err-write_report.ensures.err)
 
 pub returns-clause-ok : goal.returns-clause-ok
 returns-clause-ok g c =
     dialogue_made (map g.R.Read.remaining c.args.tapes.now) (map g.R.Read.remaining c.take_tapes.new.inputs) c.args.words c.args.style c.in_ok-taken.taken.tapes.items c.in_ok-taken.taken.lengths.items c.in_ok-taken.ensures.ok c.in_ok-world.world
     (opens_dialogue c.args.words c.args.style c.in_ok-taken.taken.tapes.items c.deref.result.now _ c.in_ok-odt.odt c.in_ok-world.world _ c.deref.ensures.value c.in_ok-taken.ensures.ok.tapes_are c.in_ok-odt.ensures.ok refl c.in_ok-world.ensures.ok)
-    c.talk.new.world c.in_ok-end.end (g.W.Write.contents c.args.out.now) (g.W.Write.contents c.talk.new.out) (g.W.Write.contents c.write_whole.new.out) _ _ _
-    c.in_ok-end.ensures.ok c.new-report.ensures.items c.in_ok-put_report.ensures c.deref-2.ensures.value c.in_ok-write_whole.ensures.ok
+    c.talk.new.world c.in_ok-end.end (g.W.Write.contents c.args.out.now) (g.W.Write.contents c.talk.new.out) (g.W.Write.contents c.write_report.new.out)
+    c.in_ok-end.ensures.ok c.in_ok-write_report.ensures.ok

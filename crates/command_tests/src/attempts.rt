@@ -1,8 +1,8 @@
 //! Requests, attempted as the program does it.
 
+use crate::simulated_system::{QUIET_MS, System};
 use endings::Status;
 use requests::{Load, Request, attempt};
-use simulated_system::{QUIET_MS, System};
 use std::alloc::{AllocError, Global};
 use std::io::{Print, Stderr, Write};
 

@@ -1,10 +1,10 @@
 //! The engine over the devices of a real load: a line over a stream, and the keeper of a record.
 
+use crate::simulated_system::{AMPLE, QUIET_MS, System};
 use crate::tapes::plan_of_one_word;
 use host_core::{End, HostCore, Progress};
 use load_engine::{Stop, drive};
 use load_record::FileKeep;
-use simulated_system::{AMPLE, QUIET_MS, System};
 use socket_line::SocketLine;
 use std::test::Fail;
 

@@ -1,8 +1,8 @@
 //! Devices that fail once in the middle of a check, a rehearsal or a dialogue, and would then go on.
 
+use crate::failing_devices::{BrokenInput, BrokenOutput};
 use crate::tapes::{ONE_WORD, ONE_WORD_DIALOGUE, ONE_WORD_TEXT};
 use command_io::CommandFault;
-use failing_devices::{BrokenInput, BrokenOutput};
 use odt_machine::{LARGEST_WORDS, PLAIN_STYLE};
 use rehearsals::{dialogue_to, rehearse_to};
 use std::alloc::Global;

@@ -1,8 +1,8 @@
 //! How typing at a console ends where keys or answers fail once, and would then go on.
 
+use crate::failing_devices::{BrokenInput, BrokenOutput};
 use command_io::CommandFault;
 use console_typing::type_to;
-use failing_devices::{BrokenInput, BrokenOutput};
 use odt_machine::{Mode, Odt, PLAIN_STYLE};
 use std::test::Fail;
 

@@ -1,9 +1,9 @@
 //! Devices that fail once and would then go on: the record of a load, as it is read and as it is
 //! written.
 
+use crate::failing_devices::{BrokenInput, BrokenOutput};
 use crate::tapes::plan_of_one_word;
 use command_io::{InputFault, read_up_to};
-use failing_devices::{BrokenInput, BrokenOutput};
 use honest_line::MemoryLine;
 use host_core::End;
 use load_devices::{KeepFault, LineFault};

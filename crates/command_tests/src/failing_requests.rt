@@ -1,12 +1,12 @@
 //! Requests whose standard input or output fails: what they end with, and that it is not asked again.
 
 use crate::attempts::{NOBODY, load_of};
+use crate::failing_devices::{BrokenInput, BrokenOutput, UnflushedOutput};
+use crate::simulated_system::{AMPLE, Setting, System};
 use crate::tapes::ONE_WORD;
 use endings::Status;
-use failing_devices::{BrokenInput, BrokenOutput, UnflushedOutput};
 use odt_machine::{LARGEST_WORDS, PLAIN_STYLE};
 use requests::{Console, Request, attempt};
-use simulated_system::{AMPLE, Setting, System};
 use std::alloc::{AllocError, Global};
 use std::fs;
 use std::io::Write;

@@ -1,7 +1,7 @@
 //! Lines of faults and texts that explain, help and refusals, over outputs that fail once.
 
+use crate::failing_devices::{BrokenOutput, UnflushedOutput};
 use endings::{Failure, Status, refuse, show, tell};
-use failing_devices::{BrokenOutput, UnflushedOutput};
 use std::alloc::Global;
 use std::io::Write;
 

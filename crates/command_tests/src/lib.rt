@@ -19,6 +19,8 @@ mod driving;
 #[cfg(test)]
 mod failing;
 #[cfg(test)]
+mod failing_devices;
+#[cfg(test)]
 mod failing_keys;
 #[cfg(test)]
 mod failing_records;
@@ -38,5 +40,7 @@ mod scarce_calls;
 mod scarce_loads;
 #[cfg(test)]
 mod scarce_requests;
+#[cfg(test)]
+mod simulated_system;
 #[cfg(test)]
 mod tapes;

@@ -1,9 +1,9 @@
 //! In which order a record is replaced on the disk, and what comes of each step that fails.
 
+use crate::simulated_system::{AMPLE, Failing, Notes, Step, System};
 use crate::tapes::plan_of_one_word;
 use load_devices::KeepFault;
 use machine_load::{BeginFault, begin_record};
-use simulated_system::{AMPLE, Failing, Notes, Step, System};
 use std::fs;
 use std::io::ErrorKind;
 use std::test::Fail;

@@ -1,10 +1,10 @@
 //! Want of memory while a load goes on: each growth is refused in turn, those behind the connection, too.
 
 use crate::attempts::{Ended, NOBODY, OUT_OF_MEMORY, attempt_on, load_of};
+use crate::simulated_system::{AMPLE, Setting, System};
 use crate::tapes::ONE_WORD;
 use endings::Status;
 use scarce_memory::{Famine, ROOMS};
-use simulated_system::{AMPLE, Setting, System};
 use std::alloc::{AllocError, Global};
 use std::fs;
 use std::test::Fail;

@@ -4,11 +4,6 @@
 //! few bytes a write and fails at one of them; `UnflushedOutput` takes everything and fails to
 //! flush. Each fails with the error that a hidden second try would cover up, and counts how often it
 //! was asked after that: so a test sees whether a command asks a failed device again.
-//!
-//! The tests of the commands use them; the program does not.
-#![tactic(auto)]
-
-ghost use Rattle.std.specs.Prelude.{◌≡◌};
 
 use std::io;
 use std::io::{ErrorKind, Read, Write};
@@ -28,10 +23,7 @@ pub struct BrokenInput<'a> {
 
 impl<'a> BrokenInput<'a> {
     /// Gives these bytes, and fails before the one at this place. It has not failed yet.
-    pub fn new(bytes: &'a [u8], fails_before: usize) -> BrokenInput<'a>
-        ensures failures { result.failures ≡ 0 }
-        ensures later { result.later_reads ≡ 0 }
-    {
+    pub fn new(bytes: &'a [u8], fails_before: usize) -> BrokenInput<'a> {
         BrokenInput {
             bytes,
             given: 0,
@@ -80,10 +72,7 @@ const TAKEN: usize = 7;
 
 impl BrokenOutput {
     /// Adds to what was written, and fails at the write of this number, from 1. It has not failed yet.
-    pub fn new(written: Vec<u8>, fails_at: u32) -> BrokenOutput
-        ensures failures { result.failures ≡ 0 }
-        ensures later { result.later_writes ≡ 0 }
-    {
+    pub fn new(written: Vec<u8>, fails_at: u32) -> BrokenOutput {
         BrokenOutput {
             written,
             writes: 0,

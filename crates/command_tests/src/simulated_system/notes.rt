@@ -1,6 +1,4 @@
 //! What is asked of a system's files, step by step.
-ghost use Rattle.std.specs.Prelude.{◌≡◌};
-
 use std::alloc::Global;
 use std::cell::RefCell;
 use std::io;
@@ -36,9 +34,7 @@ pub struct Notes {
 
 impl Notes {
     /// Nothing was asked yet; this step is to fail.
-    pub fn new(alloc: Global, failing: Failing, folder: &'static str) -> Notes
-        ensures { result.failing ≡ failing }
-    {
+    pub fn new(alloc: Global, failing: Failing, folder: &'static str) -> Notes {
         Notes {
             steps: RefCell::new(Vec::new(alloc)),
             failing,

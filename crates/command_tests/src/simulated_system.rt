@@ -1,16 +1,11 @@
 //! A system for tests: its files are real, but have room for so many bytes alone, and behind one
 //! address of its network answers a simulated console, which may close the line after a while. What is
 //! asked of its files can be noted, step by step, and one step can be made to fail.
-//!
-//! The tests of requests, of loads and of their records use it; the program does not.
-#![tactic(auto)]
-
-ghost use Rattle.std.specs.Prelude.{◌≡◌, IsSome};
 
 mod notes;
 
-use crate::notes::note;
 use arrayvec::ArrayVec;
+use notes::note;
 pub use notes::{Failing, Notes, Step};
 use odt_machine::{LARGEST_WORDS, Odt, PLAIN_STYLE};
 use std::alloc::{Allocator, Global};
@@ -89,9 +84,7 @@ fn machine_of(alloc: Global, setting: Setting) -> Option<Odt> {
 
 impl<'a> System<'a> {
     /// A system of this setting, to which nobody has connected yet.
-    pub fn new(rt: &'a HostRuntime, setting: Setting) -> System<'a>
-        ensures { result.setting ≡ setting }
-    {
+    pub fn new(rt: &'a HostRuntime, setting: Setting) -> System<'a> {
         System {
             rt,
             setting,
@@ -103,10 +96,7 @@ impl<'a> System<'a> {
     }
 
     /// The same system, whose notes say what is asked of its files and which step fails.
-    pub fn noted(mut self, notes: &'a Notes) -> System<'a>
-        ensures noted { IsSome result.notes }
-        ensures same { result.setting ≡ self.entry.setting }
-    {
+    pub fn noted(mut self, notes: &'a Notes) -> System<'a> {
         self.notes = Some(notes);
         self
     }

@@ -23,7 +23,7 @@ pub struct BrokenInput<'a> {
 
 impl<'a> BrokenInput<'a> {
     /// Gives these bytes, and fails before the one at this place. It has not failed yet.
-    pub fn new(bytes: &'a [u8], fails_before: usize) -> BrokenInput<'a> {
+    pub(crate) fn new(bytes: &'a [u8], fails_before: usize) -> BrokenInput<'a> {
         BrokenInput {
             bytes,
             given: 0,
@@ -72,7 +72,7 @@ const TAKEN: usize = 7;
 
 impl BrokenOutput {
     /// Adds to what was written, and fails at the write of this number, from 1. It has not failed yet.
-    pub fn new(written: Vec<u8>, fails_at: u32) -> BrokenOutput {
+    pub(crate) fn new(written: Vec<u8>, fails_at: u32) -> BrokenOutput {
         BrokenOutput {
             written,
             writes: 0,

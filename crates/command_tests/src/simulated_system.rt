@@ -84,7 +84,7 @@ fn machine_of(alloc: Global, setting: Setting) -> Option<Odt> {
 
 impl<'a> System<'a> {
     /// A system of this setting, to which nobody has connected yet.
-    pub fn new(rt: &'a HostRuntime, setting: Setting) -> System<'a> {
+    pub(crate) fn new(rt: &'a HostRuntime, setting: Setting) -> System<'a> {
         System {
             rt,
             setting,
@@ -96,7 +96,7 @@ impl<'a> System<'a> {
     }
 
     /// The same system, whose notes say what is asked of its files and which step fails.
-    pub fn noted(mut self, notes: &'a Notes) -> System<'a> {
+    pub(crate) fn noted(mut self, notes: &'a Notes) -> System<'a> {
         self.notes = Some(notes);
         self
     }

@@ -34,7 +34,7 @@ pub struct Notes {
 
 impl Notes {
     /// Nothing was asked yet; this step is to fail.
-    pub fn new(alloc: Global, failing: Failing, folder: &'static str) -> Notes {
+    pub(crate) fn new(alloc: Global, failing: Failing, folder: &'static str) -> Notes {
         Notes {
             steps: RefCell::new(Vec::new(alloc)),
             failing,

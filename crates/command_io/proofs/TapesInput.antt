@@ -1,13 +1,13 @@
 -- Tapes taken of inputs, one after another.
-use Rattle.std.proofs.Common.{◌≡◌, ◌<◌, ◌+◌, ℕ, List, [], ◌∷◌, ◌++◌, Option, map, take, drop, set, length, refl, sym, ap, ◌∙◌, subst, arith}
+use Rattle.std.proofs.Common.{◌≡◌, ◌<◌, ◌≤◌, ◌+◌, ℕ, List, [], ◌∷◌, ◌++◌, Option, map, take, drop, set, length, refl, sym, ap, ◌∙◌, subst, arith}
 use Rattle.std.proofs.Common.{get_or, take-append-drop}
 use Rattle.std.proofs.KnownBytes.{Consumes-nil}
-use Rattle.std.proofs.lemmas.List.{map-append, take-map, drop-map, take_more, take_more_set, take-set, drop_more, drop-set-lt, length-append, length-set}
+use Rattle.std.proofs.lemmas.List.{map-append, take-map, drop-map, take_all, take_more, take_more_set, take-set, drop_more, drop-set-lt, length-append, length-set}
 use Rattle.std.proofs.lemmas.List.Elements.{AllZip-push}
 use Rattle.tape_blocks.specs.Tape.{TapeValue}
 use Rattle.command_io.specs.Input.{TakesAtMost}
 use Rattle.command_io.specs.TapeFile.{input_limit}
-use Rattle.command_io.specs.Tapes.{TapeText, IsTapeTaken, AreTaken, StopsAt, TakeAtMost, tapes_of, lengths_of}
+use Rattle.command_io.specs.Tapes.{TapeText, IsTapeTaken, AreTaken, AreTapes, StopsAt, TakeAtMost, tapes_of, lengths_of}
 
 -- of the first inputs tapes were taken, and the others are as they were
 pub record IsTaking {X : Type 0} (known : X → Option (List ℕ)) (start now : List X) (done : ℕ) (tapes : List TapeValue) (lengths : List ℕ) : Type 0 where
@@ -128,3 +128,22 @@ module _ {X : Type 0} (known : X → Option (List ℕ)) (start now : List X) (i 
         tapes_are = tapes_more ∙ ap (λ ts. ts ++ tape ∷ []) so.tapes_are ∙ sym (map-append (λ (u : TapeText). u.tape) so.texts (t ∷ []));
         lengths_are = lengths_more ∙ ap (λ ls. ls ++ length_is ∷ []) so.lengths_are ∙ ap (λ n. lengths_of so.texts ++ n ∷ []) long ∙ sym (map-append (λ (u : TapeText). length u.text) so.texts (t ∷ []));
       }
+
+-- each input gave a tape
+module _ {X : Type 0} (known : X → Option (List ℕ)) (start now : List X) (done : ℕ) (tapes : List TapeValue) (lengths : List ℕ) (so : IsTaking known start now done tapes lengths) (all : length start ≤ done) where
+  started : take done start ≡ start
+  started = take_all done start all
+
+  ended : take done now ≡ now
+  ended = take_all done now (let same = so.size in omega arith)
+
+  pub are_tapes : AreTapes (map known start) (map known now) tapes lengths
+  are_tapes = record {
+    texts = so.texts;
+    taken = subst (λ xs. AreTaken (map known xs) (map known now) so.texts) started (subst (λ xs. AreTaken (map known (take done start)) (map known xs) so.texts) ended so.taken);
+    tapes_are = so.tapes_are;
+    lengths_are = so.lengths_are;
+  }
+
+  pub taken_at_most : TakeAtMost (map known start) (map known now)
+  taken_at_most = subst (λ xs. TakeAtMost (map known xs) (map known now)) started (subst (λ xs. TakeAtMost (map known (take done start)) (map known xs)) ended so.at_most)

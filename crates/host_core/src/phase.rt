@@ -1,5 +1,5 @@
 /// Why the word under way is opened.
-#[derive(Clone, Copy, Debug, PartialEq, Eq)]
+#[derive(Clone, Copy)]
 pub enum Visit {
     /// To see what memory holds before anything is stored.
     Look,
@@ -9,7 +9,7 @@ pub enum Visit {
 }
 
 /// Why a CR was typed.
-#[derive(Clone, Copy, Debug, PartialEq, Eq)]
+#[derive(Clone, Copy)]
 pub enum Reason {
     /// It stores the digits before it.
     Store,
@@ -45,7 +45,7 @@ pub enum End {
 
 /// What the host waits for. Places count the digits of a number from 1; in `Value` and in the
 /// answers to `Z` and CR they count from 0.
-#[derive(Clone, Copy, Debug, PartialEq, Eq)]
+#[derive(Clone, Copy)]
 pub enum Phase {
     /// The line becomes quiet.
     Settle,

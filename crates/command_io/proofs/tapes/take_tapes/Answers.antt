@@ -1,7 +1,7 @@
-use Rattle.std.proofs.Common.{get_or, sym, subst}
+use Rattle.std.proofs.Common.{get_or, rules, sym, subst}
 use Rattle.command_io.specs.TapeFile.{IsRefusedInput}
 use Rattle.command_io.proofs.TapeInput.{takes_at_most, refused_reading, tape_taken}
-use Rattle.command_io.proofs.TapesInput.{at_most_all, stops, taking_more}
+use Rattle.command_io.proofs.TapesInput.{are_tapes, at_most_all, stops, taken_at_most, taking_more}
 use Rattle.command_io.proofs.tapes.take_tapes.Goals as goal
 
 pub returns-in-Err-Tape-clause-err : goal.returns-in-Err-Tape-clause-err
@@ -32,3 +32,9 @@ returns-in-Err-Io-clause-at_most g c = at_most_all g.R.Read.remaining c.args.inp
 
 pub returns-in-Err-Memory-clause-at_most : goal.returns-in-Err-Memory-clause-at_most
 returns-in-Err-Memory-clause-at_most g c = at_most_all g.R.Read.remaining c.args.inputs.now c.loop-place.inputs c.loop-place.place c.index-inputs-place.result c.read_from.new.input _ _ c.loop-place.invariant c.loop-place-test.true (takes_at_most _ _ _ c.read_from.ensures)
+
+pub returns-clause-ok : goal.returns-clause-ok
+returns-clause-ok g c = are_tapes g.R.Read.remaining _ _ _ _ _ c.loop-place.invariant (search rules)
+
+pub returns-clause-at_most : goal.returns-clause-at_most
+returns-clause-at_most g c = taken_at_most g.R.Read.remaining _ _ _ _ _ c.loop-place.invariant (search rules)

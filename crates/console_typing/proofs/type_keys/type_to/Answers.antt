@@ -2,7 +2,7 @@ use Rattle.std.proofs.Common.{rules}
 use Rattle.console_typing.specs.Typing.{IsTypeFault}
 use Rattle.command_io.specs.declared.fault.CommandFault.TheVariants.{Write}
 use Rattle.command_io.proofs.Faults.{fault_is}
-use Rattle.console_typing.proofs.Typing.{so_far_more, in_part}
+use Rattle.console_typing.proofs.Typing.{so_far_kept, so_far_more, in_part}
 use Rattle.console_typing.proofs.type_keys.type_to.Goals as goal
 
 pub returns-in_err-type_piece-clause-err : goal.returns-in_err-type_piece-clause-err
@@ -21,3 +21,6 @@ loop-count-preserved g c = record {
       (c.in-Ok.ensures.bound.0, c.in-Ok.ensures.bound.1, c.in-Ok.ensures.bytes.0, c.in_ok-type_piece.ensures.machine, search rules)
       c.in_ok-type_piece.ensures.ok;
 }
+
+pub returns-in_default-clause-err : goal.returns-in_default-clause-err
+returns-in_default-clause-err g c = (c.loop-count.count, so_far_kept _ _ _ _ _ _ _ _ c.loop-count.invariant.so_far c.in_default.ensures.bytes)

@@ -6,7 +6,7 @@ use std::fmt;
 use tape_blocks::Fault;
 
 /// Why the program did not do what it was asked, in the words of its line on standard error.
-#[derive(Clone, Copy, Debug, PartialEq, Eq)]
+#[derive(Clone, Copy)]
 pub enum Failure<'a> {
     /// The file of this name, or standard input, can't be opened or read.
     CannotRead(&'a str),
@@ -107,7 +107,7 @@ impl<'a> Failure<'a> {
 }
 
 /// Why one of several tapes is refused.
-#[derive(Clone, Copy, Debug, PartialEq, Eq)]
+#[derive(Clone, Copy)]
 pub struct OneTape {
     /// Its number, from 1.
     pub number: usize,

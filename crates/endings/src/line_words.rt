@@ -11,7 +11,7 @@ use std::fmt::Write;
 use tape_blocks::ReadError;
 
 /// What a failure's line says after the program's name, up to the name at its end where it has one.
-#[derive(Clone, Copy, Debug)]
+#[derive(Clone, Copy)]
 struct Words<'a>(Failure<'a>);
 
 impl fmt::Display for Words<'_> {

@@ -6,11 +6,13 @@ use Rattle.load_devices.specs.Told.{Gains}
 use Rattle.tape_image.specs.Plan.{PlanValue}
 use Rattle.host_core.specs.Core.{Core}
 use Rattle.load_engine.specs.declared.stop.Stop.{Stop}
-use Rattle.machine_load.specs.Step.{Step, ReadRecord as RecordRead}
+use Rattle.machine_load.specs.Step.{Step, ReadRecord as RecordRead, Connect as Connected, begin_step}
 use Rattle.machine_load.proofs.Steps.{gains_more}
 use Rattle.machine_load.specs.Load.{IsLoad}
 use Rattle.machine_load.specs.LoadReport.{load_report}
-use Rattle.machine_load.specs.LoadFault.{IsLoadFault, IsDrivingFault, IsReportFault}
+use Rattle.machine_load.specs.LoadFault.{IsLoadFault, IsDrivingFault, IsReportFault, fault_of_begin}
+use Rattle.machine_load.specs.declared.begin_fault.BeginFault.{BeginFault}
+use Rattle.machine_load.specs.declared.begin_fault.BeginFault.TheVariants as begin
 use Rattle.machine_load.specs.declared.fault.LoadFault.{LoadFault}
 use Rattle.machine_load.specs.declared.fault.LoadFault.TheVariants.{Record, ReadRecord, Connect, WriteRecord, WriteOutput, Memory}
 
@@ -37,6 +39,12 @@ of_driving plan patience steps between steps' told then_ told' out Memory read s
 of_driving plan patience steps between steps' told then_ told' out ReadRecord read same fails = absurd fails
 of_driving plan patience steps between steps' told then_ told' out (Record why) read same fails = absurd fails
 of_driving plan patience steps between steps' told then_ told' out WriteOutput read same fails = absurd fails
+
+-- a record that is not begun, once there is a connection
+pub not_begun : (steps between steps' : Option (List Step)) (told told' : Option (List ℕ)) (why : BeginFault)
+    → Gains steps between (Connected ∷ []) → Gains between steps' (begin_step {A = Unit {0}} (Err why) ∷ []) → IsDrivingFault steps steps' told told' (fault_of_begin why)
+not_begun steps between steps' told told' (begin.Keep fault) connected fails = gains_more _ _ _ _ _ connected fails
+not_begun steps between steps' told told' begin.Memory connected fails = gains_more _ _ _ _ _ connected fails
 
 -- what is known of the error that a result has is known of the result
 pub error_is : {T E : Type 0} (r : Result T E) (error : E) (P : E → Type 0) → IsErrAnd r (λ e. e ≡ error) → P error → IfErr r P

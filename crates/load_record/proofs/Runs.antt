@@ -1,6 +1,6 @@
 -- What the values of a run line say, from either side: a text whose values were counted begins with those values, and the text of a run is counted whole.
-use Rattle.std.proofs.Common.{◌≡◌, ℕ, ◌+◌, ◌*◌, ◌≤◌, Bool, true, false, cond, ◌&&◌, nat_lt, nat_eq, List, [], ◌∷◌, ◌++◌, length, drop, arith, ap, sym, refl, ◌∙◌, subst, ◌==◌, length-append, rules, zero-add, ◌⊎◌, inl, inr}
-use Rattle.std.specs.List.{starts_with}
+use Rattle.std.proofs.Common.{◌≡◌, ℕ, ◌+◌, ◌*◌, ◌≤◌, Bool, true, false, cond, ◌&&◌, nat_lt, nat_eq, List, [], ◌∷◌, ◌++◌, length, drop, arith, ap, sym, refl, ◌∙◌, subst, ◌==◌, length-append, rules, zero-add, ◌⊎◌, inl, inr, Some, None}
+use Rattle.std.specs.List.{slice_get, starts_with}
 use Rattle.std.proofs.lemmas.Slice.Eq.{starts_is}
 use Rattle.std.proofs.lemmas.Bool.{false≢true}
 use Rattle.std.proofs.lemmas.Bool.Decides.{Decides-eqb}
@@ -74,7 +74,28 @@ held_few run next text =
     let c = counted run next text in
     let n = c.count_is in let e = ap length c.next_is ∙ length-append c.words c.later in omega arith
 
--- what the code answers of a torn piece
+-- what the code answers of a torn piece: where no word is next, where the piece begins with another address, and where its values were counted
+pub nothing_next : (next : List WordValue) (text : List ℕ) → None ≡ slice_get next 0 → 0 ≡ torn_words Second next text
+nothing_next [] text e = refl
+nothing_next (w ∷ next) text e = absurd (cc e)
+
+pub begun_elsewhere : (next : List WordValue) (text address : List ℕ) (w : WordValue) → Some w ≡ slice_get next 0 → address ≡ octal_text w.address
+    → starts_with nat_eq text address ≡ false → 0 ≡ torn_words Second next text
+begun_elsewhere [] text address w e a off = absurd (cc e)
+begun_elsewhere (v ∷ next) text address w e a off =
+    let same : w ≡ v = cc in
+    let here = ap (λ (x : WordValue). octal_text x.address) (sym same) ∙ sym a in
+    sym (ap (λ t. cond t (held (run_at v.address) (v ∷ next) (drop 6 text)) 0) (ap (starts_with nat_eq text) here ∙ off))
+
+pub begun_here : (next : List WordValue) (text address left : List ℕ) (w : WordValue) (run : OpenRun) (count : ℕ) → Some w ≡ slice_get next 0 → address ≡ octal_text w.address
+    → starts_with nat_eq text address ≡ true → run ≡ run_at w.address → left ≡ drop 6 text → count ≡ held run next left → count ≡ torn_words Second next text
+begun_here [] text address left w run count e a on r l c = absurd (cc e)
+begun_here (v ∷ next) text address left w run count e a on r l c =
+    let same : w ≡ v = cc in
+    let here = ap (λ (x : WordValue). octal_text x.address) (sym same) ∙ sym a in
+    c ∙ ap (held run (v ∷ next)) l ∙ ap (λ x. held x (v ∷ next) (drop 6 text)) (r ∙ ap (λ (x : WordValue). run_at x.address) same)
+    ∙ sym (ap (λ t. cond t (held (run_at v.address) (v ∷ next) (drop 6 text)) 0) (ap (starts_with nat_eq text) here ∙ on))
+
 pub held_fits : (run : OpenRun) (address : ℕ) (next : List WordValue) (text : List ℕ) (count result : ℕ)
     → run ≡ run_at address → count ≡ held run next text → result ≡ count → result ≤ length next
 held_fits run address next text count result r c e =

@@ -4,6 +4,7 @@ ghost use Rattle.std.specs.List.{slice_split};
 ghost use Rattle.tape_image.specs.Plan.{IsPlan};
 ghost use Rattle.host_core.specs.declared.progress.Progress.{Progress};
 ghost use Rattle.host_core.specs.Opening.{refusal_of};
+ghost use Rattle.load_record.specs.declared.version.Version.TheVariants.{Second};
 ghost use Rattle.load_record.specs.Reading.{Adds, HoldsCount, IsMarkDue, Says, held, is_line_end, run_words, torn_words};
 
 use crate::line::{half_line, value_text, word_fields};
@@ -146,7 +147,7 @@ fn words_held(version: Version, next: &[Word], line: &[u8]) -> usize
 fn run_words(next: &[Word], line: &[u8]) -> usize
     ensures { result ≡ run_words next.now line.now }
 {
-    let count = torn_words(Version::Second, next, line);
+    let count = words_begun(next, line);
     if line.len() == RUN_HEAD + RUN_VALUE * count {
         count
     } else {
@@ -159,13 +160,24 @@ fn torn_words(version: Version, next: &[Word], torn: &[u8]) -> usize
     ensures count { result ≡ torn_words version next.now torn.now }
     ensures few { result ≤ length next.now }
 {
-    let (Version::Second, Some(word)) = (version, next.first()) else {
+    match version {
+        Version::First => 0,
+        Version::Second => words_begun(next, torn),
+    }
+}
+
+/// How many of the next words stand whole in the beginning of a run line.
+fn words_begun(next: &[Word], begun: &[u8]) -> usize
+    ensures count { result ≡ torn_words Second next.now begun.now }
+    ensures few { result ≤ length next.now }
+{
+    let Some(word) = next.first() else {
         return 0;
     };
-    if !torn.starts_with(&oct6(word.address())) {
+    if !begun.starts_with(&oct6(word.address())) {
         return 0;
     }
-    usize::from(held(OpenRun::at(word.address()), next, &torn[RUN_HEAD..]))
+    usize::from(held(OpenRun::at(word.address()), next, &begun[RUN_HEAD..]))
 }
 
 /// How many words a run line has once each of the next words is added whose value stands next in the

@@ -14,6 +14,7 @@ use crate::surroundings::Surroundings;
 use crate::watched::{Onlooker, WatchedKeeper, WatchedLine};
 use command_io::write_and_flush;
 use host_core::HostCore;
+use load_devices::{Keep, Line};
 use load_engine::{Stop, drive};
 use load_record::read_record;
 use std::alloc::Global;
@@ -102,13 +103,25 @@ fn drive_over<S: Surroundings, O: Onlooker>(
     let line = around.connect()?;
     let verified = core.progress().verified;
     let keeper = around.begin_record(alloc, core.plan(), verified)?;
+    Ok(drive_watched(core, line, keeper, onlooker))
+}
+
+// Drives a life that an onlooker is told of.
+fn drive_watched<L: Line + Drop, K: Keep + Drop, O: Onlooker>(
+    core: HostCore,
+    line: L,
+    keeper: K,
+    onlooker: &O,
+) -> (HostCore, Stop)
+    ensures { IsDriven core result.0 result.1 }
+{
     let words = core.plan().words().len() as u32;
+    onlooker.begins(core.progress().verified, words);
     let mut line = WatchedLine::new(line, onlooker);
     let mut keeper = WatchedKeeper::new(keeper, onlooker);
-    onlooker.begins(verified, words);
     let driven = drive(core, &mut line, &mut keeper, TURNS);
     onlooker.ends();
-    Ok(driven)
+    driven
 }
 
 // Reports a life, in a text that has the room.

@@ -20,7 +20,7 @@ const CLEARED: &str = "\r\x1b[K";
 type LineText = ArrayString<128>;
 
 /// How far a load is.
-#[derive(Clone, Copy, Debug, PartialEq, Eq)]
+#[derive(Clone, Copy)]
 struct Tally {
     words: u32,
     verified_at_first: u32,
@@ -122,30 +122,36 @@ impl<C: Clock, E: Print> Onlooker for ProgressLine<'_, C, E> {
 
 // Puts the whole line of a tally.
 fn put_line(text: &mut LineText, tally: Tally, now: Option<u64>) -> fmt::Result {
-    let Tally {
-        words,
-        verified,
-        ..
-    } = tally;
-    write!(text, "\r{verified} of {words} words")?;
-    if words > 0 {
-        write!(text, ", {}%", percent(verified, words))?;
-    }
-    match tally.resynchronised.saturating_sub(1) {
-        0 => {}
-        1 => text.write_str(", 1 mishap")?,
-        mishaps => write!(text, ", {mishaps} mishaps")?,
-    }
+    put_words(text, tally.verified, tally.words)?;
+    put_mishaps(text, tally.resynchronised.saturating_sub(1))?;
     if let Some(left) = time_left(tally, now) {
         put_time(text, left)?;
     }
     text.write_str("\x1b[K")
 }
 
+// Puts how many words are verified of all, and which part that is.
+fn put_words(text: &mut LineText, verified: u32, words: u32) -> fmt::Result {
+    write!(text, "\r{verified} of {words} words")?;
+    if words > 0 {
+        write!(text, ", {}%", percent(verified, words))?;
+    }
+    Ok(())
+}
+
+// Puts the mishaps, where there were any.
+fn put_mishaps(text: &mut LineText, mishaps: u32) -> fmt::Result {
+    match mishaps {
+        0 => Ok(()),
+        1 => text.write_str(", 1 mishap"),
+        _ => write!(text, ", {mishaps} mishaps"),
+    }
+}
+
 // The time left in seconds, once there is a pace.
 fn time_left(tally: Tally, now: Option<u64>) -> Option<u64> {
     let elapsed = now?.checked_sub(tally.begun?)?;
-    let done = tally.verified.checked_sub(tally.verified_at_first)?;
+    let done = tally.verified.saturating_sub(tally.verified_at_first);
     let left = tally.words.checked_sub(tally.verified)?;
     if done == 0 {
         return None;
@@ -153,11 +159,17 @@ fn time_left(tally: Tally, now: Option<u64>) -> Option<u64> {
     Some(remaining(elapsed, done, left) / 1000)
 }
 
+// Puts the time left, in hours where it has any.
 fn put_time(text: &mut LineText, seconds: u64) -> fmt::Result {
-    let (hours, minutes, seconds) = (seconds / 3600, seconds / 60 % 60, seconds % 60);
-    if hours > 0 {
-        write!(text, ", {hours}:{minutes:02}:{seconds:02} left")
-    } else {
+    let (minutes, seconds) = (seconds / 60, seconds % 60);
+    if minutes < 60 {
         write!(text, ", {minutes}:{seconds:02} left")
+    } else {
+        put_hours(text, minutes, seconds)
     }
+}
+
+fn put_hours(text: &mut LineText, minutes: u64, seconds: u64) -> fmt::Result {
+    let (hours, minutes) = (minutes / 60, minutes % 60);
+    write!(text, ", {hours}:{minutes:02}:{seconds:02} left")
 }

@@ -1,5 +1,6 @@
-use Rattle.std.proofs.Common.{◌≡◌, ◌+◌, Some, None, refl, ap, subst, ◌∙◌, arith}
+use Rattle.std.proofs.Common.{◌≡◌, ◌+◌, Some, None, refl, ap, sym, subst, ◌∙◌, arith}
 use Rattle.host_core.proofs.Lives.{led_plan, led_patience}
+use Rattle.host_core.proofs.Turns.{within_bound}
 use Rattle.load_engine.proofs.Sessions.{session_none, session_join, session_wider, session_marks, session_ended, session_over}
 use Rattle.load_engine.specs.Session.{Session}
 use Rattle.load_engine.proofs.Beliefs.{session_believable}
@@ -30,6 +31,21 @@ returns-in-Some-clause-same_plan g c = let s = c.loop.invariant.session in ap (�
 pub returns-in-Some-clause-same_patience : goal.returns-in-Some-clause-same_patience
 returns-in-Some-clause-same_patience g c = let s = c.loop.invariant.session in ap (λ core. core.patience) s.core ∙ led_patience c.args.core s.heard
 
+pub returns-in-Some-clause-end : goal.returns-in-Some-clause-end
+returns-in-Some-clause-end g c = sym c.loop.invariant.end ∙ c.in-Some.is
+
+pub returns-in-Some-clause-counted : goal.returns-in-Some-clause-counted
+returns-in-Some-clause-counted g c = c.loop.invariant.counted
+
+pub returns-in-Some-clause-fault : goal.returns-in-Some-clause-fault
+returns-in-Some-clause-fault g c = tt
+
+pub returns-in-Some-clause-bound : goal.returns-in-Some-clause-bound
+returns-in-Some-clause-bound g c = within_bound c.loop.core c.loop.invariant.kept
+
+pub returns-in-Some-clause-kept : goal.returns-in-Some-clause-kept
+returns-in-Some-clause-kept g c = c.loop.invariant.kept
+
 pub returns-in-Err-clause-turns : goal.returns-in-Err-clause-turns
 returns-in-Err-clause-turns g c =
     let inv = c.loop.invariant in
@@ -49,6 +65,15 @@ returns-in-Err-clause-same_plan g c = let s = returns-in-Err-clause-turns g c in
 
 pub returns-in-Err-clause-same_patience : goal.returns-in-Err-clause-same_patience
 returns-in-Err-clause-same_patience g c = let s = returns-in-Err-clause-turns g c in ap (λ core. core.patience) s.core ∙ led_patience c.args.core s.heard
+
+pub returns-in-Err-clause-fault : goal.returns-in-Err-clause-fault
+returns-in-Err-clause-fault g c = c.in-Err.ensures.fault
+
+pub returns-in-Err-clause-bound : goal.returns-in-Err-clause-bound
+returns-in-Err-clause-bound g c = within_bound c.turn.new.core c.in-Err.ensures.kept
+
+pub returns-in-Err-clause-kept : goal.returns-in-Err-clause-kept
+returns-in-Err-clause-kept g c = c.in-Err.ensures.kept
 
 pub loop-preserved : goal.loop-preserved
 loop-preserved g c =
@@ -82,3 +107,20 @@ returns-clause-same_plan g c = let s = c.loop.invariant.session in ap (λ core. 
 
 pub returns-clause-same_patience : goal.returns-clause-same_patience
 returns-clause-same_patience g c = let s = c.loop.invariant.session in ap (λ core. core.patience) s.core ∙ led_patience c.args.core s.heard
+
+pub returns-clause-end : goal.returns-clause-end
+returns-clause-end g c =
+    let end = sym c.loop.invariant.end in
+    elim c.match-end-2.branch [ in-Some-end w ↦ rw w.stop-is (end ∙ w.in-Some-end.is) | in-None w ↦ rw w.stop-is (end ∙ w.in-None.is) ]
+
+pub returns-clause-counted : goal.returns-clause-counted
+returns-clause-counted g c = elim c.match-end-2.branch [ in-Some-end w ↦ rw w.stop-is c.loop.invariant.counted | in-None w ↦ rw w.stop-is c.loop.invariant.counted ]
+
+pub returns-clause-fault : goal.returns-clause-fault
+returns-clause-fault g c = elim c.match-end-2.branch [ in-Some-end w ↦ rw w.stop-is tt | in-None w ↦ rw w.stop-is tt ]
+
+pub returns-clause-bound : goal.returns-clause-bound
+returns-clause-bound g c = within_bound c.loop.core c.loop.invariant.kept
+
+pub returns-clause-kept : goal.returns-clause-kept
+returns-clause-kept g c = c.loop.invariant.kept

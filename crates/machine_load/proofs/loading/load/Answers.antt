@@ -1,6 +1,34 @@
+use Rattle.std.proofs.Common.{inl, inr}
+use Rattle.std.proofs.KnownBytes.{Keeps-refl}
+use Rattle.machine_load.specs.declared.fault.LoadFault.TheVariants.{Memory}
 use Rattle.machine_load.specs.LoadFault.{IsLoadFault}
-use Rattle.machine_load.proofs.Faults.{of_driving, of_report, error_is}
+use Rattle.machine_load.proofs.Faults.{of_opening, of_driving, of_report, error_is, no_value}
 use Rattle.machine_load.proofs.loading.load.Goals as goal
+
+pub returns-in_err-core-clause-reported : goal.returns-in_err-core-clause-reported
+returns-in_err-core-clause-reported g c = no_value c.from_residual.result _ _ c.from_residual.ensures.1
+
+pub returns-in_err-core-clause-fault : goal.returns-in_err-core-clause-fault
+returns-in_err-core-clause-fault g c =
+    error_is c.from_residual.result c.in_err-core.field-0.0
+    (IsLoadFault c.args.plan c.args.patience (g.S.Surroundings.steps c.args.around.now) (g.S.Surroundings.steps c.open.new.around)
+    (g.S.Surroundings.record_text c.args.around.now) (g.S.Surroundings.record_text c.open.new.around) (g.W.Write.contents c.args.out.now) (g.W.Write.contents c.args.out.now))
+    c.from_residual.ensures.1
+    (of_opening _ _ _ _ _ _ _ c.in_err-core.field-0.0 c.in_err-core.ensures.fault c.open.ensures.same)
+
+pub returns-in_err-report-clause-reported : goal.returns-in_err-report-clause-reported
+returns-in_err-report-clause-reported g c = no_value c.from_residual-in_err-report.result _ _ c.from_residual-in_err-report.ensures.1
+
+pub returns-in_err-report-clause-fault : goal.returns-in_err-report-clause-fault
+returns-in_err-report-clause-fault g c =
+    error_is c.from_residual-in_err-report.result Memory
+    (IsLoadFault c.args.plan c.args.patience (g.S.Surroundings.steps c.args.around.now) (g.S.Surroundings.steps c.open.new.around)
+    (g.S.Surroundings.record_text c.args.around.now) (g.S.Surroundings.record_text c.open.new.around) (g.W.Write.contents c.args.out.now) (g.W.Write.contents c.args.out.now))
+    c.from_residual-in_err-report.ensures.1
+    (inr (inl record { steps_are = c.in_ok-core.ensures.step; record_same = c.open.ensures.same; nothing_reported = Keeps-refl (g.W.Write.contents c.args.out.now) }))
+
+pub returns-in_err-core-2-clause-reported : goal.returns-in_err-core-2-clause-reported
+returns-in_err-core-2-clause-reported g c = no_value c.from_residual-in_err-core-2.result _ _ c.from_residual-in_err-core-2.ensures.1
 
 pub returns-in_err-core-2-clause-fault : goal.returns-in_err-core-2-clause-fault
 returns-in_err-core-2-clause-fault g c =
@@ -9,6 +37,9 @@ returns-in_err-core-2-clause-fault g c =
     (g.S.Surroundings.record_text c.args.around.now) (g.S.Surroundings.record_text c.live.new.around) (g.W.Write.contents c.args.out.now) (g.W.Write.contents c.args.out.now))
     c.from_residual-in_err-core-2.ensures.1
     (of_driving _ _ _ _ _ _ _ _ _ c.in_err-core-2.field-0.0 c.in_ok-core.ensures.step c.open.ensures.same c.in_err-core-2.ensures.fault)
+
+pub returns-in_err-tell-clause-reported : goal.returns-in_err-tell-clause-reported
+returns-in_err-tell-clause-reported g c = no_value c.from_residual-in_err-tell.result _ _ c.from_residual-in_err-tell.ensures.1
 
 pub returns-in_err-tell-clause-fault : goal.returns-in_err-tell-clause-fault
 returns-in_err-tell-clause-fault g c =
@@ -36,3 +67,6 @@ returns-clause-reported g c = record {
   };
   reported = c.in_ok-tell.ensures.ok;
 }
+
+pub returns-clause-fault : goal.returns-clause-fault
+returns-clause-fault g c = tt

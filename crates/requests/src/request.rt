@@ -3,7 +3,7 @@ use odt_machine::Style;
 /// What the words after the program's name ask for.
 ///
 /// Tapes are named in the order in which they are joined, the first before all others.
-#[derive(Debug, PartialEq, Eq, Drop)]
+#[derive(Drop)]
 pub enum Request<'a> {
     /// Check the tape on standard input: there were no words.
     CheckInput,

@@ -11,8 +11,9 @@ use std::alloc::Global;
 use std::test::Fail;
 use tape_image::Plan;
 
-/// A host that has verified nothing of the plan.
-fn fresh_host(plan: Plan) -> Result<HostCore, Fail> {
+/// A host that has verified nothing of the plan, with a record that is begun so.
+fn begun_with(plan: Plan, keeper: &mut FileKeep<Vec<u8>>) -> Result<HostCore, Fail> {
+    keeper.begin(&plan, 0)?;
     let nothing = Progress {
         verified: 0,
         going: false,
@@ -31,26 +32,25 @@ fn line_to(system: &System<'_>) -> Result<SocketLine<Console>, Fail> {
     }
 }
 
-/// Loads the smallest tape with a new record, and answers how that stops and how many keys are sent.
+/// Loads the smallest tape over that line with a new record, and answers how that stops and how many keys are sent.
 fn load_one_word(
     alloc: Global,
-    line: &mut SocketLine<Console>,
+    system: &System<'_>,
     keeper: &mut FileKeep<Vec<u8>>,
 ) -> Result<(Stop, u64), Fail> {
-    let plan = plan_of_one_word(alloc)?;
-    keeper.begin(&plan, 0)?;
-    let (core, stop) = drive(fresh_host(plan)?, line, keeper, 52);
+    let core = begun_with(plan_of_one_word(alloc)?, keeper)?;
+    let mut line = line_to(system)?;
+    let (core, stop) = drive(core, &mut line, keeper, 52);
     Ok((stop, core.sent_count()))
 }
 
 #[test]
 fn a_word_is_loaded_over_a_stream(rt: HostRuntime) -> Result<(), Fail> {
     let system = System::new(&rt, AMPLE);
-    let mut line = line_to(&system)?;
     let mut keeper = FileKeep::new(Vec::new(rt.alloc()));
-    let (stop, sent) = load_one_word(rt.alloc(), &mut line, &mut keeper)?;
-    assert!(rt; stop == Stop::Ended(End::Started));
-    assert!(rt; sent == 30);
+    let (stop, sent) = load_one_word(rt.alloc(), &system, &mut keeper)?;
+    drop(system);
+    assert!(rt; stop == Stop::Ended(End::Started) && sent == 30);
     let record: &[u8] = b"LDAODT 2\n001000 011064\nG\n";
     assert!(rt; keeper.writer().as_slice() == record);
     Ok(())

@@ -91,7 +91,7 @@ fn request_of(alloc: Global, asked: Asked) -> Result<Request<'static>, AllocErro
 type Row = (Asked, &'static [u8], Status, &'static str, &'static str);
 
 /// Requests of each command, some of them refused behind their growths.
-const REQUESTS: [Row; 13] = [
+static REQUESTS: [Row; 13] = [
     (
         Asked::CheckInput,
         &ONE_WORD,

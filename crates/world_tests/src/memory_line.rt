@@ -50,7 +50,7 @@ fn hears(rt: &impl Abort, line: &mut MemoryLine, text: &[u8], reason: &str) -> R
 
 /// The losses; what is heard where `Z` is sent twice, and is answered `?`, CR, LF and `@` each time;
 /// and why the row is here.
-const LOSSES: [(&[Loss], &[u8], &str); 9] = [
+static LOSSES: [(&[Loss], &[u8], &str); 9] = [
     (&[], b"?\r\n@?\r\n@", "nothing is lost"),
     (&[Loss::Down(1)], b"?\r\n@", "a lost key is not answered"),
     (
@@ -98,7 +98,7 @@ fn what_is_lost(rt: HostRuntime) -> Result<(), Fail> {
 
 /// The room, the first call that fails, what is answered where `Z` is sent and one thing is heard,
 /// three times, and why the row is here.
-const FAULTS: [(u32, Option<u64>, [Result<Heard, LineFault>; 3], &str); 6] = [
+static FAULTS: [(u32, Option<u64>, [Result<Heard, LineFault>; 3], &str); 6] = [
     (
         6,
         None,

@@ -71,7 +71,7 @@ const UNBEGUN: Outcome = Err(BeginFault::Keep(KeepFault::Write));
 /// holds.
 type Row = (Failing, Outcome, usize, &'static [Step], &'static str);
 
-const ROWS: [Row; 11] = [
+static ROWS: [Row; 11] = [
     (None, Ok(()), 8, &REPLACED, BEGUN),
     (
         Some((Step::OpenBeside, ErrorKind::PermissionDenied)),
@@ -213,7 +213,7 @@ fn a_record_is_on_the_disk_before_it_replaces_the_old_one(rt: HostRuntime) -> Re
 const DEVICE: &str = "/dev/null";
 
 /// Names of records that are not there yet, or are devices, the folder of each, and what is asked of the system.
-const NAMES: [(&str, &str, &[Step]); 5] = [
+static NAMES: [(&str, &str, &[Step]); 5] = [
     ("d.record", ".", &REPLACED),
     ("./d.record", ".", &REPLACED),
     ("d.folder/d.record", "d.folder", &REPLACED),
@@ -221,18 +221,27 @@ const NAMES: [(&str, &str, &[Step]); 5] = [
     (DEVICE, ".", &IN_PLACE),
 ];
 
+/// Whether a record of this name is begun in its folder with these steps. It is removed, where it is no device.
+fn is_begun_in(
+    rt: &HostRuntime,
+    name: &str,
+    folder: &'static str,
+    asked: &[Step],
+) -> Result<bool, Fail> {
+    let is_so = is_begun_so(rt, name, folder, None, Ok(()), asked)?;
+    if name != DEVICE {
+        fs::remove_file(rt, name.strip_prefix('/').unwrap_or(name))?;
+    }
+    Ok(is_so)
+}
+
 #[test]
 fn the_folder_is_that_of_the_name(rt: HostRuntime) -> Result<(), Fail> {
     fs::create_dir(&rt, "d.folder")?;
     for row in &NAMES {
         let (name, folder, asked) = *row;
-        assert!(rt;
-            is_begun_so(&rt, name, folder, None, Ok(()), asked)?,
-            "{name}"
-        );
-        if name != DEVICE {
-            fs::remove_file(&rt, name.strip_prefix('/').unwrap_or(name))?;
-        }
+        let is_so = is_begun_in(&rt, name, folder, asked)?;
+        assert!(rt; is_so, "{name}");
     }
     Ok(fs::remove_dir(&rt, "d.folder")?)
 }

@@ -12,7 +12,7 @@ use std::fs;
 use std::test::Fail;
 
 /// The files that the requests name.
-const FILES: [(&str, &[u8]); 6] = [
+static FILES: [(&str, &[u8]); 6] = [
     ("scarce-one-word.lda", &ONE_WORD),
     ("scarce-wrong-sum.lda", &WRONG_SUM),
     ("scarce-nothing.lda", &NOTHING),
@@ -215,27 +215,24 @@ fn run_scarcely(
 
 /// Puts the files there.
 fn put_files(rt: &HostRuntime) -> Result<(), Fail> {
-    for (name, bytes) in FILES {
+    for row in &FILES {
+        let (name, bytes) = *row;
         fs::write(rt, name, bytes)?;
     }
     Ok(())
 }
 
 fn remove_files(rt: &HostRuntime) -> Result<(), Fail> {
-    for (name, _) in FILES {
+    for row in &FILES {
+        let (name, _) = *row;
         fs::remove_file(rt, name)?;
     }
     Ok(())
 }
 
-/// Whether a request for which memory is wanting at first ends so at last.
-fn ends_at_last(
-    rt: &HostRuntime,
-    (asked, input): (Asked, &[u8]),
-    status: Status,
-    out: &str,
-    line: &str,
-) -> Result<bool, Fail> {
+/// Whether a request for which memory is wanting at first ends as it has to at last.
+fn ends_at_last(rt: &HostRuntime, row: &Row) -> Result<bool, Fail> {
+    let (asked, input, status, out, line) = *row;
     let mut ended = Ended::with_room(rt.alloc())?;
     let refusals = run_scarcely(rt, asked, input, out, &mut ended)?;
     Ok(refusals > 0 && ended.is(status, out, line))
@@ -244,10 +241,9 @@ fn ends_at_last(
 #[test]
 fn each_growth_is_refused_in_turn(rt: HostRuntime) -> Result<(), Fail> {
     put_files(&rt)?;
-    for row in &REQUESTS {
-        let (asked, input, status, out, line) = *row;
-        let ends = ends_at_last(&rt, (asked, input), status, out, line)?;
-        assert!(rt; ends, "{out}{line}");
+    for (place, row) in REQUESTS.iter().enumerate() {
+        let ends = ends_at_last(&rt, row)?;
+        assert!(rt; ends, "row {place}");
     }
     remove_files(&rt)
 }

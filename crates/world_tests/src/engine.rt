@@ -107,7 +107,7 @@ struct Course {
 }
 
 /// The setting, what a drive in it comes to, and why the row is here.
-static ROWS: [(Setting, Course, &str); 12] = [
+const ROWS: [(Setting, Course, &str); 12] = [
     (
         Setting { turns: 52, ..AMPLE },
         Course {

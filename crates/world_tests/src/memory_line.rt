@@ -50,7 +50,7 @@ fn hears(rt: &impl Abort, line: &mut MemoryLine, text: &[u8], reason: &str) -> R
 
 /// The losses; what is heard where `Z` is sent twice, and is answered `?`, CR, LF and `@` each time;
 /// and why the row is here.
-static LOSSES: [(&[Loss], &[u8], &str); 9] = [
+const LOSSES: [(&[Loss], &[u8], &str); 9] = [
     (&[], b"?\r\n@?\r\n@", "nothing is lost"),
     (&[Loss::Down(1)], b"?\r\n@", "a lost key is not answered"),
     (

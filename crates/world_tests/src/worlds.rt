@@ -17,7 +17,7 @@ fn refusal_of(odt: Odt, core: HostCore, waiting: &[u8]) -> Option<Setup> {
 
 /// What waits, the machine's mode, the verified words; the refusal; and why the row is here. The
 /// tape has one word.
-static OPENINGS: [(&[u8], Mode, u32, Option<Setup>, &str); 7] = [
+const OPENINGS: [(&[u8], Mode, u32, Option<Setup>, &str); 7] = [
     (&[], Mode::Prompt, 0, None, "nothing waits"),
     (
         &[b'@'; 32],

@@ -152,7 +152,7 @@ const UNKEPT: Outcome = Ok(Stop::KeepFailed(KeepFault::Write));
 type Row = (&'static [u8], u16, u32, Outcome, usize, &'static str);
 
 /// A write takes seven bytes at most: two for the header, two for the word, one for the mark.
-static WRITES: [Row; 10] = [
+const WRITES: [Row; 10] = [
     (b"", 0, 1, UNBEGUN, 0, ""),
     (b"", 0, 2, UNBEGUN, 7, ""),
     (

@@ -91,7 +91,7 @@ fn standard_input_fails(rt: HostRuntime) -> Result<(), Fail> {
 type Row = (Asked, &'static [u8], u32);
 
 /// Requests that print. The last is a load whose line fails before its report does.
-static PRINTING: [Row; 4] = [
+const PRINTING: [Row; 4] = [
     (Asked::CheckInput, &ONE_WORD, 0),
     (Asked::Type, KEYS, 0),
     (Asked::Load, &[], 1_000_000),

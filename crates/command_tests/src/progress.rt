@@ -78,7 +78,7 @@ enum Step {
 const BEGINNING: u64 = 7_000_000;
 
 /// The time since then in milliseconds, what happens, how often something was shown by then, and what last.
-static STORY: [(u64, Step, u32, &str); 7] = [
+const STORY: [(u64, Step, u32, &str); 7] = [
     (
         10,
         Step::Resynchronised,

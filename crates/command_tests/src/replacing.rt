@@ -71,7 +71,7 @@ const UNBEGUN: Outcome = Err(BeginFault::Keep(KeepFault::Write));
 /// holds.
 type Row = (Failing, Outcome, usize, &'static [Step], &'static str);
 
-static ROWS: [Row; 11] = [
+const ROWS: [Row; 11] = [
     (None, Ok(()), 8, &REPLACED, BEGUN),
     (
         Some((Step::OpenBeside, ErrorKind::PermissionDenied)),
@@ -213,7 +213,7 @@ fn a_record_is_on_the_disk_before_it_replaces_the_old_one(rt: HostRuntime) -> Re
 const DEVICE: &str = "/dev/null";
 
 /// Names of records that are not there yet, or are devices, the folder of each, and what is asked of the system.
-static NAMES: [(&str, &str, &[Step]); 5] = [
+const NAMES: [(&str, &str, &[Step]); 5] = [
     ("d.record", ".", &REPLACED),
     ("./d.record", ".", &REPLACED),
     ("d.folder/d.record", "d.folder", &REPLACED),

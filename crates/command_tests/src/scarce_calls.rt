@@ -47,7 +47,7 @@ const WRONG_SUM_FAULT: Fault = Fault {
 
 /// Calls, the texts of the tapes that they have, what they answer with ample memory, and why the row
 /// is here.
-static CALLS: [(Call, &[&[u8]], Answer, &str); 12] = [
+const CALLS: [(Call, &[&[u8]], Answer, &str); 12] = [
     (
         Call::Read,
         &[&ONE_WORD],

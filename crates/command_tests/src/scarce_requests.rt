@@ -12,7 +12,7 @@ use std::fs;
 use std::test::Fail;
 
 /// The files that the requests name.
-static FILES: [(&str, &[u8]); 6] = [
+const FILES: [(&str, &[u8]); 6] = [
     ("scarce-one-word.lda", &ONE_WORD),
     ("scarce-wrong-sum.lda", &WRONG_SUM),
     ("scarce-nothing.lda", &NOTHING),

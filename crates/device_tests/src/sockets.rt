@@ -67,7 +67,7 @@ fn characters_silence_and_the_end_are_heard(rt: HostRuntime) -> Result<(), Fail>
 }
 
 /// Padding that comes before an `A`, and what is heard by two calls.
-static PADDED: [(&[u8], Hearing, Heard); 2] = [
+const PADDED: [(&[u8], Hearing, Heard); 2] = [
     (&[0; 4095], Ok(Heard::Got(0x41)), Heard::Quiet),
     (&[0; 4096], Err(LineFault::Noise), Heard::Got(0x41)),
 ];
@@ -156,7 +156,7 @@ fn a_stream_is_set_to_the_quiet_time_and_to_wait_for_nothing(rt: HostRuntime) ->
 
 /// How often and how a read fails before one gives an `A`, what is heard, and how often the stream was
 /// read: a read is begun again where the system interrupts it, and only there.
-static HEARINGS: [(ErrorKind, u32, Hearing, u32); 7] = [
+const HEARINGS: [(ErrorKind, u32, Hearing, u32); 7] = [
     (ErrorKind::Interrupted, 1, Ok(Heard::Got(0x41)), 2),
     (ErrorKind::Interrupted, 4095, Ok(Heard::Got(0x41)), 4096),
     (ErrorKind::Interrupted, 4096, Err(LineFault::Receive), 4096),
@@ -186,7 +186,7 @@ fn only_an_interrupted_read_is_begun_again(rt: HostRuntime) -> Result<(), Fail> 
 }
 
 /// How the writing of a key, call 0 of the stream, or its flushing, call 1, fails.
-static SENDINGS: [(ErrorKind, u32); 7] = [
+const SENDINGS: [(ErrorKind, u32); 7] = [
     (ErrorKind::Interrupted, 0),
     (ErrorKind::WouldBlock, 0),
     (ErrorKind::TimedOut, 0),

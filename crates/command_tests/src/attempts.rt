@@ -1,10 +1,10 @@
 //! Requests, attempted as the program does it.
 
-use crate::simulated_system::{QUIET_MS, System};
+use crate::simulated_system::QUIET_MS;
 use endings::Status;
 use requests::{Load, Request, attempt};
 use std::alloc::{AllocError, Global};
-use std::io::{Print, Stderr, Write};
+use std::io::Stderr;
 
 /// No terminal looks on.
 pub const NOBODY: Option<&Stderr> = None;
@@ -73,17 +73,4 @@ pub(crate) fn load_of<'a>(
             quiet_ms: QUIET_MS,
         },
     ))
-}
-
-/// Does a request, with nothing on standard input, and answers how it ended.
-pub(crate) fn attempt_on<W: Write, T: Print>(
-    system: &System<'_>,
-    alloc: Global,
-    request: Request<'_>,
-    out: &mut W,
-    err: &mut Vec<u8>,
-    terminal: Option<&T>,
-) -> Status {
-    let mut input: &[u8] = &[];
-    attempt(system, alloc, request, &mut input, out, err, terminal)
 }

@@ -1,6 +1,6 @@
 //! Devices that fail once in the middle of a check, a rehearsal or a dialogue, and would then go on.
 
-use crate::failing_devices::{BrokenInput, BrokenOutput};
+use crate::failing_devices::{BrokenInput, BrokenOutput, NOWHERE};
 use crate::tapes::{ONE_WORD, ONE_WORD_DIALOGUE, ONE_WORD_TEXT};
 use command_io::CommandFault;
 use odt_machine::{LARGEST_WORDS, PLAIN_STYLE};
@@ -24,9 +24,6 @@ enum Failing {
     Script(usize),
     Output(u32),
 }
-
-/// A place that no input has.
-const NOWHERE: usize = usize::MAX;
 
 /// A write that no command comes to.
 const NEVER: u32 = u32::MAX;

@@ -21,6 +21,9 @@ pub struct BrokenInput<'a> {
     pub later_reads: u32,
 }
 
+/// A place that no input has.
+pub const NOWHERE: usize = usize::MAX;
+
 impl<'a> BrokenInput<'a> {
     /// Gives these bytes, and fails before the one at this place. It has not failed yet.
     pub(crate) fn new(bytes: &'a [u8], fails_before: usize) -> BrokenInput<'a> {
@@ -31,6 +34,11 @@ impl<'a> BrokenInput<'a> {
             failures: 0,
             later_reads: 0,
         }
+    }
+
+    /// Whether it failed, and was not asked again.
+    pub(crate) fn failed_once(&self) -> bool {
+        self.failures == 1 && self.later_reads == 0
     }
 }
 
@@ -80,6 +88,11 @@ impl BrokenOutput {
             failures: 0,
             later_writes: 0,
         }
+    }
+
+    /// Whether it failed, and was not asked again.
+    pub(crate) fn failed_once(&self) -> bool {
+        self.failures == 1 && self.later_writes == 0
     }
 }
 

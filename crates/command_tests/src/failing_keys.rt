@@ -4,6 +4,7 @@ use crate::failing_devices::{BrokenInput, BrokenOutput};
 use command_io::CommandFault;
 use console_typing::type_to;
 use odt_machine::{Mode, Odt, PLAIN_STYLE};
+use std::alloc::Global;
 use std::test::Fail;
 
 /// A deposit at 001000, a look at it, and an illegal key.
@@ -40,20 +41,25 @@ const MODES: [Mode; 24] = [
     Mode::Prompt,
 ];
 
+/// Whether typing whose keys fail once before this place ends there, in this mode.
+fn keys_stop(alloc: Global, place: usize, mode: Mode) -> Result<bool, Fail> {
+    let mut odt = Odt::new(alloc, 28672, PLAIN_STYLE)?;
+    let mut keys = BrokenInput::new(KEYS, place);
+    let mut out = Vec::new(alloc);
+    let ended = type_to(&mut odt, &mut keys, &mut out);
+    Ok(
+        ended == Err(CommandFault::ReadKeys)
+            && keys.failed_once()
+            && odt.mode() == mode
+            && ANSWERS.starts_with(out.as_slice()),
+    )
+}
+
 #[test]
 fn the_keys_fail_once(rt: HostRuntime) -> Result<(), Fail> {
     for (place, mode) in MODES.iter().enumerate() {
-        let mut odt = Odt::new(rt.alloc(), 28672, PLAIN_STYLE)?;
-        let mut keys = BrokenInput::new(KEYS, place);
-        let mut out = Vec::new(rt.alloc());
-        let ended = type_to(&mut odt, &mut keys, &mut out);
-        assert!(rt; ended == Err(CommandFault::ReadKeys), "before key {place}");
-        assert!(rt;
-            keys.failures == 1 && keys.later_reads == 0,
-            "before key {place}"
-        );
-        let is_front = ANSWERS.starts_with(out.as_slice());
-        assert!(rt; odt.mode() == *mode && is_front, "before key {place}");
+        let stops = keys_stop(rt.alloc(), place, *mode)?;
+        assert!(rt; stops, "before key {place}");
     }
     Ok(())
 }
@@ -69,20 +75,24 @@ fn nothing_fails(rt: HostRuntime) -> Result<(), Fail> {
     Ok(())
 }
 
+/// Whether typing whose answers fail once, at the write of this number, ends there.
+fn answers_stop(alloc: Global, number: u32) -> Result<bool, Fail> {
+    let mut odt = Odt::new(alloc, 28672, PLAIN_STYLE)?;
+    let mut keys = KEYS;
+    let mut out = BrokenOutput::new(Vec::new(alloc), number);
+    let ended = type_to(&mut odt, &mut keys, &mut out);
+    Ok(
+        ended == Err(CommandFault::Write)
+            && out.failed_once()
+            && ANSWERS.starts_with(out.written.as_slice()),
+    )
+}
+
 #[test]
 fn the_answers_fail_once(rt: HostRuntime) -> Result<(), Fail> {
     for number in 1..8 {
-        let mut odt = Odt::new(rt.alloc(), 28672, PLAIN_STYLE)?;
-        let mut keys = KEYS;
-        let mut out = BrokenOutput::new(Vec::new(rt.alloc()), number);
-        let ended = type_to(&mut odt, &mut keys, &mut out);
-        assert!(rt; ended == Err(CommandFault::Write), "write {number}");
-        assert!(rt;
-            out.failures == 1 && out.later_writes == 0,
-            "write {number}"
-        );
-        let is_front = ANSWERS.starts_with(out.written.as_slice());
-        assert!(rt; is_front, "write {number}");
+        let stops = answers_stop(rt.alloc(), number)?;
+        assert!(rt; stops, "write {number}");
     }
     Ok(())
 }

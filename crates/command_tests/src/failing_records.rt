@@ -1,7 +1,7 @@
 //! Devices that fail once and would then go on: the record of a load, as it is read and as it is
 //! written.
 
-use crate::failing_devices::{BrokenInput, BrokenOutput};
+use crate::failing_devices::{BrokenInput, BrokenOutput, NOWHERE};
 use crate::tapes::plan_of_one_word;
 use command_io::{InputFault, read_up_to};
 use honest_line::MemoryLine;
@@ -77,9 +77,6 @@ impl<'a> Surroundings for Frail<'a> {
 /// The record of the smallest tape's word, without the mark.
 const VERIFIED: &[u8] = b"LDAODT 1\n001000 177777 011064\n";
 
-/// A place that no record has.
-const NOWHERE: usize = usize::MAX;
-
 /// A line to a machine that holds this at 001000.
 fn line(alloc: Global, word: u16) -> Result<MemoryLine, Fail> {
     let mut odt = Odt::new(alloc, LARGEST_WORDS, PLAIN_STYLE)?;
@@ -87,28 +84,50 @@ fn line(alloc: Global, word: u16) -> Result<MemoryLine, Fail> {
     Ok(MemoryLine::new(alloc, odt, Vec::new(alloc), 1000, None)?)
 }
 
+/// How a load ends.
+type Outcome = Result<Stop, LoadFault>;
+
+/// Surroundings with this input and output, and a machine that holds this at 001000.
+fn frail_with<'a>(
+    alloc: Global,
+    input: BrokenInput<'a>,
+    word: u16,
+    output: &'a RefCell<BrokenOutput>,
+) -> Result<Frail<'a>, Fail> {
+    Ok(Frail {
+        input,
+        line: Some(line(alloc, word)?),
+        output,
+    })
+}
+
+/// Loads the smallest tape.
+fn load_one_word(
+    alloc: Global,
+    around: &mut Frail<'_>,
+    out: &mut Vec<u8>,
+) -> Result<Outcome, Fail> {
+    let plan = plan_of_one_word(alloc)?;
+    Ok(load(alloc, plan, 8, around, out, &Unwatched))
+}
+
+/// Whether a record's input failed once and was not asked again, and nobody connected.
+fn is_unconnected(around: &Frail<'_>) -> bool {
+    around.input.failed_once() && around.line.is_some()
+}
+
 /// Whether a load whose record fails before a byte ends there: nobody connects, nothing is begun, and
 /// nothing is reported.
 fn reading_stops(alloc: Global, place: usize) -> Result<bool, Fail> {
     let output = RefCell::new(BrokenOutput::new(Vec::new(alloc), 1));
-    let mut around = Frail {
-        input: BrokenInput::new(VERIFIED, place),
-        line: Some(line(alloc, 0)?),
-        output: &output,
-    };
+    let mut around = frail_with(alloc, BrokenInput::new(VERIFIED, place), 0, &output)?;
     let mut out = Vec::new(alloc);
-    let plan = plan_of_one_word(alloc)?;
-    let done = load(alloc, plan, 8, &mut around, &mut out, &Unwatched);
-    let asked = (around.input.failures, around.input.later_reads);
-    let is_unconnected = around.line.is_some();
+    let done = load_one_word(alloc, &mut around, &mut out)?;
+    let is_unconnected = is_unconnected(&around);
     drop(around);
-    Ok(
-        done == Err(LoadFault::ReadRecord)
-            && asked == (1, 0)
-            && is_unconnected
-            && out.is_empty()
-            && output.into_inner().failures == 0,
-    )
+    let failures = output.into_inner().failures;
+    let is_unbegun = done == Err(LoadFault::ReadRecord) && failures == 0;
+    Ok(is_unbegun && is_unconnected && out.is_empty())
 }
 
 #[test]
@@ -121,9 +140,6 @@ fn the_record_that_is_read(rt: HostRuntime) -> Result<(), Fail> {
 
 /// The whole record of a load of the smallest tape.
 const RECORD: &[u8] = b"LDAODT 2\n001000 011064\nG\n";
-
-/// How a load ends.
-type Outcome = Result<Stop, LoadFault>;
 
 /// The record could not be begun.
 const UNBEGUN: Outcome = Err(LoadFault::WriteRecord);
@@ -191,31 +207,47 @@ const WRITES: [Row; 10] = [
     ),
 ];
 
+/// Whether an output has just so many bytes of the whole record, and was not asked again.
+fn has_front(output: &BrokenOutput, count: usize) -> bool {
+    output.later_writes == 0 && output.written.len() == count && RECORD.starts_with(&output.written)
+}
+
+/// Loads the smallest tape, with a record on this output, where it was begun with another one, and the machine
+/// holds this word.
+fn load_again(
+    alloc: Global,
+    record: &[u8],
+    word: u16,
+    output: &RefCell<BrokenOutput>,
+    out: &mut Vec<u8>,
+) -> Result<Outcome, Fail> {
+    let mut around = frail_with(alloc, BrokenInput::new(record, NOWHERE), word, output)?;
+    load_one_word(alloc, &mut around, out)
+}
+
+/// Whether such a load ends so with this report, where this write of its own record fails, and so many bytes of
+/// that were written before.
+fn writing_stops(
+    alloc: Global,
+    (record, word, number): (&[u8], u16, u32),
+    ended: Outcome,
+    written: usize,
+    report: &str,
+) -> Result<bool, Fail> {
+    let output = RefCell::new(BrokenOutput::new(Vec::new(alloc), number));
+    let mut out = Vec::new(alloc);
+    let done = load_again(alloc, record, word, &output, &mut out)?;
+    let has_front = has_front(&output.into_inner(), written);
+    Ok(has_front && done == ended && out.as_slice() == report.as_bytes())
+}
+
 #[test]
 fn the_record_that_is_written(rt: HostRuntime) -> Result<(), Fail> {
     for row in &WRITES {
         let (record, word, number, ended, written, report) = *row;
-        let output = RefCell::new(BrokenOutput::new(Vec::new(rt.alloc()), number));
-        let mut around = Frail {
-            input: BrokenInput::new(record, NOWHERE),
-            line: Some(line(rt.alloc(), word)?),
-            output: &output,
-        };
-        let mut out = Vec::new(rt.alloc());
-        let plan = plan_of_one_word(rt.alloc())?;
-        let done = load(rt.alloc(), plan, 8, &mut around, &mut out, &Unwatched);
-        assert!(rt;
-            done == ended && out.as_slice() == report.as_bytes(),
-            "write {number}"
-        );
-        drop(around);
-        let output = output.into_inner();
-        assert!(rt; output.later_writes == 0, "write {number}");
-        let is_front = RECORD.starts_with(&output.written);
-        assert!(rt;
-            output.written.len() == written && is_front,
-            "write {number}"
-        );
+        let load = (record, word, number);
+        let stops = writing_stops(rt.alloc(), load, ended, written, report)?;
+        assert!(rt; stops, "write {number}");
     }
     Ok(())
 }

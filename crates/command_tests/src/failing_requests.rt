@@ -1,7 +1,7 @@
 //! Requests whose standard input or output fails: what they end with, and that it is not asked again.
 
 use crate::attempts::{NOBODY, load_of};
-use crate::failing_devices::{BrokenInput, BrokenOutput, UnflushedOutput};
+use crate::failing_devices::{BrokenInput, BrokenOutput, NOWHERE, UnflushedOutput};
 use crate::simulated_system::{AMPLE, Setting, System};
 use crate::tapes::ONE_WORD;
 use endings::Status;
@@ -44,6 +44,22 @@ const INPUT_FAILED: &[u8] = b"ldaodt: cannot read standard input\n";
 /// What is said where the output fails.
 const OUTPUT_FAILED: &[u8] = b"ldaodt: cannot write output\n";
 
+/// Whether a request ends with a device that failed and says just this, where the console behind the port answers
+/// so many reads.
+fn is_told_alone<W: Write>(
+    rt: &HostRuntime,
+    (asked, reads): (Asked, u32),
+    input: &mut BrokenInput<'_>,
+    out: &mut W,
+    line: &[u8],
+) -> Result<bool, Fail> {
+    let request = request_of(rt.alloc(), asked)?;
+    let system = System::new(rt, Setting { reads, ..AMPLE });
+    let mut err = Vec::new(rt.alloc());
+    let status = attempt(&system, rt.alloc(), request, input, out, &mut err, NOBODY);
+    Ok(status == Status::DeviceFailed && err.as_slice() == line)
+}
+
 /// Whether a request whose input fails before the byte at this place says so and reads no more, where this is
 /// printed by then.
 fn input_stops(
@@ -53,26 +69,10 @@ fn input_stops(
     place: usize,
     printed: &[u8],
 ) -> Result<bool, Fail> {
-    let system = System::new(rt, AMPLE);
-    let request = request_of(rt.alloc(), asked)?;
     let mut input = BrokenInput::new(bytes, place);
     let mut out = Vec::new(rt.alloc());
-    let mut err = Vec::new(rt.alloc());
-    let status = attempt(
-        &system,
-        rt.alloc(),
-        request,
-        &mut input,
-        &mut out,
-        &mut err,
-        NOBODY,
-    );
-    Ok(
-        status == Status::DeviceFailed
-            && out.as_slice() == printed
-            && err.as_slice() == INPUT_FAILED
-            && (input.failures, input.later_reads) == (1, 0),
-    )
+    let is_told = is_told_alone(rt, (asked, AMPLE.reads), &mut input, &mut out, INPUT_FAILED)?;
+    Ok(is_told && input.failed_once() && out.as_slice() == printed)
 }
 
 #[test]
@@ -98,34 +98,28 @@ const PRINTING: [Row; 4] = [
     (Asked::Load, &[], 3),
 ];
 
-/// Whether a request says that this output fails, and nothing else.
-fn is_told_alone<W: Write>(rt: &HostRuntime, row: &Row, out: &mut W) -> Result<bool, Fail> {
-    let (asked, mut input, reads) = *row;
-    let system = System::new(rt, Setting { reads, ..AMPLE });
-    let request = request_of(rt.alloc(), asked)?;
-    let mut err = Vec::new(rt.alloc());
-    let status = attempt(
-        &system,
-        rt.alloc(),
-        request,
-        &mut input,
-        out,
-        &mut err,
-        NOBODY,
-    );
-    Ok(status == Status::DeviceFailed && err.as_slice() == OUTPUT_FAILED)
+/// Whether a request says that its output fails, and nothing else.
+fn output_stops<W: Write>(rt: &HostRuntime, row: &Row, out: &mut W) -> Result<bool, Fail> {
+    let (asked, bytes, reads) = *row;
+    let mut input = BrokenInput::new(bytes, NOWHERE);
+    is_told_alone(rt, (asked, reads), &mut input, out, OUTPUT_FAILED)
+}
+
+/// The same of an output that fails at its first write, and is not asked again.
+fn writing_stops(rt: &HostRuntime, row: &Row) -> Result<bool, Fail> {
+    let mut broken = BrokenOutput::new(Vec::new(rt.alloc()), 1);
+    let is_told = output_stops(rt, row, &mut broken)?;
+    Ok(is_told && broken.failed_once() && broken.written.is_empty())
 }
 
 #[test]
 fn standard_output_fails(rt: HostRuntime) -> Result<(), Fail> {
     fs::write(&rt, TAPE, ONE_WORD)?;
     for (place, row) in PRINTING.iter().enumerate() {
-        let mut broken = BrokenOutput::new(Vec::new(rt.alloc()), 1);
-        assert!(rt; is_told_alone(&rt, row, &mut broken)?, "row {place}");
-        let asked = (broken.failures, broken.later_writes, broken.written.len());
-        assert!(rt; asked == (1, 0, 0), "row {place}");
-        let is_told = is_told_alone(&rt, row, &mut UnflushedOutput)?;
-        assert!(rt; is_told, "row {place}, at the flush");
+        let stops = writing_stops(&rt, row)?;
+        assert!(rt; stops, "row {place}");
+        let stops = output_stops(&rt, row, &mut UnflushedOutput)?;
+        assert!(rt; stops, "row {place}, at the flush");
     }
     Ok(fs::remove_file(&rt, TAPE)?)
 }

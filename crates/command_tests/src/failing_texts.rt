@@ -23,49 +23,47 @@ fn a_text_that_can_not_be_shown_is_told(rt: HostRuntime) {
     for number in 1..3 {
         let mut out = BrokenOutput::new(Vec::new(rt.alloc()), number);
         assert!(rt; is_told(rt.alloc(), &mut out), "write {number}");
-        assert!(rt;
-            out.failures == 1 && out.later_writes == 0,
-            "write {number}"
-        );
-        assert!(rt; TEXT.as_bytes().starts_with(&out.written), "write {number}");
+        let is_front = TEXT.as_bytes().starts_with(&out.written);
+        assert!(rt; is_front && out.failed_once(), "write {number}");
     }
     assert!(rt; is_told(rt.alloc(), &mut UnflushedOutput));
+}
+
+/// How a refusal ends whose telling fails at the write of this number: where that is not asked again.
+fn refused(alloc: Global, number: u32) -> Option<Status> {
+    let mut err = BrokenOutput::new(Vec::new(alloc), number);
+    let status = refuse(TEXT, &mut err);
+    err.failed_once().then_some(status)
+}
+
+/// The same of a text that can't be shown.
+fn shown(alloc: Global, number: u32) -> Option<Status> {
+    let mut err = BrokenOutput::new(Vec::new(alloc), number);
+    let status = show(alloc, TEXT, &mut UnflushedOutput, &mut err);
+    err.failed_once().then_some(status)
 }
 
 #[test]
 fn what_can_not_be_told_is_not(rt: HostRuntime) {
     for number in 1..3 {
-        let mut err = BrokenOutput::new(Vec::new(rt.alloc()), number);
-        assert!(rt;
-            refuse(TEXT, &mut err) == Status::BadCommandLine,
-            "write {number}"
-        );
-        assert!(rt;
-            err.failures == 1 && err.later_writes == 0,
-            "write {number}"
-        );
-        let mut err = BrokenOutput::new(Vec::new(rt.alloc()), number);
-        let status = show(rt.alloc(), TEXT, &mut UnflushedOutput, &mut err);
-        assert!(rt; status == Status::DeviceFailed, "write {number}");
-        assert!(rt;
-            err.failures == 1 && err.later_writes == 0,
-            "write {number}"
-        );
+        let refused = refused(rt.alloc(), number);
+        assert!(rt; refused == Some(Status::BadCommandLine), "write {number}");
+        let shown = shown(rt.alloc(), number);
+        assert!(rt; shown == Some(Status::DeviceFailed), "write {number}");
     }
+}
+
+/// Whether the line of a fault, which can't be told from the write of this number on, ends there.
+fn telling_stops(alloc: Global, number: u32) -> bool {
+    let mut err = BrokenOutput::new(Vec::new(alloc), number);
+    let status = tell(alloc, Failure::CannotRead("no-such-tape.lda"), &mut err);
+    let line: &[u8] = b"ldaodt: cannot read no-such-tape.lda\n";
+    status == Status::DeviceFailed && err.failed_once() && line.starts_with(&err.written)
 }
 
 #[test]
 fn standard_error_fails_once(rt: HostRuntime) {
     for number in 1..6 {
-        let mut err = BrokenOutput::new(Vec::new(rt.alloc()), number);
-        let status = tell(
-            rt.alloc(),
-            Failure::CannotRead("no-such-tape.lda"),
-            &mut err,
-        );
-        assert!(rt; status == Status::DeviceFailed, "{number}");
-        assert!(rt; err.failures == 1 && err.later_writes == 0, "{number}");
-        let line: &[u8] = b"ldaodt: cannot read no-such-tape.lda\n";
-        assert!(rt; line.starts_with(err.written.as_slice()), "{number}");
+        assert!(rt; telling_stops(rt.alloc(), number), "{number}");
     }
 }

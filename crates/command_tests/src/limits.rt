@@ -42,17 +42,38 @@ const REFUSED: &str = "ldaodt: machine too large\n";
 /// The tape is read before the machine is made.
 const TAPE_REFUSED: &str = "ldaodt: tape refused at 9: BadSum\n";
 
+/// Whether a request writes no output, and ends so.
+fn is_refused(
+    rt: &HostRuntime,
+    request: Request<'_>,
+    input: &[u8],
+    status: Status,
+    line: &str,
+) -> Result<bool, Fail> {
+    let mut ended = Ended::with_room(rt.alloc())?;
+    run(rt, request, input, &mut ended);
+    Ok(ended.is(status, "", line))
+}
+
+/// Whether a dialogue over a tape ends so.
+fn is_dialogue_refused(
+    rt: &HostRuntime,
+    tape: &str,
+    status: Status,
+    line: &str,
+) -> Result<bool, Fail> {
+    let request = dialogue(rt.alloc(), tape)?;
+    is_refused(rt, request, &[], status, line)
+}
+
 #[test]
 fn a_machine_that_is_too_large_is_refused(rt: HostRuntime) -> Result<(), Fail> {
     fs::write(&rt, GOOD, ONE_WORD)?;
     fs::write(&rt, BAD, WRONG_SUM)?;
-    let mut ended = Ended::with_room(rt.alloc())?;
-    run(&rt, Request::Type(TOO_LARGE), b"0/", &mut ended);
-    assert!(rt; ended.is(Status::BadCommandLine, "", REFUSED));
-    run(&rt, dialogue(rt.alloc(), GOOD)?, &[], &mut ended);
-    assert!(rt; ended.is(Status::BadCommandLine, "", REFUSED));
-    run(&rt, dialogue(rt.alloc(), BAD)?, &[], &mut ended);
-    assert!(rt; ended.is(Status::Refused, "", TAPE_REFUSED));
+    let status = Status::BadCommandLine;
+    assert!(rt; is_refused(&rt, Request::Type(TOO_LARGE), b"0/", status, REFUSED)?);
+    assert!(rt; is_dialogue_refused(&rt, GOOD, status, REFUSED)?);
+    assert!(rt; is_dialogue_refused(&rt, BAD, Status::Refused, TAPE_REFUSED)?);
     fs::remove_file(&rt, BAD)?;
     Ok(fs::remove_file(&rt, GOOD)?)
 }

@@ -4,6 +4,7 @@ use crate::simulated_system::{AMPLE, Failing, Notes, Step, System};
 use crate::tapes::plan_of_one_word;
 use load_devices::KeepFault;
 use machine_load::{BeginFault, begin_record};
+use std::alloc::Global;
 use std::fs;
 use std::io::ErrorKind;
 use std::test::Fail;
@@ -152,6 +153,15 @@ fn are_noted(notes: &Notes, wanted: &[Step]) -> bool {
     }
 }
 
+/// Begins a record of the smallest tape.
+fn begin(system: &System<'_>, alloc: Global, name: &str) -> Result<Outcome, Fail> {
+    let plan = plan_of_one_word(alloc)?;
+    Ok(match begin_record(system, alloc, name, &plan, 1) {
+        Ok(_) => Ok(()),
+        Err(fault) => Err(fault),
+    })
+}
+
 /// Begins a record in a folder, where a step may fail, and answers whether that and what was asked is as it
 /// should be.
 fn is_begun_so(
@@ -164,30 +174,39 @@ fn is_begun_so(
 ) -> Result<bool, Fail> {
     let notes = Notes::new(rt.alloc(), failing, folder);
     let system = System::new(rt, AMPLE).noted(&notes);
-    let plan = plan_of_one_word(rt.alloc())?;
-    let is_so = match begin_record(&system, rt.alloc(), name, &plan, 1) {
-        Ok(_) => wanted.is_ok(),
-        Err(fault) => wanted == Err(fault),
-    };
-    Ok(is_so && are_noted(&notes, asked))
+    let begun = begin(&system, rt.alloc(), name)?;
+    Ok(begun == wanted && are_noted(&notes, asked))
+}
+
+/// The record that is begun, and the one beside it.
+const RECORD: &str = "d.record";
+
+const BESIDE: &str = "d.record.ldaodt-new";
+
+/// Whether a record with something in it is begun so, holds this then, and leaves none beside it.
+fn is_replaced_so(
+    rt: &HostRuntime,
+    failing: Failing,
+    wanted: Outcome,
+    asked: &[Step],
+    holds: &str,
+) -> Result<bool, Fail> {
+    fs::write(rt, RECORD, OLD)?;
+    let is_so = is_begun_so(rt, RECORD, ".", failing, wanted, asked)?;
+    let held = fs::read(rt, RECORD)?;
+    let is_left = fs::metadata(rt, BESIDE).is_ok();
+    Ok(is_so && !is_left && held.as_slice() == holds.as_bytes())
 }
 
 #[test]
 fn a_record_is_on_the_disk_before_it_replaces_the_old_one(rt: HostRuntime) -> Result<(), Fail> {
     for (place, row) in ROWS.iter().enumerate() {
         let (failing, wanted, count, list, holds) = *row;
-        fs::write(&rt, "d.record", OLD)?;
         let asked = list.get(..count).unwrap_or(&[]);
-        assert!(rt;
-            is_begun_so(&rt, "d.record", ".", failing, wanted, asked)?,
-            "row {place}"
-        );
-        let held = fs::read(&rt, "d.record")?;
-        assert!(rt; held.as_slice() == holds.as_bytes(), "row {place}");
-        let is_left = fs::metadata(&rt, "d.record.ldaodt-new").is_ok();
-        assert!(rt; !is_left, "row {place}");
+        let is_so = is_replaced_so(&rt, failing, wanted, asked, holds)?;
+        assert!(rt; is_so, "row {place}");
     }
-    Ok(fs::remove_file(&rt, "d.record")?)
+    Ok(fs::remove_file(&rt, RECORD)?)
 }
 
 /// A device, which is there already.
@@ -202,18 +221,27 @@ const NAMES: [(&str, &str, &[Step]); 5] = [
     (DEVICE, ".", &IN_PLACE),
 ];
 
+/// Whether a record of this name is begun in its folder with these steps. It is removed, where it is no device.
+fn is_begun_in(
+    rt: &HostRuntime,
+    name: &str,
+    folder: &'static str,
+    asked: &[Step],
+) -> Result<bool, Fail> {
+    let is_so = is_begun_so(rt, name, folder, None, Ok(()), asked)?;
+    if name != DEVICE {
+        fs::remove_file(rt, name.strip_prefix('/').unwrap_or(name))?;
+    }
+    Ok(is_so)
+}
+
 #[test]
 fn the_folder_is_that_of_the_name(rt: HostRuntime) -> Result<(), Fail> {
     fs::create_dir(&rt, "d.folder")?;
     for row in &NAMES {
         let (name, folder, asked) = *row;
-        assert!(rt;
-            is_begun_so(&rt, name, folder, None, Ok(()), asked)?,
-            "{name}"
-        );
-        if name != DEVICE {
-            fs::remove_file(&rt, name.strip_prefix('/').unwrap_or(name))?;
-        }
+        let is_so = is_begun_in(&rt, name, folder, asked)?;
+        assert!(rt; is_so, "{name}");
     }
     Ok(fs::remove_dir(&rt, "d.folder")?)
 }

@@ -105,6 +105,21 @@ fn read(alloc: Global, text: &[u8]) -> Option<Answer> {
     }
 }
 
+fn write(alloc: Global, tape: &Tape) -> Option<Answer> {
+    let text = write_tape(alloc, tape).ok()?;
+    Some(Answer::Text(text.len()))
+}
+
+fn plan(alloc: Global, tape: &Tape) -> Option<Answer> {
+    let plan = Plan::of(alloc, tape).ok()?;
+    Some(Answer::Plan(plan.words().len()))
+}
+
+fn plan_of_all(alloc: Global, tapes: &[Tape]) -> Option<Answer> {
+    let plan = Plan::of_all(alloc, tapes).ok()?;
+    Some(Answer::Plan(plan.words().len()))
+}
+
 fn machine(alloc: Global) -> Option<Answer> {
     let odt = Odt::new(alloc, LARGEST_WORDS, PLAIN_STYLE).ok()?;
     Some(Answer::Machine(odt.peek(0o157776)))
@@ -126,18 +141,9 @@ fn keeper(alloc: Global) -> Option<Answer> {
 fn ask(alloc: Global, call: Call, texts: &[&[u8]], tapes: &[Tape]) -> Option<Answer> {
     match call {
         Call::Read => read(alloc, texts.first()?),
-        Call::Write => {
-            let text = write_tape(alloc, tapes.first()?).ok()?;
-            Some(Answer::Text(text.len()))
-        }
-        Call::Plan => {
-            let plan = Plan::of(alloc, tapes.first()?).ok()?;
-            Some(Answer::Plan(plan.words().len()))
-        }
-        Call::PlanOfAll => {
-            let plan = Plan::of_all(alloc, tapes).ok()?;
-            Some(Answer::Plan(plan.words().len()))
-        }
+        Call::Write => write(alloc, tapes.first()?),
+        Call::Plan => plan(alloc, tapes.first()?),
+        Call::PlanOfAll => plan_of_all(alloc, tapes),
         Call::Machine => machine(alloc),
         Call::Line => line(alloc),
         Call::Keeper => keeper(alloc),

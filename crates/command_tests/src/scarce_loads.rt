@@ -1,9 +1,10 @@
 //! Want of memory while a load goes on: each growth is refused in turn, those behind the connection, too.
 
-use crate::attempts::{Ended, NOBODY, OUT_OF_MEMORY, attempt_on, load_of};
+use crate::attempts::{Ended, NOBODY, OUT_OF_MEMORY, load_of};
 use crate::simulated_system::{AMPLE, Setting, System};
 use crate::tapes::ONE_WORD;
 use endings::Status;
+use requests::attempt;
 use scarce_memory::{Famine, ROOMS};
 use std::alloc::{AllocError, Global};
 use std::fs;
@@ -65,14 +66,35 @@ fn load(
     let request = load_of(alloc, TAPE, record)?;
     ended.out.clear();
     ended.err.clear();
+    let mut input: &[u8] = &[];
     let (out, err) = (&mut ended.out, &mut ended.err);
-    ended.status = attempt_on(system, alloc, request, out, err, NOBODY);
+    ended.status = attempt(system, alloc, request, &mut input, out, err, NOBODY);
     Ok(())
 }
 
 /// Whether a load ended for want of memory as it has to: nothing is reported and no record is begun.
 fn is_orderly(rt: &HostRuntime, ended: &Ended) -> bool {
     ended.is(Status::NoMemory, "", OUT_OF_MEMORY) && fs::metadata(rt, RECORD).is_err()
+}
+
+/// Loads in the room that is left, and answers how often memory was wanting behind the connection, or None where it
+/// was not wanting at all.
+fn refusals_of(
+    system: &System<'_>,
+    rt: &HostRuntime,
+    record: Option<&str>,
+    ended: &mut Ended,
+) -> Result<Option<u32>, Fail> {
+    if load(system, rt.alloc(), record, ended).is_err() {
+        return Ok(Some(0));
+    }
+    if ended.status != Status::NoMemory {
+        return Ok(None);
+    }
+    if !is_orderly(rt, ended) {
+        return Err(Fail::from("not what want of memory leaves"));
+    }
+    Ok(Some(system.connections.get()))
 }
 
 /// Loads in rooms that grow until memory is not wanting, and answers how often it was behind the connection.
@@ -86,37 +108,29 @@ fn load_scarcely(
     let mut refusals = 0u32;
     for system in systems {
         famine.leave_more(rt.alloc())?;
-        if load(system, rt.alloc(), record, ended).is_err() {
-            continue;
+        match refusals_of(system, rt, record, ended)? {
+            Some(count) => refusals = refusals.saturating_add(count),
+            None => return Ok(refusals),
         }
-        if ended.status != Status::NoMemory {
-            return Ok(refusals);
-        }
-        if !is_orderly(rt, ended) {
-            return Err(Fail::from("not what want of memory leaves"));
-        }
-        refusals = refusals.saturating_add(system.connections.get());
     }
     Err(Fail::from("no room serves"))
 }
 
-/// Loads so, with a system for each room, and answers what the load left and how often it was refused behind the
-/// connection.
-fn load_at_last(rt: &HostRuntime, record: Option<&str>) -> Result<(Ended, u32), Fail> {
+/// Whether a load, with a system for each room, is refused behind the connection, and reports this at last.
+fn is_loaded_at_last(rt: &HostRuntime, record: Option<&str>, report: &str) -> Result<bool, Fail> {
     let mut systems = Vec::new(rt.alloc());
     for _ in 0..ROOMS {
         systems.push(System::new(rt, SETTING))?;
     }
     let mut ended = Ended::with_room(rt.alloc())?;
     let refusals = load_scarcely(rt, record, &systems, &mut ended)?;
-    Ok((ended, refusals))
+    Ok(refusals > 0 && ended.is(Status::Done, report, ""))
 }
 
 #[test]
 fn each_growth_of_a_load_is_refused_in_turn(rt: HostRuntime) -> Result<(), Fail> {
     put_zeroes(&rt)?;
-    let (ended, refusals) = load_at_last(&rt, None)?;
-    assert!(rt; ended.is(Status::Done, ZEROES_LOADED, "") && refusals > 0);
+    assert!(rt; is_loaded_at_last(&rt, None, ZEROES_LOADED)?);
     Ok(fs::remove_file(&rt, TAPE)?)
 }
 
@@ -124,8 +138,7 @@ fn each_growth_of_a_load_is_refused_in_turn(rt: HostRuntime) -> Result<(), Fail>
 fn each_growth_of_a_load_with_a_record_is_refused_in_turn(rt: HostRuntime) -> Result<(), Fail> {
     fs::write(&rt, TAPE, ONE_WORD)?;
     let name = long_name(rt.alloc())?;
-    let (ended, refusals) = load_at_last(&rt, Some(name.as_str()))?;
-    assert!(rt; ended.is(Status::Done, STARTED, "") && refusals > 0);
+    assert!(rt; is_loaded_at_last(&rt, Some(name.as_str()), STARTED)?);
     fs::remove_file(&rt, RECORD)?;
     Ok(fs::remove_file(&rt, TAPE)?)
 }

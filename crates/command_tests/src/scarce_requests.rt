@@ -91,7 +91,7 @@ fn request_of(alloc: Global, asked: Asked) -> Result<Request<'static>, AllocErro
 type Row = (Asked, &'static [u8], Status, &'static str, &'static str);
 
 /// Requests of each command, some of them refused behind their growths.
-const REQUESTS: [Row; 13] = [
+static REQUESTS: [Row; 13] = [
     (
         Asked::CheckInput,
         &ONE_WORD,
@@ -215,27 +215,35 @@ fn run_scarcely(
 
 /// Puts the files there.
 fn put_files(rt: &HostRuntime) -> Result<(), Fail> {
-    for (name, bytes) in FILES {
+    for row in &FILES {
+        let (name, bytes) = *row;
         fs::write(rt, name, bytes)?;
     }
     Ok(())
 }
 
 fn remove_files(rt: &HostRuntime) -> Result<(), Fail> {
-    for (name, _) in FILES {
+    for row in &FILES {
+        let (name, _) = *row;
         fs::remove_file(rt, name)?;
     }
     Ok(())
 }
 
+/// Whether a request for which memory is wanting at first ends as it has to at last.
+fn ends_at_last(rt: &HostRuntime, row: &Row) -> Result<bool, Fail> {
+    let (asked, input, status, out, line) = *row;
+    let mut ended = Ended::with_room(rt.alloc())?;
+    let refusals = run_scarcely(rt, asked, input, out, &mut ended)?;
+    Ok(refusals > 0 && ended.is(status, out, line))
+}
+
 #[test]
 fn each_growth_is_refused_in_turn(rt: HostRuntime) -> Result<(), Fail> {
     put_files(&rt)?;
-    let mut ended = Ended::with_room(rt.alloc())?;
-    for row in &REQUESTS {
-        let (asked, input, status, out, line) = *row;
-        let refusals = run_scarcely(&rt, asked, input, out, &mut ended)?;
-        assert!(rt; ended.is(status, out, line) && refusals > 0, "{out}{line}");
+    for (place, row) in REQUESTS.iter().enumerate() {
+        let ends = ends_at_last(&rt, row)?;
+        assert!(rt; ends, "row {place}");
     }
     remove_files(&rt)
 }

@@ -19,7 +19,7 @@ use std::rt::Files;
 use std::time::{Clock, Duration};
 
 /// What the console and the files of a system are like.
-#[derive(Clone, Copy, Debug)]
+#[derive(Clone, Copy)]
 pub struct Setting {
     /// The words of the machine's memory, and what stands there beforehand.
     pub words: u16,

@@ -33,16 +33,25 @@ fn holds(keep: &FileKeep<Brittle>, text: &[u8]) -> bool {
     !keep.failed() && keep.failures() == 0 && keep.writer().text.as_slice() == text
 }
 
+/// Whether the record of the plan, so many of whose words are kept by `begin`, is this text, with so many
+/// flushes.
+fn is_record(alloc: Global, plan: &Plan, begun: u32, text: &[u8], flushes: u32) -> bool {
+    let mut keep = keeper(alloc, 24, 0);
+    let kept = keep_all(&mut keep, plan, begun);
+    kept.is_ok() && holds(&keep, text) && keep.writer().flushes == flushes
+}
+
 /// Asserts that the record of the plan is this text, wherever its words are divided between `begin`
 /// and `add`, and that each call flushes.
 fn assert_record(rt: &impl Abort, alloc: Global, plan: &Plan, text: &[u8]) {
     let words = plan.words().len() as u32;
     let marks = u32::from(plan.start().is_some());
     for begun in 0..=words {
-        let mut keep = keeper(alloc, 24, 0);
-        assert!(rt; keep_all(&mut keep, plan, begun).is_ok());
-        assert!(rt; holds(&keep, text), "{begun} words begun");
-        assert!(rt; keep.writer().flushes == 1 + words - begun + marks);
+        let flushes = 1 + words - begun + marks;
+        assert!(rt;
+            is_record(alloc, plan, begun, text, flushes),
+            "{begun} words begun"
+        );
     }
 }
 
@@ -52,10 +61,16 @@ const ONE_WORD: &[u8] = b"LDAODT 2\n001000 011064\nG\n";
 const TWO_WORDS: &[u8] = b"LDAODT 2\n001000 031421\nH 001002 000377 000104\nG\n";
 
 #[test]
-fn records_of_plans(rt: HostRuntime) -> Result<(), Fail> {
-    let alloc = rt.alloc();
-    assert_record(&rt, alloc, &one_word(alloc)?, ONE_WORD);
-    assert_record(&rt, alloc, &two_words(alloc)?, TWO_WORDS);
+fn the_record_of_one_word(rt: HostRuntime) -> Result<(), Fail> {
+    let plan = one_word(rt.alloc())?;
+    assert_record(&rt, rt.alloc(), &plan, ONE_WORD);
+    Ok(())
+}
+
+#[test]
+fn the_record_of_two_words(rt: HostRuntime) -> Result<(), Fail> {
+    let plan = two_words(rt.alloc())?;
+    assert_record(&rt, rt.alloc(), &plan, TWO_WORDS);
     Ok(())
 }
 
@@ -68,15 +83,19 @@ fn says_all(keep: &FileKeep<Brittle>, plan: &Plan, verified: u32) -> bool {
     read_record(&keep.writer().text, plan) == Ok(all)
 }
 
+/// Whether a keeper that has kept two words begins their record again, with more words than the plan has.
+fn begins_again(keep: &mut FileKeep<Brittle>, plan: &Plan) -> bool {
+    let begun = keep.begin(plan, 9);
+    begun.is_ok() && keep.writer().text.len() == 48 + 46
+}
+
 #[test]
 fn a_record_is_begun_again(rt: HostRuntime) -> Result<(), Fail> {
     let plan = two_words(rt.alloc())?;
     let mut keep = keeper(rt.alloc(), 24, 0);
     assert!(rt; keep_all(&mut keep, &plan, 1).is_ok());
     assert!(rt; says_all(&keep, &plan, 2));
-    let begun = keep.begin(&plan, 9);
-    assert!(rt; begun.is_ok(), "more words than the plan has");
-    assert!(rt; keep.writer().text.len() == 48 + 46);
+    assert!(rt; begins_again(&mut keep, &plan));
     Ok(())
 }
 
@@ -100,32 +119,44 @@ fn stays_broken(keep: &mut FileKeep<Brittle>, plan: &Plan) -> bool {
 /// three calls of the keeper.
 const CALLS: u32 = 6;
 
+/// Whether the record of a plan is kept up to the call of the writer that fails, which is not repeated, and no
+/// call of the keeper succeeds any more.
+fn keeping_stops(alloc: Global, plan: &Plan, fails_at: u32) -> bool {
+    let mut keep = keeper(alloc, 24, fails_at);
+    let kept = keep_all(&mut keep, plan, 0);
+    kept == Err(KeepFault::Write)
+        && keep.writer().calls == fails_at
+        && stays_broken(&mut keep, plan)
+}
+
 #[test]
 fn each_call_of_the_writer_fails_once(rt: HostRuntime) -> Result<(), Fail> {
     let plan = one_word(rt.alloc())?;
     for fails_at in 1..=CALLS {
-        let mut keep = keeper(rt.alloc(), 24, fails_at);
-        let kept = keep_all(&mut keep, &plan, 0);
-        assert!(rt; kept == Err(KeepFault::Write), "call {fails_at}");
-        let calls = keep.writer().calls;
-        assert!(rt; calls == fails_at, "a failed call is not repeated");
-        assert!(rt; stays_broken(&mut keep, &plan), "call {fails_at}");
+        let stops = keeping_stops(rt.alloc(), &plan, fails_at);
+        assert!(rt; stops, "call {fails_at}");
     }
     Ok(())
+}
+
+/// Whether the record of one word is kept byte by byte.
+fn is_kept_bytewise(alloc: Global, plan: &Plan) -> bool {
+    let mut keep = keeper(alloc, 1, 0);
+    let kept = keep_all(&mut keep, plan, 0);
+    kept.is_ok() && holds(&keep, ONE_WORD)
+}
+
+/// Whether a keeper fails for good whose writer takes nothing.
+fn is_not_kept(alloc: Global, plan: &Plan) -> bool {
+    let mut keep = keeper(alloc, 0, 0);
+    let begun = keep.begin(plan, 0);
+    begun == Err(KeepFault::Write) && stays_broken(&mut keep, plan)
 }
 
 #[test]
 fn a_writer_that_takes_little(rt: HostRuntime) -> Result<(), Fail> {
     let plan = one_word(rt.alloc())?;
-    let mut keep = keeper(rt.alloc(), 1, 0);
-    assert!(rt; keep_all(&mut keep, &plan, 0).is_ok());
-    assert!(rt; holds(&keep, ONE_WORD), "byte by byte");
-    let mut keep = keeper(rt.alloc(), 0, 0);
-    let begun = keep.begin(&plan, 0);
-    assert!(rt;
-        begun == Err(KeepFault::Write),
-        "a writer that takes nothing"
-    );
-    assert!(rt; stays_broken(&mut keep, &plan));
+    assert!(rt; is_kept_bytewise(rt.alloc(), &plan));
+    assert!(rt; is_not_kept(rt.alloc(), &plan));
     Ok(())
 }

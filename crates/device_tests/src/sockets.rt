@@ -12,36 +12,57 @@ use std::time::Duration;
 /// How a call of `hear` may end.
 type Hearing = Result<Heard, LineFault>;
 
-/// A line to a port of 127.0.0.1.
-fn line_to(
+/// The address of a port of 127.0.0.1.
+fn address_of(rt: &HostRuntime, listener: &TcpListener) -> Result<String, Fail> {
+    Ok(format!(in rt.alloc(); "{}", listener.local_addr()?)?)
+}
+
+/// A line to a console behind that port, and the console's end of it.
+fn connected(
     rt: &HostRuntime,
     listener: &TcpListener,
-    quiet_ms: u32,
-) -> Result<SocketLine<TcpStream>, Fail> {
-    let address = format!(in rt.alloc(); "{}", listener.local_addr()?)?;
-    let Ok(line) = SocketLine::connect(rt, &address, quiet_ms) else {
+) -> Result<(SocketLine<TcpStream>, TcpStream), Fail> {
+    let address = address_of(rt, listener)?;
+    let Ok(line) = SocketLine::connect(rt, &address, 50) else {
         return Err(Fail::from("no connection"));
     };
-    Ok(line)
+    let (console, _) = listener.accept()?;
+    Ok((line, console))
+}
+
+/// Whether a line hears this, and has failed or not by it.
+fn hears(line: &mut SocketLine<TcpStream>, heard: Hearing) -> bool {
+    line.hear() == heard && line.failed() == heard.is_err()
+}
+
+/// Whether two characters and then silence are heard of a console that says so many and padding.
+fn is_heard(line: &mut SocketLine<TcpStream>, console: &mut TcpStream) -> Result<bool, Fail> {
+    console.write_all(&[0xC1, 0x00, 0x80, 0x42])?;
+    Ok(
+        hears(line, Ok(Heard::Got(0x41)))
+            && hears(line, Ok(Heard::Got(0x42)))
+            && hears(line, Ok(Heard::Quiet)),
+    )
+}
+
+/// Whether a key that is sent is all that comes to the console.
+fn is_sent(line: &mut SocketLine<TcpStream>, console: &mut TcpStream) -> Result<bool, Fail> {
+    line.send(b'Z')?;
+    let mut key = [0u8; 2];
+    let count = console.read(&mut key)?;
+    Ok(count == 1 && key[0] == b'Z')
 }
 
 #[test]
 fn characters_silence_and_the_end_are_heard(rt: HostRuntime) -> Result<(), Fail> {
     let listener = TcpListener::bind(&rt, "127.0.0.1:0")?;
-    let mut line = line_to(&rt, &listener, 50)?;
-    let (mut console, _) = listener.accept()?;
-    console.write_all(&[0xC1, 0x00, 0x80, 0x42])?;
-    for wanted in [Heard::Got(0x41), Heard::Got(0x42), Heard::Quiet] {
-        assert!(rt; line.hear() == Ok(wanted));
-    }
-    assert!(rt; line.send(b'Z').is_ok());
-    let mut key = [0u8; 2];
-    assert!(rt; console.read(&mut key)? == 1);
-    assert!(rt; key[0] == b'Z');
+    let (mut line, mut console) = connected(&rt, &listener)?;
+    assert!(rt; is_heard(&mut line, &mut console)?);
+    assert!(rt; is_sent(&mut line, &mut console)?);
     assert!(rt; line.failures() == 0 && !line.failed());
     drop(console);
-    assert!(rt; line.hear() == Err(LineFault::Closed));
-    assert!(rt; line.failures() == 1 && line.failed());
+    assert!(rt; hears(&mut line, Err(LineFault::Closed)));
+    assert!(rt; line.failures() == 1);
     Ok(())
 }
 
@@ -51,37 +72,47 @@ const PADDED: [(&[u8], Hearing, Heard); 2] = [
     (&[0; 4096], Err(LineFault::Noise), Heard::Got(0x41)),
 ];
 
+/// Whether this is heard of a console that says some padding and an `A`.
+fn is_padding_heard(
+    rt: &HostRuntime,
+    listener: &TcpListener,
+    padding: &[u8],
+    first: Hearing,
+    second: Heard,
+) -> Result<bool, Fail> {
+    let (mut line, mut console) = connected(rt, listener)?;
+    console.write_all(padding)?;
+    console.write_all(b"A")?;
+    Ok(hears(&mut line, first) && hears(&mut line, Ok(second)))
+}
+
 #[test]
 fn padding_is_dropped_up_to_a_limit(rt: HostRuntime) -> Result<(), Fail> {
     let listener = TcpListener::bind(&rt, "127.0.0.1:0")?;
     for row in &PADDED {
         let (padding, first, second) = *row;
-        let mut line = line_to(&rt, &listener, 50)?;
-        let (mut console, _) = listener.accept()?;
-        console.write_all(padding)?;
-        console.write_all(b"A")?;
-        assert!(rt; line.hear() == first);
-        assert!(rt; line.failed() == first.is_err());
-        assert!(rt; line.hear() == Ok(second));
-        assert!(rt; !line.failed());
+        assert!(rt; is_padding_heard(&rt, &listener, padding, first, second)?);
     }
     Ok(())
 }
 
-/// How a connection to an address fails, if it does.
-fn fault_of(rt: &HostRuntime, address: &str, quiet_ms: u32) -> Option<LineFault> {
-    SocketLine::connect(rt, address, quiet_ms).err()
+/// Whether a connection to an address fails in this way.
+fn fails(rt: &HostRuntime, address: &str, quiet_ms: u32, fault: LineFault) -> bool {
+    match SocketLine::connect(rt, address, quiet_ms) {
+        Ok(_) => false,
+        Err(found) => found == fault,
+    }
 }
 
 #[test]
 fn what_can_not_be_connected_is_told(rt: HostRuntime) -> Result<(), Fail> {
     let listener = TcpListener::bind(&rt, "127.0.0.1:0")?;
-    let address = format!(in rt.alloc(); "{}", listener.local_addr()?)?;
+    let address = address_of(&rt, &listener)?;
     // No stream has a time limit of nothing.
-    assert!(rt; fault_of(&rt, &address, 0) == Some(LineFault::Receive));
+    assert!(rt; fails(&rt, &address, 0, LineFault::Receive));
     drop(listener);
-    assert!(rt; fault_of(&rt, &address, 50) == Some(LineFault::Connect));
-    assert!(rt; fault_of(&rt, "no port", 50) == Some(LineFault::Connect));
+    assert!(rt; fails(&rt, &address, 50, LineFault::Connect));
+    assert!(rt; fails(&rt, "no port", 50, LineFault::Connect));
     Ok(())
 }
 
@@ -135,14 +166,21 @@ const HEARINGS: [(ErrorKind, u32, Hearing, u32); 7] = [
     (ErrorKind::Other, 1, Err(LineFault::Receive), 1),
 ];
 
+/// What is heard over a stream that fails so, and how often that is read.
+fn heard_over(kind: ErrorKind, faults: u32) -> Result<(Hearing, u32), Fail> {
+    let notes = Notes::new();
+    let mut line = faulty(&notes, kind, 0, faults)?;
+    let heard = line.hear();
+    Ok((heard, notes.calls.get()))
+}
+
 #[test]
 fn only_an_interrupted_read_is_begun_again(rt: HostRuntime) -> Result<(), Fail> {
     for row in &HEARINGS {
-        let (kind, faults, heard, calls) = *row;
-        let notes = Notes::new();
-        let mut line = faulty(&notes, kind, 0, faults)?;
-        assert!(rt; line.hear() == heard, "{kind:?}, {faults} times");
-        assert!(rt; notes.calls.get() == calls, "{kind:?}, {faults} times");
+        let (kind, faults, wanted, reads) = *row;
+        let (heard, calls) = heard_over(kind, faults)?;
+        let is_so = heard == wanted && calls == reads;
+        assert!(rt; is_so, "{kind:?}, {faults} times");
     }
     Ok(())
 }
@@ -158,18 +196,21 @@ const SENDINGS: [(ErrorKind, u32); 7] = [
     (ErrorKind::Other, 1),
 ];
 
+/// What the sending of a key comes to over a stream of which this call fails, and how often that is called.
+fn sent_over(kind: ErrorKind, first: u32) -> Result<(Result<(), LineFault>, u32), Fail> {
+    let notes = Notes::new();
+    let mut line = faulty(&notes, kind, first, 1)?;
+    let sent = line.send(b'Z');
+    Ok((sent, notes.calls.get()))
+}
+
 #[test]
 fn a_key_that_failed_is_not_sent_again(rt: HostRuntime) -> Result<(), Fail> {
     for row in &SENDINGS {
         let (kind, first) = *row;
-        let notes = Notes::new();
-        let mut line = faulty(&notes, kind, first, 1)?;
-        let sent = line.send(b'Z');
-        assert!(rt; sent == Err(LineFault::Send), "{kind:?}, call {first}");
-        assert!(rt;
-            notes.calls.get() == first.saturating_add(1),
-            "{kind:?}, call {first}"
-        );
+        let (sent, calls) = sent_over(kind, first)?;
+        let is_so = sent == Err(LineFault::Send) && calls == first.saturating_add(1);
+        assert!(rt; is_so, "{kind:?}, call {first}");
     }
     Ok(())
 }

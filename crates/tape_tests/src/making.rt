@@ -1,9 +1,9 @@
 //! Calls that no command makes: a tape is made of blocks, written, and read again of its text.
 
-use crate::tapes::{ONE_BLOCK, push_block, tape_of};
+use crate::tapes::{ONE_BLOCK, tape_of, tape_with};
 use std::alloc::{AllocError, Global};
 use std::test::Fail;
-use tape_blocks::{BadTape, Block, Tape, read_tape, write_tape};
+use tape_blocks::{BadTape, Block, ReadError, Tape, read_tape, write_tape};
 use tape_image::Plan;
 
 /// Blocks of zeros: how many, their address and their length.
@@ -35,7 +35,7 @@ fn wrong_with(alloc: Global, runs: &[Run]) -> Result<Option<BadTape>, AllocError
 }
 
 /// Why the row is there, blocks, and what is wrong with them.
-const LISTS: [(&str, &[Run], Option<BadTape>); 11] = [
+static LISTS: [(&str, &[Run], Option<BadTape>); 11] = [
     ("no block at all", &[], None),
     (
         "a good block and then an empty one",
@@ -87,25 +87,39 @@ fn lists_of_blocks_make_tapes_or_do_not(rt: HostRuntime) -> Result<(), Fail> {
     Ok(())
 }
 
+/// Whether the plan of a tape has 22 at 001001, and nothing behind it.
+fn is_planned(alloc: Global, tape: &Tape) -> Result<bool, Fail> {
+    let plan = Plan::of(alloc, tape)?;
+    Ok(plan.byte_at(0o1001) == Some(0x12) && plan.byte_at(0o1002).is_none())
+}
+
+/// Whether a text of sixteen bytes is read as a tape that starts at 001000 and has this plan.
+fn is_read_again(alloc: Global, text: &[u8]) -> Result<bool, Fail> {
+    let (tape, used) = read_tape(alloc, text)?;
+    let is_planned = is_planned(alloc, &tape)?;
+    Ok(is_planned && used == 16 && tape.start() == 0o1000)
+}
+
 #[test]
 fn a_tape_is_written_and_read_again(rt: HostRuntime) -> Result<(), Fail> {
-    let mut blocks = Vec::new(rt.alloc());
-    push_block(rt.alloc(), &mut blocks, 0o1000, &[0x34, 0x12])?;
-    let text = write_tape(rt.alloc(), &tape_of(blocks, 0o1000)?)?;
+    let tape = tape_with(rt.alloc(), &[(0o1000, &[0x34, 0x12])], 0o1000)?;
+    let text = write_tape(rt.alloc(), &tape)?;
     assert!(rt; text.as_slice() == ONE_BLOCK);
-    let (tape, used) = read_tape(rt.alloc(), &text)?;
-    assert!(rt; used == 16 && tape.start() == 0o1000);
-    let plan = Plan::of(rt.alloc(), &tape)?;
-    assert!(rt; plan.byte_at(0o1001) == Some(0x12));
-    assert!(rt; plan.byte_at(0o1002).is_none());
+    assert!(rt; is_read_again(rt.alloc(), &text)?);
     Ok(())
+}
+
+/// How many bytes of a text are read as a tape.
+fn length_of(alloc: Global, text: &[u8]) -> Result<u32, ReadError> {
+    let (_, used) = read_tape(alloc, text)?;
+    Ok(used)
 }
 
 #[test]
 fn the_longest_tape_is_written_and_read_again(rt: HostRuntime) -> Result<(), Fail> {
     let tape = tape_of(blocks_of(rt.alloc(), &LONGEST)?, 0o1000)?;
     let text = write_tape(rt.alloc(), &tape)?;
-    let (_, used) = read_tape(rt.alloc(), &text)?;
+    let used = length_of(rt.alloc(), &text)?;
     assert!(rt; text.len() == 1_048_576 && used == 1_048_576);
     Ok(())
 }

@@ -1,20 +1,25 @@
 //! Tapes in pieces, and tapes of devices.
 
 use crate::tapes::{ONE_BLOCK, OVERLAPPING};
-use std::alloc::Global;
+use std::alloc::{AllocError, Global};
 use std::io;
 use std::io::{ErrorKind, Read};
 use std::process::Abort;
 use std::test::Fail;
 use tape_blocks::{Fault, Fed, FromError, ReadError, TapeReader, Why, read_from};
 
+/// Whether a reader that is fed a piece answers so.
+fn answers(reader: &mut TapeReader, piece: &[u8], answer: Result<Fed, ReadError>) -> bool {
+    reader.feed(piece) == answer
+}
+
 #[test]
 fn a_tape_is_fed_byte_by_byte(rt: HostRuntime) -> Result<(), Fail> {
     let mut reader = TapeReader::new(rt.alloc());
     for byte in &ONE_BLOCK[..15] {
-        assert!(rt; reader.feed(&[*byte]) == Ok(Fed::More));
+        assert!(rt; answers(&mut reader, &[*byte], Ok(Fed::More)));
     }
-    assert!(rt; reader.feed(&ONE_BLOCK[15..]) == Ok(Fed::Done(1)));
+    assert!(rt; answers(&mut reader, &ONE_BLOCK[15..], Ok(Fed::Done(1))));
     let tape = reader.finish()?;
     assert!(rt; tape.written_length() == ONE_BLOCK.len());
     Ok(())
@@ -29,9 +34,9 @@ const FOLLOWED: &[u8] = &[
 #[test]
 fn what_follows_in_a_piece_is_not_the_tapes(rt: HostRuntime) {
     let mut reader = TapeReader::new(rt.alloc());
-    assert!(rt; reader.feed(FOLLOWED) == Ok(Fed::Done(16)));
+    assert!(rt; answers(&mut reader, FOLLOWED, Ok(Fed::Done(16))));
     assert!(rt;
-        reader.feed(FOLLOWED) == Ok(Fed::Done(0)),
+        answers(&mut reader, FOLLOWED, Ok(Fed::Done(0))),
         "nor what comes later"
     );
 }
@@ -43,8 +48,8 @@ fn a_fault_is_answered_again(rt: HostRuntime) {
         why: Why::Stray,
     });
     let mut reader = TapeReader::new(rt.alloc());
-    assert!(rt; reader.feed(b"\x00\x00\x41") == Err(fault));
-    assert!(rt; reader.feed(ONE_BLOCK) == Err(fault));
+    assert!(rt; answers(&mut reader, b"\x00\x00\x41", Err(fault)));
+    assert!(rt; answers(&mut reader, ONE_BLOCK, Err(fault)));
     assert!(rt; reader.finish().err() == Some(fault));
 }
 
@@ -55,7 +60,7 @@ fn a_tape_that_ends_between_blocks_has_no_transfer_block(rt: HostRuntime) {
         why: Why::NoTransfer,
     };
     let mut reader = TapeReader::new(rt.alloc());
-    assert!(rt; reader.feed(&ONE_BLOCK[..9]) == Ok(Fed::More));
+    assert!(rt; answers(&mut reader, &ONE_BLOCK[..9], Ok(Fed::More)));
     assert!(rt; reader.finish().err() == Some(ReadError::Tape(fault)));
 }
 
@@ -130,6 +135,16 @@ fn used_of(fed: Fed, piece: &[u8]) -> usize {
     }
 }
 
+/// Feeds a text in pieces of this length, and answers how many of its bytes belong to the tape.
+fn feed_pieces(reader: &mut TapeReader, text: &[u8], length: usize) -> Result<usize, ReadError> {
+    let mut used = 0usize;
+    for piece in text.chunks(length.max(1)) {
+        let fed = reader.feed(piece)?;
+        used = used.saturating_add(used_of(fed, piece));
+    }
+    Ok(used)
+}
+
 /// How an input is read that is fed as a first piece and then in pieces of this length.
 fn reading_of(
     alloc: Global,
@@ -138,11 +153,10 @@ fn reading_of(
     length: usize,
 ) -> Result<(usize, u16), ReadError> {
     let mut reader = TapeReader::new(alloc);
-    let mut used = used_of(reader.feed(first)?, first);
-    for piece in rest.chunks(length.max(1)) {
-        used = used.saturating_add(used_of(reader.feed(piece)?, piece));
-    }
-    Ok((used, reader.finish()?.start()))
+    let before = used_of(reader.feed(first)?, first);
+    let behind = feed_pieces(&mut reader, rest, length)?;
+    let tape = reader.finish()?;
+    Ok((before.saturating_add(behind), tape.start()))
 }
 
 /// The input is read so wherever it is cut, also where what stands behind the cut comes byte by byte.
@@ -203,29 +217,42 @@ impl Read for Device<'_> {
     }
 }
 
+/// How a tape is read of a device that gives a byte a read and fails before this place, and how often that is
+/// read.
+fn reading_of_broken(alloc: Global, place: usize) -> (Option<FromError>, usize) {
+    let mut device = Device {
+        bytes: ONE_BLOCK,
+        most: 1,
+        fails_before: place,
+        failures: 0,
+        reads: 0,
+    };
+    let error = read_from(alloc, &mut device).err();
+    (error, device.reads)
+}
+
 #[test]
 fn a_device_that_fails_is_not_asked_again(rt: HostRuntime) {
     for place in 0..ONE_BLOCK.len() {
-        let mut device = Device {
-            bytes: ONE_BLOCK,
-            most: 1,
-            fails_before: place,
-            failures: 0,
-            reads: 0,
-        };
-        let error = read_from(rt.alloc(), &mut device).err();
+        let (error, reads) = reading_of_broken(rt.alloc(), place);
         assert!(rt; error == Some(FromError::Io), "at {place}");
-        assert!(rt; device.reads == place + 1, "at {place}");
+        assert!(rt; reads == place + 1, "at {place}");
     }
+}
+
+/// The text of a tape with a block of 57,328 zeros and another byte, and then a small one.
+fn long_text(alloc: Global) -> Result<Vec<u8>, AllocError> {
+    let mut text = Vec::from_slice(alloc, &[1, 0, 0xF6, 0xDF, 0, 0])?;
+    let zeros = vec![in alloc; 0u8; 57_328]?;
+    text.extend_from_slice(&zeros)?;
+    text.push(0x2A)?;
+    text.extend_from_slice(ONE_BLOCK)?;
+    Ok(text)
 }
 
 #[test]
 fn a_block_is_one_read(rt: HostRuntime) -> Result<(), Fail> {
-    let mut text = Vec::from_slice(rt.alloc(), &[1, 0, 0xF6, 0xDF, 0, 0])?;
-    let zeros = vec![in rt.alloc(); 0u8; 57_328]?;
-    text.extend_from_slice(&zeros)?;
-    text.push(0x2A)?;
-    text.extend_from_slice(ONE_BLOCK)?;
+    let text = long_text(rt.alloc())?;
     let mut device = Device {
         bytes: &text,
         most: usize::MAX,

@@ -1,7 +1,7 @@
 //! Want of memory: a plan is asked for in rooms that grow, so that each of its growths is refused in turn
 //! until the room serves.
 
-use crate::tapes::{push_block, tape_of};
+use crate::tapes::{push_block, tape_of, tape_with};
 use scarce_memory::{Famine, ROOMS};
 use std::alloc::Global;
 use std::slice;
@@ -23,16 +23,17 @@ fn least_room(alloc: Global, tapes: &[Tape]) -> Result<usize, Fail> {
     Err(Fail::from("no room serves"))
 }
 
+/// Two tapes, of three blocks in all.
+fn two_tapes(alloc: Global) -> Result<Vec<Tape>, Fail> {
+    let mut tapes = Vec::new(alloc);
+    tapes.push(tape_with(alloc, &[(0o777, &[1, 2]), (0o2000, &[3; 40])], 1)?)?;
+    tapes.push(tape_with(alloc, &[(0o1000, &[4])], 0o1000)?)?;
+    Ok(tapes)
+}
+
 #[test]
 fn each_growth_of_a_plan_is_refused_in_turn(rt: HostRuntime) -> Result<(), Fail> {
-    let mut first = Vec::new(rt.alloc());
-    push_block(rt.alloc(), &mut first, 0o777, &[1, 2])?;
-    push_block(rt.alloc(), &mut first, 0o2000, &[3; 40])?;
-    let mut second = Vec::new(rt.alloc());
-    push_block(rt.alloc(), &mut second, 0o1000, &[4])?;
-    let mut tapes = Vec::new(rt.alloc());
-    tapes.push(tape_of(first, 1)?)?;
-    tapes.push(tape_of(second, 0o1000)?)?;
+    let tapes = two_tapes(rt.alloc())?;
     // The table's 112 places alone are more than this, and each page is.
     assert!(rt; least_room(rt.alloc(), &tapes)? > 3 * 1024);
     Ok(())

@@ -34,3 +34,13 @@ pub(crate) fn push_block(
     blocks.push(Block { address, bytes })?;
     Ok(())
 }
+
+/// The tape of blocks with these addresses and bytes, and of this start address.
+pub(crate) fn tape_with(alloc: Global, parts: &[(u16, &[u8])], start: u16) -> Result<Tape, Fail> {
+    let mut blocks = Vec::new(alloc);
+    for part in parts {
+        let (address, bytes) = *part;
+        push_block(alloc, &mut blocks, address, bytes)?;
+    }
+    tape_of(blocks, start)
+}

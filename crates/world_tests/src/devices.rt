@@ -8,7 +8,7 @@ use tape_image::Word;
 
 /// A keeper's room and its first failing call; then how keeping a word, the mark and a word again
 /// goes, how many things are kept, and why the row is here.
-const ROWS: [(u32, Option<u32>, [Option<KeepFault>; 3], usize, &str); 6] = [
+static ROWS: [(u32, Option<u32>, [Option<KeepFault>; 3], usize, &str); 6] = [
     (3, None, [None, None, None], 3, "room for all three"),
     (
         2,

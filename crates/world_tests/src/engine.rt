@@ -264,8 +264,10 @@ const ROWS: [(Setting, Course, &str); 12] = [
     ),
 ];
 
-/// Each device has failed once, or not at all.
-fn fails_so(rt: &impl Abort, outcome: &Outcome, line: bool, keep: bool, reason: &str) {
+/// The device at which a drive stopped has failed once, and the other one not at all.
+fn fails_so(rt: &impl Abort, outcome: &Outcome, stop: Stop, reason: &str) {
+    let line = matches!(stop, Stop::LineFailed(_));
+    let keep = matches!(stop, Stop::KeepFailed(_));
     check_that(rt, outcome.line.failed() == line, reason);
     check_that(rt, outcome.line.failures() == line as u64, reason);
     check_that(rt, outcome.keep.failed() == keep, reason);
@@ -290,29 +292,37 @@ fn says_so(rt: &impl Abort, outcome: &Outcome, course: Course, reason: &str) -> 
     Ok(())
 }
 
+/// A drive in this setting comes to this.
+fn comes_to(
+    rt: &impl Abort,
+    alloc: Global,
+    setting: Setting,
+    course: Course,
+    reason: &str,
+) -> Result<(), Fail> {
+    let outcome = driven(alloc, setting)?;
+    check_that(rt, outcome.stop == course.stop, reason);
+    check_that(rt, outcome.core.spent() == course.spent, reason);
+    fails_so(rt, &outcome, course.stop, reason);
+    says_so(rt, &outcome, course, reason)
+}
+
 #[test]
 fn worked_drives(rt: HostRuntime) -> Result<(), Fail> {
     for row in &ROWS {
         let (setting, course, reason) = *row;
-        let outcome = driven(rt.alloc(), setting)?;
-        check_that(&rt, outcome.stop == course.stop, reason);
-        check_that(&rt, outcome.core.spent() == course.spent, reason);
-        says_so(&rt, &outcome, course, reason)?;
-        let has_line_fault = matches!(course.stop, Stop::LineFailed(_));
-        let has_keep_fault = matches!(course.stop, Stop::KeepFailed(_));
-        fails_so(&rt, &outcome, has_line_fault, has_keep_fault, reason);
+        comes_to(&rt, rt.alloc(), setting, course, reason)?;
     }
     Ok(())
 }
 
-/// The setting with this loss and patience stops so, after so many mishaps. Where the host did not
+/// Whether the setting with this loss and patience stops so, after so many mishaps. Where the host did not
 /// give up, memory holds the word.
-fn ends_so(
-    rt: &impl Abort,
+fn is_ended_so(
     alloc: Global,
     (loss, patience): (Loss, u32),
     (end, spent): (End, u32),
-) -> Result<(), Fail> {
+) -> Result<bool, Fail> {
     let setting = Setting {
         loss: Some(loss),
         patience,
@@ -320,10 +330,22 @@ fn ends_so(
     };
     let outcome = driven(alloc, setting)?;
     let is_loaded = outcome.line.odt().peek(0o1000) == Some(0o11064);
-    let holds = outcome.stop == Stop::Ended(end)
-        && outcome.core.spent() == spent
-        && (is_loaded || end == End::GaveUp);
-    assert!(rt; holds, "{loss:?} with patience {patience}");
+    Ok(
+        outcome.stop == Stop::Ended(end)
+            && outcome.core.spent() == spent
+            && (is_loaded || end == End::GaveUp),
+    )
+}
+
+/// A loss with a patience has this ending.
+fn ends_so(
+    rt: &impl Abort,
+    alloc: Global,
+    (loss, patience): (Loss, u32),
+    ending: (End, u32),
+) -> Result<(), Fail> {
+    let is_so = is_ended_so(alloc, (loss, patience), ending)?;
+    assert!(rt; is_so, "{loss:?} with patience {patience}");
     Ok(())
 }
 

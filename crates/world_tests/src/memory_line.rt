@@ -98,7 +98,7 @@ fn what_is_lost(rt: HostRuntime) -> Result<(), Fail> {
 
 /// The room, the first call that fails, what is answered where `Z` is sent and one thing is heard,
 /// three times, and why the row is here.
-const FAULTS: [(u32, Option<u64>, [Result<Heard, LineFault>; 3], &str); 6] = [
+static FAULTS: [(u32, Option<u64>, [Result<Heard, LineFault>; 3], &str); 6] = [
     (
         6,
         None,

@@ -124,24 +124,18 @@ fn said_before(alloc: Global, call: usize) -> Result<Vec<Item>, Fail> {
     Ok(items)
 }
 
-/// A load whose call with this number fails stops so, and this is said and kept.
+/// Whether a load whose call with this number fails stops so, and this is said and kept.
 fn stops_so(
-    rt: &impl Abort,
     alloc: Global,
     call: usize,
     stop: Stop,
     items: &[Item],
     kept: &[Kept],
-) -> Result<(), Fail> {
+) -> Result<bool, Fail> {
     let (expected_stop, count) = expected(call);
     let news = whole_news()?;
-    assert!(rt; stop == expected_stop, "call {call}");
-    assert!(rt;
-        items == said_before(alloc, call)?.as_slice(),
-        "call {call}"
-    );
-    assert!(rt; kept == &news[..count.min(2)], "call {call}");
-    Ok(())
+    let said = said_before(alloc, call)?;
+    Ok(stop == expected_stop && items == said.as_slice() && kept == &news[..count.min(2)])
 }
 
 #[test]
@@ -155,7 +149,8 @@ fn each_call_of_the_line_fails(rt: HostRuntime) -> Result<(), Fail> {
             keep,
             ..
         } = driven(alloc, Setting { fail_at, ..AMPLE })?;
-        stops_so(&rt, alloc, call, stop, line.items(), keep.kept())?;
+        let stops = stops_so(alloc, call, stop, line.items(), keep.kept())?;
+        assert!(rt; stops, "call {call}");
     }
     Ok(())
 }
@@ -183,7 +178,8 @@ fn one_call_of_the_line_fails(rt: HostRuntime) -> Result<(), Fail> {
     let alloc = rt.alloc();
     for call in 1..=LAST {
         let (stop, line, keep) = driven_once(alloc, call)?;
-        stops_so(&rt, alloc, call, stop, line.line.items(), keep.kept())?;
+        let stops = stops_so(alloc, call, stop, line.line.items(), keep.kept())?;
+        assert!(rt; stops, "call {call}");
         check_that(
             &rt,
             line.calls == call as u64,

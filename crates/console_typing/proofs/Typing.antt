@@ -1,7 +1,7 @@
 -- Typing goes on where it stopped.
-use Rattle.std.proofs.Common.{◌≡◌, ◌≤◌, ◌+◌, ℕ, List, [], ◌∷◌, ◌++◌, Option, Some, None, length, take, refl, sym, ap, subst, ◌∙◌, append_assoc, arith}
+use Rattle.std.proofs.Common.{◌≡◌, ◌≤◌, ◌+◌, ℕ, List, [], ◌∷◌, ◌++◌, Option, length, take, refl, sym, ap, subst, ◌∙◌, append_assoc, arith}
 use Rattle.std.proofs.lemmas.List.{length-append, take-append-le}
-use Rattle.std.proofs.KnownBytes.{Appends-trans, Consumes-trans}
+use Rattle.std.proofs.KnownBytes.{Appends-trans, Consumes-kept, Consumes-trans}
 use Rattle.std.specs.Io.KnownBytes.{Appends, Consumes, Keeps}
 use Rattle.odt_machine.specs.Machine.{Machine}
 use Rattle.odt_machine.specs.KeyTable.{take_of, after_key}
@@ -18,19 +18,13 @@ answers_of-append (x ∷ xs) ys m =
     ap (λ l. (take_of m (typed_key x)).answer ++ l) (answers_of-append xs ys (after_key m (typed_key x)))
     ∙ sym (append_assoc (take_of m (typed_key x)).answer (answers_of (after_key m (typed_key x)) xs) (answers_of (after_typing (after_key m (typed_key x)) xs) ys))
 
-consumes_kept : (a b d : Option (List ℕ)) (keys : List ℕ) → Consumes a b keys → Keeps b d → Consumes a d keys
-consumes_kept None b d keys taken kept = tt
-consumes_kept (Some x) None d keys taken kept = absurd taken
-consumes_kept (Some x) (Some y) None keys taken kept = absurd kept
-consumes_kept (Some x) (Some y) (Some z) keys taken kept = taken ∙ ap (λ l. keys ++ l) (sym kept)
-
 -- a read that failed gave nothing
 pub so_far_kept : (input rest next : Option (List ℕ)) (machine after : Machine) (before written : Option (List ℕ)) (count : ℕ) → IsTypedSoFar input rest machine after before written count → Keeps rest next
     → IsTypedSoFar input next machine after before written count
 so_far_kept input rest next machine after before written count so_far kept = record {
   keys = so_far.keys;
   typed = record {
-    consumed = consumes_kept input rest next so_far.keys so_far.typed.consumed kept;
+    consumed = Consumes-kept input rest next so_far.keys so_far.typed.consumed kept;
     within = so_far.typed.within;
     typed = so_far.typed.typed;
   };

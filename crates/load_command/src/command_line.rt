@@ -61,16 +61,21 @@ fn request_of<'a>(alloc: Global, matches: &ArgMatches<'a>) -> Result<Request<'a>
     ensures { IfOk result (λ request. request ≢ Request.CheckInput) }
 {
     match matches.subcommand() {
+        Some(("load", found)) => loading_of(alloc, found),
         Some(("check", found)) => Ok(Request::Check(tapes_of(alloc, found)?)),
         Some(("dialogue", found)) => dialogue_of(alloc, found),
         Some(("rehearse", found)) => rehearsal_of(alloc, found),
         Some(("type", found)) => Ok(Request::Type(console_of(found)?)),
-        Some(("load", found)) => {
-            let load = load_of(found)?;
-            Ok(Request::Load(tapes_of(alloc, found)?, load))
-        }
         _ => Err(NoRequest::Meaningless),
     }
+}
+
+/// The load of tapes into a machine.
+fn loading_of<'a>(alloc: Global, found: &ArgMatches<'a>) -> Result<Request<'a>, NoRequest>
+    ensures { IfOk result (λ request. request ≢ Request.CheckInput) }
+{
+    let load = load_of(found)?;
+    Ok(Request::Load(tapes_of(alloc, found)?, load))
 }
 
 /// The dialogue of tapes with a console.

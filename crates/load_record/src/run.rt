@@ -10,7 +10,7 @@ const LONGEST_RUN: u8 = 16;
 const BOTH_BYTES: u16 = 0o177777;
 
 /// The run line that stands open at a record's end: full words at consecutive addresses.
-#[derive(Clone, Copy, Debug, PartialEq, Eq)]
+#[derive(Clone, Copy)]
 pub(crate) struct OpenRun {
     /// The address after that of its last word.
     pub next: u16,

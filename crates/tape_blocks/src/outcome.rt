@@ -1,7 +1,7 @@
 use crate::fault::ReadError;
 
 /// How reading a tape ended, if it did.
-#[derive(Clone, Copy, Debug, PartialEq, Eq)]
+#[derive(Clone, Copy)]
 pub enum Outcome {
     /// The tape goes on.
     Open,

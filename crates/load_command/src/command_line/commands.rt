@@ -43,97 +43,77 @@ const LAVISH_STYLE: Style = Style {
 
 /// All words that the program knows.
 pub(crate) fn ldaodt<'a>(alloc: Global) -> Result<Command<'a>, AllocError> {
-    let program = Command::new(alloc, "ldaodt")
+    let about = "Loads a PDP-11 absolute loader tape through the console ODT of an LSI-11";
+    command(alloc, "ldaodt", about, texts::PROGRAM)
         .no_binary_name(true)
         .version("0.1.0")
-        .about("Loads a PDP-11 absolute loader tape through the console ODT of an LSI-11")
         .override_usage("ldaodt [COMMAND]")
-        .after_help(texts::PROGRAM)
         .subcommand_required(true)
-        .bin_name("ldaodt")?;
-    with_simulations(alloc, with_machine_and_tapes(alloc, program)?)
+        .bin_name("ldaodt")?
+        .subcommands(subcommands(alloc)?)
 }
 
-/// The program with the commands that load a machine or look at tapes.
-fn with_machine_and_tapes<'a>(
-    alloc: Global,
-    program: Command<'a>,
-) -> Result<Command<'a>, AllocError> {
-    let program = with_command(program, load_command(alloc))?;
-    with_command(program, check_command(alloc))
-}
-
-/// The program with the commands that simulate a machine.
-fn with_simulations<'a>(alloc: Global, program: Command<'a>) -> Result<Command<'a>, AllocError> {
-    let program = with_command(program, dialogue_command(alloc))?;
-    let program = with_command(program, rehearse_command(alloc))?;
-    with_command(program, type_command(alloc))
-}
-
-/// The program with one more command, where memory sufficed for that.
-fn with_command<'a>(
-    program: Command<'a>,
-    command: Result<Command<'a>, AllocError>,
-) -> Result<Command<'a>, AllocError> {
-    program.subcommand(command?)
+/// What the program can be asked to do.
+fn subcommands<'a>(alloc: Global) -> Result<Vec<Command<'a>>, AllocError> {
+    let mut commands = Vec::new(alloc);
+    commands.push(load_command(alloc)?)?;
+    commands.push(check_command(alloc)?)?;
+    commands.push(dialogue_command(alloc)?)?;
+    commands.push(rehearse_command(alloc)?)?;
+    commands.push(type_command(alloc)?)?;
+    Ok(commands)
 }
 
 fn load_command<'a>(alloc: Global) -> Result<Command<'a>, AllocError> {
-    let command = Command::new(alloc, "load")
-        .about("Loads a machine whose console is reached over TCP")
-        .after_help(texts::LOAD)
-        .arg(tape_argument(alloc))?
-        .arg(address_argument(alloc))?
-        .arg(more_argument(alloc))?;
-    with_load_options(alloc, command)
+    let about = "Loads a machine whose console is reached over TCP";
+    command(alloc, "load", about, texts::LOAD).args(vec![in alloc;
+        tape_argument(alloc),
+        address_argument(alloc),
+        more_argument(alloc),
+        record_option(alloc),
+        patience_option(alloc),
+        quiet_option(alloc),
+    ]?)
 }
 
 fn check_command<'a>(alloc: Global) -> Result<Command<'a>, AllocError> {
-    let command = Command::new(alloc, "check")
-        .about("Checks tapes and lists the words that they make together")
-        .after_help(texts::CHECK);
-    with_tapes(alloc, command)
+    let about = "Checks tapes and lists the words that they make together";
+    command(alloc, "check", about, texts::CHECK).args(vec![in alloc;
+        tape_argument(alloc),
+        more_argument(alloc),
+    ]?)
 }
 
 fn dialogue_command<'a>(alloc: Global) -> Result<Command<'a>, AllocError> {
-    let command = Command::new(alloc, "dialogue")
-        .about("Loads a simulated machine and shows all that passes")
-        .after_help(texts::DIALOGUE);
-    with_console(alloc, with_tapes(alloc, command)?)
+    let about = "Loads a simulated machine and shows all that passes";
+    command(alloc, "dialogue", about, texts::DIALOGUE).args(vec![in alloc;
+        tape_argument(alloc),
+        more_argument(alloc),
+        words_option(alloc),
+        style_option(alloc),
+    ]?)
 }
 
 fn rehearse_command<'a>(alloc: Global) -> Result<Command<'a>, AllocError> {
-    Command::new(alloc, "rehearse")
-        .about("Loads a simulated machine over a line that loses characters")
-        .after_help(texts::REHEARSE)
-        .arg(tape_argument(alloc))?
-        .arg(script_argument(alloc))?
-        .arg(more_argument(alloc))
+    let about = "Loads a simulated machine over a line that loses characters";
+    command(alloc, "rehearse", about, texts::REHEARSE).args(vec![in alloc;
+        tape_argument(alloc),
+        script_argument(alloc),
+        more_argument(alloc),
+    ]?)
 }
 
 fn type_command<'a>(alloc: Global) -> Result<Command<'a>, AllocError> {
-    let command = Command::new(alloc, "type")
-        .about("Types standard input into a simulated console, which answers")
-        .after_help(texts::TYPE);
-    with_console(alloc, command)
+    let about = "Types standard input into a simulated console, which answers";
+    command(alloc, "type", about, texts::TYPE).args(vec![in alloc;
+        words_option(alloc),
+        style_option(alloc),
+    ]?)
 }
 
-/// A command with its tapes as arguments.
-fn with_tapes<'a>(alloc: Global, command: Command<'a>) -> Result<Command<'a>, AllocError> {
-    command.arg(tape_argument(alloc))?.arg(more_argument(alloc))
-}
-
-/// A command with the options of a simulated console.
-fn with_console<'a>(alloc: Global, command: Command<'a>) -> Result<Command<'a>, AllocError> {
-    command.arg(words_option(alloc))?.arg(style_option(alloc))
-}
-
-/// A command with the options of a load.
-fn with_load_options<'a>(alloc: Global, command: Command<'a>) -> Result<Command<'a>, AllocError> {
-    command
-        .arg(record_option(alloc))?
-        .arg(patience_option(alloc))?
-        .arg(quiet_option(alloc))
+/// A command of this name, with what it is about and what stands below its options.
+fn command<'a>(alloc: Global, name: &'a str, about: &'a str, below: &'a str) -> Command<'a> {
+    Command::new(alloc, name).about(about).after_help(below)
 }
 
 fn tape_argument<'a>(alloc: Global) -> Arg<'a> {
@@ -154,21 +134,18 @@ fn more_argument<'a>(alloc: Global) -> Arg<'a> {
 }
 
 fn words_option<'a>(alloc: Global) -> Arg<'a> {
-    Arg::new(alloc, WORDS)
-        .long(WORDS)
-        .value_name("N")
-        .value_parser(value_parser!(u16).range(0..=i64::from(LARGEST_WORDS)))
-        .help("Words of the machine's memory, 0 to 28672 [default: 28672]")
+    let help = "Words of the machine's memory, 0 to 28672 [default: 28672]";
+    option(alloc, WORDS, "N", help).value_parser(value_parser!(u16).range(
+        0..=i64::from(LARGEST_WORDS),
+    ))
 }
 
 fn style_option<'a>(alloc: Global) -> Arg<'a> {
-    Arg::new(alloc, STYLE)
-        .long(STYLE)
-        .value_name("N")
-        .value_parser(value_parser!(u8).range(0..=i64::from(LAVISH_STYLE.number())))
-        .help(
-            "How the console answers, 0 to 7 [default: 0]: 1 for a space\nbefore a word's digits, plus 2 for two CRs before an LF,\nplus 4 for an echo of illegal keys",
-        )
+    let help =
+        "How the console answers, 0 to 7 [default: 0]: 1 for a space\nbefore a word's digits, plus 2 for two CRs before an LF,\nplus 4 for an echo of illegal keys";
+    option(alloc, STYLE, "N", help).value_parser(value_parser!(u8).range(
+        0..=i64::from(LAVISH_STYLE.number()),
+    ))
 }
 
 fn address_argument<'a>(alloc: Global) -> Arg<'a> {
@@ -178,27 +155,30 @@ fn address_argument<'a>(alloc: Global) -> Arg<'a> {
 }
 
 fn record_option<'a>(alloc: Global) -> Arg<'a> {
-    Arg::new(alloc, RECORD).long(RECORD).value_name("FILE").help(
-        "Where the verified words are kept, for a later load to\ngo on from them; a file that is not there is an empty\nrecord [default: kept in memory alone]",
-    )
+    let help =
+        "Where the verified words are kept, for a later load to\ngo on from them; a file that is not there is an empty\nrecord [default: kept in memory alone]";
+    option(alloc, RECORD, "FILE", help)
 }
 
 fn patience_option<'a>(alloc: Global) -> Arg<'a> {
-    Arg::new(alloc, PATIENCE)
-        .long(PATIENCE)
-        .value_name("N")
-        .value_parser(value_parser!(u16).range(0..=i64::from(LARGEST_PATIENCE)))
-        .help("Mishaps that the load survives, 0 to 1000 [default: 8]")
+    let help = "Mishaps that the load survives, 0 to 1000 [default: 8]";
+    option(alloc, PATIENCE, "N", help).value_parser(value_parser!(u16).range(
+        0..=i64::from(LARGEST_PATIENCE),
+    ))
 }
 
 fn quiet_option<'a>(alloc: Global) -> Arg<'a> {
-    Arg::new(alloc, QUIET)
-        .long(QUIET)
-        .value_name("MS")
-        .value_parser(value_parser!(u16).range(
-            i64::from(SHORTEST_QUIET)..=i64::from(LONGEST_QUIET),
-        ))
-        .help(
-            "How many milliseconds of silence mean that nothing more\nis coming, 1 to 60000 [default: 2000]",
-        )
+    let help =
+        "How many milliseconds of silence mean that nothing more\nis coming, 1 to 60000 [default: 2000]";
+    option(alloc, QUIET, "MS", help).value_parser(value_parser!(u16).range(
+        i64::from(SHORTEST_QUIET)..=i64::from(LONGEST_QUIET),
+    ))
+}
+
+/// An option of this name, with what its value is called and what it says.
+fn option<'a>(alloc: Global, name: &'a str, value: &'a str, help: &'a str) -> Arg<'a> {
+    Arg::new(alloc, name)
+        .long(name)
+        .value_name(value)
+        .help(help)
 }

@@ -62,10 +62,8 @@ pub(crate) fn load_of<'a>(
     tape: &'a str,
     record: Option<&'a str>,
 ) -> Result<Request<'a>, AllocError> {
-    let mut tapes = Vec::new(alloc);
-    tapes.push(tape)?;
     Ok(Request::Load(
-        tapes,
+        Vec::from_slice(alloc, &[tape])?,
         Load {
             address: "127.0.0.1:2323",
             record,

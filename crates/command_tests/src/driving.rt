@@ -8,50 +8,42 @@ use load_engine::{Stop, drive};
 use load_record::FileKeep;
 use socket_line::SocketLine;
 use std::alloc::Global;
-use std::test::Fail;
-use tape_image::Plan;
 
-/// A host that has verified nothing of the plan, with a record that is begun so.
-fn begun_with(plan: Plan, keeper: &mut FileKeep<Vec<u8>>) -> Result<HostCore, Fail> {
-    keeper.begin(&plan, 0)?;
+/// A host that has verified nothing of the smallest tape, with a record that is begun so; or None where one of them
+/// can't be had.
+fn begun_with(alloc: Global, keeper: &mut FileKeep<Vec<u8>>) -> Option<HostCore> {
+    let plan = plan_of_one_word(alloc)?;
+    keeper.begin(&plan, 0).ok()?;
     let nothing = Progress {
         verified: 0,
         going: false,
     };
-    match HostCore::new(plan, nothing, 8) {
-        Ok(core) => Ok(core),
-        Err(_) => Err(Fail::from("no core")),
-    }
+    HostCore::new(plan, nothing, 8).ok()
 }
 
-/// A line to the console of a system.
-fn line_to(system: &System<'_>) -> Result<SocketLine<Console>, Fail> {
-    match SocketLine::connect(system, "127.0.0.1:2323", QUIET_MS) {
-        Ok(line) => Ok(line),
-        Err(_) => Err(Fail::from("no connection")),
-    }
-}
-
-/// Loads the smallest tape over that line with a new record, and answers how that stops and how many keys are sent.
-fn load_one_word(
+/// Loads the smallest tape over a line with a new record, and answers how that stops and how many keys are sent.
+fn load_over(
     alloc: Global,
-    system: &System<'_>,
+    line: &mut SocketLine<Console>,
     keeper: &mut FileKeep<Vec<u8>>,
-) -> Result<(Stop, u64), Fail> {
-    let core = begun_with(plan_of_one_word(alloc)?, keeper)?;
-    let mut line = line_to(system)?;
-    let (core, stop) = drive(core, &mut line, keeper, 52);
-    Ok((stop, core.sent_count()))
+) -> Option<(Stop, u64)> {
+    let core = begun_with(alloc, keeper)?;
+    let (core, stop) = drive(core, line, keeper, 52);
+    Some((stop, core.sent_count()))
+}
+
+/// The same over a line to the console of a system, or None where there is no connection.
+fn load_one_word(rt: &HostRuntime, keeper: &mut FileKeep<Vec<u8>>) -> Option<(Stop, u64)> {
+    let system = System::new(rt, AMPLE);
+    let mut line = SocketLine::connect(&system, "127.0.0.1:2323", QUIET_MS).ok()?;
+    load_over(rt.alloc(), &mut line, keeper)
 }
 
 #[test]
-fn a_word_is_loaded_over_a_stream(rt: HostRuntime) -> Result<(), Fail> {
-    let system = System::new(&rt, AMPLE);
+fn a_word_is_loaded_over_a_stream(rt: HostRuntime) {
     let mut keeper = FileKeep::new(Vec::new(rt.alloc()));
-    let (stop, sent) = load_one_word(rt.alloc(), &system, &mut keeper)?;
-    drop(system);
-    assert!(rt; stop == Stop::Ended(End::Started) && sent == 30);
+    let loaded = load_one_word(&rt, &mut keeper);
+    assert!(rt; loaded == Some((Stop::Ended(End::Started), 30)));
     let record: &[u8] = b"LDAODT 2\n001000 011064\nG\n";
     assert!(rt; keeper.writer().as_slice() == record);
-    Ok(())
 }

@@ -17,6 +17,14 @@ const STALE: &str =
 const STALE_REPORT: &str =
     "line 3: not possible\nline 5: not possible\nline 7: not possible\nline 9: not possible\nsent 30 lost 0 spent 0 verified 1 of 1\nend Started\nodt Running 001000\n001000 011064 stands\n";
 
+/// The command whose device fails.
+#[derive(Clone, Copy)]
+enum Command {
+    Check,
+    Rehearsal,
+    Dialogue,
+}
+
 /// The device that fails: before a byte of its input, or at a write, by its number.
 #[derive(Clone, Copy)]
 enum Failing {
@@ -37,6 +45,29 @@ fn places(failing: Failing) -> (usize, usize, u32, CommandFault) {
     }
 }
 
+/// The fault at which a command over the smallest tape stops. A rehearsal alone reads the script.
+fn fault_of(
+    alloc: Global,
+    command: Command,
+    tape: &mut BrokenInput<'_>,
+    script: &mut BrokenInput<'_>,
+    out: &mut BrokenOutput,
+) -> Option<CommandFault> {
+    let tapes = slice::from_mut(tape);
+    match command {
+        Command::Check => check_to(alloc, tapes, out).err(),
+        Command::Rehearsal => rehearse_to(alloc, tapes, script, out).err(),
+        Command::Dialogue => dialogue_to(alloc, tapes, LARGEST_WORDS, PLAIN_STYLE, out).err(),
+    }
+}
+
+/// Whether one of the devices failed, and none was asked a second time.
+fn have_failed_once(tape: &BrokenInput<'_>, script: &BrokenInput<'_>, out: &BrokenOutput) -> bool {
+    let failures = tape.failures.max(script.failures).max(out.failures);
+    let later_reads = tape.later_reads.max(script.later_reads);
+    failures == 1 && later_reads.max(out.later_writes) == 0
+}
+
 /// Whether an output has what a command that stopped may have written of its text: the beginning, or
 /// nothing where it was not the output that failed.
 fn has_front(out: &BrokenOutput, text: &str) -> bool {
@@ -44,62 +75,43 @@ fn has_front(out: &BrokenOutput, text: &str) -> bool {
     written.is_empty() || out.failures == 1 && text.as_bytes().starts_with(written)
 }
 
-/// Whether a rehearsal stops at a device that fails, and asks it no second time.
-fn rehearsal_stops(alloc: Global, failing: Failing) -> bool {
+/// Whether the output has what the command may have written where it fails at the write of this number. Each write of
+/// a check takes seven bytes, as long as there are so many.
+fn has_front_of(command: Command, out: &BrokenOutput, number: u32) -> bool {
+    match command {
+        Command::Check => {
+            has_front(out, ONE_WORD_TEXT)
+                && (out.failures == 0 || out.written.len() / 7 == number.saturating_sub(1) as usize)
+        }
+        Command::Rehearsal => has_front(out, STALE_REPORT),
+        Command::Dialogue => has_front(out, ONE_WORD_DIALOGUE),
+    }
+}
+
+/// Whether a command stops at a device that fails, and asks it no second time.
+fn stops(alloc: Global, command: Command, failing: Failing) -> bool {
     let (tape_place, script_place, number, fault) = places(failing);
     let mut tape = BrokenInput::new(&ONE_WORD, tape_place);
     let mut script = BrokenInput::new(STALE.as_bytes(), script_place);
     let mut out = BrokenOutput::new(Vec::new(alloc), number);
-    let done = rehearse_to(alloc, slice::from_mut(&mut tape), &mut script, &mut out);
-    done == Err(fault)
-        && tape.failures.max(script.failures).max(out.failures) == 1
-        && tape
-            .later_reads
-            .max(script.later_reads)
-            .max(out.later_writes)
-            == 0
-        && has_front(&out, STALE_REPORT)
+    let found = fault_of(alloc, command, &mut tape, &mut script, &mut out);
+    found == Some(fault)
+        && have_failed_once(&tape, &script, &out)
+        && has_front_of(command, &out, number)
 }
 
-/// The same of a dialogue, which has no script.
-fn dialogue_stops(alloc: Global, failing: Failing) -> bool {
-    let (place, _, number, fault) = places(failing);
-    let mut tape = BrokenInput::new(&ONE_WORD, place);
-    let mut out = BrokenOutput::new(Vec::new(alloc), number);
-    let done = dialogue_to(
-        alloc,
-        slice::from_mut(&mut tape),
-        LARGEST_WORDS,
-        PLAIN_STYLE,
-        &mut out,
-    );
-    done == Err(fault)
-        && tape.failures.max(out.failures) == 1
-        && tape.later_reads.max(out.later_writes) == 0
-        && has_front(&out, ONE_WORD_DIALOGUE)
-}
-
-/// The same of a check, each of whose writes takes seven bytes, as long as there are so many.
-fn check_stops(alloc: Global, failing: Failing) -> bool {
-    let (place, _, number, fault) = places(failing);
-    let mut tape = BrokenInput::new(&ONE_WORD, place);
-    let mut out = BrokenOutput::new(Vec::new(alloc), number);
-    let done = check_to(alloc, slice::from_mut(&mut tape), &mut out);
-    done == Err(fault)
-        && tape.failures.max(out.failures) == 1
-        && tape.later_reads.max(out.later_writes) == 0
-        && has_front(&out, ONE_WORD_TEXT)
-        && (out.failures == 0 || out.written.len() / 7 == number.saturating_sub(1) as usize)
+/// Whether each command does.
+fn all_stop(alloc: Global, failing: Failing) -> bool {
+    stops(alloc, Command::Check, failing)
+        && stops(alloc, Command::Rehearsal, failing)
+        && stops(alloc, Command::Dialogue, failing)
 }
 
 #[test]
 fn the_tape_fails_once(rt: HostRuntime) {
     // Nothing is read behind the tape's last byte, so a device that fails there is no fault.
     for place in 0..ONE_WORD.len() {
-        let failing = Failing::Tape(place);
-        assert!(rt; check_stops(rt.alloc(), failing), "byte {place}");
-        assert!(rt; rehearsal_stops(rt.alloc(), failing), "byte {place}");
-        assert!(rt; dialogue_stops(rt.alloc(), failing), "byte {place}");
+        assert!(rt; all_stop(rt.alloc(), Failing::Tape(place)), "byte {place}");
     }
 }
 
@@ -107,7 +119,7 @@ fn the_tape_fails_once(rt: HostRuntime) {
 fn the_script_fails_once(rt: HostRuntime) {
     for place in 0..=STALE.len() {
         assert!(rt;
-            rehearsal_stops(rt.alloc(), Failing::Script(place)),
+            stops(rt.alloc(), Command::Rehearsal, Failing::Script(place)),
             "byte {place}"
         );
     }
@@ -118,7 +130,7 @@ fn the_script_fails_once(rt: HostRuntime) {
 fn the_output_of_a_check_fails_once(rt: HostRuntime) {
     for number in 1..=ONE_WORD_TEXT.len().div_ceil(7) as u32 {
         assert!(rt;
-            check_stops(rt.alloc(), Failing::Output(number)),
+            stops(rt.alloc(), Command::Check, Failing::Output(number)),
             "write {number}"
         );
     }
@@ -128,7 +140,7 @@ fn the_output_of_a_check_fails_once(rt: HostRuntime) {
 fn the_output_of_a_rehearsal_fails_once(rt: HostRuntime) {
     for number in 1..=STALE_REPORT.len().div_ceil(7) as u32 {
         assert!(rt;
-            rehearsal_stops(rt.alloc(), Failing::Output(number)),
+            stops(rt.alloc(), Command::Rehearsal, Failing::Output(number)),
             "write {number}"
         );
     }
@@ -138,7 +150,7 @@ fn the_output_of_a_rehearsal_fails_once(rt: HostRuntime) {
 fn the_output_of_a_dialogue_fails_once(rt: HostRuntime) {
     for number in 1..=ONE_WORD_DIALOGUE.len().div_ceil(7) as u32 {
         assert!(rt;
-            dialogue_stops(rt.alloc(), Failing::Output(number)),
+            stops(rt.alloc(), Command::Dialogue, Failing::Output(number)),
             "write {number}"
         );
     }

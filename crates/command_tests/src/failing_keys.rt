@@ -5,7 +5,7 @@ use command_io::CommandFault;
 use console_typing::type_to;
 use odt_machine::{Mode, Odt, PLAIN_STYLE};
 use std::alloc::Global;
-use std::test::Fail;
+use std::io::{Read, Write};
 
 /// A deposit at 001000, a look at it, and an illegal key.
 const KEYS: &[u8] = b"001000/011064\n001000/\n9";
@@ -41,58 +41,59 @@ const MODES: [Mode; 24] = [
     Mode::Prompt,
 ];
 
+/// How typing ends, and the mode that it leaves; or None where there is no room for a machine.
+fn typed<R: Read, W: Write>(
+    alloc: Global,
+    keys: &mut R,
+    out: &mut W,
+) -> Option<(Result<u32, CommandFault>, Mode)> {
+    let mut odt = Odt::new(alloc, 28672, PLAIN_STYLE).ok()?;
+    let ended = type_to(&mut odt, keys, out);
+    Some((ended, odt.mode()))
+}
+
 /// Whether typing whose keys fail once before this place ends there, in this mode.
-fn keys_stop(alloc: Global, place: usize, mode: Mode) -> Result<bool, Fail> {
-    let mut odt = Odt::new(alloc, 28672, PLAIN_STYLE)?;
+fn keys_stop(alloc: Global, place: usize, mode: Mode) -> bool {
     let mut keys = BrokenInput::new(KEYS, place);
     let mut out = Vec::new(alloc);
-    let ended = type_to(&mut odt, &mut keys, &mut out);
-    Ok(
-        ended == Err(CommandFault::ReadKeys)
-            && keys.failed_once()
-            && odt.mode() == mode
-            && ANSWERS.starts_with(out.as_slice()),
-    )
+    let ended = typed(alloc, &mut keys, &mut out);
+    ended == Some((Err(CommandFault::ReadKeys), mode))
+        && keys.failed_once()
+        && ANSWERS.starts_with(out.as_slice())
 }
 
 #[test]
-fn the_keys_fail_once(rt: HostRuntime) -> Result<(), Fail> {
+fn the_keys_fail_once(rt: HostRuntime) {
     for (place, mode) in MODES.iter().enumerate() {
-        let stops = keys_stop(rt.alloc(), place, *mode)?;
-        assert!(rt; stops, "before key {place}");
+        assert!(rt; keys_stop(rt.alloc(), place, *mode), "before key {place}");
     }
-    Ok(())
 }
 
 #[test]
-fn nothing_fails(rt: HostRuntime) -> Result<(), Fail> {
-    let mut odt = Odt::new(rt.alloc(), 28672, PLAIN_STYLE)?;
+fn nothing_fails(rt: HostRuntime) {
     let mut keys = KEYS;
     let mut out = Vec::new(rt.alloc());
-    let ended = type_to(&mut odt, &mut keys, &mut out);
-    assert!(rt; ended == Ok(23), "each key is counted");
+    let ended = typed(rt.alloc(), &mut keys, &mut out);
+    assert!(rt;
+        ended == Some((Ok(23), Mode::Prompt)),
+        "each key is counted"
+    );
     assert!(rt; out.as_slice() == ANSWERS);
-    Ok(())
 }
 
 /// Whether typing whose answers fail once, at the write of this number, ends there.
-fn answers_stop(alloc: Global, number: u32) -> Result<bool, Fail> {
-    let mut odt = Odt::new(alloc, 28672, PLAIN_STYLE)?;
+fn answers_stop(alloc: Global, number: u32) -> bool {
     let mut keys = KEYS;
     let mut out = BrokenOutput::new(Vec::new(alloc), number);
-    let ended = type_to(&mut odt, &mut keys, &mut out);
-    Ok(
-        ended == Err(CommandFault::Write)
-            && out.failed_once()
-            && ANSWERS.starts_with(out.written.as_slice()),
-    )
+    let ended = typed(alloc, &mut keys, &mut out);
+    matches!(ended, Some((Err(CommandFault::Write), _)))
+        && out.failed_once()
+        && ANSWERS.starts_with(out.written.as_slice())
 }
 
 #[test]
-fn the_answers_fail_once(rt: HostRuntime) -> Result<(), Fail> {
+fn the_answers_fail_once(rt: HostRuntime) {
     for number in 1..8 {
-        let stops = answers_stop(rt.alloc(), number)?;
-        assert!(rt; stops, "write {number}");
+        assert!(rt; answers_stop(rt.alloc(), number), "write {number}");
     }
-    Ok(())
 }

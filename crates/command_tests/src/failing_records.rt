@@ -15,7 +15,6 @@ use std::alloc::Global;
 use std::cell::RefCell;
 use std::io;
 use std::io::{ErrorKind, Write};
-use std::test::Fail;
 use tape_image::Plan;
 
 /// An output that is looked at once the load has let it go.
@@ -78,10 +77,10 @@ impl<'a> Surroundings for Frail<'a> {
 const VERIFIED: &[u8] = b"LDAODT 1\n001000 177777 011064\n";
 
 /// A line to a machine that holds this at 001000.
-fn line(alloc: Global, word: u16) -> Result<MemoryLine, Fail> {
-    let mut odt = Odt::new(alloc, LARGEST_WORDS, PLAIN_STYLE)?;
+fn line(alloc: Global, word: u16) -> Option<MemoryLine> {
+    let mut odt = Odt::new(alloc, LARGEST_WORDS, PLAIN_STYLE).ok()?;
     odt.put(0o001000, word);
-    Ok(MemoryLine::new(alloc, odt, Vec::new(alloc), 1000, None)?)
+    MemoryLine::new(alloc, odt, Vec::new(alloc), 1000, None).ok()
 }
 
 /// How a load ends.
@@ -93,22 +92,19 @@ fn frail_with<'a>(
     input: BrokenInput<'a>,
     word: u16,
     output: &'a RefCell<BrokenOutput>,
-) -> Result<Frail<'a>, Fail> {
-    Ok(Frail {
+) -> Option<Frail<'a>> {
+    let line = line(alloc, word)?;
+    Some(Frail {
         input,
-        line: Some(line(alloc, word)?),
+        line: Some(line),
         output,
     })
 }
 
-/// Loads the smallest tape.
-fn load_one_word(
-    alloc: Global,
-    around: &mut Frail<'_>,
-    out: &mut Vec<u8>,
-) -> Result<Outcome, Fail> {
+/// Loads the smallest tape, and answers how that ends, or None where there is no memory for the tape.
+fn load_one_word(alloc: Global, around: &mut Frail<'_>, out: &mut Vec<u8>) -> Option<Outcome> {
     let plan = plan_of_one_word(alloc)?;
-    Ok(load(alloc, plan, 8, around, out, &Unwatched))
+    Some(load(alloc, plan, 8, around, out, &Unwatched))
 }
 
 /// Whether a record's input failed once and was not asked again, and nobody connected.
@@ -116,26 +112,33 @@ fn is_unconnected(around: &Frail<'_>) -> bool {
     around.input.failed_once() && around.line.is_some()
 }
 
+/// How a load whose record fails before a byte ends, where nobody connects; or None.
+fn load_unread(
+    alloc: Global,
+    place: usize,
+    output: &RefCell<BrokenOutput>,
+    out: &mut Vec<u8>,
+) -> Option<Outcome> {
+    let mut around = frail_with(alloc, BrokenInput::new(VERIFIED, place), 0, output)?;
+    let done = load_one_word(alloc, &mut around, out);
+    if is_unconnected(&around) { done } else { None }
+}
+
 /// Whether a load whose record fails before a byte ends there: nobody connects, nothing is begun, and
 /// nothing is reported.
-fn reading_stops(alloc: Global, place: usize) -> Result<bool, Fail> {
+fn reading_stops(alloc: Global, place: usize) -> bool {
     let output = RefCell::new(BrokenOutput::new(Vec::new(alloc), 1));
-    let mut around = frail_with(alloc, BrokenInput::new(VERIFIED, place), 0, &output)?;
     let mut out = Vec::new(alloc);
-    let done = load_one_word(alloc, &mut around, &mut out)?;
-    let is_unconnected = is_unconnected(&around);
-    drop(around);
+    let done = load_unread(alloc, place, &output, &mut out);
     let failures = output.into_inner().failures;
-    let is_unbegun = done == Err(LoadFault::ReadRecord) && failures == 0;
-    Ok(is_unbegun && is_unconnected && out.is_empty())
+    done == Some(Err(LoadFault::ReadRecord)) && failures == 0 && out.is_empty()
 }
 
 #[test]
-fn the_record_that_is_read(rt: HostRuntime) -> Result<(), Fail> {
+fn the_record_that_is_read(rt: HostRuntime) {
     for place in 0..=VERIFIED.len() {
-        assert!(rt; reading_stops(rt.alloc(), place)?, "byte {place}");
+        assert!(rt; reading_stops(rt.alloc(), place), "byte {place}");
     }
-    Ok(())
 }
 
 /// The whole record of a load of the smallest tape.
@@ -220,7 +223,7 @@ fn load_again(
     word: u16,
     output: &RefCell<BrokenOutput>,
     out: &mut Vec<u8>,
-) -> Result<Outcome, Fail> {
+) -> Option<Outcome> {
     let mut around = frail_with(alloc, BrokenInput::new(record, NOWHERE), word, output)?;
     load_one_word(alloc, &mut around, out)
 }
@@ -233,21 +236,20 @@ fn writing_stops(
     ended: Outcome,
     written: usize,
     report: &str,
-) -> Result<bool, Fail> {
+) -> bool {
     let output = RefCell::new(BrokenOutput::new(Vec::new(alloc), number));
     let mut out = Vec::new(alloc);
-    let done = load_again(alloc, record, word, &output, &mut out)?;
+    let done = load_again(alloc, record, word, &output, &mut out);
     let has_front = has_front(&output.into_inner(), written);
-    Ok(has_front && done == ended && out.as_slice() == report.as_bytes())
+    has_front && done == Some(ended) && out.as_slice() == report.as_bytes()
 }
 
 #[test]
-fn the_record_that_is_written(rt: HostRuntime) -> Result<(), Fail> {
+fn the_record_that_is_written(rt: HostRuntime) {
     for row in &WRITES {
         let (record, word, number, ended, written, report) = *row;
         let load = (record, word, number);
-        let stops = writing_stops(rt.alloc(), load, ended, written, report)?;
+        let stops = writing_stops(rt.alloc(), load, ended, written, report);
         assert!(rt; stops, "write {number}");
     }
-    Ok(())
 }

@@ -52,39 +52,34 @@ fn is_told_alone<W: Write>(
     input: &mut BrokenInput<'_>,
     out: &mut W,
     line: &[u8],
-) -> Result<bool, Fail> {
-    let request = request_of(rt.alloc(), asked)?;
+) -> bool {
+    let Ok(request) = request_of(rt.alloc(), asked) else {
+        return false;
+    };
     let system = System::new(rt, Setting { reads, ..AMPLE });
     let mut err = Vec::new(rt.alloc());
     let status = attempt(&system, rt.alloc(), request, input, out, &mut err, NOBODY);
-    Ok(status == Status::DeviceFailed && err.as_slice() == line)
+    status == Status::DeviceFailed && err.as_slice() == line
 }
 
 /// Whether a request whose input fails before the byte at this place says so and reads no more, where this is
 /// printed by then.
-fn input_stops(
-    rt: &HostRuntime,
-    asked: Asked,
-    bytes: &[u8],
-    place: usize,
-    printed: &[u8],
-) -> Result<bool, Fail> {
+fn input_stops(rt: &HostRuntime, asked: Asked, bytes: &[u8], place: usize, printed: &[u8]) -> bool {
     let mut input = BrokenInput::new(bytes, place);
     let mut out = Vec::new(rt.alloc());
-    let is_told = is_told_alone(rt, (asked, AMPLE.reads), &mut input, &mut out, INPUT_FAILED)?;
-    Ok(is_told && input.failed_once() && out.as_slice() == printed)
+    let is_told = is_told_alone(rt, (asked, AMPLE.reads), &mut input, &mut out, INPUT_FAILED);
+    is_told && input.failed_once() && out.as_slice() == printed
 }
 
 #[test]
-fn standard_input_fails(rt: HostRuntime) -> Result<(), Fail> {
-    assert!(rt; input_stops(&rt, Asked::CheckInput, &ONE_WORD, 0, &[])?);
+fn standard_input_fails(rt: HostRuntime) {
+    assert!(rt; input_stops(&rt, Asked::CheckInput, &ONE_WORD, 0, &[]));
     for (place, _) in KEYS.iter().enumerate() {
         // Digits are echoed, so what was read is what was answered.
         let answered = KEYS.get(..place).unwrap_or_default();
-        let stops = input_stops(&rt, Asked::Type, KEYS, place, answered)?;
+        let stops = input_stops(&rt, Asked::Type, KEYS, place, answered);
         assert!(rt; stops, "before key {place}");
     }
-    Ok(())
 }
 
 /// What is asked for, what stands on standard input, and how many reads the console behind the port answers.
@@ -99,26 +94,26 @@ const PRINTING: [Row; 4] = [
 ];
 
 /// Whether a request says that its output fails, and nothing else.
-fn output_stops<W: Write>(rt: &HostRuntime, row: &Row, out: &mut W) -> Result<bool, Fail> {
+fn output_stops<W: Write>(rt: &HostRuntime, row: &Row, out: &mut W) -> bool {
     let (asked, bytes, reads) = *row;
     let mut input = BrokenInput::new(bytes, NOWHERE);
     is_told_alone(rt, (asked, reads), &mut input, out, OUTPUT_FAILED)
 }
 
 /// The same of an output that fails at its first write, and is not asked again.
-fn writing_stops(rt: &HostRuntime, row: &Row) -> Result<bool, Fail> {
+fn writing_stops(rt: &HostRuntime, row: &Row) -> bool {
     let mut broken = BrokenOutput::new(Vec::new(rt.alloc()), 1);
-    let is_told = output_stops(rt, row, &mut broken)?;
-    Ok(is_told && broken.failed_once() && broken.written.is_empty())
+    let is_told = output_stops(rt, row, &mut broken);
+    is_told && broken.failed_once() && broken.written.is_empty()
 }
 
 #[test]
 fn standard_output_fails(rt: HostRuntime) -> Result<(), Fail> {
     fs::write(&rt, TAPE, ONE_WORD)?;
     for (place, row) in PRINTING.iter().enumerate() {
-        let stops = writing_stops(&rt, row)?;
+        let stops = writing_stops(&rt, row);
         assert!(rt; stops, "row {place}");
-        let stops = output_stops(&rt, row, &mut UnflushedOutput)?;
+        let stops = output_stops(&rt, row, &mut UnflushedOutput);
         assert!(rt; stops, "row {place}, at the flush");
     }
     Ok(fs::remove_file(&rt, TAPE)?)

@@ -153,10 +153,10 @@ fn are_noted(notes: &Notes, wanted: &[Step]) -> bool {
     }
 }
 
-/// Begins a record of the smallest tape.
-fn begin(system: &System<'_>, alloc: Global, name: &str) -> Result<Outcome, Fail> {
+/// Begins a record of the smallest tape, or answers None where there is no memory for the tape.
+fn begin(system: &System<'_>, alloc: Global, name: &str) -> Option<Outcome> {
     let plan = plan_of_one_word(alloc)?;
-    Ok(match begin_record(system, alloc, name, &plan, 1) {
+    Some(match begin_record(system, alloc, name, &plan, 1) {
         Ok(_) => Ok(()),
         Err(fault) => Err(fault),
     })
@@ -171,17 +171,26 @@ fn is_begun_so(
     failing: Failing,
     wanted: Outcome,
     asked: &[Step],
-) -> Result<bool, Fail> {
+) -> bool {
     let notes = Notes::new(rt.alloc(), failing, folder);
     let system = System::new(rt, AMPLE).noted(&notes);
-    let begun = begin(&system, rt.alloc(), name)?;
-    Ok(begun == wanted && are_noted(&notes, asked))
+    let begun = begin(&system, rt.alloc(), name);
+    begun == Some(wanted) && are_noted(&notes, asked)
 }
 
 /// The record that is begun, and the one beside it.
 const RECORD: &str = "d.record";
 
 const BESIDE: &str = "d.record.ldaodt-new";
+
+/// Whether the record holds this, and none is beside it.
+fn holds_alone(rt: &HostRuntime, holds: &str) -> bool {
+    let is_left = fs::metadata(rt, BESIDE).is_ok();
+    match fs::read(rt, RECORD) {
+        Ok(held) => !is_left && held.as_slice() == holds.as_bytes(),
+        Err(_) => false,
+    }
+}
 
 /// Whether a record with something in it is begun so, holds this then, and leaves none beside it.
 fn is_replaced_so(
@@ -190,12 +199,10 @@ fn is_replaced_so(
     wanted: Outcome,
     asked: &[Step],
     holds: &str,
-) -> Result<bool, Fail> {
-    fs::write(rt, RECORD, OLD)?;
-    let is_so = is_begun_so(rt, RECORD, ".", failing, wanted, asked)?;
-    let held = fs::read(rt, RECORD)?;
-    let is_left = fs::metadata(rt, BESIDE).is_ok();
-    Ok(is_so && !is_left && held.as_slice() == holds.as_bytes())
+) -> bool {
+    fs::write(rt, RECORD, OLD).is_ok()
+        && is_begun_so(rt, RECORD, ".", failing, wanted, asked)
+        && holds_alone(rt, holds)
 }
 
 #[test]
@@ -203,7 +210,7 @@ fn a_record_is_on_the_disk_before_it_replaces_the_old_one(rt: HostRuntime) -> Re
     for (place, row) in ROWS.iter().enumerate() {
         let (failing, wanted, count, list, holds) = *row;
         let asked = list.get(..count).unwrap_or(&[]);
-        let is_so = is_replaced_so(&rt, failing, wanted, asked, holds)?;
+        let is_so = is_replaced_so(&rt, failing, wanted, asked, holds);
         assert!(rt; is_so, "row {place}");
     }
     Ok(fs::remove_file(&rt, RECORD)?)
@@ -222,17 +229,10 @@ const NAMES: [(&str, &str, &[Step]); 5] = [
 ];
 
 /// Whether a record of this name is begun in its folder with these steps. It is removed, where it is no device.
-fn is_begun_in(
-    rt: &HostRuntime,
-    name: &str,
-    folder: &'static str,
-    asked: &[Step],
-) -> Result<bool, Fail> {
-    let is_so = is_begun_so(rt, name, folder, None, Ok(()), asked)?;
-    if name != DEVICE {
-        fs::remove_file(rt, name.strip_prefix('/').unwrap_or(name))?;
-    }
-    Ok(is_so)
+fn is_begun_in(rt: &HostRuntime, name: &str, folder: &'static str, asked: &[Step]) -> bool {
+    let is_so = is_begun_so(rt, name, folder, None, Ok(()), asked);
+    let path = name.strip_prefix('/').unwrap_or(name);
+    is_so && (name == DEVICE || fs::remove_file(rt, path).is_ok())
 }
 
 #[test]
@@ -240,7 +240,7 @@ fn the_folder_is_that_of_the_name(rt: HostRuntime) -> Result<(), Fail> {
     fs::create_dir(&rt, "d.folder")?;
     for row in &NAMES {
         let (name, folder, asked) = *row;
-        let is_so = is_begun_in(&rt, name, folder, asked)?;
+        let is_so = is_begun_in(&rt, name, folder, asked);
         assert!(rt; is_so, "{name}");
     }
     Ok(fs::remove_dir(&rt, "d.folder")?)

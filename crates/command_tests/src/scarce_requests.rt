@@ -8,8 +8,8 @@ use odt_machine::{LARGEST_WORDS, PLAIN_STYLE};
 use requests::{Console, Load, Request};
 use scarce_memory::{Famine, ROOMS};
 use std::alloc::{AllocError, Global};
-use std::fs;
 use std::test::Fail;
+use std::{fs, io};
 
 /// The files that the requests name.
 const FILES: [(&str, &[u8]); 6] = [
@@ -185,6 +185,23 @@ fn is_orderly(ended: &Ended, whole: &str) -> bool {
         && ended.err.as_slice() == OUT_OF_MEMORY.as_bytes()
 }
 
+/// Does a request in the room that is left, and answers how often it ended for want of memory as it has to, or None
+/// where it ended otherwise.
+fn refusals_of(
+    rt: &HostRuntime,
+    asked: Asked,
+    input: &[u8],
+    whole: &str,
+    ended: &mut Ended,
+) -> Option<usize> {
+    // The names stand in the same room.
+    let Ok(request) = request_of(rt.alloc(), asked) else {
+        return Some(0);
+    };
+    run(rt, request, input, ended);
+    (ended.status == Status::NoMemory && is_orderly(ended, whole)).then_some(1)
+}
+
 /// Does a request in rooms that grow until memory is not wanting, and answers how often it was.
 fn run_scarcely(
     rt: &HostRuntime,
@@ -192,29 +209,21 @@ fn run_scarcely(
     input: &[u8],
     whole: &str,
     ended: &mut Ended,
-) -> Result<usize, Fail> {
-    let mut famine = Famine::begin(rt.alloc())?;
+) -> Option<usize> {
+    let mut famine = Famine::begin(rt.alloc()).ok()?;
     let mut refusals = 0usize;
     for _ in 0..ROOMS {
-        famine.leave_more(rt.alloc())?;
-        // The names stand in the same room.
-        let Ok(request) = request_of(rt.alloc(), asked) else {
-            continue;
-        };
-        run(rt, request, input, ended);
-        if ended.status != Status::NoMemory {
-            return Ok(refusals);
+        famine.leave_more(rt.alloc()).ok()?;
+        match refusals_of(rt, asked, input, whole, ended) {
+            Some(count) => refusals = refusals.saturating_add(count),
+            None => return Some(refusals),
         }
-        if !is_orderly(ended, whole) {
-            return Err(Fail::from("not what want of memory leaves"));
-        }
-        refusals = refusals.saturating_add(1);
     }
-    Err(Fail::from("no room serves"))
+    None
 }
 
 /// Puts the files there.
-fn put_files(rt: &HostRuntime) -> Result<(), Fail> {
+fn put_files(rt: &HostRuntime) -> io::Result<()> {
     for row in &FILES {
         let (name, bytes) = *row;
         fs::write(rt, name, bytes)?;
@@ -222,7 +231,7 @@ fn put_files(rt: &HostRuntime) -> Result<(), Fail> {
     Ok(())
 }
 
-fn remove_files(rt: &HostRuntime) -> Result<(), Fail> {
+fn remove_files(rt: &HostRuntime) -> io::Result<()> {
     for row in &FILES {
         let (name, _) = *row;
         fs::remove_file(rt, name)?;
@@ -230,30 +239,37 @@ fn remove_files(rt: &HostRuntime) -> Result<(), Fail> {
     Ok(())
 }
 
-/// Whether a request for which memory is wanting at first ends as it has to at last.
-fn ends_at_last(rt: &HostRuntime, row: &Row) -> Result<bool, Fail> {
+/// Whether a request for which memory is wanting at first ends as it has to at last: no row ends for want of memory
+/// then, so one that was refused in another way than it has to be does not.
+fn ends_at_last(rt: &HostRuntime, row: &Row) -> bool {
     let (asked, input, status, out, line) = *row;
-    let mut ended = Ended::with_room(rt.alloc())?;
-    let refusals = run_scarcely(rt, asked, input, out, &mut ended)?;
-    Ok(refusals > 0 && ended.is(status, out, line))
+    let Ok(mut ended) = Ended::with_room(rt.alloc()) else {
+        return false;
+    };
+    let refusals = run_scarcely(rt, asked, input, out, &mut ended);
+    refusals.is_some_and(|count| count > 0) && ended.is(status, out, line)
 }
 
 #[test]
 fn each_growth_is_refused_in_turn(rt: HostRuntime) -> Result<(), Fail> {
     put_files(&rt)?;
     for (place, row) in REQUESTS.iter().enumerate() {
-        let ends = ends_at_last(&rt, row)?;
-        assert!(rt; ends, "row {place}");
+        assert!(rt; ends_at_last(&rt, row), "row {place}");
     }
-    remove_files(&rt)
+    Ok(remove_files(&rt)?)
+}
+
+/// Runs a request where there is no memory, and answers whether there was none.
+fn run_without_memory(rt: &HostRuntime, ended: &mut Ended) -> bool {
+    let famine = Famine::begin(rt.alloc());
+    run(rt, Request::CheckInput, &ONE_WORD, ended);
+    famine.is_ok()
 }
 
 #[test]
 fn the_line_for_want_of_memory_takes_none(rt: HostRuntime) -> Result<(), Fail> {
     let mut ended = Ended::with_room(rt.alloc())?;
-    let famine = Famine::begin(rt.alloc())?;
-    run(&rt, Request::CheckInput, &ONE_WORD, &mut ended);
-    drop(famine);
+    assert!(rt; run_without_memory(&rt, &mut ended));
     assert!(rt; ended.status == Status::NoMemory && is_orderly(&ended, ""));
     Ok(())
 }

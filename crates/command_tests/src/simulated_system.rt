@@ -100,6 +100,11 @@ impl<'a> System<'a> {
         self.notes = Some(notes);
         self
     }
+
+    /// Whether the console is at this address.
+    fn listens_at(&self, address: SocketAddr) -> bool {
+        self.setting.reads > 0 && address == SocketAddr::from((Ipv4Addr::LOCALHOST, PORT))
+    }
 }
 
 /// A console at the other end of a stream.
@@ -109,6 +114,18 @@ pub struct Console {
     answer: ArrayVec<u8, 64>,
     reads: u32,
     deaf: bool,
+}
+
+impl Console {
+    /// The console over this machine, which has answered nothing yet.
+    fn over(odt: Odt, setting: Setting) -> Console {
+        Console {
+            odt,
+            answer: ArrayVec::new(),
+            reads: setting.reads,
+            deaf: setting.deaf,
+        }
+    }
 }
 
 impl Read for Console {
@@ -173,19 +190,13 @@ impl Net for System<'_> {
     fn connect(&self, address: SocketAddr) -> io::Result<Console> {
         self.connections
             .set(self.connections.get().saturating_add(1));
-        let is_there = address == SocketAddr::from((Ipv4Addr::LOCALHOST, PORT));
-        if self.setting.reads == 0 || !is_there {
+        if !self.listens_at(address) {
             return Err(io::Error::from(ErrorKind::ConnectionRefused));
         }
-        let Some(odt) = self.machine.replace(None) else {
-            return Err(io::Error::from(ErrorKind::ConnectionRefused));
-        };
-        Ok(Console {
-            odt,
-            answer: ArrayVec::new(),
-            reads: self.setting.reads,
-            deaf: self.setting.deaf,
-        })
+        match self.machine.replace(None) {
+            Some(odt) => Ok(Console::over(odt, self.setting)),
+            None => Err(io::Error::from(ErrorKind::ConnectionRefused)),
+        }
     }
 }
 

@@ -1,7 +1,6 @@
 //! The tapes that the tests load.
 
 use std::alloc::Global;
-use std::test::Fail;
 use tape_blocks::read_tape;
 use tape_image::Plan;
 
@@ -39,8 +38,8 @@ pub const OVERLAP: [u8; 25] = [
     0x44, 0x7D, 0x01, 0x00, 0x06, 0x00, 0x00, 0x02, 0xF7,
 ];
 
-/// The plan of the smallest tape.
-pub(crate) fn plan_of_one_word(alloc: Global) -> Result<Plan, Fail> {
-    let (tape, _) = read_tape(alloc, &ONE_WORD)?;
-    Ok(Plan::of(alloc, &tape)?)
+/// The plan of the smallest tape, or None for want of memory.
+pub(crate) fn plan_of_one_word(alloc: Global) -> Option<Plan> {
+    let (tape, _) = read_tape(alloc, &ONE_WORD).ok()?;
+    Plan::of(alloc, &tape).ok()
 }

@@ -7,7 +7,6 @@ use load_devices::{Keep, KeepFault};
 use load_record::{FileKeep, read_record};
 use std::alloc::Global;
 use std::process::Abort;
-use std::test::Fail;
 use tape_image::Plan;
 
 /// A keeper whose writer takes so many bytes at a time, and fails at the call of this number.
@@ -15,17 +14,23 @@ fn keeper(alloc: Global, taken: usize, fails_at: u32) -> FileKeep<Brittle> {
     FileKeep::new(Brittle::new(alloc, taken, fails_at))
 }
 
+/// Adds the words of the plan but the first so many.
+fn add_words(keep: &mut FileKeep<Brittle>, plan: &Plan, begun: u32) -> Result<(), KeepFault> {
+    for word in plan.words().iter().skip(begun as usize) {
+        keep.add(*word)?;
+    }
+    Ok(())
+}
+
 /// Keeps all words of the plan, the first `begun` of them by `begin`, and the mark where the plan has
 /// a start.
 fn keep_all(keep: &mut FileKeep<Brittle>, plan: &Plan, begun: u32) -> Result<(), KeepFault> {
     keep.begin(plan, begun)?;
-    for word in plan.words().iter().skip(begun as usize) {
-        keep.add(*word)?;
+    add_words(keep, plan, begun)?;
+    if plan.start().is_none() {
+        return Ok(());
     }
-    if plan.start().is_some() {
-        keep.mark()?;
-    }
-    Ok(())
+    keep.mark()
 }
 
 /// Whether no call of the keeper failed, and its writer holds this text.
@@ -48,10 +53,8 @@ fn assert_record(rt: &impl Abort, alloc: Global, plan: &Plan, text: &[u8]) {
     let marks = u32::from(plan.start().is_some());
     for begun in 0..=words {
         let flushes = 1 + words - begun + marks;
-        assert!(rt;
-            is_record(alloc, plan, begun, text, flushes),
-            "{begun} words begun"
-        );
+        let is_so = is_record(alloc, plan, begun, text, flushes);
+        assert!(rt; is_so, "{begun} of {words} words begun");
     }
 }
 
@@ -61,17 +64,11 @@ const ONE_WORD: &[u8] = b"LDAODT 2\n001000 011064\nG\n";
 const TWO_WORDS: &[u8] = b"LDAODT 2\n001000 031421\nH 001002 000377 000104\nG\n";
 
 #[test]
-fn the_record_of_one_word(rt: HostRuntime) -> Result<(), Fail> {
-    let plan = one_word(rt.alloc())?;
+fn the_records_of_one_word_and_of_two(rt: HostRuntime) {
+    let plan = one_word(rt.alloc()).expect(&rt, "no plan");
     assert_record(&rt, rt.alloc(), &plan, ONE_WORD);
-    Ok(())
-}
-
-#[test]
-fn the_record_of_two_words(rt: HostRuntime) -> Result<(), Fail> {
-    let plan = two_words(rt.alloc())?;
+    let plan = two_words(rt.alloc()).expect(&rt, "no plan");
     assert_record(&rt, rt.alloc(), &plan, TWO_WORDS);
-    Ok(())
 }
 
 /// Whether what the writer holds says so many words, and the mark.
@@ -90,29 +87,36 @@ fn begins_again(keep: &mut FileKeep<Brittle>, plan: &Plan) -> bool {
 }
 
 #[test]
-fn a_record_is_begun_again(rt: HostRuntime) -> Result<(), Fail> {
-    let plan = two_words(rt.alloc())?;
+fn a_record_is_begun_again(rt: HostRuntime) {
+    let plan = two_words(rt.alloc()).expect(&rt, "no plan");
     let mut keep = keeper(rt.alloc(), 24, 0);
     assert!(rt; keep_all(&mut keep, &plan, 1).is_ok());
     assert!(rt; says_all(&keep, &plan, 2));
     assert!(rt; begins_again(&mut keep, &plan));
-    Ok(())
 }
 
-/// Whether every call fails from now on and is counted, and the writer is not asked any more.
-fn stays_broken(keep: &mut FileKeep<Brittle>, plan: &Plan) -> bool {
-    let calls = keep.writer().calls;
-    let broken = keep.failed() && keep.failures() == 1;
-    let begun = keep.begin(plan, 0);
-    let marked = keep.mark();
-    let fault = Err(KeepFault::Write);
-    broken
-        && begun == fault
-        && marked == fault
-        && plan.words().iter().all(|word| keep.add(*word) == fault)
-        && keep.failed()
-        && keep.failures() == 4
-        && keep.writer().calls == calls
+/// Whether no word of the plan can be added.
+fn adds_none(keep: &mut FileKeep<Brittle>, plan: &Plan) -> bool {
+    for word in plan.words() {
+        if keep.add(*word) != Err(KeepFault::Write) {
+            return false;
+        }
+    }
+    true
+}
+
+/// Whether a keeper has failed, and so often, with its writer called so often.
+fn is_broken(keep: &FileKeep<Brittle>, failures: u64, calls: u32) -> bool {
+    keep.failed() && keep.failures() == failures && keep.writer().calls == calls
+}
+
+/// Whether every call fails from now on and is counted, and the writer, called so often, is not asked any more.
+fn stays_broken(keep: &mut FileKeep<Brittle>, plan: &Plan, calls: u32) -> bool {
+    is_broken(keep, 1, calls)
+        && keep.begin(plan, 0) == Err(KeepFault::Write)
+        && keep.mark() == Err(KeepFault::Write)
+        && adds_none(keep, plan)
+        && is_broken(keep, 4, calls)
 }
 
 /// The calls of the writer, while the record of one word is kept: a write and a flush for each of the
@@ -124,19 +128,16 @@ const CALLS: u32 = 6;
 fn keeping_stops(alloc: Global, plan: &Plan, fails_at: u32) -> bool {
     let mut keep = keeper(alloc, 24, fails_at);
     let kept = keep_all(&mut keep, plan, 0);
-    kept == Err(KeepFault::Write)
-        && keep.writer().calls == fails_at
-        && stays_broken(&mut keep, plan)
+    kept == Err(KeepFault::Write) && stays_broken(&mut keep, plan, fails_at)
 }
 
 #[test]
-fn each_call_of_the_writer_fails_once(rt: HostRuntime) -> Result<(), Fail> {
-    let plan = one_word(rt.alloc())?;
+fn each_call_of_the_writer_fails_once(rt: HostRuntime) {
+    let plan = one_word(rt.alloc()).expect(&rt, "no plan");
     for fails_at in 1..=CALLS {
         let stops = keeping_stops(rt.alloc(), &plan, fails_at);
         assert!(rt; stops, "call {fails_at}");
     }
-    Ok(())
 }
 
 /// Whether the record of one word is kept byte by byte.
@@ -150,13 +151,13 @@ fn is_kept_bytewise(alloc: Global, plan: &Plan) -> bool {
 fn is_not_kept(alloc: Global, plan: &Plan) -> bool {
     let mut keep = keeper(alloc, 0, 0);
     let begun = keep.begin(plan, 0);
-    begun == Err(KeepFault::Write) && stays_broken(&mut keep, plan)
+    let calls = keep.writer().calls;
+    begun == Err(KeepFault::Write) && stays_broken(&mut keep, plan, calls)
 }
 
 #[test]
-fn a_writer_that_takes_little(rt: HostRuntime) -> Result<(), Fail> {
-    let plan = one_word(rt.alloc())?;
+fn a_writer_that_takes_little(rt: HostRuntime) {
+    let plan = one_word(rt.alloc()).expect(&rt, "no plan");
     assert!(rt; is_kept_bytewise(rt.alloc(), &plan));
     assert!(rt; is_not_kept(rt.alloc(), &plan));
-    Ok(())
 }

@@ -5,29 +5,37 @@ use host_core::Heard;
 use load_devices::{Line, LineFault};
 use socket_line::SocketLine;
 use std::io::{ErrorKind, Read, Write};
-use std::net::{TcpListener, TcpStream};
-use std::test::Fail;
+use std::net::{SocketAddr, TcpListener, TcpStream};
 use std::time::Duration;
 
 /// How a call of `hear` may end.
 type Hearing = Result<Heard, LineFault>;
 
+/// A port of 127.0.0.1, if there is one.
+fn port(rt: &HostRuntime) -> Option<TcpListener> {
+    TcpListener::bind(rt, "127.0.0.1:0").ok()
+}
+
 /// The address of a port of 127.0.0.1.
-fn address_of(rt: &HostRuntime, listener: &TcpListener) -> Result<String, Fail> {
-    Ok(format!(in rt.alloc(); "{}", listener.local_addr()?)?)
+fn address_of(rt: &HostRuntime, listener: &TcpListener) -> Option<String> {
+    let address = listener.local_addr().ok()?;
+    format!(in rt.alloc(); "{address}").ok()
+}
+
+/// A line to a console behind that port.
+fn line_to(rt: &HostRuntime, listener: &TcpListener) -> Option<SocketLine<TcpStream>> {
+    let address = address_of(rt, listener)?;
+    SocketLine::connect(rt, &address, 50).ok()
 }
 
 /// A line to a console behind that port, and the console's end of it.
 fn connected(
     rt: &HostRuntime,
     listener: &TcpListener,
-) -> Result<(SocketLine<TcpStream>, TcpStream), Fail> {
-    let address = address_of(rt, listener)?;
-    let Ok(line) = SocketLine::connect(rt, &address, 50) else {
-        return Err(Fail::from("no connection"));
-    };
-    let (console, _) = listener.accept()?;
-    Ok((line, console))
+) -> Option<(SocketLine<TcpStream>, TcpStream)> {
+    let line = line_to(rt, listener)?;
+    let (console, _) = listener.accept().ok()?;
+    Some((line, console))
 }
 
 /// Whether a line hears this, and has failed or not by it.
@@ -36,34 +44,39 @@ fn hears(line: &mut SocketLine<TcpStream>, heard: Hearing) -> bool {
 }
 
 /// Whether two characters and then silence are heard of a console that says so many and padding.
-fn is_heard(line: &mut SocketLine<TcpStream>, console: &mut TcpStream) -> Result<bool, Fail> {
-    console.write_all(&[0xC1, 0x00, 0x80, 0x42])?;
-    Ok(
-        hears(line, Ok(Heard::Got(0x41)))
-            && hears(line, Ok(Heard::Got(0x42)))
-            && hears(line, Ok(Heard::Quiet)),
-    )
+fn is_heard(line: &mut SocketLine<TcpStream>, console: &mut TcpStream) -> bool {
+    console.write_all(&[0xC1, 0x00, 0x80, 0x42]).is_ok()
+        && hears(line, Ok(Heard::Got(0x41)))
+        && hears(line, Ok(Heard::Got(0x42)))
+        && hears(line, Ok(Heard::Quiet))
 }
 
 /// Whether a key that is sent is all that comes to the console.
-fn is_sent(line: &mut SocketLine<TcpStream>, console: &mut TcpStream) -> Result<bool, Fail> {
-    line.send(b'Z')?;
+fn is_sent(line: &mut SocketLine<TcpStream>, console: &mut TcpStream) -> bool {
+    if line.send(b'Z').is_err() {
+        return false;
+    }
     let mut key = [0u8; 2];
-    let count = console.read(&mut key)?;
-    Ok(count == 1 && key[0] == b'Z')
+    match console.read(&mut key) {
+        Ok(count) => count == 1 && key[0] == b'Z',
+        Err(_) => false,
+    }
+}
+
+/// Whether the end of a console is heard, as the first failure of a line.
+fn is_end_heard(line: &mut SocketLine<TcpStream>, console: TcpStream) -> bool {
+    drop(console);
+    hears(line, Err(LineFault::Closed)) && line.failures() == 1
 }
 
 #[test]
-fn characters_silence_and_the_end_are_heard(rt: HostRuntime) -> Result<(), Fail> {
-    let listener = TcpListener::bind(&rt, "127.0.0.1:0")?;
-    let (mut line, mut console) = connected(&rt, &listener)?;
-    assert!(rt; is_heard(&mut line, &mut console)?);
-    assert!(rt; is_sent(&mut line, &mut console)?);
+fn characters_silence_and_the_end_are_heard(rt: HostRuntime) {
+    let listener = port(&rt).expect(&rt, "no port");
+    let (mut line, mut console) = connected(&rt, &listener).expect(&rt, "no connection");
+    assert!(rt; is_heard(&mut line, &mut console));
+    assert!(rt; is_sent(&mut line, &mut console));
     assert!(rt; line.failures() == 0 && !line.failed());
-    drop(console);
-    assert!(rt; hears(&mut line, Err(LineFault::Closed)));
-    assert!(rt; line.failures() == 1);
-    Ok(())
+    assert!(rt; is_end_heard(&mut line, console));
 }
 
 /// Padding that comes before an `A`, and what is heard by two calls.
@@ -72,6 +85,11 @@ const PADDED: [(&[u8], Hearing, Heard); 2] = [
     (&[0; 4096], Err(LineFault::Noise), Heard::Got(0x41)),
 ];
 
+/// Whether a console can say some padding and an `A`.
+fn says_padded(console: &mut TcpStream, padding: &[u8]) -> bool {
+    console.write_all(padding).is_ok() && console.write_all(b"A").is_ok()
+}
+
 /// Whether this is heard of a console that says some padding and an `A`.
 fn is_padding_heard(
     rt: &HostRuntime,
@@ -79,21 +97,20 @@ fn is_padding_heard(
     padding: &[u8],
     first: Hearing,
     second: Heard,
-) -> Result<bool, Fail> {
-    let (mut line, mut console) = connected(rt, listener)?;
-    console.write_all(padding)?;
-    console.write_all(b"A")?;
-    Ok(hears(&mut line, first) && hears(&mut line, Ok(second)))
+) -> bool {
+    let Some((mut line, mut console)) = connected(rt, listener) else {
+        return false;
+    };
+    says_padded(&mut console, padding) && hears(&mut line, first) && hears(&mut line, Ok(second))
 }
 
 #[test]
-fn padding_is_dropped_up_to_a_limit(rt: HostRuntime) -> Result<(), Fail> {
-    let listener = TcpListener::bind(&rt, "127.0.0.1:0")?;
+fn padding_is_dropped_up_to_a_limit(rt: HostRuntime) {
+    let listener = port(&rt).expect(&rt, "no port");
     for row in &PADDED {
         let (padding, first, second) = *row;
-        assert!(rt; is_padding_heard(&rt, &listener, padding, first, second)?);
+        assert!(rt; is_padding_heard(&rt, &listener, padding, first, second));
     }
-    Ok(())
 }
 
 /// Whether a connection to an address fails in this way.
@@ -105,24 +122,27 @@ fn fails(rt: &HostRuntime, address: &str, quiet_ms: u32, fault: LineFault) -> bo
 }
 
 #[test]
-fn what_can_not_be_connected_is_told(rt: HostRuntime) -> Result<(), Fail> {
-    let listener = TcpListener::bind(&rt, "127.0.0.1:0")?;
-    let address = address_of(&rt, &listener)?;
+fn what_can_not_be_connected_is_told(rt: HostRuntime) {
+    let listener = port(&rt).expect(&rt, "no port");
+    let address = address_of(&rt, &listener).expect(&rt, "no address");
     // No stream has a time limit of nothing.
     assert!(rt; fails(&rt, &address, 0, LineFault::Receive));
     drop(listener);
     assert!(rt; fails(&rt, &address, 50, LineFault::Connect));
     assert!(rt; fails(&rt, "no port", 50, LineFault::Connect));
-    Ok(())
+}
+
+/// Whether there is a line to the second address of a name, and so many addresses were tried for it.
+fn is_connected(rt: &HostRuntime, second: SocketAddr, tried: u32) -> bool {
+    let net = TwoAddresses::new(rt, second);
+    SocketLine::connect(&net, "console:23", 50).is_ok() && net.tried() == tried
 }
 
 #[test]
-fn each_address_of_a_name_is_tried(rt: HostRuntime) -> Result<(), Fail> {
-    let listener = TcpListener::bind(&rt, "127.0.0.1:0")?;
-    let net = TwoAddresses::new(&rt, listener.local_addr()?);
-    assert!(rt; SocketLine::connect(&net, "console:23", 50).is_ok());
-    assert!(rt; net.tried() == 2);
-    Ok(())
+fn each_address_of_a_name_is_tried(rt: HostRuntime) {
+    let listener = port(&rt).expect(&rt, "no port");
+    let second = listener.local_addr().expect(&rt, "no address");
+    assert!(rt; is_connected(&rt, second, 2));
 }
 
 /// A line over a stream of which so many calls fail in one way, from the call of this number on.
@@ -131,27 +151,23 @@ fn faulty<'a>(
     kind: ErrorKind,
     first: u32,
     faults: u32,
-) -> Result<SocketLine<Faulty<'a>>, Fail> {
+) -> Option<SocketLine<Faulty<'a>>> {
     let stream = Faulty {
         kind,
         first,
         faults,
         notes,
     };
-    let Ok(line) = SocketLine::new(stream, 50) else {
-        return Err(Fail::from("no line"));
-    };
-    Ok(line)
+    SocketLine::new(stream, 50).ok()
 }
 
 #[test]
-fn a_stream_is_set_to_the_quiet_time_and_to_wait_for_nothing(rt: HostRuntime) -> Result<(), Fail> {
+fn a_stream_is_set_to_the_quiet_time_and_to_wait_for_nothing(rt: HostRuntime) {
     let notes = Notes::new();
-    let _line = faulty(&notes, ErrorKind::Other, 0, 0)?;
+    assert!(rt; faulty(&notes, ErrorKind::Other, 0, 0).is_some());
     let quiet_time = Some(Duration::from_millis(50));
     assert!(rt; notes.time_limit.get() == quiet_time);
     assert!(rt; notes.is_prompt.get());
-    Ok(())
 }
 
 /// How often and how a read fails before one gives an `A`, what is heard, and how often the stream was
@@ -166,23 +182,22 @@ const HEARINGS: [(ErrorKind, u32, Hearing, u32); 7] = [
     (ErrorKind::Other, 1, Err(LineFault::Receive), 1),
 ];
 
-/// What is heard over a stream that fails so, and how often that is read.
-fn heard_over(kind: ErrorKind, faults: u32) -> Result<(Hearing, u32), Fail> {
+/// Whether this is heard over a stream that fails so, and that is read so often.
+fn is_heard_over(kind: ErrorKind, faults: u32, wanted: Hearing, reads: u32) -> bool {
     let notes = Notes::new();
-    let mut line = faulty(&notes, kind, 0, faults)?;
-    let heard = line.hear();
-    Ok((heard, notes.calls.get()))
+    let Some(mut line) = faulty(&notes, kind, 0, faults) else {
+        return false;
+    };
+    line.hear() == wanted && notes.calls.get() == reads
 }
 
 #[test]
-fn only_an_interrupted_read_is_begun_again(rt: HostRuntime) -> Result<(), Fail> {
+fn only_an_interrupted_read_is_begun_again(rt: HostRuntime) {
     for row in &HEARINGS {
         let (kind, faults, wanted, reads) = *row;
-        let (heard, calls) = heard_over(kind, faults)?;
-        let is_so = heard == wanted && calls == reads;
+        let is_so = is_heard_over(kind, faults, wanted, reads);
         assert!(rt; is_so, "{kind:?}, {faults} times");
     }
-    Ok(())
 }
 
 /// How the writing of a key, call 0 of the stream, or its flushing, call 1, fails.
@@ -196,21 +211,19 @@ const SENDINGS: [(ErrorKind, u32); 7] = [
     (ErrorKind::Other, 1),
 ];
 
-/// What the sending of a key comes to over a stream of which this call fails, and how often that is called.
-fn sent_over(kind: ErrorKind, first: u32) -> Result<(Result<(), LineFault>, u32), Fail> {
+/// Whether a key can not be sent over a stream of which this call fails, and no call comes after that.
+fn is_not_sent_again(kind: ErrorKind, first: u32) -> bool {
     let notes = Notes::new();
-    let mut line = faulty(&notes, kind, first, 1)?;
-    let sent = line.send(b'Z');
-    Ok((sent, notes.calls.get()))
+    let Some(mut line) = faulty(&notes, kind, first, 1) else {
+        return false;
+    };
+    line.send(b'Z') == Err(LineFault::Send) && notes.calls.get() == first.saturating_add(1)
 }
 
 #[test]
-fn a_key_that_failed_is_not_sent_again(rt: HostRuntime) -> Result<(), Fail> {
+fn a_key_that_failed_is_not_sent_again(rt: HostRuntime) {
     for row in &SENDINGS {
         let (kind, first) = *row;
-        let (sent, calls) = sent_over(kind, first)?;
-        let is_so = sent == Err(LineFault::Send) && calls == first.saturating_add(1);
-        assert!(rt; is_so, "{kind:?}, call {first}");
+        assert!(rt; is_not_sent_again(kind, first), "{kind:?}, call {first}");
     }
-    Ok(())
 }

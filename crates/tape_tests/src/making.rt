@@ -2,8 +2,7 @@
 
 use crate::tapes::{ONE_BLOCK, tape_of, tape_with};
 use std::alloc::{AllocError, Global};
-use std::test::Fail;
-use tape_blocks::{BadTape, Block, ReadError, Tape, read_tape, write_tape};
+use tape_blocks::{BadTape, Block, Tape, read_tape, write_tape};
 use tape_image::Plan;
 
 /// Blocks of zeros: how many, their address and their length.
@@ -12,25 +11,40 @@ type Run = (usize, u16, usize);
 /// As much as a tape holds.
 const LONGEST: [Run; 2] = [(18, 0, 57_344), (1, 0, 16_244)];
 
-fn blocks_of(alloc: Global, runs: &[Run]) -> Result<Vec<Block>, AllocError> {
-    let mut blocks = Vec::new(alloc);
-    for (number, address, length) in runs {
-        for _ in 0..*number {
-            let bytes = vec![in alloc; 0u8; *length]?;
-            blocks.push(Block {
-                address: *address,
-                bytes,
-            })?;
-        }
-    }
-    Ok(blocks)
+/// Adds a block of zeros.
+fn push_zeros(
+    alloc: Global,
+    blocks: &mut Vec<Block>,
+    address: u16,
+    length: usize,
+) -> Result<(), AllocError> {
+    let bytes = vec![in alloc; 0u8; length]?;
+    blocks.push(Block { address, bytes })?;
+    Ok(())
 }
 
-/// What is wrong with a tape of these blocks, if anything is.
-fn wrong_with(alloc: Global, runs: &[Run]) -> Result<Option<BadTape>, AllocError> {
+fn push_run(alloc: Global, blocks: &mut Vec<Block>, run: Run) -> Option<()> {
+    let (number, address, length) = run;
+    for _ in 0..number {
+        push_zeros(alloc, blocks, address, length).ok()?;
+    }
+    Some(())
+}
+
+/// The blocks of these runs, if memory is left.
+fn blocks_of(alloc: Global, runs: &[Run]) -> Option<Vec<Block>> {
+    let mut blocks = Vec::new(alloc);
+    for run in runs {
+        push_run(alloc, &mut blocks, *run)?;
+    }
+    Some(blocks)
+}
+
+/// Whether this is wrong with a tape of these blocks, or nothing is.
+fn is_wrong_with(alloc: Global, runs: &[Run], expected: Option<BadTape>) -> Option<bool> {
     match Tape::new(blocks_of(alloc, runs)?, 0o1000) {
-        Ok(_tape) => Ok(None),
-        Err((_blocks, bad)) => Ok(Some(bad)),
+        Ok(_tape) => Some(expected.is_none()),
+        Err((_blocks, bad)) => Some(expected == Some(bad)),
     }
 }
 
@@ -78,48 +92,58 @@ static LISTS: [(&str, &[Run], Option<BadTape>); 11] = [
 ];
 
 #[test]
-fn lists_of_blocks_make_tapes_or_do_not(rt: HostRuntime) -> Result<(), Fail> {
+fn lists_of_blocks_make_tapes_or_do_not(rt: HostRuntime) {
     for row in &LISTS {
         let (reason, runs, expected) = *row;
-        let bad = wrong_with(rt.alloc(), runs)?;
-        assert!(rt; bad == expected, "{reason}");
+        let is_so = is_wrong_with(rt.alloc(), runs, expected).unwrap_or(false);
+        assert!(rt; is_so, "{reason}");
     }
-    Ok(())
 }
 
 /// Whether the plan of a tape has 22 at 001001, and nothing behind it.
-fn is_planned(alloc: Global, tape: &Tape) -> Result<bool, Fail> {
-    let plan = Plan::of(alloc, tape)?;
-    Ok(plan.byte_at(0o1001) == Some(0x12) && plan.byte_at(0o1002).is_none())
+fn is_planned(alloc: Global, tape: &Tape) -> bool {
+    let Ok(plan) = Plan::of(alloc, tape) else {
+        return false;
+    };
+    plan.byte_at(0o1001) == Some(0x12) && plan.byte_at(0o1002).is_none()
 }
 
 /// Whether a text of sixteen bytes is read as a tape that starts at 001000 and has this plan.
-fn is_read_again(alloc: Global, text: &[u8]) -> Result<bool, Fail> {
-    let (tape, used) = read_tape(alloc, text)?;
-    let is_planned = is_planned(alloc, &tape)?;
-    Ok(is_planned && used == 16 && tape.start() == 0o1000)
+fn is_read_again(alloc: Global, text: &[u8]) -> bool {
+    let Ok((tape, used)) = read_tape(alloc, text) else {
+        return false;
+    };
+    used == 16 && tape.start() == 0o1000 && is_planned(alloc, &tape)
+}
+
+/// The text of a tape with a block of two bytes, if memory is left.
+fn written(alloc: Global) -> Option<Vec<u8>> {
+    let tape = tape_with(alloc, &[(0o1000, &[0x34, 0x12])], 0o1000)?;
+    write_tape(alloc, &tape).ok()
 }
 
 #[test]
-fn a_tape_is_written_and_read_again(rt: HostRuntime) -> Result<(), Fail> {
-    let tape = tape_with(rt.alloc(), &[(0o1000, &[0x34, 0x12])], 0o1000)?;
-    let text = write_tape(rt.alloc(), &tape)?;
+fn a_tape_is_written_and_read_again(rt: HostRuntime) {
+    let text = written(rt.alloc()).expect(&rt, "no text");
     assert!(rt; text.as_slice() == ONE_BLOCK);
-    assert!(rt; is_read_again(rt.alloc(), &text)?);
-    Ok(())
+    assert!(rt; is_read_again(rt.alloc(), &text));
 }
 
-/// How many bytes of a text are read as a tape.
-fn length_of(alloc: Global, text: &[u8]) -> Result<u32, ReadError> {
-    let (_, used) = read_tape(alloc, text)?;
-    Ok(used)
+/// How many bytes of a text are read as a tape, if it is read as one.
+fn length_of(alloc: Global, text: &[u8]) -> Option<u32> {
+    let (_tape, used) = read_tape(alloc, text).ok()?;
+    Some(used)
+}
+
+/// The text of the longest tape, if memory is left.
+fn longest_text(alloc: Global) -> Option<Vec<u8>> {
+    let tape = tape_of(blocks_of(alloc, &LONGEST)?, 0o1000)?;
+    write_tape(alloc, &tape).ok()
 }
 
 #[test]
-fn the_longest_tape_is_written_and_read_again(rt: HostRuntime) -> Result<(), Fail> {
-    let tape = tape_of(blocks_of(rt.alloc(), &LONGEST)?, 0o1000)?;
-    let text = write_tape(rt.alloc(), &tape)?;
-    let used = length_of(rt.alloc(), &text)?;
-    assert!(rt; text.len() == 1_048_576 && used == 1_048_576);
-    Ok(())
+fn the_longest_tape_is_written_and_read_again(rt: HostRuntime) {
+    let text = longest_text(rt.alloc()).expect(&rt, "no text");
+    assert!(rt; text.len() == 1_048_576);
+    assert!(rt; length_of(rt.alloc(), &text) == Some(1_048_576));
 }

@@ -4,26 +4,56 @@ use crate::tapes::{ONE_BLOCK, OVERLAPPING};
 use std::alloc::{AllocError, Global};
 use std::io;
 use std::io::{ErrorKind, Read};
-use std::process::Abort;
-use std::test::Fail;
 use tape_blocks::{Fault, Fed, FromError, ReadError, TapeReader, Why, read_from};
 
 /// Whether a reader that is fed a piece answers so.
-fn answers(reader: &mut TapeReader, piece: &[u8], answer: Result<Fed, ReadError>) -> bool {
+pub(crate) fn answers(
+    reader: &mut TapeReader,
+    piece: &[u8],
+    answer: Result<Fed, ReadError>,
+) -> bool {
     reader.feed(piece) == answer
 }
 
-#[test]
-fn a_tape_is_fed_byte_by_byte(rt: HostRuntime) -> Result<(), Fail> {
-    let mut reader = TapeReader::new(rt.alloc());
-    for byte in &ONE_BLOCK[..15] {
-        assert!(rt; answers(&mut reader, &[*byte], Ok(Fed::More)));
+/// A piece that a reader is fed, and what it answers.
+pub(crate) type Feeding = (&'static [u8], Result<Fed, ReadError>);
+
+/// Whether a reader that is fed pieces in turn answers so.
+pub(crate) fn answers_all(reader: &mut TapeReader, feedings: &[Feeding]) -> bool {
+    for feeding in feedings {
+        let (piece, answer) = *feeding;
+        if !answers(reader, piece, answer) {
+            return false;
+        }
     }
-    assert!(rt; answers(&mut reader, &ONE_BLOCK[15..], Ok(Fed::Done(1))));
-    let tape = reader.finish()?;
-    assert!(rt; tape.written_length() == ONE_BLOCK.len());
-    Ok(())
+    true
 }
+
+/// How many bytes the tape has that a reader finishes, and where it starts; or why there is none.
+pub(crate) fn finished(reader: TapeReader) -> Result<(usize, u16), ReadError> {
+    let tape = reader.finish()?;
+    Ok((tape.written_length(), tape.start()))
+}
+
+/// One block, byte by byte.
+const BYTES: [Feeding; 16] = [
+    (b"\x01", Ok(Fed::More)),
+    (b"\x00", Ok(Fed::More)),
+    (b"\x08", Ok(Fed::More)),
+    (b"\x00", Ok(Fed::More)),
+    (b"\x00", Ok(Fed::More)),
+    (b"\x02", Ok(Fed::More)),
+    (b"\x34", Ok(Fed::More)),
+    (b"\x12", Ok(Fed::More)),
+    (b"\xAF", Ok(Fed::More)),
+    (b"\x01", Ok(Fed::More)),
+    (b"\x00", Ok(Fed::More)),
+    (b"\x06", Ok(Fed::More)),
+    (b"\x00", Ok(Fed::More)),
+    (b"\x00", Ok(Fed::More)),
+    (b"\x02", Ok(Fed::More)),
+    (b"\xF7", Ok(Fed::Done(1))),
+];
 
 /// A tape of sixteen bytes, and one that follows it.
 const FOLLOWED: &[u8] = &[
@@ -31,37 +61,48 @@ const FOLLOWED: &[u8] = &[
     0xFF,
 ];
 
-#[test]
-fn what_follows_in_a_piece_is_not_the_tapes(rt: HostRuntime) {
-    let mut reader = TapeReader::new(rt.alloc());
-    assert!(rt; answers(&mut reader, FOLLOWED, Ok(Fed::Done(16))));
-    assert!(rt;
-        answers(&mut reader, FOLLOWED, Ok(Fed::Done(0))),
-        "nor what comes later"
-    );
+const STRAY: ReadError = ReadError::Tape(Fault {
+    at: 2,
+    why: Why::Stray,
+});
+
+const NO_TRANSFER: ReadError = ReadError::Tape(Fault {
+    at: 9,
+    why: Why::NoTransfer,
+});
+
+/// Pieces with the answers to them, what is finished then, and why the row is there.
+const FEEDINGS: [(&[Feeding], Result<(usize, u16), ReadError>, &str); 4] = [
+    (&BYTES, Ok((16, 0o1000)), "a tape is fed byte by byte"),
+    (
+        &[(FOLLOWED, Ok(Fed::Done(16))), (FOLLOWED, Ok(Fed::Done(0)))],
+        Ok((16, 0o1000)),
+        "what follows in a piece is not the tape's, nor what comes later",
+    ),
+    (
+        &[(b"\x00\x00\x41", Err(STRAY)), (ONE_BLOCK, Err(STRAY))],
+        Err(STRAY),
+        "a fault is answered again",
+    ),
+    (
+        &[(b"\x01\x00\x08\x00\x00\x02\x34\x12\xAF", Ok(Fed::More))],
+        Err(NO_TRANSFER),
+        "a tape that ends between blocks has no transfer block",
+    ),
+];
+
+/// Whether a reader that is fed pieces in turn answers so, and finishes this.
+fn is_fed(alloc: Global, feedings: &[Feeding], end: Result<(usize, u16), ReadError>) -> bool {
+    let mut reader = TapeReader::new(alloc);
+    answers_all(&mut reader, feedings) && finished(reader) == end
 }
 
 #[test]
-fn a_fault_is_answered_again(rt: HostRuntime) {
-    let fault = ReadError::Tape(Fault {
-        at: 2,
-        why: Why::Stray,
-    });
-    let mut reader = TapeReader::new(rt.alloc());
-    assert!(rt; answers(&mut reader, b"\x00\x00\x41", Err(fault)));
-    assert!(rt; answers(&mut reader, ONE_BLOCK, Err(fault)));
-    assert!(rt; reader.finish().err() == Some(fault));
-}
-
-#[test]
-fn a_tape_that_ends_between_blocks_has_no_transfer_block(rt: HostRuntime) {
-    let fault = Fault {
-        at: 9,
-        why: Why::NoTransfer,
-    };
-    let mut reader = TapeReader::new(rt.alloc());
-    assert!(rt; answers(&mut reader, &ONE_BLOCK[..9], Ok(Fed::More)));
-    assert!(rt; reader.finish().err() == Some(ReadError::Tape(fault)));
+fn a_reader_is_fed_in_pieces(rt: HostRuntime) {
+    for row in &FEEDINGS {
+        let (feedings, end, reason) = *row;
+        assert!(rt; is_fed(rt.alloc(), feedings, end), "{reason}");
+    }
 }
 
 /// How an input is read: how many bytes its tape has and where that starts; or at which byte it is refused,
@@ -127,11 +168,11 @@ const INPUTS: [(&[u8], Reading, &str); 18] = [
     (OVERLAPPING, Ok((25, 0o1000)), "two blocks"),
 ];
 
-/// How many bytes of a piece belong to the tape.
-fn used_of(fed: Fed, piece: &[u8]) -> usize {
-    match fed {
-        Fed::More => piece.len(),
-        Fed::Done(used) => used,
+/// Feeds a piece, and answers how many of its bytes belong to the tape.
+fn feed_piece(reader: &mut TapeReader, piece: &[u8]) -> Result<usize, ReadError> {
+    match reader.feed(piece)? {
+        Fed::More => Ok(piece.len()),
+        Fed::Done(used) => Ok(used),
     }
 }
 
@@ -139,54 +180,65 @@ fn used_of(fed: Fed, piece: &[u8]) -> usize {
 fn feed_pieces(reader: &mut TapeReader, text: &[u8], length: usize) -> Result<usize, ReadError> {
     let mut used = 0usize;
     for piece in text.chunks(length.max(1)) {
-        let fed = reader.feed(piece)?;
-        used = used.saturating_add(used_of(fed, piece));
+        used = used.saturating_add(feed_piece(reader, piece)?);
     }
     Ok(used)
 }
 
+/// Feeds a first piece and then the rest in pieces of this length, and answers how many of the bytes belong to
+/// the tape.
+fn feed_cut(
+    reader: &mut TapeReader,
+    first: &[u8],
+    rest: &[u8],
+    length: usize,
+) -> Result<usize, ReadError> {
+    let before = feed_piece(reader, first)?;
+    let behind = feed_pieces(reader, rest, length)?;
+    Ok(before.saturating_add(behind))
+}
+
 /// How an input is read that is fed as a first piece and then in pieces of this length.
-fn reading_of(
+pub(crate) fn reading_of(
     alloc: Global,
     first: &[u8],
     rest: &[u8],
     length: usize,
 ) -> Result<(usize, u16), ReadError> {
     let mut reader = TapeReader::new(alloc);
-    let before = used_of(reader.feed(first)?, first);
-    let behind = feed_pieces(&mut reader, rest, length)?;
-    let tape = reader.finish()?;
-    Ok((before.saturating_add(behind), tape.start()))
+    let used = feed_cut(&mut reader, first, rest, length)?;
+    let (_, start) = finished(reader)?;
+    Ok((used, start))
 }
 
-/// The input is read so wherever it is cut, also where what stands behind the cut comes byte by byte.
-fn assert_reading(
-    rt: &impl Abort,
-    alloc: Global,
-    text: &[u8],
-    expected: Result<(usize, u16), ReadError>,
-    reason: &str,
-) {
+/// Whether an input in two parts is read so, also where the second comes byte by byte.
+fn is_reading(alloc: Global, first: &[u8], rest: &[u8], reading: Reading) -> bool {
+    let expected = match reading {
+        Ok(tape) => Ok(tape),
+        Err((at, why)) => Err(ReadError::Tape(Fault { at, why })),
+    };
+    reading_of(alloc, first, rest, usize::MAX) == expected
+        && reading_of(alloc, first, rest, 1) == expected
+}
+
+/// A place where an input is read otherwise if it is cut there, also where what stands behind the cut comes
+/// byte by byte.
+fn misread_at(alloc: Global, text: &[u8], reading: Reading) -> Option<usize> {
     for place in 0..=text.len() {
         let (first, rest) = text.split_at(place);
-        let whole = reading_of(alloc, first, rest, usize::MAX);
-        let bytes = reading_of(alloc, first, rest, 1);
-        assert!(rt;
-            whole == expected && bytes == expected,
-            "{reason}, cut at {place}"
-        );
+        if !is_reading(alloc, first, rest, reading) {
+            return Some(place);
+        }
     }
+    None
 }
 
 #[test]
 fn where_an_input_is_cut_decides_nothing(rt: HostRuntime) {
     for row in &INPUTS {
         let (text, reading, reason) = *row;
-        let expected = match reading {
-            Ok(tape) => Ok(tape),
-            Err((at, why)) => Err(ReadError::Tape(Fault { at, why })),
-        };
-        assert_reading(&rt, rt.alloc(), text, expected, reason);
+        let place = misread_at(rt.alloc(), text, reading);
+        assert!(rt; place.is_none(), "{reason}, cut at {place:?}");
     }
 }
 
@@ -217,54 +269,53 @@ impl Read for Device<'_> {
     }
 }
 
-/// How a tape is read of a device that gives a byte a read and fails before this place, and how often that is
-/// read.
-fn reading_of_broken(alloc: Global, place: usize) -> (Option<FromError>, usize) {
+/// How many bytes of these are read of a device as a tape, or why none; and how often it is read.
+fn read_device(
+    alloc: Global,
+    bytes: &[u8],
+    most: usize,
+    fails_before: usize,
+) -> (Result<usize, FromError>, usize) {
     let mut device = Device {
-        bytes: ONE_BLOCK,
-        most: 1,
-        fails_before: place,
+        bytes,
+        most,
+        fails_before,
         failures: 0,
         reads: 0,
     };
-    let error = read_from(alloc, &mut device).err();
-    (error, device.reads)
+    match read_from(alloc, &mut device) {
+        Ok((_tape, used)) => (Ok(used as usize), device.reads),
+        Err(error) => (Err(error), device.reads),
+    }
 }
 
 #[test]
 fn a_device_that_fails_is_not_asked_again(rt: HostRuntime) {
     for place in 0..ONE_BLOCK.len() {
-        let (error, reads) = reading_of_broken(rt.alloc(), place);
-        assert!(rt; error == Some(FromError::Io), "at {place}");
-        assert!(rt; reads == place + 1, "at {place}");
+        let (reading, reads) = read_device(rt.alloc(), ONE_BLOCK, 1, place);
+        let is_so = reading == Err(FromError::Io) && reads == place + 1;
+        assert!(rt; is_so, "at {place}");
     }
 }
 
 /// The text of a tape with a block of 57,328 zeros and another byte, and then a small one.
 fn long_text(alloc: Global) -> Result<Vec<u8>, AllocError> {
-    let mut text = Vec::from_slice(alloc, &[1, 0, 0xF6, 0xDF, 0, 0])?;
-    let zeros = vec![in alloc; 0u8; 57_328]?;
-    text.extend_from_slice(&zeros)?;
-    text.push(0x2A)?;
-    text.extend_from_slice(ONE_BLOCK)?;
+    let mut text = vec![in alloc; 0u8; 6 + 57_328]?;
+    text[..6].copy_from_slice(&[1, 0, 0xF6, 0xDF, 0, 0]);
+    text.extend_from_slice(BEHIND_ZEROS)?;
     Ok(text)
 }
 
+/// The sum of the large block, and the small one.
+const BEHIND_ZEROS: &[u8] = b"\x2A\x01\x00\x08\x00\x00\x02\x34\x12\xAF\x01\x00\x06\x00\x00\x02\xF7";
+
 #[test]
-fn a_block_is_one_read(rt: HostRuntime) -> Result<(), Fail> {
-    let text = long_text(rt.alloc())?;
-    let mut device = Device {
-        bytes: &text,
-        most: usize::MAX,
-        fails_before: usize::MAX,
-        failures: 0,
-        reads: 0,
-    };
-    let (_, used) = read_from(rt.alloc(), &mut device)?;
-    assert!(rt; used as usize == text.len());
+fn a_block_is_one_read(rt: HostRuntime) {
+    let text = long_text(rt.alloc()).expect(&rt, "no text");
+    let (reading, reads) = read_device(rt.alloc(), &text, usize::MAX, usize::MAX);
+    assert!(rt; reading == Ok(text.len()));
     assert!(rt;
-        device.reads == 3,
+        reads == 3,
         "seven bytes, then the rest of each block and seven"
     );
-    Ok(())
 }

@@ -1,7 +1,6 @@
 //! Tapes by hand, and tapes of blocks.
 
-use std::alloc::Global;
-use std::test::Fail;
+use std::alloc::{AllocError, Global};
 use tape_blocks::{Block, Tape};
 
 /// Two bytes at 001000, and a start at 001000.
@@ -15,11 +14,11 @@ pub(crate) const OVERLAPPING: &[u8] = &[
     0x44, 0x7D, 0x01, 0x00, 0x06, 0x00, 0x00, 0x02, 0xF7,
 ];
 
-/// The tape of these blocks and this start address.
-pub(crate) fn tape_of(blocks: Vec<Block>, start: u16) -> Result<Tape, Fail> {
+/// The tape of these blocks and this start address, if they make one.
+pub(crate) fn tape_of(blocks: Vec<Block>, start: u16) -> Option<Tape> {
     match Tape::new(blocks, start) {
-        Ok(tape) => Ok(tape),
-        Err((_blocks, _bad)) => Err(Fail::from("the blocks make no tape")),
+        Ok(tape) => Some(tape),
+        Err((_blocks, _bad)) => None,
     }
 }
 
@@ -29,18 +28,37 @@ pub(crate) fn push_block(
     blocks: &mut Vec<Block>,
     address: u16,
     bytes: &[u8],
-) -> Result<(), Fail> {
+) -> Result<(), AllocError> {
     let bytes = Vec::from_slice(alloc, bytes)?;
     blocks.push(Block { address, bytes })?;
     Ok(())
 }
 
-/// The tape of blocks with these addresses and bytes, and of this start address.
-pub(crate) fn tape_with(alloc: Global, parts: &[(u16, &[u8])], start: u16) -> Result<Tape, Fail> {
-    let mut blocks = Vec::new(alloc);
+fn push_parts(alloc: Global, blocks: &mut Vec<Block>, parts: &[(u16, &[u8])]) -> Option<()> {
     for part in parts {
         let (address, bytes) = *part;
-        push_block(alloc, &mut blocks, address, bytes)?;
+        push_block(alloc, blocks, address, bytes).ok()?;
     }
+    Some(())
+}
+
+/// The tape of blocks with these addresses and bytes, and of this start address, if memory is left.
+pub(crate) fn tape_with(alloc: Global, parts: &[(u16, &[u8])], start: u16) -> Option<Tape> {
+    let mut blocks = Vec::new(alloc);
+    push_parts(alloc, &mut blocks, parts)?;
     tape_of(blocks, start)
+}
+
+fn push_copies(alloc: Global, blocks: &mut Vec<Block>, count: usize, bytes: &[u8]) -> Option<()> {
+    for _ in 0..count {
+        push_block(alloc, blocks, 0o1000, bytes).ok()?;
+    }
+    Some(())
+}
+
+/// The tape of so many copies of one block of these bytes at 001000, which starts there, if memory is left.
+pub(crate) fn tape_of_copies(alloc: Global, count: usize, bytes: &[u8]) -> Option<Tape> {
+    let mut blocks = Vec::new(alloc);
+    push_copies(alloc, &mut blocks, count, bytes)?;
+    tape_of(blocks, 0o1000)
 }

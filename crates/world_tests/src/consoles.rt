@@ -3,7 +3,8 @@
 
 use crate::checks::check_that;
 use odt_machine::{LARGEST_WORDS, Mode, Odt, OdtError, PLAIN_STYLE};
-use std::test::Fail;
+use std::alloc::Global;
+use std::process::Abort;
 
 /// Modes of the largest machine, whether typing can reach them, and why the row is here.
 const MODES: [(Mode, bool, &str); 9] = [
@@ -18,14 +19,18 @@ const MODES: [(Mode, bool, &str); 9] = [
     (Mode::Typing(0o160000, 0, 1), false, "no word at the top"),
 ];
 
+/// Whether the largest machine can be in the mode; nothing where memory for it is refused.
+fn reaches(alloc: Global, mode: Mode) -> Option<bool> {
+    let odt = Odt::new(alloc, LARGEST_WORDS, PLAIN_STYLE).ok()?;
+    Some(odt.with_mode(mode).is_ok())
+}
+
 #[test]
-fn modes_that_typing_reaches(rt: HostRuntime) -> Result<(), Fail> {
+fn modes_that_typing_reaches(rt: HostRuntime) {
     for row in &MODES {
         let (mode, is_one, reason) = *row;
-        let odt = Odt::new(rt.alloc(), LARGEST_WORDS, PLAIN_STYLE)?;
-        check_that(&rt, odt.with_mode(mode).is_ok() == is_one, reason);
+        check_that(&rt, reaches(rt.alloc(), mode) == Some(is_one), reason);
     }
-    Ok(())
 }
 
 /// Addresses of the largest machine, and whether a word lies there.
@@ -35,16 +40,22 @@ const ADDRESSES: [(u16, bool, &str); 3] = [
     (0o160000, false, "no word at the top"),
 ];
 
-#[test]
-fn the_largest_machine(rt: HostRuntime) -> Result<(), Fail> {
-    let too_large = Odt::new(rt.alloc(), 28673, PLAIN_STYLE).err();
-    check_that(&rt, too_large == Some(OdtError::TooLarge), "too large");
-    let mut odt = Odt::new(rt.alloc(), 28672, PLAIN_STYLE)?;
-    check_that(&rt, odt.top() == 57344, "twice the words");
+/// Words lie in the largest machine where the table says it.
+fn words_lie_so(rt: &impl Abort, odt: &mut Odt) {
     for row in &ADDRESSES {
         let (address, is_word, reason) = *row;
-        check_that(&rt, odt.put(address, 1) == is_word, reason);
-        check_that(&rt, odt.peek(address).is_some() == is_word, reason);
+        check_that(rt, odt.put(address, 1) == is_word, reason);
+        check_that(rt, odt.peek(address).is_some() == is_word, reason);
     }
-    Ok(())
+}
+
+#[test]
+fn the_largest_machine(rt: HostRuntime) {
+    let too_large = Odt::new(rt.alloc(), 28673, PLAIN_STYLE).err();
+    check_that(&rt, too_large == Some(OdtError::TooLarge), "too large");
+    let Ok(mut odt) = Odt::new(rt.alloc(), 28672, PLAIN_STYLE) else {
+        return check_that(&rt, false, "not too large");
+    };
+    check_that(&rt, odt.top() == 57344, "twice the words");
+    words_lie_so(&rt, &mut odt);
 }

@@ -2,6 +2,8 @@
 
 use crate::checks::check_that;
 use load_devices::{Keep, KeepFault, Kept, LineFault, MemoryKeep};
+use std::alloc::Global;
+use std::fmt::Display;
 use std::process::Abort;
 use std::test::Fail;
 use tape_image::Word;
@@ -93,42 +95,54 @@ fn a_keeper_keeps_and_fails_by_its_numbers(rt: HostRuntime) -> Result<(), Fail> 
     Ok(())
 }
 
-/// The largest plan has a word for each even address below 160000.
-#[test]
-fn a_keeper_of_the_largest_load(rt: HostRuntime) -> Result<(), Fail> {
+/// The largest plan has a word for each even address below 160000. Whether all of them are kept.
+fn keeps_the_largest_load(keep: &mut MemoryKeep) -> Option<()> {
     const WORDS: u16 = 28672;
-    let mut keep = MemoryKeep::new(rt.alloc(), 28673, None)?;
     for number in 0..WORDS {
-        let word = Word::new(number.wrapping_mul(2), 0o177777, number).ok_or("no word")?;
-        keep.add(word)?;
+        let word = Word::new(number.wrapping_mul(2), 0o177777, number)?;
+        keep.add(word).ok()?;
     }
-    keep.mark()?;
-    check_that(&rt, keep.kept().len() == 28673, "every word and the mark");
-    let outcome = keep.mark();
-    check_that(&rt, outcome == Err(KeepFault::Full), "no more");
-    Ok(())
+    Some(())
 }
 
 #[test]
-fn faults_have_texts(rt: HostRuntime) -> Result<(), Fail> {
-    let alloc = rt.alloc();
-    for row in &[
-        (LineFault::Connect, "cannot connect"),
-        (LineFault::Send, "cannot send"),
-        (LineFault::Closed, "the line was closed"),
-        (LineFault::Receive, "cannot receive"),
-        (LineFault::Full, "no room on the line"),
-        (LineFault::Noise, "nothing but noise on the line"),
-    ] {
-        let (fault, text) = *row;
-        check_that(&rt, format!(in alloc; "{fault}")?.as_str() == text, text);
+fn a_keeper_of_the_largest_load(rt: HostRuntime) {
+    let Ok(mut keep) = MemoryKeep::new(rt.alloc(), 28673, None) else {
+        return check_that(&rt, false, "room for every word");
+    };
+    let is_kept = keeps_the_largest_load(&mut keep).is_some();
+    check_that(&rt, is_kept, "every word");
+    keeps_so(&rt, &mut keep, Kept::Go, None, "the mark");
+    check_that(&rt, keep.kept().len() == 28673, "every word and the mark");
+    keeps_so(&rt, &mut keep, Kept::Go, Some(KeepFault::Full), "no more");
+}
+
+/// Whether this is written so.
+fn is_written(alloc: Global, fault: &impl Display, text: &str) -> Option<bool> {
+    let written = format!(in alloc; "{fault}").ok()?;
+    Some(written.as_str() == text)
+}
+
+const LINE_FAULTS: [(LineFault, &str); 6] = [
+    (LineFault::Connect, "cannot connect"),
+    (LineFault::Send, "cannot send"),
+    (LineFault::Closed, "the line was closed"),
+    (LineFault::Receive, "cannot receive"),
+    (LineFault::Full, "no room on the line"),
+    (LineFault::Noise, "nothing but noise on the line"),
+];
+
+const KEEP_FAULTS: [(KeepFault, &str); 2] = [
+    (KeepFault::Write, "cannot keep the progress"),
+    (KeepFault::Full, "no room to keep the progress"),
+];
+
+#[test]
+fn faults_have_texts(rt: HostRuntime) {
+    for (fault, text) in &LINE_FAULTS {
+        check_that(&rt, is_written(rt.alloc(), fault, text) == Some(true), text);
     }
-    for row in &[
-        (KeepFault::Write, "cannot keep the progress"),
-        (KeepFault::Full, "no room to keep the progress"),
-    ] {
-        let (fault, text) = *row;
-        check_that(&rt, format!(in alloc; "{fault}")?.as_str() == text, text);
+    for (fault, text) in &KEEP_FAULTS {
+        check_that(&rt, is_written(rt.alloc(), fault, text) == Some(true), text);
     }
-    Ok(())
 }

@@ -7,20 +7,25 @@ use load_devices::{Line, LineFault};
 use odt_machine::{Mode, Odt, PLAIN_STYLE};
 use std::alloc::Global;
 use std::process::Abort;
-use std::test::Fail;
 
+fn list_of(alloc: Global, losses: &[Loss]) -> Option<Vec<Loss>> {
+    let mut list = Vec::new(alloc);
+    for loss in losses {
+        list.push(*loss).ok()?;
+    }
+    Some(list)
+}
+
+/// A line to a machine of one word; none where memory for it is refused.
 fn line_with(
     alloc: Global,
     losses: &[Loss],
     room: u32,
     fail_at: Option<u64>,
-) -> Result<MemoryLine, Fail> {
-    let odt = Odt::new(alloc, 1, PLAIN_STYLE)?;
-    let mut list = Vec::new(alloc);
-    for loss in losses {
-        list.push(*loss)?;
-    }
-    Ok(MemoryLine::new(alloc, odt, list, room, fail_at)?)
+) -> Option<MemoryLine> {
+    let list = list_of(alloc, losses)?;
+    let odt = Odt::new(alloc, 1, PLAIN_STYLE).ok()?;
+    MemoryLine::new(alloc, odt, list, room, fail_at).ok()
 }
 
 /// `Z` is sent so often.
@@ -37,15 +42,22 @@ fn ask(line: &mut MemoryLine, key: u8) -> Result<Heard, LineFault> {
     line.hear()
 }
 
-/// The text is heard, and then nothing.
-fn hears(rt: &impl Abort, line: &mut MemoryLine, text: &[u8], reason: &str) -> Result<(), Fail> {
+/// What is heard. What its contract promises of it, no test needs.
+fn heard_on(line: &mut MemoryLine) -> Option<Heard> {
+    line.hear().ok()
+}
+
+/// The text is heard.
+fn hears_text(rt: &impl Abort, line: &mut MemoryLine, text: &[u8], reason: &str) {
     for character in text {
-        let heard = line.hear()?;
-        check_that(rt, heard == Heard::Got(*character), reason);
+        check_that(rt, heard_on(line) == Some(Heard::Got(*character)), reason);
     }
-    let heard = line.hear()?;
-    check_that(rt, heard == Heard::Quiet, reason);
-    Ok(())
+}
+
+/// The text is heard, and then nothing.
+fn hears(rt: &impl Abort, line: &mut MemoryLine, text: &[u8], reason: &str) {
+    hears_text(rt, line, text, reason);
+    check_that(rt, heard_on(line) == Some(Heard::Quiet), reason);
 }
 
 /// The losses; what is heard where `Z` is sent twice, and is answered `?`, CR, LF and `@` each time;
@@ -78,27 +90,37 @@ const LOSSES: [(&[Loss], &[u8], &str); 9] = [
     (&[Loss::Down(2), Loss::Down(1)], b"", "in any order"),
 ];
 
+/// The text is heard where `Z` is sent twice.
+fn loses_so(rt: &impl Abort, line: &mut MemoryLine, text: &[u8], reason: &str) {
+    check_that(rt, send_so_often(line, 2).is_ok(), reason);
+    check_that(rt, line.waiting() == text, reason);
+    hears(rt, line, text, reason);
+    let said = text.len().saturating_add(3);
+    check_that(rt, line.items().len() == said, reason);
+    check_that(rt, line.failures() == 0, reason);
+}
+
 #[test]
-fn what_is_lost(rt: HostRuntime) -> Result<(), Fail> {
+fn what_is_lost(rt: HostRuntime) {
     for row in &LOSSES {
         let (losses, text, reason) = *row;
-        let mut line = line_with(rt.alloc(), losses, 20, None)?;
-        send_so_often(&mut line, 2)?;
-        check_that(&rt, line.waiting() == text, reason);
-        hears(&rt, &mut line, text, reason)?;
-        check_that(
-            &rt,
-            line.items().len() == text.len().saturating_add(3),
-            reason,
-        );
-        check_that(&rt, line.failures() == 0, reason);
+        let Some(mut line) = line_with(rt.alloc(), losses, 20, None) else {
+            return check_that(&rt, false, "a line to try");
+        };
+        loses_so(&rt, &mut line, text, reason);
     }
-    Ok(())
 }
 
 /// The room, the first call that fails, what is answered where `Z` is sent and one thing is heard,
 /// three times, and why the row is here.
-static FAULTS: [(u32, Option<u64>, [Result<Heard, LineFault>; 3], &str); 6] = [
+type Row = (
+    u32,
+    Option<u64>,
+    [Result<Heard, LineFault>; 3],
+    &'static str,
+);
+
+static FAULTS: [Row; 6] = [
     (
         6,
         None,
@@ -170,51 +192,65 @@ fn answers(rt: &impl Abort, line: &mut MemoryLine, answer: Result<Heard, LineFau
     check_that(rt, line.failures() == failures, reason);
 }
 
+/// A line fails so; nothing where there is no line.
+fn fails_so(rt: &impl Abort, alloc: Global, row: &Row) -> Option<()> {
+    let (room, fail_at, outcomes, reason) = row;
+    let mut line = line_with(alloc, &[], *room, *fail_at)?;
+    for answer in outcomes {
+        answers(rt, &mut line, *answer, reason);
+    }
+    Some(())
+}
+
 #[test]
-fn how_it_fails(rt: HostRuntime) -> Result<(), Fail> {
+fn how_it_fails(rt: HostRuntime) {
     for row in &FAULTS {
-        let (room, fail_at, outcomes, reason) = *row;
-        let mut line = line_with(rt.alloc(), &[], room, fail_at)?;
-        for answer in outcomes {
-            answers(&rt, &mut line, answer, reason);
-        }
+        let tried = fails_so(&rt, rt.alloc(), row);
+        check_that(&rt, tried.is_some(), "a line to try");
     }
-    Ok(())
 }
 
-#[test]
-fn it_is_full_where_many_wait(rt: HostRuntime) -> Result<(), Fail> {
-    let mut line = line_with(rt.alloc(), &[], 100, None)?;
-    send_so_often(&mut line, 14)?;
-    check_that(&rt, line.waiting().len() == 56, "fourteen answers wait");
-    answers(
-        &rt,
-        &mut line,
-        Err(LineFault::Full),
-        "no room for a fifteenth",
-    );
-    let heard = line.hear()?;
-    check_that(&rt, heard == Heard::Got(b'?'), "the first that waits");
-    line.send(b'1')?;
-    check_that(&rt, line.waiting().len() == 56, "one came for one");
+/// On this line many wait, so that it is full; then one is heard.
+fn fills_up(rt: &impl Abort, line: &mut MemoryLine) {
+    check_that(rt, send_so_often(line, 14).is_ok(), "fourteen keys");
+    check_that(rt, line.waiting().len() == 56, "fourteen answers wait");
+    answers(rt, line, Err(LineFault::Full), "no room for a fifteenth");
+    hears_text(rt, line, b"?", "the first that waits");
+}
+
+/// A key that is answered by its echo has room.
+fn takes_one(rt: &impl Abort, line: &mut MemoryLine) {
+    check_that(rt, line.send(b'1').is_ok(), "room for one");
+    check_that(rt, line.waiting().len() == 56, "one came for one");
     let mode = line.odt().mode();
-    check_that(&rt, mode == Mode::Number(1, 1), "the key was taken");
-    Ok(())
+    check_that(rt, mode == Mode::Number(1, 1), "the key was taken");
 }
 
 #[test]
-fn a_line_on_which_much_is_said(rt: HostRuntime) -> Result<(), Fail> {
-    const TIMES: u32 = 20_000;
-    let mut line = line_with(rt.alloc(), &[Loss::Up(79_999)], 5 * TIMES, None)?;
-    for _ in 1..TIMES {
-        answers(&rt, &mut line, Ok(Heard::Got(b'?')), "a whole answer");
-        for character in b"\r\n@" {
-            let heard = line.hear()?;
-            check_that(&rt, heard == Heard::Got(*character), "a whole answer");
-        }
+fn it_is_full_where_many_wait(rt: HostRuntime) {
+    let Some(mut line) = line_with(rt.alloc(), &[], 100, None) else {
+        return check_that(&rt, false, "a line to try");
+    };
+    fills_up(&rt, &mut line);
+    takes_one(&rt, &mut line);
+}
+
+/// A whole answer is heard, so often.
+fn answers_so_often(rt: &impl Abort, line: &mut MemoryLine, times: u32) {
+    for _ in 0..times {
+        answers(rt, line, Ok(Heard::Got(b'?')), "a whole answer");
+        hears_text(rt, line, b"\r\n@", "a whole answer");
     }
-    line.send(b'Z')?;
-    hears(&rt, &mut line, b"?\r@", "the last line feed of all is lost")?;
+}
+
+#[test]
+fn a_line_on_which_much_is_said(rt: HostRuntime) {
+    const TIMES: u32 = 20_000;
+    let Some(mut line) = line_with(rt.alloc(), &[Loss::Up(79_999)], 5 * TIMES, None) else {
+        return check_that(&rt, false, "a line to try");
+    };
+    answers_so_often(&rt, &mut line, TIMES - 1);
+    check_that(&rt, send_so_often(&mut line, 1).is_ok(), "the last answer");
+    hears(&rt, &mut line, b"?\r@", "the last line feed of all is lost");
     answers(&rt, &mut line, Err(LineFault::Full), "no room is left");
-    Ok(())
 }

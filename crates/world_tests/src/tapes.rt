@@ -1,8 +1,10 @@
 //! The tapes that the tests load, with their plans and hosts.
+//!
+//! What could not be built is a `None`, which each test takes for a failure: to turn an error into a
+//! `Fail` makes a proof longer, at each `?`.
 
-use host_core::{BadProgress, HostCore, Progress};
+use host_core::{HostCore, Progress};
 use std::alloc::Global;
-use std::test::Fail;
 use tape_blocks::read_tape;
 use tape_image::Plan;
 
@@ -19,25 +21,23 @@ pub(crate) const HIGH_BYTE: [u8; 15] = [
 /// A tape with neither words nor a start.
 pub(crate) const NOTHING: [u8; 7] = [0x01, 0x00, 0x06, 0x00, 0x01, 0x00, 0xF8];
 
-/// The plan of a tape.
-pub(crate) fn plan_of(alloc: Global, tape: &[u8]) -> Result<Plan, Fail> {
-    let (tape, _) = read_tape(alloc, tape)?;
-    Ok(Plan::of(alloc, &tape)?)
+/// The plan of a tape; none where the tape is refused, or memory is.
+pub(crate) fn plan_of(alloc: Global, tape: &[u8]) -> Option<Plan> {
+    let (tape, _) = read_tape(alloc, tape).ok()?;
+    Plan::of(alloc, &tape).ok()
 }
 
-/// A host of this patience that has verified so many words of the plan, without the mark.
-pub(crate) fn host_for(plan: Plan, verified: u32, patience: u32) -> Result<HostCore, BadProgress> {
+/// A host of this patience that has verified so many words of the plan, without the mark; none where
+/// the plan has fewer.
+pub(crate) fn host_for(plan: Plan, verified: u32, patience: u32) -> Option<HostCore> {
     let progress = Progress {
         verified,
         going: false,
     };
-    match HostCore::new(plan, progress, patience) {
-        Ok(host) => Ok(host),
-        Err((_, why)) => Err(why),
-    }
+    HostCore::new(plan, progress, patience).ok()
 }
 
 /// A host of this patience that has verified nothing of the tape.
-pub(crate) fn fresh_host(alloc: Global, tape: &[u8], patience: u32) -> Result<HostCore, Fail> {
-    Ok(host_for(plan_of(alloc, tape)?, 0, patience)?)
+pub(crate) fn fresh_host(alloc: Global, tape: &[u8], patience: u32) -> Option<HostCore> {
+    host_for(plan_of(alloc, tape)?, 0, patience)
 }

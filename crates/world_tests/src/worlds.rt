@@ -5,7 +5,7 @@ use crate::tapes::{ONE_WORD, host_for, plan_of};
 use host_core::HostCore;
 use line_world::{Setup, World};
 use odt_machine::{LARGEST_WORDS, Mode, Odt, PLAIN_STYLE};
-use std::test::Fail;
+use std::alloc::Global;
 
 /// Why there is no world, where there is none.
 fn refusal_of(odt: Odt, core: HostCore, waiting: &[u8]) -> Option<Setup> {
@@ -63,14 +63,19 @@ const OPENINGS: [(&[u8], Mode, u32, Option<Setup>, &str); 7] = [
     ),
 ];
 
+/// How a world with these begins: why there is none, where there is none.
+fn opening_of(alloc: Global, waiting: &[u8], mode: Mode, verified: u32) -> Option<Option<Setup>> {
+    let odt = Odt::new(alloc, LARGEST_WORDS, PLAIN_STYLE).ok()?;
+    let odt = odt.with_mode(mode).ok()?;
+    let core = host_for(plan_of(alloc, &ONE_WORD)?, verified, 8)?;
+    Some(refusal_of(odt, core, waiting))
+}
+
 #[test]
-fn what_a_world_begins_with(rt: HostRuntime) -> Result<(), Fail> {
+fn what_a_world_begins_with(rt: HostRuntime) {
     for row in &OPENINGS {
         let (waiting, mode, verified, refusal, reason) = *row;
-        let odt = Odt::new(rt.alloc(), LARGEST_WORDS, PLAIN_STYLE)?.with_mode(mode)?;
-        let core = host_for(plan_of(rt.alloc(), &ONE_WORD)?, verified, 8)?;
-        let given = refusal_of(odt, core, waiting);
-        check_that(&rt, given == refusal, reason);
+        let given = opening_of(rt.alloc(), waiting, mode, verified);
+        check_that(&rt, given == Some(refusal), reason);
     }
-    Ok(())
 }

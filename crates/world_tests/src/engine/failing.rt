@@ -1,4 +1,6 @@
 use super::*;
+use crate::host::heard_of;
+use std::slice::Iter;
 
 /// The calls of a whole load, counted by hand: `h` hears one thing, `s` sends a key. A line each for
 /// `Z`, its answer, the address, the reading, the deposit, its answer, the address again, the reading
@@ -107,84 +109,72 @@ fn expected(call: usize) -> (Stop, usize) {
     (stop, kept)
 }
 
-/// What was said before the call with this number.
-fn said_before(alloc: Global, call: usize) -> Result<Vec<Item>, Fail> {
-    let mut items = Vec::new(alloc);
+/// The next thing that is said, at a call of this kind.
+fn said_at(kind: u8, keys: &mut Iter<u8>, heard: &mut Iter<u8>) -> Option<Item> {
+    match kind {
+        b's' => Some(Item::Sent(*keys.next()?)),
+        _ => Some(Item::Heard(heard_of(*heard.next()?))),
+    }
+}
+
+/// Whether this is what was said before the call with this number.
+fn is_said_before(call: usize, items: &[Item]) -> bool {
     let mut keys = KEYS.iter();
     let mut heard = HEARD.iter();
-    for kind in CALLS.as_bytes().iter().take(call.saturating_sub(1)) {
-        items.push(match kind {
-            b's' => Item::Sent(*keys.next().ok_or("a key")?),
-            _ => Item::Heard(match heard.next().ok_or("a thing heard")? {
-                b'~' => Heard::Quiet,
-                character => Heard::Got(*character),
-            }),
-        })?;
+    let mut is_so = items.len() == call.saturating_sub(1).min(CALLS.len());
+    for (item, kind) in items.iter().zip(CALLS.as_bytes()) {
+        is_so = said_at(*kind, &mut keys, &mut heard) == Some(*item) && is_so;
     }
-    Ok(items)
+    is_so
 }
 
 /// Whether a load whose call with this number fails stops so, and this is said and kept.
-fn stops_so(
-    alloc: Global,
-    call: usize,
-    stop: Stop,
-    items: &[Item],
-    kept: &[Kept],
-) -> Result<bool, Fail> {
+fn stops_so(call: usize, stop: Stop, items: &[Item], kept: &[Kept]) -> bool {
     let (expected_stop, count) = expected(call);
-    let news = whole_news()?;
-    let said = said_before(alloc, call)?;
-    Ok(stop == expected_stop && items == said.as_slice() && kept == &news[..count.min(2)])
+    stop == expected_stop && is_said_before(call, items) && is_kept(kept, count)
+}
+
+/// Whether a load over a line whose calls fail from this number on stops so.
+fn stops_from(alloc: Global, call: usize) -> Option<bool> {
+    let fail_at = Some(call as u64);
+    let outcome = driven(alloc, &Setting { fail_at, ..AMPLE })?;
+    let items = outcome.line.items();
+    Some(stops_so(call, outcome.stop, items, outcome.keep.kept()))
 }
 
 #[test]
-fn each_call_of_the_line_fails(rt: HostRuntime) -> Result<(), Fail> {
-    let alloc = rt.alloc();
+fn each_call_of_the_line_fails(rt: HostRuntime) {
     for call in 1..=LAST + 1 {
-        let fail_at = Some(call as u64);
-        let Outcome {
-            stop,
-            line,
-            keep,
-            ..
-        } = driven(alloc, Setting { fail_at, ..AMPLE })?;
-        let stops = stops_so(alloc, call, stop, line.items(), keep.kept())?;
+        let stops = stops_from(rt.alloc(), call) == Some(true);
         assert!(rt; stops, "call {call}");
     }
-    Ok(())
 }
 
-/// A load over a line whose call with this number fails.
-fn driven_once(
-    alloc: Global,
-    call: usize,
-) -> Result<(Stop, FailsOnce<MemoryLine>, MemoryKeep), Fail> {
-    let mut line = FailsOnce {
-        line: line_of(alloc, AMPLE)?,
+/// A line whose call with this number fails.
+fn failing_once(alloc: Global, call: usize) -> Option<FailsOnce<MemoryLine>> {
+    Some(FailsOnce {
+        line: line_of(alloc, &AMPLE)?,
         fail_at: call as u64,
         calls: 0,
         failures: 0,
         fault: None,
-    };
-    let mut keep = MemoryKeep::new(alloc, 2, None)?;
-    let host = fresh_host(alloc, &ONE_WORD, 8)?;
-    let (_, stop) = drive_on(host, &mut line, &mut keep, 1000);
-    Ok((stop, line, keep))
+    })
+}
+
+/// Whether a load over a line whose call with this number fails stops so, and how many calls there were.
+fn stops_at(alloc: Global, call: usize) -> Option<(bool, u64)> {
+    let mut keep = MemoryKeep::new(alloc, 2, None).ok()?;
+    let mut line = failing_once(alloc, call)?;
+    let (stop, _) = driven_over(alloc, &mut line, &mut keep, (8, 1000))?;
+    let stops = stops_so(call, stop, line.line.items(), keep.kept());
+    Some((stops, line.calls))
 }
 
 #[test]
-fn one_call_of_the_line_fails(rt: HostRuntime) -> Result<(), Fail> {
-    let alloc = rt.alloc();
+fn one_call_of_the_line_fails(rt: HostRuntime) {
     for call in 1..=LAST {
-        let (stop, line, keep) = driven_once(alloc, call)?;
-        let stops = stops_so(alloc, call, stop, line.line.items(), keep.kept())?;
+        let (stops, calls) = stops_at(rt.alloc(), call).unwrap_or((false, 0));
         assert!(rt; stops, "call {call}");
-        check_that(
-            &rt,
-            line.calls == call as u64,
-            "no call after the failing one",
-        );
+        check_that(&rt, calls == call as u64, "no call after the failing one");
     }
-    Ok(())
 }

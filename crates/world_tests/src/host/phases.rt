@@ -91,50 +91,54 @@ const OTHERS: [(&str, u8, Option<u8>, Option<End>); 12] = [
 ];
 
 /// A host for the one word that has heard the text.
-fn host_after(alloc: Global, patience: u32, text: &str) -> Result<HostCore, Fail> {
-    let mut host = fresh_host(alloc, &ONE_WORD, patience)?;
-    let _ = typed(alloc, &mut host, text)?;
-    Ok(host)
+fn host_after(alloc: Global, text: &str) -> Option<HostCore> {
+    let mut host = fresh_host(alloc, &ONE_WORD, 1)?;
+    types_only_z(&mut host, text);
+    Some(host)
 }
 
 /// The key that a host which has heard the text sends at a character, the mishaps then, and the key at
 /// the silence after it.
-fn steps_after(
-    alloc: Global,
-    text: &str,
-    character: u8,
-) -> Result<(Option<u8>, u32, Option<u8>), Fail> {
-    let mut host = host_after(alloc, 1, text)?;
+fn steps_after(alloc: Global, text: &str, character: u8) -> Option<(Option<u8>, u32, Option<u8>)> {
+    let mut host = host_after(alloc, text)?;
     let key = answer(&mut host, Heard::Got(character));
     let spent = host.spent();
-    Ok((key, spent, answer(&mut host, Heard::Quiet)))
+    Some((key, spent, answer(&mut host, Heard::Quiet)))
+}
+
+/// Whether a host that has heard the text takes the character as the row says.
+fn is_taken_so(alloc: Global, row: &Row, character: u8) -> Option<bool> {
+    let (before, listed, key) = *row;
+    let (key_sent, spent, then) = steps_after(alloc, before, character)?;
+    if listed.contains(&character) {
+        Some((key_sent, spent) == (key, 0))
+    } else {
+        Some((key_sent, spent, then) == (None, 1, Some(b'Z')))
+    }
 }
 
 #[test]
-fn each_phase_lists_its_characters(rt: HostRuntime) -> Result<(), Fail> {
+fn each_phase_lists_its_characters(rt: HostRuntime) {
     for row in &WAITING {
-        let (before, listed, key) = *row;
         for character in 0..=255 {
-            let (key_sent, spent, then) = steps_after(rt.alloc(), before, character)?;
-            let is_so = if listed.contains(&character) {
-                (key_sent, spent) == (key, 0)
-            } else {
-                (key_sent, spent, then) == (None, 1, Some(b'Z'))
-            };
-            check_that(&rt, is_so, before);
+            let is_so = is_taken_so(rt.alloc(), row, character) == Some(true);
+            check_that(&rt, is_so, row.0);
         }
     }
-    Ok(())
+}
+
+/// What a host that has heard the text does next: the key that it sends, its end and the mishaps.
+fn end_after(alloc: Global, text: &str, heard: u8) -> Option<(Option<u8>, Option<End>, u32)> {
+    let mut host = host_after(alloc, text)?;
+    let key = answer(&mut host, heard_of(heard));
+    Some((key, host.end(), host.spent()))
 }
 
 #[test]
-fn each_end_and_each_silence(rt: HostRuntime) -> Result<(), Fail> {
+fn each_end_and_each_silence(rt: HostRuntime) {
     for row in &OTHERS {
         let (before, heard, key, end) = *row;
-        let mut host = host_after(rt.alloc(), 1, before)?;
-        let key_sent = answer(&mut host, heard_of(heard));
-        check_that(&rt, (key_sent, host.end()) == (key, end), before);
-        check_that(&rt, host.spent() == 0, before);
+        let ended = end_after(rt.alloc(), before, heard);
+        check_that(&rt, ended == Some((key, end, 0)), before);
     }
-    Ok(())
 }

@@ -18,3 +18,6 @@ taken_more a b d bytes piece n limit before read fits = record {
 pub returns-in_err-extend_from_slice-clause-err : goal.returns-in_err-extend_from_slice-clause-err
 returns-in_err-extend_from_slice-clause-err g c =
     on_err _ _ (taken_more _ _ _ c.loop-piece.bytes.items _ c.in_ok-count.count _ c.loop-piece.invariant.taken c.in_ok-count.ensures.bytes.0 (search rules))
+
+pub returns-clause-ok : goal.returns-clause-ok
+returns-clause-ok g c = search rules

@@ -1,7 +1,8 @@
-use Rattle.std.proofs.Common.{◌≡◌, ◌∙◌, ap}
+use Rattle.std.proofs.Common.{◌≡◌, ◌∙◌, ap, arith}
 use Rattle.std.proofs.lemmas.List.{take_all}
 use Rattle.tape_blocks.specs.Tape.{TapeValue, written_length}
 use Rattle.tape_blocks.proofs.Plain.{plain-length}
+use Rattle.std.proofs.lemmas.Grind.{common_steps}
 use Rattle.tape_blocks.proofs.tape.Tape.written_length.Goals as goal
 
 pub returns-clause-plain : goal.returns-clause-plain
@@ -10,3 +11,6 @@ returns-clause-plain c =
     let counted : c.loop-block.length ≡ written_length c.args.self.now.blocks =
     c.loop-block.invariant ∙ ap written_length (whole ∙ c.deref-block-items.ensures.value ∙ ap (λ (t : TapeValue). t.blocks) c.self.view_is) in
     plain-length c.args.self.now c.loop-block.length counted
+
+pub loop-block-preserved : goal.loop-block-preserved
+loop-block-preserved c = grind (arith, common_steps)

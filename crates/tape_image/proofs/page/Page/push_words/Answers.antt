@@ -1,4 +1,4 @@
-use Rattle.std.proofs.Common.{◌≡◌, ◌+◌, ◌*◌, ◌++◌, [], ◌∷◌, arith, sym, ap, ◌∙◌}
+use Rattle.std.proofs.Common.{◌≡◌, ◌+◌, ◌*◌, ◌++◌, [], ◌∷◌, arith, sym, ap, ◌∙◌, rules}
 use Rattle.std.specs.Option.{option_to_list}
 use Rattle.std.specs.FinMap.{get}
 use Rattle.std.proofs.lemmas.List.{append-nil}
@@ -26,3 +26,6 @@ loop-place-preserved c image within start =
           ap (λ v. v.items) w.words-is ∙ so_far ∙ sym (append-nil (words_below image n))
           ∙ ap (λ o. words_below image n ++ option_to_list o) (sym w.in_default.is) ∙ made
     ]
+
+pub returns : goal.returns
+returns c = search rules

@@ -1,0 +1,8 @@
+use Rattle.std.proofs.Common.{rules}
+use Rattle.host_core.proofs.host.HostCore.taken.Goals as goal
+
+pub returns-in-Stray-2-clause-next : goal.returns-in-Stray-2-clause-next
+returns-in-Stray-2-clause-next c = search rules
+
+pub returns-in-Stray-2-clause-key : goal.returns-in-Stray-2-clause-key
+returns-in-Stray-2-clause-key c = search rules

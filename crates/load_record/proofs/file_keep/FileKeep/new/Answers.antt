@@ -1,0 +1,5 @@
+use Rattle.std.proofs.Common.{rules}
+use Rattle.load_record.proofs.file_keep.FileKeep.new.Goals as goal
+
+pub returns : goal.returns
+returns g c = search rules

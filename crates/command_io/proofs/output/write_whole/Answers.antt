@@ -1,4 +1,4 @@
-use Rattle.std.proofs.Common.{ℕ, List, Option, ◌-◌, ◌++◌, length, take, drop, sym, ap, ◌∙◌, append_assoc, take-append-drop}
+use Rattle.std.proofs.Common.{rules, ℕ, List, Option, ◌-◌, ◌++◌, length, take, drop, sym, ap, ◌∙◌, append_assoc, take-append-drop}
 use Rattle.std.proofs.lemmas.List.{take_rest}
 use Rattle.std.proofs.KnownBytes.{Appends-trans}
 use Rattle.std.specs.Io.KnownBytes.{Appends}
@@ -17,3 +17,10 @@ moves_on a b d text left n before wrote = record {
 
 pub loop-left-preserved : goal.loop-left-preserved
 loop-left-preserved g c = moves_on _ _ _ _ _ _ c.loop-left.invariant c.in-Ok.ensures.bytes
+
+pub returns-in-Ok-eq0-clause-err : goal.returns-in-Ok-eq0-clause-err
+returns-in-Ok-eq0-clause-err g c = (
+  c.loop-left.left.now,
+  search rules,
+  record { written = c.loop-left.invariant.written; whole = c.loop-left.invariant.whole; appended = search rules },
+)

@@ -1,5 +1,5 @@
 -- How the program's failures are named, told and ended with (this project's own).
-use Rattle.std.specs.Prelude.{◌≡◌, ◌⊎◌, ℕ, ◌-◌, nat_lt, if◌then◌else◌, List, [], ◌∷◌, ◌++◌, length, slice_get, Option, Some, None, codes, decimal, encode_utf8}
+use Rattle.std.specs.Prelude.{◌≡◌, ◌⊎◌, ℕ, Bool, ◌-◌, nat_lt, if◌then◌else◌, List, [], ◌∷◌, ◌++◌, length, slice_get, Option, Some, None, codes, decimal, encode_utf8}
 use Rattle.std.specs.Borrow.{Bor}
 use Rattle.std.specs.Char.{is_control}
 use Rattle.std.specs.Char.Escape.{escape_default}
@@ -12,7 +12,7 @@ use Rattle.command_io.specs.Output.{WritesPrefix}
 use Rattle.command_io.specs.Text.{line}
 use Rattle.endings.specs.declared.failure.Failure.{Failure}
 use Rattle.endings.specs.declared.failure.OneTape.{OneTape}
-use Rattle.endings.specs.declared.failure.Failure.TheVariants.{CannotRead, CannotWrite, CannotWriteFile, CannotConnect, LineFailed, TapeRefused, OneTapeRefused, ScriptRefused, RecordRefused, TooLarge, BadWord, NoMemory}
+use Rattle.endings.specs.declared.failure.Failure.TheVariants.{CannotRead, CannotWrite, CannotWriteFile, RecordInUse, CannotConnect, LineFailed, StartInDoubt, TapeRefused, OneTapeRefused, ScriptRefused, RecordRefused, TooLarge, BadWord, NoMemory}
 use Rattle.command_io.specs.declared.fault.CommandFault.{CommandFault}
 use Rattle.command_io.specs.declared.fault.CommandFault.TheVariants as fault
 use Rattle.load_engine.specs.declared.stop.Stop.{Stop}
@@ -28,8 +28,10 @@ abbrev pub status_of : Failure → Status
 status_of (CannotRead name) = DeviceFailed
 status_of CannotWrite = DeviceFailed
 status_of (CannotWriteFile name) = DeviceFailed
+status_of (RecordInUse name) = DeviceFailed
 status_of (CannotConnect address) = DeviceFailed
 status_of LineFailed = DeviceFailed
+status_of StartInDoubt = DeviceFailed
 status_of (TapeRefused refusal) = Refused
 status_of (OneTapeRefused tape) = Refused
 status_of (ScriptRefused number) = Refused
@@ -57,7 +59,9 @@ failure_words (CannotRead name) = codes "cannot read "
 failure_words CannotWrite = codes "cannot write output"
 failure_words (CannotWriteFile name) = codes "cannot write "
 failure_words (CannotConnect address) = codes "cannot connect to "
+failure_words (RecordInUse name) = codes "record in use: "
 failure_words LineFailed = codes "line failed"
+failure_words StartInDoubt = codes "line failed\nldaodt: the start may have gone out: look at the machine first"
 failure_words (TapeRefused refusal) = read_error_text (reading.Tape refusal)
 failure_words (OneTapeRefused tape) = codes "tape " ++ one_tape_text tape
 failure_words (ScriptRefused number) = codes "script refused at line " ++ decimal number
@@ -71,6 +75,7 @@ failure_words NoMemory = read_error_text reading.Memory
 abbrev pub failure_name : Failure → List ℕ
 failure_name (CannotRead name) = shown_name name.now
 failure_name (CannotWriteFile name) = shown_name name.now
+failure_name (RecordInUse name) = shown_name name.now
 failure_name (CannotConnect address) = shown_name address.now
 failure_name other = []
 
@@ -97,6 +102,11 @@ abbrev pub NamesWrittenFile : List ℕ → Failure → Type 0
 NamesWrittenFile text (CannotWriteFile name) = name.now ≡ text
 NamesWrittenFile text other = ⊥
 
+-- the failure is that another load holds the record's file of this name
+abbrev pub NamesHeldFile : List ℕ → Failure → Type 0
+NamesHeldFile text (RecordInUse name) = name.now ≡ text
+NamesHeldFile text other = ⊥
+
 -- the failure is that this address can't be connected to
 abbrev pub NamesAddress : List ℕ → Failure → Type 0
 NamesAddress text (CannotConnect address) = address.now ≡ text
@@ -105,18 +115,22 @@ NamesAddress text other = ⊥
 -- the failure that a load's fault is, where its console and its record have these names
 abbrev pub IsLoadFailureOf : LoadFault → List ℕ → List ℕ → Failure → Type 0
 IsLoadFailureOf load.ReadRecord address file failure = NamesFile file failure
+IsLoadFailureOf load.RecordInUse address file failure = NamesHeldFile file failure
 IsLoadFailureOf (load.Record reason) address file failure = failure ≡ RecordRefused reason
 IsLoadFailureOf load.Connect address file failure = NamesAddress address failure
 IsLoadFailureOf load.WriteRecord address file failure = NamesWrittenFile file failure
 IsLoadFailureOf load.WriteOutput address file failure = failure ≡ CannotWrite
 IsLoadFailureOf load.Memory address file failure = failure ≡ NoMemory
 
+-- how a load fails whose line did: once the start was typed, or may have been, it says so
+abbrev pub line_failure : Bool → Failure
+line_failure marked = if marked then StartInDoubt else LineFailed
+
 -- how a load that was reported fails all the same: the line failed, or the record's keeper
-abbrev pub IsStopFailure : Stop → List ℕ → Failure → Type 0
-IsStopFailure (stop.LineFailed fault) file failure = failure ≡ LineFailed
-IsStopFailure (stop.KeepFailed fault) file failure = NamesWrittenFile file failure
-IsStopFailure (stop.Ended end) file failure = ⊥
-IsStopFailure stop.TurnsOver file failure = ⊥
+abbrev pub IsStopFailure : Stop → Bool → List ℕ → Failure → Type 0
+IsStopFailure (stop.LineFailed fault) marked file failure = failure ≡ line_failure marked
+IsStopFailure (stop.KeepFailed fault) marked file failure = NamesWrittenFile file failure
+IsStopFailure other marked file failure = ⊥
 
 -- the failure that a command's fault is, where its tapes and its script have these names: of several tapes the number is told
 abbrev pub IsFailureOf : CommandFault → List (Bor (List ℕ)) → List ℕ → Failure → Type 0

@@ -14,10 +14,14 @@ pub enum Failure<'a> {
     CannotWrite,
     /// The record's file of this name can't be written.
     CannotWriteFile(&'a str),
+    /// Another load holds the record's file of this name.
+    RecordInUse(&'a str),
     /// No connection to this HOST:PORT could be made.
     CannotConnect(&'a str),
-    /// The line failed during a load.
+    /// The line failed during a load, before the start was typed.
     LineFailed,
+    /// The line failed once the start was typed or may have been: the program may be running.
+    StartInDoubt,
     /// The only tape is refused.
     TapeRefused(Fault),
     /// One of several tapes is refused.
@@ -78,6 +82,7 @@ impl<'a> Failure<'a> {
     {
         match fault {
             LoadFault::ReadRecord => Failure::CannotRead(file),
+            LoadFault::RecordInUse => Failure::RecordInUse(file),
             LoadFault::Record(why) => Failure::RecordRefused(why),
             LoadFault::Connect => Failure::CannotConnect(address),
             LoadFault::WriteRecord => Failure::CannotWriteFile(file),
@@ -94,8 +99,10 @@ impl<'a> Failure<'a> {
             Failure::CannotRead(_)
             | Failure::CannotWrite
             | Failure::CannotWriteFile(_)
+            | Failure::RecordInUse(_)
             | Failure::CannotConnect(_)
-            | Failure::LineFailed => Status::DeviceFailed,
+            | Failure::LineFailed
+            | Failure::StartInDoubt => Status::DeviceFailed,
             Failure::TapeRefused(_)
             | Failure::OneTapeRefused(_)
             | Failure::ScriptRefused(_)

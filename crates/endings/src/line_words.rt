@@ -25,7 +25,11 @@ impl fmt::Display for Words<'_> {
             Failure::CannotWrite => f.write_str("cannot write output"),
             Failure::CannotWriteFile(_) => f.write_str("cannot write "),
             Failure::CannotConnect(_) => f.write_str("cannot connect to "),
+            Failure::RecordInUse(_) => f.write_str("record in use: "),
             Failure::LineFailed => f.write_str("line failed"),
+            Failure::StartInDoubt => f.write_str(
+                "line failed\nldaodt: the start may have gone out: look at the machine first",
+            ),
             Failure::TapeRefused(fault) => write!(f, "{}", ReadError::Tape(fault)),
             Failure::OneTapeRefused(tape) => write!(f, "tape {tape}"),
             Failure::ScriptRefused(line) => write!(f, "script refused at line {line}"),

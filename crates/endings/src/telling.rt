@@ -68,8 +68,10 @@ fn write_shown_name<W: Write>(out: &mut W, failure: Failure<'_>) -> Result<(), W
     ensures err { OnErr result (WritesPrefix (W.contents out.old) (W.contents out.new) (failure_name failure.entry)) }
 {
     match failure {
-        Failure::CannotRead(name) | Failure::CannotWriteFile(name) | Failure::CannotConnect(name) =>
-            write_name(out, name),
+        Failure::CannotRead(name)
+        | Failure::CannotWriteFile(name)
+        | Failure::RecordInUse(name)
+        | Failure::CannotConnect(name) => write_name(out, name),
         _ => Ok(()),
     }
 }

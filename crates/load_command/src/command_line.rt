@@ -6,7 +6,8 @@ mod commands;
 mod texts;
 
 use clap::{ArgMatches, Error};
-use commands::{ADDRESS, MORE, PATIENCE, QUIET, RECORD, SCRIPT, STYLE, TAPE, WORDS};
+use commands::{ADDRESS, MORE, PATIENCE, QUIET, RECHECK, RECORD, SCRIPT, STYLE, TAPE, WORDS};
+use machine_load::LoadOptions;
 use odt_machine::{LARGEST_WORDS, PLAIN_STYLE, Style};
 use requests::{Console, Load, Request};
 use std::alloc::{AllocError, Global};
@@ -149,7 +150,10 @@ fn load_of<'a>(found: &ArgMatches<'a>) -> Result<Load<'a>, NoRequest> {
     Ok(Load {
         address: text_of(found, ADDRESS)?,
         record: found.get_str(RECORD),
-        patience: u32::from(number_of(found, PATIENCE, PLAIN_PATIENCE)?),
+        options: LoadOptions {
+            patience: u32::from(number_of(found, PATIENCE, PLAIN_PATIENCE)?),
+            recheck: found.get_flag(RECHECK),
+        },
         quiet_ms: u32::from(number_of(found, QUIET, PLAIN_QUIET)?),
     })
 }

@@ -12,11 +12,11 @@ use crate::command_line::{NoRequest, parse};
 use clap::Error;
 use clap::error::ErrorKind;
 use endings::{Failure, Status, refuse, show, tell};
+use machine_load::Locks;
 use requests::attempt;
 use std::alloc::Global;
 use std::io::{Print, Read, Write};
 use std::net::Net;
-use std::rt::Files;
 use std::time::Clock;
 
 /// What is said of words that the parser let pass and that mean nothing.
@@ -27,7 +27,7 @@ const MEANINGLESS: &str = "ldaodt: the command line is not understood\n";
 /// Reports and help go to `out`, which is flushed; refused command lines and faults go to `err`,
 /// a fault as one line. What can't be written to `err` is not told. A load shows on the terminal, where
 /// there is one, how far it is.
-pub(crate) fn program<F: Files + Net + Clock, R: Read, W: Write, E: Write, T: Print>(
+pub(crate) fn program<F: Locks + Net + Clock, R: Read, W: Write, E: Write, T: Print>(
     rt: &F,
     alloc: Global,
     words: &[String],
@@ -47,7 +47,7 @@ pub(crate) fn program<F: Files + Net + Clock, R: Read, W: Write, E: Write, T: Pr
 }
 
 /// Does what the words ask for, or explains them.
-fn answer<F: Files + Net + Clock, R: Read, W: Write, E: Write, T: Print>(
+fn answer<F: Locks + Net + Clock, R: Read, W: Write, E: Write, T: Print>(
     rt: &F,
     alloc: Global,
     words: &[String],

@@ -12,6 +12,16 @@ pub enum Version {
 }
 
 impl Version {
+    /// The first line of a record of this version, without its LF.
+    pub fn header(self) -> &'static [u8]
+        ensures { result.now ≡ header self }
+    {
+        match self {
+            Version::First => b"LDAODT 1",
+            Version::Second => b"LDAODT 2",
+        }
+    }
+
     /// The version that a record's first line names, given without its LF. None where it is no
     /// header.
     pub(crate) fn of_header(line: &[u8]) -> Option<Version>

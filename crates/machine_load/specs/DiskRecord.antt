@@ -1,13 +1,10 @@
 -- A record that is begun anew, as its keeper knows it.
-use Rattle.std.specs.Prelude.{◌≡◌, ◌⊎◌, ℕ, false, List, Option}
+use Rattle.std.specs.Prelude.{◌≡◌, ℕ, false, List, Option}
 use Rattle.std.specs.Io.KnownBytes.{Appends}
 use Rattle.tape_image.specs.Plan.{PlanValue}
-use Rattle.load_devices.specs.declared.fault.KeepFault.TheVariants.{Write}
 use Rattle.load_record.specs.declared.version.Version.TheVariants.{Second}
 use Rattle.load_record.specs.Keeper.{Keeper}
 use Rattle.load_record.specs.RecordText.{open_run, record_text}
-use Rattle.machine_load.specs.declared.begin_fault.BeginFault.{BeginFault}
-use Rattle.machine_load.specs.declared.begin_fault.BeginFault.TheVariants.{Keep, Memory}
 
 -- the keeper has written the record of the plan's first k words, and nothing behind it; it knows which run line stands
 -- open at the end, and no call of it failed
@@ -16,7 +13,3 @@ pub record HasBegun (plan : PlanValue) (k : ℕ) (keeper : Keeper) : Type 0 wher
   pub written : Appends before keeper.text (record_text Second plan k false)
   pub knows : keeper.run ≡ open_run Second plan k
   pub sound : keeper.failures ≡ 0
-
--- a record is not begun where it can't be written, or memory is wanting
-abbrev pub IsUnbegun : BeginFault → Type 0
-IsUnbegun fault = (fault ≡ Keep Write) ⊎ (fault ≡ Memory)

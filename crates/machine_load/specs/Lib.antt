@@ -3,5 +3,7 @@ pub mod Durable
 pub mod Load
 pub mod LoadFault
 pub mod LoadReport
+pub mod OldRecord
 pub mod Pace
+pub mod RecordFault
 pub mod Step

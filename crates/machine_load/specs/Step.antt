@@ -1,32 +1,43 @@
 -- What a load asks of its surroundings, and what they answer.
-use Rattle.std.specs.Prelude.{Result, Ok, Err}
+use Rattle.std.specs.Prelude.{Bool, if◌then◌else◌, Result, Ok, Err}
 use Rattle.load_devices.specs.declared.fault.LineFault.{LineFault}
-use Rattle.command_io.specs.declared.input.InputFault.{InputFault}
-use Rattle.command_io.specs.declared.input.InputFault.TheVariants as input
-use Rattle.machine_load.specs.declared.begin_fault.BeginFault.{BeginFault}
-use Rattle.machine_load.specs.declared.begin_fault.BeginFault.TheVariants as begin
+use Rattle.machine_load.specs.declared.old_record.OldRecord.{OldRecord}
+use Rattle.machine_load.specs.declared.record_fault.RecordFault.{RecordFault}
+use Rattle.machine_load.specs.declared.record_fault.RecordFault.TheVariants as fault
 
--- the record of earlier lives is read, a connection is made, the record is begun anew; or one of these fails, or memory is wanting
+-- the record of earlier lives is read, or a record that is protected, a connection is made, the record is begun anew; or one of these
+-- fails, since another load holds the record, or for another reason, or memory is wanting
 pub data Step : Type 0 where
   ReadRecord : Step
+  ReadProtected : Step
   Connect : Step
   BeginRecord : Step
+  InUse : Step
   NotRead : Step
   NotConnected : Step
   NotBegun : Step
   OutOfMemory : Step
 
+-- the record was read, and may be written or may not
+abbrev pub reading : Bool → Step
+reading writable = if writable then ReadRecord else ReadProtected
+
+-- what a record that failed was asked for in vain
+abbrev pub failing : RecordFault → Step
+failing fault.Read = NotRead
+failing fault.InUse = InUse
+failing fault.Write = NotBegun
+failing fault.Memory = OutOfMemory
+
 -- what was answered where the record was asked for, and a connection, and a record begun anew
-abbrev pub read_step : {A : Type 0} → Result A InputFault → Step
-read_step (Ok bytes) = ReadRecord
-read_step (Err input.Read) = NotRead
-read_step (Err input.Memory) = OutOfMemory
+abbrev pub read_step : Result OldRecord RecordFault → Step
+read_step (Ok old) = reading old.writable
+read_step (Err fault) = failing fault
 
 abbrev pub connect_step : {A : Type 0} → Result A LineFault → Step
 connect_step (Ok line) = Connect
 connect_step (Err fault) = NotConnected
 
-abbrev pub begin_step : {A : Type 0} → Result A BeginFault → Step
+abbrev pub begin_step : {A : Type 0} → Result A RecordFault → Step
 begin_step (Ok keeper) = BeginRecord
-begin_step (Err (begin.Keep fault)) = NotBegun
-begin_step (Err begin.Memory) = OutOfMemory
+begin_step (Err fault) = failing fault

@@ -1,5 +1,5 @@
 //! Writing to a file so that what is flushed is on the disk.
-ghost use Rattle.std.specs.Prelude.{ℕ, List, Option, None, OnOk};
+ghost use Rattle.std.specs.Prelude.{◌≡◌, ℕ, List, Option, None, OnOk};
 ghost use Rattle.std.specs.Io.KnownBytes.{Keeps};
 ghost use Rattle.machine_load.specs.Durable.{IsOnDisk};
 
@@ -35,13 +35,27 @@ impl<F: Write + OpenFile> SyncWrite for F {
 pub struct DurableWriter<F: SyncWrite> {
     /// Where it writes.
     pub file: F,
+
+    /// How many bytes it has written.
+    pub length: u64,
+}
+
+impl<F: SyncWrite> DurableWriter<F> {
+    /// A writer to a file, which has written nothing yet.
+    pub fn new(file: F) -> DurableWriter<F>
+        ensures { result ≡ record { file = file; length = 0 } }
+    {
+        DurableWriter { file, length: 0 }
+    }
 }
 
 impl<F: SyncWrite> Write for DurableWriter<F> {
     ghost contents = { λ writer. F.contents writer.file };
 
     fn write(&mut self, buf: &[u8]) -> io::Result<usize> {
-        self.file.write(buf)
+        let count = self.file.write(buf)?;
+        self.length = self.length.saturating_add(count as u64);
+        Ok(count)
     }
 
     fn flush(&mut self) -> io::Result<()>

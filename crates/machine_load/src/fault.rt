@@ -1,5 +1,5 @@
-use crate::begin_fault::BeginFault;
-use command_io::{InputFault, WriteFailed};
+use crate::record_fault::RecordFault;
+use command_io::WriteFailed;
 use load_devices::LineFault;
 use load_record::RecordError;
 use std::alloc::AllocError;
@@ -10,13 +10,16 @@ pub enum LoadFault {
     /// The record can't be opened or read.
     ReadRecord,
 
+    /// Another load holds the record. Nothing was done.
+    RecordInUse,
+
     /// The record is none of this plan's load: why.
     Record(RecordError),
 
     /// No connection could be made.
     Connect,
 
-    /// The record can't be written anew. Nothing was sent.
+    /// The record may not be written, or can't be written anew. Nothing was sent.
     WriteRecord,
 
     /// The report can't be written. What was sent was sent, and what was kept is kept.
@@ -26,16 +29,18 @@ pub enum LoadFault {
     Memory,
 }
 
-impl From<InputFault> for LoadFault {
+impl From<RecordFault> for LoadFault {
     ghost use Rattle.std.specs.Prelude.{◌≡◌};
-    ghost use Rattle.machine_load.specs.LoadFault.{fault_of_input};
+    ghost use Rattle.machine_load.specs.LoadFault.{fault_of_record};
 
-    ghost from_gives = { λ input fault. fault ≡ fault_of_input input };
+    ghost from_gives = { λ why fault. fault ≡ fault_of_record why };
 
-    fn from(input: InputFault) -> LoadFault {
-        match input {
-            InputFault::Read => LoadFault::ReadRecord,
-            InputFault::Memory => LoadFault::Memory,
+    fn from(why: RecordFault) -> LoadFault {
+        match why {
+            RecordFault::Read => LoadFault::ReadRecord,
+            RecordFault::InUse => LoadFault::RecordInUse,
+            RecordFault::Write => LoadFault::WriteRecord,
+            RecordFault::Memory => LoadFault::Memory,
         }
     }
 }
@@ -59,20 +64,6 @@ impl From<LineFault> for LoadFault {
 
     fn from(_line: LineFault) -> LoadFault {
         LoadFault::Connect
-    }
-}
-
-impl From<BeginFault> for LoadFault {
-    ghost use Rattle.std.specs.Prelude.{◌≡◌};
-    ghost use Rattle.machine_load.specs.LoadFault.{fault_of_begin};
-
-    ghost from_gives = { λ begin fault. fault ≡ fault_of_begin begin };
-
-    fn from(begin: BeginFault) -> LoadFault {
-        match begin {
-            BeginFault::Keep(_) => LoadFault::WriteRecord,
-            BeginFault::Memory => LoadFault::Memory,
-        }
     }
 }
 

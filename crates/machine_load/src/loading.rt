@@ -1,22 +1,28 @@
 //! The load itself.
-ghost use Rattle.std.specs.Prelude.{◌≡◌, [], ◌∷◌, None, IfOk, IfErr, OnOk};
+ghost use Rattle.std.specs.Prelude.{◌≡◌, ◌⊎◌, true, [], ◌∷◌, None, Ok, Err, IfOk, IfErr, OnOk};
 ghost use Rattle.std.specs.Io.KnownBytes.{Appends, Keeps};
 ghost use Rattle.host_core.specs.Core.{ended};
 ghost use Rattle.load_devices.specs.Told.{Gains};
-ghost use Rattle.machine_load.specs.Load.{IsBegun, IsDriven, IsLife, IsOpening, IsReported};
+ghost use Rattle.host_core.specs.Opening.{refusal_of};
+ghost use Rattle.load_record.specs.Reading.{Says};
+ghost use Rattle.machine_load.specs.Load.{IsBegun, IsDriven, IsLife, IsOpening, IsReported, words_taken};
 ghost use Rattle.machine_load.specs.LoadFault.{IsLoadFault, IsOpeningFault, IsDrivingFault, IsReportFault};
 ghost use Rattle.machine_load.specs.LoadReport.{load_report};
-ghost use Rattle.machine_load.specs.Step.{ReadRecord, Connect, BeginRecord};
+ghost use Rattle.machine_load.specs.OldRecord.{HoldsNoRecord};
+ghost use Rattle.machine_load.specs.Step.{reading, Connect, BeginRecord};
 
 use crate::fault::LoadFault;
+use crate::old_record::holds_no_record;
+use crate::options::LoadOptions;
+use crate::outcome::Outcome;
 use crate::report::put_load_report;
 use crate::surroundings::Surroundings;
 use crate::watched::{Onlooker, WatchedKeeper, WatchedLine};
 use command_io::write_and_flush;
-use host_core::HostCore;
+use host_core::{HostCore, Progress};
 use load_devices::{Keep, Line};
 use load_engine::{Stop, drive};
-use load_record::read_record;
+use load_record::{RecordError, read_record};
 use std::alloc::Global;
 use std::io::Write;
 use tape_image::Plan;
@@ -29,62 +35,98 @@ const REPORT_ROOM: usize = 128;
 
 /// Loads a plan through the console that the surroundings connect to, and reports how far that came.
 ///
-/// The record of earlier lives is read first. A life that it ends at once, as one whose start was
-/// typed before, is reported with no connection, and its record stays as it is. Else a connection is
-/// made, the record is written anew with the words that it said were verified, and the engine drives
-/// for 10,000,000 turns at most. The report is of the core that the engine gives back.
+/// The record of earlier lives is read first, and held from there on. A life that it ends at once, as
+/// one whose start was typed before, is reported with no connection, and its record stays as it is.
+/// Else a connection is made, the record is written anew with the words that count as verified, and
+/// the engine drives for 10,000,000 turns at most. The report is of the core that the engine gives
+/// back. Where each word is to be looked at again, no word counts as verified; a typed start does.
 ///
-/// `ReadRecord`, `Record` and `Connect` come with nothing reported and the record as it was,
-/// `WriteRecord` before the first key. `WriteOutput` is a report that could not be written whole.
-/// `Memory` comes only where a growth was refused.
+/// `ReadRecord`, `RecordInUse`, `Record` and `Connect` come with nothing reported and the record as it
+/// was, `WriteRecord` before the first key, and before the connection where the record is protected.
+/// `WriteOutput` is a report that could not be written whole. `Memory` comes only where a growth was
+/// refused.
 pub fn load<S: Surroundings, W: Write, O: Onlooker>(
     alloc: Global,
     plan: Plan,
-    patience: u32,
+    options: LoadOptions,
     around: &mut S,
     out: &mut W,
     onlooker: &O,
-) -> Result<Stop, LoadFault>
-    ensures reported { IfOk result (IsReported (S.record_text around.old) plan patience (S.steps around.old) (S.steps around.new) (S.record_text around.new) (W.contents out.old) (W.contents out.new)) }
-    ensures fault { IfErr result (IsLoadFault plan patience (S.steps around.old) (S.steps around.new) (S.record_text around.old) (S.record_text around.new) (W.contents out.old) (W.contents out.new)) }
+) -> Result<Outcome, LoadFault>
+    ensures reported { IfOk result (IsReported (S.record_text around.old) plan options (S.steps around.old) (S.steps around.new) (S.record_text around.new) (W.contents out.old) (W.contents out.new)) }
+    ensures fault { IfErr result (IsLoadFault plan options (S.steps around.old) (S.steps around.new) (S.record_text around.old) (S.record_text around.new) (W.contents out.old) (W.contents out.new)) }
 {
-    let core = open(alloc, plan, patience, around)?;
+    let (core, writable) = open(alloc, plan, options, around)?;
     let report = Vec::with_capacity(alloc, REPORT_ROOM)?;
-    let (core, stop) = live(alloc, core, around, onlooker)?;
+    let (core, stop) = live(alloc, core, writable, around, onlooker)?;
     tell(report, &core, stop, out)?;
-    Ok(stop)
+    let marked = core.progress().going;
+    Ok(Outcome { stop, marked })
 }
 
-// The life that begins with what the record says.
+// The life that begins with what the record says, and whether the record may be written.
 fn open<S: Surroundings>(
     alloc: Global,
     plan: Plan,
-    patience: u32,
+    options: LoadOptions,
     around: &mut S,
-) -> Result<HostCore, LoadFault>
-    ensures opened { IfOk result (IsOpening (S.record_text around.old) plan patience) }
-    ensures step { OnOk result (Gains (S.steps around.old) (S.steps around.new) (ReadRecord ∷ [])) }
+) -> Result<(HostCore, bool), LoadFault>
+    ensures opened { IfOk result (λ opened. IsOpening (S.record_text around.old) plan options opened.0) }
+    ensures step { IfOk result (λ opened. Gains (S.steps around.old) (S.steps around.new) (reading opened.1 ∷ [])) }
     ensures fault { IfErr result (IsOpeningFault (S.steps around.old) (S.steps around.new) (S.record_text around.old) plan) }
     ensures same { Keeps (S.record_text around.old) (S.record_text around.new) }
 {
     let record = around.read_record(alloc)?;
-    let progress = read_record(&record, &plan)?;
-    Ok(HostCore::new(plan, progress, patience).unwrap())
+    let said = what_is_said(&record.text, &plan)?;
+    let progress = taken(said, options.recheck);
+    let core = HostCore::new(plan, progress, options.patience).unwrap();
+    Ok((core, record.writable))
 }
 
-// The life, once it has opened.
+// What a record's text says of a plan's load. A file that was never a record is none.
+fn what_is_said(text: &[u8], plan: &Plan) -> Result<Progress, RecordError>
+    ensures said { IfOk result (λ said. Says plan.now text.now (Ok said)) }
+    ensures ours { OnOk result (HoldsNoRecord text.now → ⊥) }
+    ensures accepted { IfOk result (λ said. refusal_of plan.now said.verified said.going ≡ None) }
+    ensures refused { IfErr result (λ why. Says plan.now text.now (Err why) ⊎ ((why ≡ RecordError.NotARecord) × HoldsNoRecord text.now)) }
+{
+    if holds_no_record(text) {
+        return Err(RecordError::NotARecord);
+    }
+    read_record(text, plan)
+}
+
+// The progress that a life begins with: what was said, or no word of it, where all are to be looked at
+// again and the start was not typed.
+fn taken(said: Progress, recheck: bool) -> Progress
+    ensures words { result.verified ≡ words_taken recheck said }
+    ensures mark { result.going ≡ said.going }
+{
+    if recheck && !said.going {
+        Progress {
+            verified: 0,
+            ..said
+        }
+    } else {
+        said
+    }
+}
+
+// The life, once it has opened. One that goes on wants a record that may be written.
 fn live<S: Surroundings, O: Onlooker>(
     alloc: Global,
     core: HostCore,
+    writable: bool,
     around: &mut S,
     onlooker: &O,
 ) -> Result<(HostCore, Stop), LoadFault>
-    ensures life { IfOk result (λ lived. IsLife core lived.0 lived.1 (S.steps around.old) (S.steps around.new) (S.record_text around.new)) }
-    ensures fault { IfErr result (IsDrivingFault (S.steps around.old) (S.steps around.new) (S.record_text around.old) (S.record_text around.new)) }
+    ensures life { IfOk result (λ lived. IsLife writable core lived.0 lived.1 (S.steps around.old) (S.steps around.new) (S.record_text around.old) (S.record_text around.new)) }
+    ensures fault { IfErr result (IsDrivingFault writable (S.steps around.old) (S.steps around.new) (S.record_text around.old) (S.record_text around.new)) }
 {
     match core.end() {
         Some(end) => Ok((core, Stop::Ended(end))),
-        None => drive_over(alloc, core, around, onlooker),
+        None if writable => drive_over(alloc, core, around, onlooker),
+        None => Err(LoadFault::WriteRecord),
     }
 }
 
@@ -98,7 +140,7 @@ fn drive_over<S: Surroundings, O: Onlooker>(
     ensures driven { IfOk result (λ driven. IsDriven core driven.0 driven.1) }
     ensures steps { OnOk result (Gains (S.steps around.old) (S.steps around.new) (Connect ∷ BeginRecord ∷ [])) }
     ensures begun { OnOk result (IsBegun (S.record_text around.new) core.plan core.verified) }
-    ensures fault { IfErr result (IsDrivingFault (S.steps around.old) (S.steps around.new) (S.record_text around.old) (S.record_text around.new)) }
+    ensures fault { IfErr result (IsDrivingFault true (S.steps around.old) (S.steps around.new) (S.record_text around.old) (S.record_text around.new)) }
 {
     let line = around.connect()?;
     let verified = core.progress().verified;

@@ -1,18 +1,16 @@
 //! The machine behind HOST:PORT, with a record in a file or in memory.
 ghost use Rattle.std.specs.Prelude.{IfErr, IfOk};
 
-use crate::begin_fault::BeginFault;
-use crate::record_file::{DiskRecord, begin_record};
+use crate::held_file::HeldFile;
+use crate::locks::Locks;
+use crate::old_record::OldRecord;
+use crate::record_fault::RecordFault;
+use crate::record_file::DiskRecord;
 use crate::surroundings::Surroundings;
-use command_io::{InputFault, read_up_to};
 use load_devices::{LineFault, MemoryKeep};
-use load_record::RECORD_LIMIT;
 use socket_line::SocketLine;
 use std::alloc::Global;
-use std::fs;
-use std::io::ErrorKind;
 use std::net::Net;
-use std::rt::Files;
 use tape_image::Plan;
 
 /// Where the console is, and how long silence lasts there.
@@ -25,43 +23,67 @@ pub struct Address<'a> {
     pub quiet_ms: u32,
 }
 
-/// A machine whose load is recorded in a file.
+/// A machine whose load is recorded in a file, which the load holds from its reading on.
 #[derive(Drop)]
-pub struct Recorded<'a, R: Files + Net> {
-    /// The system.
-    pub rt: &'a R,
-
-    /// Where the console is.
-    pub address: Address<'a>,
-
-    /// The record's file. One that is not there is an empty record.
-    pub record: &'a str,
+pub struct Recorded<'a, R: Locks + Net> {
+    rt: &'a R,
+    address: Address<'a>,
+    record: &'a str,
+    held: Option<HeldFile<'a, R>>,
 }
 
-impl<R: Files + Net> Surroundings for Recorded<'_, R> {
+impl<'a, R: Locks + Net> Recorded<'a, R> {
+    /// The machine at this address, with the record in the file of this name. One that is not there is
+    /// made, and is an empty record.
+    pub fn new(rt: &'a R, address: Address<'a>, record: &'a str) -> Recorded<'a, R> {
+        Recorded {
+            rt,
+            address,
+            record,
+            held: None,
+        }
+    }
+}
+
+impl<R: Locks + Net> Surroundings for Recorded<'_, R> {
     type Line = SocketLine<R::Stream>;
 
     type Keeper = DiskRecord<R::File>;
 
-    fn read_record(&mut self, alloc: Global) -> Result<Vec<u8>, InputFault> {
-        match fs::open(self.rt, self.record) {
-            Ok(mut file) => read_up_to(alloc, &mut file, RECORD_LIMIT + 1),
-            Err(error) if error.kind() == ErrorKind::NotFound => Ok(Vec::new(alloc)),
-            Err(_) => Err(InputFault::Read),
-        }
+    fn read_record(&mut self, alloc: Global) -> Result<OldRecord, RecordFault> {
+        let Some(mut held) = HeldFile::hold(self.rt, self.record)? else {
+            return Ok(OldRecord {
+                text: Vec::new(alloc),
+                writable: false,
+            });
+        };
+        let text = held.read(alloc)?;
+        let writable = held.is_writable();
+        self.held = Some(held);
+        Ok(OldRecord { text, writable })
     }
 
     fn connect(&mut self) -> Result<SocketLine<R::Stream>, LineFault> {
         SocketLine::connect(self.rt, self.address.name, self.address.quiet_ms)
     }
 
+    // The old file is held to the end, also where another has its name now: a load may have opened it.
     fn begin_record(
         &mut self,
         alloc: Global,
         plan: &Plan,
         verified: u32,
-    ) -> Result<DiskRecord<R::File>, BeginFault> {
-        begin_record(self.rt, alloc, self.record, plan, verified)
+    ) -> Result<DiskRecord<R::File>, RecordFault> {
+        let Some(mut held) = self.held.take() else {
+            return Err(RecordFault::Write);
+        };
+        match held.begin_beside(alloc, plan, verified)? {
+            Some(keeper) => {
+                self.held = Some(held);
+                Ok(keeper)
+            }
+            None => held.begin_in_place(alloc, plan, verified),
+        }
     }
 }
 
@@ -80,8 +102,11 @@ impl<R: Net> Surroundings for Unrecorded<'_, R> {
 
     type Keeper = MemoryKeep;
 
-    fn read_record(&mut self, alloc: Global) -> Result<Vec<u8>, InputFault> {
-        Ok(Vec::new(alloc))
+    fn read_record(&mut self, alloc: Global) -> Result<OldRecord, RecordFault> {
+        Ok(OldRecord {
+            text: Vec::new(alloc),
+            writable: true,
+        })
     }
 
     fn connect(&mut self) -> Result<SocketLine<R::Stream>, LineFault> {
@@ -94,11 +119,11 @@ impl<R: Net> Surroundings for Unrecorded<'_, R> {
         alloc: Global,
         plan: &Plan,
         _verified: u32,
-    ) -> Result<MemoryKeep, BeginFault> {
+    ) -> Result<MemoryKeep, RecordFault> {
         let room = plan.words().len() as u32 + 1;
         match MemoryKeep::new(alloc, room, None) {
             Ok(keeper) => Ok(keeper),
-            Err(_) => Err(BeginFault::Memory),
+            Err(_) => Err(RecordFault::Memory),
         }
     }
 }

@@ -86,15 +86,30 @@ impl<'a, C: Clock, E: Print> ProgressLine<'a, C, E> {
 }
 
 impl<C: Clock, E: Print> Onlooker for ProgressLine<'_, C, E> {
+    // A load that goes on from a record says so until its first key: only the person knows whether memory
+    // kept what the record says.
     fn begins(&self, verified: u32, words: u32) {
-        self.show(Tally {
+        let now = self.now();
+        let tally = Tally {
             words,
             verified_at_first: verified,
             verified,
             resynchronised: 0,
-            begun: self.now(),
+            begun: now,
             shown: None,
+        };
+        if verified == 0 {
+            self.show(tally);
+            return;
+        }
+        self.tally.set(Tally {
+            shown: Some(now.unwrap_or(0)),
+            ..tally
         });
+        let mut text = LineText::new();
+        if put_going_on(&mut text, verified, words).is_ok() {
+            let _ = self.terminal.write_all(text.as_str().as_bytes());
+        }
     }
 
     fn verifies(&self) {
@@ -118,6 +133,12 @@ impl<C: Clock, E: Print> Onlooker for ProgressLine<'_, C, E> {
     fn ends(&self) {
         let _ = self.terminal.write_all(CLEARED.as_bytes());
     }
+}
+
+// Puts that a load goes on from a record, and what to do where the record is no longer true.
+fn put_going_on(text: &mut LineText, verified: u32, words: u32) -> fmt::Result {
+    write!(text, "\rgoing on behind {verified} of {words} words; ")?;
+    text.write_str("if the machine lost its power, stop and use --recheck\x1b[K")
 }
 
 // Puts the whole line of a tally.

@@ -1,11 +1,12 @@
-ghost use Rattle.std.specs.Prelude.{ℕ, List, [], ◌∷◌, Option, None, IfOk, OnOk};
+ghost use Rattle.std.specs.Prelude.{ℕ, List, [], ◌∷◌, Option, None, IfOk, IfErr, OnOk};
 ghost use Rattle.std.specs.Io.KnownBytes.{Keeps};
 ghost use Rattle.load_devices.specs.Told.{Gains};
 ghost use Rattle.machine_load.specs.Load.{IsBegun, IsRecordText};
+ghost use Rattle.machine_load.specs.RecordFault.{IsUnread, IsUnbegun};
 ghost use Rattle.machine_load.specs.Step.{Step, read_step, connect_step, begin_step};
 
-use crate::begin_fault::BeginFault;
-use command_io::InputFault;
+use crate::old_record::OldRecord;
+use crate::record_fault::RecordFault;
 use load_devices::{Keep, Line, LineFault};
 use std::alloc::Global;
 use tape_image::Plan;
@@ -25,10 +26,12 @@ pub trait Surroundings {
     /// What the record is; None where the type doesn't tell.
     ghost record_text: { Self → Option (List ℕ) } = { λ _. None };
 
-    /// The record of earlier lives: no bytes where there is none.
-    fn read_record(&mut self, alloc: Global) -> Result<Vec<u8>, InputFault>
+    /// The record of earlier lives, which from there on is held: no other load has it until this one is
+    /// over. It is changed in nothing.
+    fn read_record(&mut self, alloc: Global) -> Result<OldRecord, RecordFault>
         ensures step { Gains (steps self.old) (steps self.new) (read_step result ∷ []) }
-        ensures text { IfOk result (λ bytes. IsRecordText (record_text self.old) bytes.items) }
+        ensures text { IfOk result (λ old. IsRecordText (record_text self.old) old.text.items) }
+        ensures fault { IfErr result IsUnread }
         ensures same { Keeps (record_text self.old) (record_text self.new) };
 
     /// A connection to the console.
@@ -42,7 +45,8 @@ pub trait Surroundings {
         alloc: Global,
         plan: &Plan,
         verified: u32,
-    ) -> Result<Self::Keeper, BeginFault>
+    ) -> Result<Self::Keeper, RecordFault>
         ensures step { Gains (steps self.old) (steps self.new) (begin_step result ∷ []) }
+        ensures fault { IfErr result IsUnbegun }
         ensures begun { OnOk result (IsBegun (record_text self.new) plan.now verified) };
 }

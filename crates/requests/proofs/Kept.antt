@@ -3,7 +3,7 @@ use Rattle.std.proofs.Common.{List}
 use Rattle.std.proofs.KnownBytes.{Appends-kept}
 use Rattle.std.specs.Io.KnownBytes.{Keeps}
 use Rattle.host_core.specs.declared.phase.End.{End}
-use Rattle.load_engine.specs.declared.stop.Stop.{Stop}
+use Rattle.machine_load.specs.declared.outcome.Outcome.{Outcome}
 use Rattle.tape_image.specs.Plan.{PlanValue}
 use Rattle.tape_check.specs.CheckText.{IsChecked}
 use Rattle.rehearsals.specs.Dialogue.{IsDialogue}
@@ -36,17 +36,17 @@ module _ (out out' out'' : Known) (kept : Keeps out' out'') where
     };
   }
 
-  reported : (plan : PlanValue) (patience : _) (stop : Stop) → IsLoadReported plan patience out out' stop → IsLoadReported plan patience out out'' stop
-  reported plan patience stop is = record {
+  reported : (plan : PlanValue) (options : _) (outcome : Outcome) → IsLoadReported plan options out out' outcome → IsLoadReported plan options out out'' outcome
+  reported plan options outcome is = record {
     record_told = is.record_told;
     record_after = is.record_after;
     steps = is.steps;
     steps_after = is.steps_after;
-    reported = record { last = is.reported.last; load = is.reported.load; reported = Appends-kept out out' out'' _ is.reported.reported kept };
+    reported = record { last = is.reported.last; load = is.reported.load; marked = is.reported.marked; reported = Appends-kept out out' out'' _ is.reported.reported kept };
   }
 
-  loaded : (held rests : List Known) (patience : _) (stop : Stop) → IsLoaded held rests patience out out' stop → IsLoaded held rests patience out out'' stop
-  loaded held rests patience stop is = record { texts = is.texts; taken = is.taken; reported = reported _ patience stop is.reported }
+  loaded : (held rests : List Known) (options : _) (outcome : Outcome) → IsLoaded held rests options out out' outcome → IsLoaded held rests options out out'' outcome
+  loaded held rests options outcome is = record { texts = is.texts; taken = is.taken; reported = reported _ options outcome is.reported }
 
   -- a request that was done stays done
   pub done_kept : (request : Request) (input input' : Known) (status : Status) → IsDone request input input' out out' status → IsDone request input input' out out'' status
@@ -56,4 +56,4 @@ module _ (out out' out'' : Known) (kept : Keeps out' out'') where
       (of_files_kept names.items _ _ (λ held rests h. (h.0, dialogue held rests console h.0 h.1, h.2)) is.0, is.1)
   done_kept (Rehearse tape script more) input input' status is = (of_files_kept _ _ _ (λ held rests h. rehearsed held rests h) is.0, is.1, is.2)
   done_kept (TypeKeys console) input input' status is = (typed console input input' is.0, is.1)
-  done_kept (Load names load) input input' status is = (of_files_kept names.items _ _ (λ held rests h. (h.0, loaded held rests load.patience h.0 h.1, h.2)) is.0, is.1)
+  done_kept (Load names load) input input' status is = (of_files_kept names.items _ _ (λ held rests h. (h.0, loaded held rests load.options h.0 h.1, h.2)) is.0, is.1)

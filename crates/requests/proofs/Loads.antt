@@ -2,7 +2,7 @@
 use Rattle.std.proofs.Common.{◌≡◌, ◌⊎◌, List, map, length, Result, IfOk, IfErr, inr, subst}
 use Rattle.std.proofs.lemmas.Result.{IfOk-weaker, IfErr-weaker}
 use Rattle.tape_image.specs.Plan.{PlanValue, plan_of_all}
-use Rattle.load_engine.specs.declared.stop.Stop.{Stop}
+use Rattle.machine_load.specs.declared.outcome.Outcome.{Outcome}
 use Rattle.command_io.specs.Tapes.{TapeText, AreTaken, tapes_of}
 use Rattle.requests.specs.declared.request.Load.{Load}
 use Rattle.endings.specs.declared.status.Status.{Status}
@@ -16,13 +16,13 @@ module _ {X : Type 0} (known : X → Known) (names : List Name) (files now : Lis
   abbrev pub IsPlanOf : Type 0
   IsPlanOf = (texts : List TapeText) × AreTaken (map known files) (map known now) texts × (plan ≡ plan_of_all (tapes_of texts))
 
-  pub loaded_of : IsPlanOf → IfOk r (λ status. (stop : Stop) × IsLoadReported plan load.patience out out' stop × IsStopStatus stop status)
-      → IfOk r (λ status. OfFiles names (λ held rests. (stop : Stop) × IsLoaded held rests load.patience out out' stop × IsStopStatus stop status))
+  pub loaded_of : IsPlanOf → IfOk r (λ status. (outcome : Outcome) × IsLoadReported plan load.options out out' outcome × IsStopStatus outcome.stop status)
+      → IfOk r (λ status. OfFiles names (λ held rests. (outcome : Outcome) × IsLoaded held rests load.options out out' outcome × IsStopStatus outcome.stop status))
   loaded_of taken done =
-      IfOk-weaker r (λ status. (stop : Stop) × IsLoadReported plan load.patience out out' stop × IsStopStatus stop status)
-      (λ status. OfFiles names (λ held rests. (stop : Stop) × IsLoaded held rests load.patience out out' stop × IsStopStatus stop status))
-      (λ status h. of_files known names files now (λ held rests. (stop : Stop) × IsLoaded held rests load.patience out out' stop × IsStopStatus stop status) count
-      (h.0, record { texts = taken.0; taken = taken.1; reported = subst (λ p. IsLoadReported p load.patience out out' h.0) taken.2 h.1 }, h.2))
+      IfOk-weaker r (λ status. (outcome : Outcome) × IsLoadReported plan load.options out out' outcome × IsStopStatus outcome.stop status)
+      (λ status. OfFiles names (λ held rests. (outcome : Outcome) × IsLoaded held rests load.options out out' outcome × IsStopStatus outcome.stop status))
+      (λ status h. of_files known names files now (λ held rests. (outcome : Outcome) × IsLoaded held rests load.options out out' outcome × IsStopStatus outcome.stop status) count
+      (h.0, record { texts = taken.0; taken = taken.1; reported = subst (λ p. IsLoadReported p load.options out out' h.0) taken.2 h.1 }, h.2))
       done
 
   pub failed_of : IsPlanOf → IfErr r (IsPlanFailure plan load out out')

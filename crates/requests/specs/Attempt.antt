@@ -6,7 +6,6 @@ use Rattle.std.specs.Io.KnownBytes.{Appends}
 use Rattle.tape_image.specs.Plan.{PlanValue, plan_of_all}
 use Rattle.odt_machine.specs.Machine.{Machine}
 use Rattle.host_core.specs.declared.phase.End.{End}
-use Rattle.load_engine.specs.declared.stop.Stop.{Stop}
 use Rattle.command_io.specs.declared.fault.CommandFault.{CommandFault}
 use Rattle.command_io.specs.Tapes.{TapeText, AreTaken, AreTapesFault, tapes_of}
 use Rattle.tape_check.specs.CheckText.{IsChecked}
@@ -18,8 +17,10 @@ use Rattle.machine_load.specs.Step.{Step}
 use Rattle.machine_load.specs.Load.{IsReported}
 use Rattle.machine_load.specs.LoadFault.{IsLoadFault}
 use Rattle.machine_load.specs.declared.fault.LoadFault.{LoadFault}
+use Rattle.machine_load.specs.declared.options.LoadOptions.{LoadOptions}
+use Rattle.machine_load.specs.declared.outcome.Outcome.{Outcome}
 use Rattle.requests.specs.declared.request.Console.{Console}
-use Rattle.requests.specs.declared.request.Load.{Load as LoadOptions}
+use Rattle.requests.specs.declared.request.Load.{Load as LoadRequest}
 use Rattle.requests.specs.declared.request.Request.{Request}
 use Rattle.requests.specs.declared.request.Request.TheVariants.{CheckInput, Check, Dialogue, Rehearse, «Type» as TypeKeys, Load}
 use Rattle.endings.specs.declared.status.Status.{Status}
@@ -69,19 +70,19 @@ pub record IsRehearsedInto (held rests : List Known) (out out' : Known) : Type 0
   pub rehearsed : IsRehearsed held rests script_held text
   pub written : Appends out out' text
 
--- a load of this plan, with this patience, was reported and stopped so
-pub record IsLoadReported (plan : PlanValue) (patience : ℕ) (out out' : Known) (stop : Stop) : Type 0 where
+-- a load of this plan, gone about so, was reported and stopped so
+pub record IsLoadReported (plan : PlanValue) (options : LoadOptions) (out out' : Known) (outcome : Outcome) : Type 0 where
   pub record_told : Known
   pub record_after : Known
   pub steps : Option (List Step)
   pub steps_after : Option (List Step)
-  pub reported : IsReported record_told plan patience steps steps_after record_after out out' stop
+  pub reported : IsReported record_told plan options steps steps_after record_after out out' outcome
 
 -- tapes were taken, and their load, as one, was reported and stopped so
-pub record IsLoaded (held rests : List Known) (patience : ℕ) (out out' : Known) (stop : Stop) : Type 0 where
+pub record IsLoaded (held rests : List Known) (options : LoadOptions) (out out' : Known) (outcome : Outcome) : Type 0 where
   pub texts : List TapeText
   pub taken : AreTaken held rests texts
-  pub reported : IsLoadReported (plan_of_all (tapes_of texts)) patience out out' stop
+  pub reported : IsLoadReported (plan_of_all (tapes_of texts)) options out out' outcome
 
 -- a request was done, and the program ends so
 abbrev pub IsDone : Request → Known → Known → Known → Known → Status → Type 0
@@ -94,7 +95,7 @@ IsDone (Rehearse tape script more) input input' out out' status =
     OfFiles (tape ∷ more.items) (λ held rests. IsRehearsedInto held rests out out') × (input' ≡ input) × (status ≡ Done)
 IsDone (TypeKeys console) input input' out out' status = IsTypedThrough console input input' out out' × (status ≡ Done)
 IsDone (Load names load) input input' out out' status =
-    OfFiles names.items (λ held rests. (stop : Stop) × IsLoaded held rests load.patience out out' stop × IsStopStatus stop status) × (input' ≡ input)
+    OfFiles names.items (λ held rests. (outcome : Outcome) × IsLoaded held rests load.options out out' outcome × IsStopStatus outcome.stop status) × (input' ≡ input)
 
 -- ---- how they fail
 
@@ -128,32 +129,32 @@ abbrev pub record_name : Option Name → List ℕ
 record_name None = []
 record_name (Some name) = name.now
 
--- a load of this plan, with this patience, came to nothing for this fault
-pub record ComesToNothing (plan : PlanValue) (patience : ℕ) (out out' : Known) (fault : LoadFault) : Type 0 where
+-- a load of this plan, gone about so, came to nothing for this fault
+pub record ComesToNothing (plan : PlanValue) (options : LoadOptions) (out out' : Known) (fault : LoadFault) : Type 0 where
   pub record_told : Known
   pub record_after : Known
   pub steps : Option (List Step)
   pub steps_after : Option (List Step)
-  pub is_so : IsLoadFault plan patience steps steps_after record_told record_after out out' fault
+  pub is_so : IsLoadFault plan options steps steps_after record_told record_after out out' fault
 
 -- a load of this plan came to nothing, and fails so
-pub record IsLoadCutShort (plan : PlanValue) (load : LoadOptions) (out out' : Known) (failure : Failure) : Type 0 where
+pub record IsLoadCutShort (plan : PlanValue) (load : LoadRequest) (out out' : Known) (failure : Failure) : Type 0 where
   pub fault : LoadFault
-  pub is_so : ComesToNothing plan load.patience out out' fault
+  pub is_so : ComesToNothing plan load.options out out' fault
   pub is_called : IsLoadFailureOf fault load.address.now (record_name load.record) failure
 
 -- a load of this plan was reported, and its line or its record's keeper failed
-pub record IsLoadBroken (plan : PlanValue) (load : LoadOptions) (out out' : Known) (failure : Failure) : Type 0 where
-  pub stop : Stop
-  pub reported : IsLoadReported plan load.patience out out' stop
-  pub is_called : IsStopFailure stop (record_name load.record) failure
+pub record IsLoadBroken (plan : PlanValue) (load : LoadRequest) (out out' : Known) (failure : Failure) : Type 0 where
+  pub outcome : Outcome
+  pub reported : IsLoadReported plan load.options out out' outcome
+  pub is_called : IsStopFailure outcome.stop outcome.marked (record_name load.record) failure
 
 -- a load of this plan failed on its way
-abbrev pub IsPlanFailure : PlanValue → LoadOptions → Known → Known → Failure → Type 0
+abbrev pub IsPlanFailure : PlanValue → LoadRequest → Known → Known → Failure → Type 0
 IsPlanFailure plan load out out' failure = IsLoadCutShort plan load out out' failure ⊎ IsLoadBroken plan load out out' failure
 
 -- a load failed: by a tape, or for want of memory, before anything was done; or, with tapes that were taken, on its way
-abbrev pub IsLoadFailure : List Name → LoadOptions → List Known → List Known → Known → Known → Failure → Type 0
+abbrev pub IsLoadFailure : List Name → LoadRequest → List Known → List Known → Known → Known → Failure → Type 0
 IsLoadFailure names load held rests out out' failure =
     (HasFault (AreTapesFault held rests) names (codes "standard input") failure × (out' ≡ out))
     ⊎ ((texts : List TapeText) × AreTaken held rests texts × IsPlanFailure (plan_of_all (tapes_of texts)) load out out' failure)

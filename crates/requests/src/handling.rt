@@ -13,6 +13,7 @@ use crate::request::{Console, Request};
 use console_typing::type_to;
 use endings::{Failure, STANDARD_INPUT, Status, tell};
 use host_core::End;
+use machine_load::Locks;
 use odt_machine::{Odt, OdtError};
 use rehearsals::{dialogue_to, rehearse_to};
 use std::alloc::Global;
@@ -27,7 +28,7 @@ use tape_check::check_to;
 ///
 /// Reports go to `out`, which is flushed; a fault goes to `err` as one line, in one write. What can't be
 /// written to `err` is not told. A long load shows on the terminal how far it is, where there is one.
-pub fn attempt<F: Files + Net + Clock, R: Read, W: Write, E: Write, T: Print>(
+pub fn attempt<F: Locks + Net + Clock, R: Read, W: Write, E: Write, T: Print>(
     rt: &F,
     alloc: Global,
     request: Request<'_>,
@@ -46,7 +47,7 @@ pub fn attempt<F: Files + Net + Clock, R: Read, W: Write, E: Write, T: Print>(
 }
 
 /// Does a request, flushes what it wrote, and answers how it ended.
-fn perform<'a, F: Files + Net + Clock, R: Read, W: Write, T: Print>(
+fn perform<'a, F: Locks + Net + Clock, R: Read, W: Write, T: Print>(
     rt: &F,
     alloc: Global,
     request: Request<'a>,
@@ -66,7 +67,7 @@ fn perform<'a, F: Files + Net + Clock, R: Read, W: Write, T: Print>(
 }
 
 /// Does a request, and answers how it ended.
-fn carry_out<'a, F: Files + Net + Clock, R: Read, W: Write, T: Print>(
+fn carry_out<'a, F: Locks + Net + Clock, R: Read, W: Write, T: Print>(
     rt: &F,
     alloc: Global,
     request: Request<'a>,

@@ -11,16 +11,17 @@ use crate::request::Load;
 use command_io::take_tapes;
 use endings::{Failure, STANDARD_INPUT, Status};
 use load_engine::Stop;
-use machine_load::{Address, LoadFault, Onlooker, ProgressLine, Recorded, Unrecorded, Unwatched};
+use machine_load::{
+    Address, LoadFault, Locks, Onlooker, Outcome, ProgressLine, Recorded, Unrecorded, Unwatched,
+};
 use std::alloc::Global;
 use std::io::{Print, Read, Write};
 use std::net::Net;
-use std::rt::Files;
 use std::time::Clock;
 use tape_image::Plan;
 
 /// Loads tapes, as one, into the machine behind a port. A terminal shows how far that is.
-pub(crate) fn load_tapes<'a, F: Files + Net + Clock, W: Write, T: Print>(
+pub(crate) fn load_tapes<'a, F: Locks + Net + Clock, W: Write, T: Print>(
     rt: &F,
     alloc: Global,
     names: &[&'a str],
@@ -28,7 +29,7 @@ pub(crate) fn load_tapes<'a, F: Files + Net + Clock, W: Write, T: Print>(
     out: &mut W,
     terminal: Option<&T>,
 ) -> Result<Status, Failure<'a>>
-    ensures ok { IfOk result (λ status. OfFiles names.now (λ held rests. (stop : Stop) × IsLoaded held rests load.entry.patience (W.contents out.old) (W.contents out.new) stop × IsStopStatus stop status)) }
+    ensures ok { IfOk result (λ status. OfFiles names.now (λ held rests. (outcome : Outcome) × IsLoaded held rests load.entry.options (W.contents out.old) (W.contents out.new) outcome × IsStopStatus outcome.stop status)) }
     ensures err { IfErr result (λ failure. FailsUnopened names.now (W.contents out.old) (W.contents out.new) failure ⊎ OfFiles names.now (λ held rests. IsLoadFailure names.now load.entry held rests (W.contents out.old) (W.contents out.new) failure)) }
 {
     let mut files = open_all(rt, alloc, names)?;
@@ -61,7 +62,7 @@ fn plan_of<'a, R: Read>(
 }
 
 /// Loads a plan into the machine behind a port.
-fn load_machine<'a, F: Files + Net, W: Write, O: Onlooker>(
+fn load_machine<'a, F: Locks + Net, W: Write, O: Onlooker>(
     rt: &F,
     alloc: Global,
     load: Load<'a>,
@@ -69,57 +70,54 @@ fn load_machine<'a, F: Files + Net, W: Write, O: Onlooker>(
     out: &mut W,
     onlooker: &O,
 ) -> Result<Status, Failure<'a>>
-    ensures ok { IfOk result (λ status. (stop : Stop) × IsLoadReported plan load.entry.patience (W.contents out.old) (W.contents out.new) stop × IsStopStatus stop status) }
+    ensures ok { IfOk result (λ status. (outcome : Outcome) × IsLoadReported plan load.entry.options (W.contents out.old) (W.contents out.new) outcome × IsStopStatus outcome.stop status) }
     ensures err { IfErr result (IsPlanFailure plan load.entry (W.contents out.old) (W.contents out.new)) }
 {
     // Without a record no fault names one.
     let record = load.record.unwrap_or("");
     match drive_machine(rt, alloc, load, plan, out, onlooker) {
-        Ok(stop) => status_after(stop, record),
+        Ok(outcome) => status_after(outcome, record),
         Err(fault) => Err(Failure::of_load(fault, load.address, record)),
     }
 }
 
 /// Loads a plan into the machine behind a port, with a record in a file or in memory alone.
-fn drive_machine<F: Files + Net, W: Write, O: Onlooker>(
+fn drive_machine<F: Locks + Net, W: Write, O: Onlooker>(
     rt: &F,
     alloc: Global,
     load: Load<'_>,
     plan: Plan,
     out: &mut W,
     onlooker: &O,
-) -> Result<Stop, LoadFault>
-    ensures ok { IfOk result (IsLoadReported plan load.entry.patience (W.contents out.old) (W.contents out.new)) }
-    ensures err { IfErr result (ComesToNothing plan load.entry.patience (W.contents out.old) (W.contents out.new)) }
+) -> Result<Outcome, LoadFault>
+    ensures ok { IfOk result (IsLoadReported plan load.entry.options (W.contents out.old) (W.contents out.new)) }
+    ensures err { IfErr result (ComesToNothing plan load.entry.options (W.contents out.old) (W.contents out.new)) }
 {
     let address = Address {
         name: load.address,
         quiet_ms: load.quiet_ms,
     };
-    let patience = load.patience;
+    let options = load.options;
     match load.record {
         Some(record) => {
-            let mut around = Recorded {
-                rt,
-                address,
-                record,
-            };
-            machine_load::load(alloc, plan, patience, &mut around, out, onlooker)
+            let mut around = Recorded::new(rt, address, record);
+            machine_load::load(alloc, plan, options, &mut around, out, onlooker)
         }
         None => {
             let mut around = Unrecorded { rt, address };
-            machine_load::load(alloc, plan, patience, &mut around, out, onlooker)
+            machine_load::load(alloc, plan, options, &mut around, out, onlooker)
         }
     }
 }
 
 /// What the program ends with after a load that stopped so and was reported.
-fn status_after(stop: Stop, file: &str) -> Result<Status, Failure<'_>>
-    ensures status { IfOk result (IsStopStatus stop) }
-    ensures failure { IfErr result (IsStopFailure stop file.entry.now) }
+fn status_after(outcome: Outcome, file: &str) -> Result<Status, Failure<'_>>
+    ensures status { IfOk result (IsStopStatus outcome.stop) }
+    ensures failure { IfErr result (IsStopFailure outcome.stop outcome.marked file.entry.now) }
 {
-    match stop {
+    match outcome.stop {
         Stop::Ended(end) => Ok(Status::of_end(end)),
+        Stop::LineFailed(_) if outcome.marked => Err(Failure::StartInDoubt),
         Stop::LineFailed(_) => Err(Failure::LineFailed),
         Stop::KeepFailed(_) => Err(Failure::CannotWriteFile(file)),
         Stop::TurnsOver => Ok(Status::NotLoaded),

@@ -1,3 +1,4 @@
+use machine_load::LoadOptions;
 use odt_machine::Style;
 
 /// What the words after the program's name ask for.
@@ -35,8 +36,8 @@ pub struct Load<'a> {
     pub address: &'a str,
     /// The record's file, where there is to be one.
     pub record: Option<&'a str>,
-    /// How many mishaps the host survives.
-    pub patience: u32,
+    /// How the load is to go about it.
+    pub options: LoadOptions,
     /// The quiet time in milliseconds.
     pub quiet_ms: u32,
 }

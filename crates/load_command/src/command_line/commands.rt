@@ -21,6 +21,8 @@ pub(crate) const ADDRESS: &str = "HOST:PORT";
 
 pub(crate) const RECORD: &str = "record";
 
+pub(crate) const RECHECK: &str = "recheck";
+
 pub(crate) const PATIENCE: &str = "patience";
 
 pub(crate) const QUIET: &str = "quiet";
@@ -71,6 +73,7 @@ fn load_command<'a>(alloc: Global) -> Result<Command<'a>, AllocError> {
         address_argument(alloc),
         more_argument(alloc),
         record_option(alloc),
+        recheck_option(alloc),
         patience_option(alloc),
         quiet_option(alloc),
     ]?)
@@ -158,6 +161,15 @@ fn record_option<'a>(alloc: Global) -> Arg<'a> {
     let help =
         "Where the verified words are kept, for a later load to\ngo on from them; a file that is not there is an empty\nrecord [default: kept in memory alone]";
     option(alloc, RECORD, "FILE", help)
+}
+
+fn recheck_option<'a>(alloc: Global) -> Arg<'a> {
+    let help = "Look at every word again: of the record only a typed\nstart counts";
+    Arg::new(alloc, RECHECK)
+        .long(RECHECK)
+        .action(ArgAction::SetTrue)
+        .requires(RECORD)
+        .help(help)
 }
 
 fn patience_option<'a>(alloc: Global) -> Arg<'a> {

@@ -10,12 +10,13 @@ Exit status:
   0  done; help was asked for
   2  the command line was refused
   3  a tape, a script or a record was refused
-  4  a file could not be read or something not be written, there was no
-     connection, or the line failed
+  4  a file could not be read or something not be written, a record is another
+     load's at the time, there was no connection, or the line failed
   5  a load ended GaveUp, NoWord, WontHold or TurnsOver
   6  a load ended Uncertain or MaybeStarted: the program may be running
   7  out of memory
-Each fault but a refused command line is one line on standard error.
+Each fault but a refused command line is one line on standard error; a line that
+failed with the start in doubt has a second one.
 
 Example, the tape on standard input:
   ldaodt < first.lda
@@ -27,13 +28,15 @@ ldaodt(1) says it whole; docs/SCRIPTS.md describes the scripts of rehearse.";
 pub(crate) const LOAD: &str = "\
 Each word is looked at, deposited where it is not there yet, and read back; at
 the end the program is started, once at most. Without --record a later load
-knows nothing of that, and may start it again.
+knows nothing of that, and may start it again. A record is good while the
+machine keeps its power and nobody resets it; else load with --recheck, too.
 
 Exit status:
   0  the load ended Loaded or Started
   3  a tape or the record was refused
-  4  a file could not be read or something not be written, there was no
-     connection, or the line failed
+  4  a file could not be read or something not be written, the record is
+     another load's at the time, there was no connection, or the line failed;
+     with the start in doubt a second line says so: look at the machine first
   5  the load ended GaveUp, NoWord, WontHold or TurnsOver
   6  it ended Uncertain or MaybeStarted: look at the machine before all else
 

@@ -1,4 +1,5 @@
-use Rattle.machine_load.specs.LoadFault.{IsDrivingFault, fault_of_begin}
+use Rattle.std.proofs.Common.{true}
+use Rattle.machine_load.specs.LoadFault.{IsDrivingFault, fault_of_record}
 use Rattle.machine_load.proofs.Faults.{error_is, not_begun}
 use Rattle.machine_load.proofs.Steps.{gains_more}
 use Rattle.machine_load.proofs.loading.drive_over.Goals as goal
@@ -8,7 +9,7 @@ returns-clause-steps g c = gains_more _ _ _ _ _ c.in_ok-line.ensures.step c.in_o
 
 pub returns-in_err-keeper-clause-fault : goal.returns-in_err-keeper-clause-fault
 returns-in_err-keeper-clause-fault g c =
-    error_is c.from_residual-in_err-keeper.result (fault_of_begin c.in_err-keeper.field-0.0)
-    (IsDrivingFault (g.S.Surroundings.steps c.args.around.now) (g.S.Surroundings.steps c.begin_record.new.self) (g.S.Surroundings.record_text c.args.around.now) (g.S.Surroundings.record_text c.begin_record.new.self))
+    error_is c.from_residual-in_err-keeper.result (fault_of_record c.in_err-keeper.field-0.0)
+    (IsDrivingFault true (g.S.Surroundings.steps c.args.around.now) (g.S.Surroundings.steps c.begin_record.new.self) (g.S.Surroundings.record_text c.args.around.now) (g.S.Surroundings.record_text c.begin_record.new.self))
     c.from_residual-in_err-keeper.ensures.1
-    (not_begun _ _ _ _ _ c.in_err-keeper.field-0.0 c.in_ok-line.ensures.step c.in_err-keeper.ensures.step)
+    (not_begun _ _ _ _ _ c.in_err-keeper.field-0.0 c.in_err-keeper.ensures.fault c.in_ok-line.ensures.step c.in_err-keeper.ensures.step)

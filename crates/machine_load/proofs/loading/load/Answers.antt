@@ -11,7 +11,7 @@ returns-in_err-core-clause-reported g c = no_value c.from_residual.result _ _ c.
 pub returns-in_err-core-clause-fault : goal.returns-in_err-core-clause-fault
 returns-in_err-core-clause-fault g c =
     error_is c.from_residual.result c.in_err-core.field-0.0
-    (IsLoadFault c.args.plan c.args.patience (g.S.Surroundings.steps c.args.around.now) (g.S.Surroundings.steps c.open.new.around)
+    (IsLoadFault c.args.plan c.args.options (g.S.Surroundings.steps c.args.around.now) (g.S.Surroundings.steps c.open.new.around)
     (g.S.Surroundings.record_text c.args.around.now) (g.S.Surroundings.record_text c.open.new.around) (g.W.Write.contents c.args.out.now) (g.W.Write.contents c.args.out.now))
     c.from_residual.ensures.1
     (of_opening _ _ _ _ _ _ _ c.in_err-core.field-0.0 c.in_err-core.ensures.fault c.open.ensures.same)
@@ -22,10 +22,10 @@ returns-in_err-report-clause-reported g c = no_value c.from_residual-in_err-repo
 pub returns-in_err-report-clause-fault : goal.returns-in_err-report-clause-fault
 returns-in_err-report-clause-fault g c =
     error_is c.from_residual-in_err-report.result Memory
-    (IsLoadFault c.args.plan c.args.patience (g.S.Surroundings.steps c.args.around.now) (g.S.Surroundings.steps c.open.new.around)
+    (IsLoadFault c.args.plan c.args.options (g.S.Surroundings.steps c.args.around.now) (g.S.Surroundings.steps c.open.new.around)
     (g.S.Surroundings.record_text c.args.around.now) (g.S.Surroundings.record_text c.open.new.around) (g.W.Write.contents c.args.out.now) (g.W.Write.contents c.args.out.now))
     c.from_residual-in_err-report.ensures.1
-    (inr (inl record { steps_are = c.in_ok-core.ensures.step; record_same = c.open.ensures.same; nothing_reported = Keeps-refl (g.W.Write.contents c.args.out.now) }))
+    (inr (inl (c.in_ok-core.writable, record { steps_are = c.in_ok-core.ensures.step; record_same = c.open.ensures.same; nothing_reported = Keeps-refl (g.W.Write.contents c.args.out.now) })))
 
 pub returns-in_err-core-2-clause-reported : goal.returns-in_err-core-2-clause-reported
 returns-in_err-core-2-clause-reported g c = no_value c.from_residual-in_err-core-2.result _ _ c.from_residual-in_err-core-2.ensures.1
@@ -33,10 +33,10 @@ returns-in_err-core-2-clause-reported g c = no_value c.from_residual-in_err-core
 pub returns-in_err-core-2-clause-fault : goal.returns-in_err-core-2-clause-fault
 returns-in_err-core-2-clause-fault g c =
     error_is c.from_residual-in_err-core-2.result c.in_err-core-2.field-0.0
-    (IsLoadFault c.args.plan c.args.patience (g.S.Surroundings.steps c.args.around.now) (g.S.Surroundings.steps c.live.new.around)
+    (IsLoadFault c.args.plan c.args.options (g.S.Surroundings.steps c.args.around.now) (g.S.Surroundings.steps c.live.new.around)
     (g.S.Surroundings.record_text c.args.around.now) (g.S.Surroundings.record_text c.live.new.around) (g.W.Write.contents c.args.out.now) (g.W.Write.contents c.args.out.now))
     c.from_residual-in_err-core-2.ensures.1
-    (of_driving _ _ _ _ _ _ _ _ _ c.in_err-core-2.field-0.0 c.in_ok-core.ensures.step c.open.ensures.same c.in_err-core-2.ensures.fault)
+    (of_driving _ _ _ _ _ _ _ _ _ _ c.in_err-core-2.field-0.0 c.in_ok-core.ensures.step c.open.ensures.same c.in_err-core-2.ensures.fault)
 
 pub returns-in_err-tell-clause-reported : goal.returns-in_err-tell-clause-reported
 returns-in_err-tell-clause-reported g c = no_value c.from_residual-in_err-tell.result _ _ c.from_residual-in_err-tell.ensures.1
@@ -44,13 +44,16 @@ returns-in_err-tell-clause-reported g c = no_value c.from_residual-in_err-tell.r
 pub returns-in_err-tell-clause-fault : goal.returns-in_err-tell-clause-fault
 returns-in_err-tell-clause-fault g c =
     error_is c.from_residual-in_err-tell.result c.in_err-tell.field-0.0
-    (IsLoadFault c.args.plan c.args.patience (g.S.Surroundings.steps c.args.around.now) (g.S.Surroundings.steps c.live.new.around)
+    (IsLoadFault c.args.plan c.args.options (g.S.Surroundings.steps c.args.around.now) (g.S.Surroundings.steps c.live.new.around)
     (g.S.Surroundings.record_text c.args.around.now) (g.S.Surroundings.record_text c.live.new.around) (g.W.Write.contents c.args.out.now) (g.W.Write.contents c.tell.new.out))
     c.from_residual-in_err-tell.ensures.1
     (of_report _ _ _ _ _ _ _ _ c.in_ok-core-2.core c.in_ok-core-2.stop c.in_err-tell.field-0.0 (record {
       first = c.in_ok-core.core;
+      writable = c.in_ok-core.writable;
       steps_between = _;
+      record_between = _;
       read_first = c.in_ok-core.ensures.step;
+      record_read = c.open.ensures.same;
       opened = c.in_ok-core.ensures.opened;
       life = c.in_ok-core-2.ensures.life;
     }) c.in_err-tell.ensures.err)
@@ -60,11 +63,15 @@ returns-clause-reported g c = record {
   last = c.in_ok-core-2.core;
   load = record {
     first = c.in_ok-core.core;
+    writable = c.in_ok-core.writable;
     steps_between = _;
+    record_between = _;
     read_first = c.in_ok-core.ensures.step;
+    record_read = c.open.ensures.same;
     opened = c.in_ok-core.ensures.opened;
     life = c.in_ok-core-2.ensures.life;
   };
+  marked = c.progress-marked.ensures.going;
   reported = c.in_ok-tell.ensures.ok;
 }
 

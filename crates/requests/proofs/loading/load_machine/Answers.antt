@@ -6,14 +6,14 @@ use Rattle.requests.proofs.RecordNames.{record_named}
 use Rattle.requests.proofs.loading.load_machine.Goals as goal
 
 pub returns-in-Ok-clause-ok : goal.returns-in-Ok-clause-ok
-returns-in-Ok-clause-ok g c = IfOk-weaker c.status_after.result (IsStopStatus c.in-Ok.stop) _ (λ status is. (c.in-Ok.stop, c.in-Ok.ensures.ok, is)) c.status_after.ensures.status
+returns-in-Ok-clause-ok g c = IfOk-weaker c.status_after.result (IsStopStatus c.in-Ok.outcome.stop) _ (λ status is. (c.in-Ok.outcome, c.in-Ok.ensures.ok, is)) c.status_after.ensures.status
 
 pub returns-in-Ok-clause-err : goal.returns-in-Ok-clause-err
 returns-in-Ok-clause-err g c =
-    IfErr-weaker c.status_after.result (IsStopFailure c.in-Ok.stop c.unwrap_or-record.result.now) _
+    IfErr-weaker c.status_after.result (IsStopFailure c.in-Ok.outcome.stop c.in-Ok.outcome.marked c.unwrap_or-record.result.now) _
     (λ failure is. inr (record {
-      stop = c.in-Ok.stop;
+      outcome = c.in-Ok.outcome;
       reported = c.in-Ok.ensures.ok;
-      is_called = subst (λ name. IsStopFailure c.in-Ok.stop name failure) (record_named c.args.load.record _ c.unwrap_or-record.result c.unwrap_or-record.ensures refl) is;
+      is_called = subst (λ name. IsStopFailure c.in-Ok.outcome.stop c.in-Ok.outcome.marked name failure) (record_named c.args.load.record _ c.unwrap_or-record.result c.unwrap_or-record.ensures refl) is;
     }))
     c.status_after.ensures.failure

@@ -1,0 +1,9 @@
+/// How a load is to go about it.
+#[derive(Clone, Copy, Debug, PartialEq, Eq)]
+pub struct LoadOptions {
+    /// How many mishaps the host survives.
+    pub patience: u32,
+
+    /// Whether each word is looked at again, also those that the record says were verified.
+    pub recheck: bool,
+}

@@ -49,8 +49,8 @@ NAMES = {
     "a hard name": "hard.record",
 }
 
-# So long nothing comes where the answers are late, however busy the computer is; and as many mishaps.
-LONG_QUIET = ["--quiet", "1000", "--patience", "100"]
+# Silence on a computer that is busy with ten loads and their machines.
+LONG_QUIET = ["--quiet", "1000"]
 ROUNDS_AT_ONCE = 6
 
 
@@ -342,7 +342,7 @@ class Kills(Shared):
         state = chance.choice([state for state in STATES if state != "the mark"])
         kinds = [chance.choice(kinds_of(state)) for _ in range(4)]
         it = Round(self, state, f"killed, {seed}{', hard' if 'a hard name' in kinds else ''}")
-        loads = [it.begin(kind, ["--quiet", "200", "--patience", "100"]) for kind in kinds[:3]]
+        loads = [it.begin(kind, ["--quiet", "200", "--patience", "20"]) for kind in kinds[:3]]
         for load in chance.sample(loads, 3):
             time.sleep(chance.choice((chance.uniform(0, 0.01), chance.uniform(0, 0.3))))
             load.kill()

@@ -290,7 +290,7 @@ class Made(Files):
         self.ends(self.load("b.record"), 6, "sent 0 spent 0 verified 1 of 1\nend MaybeStarted\n")
 
     def test_what_a_dead_load_left(self):
-        """It is replaced, also where it may not be read, and stays where the record is written in place."""
+        """It is replaced, whatever stands in it."""
         for text in (b"", b"cut short", MARKED.encode()):
             self.put("a.record", VERIFIED.encode())
             self.put("a.record.ldaodt-new", text)

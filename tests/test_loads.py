@@ -243,22 +243,6 @@ class Records(Loads):
         self.ends(self.load(peer, "first.lda --record null"), 0, STARTED)
         self.is_so([os.readlink(self.path(name)) for name in ("full", "zero", "null")], ["/dev/full", "/dev/zero", "/dev/null"])
 
-    def test_names_that_can_not_be_read(self):
-        """A folder, and a name below a file."""
-        peer = self.console_at(Console())
-        for name in (".", "first.lda/a.record"):
-            self.ends(self.load(peer, f"first.lda --record {name}"), 4, "", f"ldaodt: cannot read {name}\n")
-        self.holds({})
-        self.was_typed(peer, "", connections=0)
-
-    def test_a_missing_folder(self):
-        """It is seen once there is a connection."""
-        peer = self.console_at(Console())
-        given = self.load(peer, "first.lda --record no-such/a.record")
-        self.ends(given, 4, "", "ldaodt: cannot write no-such/a.record\n")
-        self.holds({})
-        self.was_typed(peer, "", connections=1)
-
     def test_a_full_disk_leaves_the_old_record(self):
         for record in (VERIFIED, OLD_VERIFIED):
             peer = self.console_at(Console())
@@ -284,14 +268,15 @@ class Records(Loads):
             os.remove(self.path("a.record"))
 
     def test_a_record_is_replaced_by_a_new_file(self):
-        """It keeps its permissions. What a killed load left beside it is taken away."""
+        """It keeps its permissions. What a killed load left beside it is taken away. Whoever had the old file open has it."""
         peer = self.console_at(Console())
         self.put("a.record", b"")
         os.chmod(self.path("a.record"), 0o600)
-        os.link(self.path("a.record"), self.path("b.record"))
         self.put("a.record.ldaodt-new", b"cut short")
-        self.ends(self.recorded(peer), 0, STARTED)
-        self.holds({"a.record": MARKED, "b.record": ""})
+        with open(self.path("a.record"), "rb") as old:
+            self.ends(self.recorded(peer), 0, STARTED)
+            self.is_so(old.read(), b"")
+        self.holds({"a.record": MARKED})
         self.is_so(stat.S_IMODE(os.stat(self.path("a.record")).st_mode), 0o600)
 
     def test_a_link_is_written_in_place(self):

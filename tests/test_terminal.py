@@ -77,7 +77,9 @@ class Terminal(Case):
         machine = SlowConsole(6, memory={0o1002: 0o104})
         given, shown = self.load_at_a_terminal(machine, "two-words.lda --record a.record", quiet=1000)
         self.is_so((given.status, given.out), (0, "sent 16 spent 0 verified 2 of 2\nend Started\n"))
-        self.assertTrue(shown.startswith(SHOWN.format("1 of 2 words, 50%")), repr(shown))
+        going_on = "going on behind 1 of 2 words; if the machine lost its power, stop and use --recheck"
+        self.assertTrue(shown.startswith(SHOWN.format(going_on)), repr(shown))
+        self.is_so(shown.count(going_on), 1)
         self.assertTrue(shown.endswith(SHOWN.format("2 of 2 words, 100%, 0:00 left") + CLEARED), repr(shown))
 
     def test_a_word_that_can_not_be_kept_does_not_count(self):

@@ -1,7 +1,7 @@
 #!/usr/bin/env python3
 """A simulated LSI-11 console behind a TCP port, with a line that may lose characters or break.
 
-    tools/odt_peer.py [--port N] [--words N] [--style N] [--loss PERCENT] [--seed N] [--baud N]
+    tools/odt_peer.py [--port N] [--words N] [--style N] [--loss PERCENT] [--seed N] [--baud N] [--break-after N]
 
 It is a second console, written from docs/CONSOLE.md alone, for trying `ldaodt load` from outside: the
 built program meets a machine that shares no line of text with it. Without --port the system chooses one.
@@ -156,9 +156,10 @@ def main():
     words.add_argument("--loss", type=float, default=0, help="of a hundred characters, each way")
     words.add_argument("--seed", type=int, default=0)
     words.add_argument("--baud", type=int)
+    words.add_argument("--break-after", type=int, help="characters, keys and answers together, after which the line is dead")
     asked = words.parse_args()
     tell = lambda text: print(text, flush=True)
-    peer = Peer(Machine(asked.words, asked.style), asked.port, asked.loss / 100, asked.seed, baud=asked.baud, tell=tell)
+    peer = Peer(Machine(asked.words, asked.style), asked.port, asked.loss / 100, asked.seed, asked.break_after, baud=asked.baud, tell=tell)
     tell(f"127.0.0.1:{peer.port}")
     try:
         threading.Event().wait()

@@ -7,12 +7,12 @@ use crate::surroundings::Surroundings;
 use command_io::{InputFault, read_up_to};
 use load_devices::{LineFault, MemoryKeep};
 use load_record::RECORD_LIMIT;
-use socket_line::SocketLine;
 use std::alloc::Global;
 use std::fs;
 use std::io::ErrorKind;
 use std::net::Net;
 use std::rt::Files;
+use stream_line::SocketLine;
 use tape_image::Plan;
 
 /// Where the console is, and how long silence lasts there.

@@ -19,65 +19,66 @@ struct Silence {
     passed: u64,
 }
 
-/// Reckoned by hand: a pause is a sixteenth of what was counted before it, from 50 to 5,000 microseconds, and
+/// Reckoned by hand: a pause is a thirty-second of what was counted before it, from 10 to 5,000
+/// microseconds, and
 /// counts for what passed, but not for less than was asked for nor for more than 10,000.
 const SILENCES: [Silence; 9] = [
     // Without a delay a silence is as long as it shall be, and never shorter.
     Silence {
         quiet_ms: 1,
         pace: Pace::Late(0),
-        pauses: 20,
-        passed: 1_018,
+        pauses: 71,
+        passed: 1_030,
     },
     Silence {
         quiet_ms: 50,
         pace: Pace::Late(0),
-        pauses: 85,
-        passed: 51_915,
+        pauses: 198,
+        passed: 50_571,
     },
     Silence {
         quiet_ms: 2000,
         pace: Pace::Late(0),
-        pauses: 477,
-        passed: 2_004_312,
+        pauses: 604,
+        passed: 2_002_798,
     },
     // Nor is it longer on a computer that comes back late, since what passed counts.
     Silence {
         quiet_ms: 50,
         pace: Pace::Late(1_000),
-        pauses: 24,
-        passed: 52_727,
+        pauses: 31,
+        passed: 51_072,
     },
     Silence {
         quiet_ms: 2000,
         pace: Pace::Late(1_000),
-        pauses: 350,
-        passed: 2_002_876,
+        pauses: 365,
+        passed: 2_000_608,
     },
     // A process that was held for an hour has heard 10 milliseconds of silence meanwhile.
     Silence {
         quiet_ms: 2000,
         pace: Pace::Held,
-        pauses: 420,
-        passed: HOUR + 1_993_425,
+        pauses: 460,
+        passed: HOUR + 1_994_209,
     },
     // A clock that tells nothing is replaced by what was asked for.
     Silence {
         quiet_ms: 2000,
         pace: Pace::Still,
-        pauses: 477,
+        pauses: 604,
         passed: 0,
     },
     Silence {
         quiet_ms: 2000,
         pace: Pace::Failing,
-        pauses: 477,
+        pauses: 604,
         passed: 0,
     },
     Silence {
         quiet_ms: 50,
         pace: Pace::Backward,
-        pauses: 85,
+        pauses: 198,
         passed: 0,
     },
 ];
@@ -121,12 +122,12 @@ const HEARINGS: [(&[Turn], Result<Heard, LineFault>, usize, u32); 9] = [
         5,
         4,
     ),
-    (&[Turn::Empty], Ok(Heard::Quiet), 86, 85),
+    (&[Turn::Empty], Ok(Heard::Quiet), 199, 198),
     (
         &[Turn::Fails(ErrorKind::Interrupted)],
         Ok(Heard::Quiet),
-        86,
-        85,
+        199,
+        198,
     ),
     // A hang-up is the line's end, and no silence.
     (&[Turn::HungUp], Err(LineFault::Closed), 1, 0),
@@ -185,7 +186,7 @@ const SENDINGS: [(&[Turn], Result<(), LineFault>, usize, u32); 6] = [
         1,
     ),
     // One that stays stopped ends after the quiet time.
-    (&[NOTHING], Err(LineFault::Send), 86, 85),
+    (&[NOTHING], Err(LineFault::Send), 199, 198),
     // A failure and a key that is not taken are told at once.
     (&[Turn::Fails(ErrorKind::Other)], Err(LineFault::Send), 1, 0),
     (&[Turn::Empty], Err(LineFault::Send), 1, 0),
@@ -221,7 +222,7 @@ fn is_stopped_output_ended() -> bool {
     let Ok(mut line) = open_line(&system, PATH, 2000) else {
         return false;
     };
-    line.send(b'Z') == Err(LineFault::Send) && bench.pauses.get() == 420
+    line.send(b'Z') == Err(LineFault::Send) && bench.pauses.get() == 460
 }
 
 /// How no line is made to a device.

@@ -57,7 +57,7 @@ impl<T: Terminal, C: Clock> Read for Device<'_, T, C> {
     fn read(&mut self, buf: &mut [u8]) -> io::Result<usize>
         ensures bound { ReadsAtMost result buf.new }
         ensures bytes { ReadConsumes self.old.to_come self.new.to_come result buf.new }
-        ensures looks { LooksUpTo self.old.misses self.new.misses (20 * self.old.quiet_ms + 1) }
+        ensures looks { LooksUpTo self.old.misses self.new.misses (100 * self.old.quiet_ms + 1) }
         ensures silence { IfErr result (λ error. EndsWaiting (error_kind error) → IsSilence self.old.misses self.new.misses self.old.quiet_ms) }
         ensures same { self.new.quiet_ms ≡ self.old.quiet_ms }
     {

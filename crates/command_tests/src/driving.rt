@@ -6,8 +6,8 @@ use host_core::{End, HostCore, Progress};
 use load_devices::Keep;
 use load_engine::{Stop, drive};
 use load_record::FileKeep;
-use socket_line::SocketLine;
 use std::alloc::Global;
+use stream_line::SocketLine;
 
 /// A host that has verified nothing of the smallest tape, with a record that is begun so; or None where one of them
 /// can't be had.

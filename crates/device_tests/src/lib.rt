@@ -1,14 +1,18 @@
-//! Tests of what a load stands on: the keeper of its record, and the line over a socket.
+//! Tests of what a load stands on: the keeper of its record, and the lines over a socket
+//! and a serial device.
 //!
 //! Contracts say which bytes a keeper writes, and what is made of the bytes of a stream; here stand
 //! examples of all that, and what no clause can say: that each call of a keeper flushes, that no device
-//! is asked again that has failed, and what a socket is set to.
+//! is asked again that has failed, what a socket is set to, and
+//! how many looks at a terminal make a silence.
 //!
 //! They stand in a crate of their own, since a crate with tests is proved twice.
 #![tactic(auto)]
 
 #[cfg(test)]
 mod brittle;
+#[cfg(test)]
+mod devices;
 #[cfg(test)]
 mod keeping;
 #[cfg(test)]
@@ -17,3 +21,5 @@ mod plans;
 mod sockets;
 #[cfg(test)]
 mod streams;
+#[cfg(test)]
+mod terminals;

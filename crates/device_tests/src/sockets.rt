@@ -3,10 +3,10 @@
 use crate::streams::{Faulty, Notes, TwoAddresses};
 use host_core::Heard;
 use load_devices::{Line, LineFault};
-use socket_line::SocketLine;
 use std::io::{ErrorKind, Read, Write};
 use std::net::{SocketAddr, TcpListener, TcpStream};
 use std::time::Duration;
+use stream_line::SocketLine;
 
 /// How a call of `hear` may end.
 type Hearing = Result<Heard, LineFault>;

@@ -8,7 +8,7 @@ use crate::record_fault::RecordFault;
 use crate::record_file::DiskRecord;
 use crate::surroundings::Surroundings;
 use load_devices::{LineFault, MemoryKeep};
-use socket_line::SocketLine;
+use stream_line::SocketLine;
 use std::alloc::Global;
 use std::net::Net;
 use tape_image::Plan;

@@ -1,0 +1,2 @@
+mod FirstByte
+mod Looks

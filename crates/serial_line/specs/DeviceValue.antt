@@ -1,0 +1,10 @@
+-- A device as one value.
+use Rattle.std.specs.Prelude.{ℕ, List, Option}
+
+-- the bytes that are still to come, those that went out and how many looks were in vain, where the terminal tells; and the
+-- quiet time in milliseconds
+pub record DeviceValue : Type 0 where
+  pub to_come : Option (List ℕ)
+  pub gone_out : Option (List ℕ)
+  pub misses : Option ℕ
+  pub quiet_ms : ℕ

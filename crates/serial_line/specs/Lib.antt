@@ -1,0 +1,2 @@
+pub mod DeviceValue
+pub mod Looking

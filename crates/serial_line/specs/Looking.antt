@@ -1,0 +1,50 @@
+-- What looks at a terminal find, and what a silence is; where the terminal doesn't tell, these say nothing.
+use Rattle.std.specs.Prelude.{◌≡◌, ◌≢◌, ◌⊎◌, ℕ, ◌≤◌, ◌+◌, ◌*◌, List, [], ◌∷◌, Option, Some, None, Result, Ok, Err, ⊤}
+use Rattle.std.specs.Io.KnownBytes.{Consumes, IsAtEnd}
+use Rattle.std.specs.declared.io.Error.{Error}
+use Rattle.std.specs.declared.io.ErrorKind.{ErrorKind}
+use Rattle.std.specs.declared.io.ErrorKind.TheVariants.{WouldBlock, TimedOut, Interrupted}
+use Rattle.serial_line.specs.declared.terminal.Look.{Look}
+use Rattle.serial_line.specs.declared.terminal.Look.TheVariants.{Byte, Nothing, Gone}
+
+-- what one look takes: the byte that it finds, or nothing; a terminal that is gone has nothing left
+abbrev pub IsLook : Option (List ℕ) → Option (List ℕ) → Look → Type 0
+IsLook old new (Byte byte) = Consumes old new (byte ∷ [])
+IsLook old new Nothing = Consumes old new []
+IsLook old new Gone = IsAtEnd new × Consumes old new []
+
+-- a look was in vain where it found nothing
+abbrev pub misses_of : Result Look Error → ℕ
+misses_of (Ok Nothing) = 1
+misses_of (Ok (Byte byte)) = 0
+misses_of (Ok Gone) = 0
+misses_of (Err error) = 0
+
+-- so many more looks were in vain
+abbrev pub Misses : Option ℕ → Option ℕ → ℕ → Type 0
+Misses None new looks = ⊤
+Misses (Some before) None looks = ⊥
+Misses (Some before) (Some after) looks = after ≡ before + looks
+
+-- at most so many more looks were in vain
+abbrev pub LooksUpTo : Option ℕ → Option ℕ → ℕ → Type 0
+LooksUpTo old new most = (looks : ℕ) × Misses old new looks × (looks ≤ most)
+
+-- a silence of the quiet time: looks in vain, one for each 10 ms of it at least, and one behind them
+abbrev pub IsSilence : Option ℕ → Option ℕ → ℕ → Type 0
+IsSilence old new quiet_ms = (looks : ℕ) × Misses old new looks × (quiet_ms + 10 ≤ 10 * looks)
+
+-- a reader that is told this takes it for silence
+abbrev pub EndsWaiting : ErrorKind → Type 0
+EndsWaiting kind = (kind ≡ WouldBlock) ⊎ (kind ≡ TimedOut)
+
+-- something went wrong, and not only that nothing has come
+pub record IsFailure (kind : ErrorKind) : Type 0 where
+  pub no_wait : kind ≢ WouldBlock
+  pub no_time : kind ≢ TimedOut
+  pub no_signal : kind ≢ Interrupted
+
+-- what is not taken now would not be taken either if it was written again at once
+pub record IsRefused (kind : ErrorKind) : Type 0 where
+  pub no_wait : kind ≢ WouldBlock
+  pub no_signal : kind ≢ Interrupted

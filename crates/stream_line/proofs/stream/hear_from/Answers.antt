@@ -1,0 +1,14 @@
+use Rattle.std.proofs.Common.{rules}
+use Rattle.stream_line.proofs.Dropping.{drops_more, takes_behind}
+use Rattle.stream_line.proofs.Silences.{unmet_more}
+use Rattle.stream_line.proofs.stream.hear_from.Goals as goal
+
+pub loop-preserved : goal.loop-preserved
+loop-preserved g c = record {
+  so_far = drops_more _ _ _ c.loop.counter c.in-Some.byte c.loop.invariant.so_far (search rules) (search rules);
+  unmet = unmet_more _ _ _ c.in-Some.byte c.loop.invariant.unmet (rw (c.in_ok-byte.was, c.in-Some.is) at c.receive.ensures.silence);
+}
+
+pub returns-then-character-ne0-clause-heard : goal.returns-then-character-ne0-clause-heard
+returns-then-character-ne0-clause-heard g c =
+    (c.loop.counter, search rules, c.in-Some.byte, search rules, search rules, takes_behind _ _ _ c.loop.counter c.in-Some.byte c.loop.invariant.so_far (search rules))

@@ -1,0 +1,49 @@
+//! What is made of the bytes of a stream.
+ghost use Rattle.std.specs.Prelude.{IfOk, IfErr, OnOk, [], ◌∷◌};
+ghost use Rattle.std.specs.Io.KnownBytes.{Appends};
+ghost use Rattle.stream_line.specs.Hearing.{IsHearing, IsHearingFault, IsSentInPart, MeetsLimit, silences_of};
+
+use crate::receive::Receive;
+use host_core::Heard;
+use load_devices::LineFault;
+use std::io::Write;
+
+/// How many characters one hearing drops. A console pads with a few of them; a line that sends
+/// nothing else is no console's.
+const MOST_DROPPED: u32 = 4096;
+
+/// Hears the next character of a stream, or that none comes within its time limit.
+///
+/// Bit 7 is cleared and the character 000 dropped; the 4,096th that is dropped is `Noise`. `Closed`
+/// is the stream's end, and `Receive` a read that failed.
+pub fn hear_from<S: Receive>(stream: &mut S) -> Result<Heard, LineFault>
+    ensures heard { IfOk result (IsHearing (S.remaining stream.old) (S.remaining stream.new)) }
+    ensures fault { IfErr result (IsHearingFault (S.remaining stream.old) (S.remaining stream.new)) }
+    ensures silence { MeetsLimit (S.silences stream.old) (S.silences stream.new) (silences_of result) }
+{
+    for _ in 0..MOST_DROPPED {
+        let Some(byte) = stream.receive()? else {
+            return Ok(Heard::Quiet);
+        };
+        let character = byte % 128;
+        if character != 0 {
+            return Ok(Heard::Got(character));
+        }
+    }
+    Err(LineFault::Noise)
+}
+
+/// Sends one key. It is not tried again where it fails, and it is then unknown whether it went out.
+pub fn send_to<S: Write>(stream: &mut S, key: u8) -> Result<(), LineFault>
+    ensures sent { OnOk result (Appends (S.contents stream.old) (S.contents stream.new) (key ∷ [])) }
+    ensures fault { IfErr result (IsSentInPart (S.contents stream.old) (S.contents stream.new) key) }
+{
+    match stream.write(&[key]) {
+        Ok(1) => {}
+        _ => return Err(LineFault::Send),
+    }
+    match stream.flush() {
+        Ok(()) => Ok(()),
+        Err(_) => Err(LineFault::Send),
+    }
+}

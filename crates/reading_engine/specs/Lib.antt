@@ -1,0 +1,3 @@
+pub mod Belief
+pub mod Failing
+pub mod Inquired

@@ -2,7 +2,7 @@
 //! counts are by hand: `Z` and its answer of six characters; a word is eight keys, the address, `/` and
 //! CR, and nineteen characters, seven echoes, eight of the reading and four after CR.
 
-use crate::{Stop, inquire};
+use crate::{Stop, inquire, inquire_in_memory};
 use honest_line::{Loss, MemoryLine};
 use load_devices::{Item, Line, LineFault};
 use odt_machine::{Odt, Style};
@@ -172,6 +172,15 @@ fn inquire_on<L: Line>(core: ReadingCore, line: &mut L, turns: u64) -> (ReadingC
     inquire(core, line, turns)
 }
 
+/// The engine's answer over a line that is lent.
+fn inquire_by_lending(
+    core: ReadingCore,
+    line: MemoryLine,
+    turns: u64,
+) -> ((ReadingCore, Stop), MemoryLine) {
+    inquire_in_memory(core, line, turns)
+}
+
 /// The reading came to this.
 fn comes_to(
     rt: &impl Abort,
@@ -191,9 +200,8 @@ fn comes_to(
 /// What a reading in this setting comes to; nothing where memory for it is refused.
 fn read(alloc: Global, setting: &Setting) -> Option<((ReadingCore, Stop), MemoryLine)> {
     let core = ReadingCore::of_range(alloc, 0o1000, 0o1004, setting.patience).ok()?;
-    let mut line = line_of(alloc, setting)?;
-    let answer = inquire_on(core, &mut line, setting.turns);
-    Some((answer, line))
+    let line = line_of(alloc, setting)?;
+    Some(inquire_by_lending(core, line, setting.turns))
 }
 
 #[test]

@@ -1,0 +1,75 @@
+-- What holds of a life over every list of heard things.
+use Rattle.std.proofs.Common.{◌≡◌, ℕ, ◌+◌, ◌≤◌, Bool, nat_lt, if◌then◌else◌, List, [], ◌∷◌, length, refl, arith, ◌∙◌, ap, length-append}
+use Rattle.host_core.specs.declared.heard.Heard.{Heard}
+use Rattle.octal.specs.Octal.{digit_of}
+use Rattle.host_core.specs.Console.{resynchronise}
+use Rattle.host_core.specs.Laws.{keys}
+use Rattle.host_core.proofs.Frame.{on_test}
+use Rattle.reading_core.specs.declared.phase.Phase.TheVariants.{Settle, Sync, Address, Ended}
+use Rattle.reading_core.specs.declared.phase.End.TheVariants.{Complete, GaveUp}
+use Rattle.reading_core.specs.declared.turn.Turn.{Turn}
+use Rattle.reading_core.specs.declared.turn.Turn.TheVariants.{Listen, Key, Read, Next, Stop, Stray, Timeout}
+use Rattle.reading_core.specs.Invariant.{IsReader}
+use Rattle.reading_core.specs.Laws.{led, replay, KeepsBound}
+use Rattle.reading_core.specs.Reader.{Reader, address_under_way}
+use Rattle.reading_core.specs.ReadingTable.{Asked, ask, listens, sends, taken, turn_of, values_after}
+use Rattle.reading_core.proofs.Turns.{kept, within_bound}
+
+-- what every turn does: addresses and patience stay, a character that is sent is counted, and the numbers grow by
+-- what the turn took
+pub record IsAsked (r : Reader) (turn : Turn) (a : Asked) : Type 0 where
+  pub addresses : a.next.addresses ≡ r.addresses
+  pub values : a.next.values ≡ values_after r.values turn
+  pub patience : a.next.patience ≡ r.patience
+  pub sent : a.next.sent ≡ r.sent + length (keys a.key)
+
+not_sent : (n : ℕ) → n ≡ n + 0
+not_sent n = omega arith
+
+either_asked : (r : Reader) (turn : Turn) (test : Bool) (a b : Asked) → IsAsked r turn a → IsAsked r turn b → IsAsked r turn (if test then a else b)
+either_asked r turn test a b one other = on_test (λ v. IsAsked r turn (if v then a else b)) test (λ _. one) (λ _. other)
+
+taken_asked : (r : Reader) (turn : Turn) → IsAsked r turn (taken r turn)
+taken_asked r (Listen phase) = record { addresses = refl; values = refl; patience = refl; sent = not_sent r.sent }
+taken_asked r (Key key phase) = record { addresses = refl; values = refl; patience = refl; sent = refl }
+taken_asked r (Read value) = record { addresses = refl; values = refl; patience = refl; sent = refl }
+taken_asked r Next =
+    either_asked r Next (nat_lt (length r.values) (length r.addresses)) (sends r (digit_of (address_under_way r) 1) (Address 1)) (listens r (Ended Complete))
+    record { addresses = refl; values = refl; patience = refl; sent = refl }
+    record { addresses = refl; values = refl; patience = refl; sent = not_sent r.sent }
+taken_asked r (Stop end) = record { addresses = refl; values = refl; patience = refl; sent = not_sent r.sent }
+taken_asked r Stray =
+    either_asked r Stray (nat_lt r.spent r.patience) (listens (record r { spent = r.spent + 1 }) Settle) (listens r (Ended GaveUp))
+    record { addresses = refl; values = refl; patience = refl; sent = not_sent r.sent }
+    record { addresses = refl; values = refl; patience = refl; sent = not_sent r.sent }
+taken_asked r Timeout =
+    either_asked r Timeout (nat_lt r.spent r.patience) (sends (record r { spent = r.spent + 1 }) resynchronise (Sync 0)) (listens r (Ended GaveUp))
+    record { addresses = refl; values = refl; patience = refl; sent = refl }
+    record { addresses = refl; values = refl; patience = refl; sent = not_sent r.sent }
+
+pub asked : (r : Reader) (heard : Heard) → IsAsked r (turn_of r heard) (ask r heard)
+asked r heard = taken_asked r (turn_of r heard)
+
+pub led_kept : (r : Reader) (heard : List Heard) → IsReader r → IsReader (led r heard)
+led_kept r [] h = h
+led_kept r (heard ∷ more) h = led_kept (ask r heard).next more (kept r heard h)
+
+pub led_addresses : (r : Reader) (heard : List Heard) → (led r heard).addresses ≡ r.addresses
+led_addresses r [] = refl
+led_addresses r (heard ∷ more) = led_addresses (ask r heard).next more ∙ (asked r heard).addresses
+
+pub led_patience : (r : Reader) (heard : List Heard) → (led r heard).patience ≡ r.patience
+led_patience r [] = refl
+led_patience r (heard ∷ more) = led_patience (ask r heard).next more ∙ (asked r heard).patience
+
+pub led_sent : (r : Reader) (heard : List Heard) → (led r heard).sent ≡ r.sent + length (replay r heard)
+led_sent r [] = omega arith
+led_sent r (heard ∷ more) =
+    omega (arith, led_sent (ask r heard).next more, (asked r heard).sent, length-append (keys (ask r heard).key) (replay (ask r heard).next more))
+
+pub keeps_bound : (r : Reader) → IsReader r → KeepsBound r
+keeps_bound r h heard =
+    omega (arith, within_bound (led r heard) (led_kept r heard h), led_sent r heard, ap length (led_addresses r heard), led_patience r heard)
+
+pub within_largest : (r : Reader) → IsReader r → r.sent ≤ 38654935040
+within_largest r h = omega (arith, within_bound r h, h.asked.few, h.long)

@@ -1,0 +1,6 @@
+pub mod Addresses
+pub mod Bound
+pub mod Invariant
+pub mod Laws
+pub mod Reader
+pub mod ReadingTable

@@ -1,0 +1,3 @@
+pub mod Beliefs
+pub mod Calls
+pub mod Stretches

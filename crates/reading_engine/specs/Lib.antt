@@ -1,0 +1,4 @@
+pub mod Belief
+pub mod Failing
+pub mod Inquired
+pub mod Lent

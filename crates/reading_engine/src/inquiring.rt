@@ -1,0 +1,61 @@
+ghost use Rattle.std.specs.Prelude.{◌≡◌, ℕ, ◌≤◌, None, Some, length};
+ghost use Rattle.load_devices.specs.Failures.{count_after, fault_of};
+ghost use Rattle.reading_core.specs.Bound.{reading_bound};
+ghost use Rattle.reading_core.specs.Invariant.{IsReader};
+ghost use Rattle.reading_core.specs.Reader.{ended};
+ghost use Rattle.reading_engine.specs.Belief.{IsBelievableOver};
+ghost use Rattle.reading_engine.specs.Failing.{Counts, NamesFault};
+ghost use Rattle.reading_engine.specs.Inquired.{Inquired, TellsEnd, failure_of};
+
+use crate::stop::Stop;
+use load_devices::{Line, LineFault};
+use reading_core::ReadingCore;
+
+/// Lends the core to the line for at most so many turns.
+///
+/// Before each turn, and after the last, an end of the core stops the engine. In a turn one thing is
+/// heard, the core takes its step, and the character that the step answered is sent. The first
+/// failure stops the engine. The core that comes back has taken the step.
+pub fn inquire<L: Line>(mut core: ReadingCore, line: &mut L, turns: u64) -> (ReadingCore, Stop)
+    ensures turns { Inquired turns (Some result.1) core result.0 (L.told line.old) (L.told line.new) }
+    ensures end { TellsEnd result.1 result.0 }
+    ensures counted { Counts (Some result.1) (L.fault_count line.old) (L.fault_count line.new) }
+    ensures fault { NamesFault (Some result.1) (L.last_fault line.new) }
+    ensures honest { IsBelievableOver result.1 core result.0 (L.told line.old) (L.told line.new) }
+    ensures same_addresses { result.0.addresses ≡ core.addresses }
+    ensures same_patience { result.0.patience ≡ core.patience }
+    ensures bound { result.0.sent ≤ reading_bound (length result.0.addresses) result.0.patience }
+    ensures kept { IsReader result.0 }
+{
+    let mut end = core.end();
+    for _ in 0..turns {
+        if let Some(end) = end {
+            return (core, Stop::Ended(end));
+        }
+        if let Err(fault) = turn(&mut core, line) {
+            return (core, Stop::LineFailed(fault));
+        }
+        end = core.end();
+    }
+    let stop = match end {
+        Some(end) => Stop::Ended(end),
+        None => Stop::TurnsOver,
+    };
+    (core, stop)
+}
+
+// One turn of a core that has no end.
+fn turn<L: Line>(core: &mut ReadingCore, line: &mut L) -> Result<(), LineFault>
+    requires goes_on { ended core.old.phase ≡ None }
+    requires kept { IsReader core.old }
+    ensures turn { Inquired 1 (failure_of result) core.old core.new (L.told line.old) (L.told line.new) }
+    ensures counted { L.fault_count line.new ≡ count_after (L.fault_count line.old) result }
+    ensures fault { L.last_fault line.new ≡ fault_of result }
+    ensures kept { IsReader core.new }
+{
+    let heard = line.hear()?;
+    if let Some(key) = core.step(heard) {
+        line.send(key)?;
+    }
+    Ok(())
+}

@@ -1,0 +1,120 @@
+ghost use Rattle.std.specs.Prelude.{◌≡◌, ◌≤◌, Some, length};
+ghost use Rattle.reading_core.specs.Bound.{reading_bound};
+ghost use Rattle.reading_core.specs.Invariant.{IsReader};
+ghost use Rattle.reading_engine.specs.Failing.{Counts, NamesFault};
+ghost use Rattle.reading_engine.specs.Inquired.{Inquired, TellsEnd};
+ghost use Rattle.reading_engine.specs.Lent.{HasMovedOn, ReadsTrue};
+
+use crate::inquiring::inquire;
+use crate::stop::Stop;
+use honest_line::MemoryLine;
+use host_core::Heard;
+use load_devices::{Line, LineFault};
+use reading_core::ReadingCore;
+use std::marker::{Brand, Model, PhantomData};
+
+/// A name for the line as it was lent.
+trait Opening {
+    ghost use Rattle.honest_line.specs.LineTable.{LineValue};
+
+    /// The line as it was lent.
+    ghost line: { LineValue };
+}
+
+impl Opening for Brand {
+    ghost use Rattle.reading_engine.specs.Lent.{no_line};
+
+    ghost line = { no_line };
+}
+
+/// A line in memory that is lent: all that was said since passed over it, whoever said it.
+#[derive(Drop)]
+struct Lent<E: Opening> {
+    line: MemoryLine,
+    of: PhantomData<E>,
+}
+
+impl<E: Opening> Model for Lent<E> {
+    ghost use Rattle.honest_line.specs.LineTable.{LineValue};
+    ghost use Rattle.reading_engine.specs.Lent.{HasMovedOn};
+
+    ghost Value = { LineValue };
+
+    ghost view = { λ l. l.line };
+
+    ghost invariant = { λ l. HasMovedOn E.line l.line };
+}
+
+impl<E: Opening> Line for Lent<E> {
+    ghost use Rattle.std.specs.Prelude.{Some};
+
+    ghost told = { λ lent. Some lent.items };
+
+    ghost fault_count = { λ lent. lent.failures };
+
+    ghost last_fault = { λ lent. lent.fault };
+
+    fn send(&mut self, key: u8) -> Result<(), LineFault> {
+        self.line.send(key)
+    }
+
+    fn hear(&mut self) -> Result<Heard, LineFault> {
+        self.line.hear()
+    }
+
+    fn failures(&self) -> u64 {
+        self.line.failures()
+    }
+
+    fn failed(&self) -> bool {
+        self.line.failed()
+    }
+}
+
+/// Lends the core to the line for at most so many turns, as `inquire` does, and the line comes back.
+/// Where a reading may begin over its machine and at most 32 characters wait, what was read is true
+/// and memory is what it was: no one has to vouch for the line.
+pub fn inquire_in_memory(
+    core: ReadingCore,
+    line: MemoryLine,
+    turns: u64,
+) -> ((ReadingCore, Stop), MemoryLine)
+    ensures moved { HasMovedOn line result.1 }
+    ensures reading { ReadsTrue result.0.1 core result.0.0 line result.1 }
+    ensures turns { Inquired turns (Some result.0.1) core result.0.0 (Some line.items) (Some result.1.items) }
+    ensures end { TellsEnd result.0.1 result.0.0 }
+    ensures counted { Counts (Some result.0.1) line.failures result.1.failures }
+    ensures fault { NamesFault (Some result.0.1) result.1.fault }
+    ensures same_addresses { result.0.0.addresses ≡ core.addresses }
+    ensures same_patience { result.0.0.patience ≡ core.patience }
+    ensures bound { result.0.0.sent ≤ reading_bound (length result.0.0.addresses) result.0.0.patience }
+    ensures kept { IsReader result.0.0 }
+{
+    inquire_lent::<Brand>(core, line, turns)
+}
+
+// The same, where the line has a name.
+fn inquire_lent<E: Opening>(
+    core: ReadingCore,
+    line: MemoryLine,
+    turns: u64,
+) -> ((ReadingCore, Stop), MemoryLine)
+    requires { line ≡ E.line }
+    ensures moved { HasMovedOn E.line result.1 }
+    ensures reading { ReadsTrue result.0.1 core result.0.0 E.line result.1 }
+    ensures turns { Inquired turns (Some result.0.1) core result.0.0 (Some line.items) (Some result.1.items) }
+    ensures end { TellsEnd result.0.1 result.0.0 }
+    ensures counted { Counts (Some result.0.1) line.failures result.1.failures }
+    ensures fault { NamesFault (Some result.0.1) result.1.fault }
+    ensures same_addresses { result.0.0.addresses ≡ core.addresses }
+    ensures same_patience { result.0.0.patience ≡ core.patience }
+    ensures bound { result.0.0.sent ≤ reading_bound (length result.0.0.addresses) result.0.0.patience }
+    ensures kept { IsReader result.0.0 }
+{
+    let mut lent: Lent<E> = Lent {
+        line,
+        of: PhantomData,
+    };
+    let answer = inquire(core, &mut lent, turns);
+    (answer, lent.line)
+}

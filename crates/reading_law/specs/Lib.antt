@@ -1,0 +1,3 @@
+pub mod Belief
+pub mod Inquiry
+pub mod Law

@@ -4,7 +4,7 @@ ghost use Rattle.host_core.specs.Console.{go};
 ghost use Rattle.host_core.specs.Core.{ended};
 ghost use Rattle.host_core.specs.Host.{IsHost};
 ghost use Rattle.host_core.specs.PhaseTable.{move};
-ghost use Rattle.load_devices.specs.Dialogue.{news_between};
+ghost use Rattle.load_devices.specs.Dialogue.{news_between, said};
 ghost use Rattle.load_devices.specs.Failures.{count_after, fault_of};
 ghost use Rattle.load_devices.specs.Told.{Gains, Keeps};
 ghost use Rattle.load_engine.specs.Belief.{IsBelievableOver};
@@ -13,7 +13,7 @@ ghost use Rattle.load_engine.specs.Session.{Session, KeepsMarkFirst, TellsEnd, I
 
 use crate::stop::Stop;
 use host_core::{Heard, HostCore, Progress};
-use load_devices::{Keep, KeepFault, Kept, Line};
+use load_devices::{Keep, KeepFault, Kept, Line, LineFault};
 
 /// Lends the core to the line and the keeper for at most so many turns.
 ///
@@ -70,9 +70,7 @@ fn turn<L: Line, K: Keep>(core: &mut HostCore, line: &mut L, keep: &mut K) -> Re
     if let Some(news) = news {
         keep_news(keep, news)?;
     }
-    if let Some(key) = key {
-        line.send(key)?;
-    }
+    send_key(line, key)?;
     Ok(())
 }
 
@@ -104,6 +102,20 @@ fn step(core: &mut HostCore, heard: Heard) -> Errands
         None
     };
     Errands { news, key }
+}
+
+// Sends the character, where there is one.
+fn send_key<L: Line>(line: &mut L, key: Option<u8>) -> Result<(), LineFault>
+    ensures sent { OnOk result (Gains (L.told line.old) (L.told line.new) (said key)) }
+    ensures not_sent { OnErr result (Keeps (L.told line.old) (L.told line.new)) }
+    ensures had_key { OnErr result (IsSome key) }
+    ensures counted { L.fault_count line.new ≡ count_after (L.fault_count line.old) result }
+    ensures fault { OnErr result (L.last_fault line.new ≡ fault_of result) }
+{
+    match key {
+        Some(key) => line.send(key),
+        None => Ok(()),
+    }
 }
 
 // Has one thing kept.

@@ -1,0 +1,5 @@
+mod Renewals
+mod Running
+mod LastTurns
+mod Records
+pub mod Chains

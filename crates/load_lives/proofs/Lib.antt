@@ -3,3 +3,4 @@ mod Running
 mod LastTurns
 mod Records
 pub mod Chains
+pub mod Stopping

@@ -8,4 +8,4 @@
 
 mod law;
 
-pub use law::lives_are_trusted;
+pub use law::{fronts_are_stopped, lives_are_trusted, records_are_fronts, sessions_are_lives};

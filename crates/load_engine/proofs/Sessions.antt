@@ -91,7 +91,7 @@ mark_join one two first second g h c =
 
 -- ---- two sessions, one after the other
 
-forward : (a b : Core) (heard : List Heard) → IsHost a → b ≡ led a heard → IsForward a b
+pub forward : (a b : Core) (heard : List Heard) → IsHost a → b ≡ led a heard → IsForward a b
 forward a b heard host is = subst (IsForward a) (sym is) (led_forward a heard host)
 
 items_join : (stop : Option Stop) (turns more : ℕ) (a b : Core) (heard later : List Heard) (first second : List Item) → b ≡ led a heard → length heard ≡ turns → first ≡ dialogue a heard →

@@ -9,6 +9,7 @@ ghost use Rattle.load_devices.specs.Failures.{count_after, fault_of};
 ghost use Rattle.load_devices.specs.Told.{Gains, Keeps};
 ghost use Rattle.load_engine.specs.Belief.{IsBelievableOver};
 ghost use Rattle.load_engine.specs.Failing.{Counts, NamesFault};
+ghost use Rattle.load_engine.specs.Keeping.{KeptBy};
 ghost use Rattle.load_engine.specs.Session.{Session, KeepsMarkFirst, TellsEnd, IsFailure};
 
 use crate::stop::Stop;
@@ -31,6 +32,7 @@ pub fn drive<L: Line, K: Keep>(
     ensures end { TellsEnd result.1 result.0 }
     ensures counted { Counts (Some result.1) (L.fault_count line.old) (L.fault_count line.new) (K.fault_count keep.old) (K.fault_count keep.new) }
     ensures fault { NamesFault (Some result.1) (L.last_fault line.new) (K.last_fault keep.new) }
+    ensures kept_by { KeptBy K.keeps K.fails (Some result.1) keep.old (news_between core result.0) keep.new }
     ensures mark_first { KeepsMarkFirst (L.told line.old) (L.told line.new) (K.told keep.old) (K.told keep.new) }
     ensures honest { IsBelievableOver result.1 core result.0 (L.told line.old) (L.told line.new) }
     ensures same_plan { result.0.plan ≡ core.plan }
@@ -62,6 +64,7 @@ fn turn<L: Line, K: Keep>(core: &mut HostCore, line: &mut L, keep: &mut K) -> Re
     ensures turn { Session 1 (fault_of result) core.old core.new (L.told line.old) (L.told line.new) (K.told keep.old) (K.told keep.new) }
     ensures counted { Counts (fault_of result) (L.fault_count line.old) (L.fault_count line.new) (K.fault_count keep.old) (K.fault_count keep.new) }
     ensures fault { NamesFault (fault_of result) (L.last_fault line.new) (K.last_fault keep.new) }
+    ensures kept_by { KeptBy K.keeps K.fails (fault_of result) keep.old (news_between core.old core.new) keep.new }
     ensures device { IfErr result IsFailure }
     ensures kept { IsHost core.new }
 {
@@ -122,6 +125,8 @@ fn send_key<L: Line>(line: &mut L, key: Option<u8>) -> Result<(), LineFault>
 fn keep_news<K: Keep>(keep: &mut K, news: Kept) -> Result<(), KeepFault>
     ensures kept { OnOk result (Gains (K.told keep.old) (K.told keep.new) (news ∷ [])) }
     ensures not_kept { OnErr result (Keeps (K.told keep.old) (K.told keep.new)) }
+    ensures keeps { OnOk result (K.keeps keep.old news keep.new) }
+    ensures fails { OnErr result (K.fails keep.old news keep.new) }
     ensures counted { K.fault_count keep.new ≡ count_after (K.fault_count keep.old) result }
     ensures fault { K.last_fault keep.new ≡ fault_of result }
 {

@@ -1,6 +1,9 @@
-use Rattle.std.proofs.Common.{Some, subst}
+use Rattle.std.proofs.Common.{Some, refl, subst}
 use Rattle.std.specs.Prelude.{option_to_list}
+use Rattle.load_devices.specs.Dialogue.{news_between}
 use Rattle.load_devices.specs.Told.{Gains}
+use Rattle.load_engine.specs.Keeping.{KeepsEach}
+use Rattle.load_engine.proofs.Keepings.{keeps_none, keeps_one, keeps_no_news, fails_one}
 use Rattle.load_engine.specs.declared.stop.Stop.TheVariants.{LineFailed, KeepFailed}
 use Rattle.load_engine.proofs.Turns.{IsStep, stop_is, kept_one, kept_none, turn_deaf, turn_unkept, turn_unsent, turn_done}
 use Rattle.load_engine.proofs.driving.turn.Goals as goal
@@ -46,3 +49,30 @@ returns-clause-turn g c =
     let j = (goal.at.returns-clause-turn g c).Joined-news in
     turn_done c.args.core.now c.step-news.new.core c.in_ok-heard.heard c.step-news.result.key c.step-news.result.news (g.L.Line.told c.args.line.now) (g.L.Line.told c.hear.new.self) (g.L.Line.told c.send_key.new.line) (g.K.Keep.told c.args.keep.now) (g.K.Keep.told c.match-news.keep)
     c.requires.goes_on (the_step g j) c.in_ok-heard.ensures.heard c.in_ok-send_key.ensures.sent (news_kept g j)
+
+pub returns-in_err-heard-clause-kept_by : goal.returns-in_err-heard-clause-kept_by
+returns-in_err-heard-clause-kept_by g c =
+    let fault = c.in_err-heard.field-0.0 in
+    rw (stop_is c.from_residual.result (LineFailed fault) c.from_residual.ensures.1) (keeps_none g.K.Keep.keeps c.args.keep.now c.args.keep.now c.args.core.now refl)
+
+pub returns-in_err-keep_news-clause-kept_by : goal.returns-in_err-keep_news-clause-kept_by
+returns-in_err-keep_news-clause-kept_by g c =
+    let fault = c.in_err-keep_news.field-0.0 in
+    rw (stop_is c.from_residual-in_err-keep_news.result (KeepFailed fault) c.from_residual-in_err-keep_news.ensures.1)
+    (fails_one g.K.Keep.keeps g.K.Keep.fails c.args.keep.now c.keep_news.new.keep c.step-news.result.news c.in-Some.news (news_between c.args.core.now c.step-news.new.core) c.in-Some.is c.step-news.ensures.news c.in_err-keep_news.ensures.fails)
+
+-- the keeper kept what there was to keep
+news_each : (g : _) (c : Joined-news g) → KeepsEach g.K.Keep.keeps c.args.keep.now (news_between c.args.core.now c.step-news.new.core) c.match-news.keep
+news_each g c =
+    subst (λ items. KeepsEach g.K.Keep.keeps c.args.keep.now items c.match-news.keep) c.step-news.ensures.news (elim c.match-news.branch [
+      | in-Some+in_ok-keep_news w ↦ keeps_one g.K.Keep.keeps c.args.keep.now w.keep_news.new.keep c.match-news.keep c.step-news.result.news w.in-Some.news w.keep-is w.in-Some.is w.in_ok-keep_news.ensures.keeps
+      | in_default w ↦ keeps_no_news g.K.Keep.keeps c.args.keep.now c.match-news.keep c.step-news.result.news w.keep-is w.in_default.is
+    ])
+
+pub returns-in_err-send_key-clause-kept_by : goal.returns-in_err-send_key-clause-kept_by
+returns-in_err-send_key-clause-kept_by g c =
+    let fault = c.in_err-send_key.field-0.0 in
+    rw (stop_is c.from_residual-in_err-send_key.result (LineFailed fault) c.from_residual-in_err-send_key.ensures.1) (news_each g (goal.at.returns-in_err-send_key-clause-kept_by g c).Joined-news)
+
+pub returns-clause-kept_by : goal.returns-clause-kept_by
+returns-clause-kept_by g c = news_each g (goal.at.returns-clause-kept_by g c).Joined-news

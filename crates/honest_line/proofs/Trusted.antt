@@ -85,7 +85,7 @@ trustworthy core things host machine now lost may honest =
 
 -- ---- the dialogue without its last key
 
-ends_front : (xs ys : List ℕ) → EndsAtGo (xs ++ ys) → EndsAtGo xs
+pub ends_front : (xs ys : List ℕ) → EndsAtGo (xs ++ ys) → EndsAtGo xs
 ends_front [] ys h = tt
 ends_front (x ∷ xs) ys h = (λ e. front xs ys (h.0 e), ends_front xs ys h.1)
   where

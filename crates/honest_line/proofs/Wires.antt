@@ -63,7 +63,7 @@ later k x = record x { lost = k + x.lost }
 one_later : (k n : ℕ) → k + (n + 1) ≡ k + n + 1
 one_later k n = omega arith
 
-later_carries : (k : ℕ) → Carries (later k)
+pub later_carries : (k : ℕ) → Carries (later k)
 later_carries k x y (inl (c, rest, is, now)) = inl (c, rest, is, ap (later k) now)
 later_carries k x y (inr (inl (i, below, now))) = inr (inl (i, below, ap (later k) now ∙ ap (λ n. record x { down = remove x.down i; lost = n }) (one_later k x.lost)))
 later_carries k x y (inr (inr (i, below, now))) = inr (inr (i, below, ap (later k) now ∙ ap (λ n. record x { up = remove x.up i; lost = n }) (one_later k x.lost)))

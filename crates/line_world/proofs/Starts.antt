@@ -56,7 +56,7 @@ none_right : (xs ys : List ℕ) → ys ≡ [] → xs ≡ [] → xs ++ ys ≡ []
 none_right xs ys e f = none_left xs ys f e
 
 -- nothing follows `G`, in the first keys or in the keys after them
-ends_join : (xs ys : List ℕ) → EndsAtGo xs → EndsAtGo ys → (Contains xs 71 → ys ≡ []) → EndsAtGo (xs ++ ys)
+pub ends_join : (xs ys : List ℕ) → EndsAtGo xs → EndsAtGo ys → (Contains xs 71 → ys ≡ []) → EndsAtGo (xs ++ ys)
 ends_join [] ys one other last = other
 ends_join (x ∷ xs) ys one other last =
     (λ g. none_left xs ys (one.0 g) (last (zero, omega arith, g)), ends_join xs ys one.1 other (λ h. last (has_more 71 x xs h)))

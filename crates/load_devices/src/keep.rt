@@ -1,4 +1,4 @@
-ghost use Rattle.std.specs.Prelude.{◌≡◌, ℕ, List, [], ◌∷◌, ◌↔◌, Option, None, IsTrue, IsSome, OnOk, OnErr};
+ghost use Rattle.std.specs.Prelude.{◌≡◌, ℕ, List, [], ◌∷◌, ◌↔◌, Option, None, IsTrue, IsSome, OnOk, OnErr, ⊤};
 ghost use Rattle.load_devices.specs.Told.{Gains, Keeps};
 ghost use Rattle.load_devices.specs.declared.item.Kept.{Kept};
 ghost use Rattle.load_devices.specs.declared.fault.KeepFault.{KeepFault};
@@ -15,6 +15,12 @@ pub trait Keep {
     /// What is kept so far, the oldest first; None where the type doesn't tell.
     ghost told: { Self → Option (List Kept) } = { λ _. None };
 
+    /// What keeping a thing makes of the keeper, where the type says it.
+    ghost keeps: { Self → Kept → Self → Type 0 } = { λ _ _ _. ⊤ };
+
+    /// What a call that failed to keep a thing makes of the keeper, where the type says it.
+    ghost fails: { Self → Kept → Self → Type 0 } = { λ _ _ _. ⊤ };
+
     /// How many calls have failed so far; at its largest value it stays.
     ghost fault_count: { Self → ℕ };
 
@@ -25,6 +31,8 @@ pub trait Keep {
     fn add(&mut self, word: Word) -> Result<(), KeepFault>
         ensures kept { OnOk result (Gains (told self.old) (told self.new) (Kept.Word word ∷ [])) }
         ensures not_kept { OnErr result (Keeps (told self.old) (told self.new)) }
+        ensures keeps { OnOk result (keeps self.old (Kept.Word word) self.new) }
+        ensures fails { OnErr result (fails self.old (Kept.Word word) self.new) }
         ensures counted { fault_count self.new ≡ count_after (fault_count self.old) result }
         ensures fault { last_fault self.new ≡ fault_of result };
 
@@ -32,6 +40,8 @@ pub trait Keep {
     fn mark(&mut self) -> Result<(), KeepFault>
         ensures kept { OnOk result (Gains (told self.old) (told self.new) (Kept.Go ∷ [])) }
         ensures not_kept { OnErr result (Keeps (told self.old) (told self.new)) }
+        ensures keeps { OnOk result (keeps self.old Kept.Go self.new) }
+        ensures fails { OnErr result (fails self.old Kept.Go self.new) }
         ensures counted { fault_count self.new ≡ count_after (fault_count self.old) result }
         ensures fault { last_fault self.new ≡ fault_of result };
 

@@ -1,4 +1,5 @@
 pub mod Beliefs
+pub mod Keepings
 pub mod News
 pub mod Sessions
 pub mod Turns

@@ -61,7 +61,7 @@ dialogue_join core (heard ∷ one) two =
     ap (λ rest. Came heard ∷ (said (move core heard).key ++ rest)) (dialogue_join (move core heard).next one two)
     ∙ ap (λ rest. Came heard ∷ rest) (sym (append_assoc (said (move core heard).key) (dialogue (move core heard).next one) (dialogue (led (move core heard).next one) two)))
 
-keys_join : (one two : List Item) → keys_of (one ++ two) ≡ keys_of one ++ keys_of two
+pub keys_join : (one two : List Item) → keys_of (one ++ two) ≡ keys_of one ++ keys_of two
 keys_join [] two = refl
 keys_join (Sent key ∷ one) two = ap (λ rest. key ∷ rest) (keys_join one two)
 keys_join (Came heard ∷ one) two = keys_join one two
@@ -91,7 +91,7 @@ mark_join one two first second g h c =
 
 -- ---- two sessions, one after the other
 
-forward : (a b : Core) (heard : List Heard) → IsHost a → b ≡ led a heard → IsForward a b
+pub forward : (a b : Core) (heard : List Heard) → IsHost a → b ≡ led a heard → IsForward a b
 forward a b heard host is = subst (IsForward a) (sym is) (led_forward a heard host)
 
 items_join : (stop : Option Stop) (turns more : ℕ) (a b : Core) (heard later : List Heard) (first second : List Item) → b ≡ led a heard → length heard ≡ turns → first ≡ dialogue a heard →

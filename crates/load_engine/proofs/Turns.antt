@@ -1,5 +1,5 @@
 -- One turn of the engine, by how far it came.
-use Rattle.std.proofs.Common.{◌≡◌, ℕ, zero, suc, List, [], ◌∷◌, ◌++◌, Option, Some, None, IsSome, inl, inr, refl, arith, ap, sym, subst}
+use Rattle.std.proofs.Common.{◌≡◌, ℕ, zero, suc, List, [], ◌∷◌, ◌++◌, Option, Some, None, IsSome, inl, inr, refl, arith, ap, sym, subst, ◌∙◌, append-nil}
 use Rattle.std.specs.Prelude.{option_to_list, Contains, Result, Ok, Err, IsErrAnd}
 use Rattle.host_core.specs.declared.heard.Heard.{Heard}
 use Rattle.host_core.specs.Console.{go}
@@ -8,10 +8,10 @@ use Rattle.host_core.specs.PhaseTable.{move}
 use Rattle.load_devices.specs.declared.fault.LineFault.{LineFault}
 use Rattle.load_devices.specs.declared.fault.KeepFault.{KeepFault}
 use Rattle.load_devices.specs.declared.item.Item.{Item}
-use Rattle.load_devices.specs.declared.item.Item.TheVariants.{Sent, Heard as Came}
+use Rattle.load_devices.specs.declared.item.Item.TheVariants.{Heard as Came}
 use Rattle.load_devices.specs.declared.item.Kept.{Kept}
 use Rattle.load_devices.specs.declared.item.Kept.TheVariants.{Go}
-use Rattle.load_devices.specs.Dialogue.{said, news_between}
+use Rattle.load_devices.specs.Dialogue.{said, keys_of, news_between}
 use Rattle.load_devices.specs.Failures.{fault_of}
 use Rattle.load_devices.specs.Told.{Gains, Keeps}
 use Rattle.load_engine.specs.declared.stop.Stop.{Stop}
@@ -83,10 +83,11 @@ turn_unkept fault old new heard (Some key) item line line' keep keep' running st
 }
 
 -- the line fails at the send
-pub turn_unsent : (fault : LineFault) (old new : Core) (heard : Heard) (key : ℕ) (news : Option Kept) (line line' line'' : Option (List Item)) (keep keep' : Option (List Kept)) →
-    ended old.phase ≡ None → IsStep old new heard (Some key) news → Gains line line' (Came heard ∷ []) → Keeps line' line'' → Gains keep keep' (option_to_list news) →
+pub turn_unsent : (fault : LineFault) (old new : Core) (heard : Heard) (key : Option ℕ) (news : Option Kept) (line line' line'' : Option (List Item)) (keep keep' : Option (List Kept)) →
+    ended old.phase ≡ None → IsStep old new heard key news → IsSome key → Gains line line' (Came heard ∷ []) → Keeps line' line'' → Gains keep keep' (option_to_list news) →
     Session 1 (Some (LineFailed fault)) old new line line'' keep keep'
-turn_unsent fault old new heard key news line line' line'' keep keep' running step g same k = record {
+turn_unsent fault old new heard None news line line' line'' keep keep' running step some g same k = absurd (cc)
+turn_unsent fault old new heard (Some key) news line line' line'' keep keep' running step some g same k = record {
   heard = heard ∷ [];
   said = Came heard ∷ [];
   kept = option_to_list news;
@@ -107,38 +108,25 @@ the_only key (suc k, low, is) = absurd (omega (arith, low))
 has_mark : (news : Option Kept) → news ≡ Some Go → Contains (option_to_list news) Go
 has_mark news is = subst (λ o. Contains (option_to_list o) Go) (sym is) (0, omega arith, refl)
 
--- a turn that sends
-pub turn_sent : (old new : Core) (heard : Heard) (key : ℕ) (news : Option Kept) (line line' line'' : Option (List Item)) (keep keep' : Option (List Kept)) →
-    ended old.phase ≡ None → IsStep old new heard (Some key) news → Gains line line' (Came heard ∷ []) → Gains line' line'' (Sent key ∷ []) → Gains keep keep' (option_to_list news) →
-    Session 1 None old new line line'' keep keep'
-turn_sent old new heard key news line line' line'' keep keep' running step g h k = record {
-  heard = heard ∷ [];
-  said = Came heard ∷ Sent key ∷ [];
-  kept = option_to_list news;
-  core = step.next;
-  goes_on = (running, tt);
-  within = omega arith;
-  items = (ap (λ k. Came heard ∷ (said k ++ [])) step.key_is, omega arith);
-  news = step.news_is;
-  mark_first = λ c. has_mark news (step.with_start (the_only key c));
-  on_line = gains_join line line' line'' (Came heard ∷ []) (Sent key ∷ []) g h;
-  at_keeper = k;
-}
+-- where the key is `G`, the mark is kept
+marked_first : (key : Option ℕ) (news : Option Kept) → (key ≡ Some go → news ≡ Some Go) → Contains (keys_of (said key)) go → Contains (option_to_list news) Go
+marked_first None news with_start c = no_key (option_to_list news) c
+marked_first (Some key) news with_start c = has_mark news (with_start (the_only key c))
 
--- a turn that sends nothing
-pub turn_still : (old new : Core) (heard : Heard) (news : Option Kept) (line line' : Option (List Item)) (keep keep' : Option (List Kept)) →
-    ended old.phase ≡ None → IsStep old new heard None news → Gains line line' (Came heard ∷ []) → Gains keep keep' (option_to_list news) →
-    Session 1 None old new line line' keep keep'
-turn_still old new heard news line line' keep keep' running step g k = record {
+-- a whole turn
+pub turn_done : (old new : Core) (heard : Heard) (key : Option ℕ) (news : Option Kept) (line line' line'' : Option (List Item)) (keep keep' : Option (List Kept)) →
+    ended old.phase ≡ None → IsStep old new heard key news → Gains line line' (Came heard ∷ []) → Gains line' line'' (said key) → Gains keep keep' (option_to_list news) →
+    Session 1 None old new line line'' keep keep'
+turn_done old new heard key news line line' line'' keep keep' running step g h k = record {
   heard = heard ∷ [];
-  said = Came heard ∷ [];
+  said = Came heard ∷ said key;
   kept = option_to_list news;
   core = step.next;
   goes_on = (running, tt);
   within = omega arith;
-  items = (ap (λ k. Came heard ∷ (said k ++ [])) step.key_is, omega arith);
+  items = (ap (λ items. Came heard ∷ items) (ap said step.key_is ∙ sym (append-nil (said (move old heard).key))), omega arith);
   news = step.news_is;
-  mark_first = no_key (option_to_list news);
-  on_line = g;
+  mark_first = marked_first key news step.with_start;
+  on_line = gains_join line line' line'' (Came heard ∷ []) (said key) g h;
   at_keeper = k;
 }

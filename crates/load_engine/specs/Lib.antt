@@ -1,3 +1,4 @@
 pub mod Belief
 pub mod Failing
+pub mod Keeping
 pub mod Session

@@ -4,16 +4,17 @@ ghost use Rattle.host_core.specs.Console.{go};
 ghost use Rattle.host_core.specs.Core.{ended};
 ghost use Rattle.host_core.specs.Host.{IsHost};
 ghost use Rattle.host_core.specs.PhaseTable.{move};
-ghost use Rattle.load_devices.specs.Dialogue.{news_between};
+ghost use Rattle.load_devices.specs.Dialogue.{news_between, said};
 ghost use Rattle.load_devices.specs.Failures.{count_after, fault_of};
 ghost use Rattle.load_devices.specs.Told.{Gains, Keeps};
 ghost use Rattle.load_engine.specs.Belief.{IsBelievableOver};
 ghost use Rattle.load_engine.specs.Failing.{Counts, NamesFault};
+ghost use Rattle.load_engine.specs.Keeping.{KeptBy};
 ghost use Rattle.load_engine.specs.Session.{Session, KeepsMarkFirst, TellsEnd, IsFailure};
 
 use crate::stop::Stop;
 use host_core::{Heard, HostCore, Progress};
-use load_devices::{Keep, KeepFault, Kept, Line};
+use load_devices::{Keep, KeepFault, Kept, Line, LineFault};
 
 /// Lends the core to the line and the keeper for at most so many turns.
 ///
@@ -31,6 +32,7 @@ pub fn drive<L: Line, K: Keep>(
     ensures end { TellsEnd result.1 result.0 }
     ensures counted { Counts (Some result.1) (L.fault_count line.old) (L.fault_count line.new) (K.fault_count keep.old) (K.fault_count keep.new) }
     ensures fault { NamesFault (Some result.1) (L.last_fault line.new) (K.last_fault keep.new) }
+    ensures kept_by { KeptBy K.keeps K.fails (Some result.1) keep.old (news_between core result.0) keep.new }
     ensures mark_first { KeepsMarkFirst (L.told line.old) (L.told line.new) (K.told keep.old) (K.told keep.new) }
     ensures honest { IsBelievableOver result.1 core result.0 (L.told line.old) (L.told line.new) }
     ensures same_plan { result.0.plan ≡ core.plan }
@@ -62,6 +64,7 @@ fn turn<L: Line, K: Keep>(core: &mut HostCore, line: &mut L, keep: &mut K) -> Re
     ensures turn { Session 1 (fault_of result) core.old core.new (L.told line.old) (L.told line.new) (K.told keep.old) (K.told keep.new) }
     ensures counted { Counts (fault_of result) (L.fault_count line.old) (L.fault_count line.new) (K.fault_count keep.old) (K.fault_count keep.new) }
     ensures fault { NamesFault (fault_of result) (L.last_fault line.new) (K.last_fault keep.new) }
+    ensures kept_by { KeptBy K.keeps K.fails (fault_of result) keep.old (news_between core.old core.new) keep.new }
     ensures device { IfErr result IsFailure }
     ensures kept { IsHost core.new }
 {
@@ -70,9 +73,7 @@ fn turn<L: Line, K: Keep>(core: &mut HostCore, line: &mut L, keep: &mut K) -> Re
     if let Some(news) = news {
         keep_news(keep, news)?;
     }
-    if let Some(key) = key {
-        line.send(key)?;
-    }
+    send_key(line, key)?;
     Ok(())
 }
 
@@ -106,10 +107,26 @@ fn step(core: &mut HostCore, heard: Heard) -> Errands
     Errands { news, key }
 }
 
+// Sends the character, where there is one.
+fn send_key<L: Line>(line: &mut L, key: Option<u8>) -> Result<(), LineFault>
+    ensures sent { OnOk result (Gains (L.told line.old) (L.told line.new) (said key)) }
+    ensures not_sent { OnErr result (Keeps (L.told line.old) (L.told line.new)) }
+    ensures had_key { OnErr result (IsSome key) }
+    ensures counted { L.fault_count line.new ≡ count_after (L.fault_count line.old) result }
+    ensures fault { OnErr result (L.last_fault line.new ≡ fault_of result) }
+{
+    match key {
+        Some(key) => line.send(key),
+        None => Ok(()),
+    }
+}
+
 // Has one thing kept.
 fn keep_news<K: Keep>(keep: &mut K, news: Kept) -> Result<(), KeepFault>
     ensures kept { OnOk result (Gains (K.told keep.old) (K.told keep.new) (news ∷ [])) }
     ensures not_kept { OnErr result (Keeps (K.told keep.old) (K.told keep.new)) }
+    ensures keeps { OnOk result (K.keeps keep.old news keep.new) }
+    ensures fails { OnErr result (K.fails keep.old news keep.new) }
     ensures counted { K.fault_count keep.new ≡ count_after (K.fault_count keep.old) result }
     ensures fault { K.last_fault keep.new ≡ fault_of result }
 {

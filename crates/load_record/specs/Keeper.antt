@@ -3,11 +3,13 @@ use Rattle.std.specs.Prelude.{◌≡◌, ℕ, ◌+◌, ◌-◌, ◌^◌, ◌<◌
 use Rattle.std.specs.Io.KnownBytes.{Appends, Keeps}
 use Rattle.command_io.specs.Output.{WritesFront}
 use Rattle.tape_image.specs.Plan.{PlanValue}
+use Rattle.load_devices.specs.declared.item.Kept.{Kept}
+use Rattle.load_devices.specs.declared.item.Kept.TheVariants.{Word, Go}
 use Rattle.load_devices.specs.declared.fault.KeepFault.{KeepFault}
 use Rattle.load_devices.specs.declared.fault.KeepFault.TheVariants.{Write}
 use Rattle.load_record.specs.declared.version.Version.TheVariants.{Second}
 use Rattle.load_record.specs.declared.run.OpenRun.{OpenRun}
-use Rattle.load_record.specs.RecordText.{open_run, record_text}
+use Rattle.load_record.specs.RecordText.{open_run, record_text, second_piece, second_run, mark_text}
 
 -- what the writer holds, where it tells its bytes; the run line that stands open; and how many calls have failed
 pub record Keeper : Type 0 where
@@ -37,3 +39,13 @@ pub record Failed (before after : Keeper) (text : List ℕ) : Type 0 where
 pub record HoldsRecord (keeper : Keeper) (plan : PlanValue) (k : ℕ) : Type 0 where
   pub written : keeper.text ≡ Some (record_text Second plan k false)
   pub knows : keeper.run ≡ open_run Second plan k
+
+-- a thing was kept: its text was written
+abbrev pub HasKept : Keeper → Kept → Keeper → Type 0
+HasKept before (Word word) after = Wrote before after (second_piece before.run word) (second_run before.run word)
+HasKept before Go after = Wrote before after (mark_text before.run) None
+
+-- a thing was not kept: a front of its text was written, if anything
+abbrev pub HasCutShort : Keeper → Kept → Keeper → Type 0
+HasCutShort before (Word word) after = Failed before after (second_piece before.run word)
+HasCutShort before Go after = Failed before after (mark_text before.run)

@@ -4,7 +4,7 @@ ghost use Rattle.std.specs.Io.KnownBytes.{Keeps};
 ghost use Rattle.tape_image.specs.Plan.{PlanValue};
 ghost use Rattle.load_devices.specs.declared.fault.KeepFault.{KeepFault};
 ghost use Rattle.load_record.specs.declared.version.Version.TheVariants.{Second};
-ghost use Rattle.load_record.specs.Keeper.{Failed, HoldsRecord, Wrote, fault_now};
+ghost use Rattle.load_record.specs.Keeper.{Failed, HasCutShort, HasKept, HoldsRecord, Wrote, fault_now};
 ghost use Rattle.load_record.specs.RecordText.{ending, mark_text, open_run, record_text, second_piece, second_run};
 
 use crate::output::{write_begin, write_mark, write_word};
@@ -100,6 +100,10 @@ impl<W: Write> FileKeep<W> {
 }
 
 impl<W: Write> Keep for FileKeep<W> {
+    ghost keeps = { λ before item after. HasKept before item after };
+
+    ghost fails = { λ before item after. HasCutShort before item after };
+
     ghost fault_count = { λ keep. keep.failures };
 
     ghost last_fault = { λ keep. fault_now keep.failures };

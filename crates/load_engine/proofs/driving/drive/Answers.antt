@@ -1,7 +1,8 @@
 use Rattle.std.proofs.Common.{◌≡◌, ◌+◌, Some, None, refl, ap, sym, subst, ◌∙◌, arith}
 use Rattle.host_core.proofs.Lives.{led_plan, led_patience}
 use Rattle.host_core.proofs.Turns.{within_bound}
-use Rattle.load_engine.proofs.Sessions.{session_none, session_join, session_wider, session_marks, session_ended, session_over}
+use Rattle.load_engine.proofs.Keepings.{keeps_none, kept_then}
+use Rattle.load_engine.proofs.Sessions.{forward, session_none, session_join, session_wider, session_marks, session_ended, session_over}
 use Rattle.load_engine.specs.Session.{Session}
 use Rattle.load_engine.proofs.Beliefs.{session_believable}
 use Rattle.load_engine.proofs.driving.drive.Goals as goal
@@ -11,6 +12,7 @@ pub loop-init : goal.loop-init
 loop-init g c = record {
   session = session_none c.args.core (g.L.Line.told c.args.line.now) (g.K.Keep.told c.args.keep.now);
   counted = (refl, refl);
+  kept_by = keeps_none g.K.Keep.keeps c.args.keep.now c.args.keep.now c.args.core refl;
   first = c.end-end.ensures.kept;
   kept = c.end-end.ensures.kept;
   end = c.end-end.ensures.value;
@@ -82,6 +84,8 @@ loop-preserved g c =
       session = session_join c.loop.counter 1 None c.args.core c.loop.core c.turn.new.core (g.L.Line.told c.args.line.now) (g.L.Line.told c.loop.line) (g.L.Line.told c.turn.new.line) (g.K.Keep.told c.args.keep.now) (g.K.Keep.told c.loop.keep) (g.K.Keep.told c.turn.new.keep)
           inv.first inv.kept inv.session turn.turn;
       counted = (turn.counted.0 ∙ inv.counted.0, turn.counted.1 ∙ inv.counted.1);
+      kept_by = kept_then g.K.Keep.keeps g.K.Keep.fails None c.args.keep.now c.loop.keep c.turn.new.keep c.args.core c.loop.core c.turn.new.core
+          (forward c.args.core c.loop.core inv.session.heard inv.first inv.session.core) (forward c.loop.core c.turn.new.core turn.turn.heard inv.kept turn.turn.core) inv.kept_by turn.kept_by;
       first = inv.first;
       kept = turn.kept;
       end = c.end-end-in-loop.ensures.value;
@@ -124,3 +128,16 @@ returns-clause-bound g c = within_bound c.loop.core c.loop.invariant.kept
 
 pub returns-clause-kept : goal.returns-clause-kept
 returns-clause-kept g c = c.loop.invariant.kept
+
+pub returns-in-Some-clause-kept_by : goal.returns-in-Some-clause-kept_by
+returns-in-Some-clause-kept_by g c = c.loop.invariant.kept_by
+
+pub returns-in-Err-clause-kept_by : goal.returns-in-Err-clause-kept_by
+returns-in-Err-clause-kept_by g c =
+    let inv = c.loop.invariant in
+    let turn = c.in-Err.ensures in
+    kept_then g.K.Keep.keeps g.K.Keep.fails (Some c.in-Err.stop) c.args.keep.now c.loop.keep c.turn.new.keep c.args.core c.loop.core c.turn.new.core
+    (forward c.args.core c.loop.core inv.session.heard inv.first inv.session.core) (forward c.loop.core c.turn.new.core turn.turn.heard inv.kept turn.turn.core) inv.kept_by turn.kept_by
+
+pub returns-clause-kept_by : goal.returns-clause-kept_by
+returns-clause-kept_by g c = elim c.match-end-2.branch [ in-Some-end w ↦ rw w.stop-is c.loop.invariant.kept_by | in-None w ↦ rw w.stop-is c.loop.invariant.kept_by ]

@@ -1,8 +1,11 @@
-use Rattle.std.proofs.Common.{◌≡◌, ℕ, Option, Some, None, subst}
+use Rattle.std.proofs.Common.{Some, refl, subst}
 use Rattle.std.specs.Prelude.{option_to_list}
+use Rattle.load_devices.specs.Dialogue.{news_between}
 use Rattle.load_devices.specs.Told.{Gains}
+use Rattle.load_engine.specs.Keeping.{KeepsEach}
+use Rattle.load_engine.proofs.Keepings.{keeps_none, keeps_one, keeps_no_news, fails_one}
 use Rattle.load_engine.specs.declared.stop.Stop.TheVariants.{LineFailed, KeepFailed}
-use Rattle.load_engine.proofs.Turns.{IsStep, stop_is, kept_one, kept_none, turn_deaf, turn_unkept, turn_unsent, turn_sent, turn_still}
+use Rattle.load_engine.proofs.Turns.{IsStep, stop_is, kept_one, kept_none, turn_deaf, turn_unkept, turn_unsent, turn_done}
 use Rattle.load_engine.proofs.driving.turn.Goals as goal
 use Rattle.load_engine.proofs.driving.turn.Goals.{Joined-news, in-Some+in_ok-keep_news, in_default}
 
@@ -30,28 +33,46 @@ news_kept g c =
       | in_default w ↦ kept_none g.K.Keep.told c.args.keep.now c.match-news.keep c.step-news.result.news w.keep-is w.in_default.is
     ]
 
-the_step : (g : _) (c : Joined-news g) (key : Option ℕ) → c.step-news.result.key ≡ key → IsStep c.args.core.now c.step-news.new.core c.in_ok-heard.heard key c.step-news.result.news
-the_step g c key is =
-    let s = c.step-news.ensures in
-    subst (λ k. IsStep c.args.core.now c.step-news.new.core c.in_ok-heard.heard k c.step-news.result.news) is
-    (record { next = s.next; key_is = s.key; news_is = s.news; with_key = s.news_with_key; with_start = s.mark_with_start })
+the_step : (g : _) (c : Joined-news g) → IsStep c.args.core.now c.step-news.new.core c.in_ok-heard.heard c.step-news.result.key c.step-news.result.news
+the_step g c = let s = c.step-news.ensures in record { next = s.next; key_is = s.key; news_is = s.news; with_key = s.news_with_key; with_start = s.mark_with_start }
 
-pub returns-in_err-send-clause-turn : goal.returns-in_err-send-clause-turn
-returns-in_err-send-clause-turn g c =
-    let fault = c.in_err-send.field-0.0 in
-    let j = (goal.at.returns-in_err-send-clause-turn g c).Joined-news in
-    rw (stop_is c.from_residual-in_err-send.result (LineFailed fault) c.from_residual-in_err-send.ensures.1)
-    (turn_unsent fault c.args.core.now c.step-news.new.core c.in_ok-heard.heard c.in-Some-key.key c.step-news.result.news (g.L.Line.told c.args.line.now) (g.L.Line.told c.hear.new.self) (g.L.Line.told c.send.new.self) (g.K.Keep.told c.args.keep.now) (g.K.Keep.told c.match-news.keep)
-    c.requires.goes_on (the_step g j (Some c.in-Some-key.key) c.in-Some-key.is) c.in_ok-heard.ensures.heard c.in_err-send.ensures.not_sent (news_kept g j))
+pub returns-in_err-send_key-clause-turn : goal.returns-in_err-send_key-clause-turn
+returns-in_err-send_key-clause-turn g c =
+    let fault = c.in_err-send_key.field-0.0 in
+    let j = (goal.at.returns-in_err-send_key-clause-turn g c).Joined-news in
+    rw (stop_is c.from_residual-in_err-send_key.result (LineFailed fault) c.from_residual-in_err-send_key.ensures.1)
+    (turn_unsent fault c.args.core.now c.step-news.new.core c.in_ok-heard.heard c.step-news.result.key c.step-news.result.news (g.L.Line.told c.args.line.now) (g.L.Line.told c.hear.new.self) (g.L.Line.told c.send_key.new.line) (g.K.Keep.told c.args.keep.now) (g.K.Keep.told c.match-news.keep)
+    c.requires.goes_on (the_step g j) c.in_err-send_key.ensures.had_key c.in_ok-heard.ensures.heard c.in_err-send_key.ensures.not_sent (news_kept g j))
 
-pub returns-in_ok-send-clause-turn : goal.returns-in_ok-send-clause-turn
-returns-in_ok-send-clause-turn g c =
-    let j = (goal.at.returns-in_ok-send-clause-turn g c).Joined-news in
-    turn_sent c.args.core.now c.step-news.new.core c.in_ok-heard.heard c.in-Some-key.key c.step-news.result.news (g.L.Line.told c.args.line.now) (g.L.Line.told c.hear.new.self) (g.L.Line.told c.send.new.self) (g.K.Keep.told c.args.keep.now) (g.K.Keep.told c.match-news.keep)
-    c.requires.goes_on (the_step g j (Some c.in-Some-key.key) c.in-Some-key.is) c.in_ok-heard.ensures.heard c.in_ok-send.ensures.sent (news_kept g j)
+pub returns-clause-turn : goal.returns-clause-turn
+returns-clause-turn g c =
+    let j = (goal.at.returns-clause-turn g c).Joined-news in
+    turn_done c.args.core.now c.step-news.new.core c.in_ok-heard.heard c.step-news.result.key c.step-news.result.news (g.L.Line.told c.args.line.now) (g.L.Line.told c.hear.new.self) (g.L.Line.told c.send_key.new.line) (g.K.Keep.told c.args.keep.now) (g.K.Keep.told c.match-news.keep)
+    c.requires.goes_on (the_step g j) c.in_ok-heard.ensures.heard c.in_ok-send_key.ensures.sent (news_kept g j)
 
-pub returns-in_default-key-clause-turn : goal.returns-in_default-key-clause-turn
-returns-in_default-key-clause-turn g c =
-    let j = (goal.at.returns-in_default-key-clause-turn g c).Joined-news in
-    turn_still c.args.core.now c.step-news.new.core c.in_ok-heard.heard c.step-news.result.news (g.L.Line.told c.args.line.now) (g.L.Line.told c.hear.new.self) (g.K.Keep.told c.args.keep.now) (g.K.Keep.told c.match-news.keep)
-    c.requires.goes_on (the_step g j None c.in_default-key.is) c.in_ok-heard.ensures.heard (news_kept g j)
+pub returns-in_err-heard-clause-kept_by : goal.returns-in_err-heard-clause-kept_by
+returns-in_err-heard-clause-kept_by g c =
+    let fault = c.in_err-heard.field-0.0 in
+    rw (stop_is c.from_residual.result (LineFailed fault) c.from_residual.ensures.1) (keeps_none g.K.Keep.keeps c.args.keep.now c.args.keep.now c.args.core.now refl)
+
+pub returns-in_err-keep_news-clause-kept_by : goal.returns-in_err-keep_news-clause-kept_by
+returns-in_err-keep_news-clause-kept_by g c =
+    let fault = c.in_err-keep_news.field-0.0 in
+    rw (stop_is c.from_residual-in_err-keep_news.result (KeepFailed fault) c.from_residual-in_err-keep_news.ensures.1)
+    (fails_one g.K.Keep.keeps g.K.Keep.fails c.args.keep.now c.keep_news.new.keep c.step-news.result.news c.in-Some.news (news_between c.args.core.now c.step-news.new.core) c.in-Some.is c.step-news.ensures.news c.in_err-keep_news.ensures.fails)
+
+-- the keeper kept what there was to keep
+news_each : (g : _) (c : Joined-news g) → KeepsEach g.K.Keep.keeps c.args.keep.now (news_between c.args.core.now c.step-news.new.core) c.match-news.keep
+news_each g c =
+    subst (λ items. KeepsEach g.K.Keep.keeps c.args.keep.now items c.match-news.keep) c.step-news.ensures.news (elim c.match-news.branch [
+      | in-Some+in_ok-keep_news w ↦ keeps_one g.K.Keep.keeps c.args.keep.now w.keep_news.new.keep c.match-news.keep c.step-news.result.news w.in-Some.news w.keep-is w.in-Some.is w.in_ok-keep_news.ensures.keeps
+      | in_default w ↦ keeps_no_news g.K.Keep.keeps c.args.keep.now c.match-news.keep c.step-news.result.news w.keep-is w.in_default.is
+    ])
+
+pub returns-in_err-send_key-clause-kept_by : goal.returns-in_err-send_key-clause-kept_by
+returns-in_err-send_key-clause-kept_by g c =
+    let fault = c.in_err-send_key.field-0.0 in
+    rw (stop_is c.from_residual-in_err-send_key.result (LineFailed fault) c.from_residual-in_err-send_key.ensures.1) (news_each g (goal.at.returns-in_err-send_key-clause-kept_by g c).Joined-news)
+
+pub returns-clause-kept_by : goal.returns-clause-kept_by
+returns-clause-kept_by g c = news_each g (goal.at.returns-clause-kept_by g c).Joined-news

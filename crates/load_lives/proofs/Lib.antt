@@ -1,0 +1,6 @@
+mod Renewals
+mod Running
+mod LastTurns
+mod Records
+pub mod Chains
+pub mod Stopping

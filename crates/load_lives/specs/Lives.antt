@@ -1,0 +1,117 @@
+-- Lives of the host one after another, on one machine and with one record, and what may be trusted after them.
+use Rattle.std.specs.Prelude.{◌≡◌, ℕ, ◌+◌, ◌^◌, ◌<◌, ◌≤◌, ◌⊎◌, true, false, List, [], ◌∷◌, ◌++◌, length, Option, Contains, Ok, option_to_list}
+use Rattle.tape_image.specs.Plan.{PlanValue, IsPlan}
+use Rattle.host_core.specs.declared.heard.Heard.{Heard}
+use Rattle.host_core.specs.declared.progress.Progress.{Progress}
+use Rattle.host_core.specs.Console.{go}
+use Rattle.host_core.specs.Core.{Core, begun}
+use Rattle.host_core.specs.Laws.{led}
+use Rattle.line_world.specs.Wire.{Wire, forgiven}
+use Rattle.line_world.specs.Safe.{IsSafe}
+use Rattle.line_world.specs.Promises.{EndsAtGo}
+use Rattle.load_devices.specs.declared.item.Item.{Item}
+use Rattle.load_devices.specs.Dialogue.{said, dialogue, keys_of}
+use Rattle.honest_line.specs.Moves.{Passes}
+use Rattle.honest_line.specs.Honest.{resting}
+use Rattle.honest_line.specs.Trust.{MayBegin, IsTrusted}
+use Rattle.load_record.specs.declared.version.Version.TheVariants.{Second}
+use Rattle.load_record.specs.Reading.{Says}
+use Rattle.load_record.specs.RecordText.{record_text}
+
+-- what a life finds and what it leaves: the machine, with what is under way on its line, and the text of the record
+pub record Setting : Type 0 where
+  pub wire : Wire
+  pub text : List ℕ
+
+-- a life of the host: how many mishaps it survives, the progress that it began with, what it heard, what was said on the line, and the
+-- key that it was about to send, where it was stopped right before that
+pub record Life : Type 0 where
+  pub patience : ℕ
+  pub progress : Progress
+  pub heard : List Heard
+  pub items : List Item
+  pub unsent : Option ℕ
+
+-- the core that the life began with
+abbrev pub first_core : PlanValue → Life → Core
+first_core plan life = begun plan life.progress.verified life.progress.going life.patience
+
+-- the core that it became
+abbrev pub last_core : PlanValue → Life → Core
+last_core plan life = led (first_core plan life) life.heard
+
+-- a life may go on with a progress where the text says it, or says more words and the same about the mark
+pub record GoesOnFrom (plan : PlanValue) (text : List ℕ) (progress : Progress) : Type 0 where
+  pub recorded : Progress
+  pub says : Says plan text (Ok recorded)
+  pub fewer : progress.verified ≤ recorded.verified
+  pub same_mark : progress.going ≡ recorded.going
+
+-- a life finds the line as it was left, perhaps with a key under way; or a new one to the same machine, with no key under way
+-- and at most 32 characters waiting. Its losses are counted from there
+abbrev pub Reopens : Wire → Wire → Type 0
+Reopens left found =
+    (found ≡ forgiven left) ⊎ ((waiting : List ℕ) × (length waiting ≤ 32) × (found ≡ resting left.machine waiting 0))
+
+-- the record that a life leaves, which began with a progress, became a core and said these items: the text that it found, or a
+-- new one of all that it has verified, cut at any byte. Where `G` was sent it is the whole new one, with the mark; and where the
+-- mark stood before, the text is left alone
+pub record IsLeft (plan : PlanValue) (progress : Progress) (core : Core) (items : List Item) (old new : List ℕ) : Type 0 where
+  pub cut : (new ≡ old) ⊎ ((missing : List ℕ) × (new ++ missing ≡ record_text Second plan core.verified core.going))
+  pub whole : Contains (keys_of items) go → new ≡ record_text Second plan core.verified true
+  pub alone : progress.going ≡ true → new ≡ old
+
+-- one life, from what it finds to what it leaves
+pub record IsLife (plan : PlanValue) (old : Setting) (life : Life) (new : Setting) : Type 0 where
+  pub patient : life.patience < 2 ^ 32
+  pub goes_on : GoesOnFrom plan old.text life.progress
+  -- it says what its core decides, and may be stopped at any moment
+  pub stopped : dialogue (first_core plan life) life.heard ≡ life.items ++ said life.unsent
+  -- the line delivers and loses as a line may
+  pub found : Wire
+  pub reopens : Reopens old.wire found
+  pub passes : Passes found life.items new.wire
+  pub left : IsLeft plan life.progress (last_core plan life) life.items old.text new.text
+
+-- lives one after another, the latest first: each finds what the one before it left
+abbrev pub Lived : PlanValue → Setting → List Life → Setting → Type 0
+Lived plan old [] new = new ≡ old
+Lived plan old (life ∷ earlier) new = (between : Setting) × Lived plan old earlier between × IsLife plan between life new
+
+-- the keys that all these lives sent, in their order
+abbrev pub typed : List Life → List ℕ
+typed [] = []
+typed (life ∷ earlier) = typed earlier ++ keys_of life.items
+
+-- the first life may begin here: few characters wait and no key is under way, the machine runs no program, and what the record
+-- says, which has no mark, is true of memory
+pub record MayOpen (plan : PlanValue) (old : Setting) : Type 0 where
+  pub few : length old.wire.up ≤ 32
+  pub none_down : old.wire.down ≡ []
+  pub progress : Progress
+  pub says : Says plan old.text (Ok progress)
+  pub no_mark : progress.going ≡ false
+  pub begins : MayBegin (begun plan progress.verified false 0) old.wire.machine
+
+-- what the latest life, where there was one, may be trusted with: memory is safe against the one before the first life, and an end
+-- and each mishap have their losses
+abbrev pub IsLatestTrusted : PlanValue → List ℕ → List Life → Setting → Type 0
+IsLatestTrusted plan before [] now = Unit {0}
+IsLatestTrusted plan before (life ∷ earlier) now =
+    IsTrusted before (last_core plan life) now.wire.machine.memory (typed (life ∷ earlier)) (length (option_to_list life.unsent) + now.wire.lost)
+
+-- what came of all these lives: the record that is left says a progress, which is true of memory; memory is safe against the one
+-- before the first life; and `G`, if it was sent, was the last key of all, and then the record has the mark
+pub record AreTrusted (plan : PlanValue) (before : List ℕ) (lives : List Life) (now : Setting) : Type 0 where
+  pub progress : Progress
+  pub says : Says plan now.text (Ok progress)
+  pub safe : IsSafe before (begun plan progress.verified progress.going 0) now.wire.machine.memory
+  pub last : EndsAtGo (typed lives)
+  pub marked : Contains (typed lives) go → progress.going ≡ true
+  pub latest : IsLatestTrusted plan before lives now
+
+-- lives may be trusted, however many they are and wherever each was stopped
+abbrev pub LivesAreTrusted : Type 0
+LivesAreTrusted =
+    (plan : PlanValue) (old new : Setting) (lives : List Life) → IsPlan plan →
+    MayOpen plan old → Lived plan old lives new → AreTrusted plan old.wire.machine.memory lives new

@@ -8,9 +8,9 @@ use crate::record_fault::RecordFault;
 use crate::record_file::DiskRecord;
 use crate::surroundings::Surroundings;
 use load_devices::{LineFault, MemoryKeep};
-use stream_line::SocketLine;
 use std::alloc::Global;
 use std::net::Net;
+use stream_line::SocketLine;
 use tape_image::Plan;
 
 /// Where the console is, and how long silence lasts there.

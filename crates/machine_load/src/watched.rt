@@ -92,6 +92,10 @@ impl<'a, K: Keep, O: Onlooker> WatchedKeeper<'a, K, O> {
 impl<K: Keep, O: Onlooker> Keep for WatchedKeeper<'_, K, O> {
     ghost told = { λ watched. K.told watched.keeper };
 
+    ghost keeps = { λ before kept after. K.keeps before.keeper kept after.keeper };
+
+    ghost fails = { λ before kept after. K.fails before.keeper kept after.keeper };
+
     ghost fault_count = { λ watched. K.fault_count watched.keeper };
 
     ghost last_fault = { λ watched. K.last_fault watched.keeper };

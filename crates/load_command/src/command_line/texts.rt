@@ -15,8 +15,8 @@ Exit status:
   5  a load ended GaveUp, NoWord, WontHold or TurnsOver
   6  a load ended Uncertain or MaybeStarted: the program may be running
   7  out of memory
-Each fault but a refused command line is one line on standard error; a line that
-failed with the start in doubt has a second one.
+Each fault but a refused command line is one line on standard error; a line
+that failed with the start in doubt has a second one.
 
 Example, the tape on standard input:
   ldaodt < first.lda

@@ -2,6 +2,7 @@
 
 use crate::simulated_system::QUIET_MS;
 use endings::Status;
+use machine_load::LoadOptions;
 use requests::{Load, Request, attempt};
 use std::alloc::{AllocError, Global};
 use std::io::Stderr;
@@ -53,8 +54,11 @@ pub(crate) fn run(rt: &HostRuntime, request: Request<'_>, mut input: &[u8], ende
     );
 }
 
-/// How many mishaps a load survives.
-const PATIENCE: u32 = 3;
+/// A load that survives three mishaps.
+const OPTIONS: LoadOptions = LoadOptions {
+    patience: 3,
+    recheck: false,
+};
 
 /// A load of a tape, recorded under this name. The error is that the request itself has no room.
 pub(crate) fn load_of<'a>(
@@ -67,7 +71,7 @@ pub(crate) fn load_of<'a>(
         Load {
             address: "127.0.0.1:2323",
             record,
-            patience: PATIENCE,
+            options: OPTIONS,
             quiet_ms: QUIET_MS,
         },
     ))

@@ -2,89 +2,16 @@
 //! written.
 
 use crate::failing_devices::{BrokenInput, BrokenOutput, NOWHERE};
-use crate::tapes::plan_of_one_word;
-use command_io::{InputFault, read_up_to};
-use honest_line::MemoryLine;
+use crate::frail::{Frail, RECORD, VERIFIED, line, load_one_word};
 use host_core::End;
-use load_devices::{KeepFault, LineFault};
+use load_devices::KeepFault;
 use load_engine::Stop;
-use load_record::{FileKeep, RECORD_LIMIT};
-use machine_load::{BeginFault, LoadFault, Surroundings, Unwatched, load};
-use odt_machine::{LARGEST_WORDS, Odt, PLAIN_STYLE};
+use machine_load::{LoadFault, Outcome};
 use std::alloc::Global;
 use std::cell::RefCell;
-use std::io;
-use std::io::{ErrorKind, Write};
-use tape_image::Plan;
-
-/// An output that is looked at once the load has let it go.
-#[derive(Drop)]
-struct SharedOutput<'a> {
-    output: &'a RefCell<BrokenOutput>,
-}
-
-impl Write for SharedOutput<'_> {
-    fn write(&mut self, buf: &[u8]) -> io::Result<usize> {
-        match self.output.try_borrow_mut() {
-            Ok(mut output) => output.write(buf),
-            Err(_) => Err(io::Error::from(ErrorKind::Other)),
-        }
-    }
-
-    fn flush(&mut self) -> io::Result<()> {
-        Ok(())
-    }
-}
-
-/// A console in memory, and a record whose input and output may fail.
-#[derive(Drop)]
-struct Frail<'a> {
-    input: BrokenInput<'a>,
-    line: Option<MemoryLine>,
-    output: &'a RefCell<BrokenOutput>,
-}
-
-impl<'a> Surroundings for Frail<'a> {
-    type Line = MemoryLine;
-
-    type Keeper = FileKeep<SharedOutput<'a>>;
-
-    fn read_record(&mut self, alloc: Global) -> Result<Vec<u8>, InputFault> {
-        read_up_to(alloc, &mut self.input, RECORD_LIMIT + 1)
-    }
-
-    fn connect(&mut self) -> Result<MemoryLine, LineFault> {
-        match self.line.take() {
-            Some(line) => Ok(line),
-            None => Err(LineFault::Connect),
-        }
-    }
-
-    fn begin_record(
-        &mut self,
-        _alloc: Global,
-        plan: &Plan,
-        verified: u32,
-    ) -> Result<FileKeep<SharedOutput<'a>>, BeginFault> {
-        let output = self.output;
-        let mut keeper = FileKeep::new(SharedOutput { output });
-        keeper.begin(plan, verified)?;
-        Ok(keeper)
-    }
-}
-
-/// The record of the smallest tape's word, without the mark.
-const VERIFIED: &[u8] = b"LDAODT 1\n001000 177777 011064\n";
-
-/// A line to a machine that holds this at 001000.
-fn line(alloc: Global, word: u16) -> Option<MemoryLine> {
-    let mut odt = Odt::new(alloc, LARGEST_WORDS, PLAIN_STYLE).ok()?;
-    odt.put(0o001000, word);
-    MemoryLine::new(alloc, odt, Vec::new(alloc), 1000, None).ok()
-}
 
 /// How a load ends.
-type Outcome = Result<Stop, LoadFault>;
+type Ending = Result<Outcome, LoadFault>;
 
 /// Surroundings with this input and output, and a machine that holds this at 001000.
 fn frail_with<'a>(
@@ -93,18 +20,14 @@ fn frail_with<'a>(
     word: u16,
     output: &'a RefCell<BrokenOutput>,
 ) -> Option<Frail<'a>> {
-    let line = line(alloc, word)?;
+    let line = line(alloc, word, None)?;
     Some(Frail {
         input,
+        writable: true,
+        refusal: None,
         line: Some(line),
         output,
     })
-}
-
-/// Loads the smallest tape, and answers how that ends, or None where there is no memory for the tape.
-fn load_one_word(alloc: Global, around: &mut Frail<'_>, out: &mut Vec<u8>) -> Option<Outcome> {
-    let plan = plan_of_one_word(alloc)?;
-    Some(load(alloc, plan, 8, around, out, &Unwatched))
 }
 
 /// Whether a record's input failed once and was not asked again, and nobody connected.
@@ -118,9 +41,9 @@ fn load_unread(
     place: usize,
     output: &RefCell<BrokenOutput>,
     out: &mut Vec<u8>,
-) -> Option<Outcome> {
+) -> Option<Ending> {
     let mut around = frail_with(alloc, BrokenInput::new(VERIFIED, place), 0, output)?;
-    let done = load_one_word(alloc, &mut around, out);
+    let done = load_one_word(alloc, false, &mut around, out);
     if is_unconnected(&around) { done } else { None }
 }
 
@@ -141,18 +64,30 @@ fn the_record_that_is_read(rt: HostRuntime) {
     }
 }
 
-/// The whole record of a load of the smallest tape.
-const RECORD: &[u8] = b"LDAODT 2\n001000 011064\nG\n";
-
 /// The record could not be begun.
-const UNBEGUN: Outcome = Err(LoadFault::WriteRecord);
+const UNBEGUN: Ending = Err(LoadFault::WriteRecord);
 
-/// A word or the mark could not be kept.
-const UNKEPT: Outcome = Ok(Stop::KeepFailed(KeepFault::Write));
+/// A word could not be kept.
+const UNKEPT: Ending = Ok(Outcome {
+    stop: Stop::KeepFailed(KeepFault::Write),
+    marked: false,
+});
+
+/// The mark could not be kept: the start is not typed.
+const UNMARKED: Ending = Ok(Outcome {
+    stop: Stop::KeepFailed(KeepFault::Write),
+    marked: true,
+});
+
+/// The program was started.
+const STARTED: Ending = Ok(Outcome {
+    stop: Stop::Ended(End::Started),
+    marked: true,
+});
 
 /// A load that was begun with a record, the word in the machine's memory, which write of its own record
 /// fails, and then how it ends, how many bytes of that record were written before, and what is reported.
-type Row = (&'static [u8], u16, u32, Outcome, usize, &'static str);
+type Row = (&'static [u8], u16, u32, Ending, usize, &'static str);
 
 /// A write takes seven bytes at most: two for the header, two for the word, one for the mark.
 const WRITES: [Row; 10] = [
@@ -178,7 +113,7 @@ const WRITES: [Row; 10] = [
         b"",
         0,
         5,
-        UNKEPT,
+        UNMARKED,
         22,
         "sent 30 spent 0 verified 1 of 1\nend KeepFailed\n",
     ),
@@ -186,7 +121,7 @@ const WRITES: [Row; 10] = [
         b"",
         0,
         6,
-        Ok(Stop::Ended(End::Started)),
+        STARTED,
         25,
         "sent 30 spent 0 verified 1 of 1\nend Started\n",
     ),
@@ -196,7 +131,7 @@ const WRITES: [Row; 10] = [
         VERIFIED,
         0o011064,
         5,
-        UNKEPT,
+        UNMARKED,
         22,
         "sent 8 spent 0 verified 1 of 1\nend KeepFailed\n",
     ),
@@ -204,7 +139,7 @@ const WRITES: [Row; 10] = [
         VERIFIED,
         0o011064,
         6,
-        Ok(Stop::Ended(End::Started)),
+        STARTED,
         25,
         "sent 8 spent 0 verified 1 of 1\nend Started\n",
     ),
@@ -223,9 +158,9 @@ fn load_again(
     word: u16,
     output: &RefCell<BrokenOutput>,
     out: &mut Vec<u8>,
-) -> Option<Outcome> {
+) -> Option<Ending> {
     let mut around = frail_with(alloc, BrokenInput::new(record, NOWHERE), word, output)?;
-    load_one_word(alloc, &mut around, out)
+    load_one_word(alloc, false, &mut around, out)
 }
 
 /// Whether such a load ends so with this report, where this write of its own record fails, and so many bytes of
@@ -233,7 +168,7 @@ fn load_again(
 fn writing_stops(
     alloc: Global,
     (record, word, number): (&[u8], u16, u32),
-    ended: Outcome,
+    ended: Ending,
     written: usize,
     report: &str,
 ) -> bool {

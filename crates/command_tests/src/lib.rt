@@ -29,7 +29,13 @@ mod failing_requests;
 #[cfg(test)]
 mod failing_texts;
 #[cfg(test)]
+mod frail;
+#[cfg(test)]
+mod full_disks;
+#[cfg(test)]
 mod limits;
+#[cfg(test)]
+mod old_records;
 #[cfg(test)]
 mod progress;
 #[cfg(test)]

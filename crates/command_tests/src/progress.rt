@@ -81,15 +81,14 @@ enum Step {
 /// When the load begins, in milliseconds of its clock.
 const BEGINNING: u64 = 7_000_000;
 
+/// What is shown of it before its first key.
+const GOING_ON: &str =
+    "\rgoing on behind 500 of 2000 words; if the machine lost its power, stop and use --recheck\x1b[K";
+
 /// The time since then in milliseconds, what happens, how often something was shown by then, and what last.
 const STORY: [(u64, Step, u32, &str); 7] = [
-    (
-        10,
-        Step::Resynchronised,
-        1,
-        "\r500 of 2000 words, 25%\x1b[K",
-    ),
-    (99, Step::Verified, 1, "\r500 of 2000 words, 25%\x1b[K"),
+    (10, Step::Resynchronised, 1, GOING_ON),
+    (99, Step::Verified, 1, GOING_ON),
     (
         100,
         Step::Verified,
@@ -147,4 +146,45 @@ fn a_load_is_shown_at_its_pace(rt: HostRuntime) {
     }
     line.ends();
     assert!(rt; terminal.shows("\r\x1b[K"));
+}
+
+/// How many words are verified when a load begins, of how many, and what is shown of it before its first key.
+const BEGINNINGS: [(u32, u32, &str); 4] = [
+    (0, 28, "\r0 of 28 words, 0%\x1b[K"),
+    (
+        1,
+        28,
+        "\rgoing on behind 1 of 28 words; if the machine lost its power, stop and use --recheck\x1b[K",
+    ),
+    (
+        13,
+        28,
+        "\rgoing on behind 13 of 28 words; if the machine lost its power, stop and use --recheck\x1b[K",
+    ),
+    (
+        28672,
+        28672,
+        "\rgoing on behind 28672 of 28672 words; if the machine lost its power, stop and use --recheck\x1b[K",
+    ),
+];
+
+/// Whether a load that begins so is shown so, in one write.
+fn begins_so(alloc: Global, verified: u32, words: u32, text: &str) -> bool {
+    let clock = SetClock {
+        millis: Cell::new(BEGINNING),
+    };
+    let terminal = Screen::new(alloc);
+    ProgressLine::new(&clock, &terminal).begins(verified, words);
+    terminal.has_shown(1, text)
+}
+
+#[test]
+fn a_load_that_goes_on_from_a_record_says_so(rt: HostRuntime) {
+    for row in &BEGINNINGS {
+        let (verified, words, text) = *row;
+        assert!(rt;
+            begins_so(rt.alloc(), verified, words, text),
+            "{verified} of {words}"
+        );
+    }
 }

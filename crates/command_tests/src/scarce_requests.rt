@@ -4,6 +4,7 @@
 use crate::attempts::{Ended, OUT_OF_MEMORY, run};
 use crate::tapes::{NOTHING, ONE_WORD, ONE_WORD_DIALOGUE, ONE_WORD_TEXT, PADDED, WRONG_SUM};
 use endings::Status;
+use machine_load::LoadOptions;
 use odt_machine::{LARGEST_WORDS, PLAIN_STYLE};
 use requests::{Console, Load, Request};
 use scarce_memory::{Famine, ROOMS};
@@ -21,11 +22,17 @@ const FILES: [(&str, &[u8]); 6] = [
     ("scarce.record", b"LDAODT 1\n001000 177777 011064\nG\n"),
 ];
 
+/// Loads that survive eight mishaps.
+const OPTIONS: LoadOptions = LoadOptions {
+    patience: 8,
+    recheck: false,
+};
+
 /// A load whose start was typed in an earlier life, so that nothing is connected to.
 const MARKED_LOAD: Load<'static> = Load {
     address: "127.0.0.1:1",
     record: Some("scarce.record"),
-    patience: 8,
+    options: OPTIONS,
     quiet_ms: 2000,
 };
 
@@ -33,7 +40,7 @@ const MARKED_LOAD: Load<'static> = Load {
 const VAIN_LOAD: Load<'static> = Load {
     address: "127.0.0.1:1",
     record: None,
-    patience: 8,
+    options: OPTIONS,
     quiet_ms: 2000,
 };
 

@@ -1,20 +1,22 @@
 //! A system for tests: its files are real, but have room for so many bytes alone, and behind one
 //! address of its network answers a simulated console, which may close the line after a while. What is
-//! asked of its files can be noted, step by step, and one step can be made to fail.
+//! asked of its files can be noted, step by step, and steps can be made to fail.
 
 mod notes;
 
 use arrayvec::ArrayVec;
-use notes::note;
+use machine_load::Locks;
+use notes::{holding, note, note_opening, removing};
 pub use notes::{Failing, Notes, Step};
 use odt_machine::{LARGEST_WORDS, Odt, PLAIN_STYLE};
 use std::alloc::{Allocator, Global};
 use std::cell::Cell;
-use std::fs::{File, Metadata, OpenFile, OpenOptions};
+use std::fs::{File, Metadata, OpenFile, OpenOptions, TryLockError};
 use std::io;
 use std::io::{ErrorKind, Read, Seek, SeekFrom, Write};
 use std::net::{Ipv4Addr, Net, OpenListener, OpenStream, SocketAddr};
 use std::os::fd::{AsRawFd, RawFd};
+use std::path::PathBuf;
 use std::rt::Files;
 use std::time::{Clock, Duration};
 
@@ -61,7 +63,7 @@ pub struct System<'a> {
     setting: Setting,
 
     /// What is asked of the files, where that is noted.
-    notes: Option<&'a Notes>,
+    notes: Option<&'a Notes<'a>>,
 
     /// The console's machine, until somebody is connected to it: to connect takes no memory.
     machine: Cell<Option<Odt>>,
@@ -96,7 +98,7 @@ impl<'a> System<'a> {
     }
 
     /// The same system, whose notes say what is asked of its files and which step fails.
-    pub(crate) fn noted(mut self, notes: &'a Notes) -> System<'a> {
+    pub(crate) fn noted(mut self, notes: &'a Notes<'a>) -> System<'a> {
         self.notes = Some(notes);
         self
     }
@@ -235,7 +237,10 @@ impl Clock for System<'_> {
 pub struct RoomyFile<'a> {
     file: File,
     room: usize,
-    notes: Option<&'a Notes>,
+
+    /// What it is to hold it.
+    holding: Step,
+    notes: Option<&'a Notes<'a>>,
 }
 
 impl Read for RoomyFile<'_> {
@@ -273,6 +278,7 @@ impl OpenFile for RoomyFile<'_> {
     }
 
     fn set_len(&self, size: u64) -> io::Result<()> {
+        note(self.notes, Step::Cut)?;
         self.file.set_len(size)
     }
 
@@ -302,12 +308,11 @@ impl<'a> Files for System<'a> {
     type Dir = <HostRuntime as Files>::Dir;
 
     fn open_file(&self, how: &OpenOptions, path: &str) -> io::Result<RoomyFile<'a>> {
-        if let Some(notes) = self.notes {
-            notes.take(notes.opening(path))?;
-        }
+        note_opening(self.notes, path)?;
         Ok(RoomyFile {
             file: Files::open_file(self.rt, how, found(path))?,
             room: self.setting.room,
+            holding: holding(path),
             notes: self.notes,
         })
     }
@@ -317,6 +322,7 @@ impl<'a> Files for System<'a> {
     }
 
     fn metadata(&self, path: &str) -> io::Result<Metadata> {
+        note(self.notes, Step::Look)?;
         Files::metadata(self.rt, found(path))
     }
 
@@ -334,6 +340,7 @@ impl<'a> Files for System<'a> {
     }
 
     fn remove_file(&self, path: &str) -> io::Result<()> {
+        note(self.notes, removing(path))?;
         Files::remove_file(self.rt, found(path))
     }
 
@@ -347,5 +354,16 @@ impl<'a> Files for System<'a> {
 
     fn remove_dir_all<B: Allocator>(&self, alloc: B, path: &str) -> io::Result<()> {
         Files::remove_dir_all(self.rt, alloc, found(path))
+    }
+
+    fn canonicalize<B: Allocator>(&self, alloc: B, path: &str) -> io::Result<PathBuf<B>> {
+        Files::canonicalize(self.rt, alloc, found(path))
+    }
+}
+
+impl Locks for System<'_> {
+    fn hold(&self, file: &Self::File) -> bool {
+        note(self.notes, file.holding).is_ok()
+            && !matches!(file.file.try_lock(), Err(TryLockError::WouldBlock))
     }
 }

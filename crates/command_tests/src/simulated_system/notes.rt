@@ -7,34 +7,60 @@ use std::io::ErrorKind;
 /// What is asked of the files.
 #[derive(Clone, Copy, PartialEq, Eq)]
 pub enum Step {
-    /// A file is opened whose name ends as that of a new record does.
+    /// It is looked at which file a name leads to.
+    Look,
+    /// A file is opened or made whose name ends as that of a new record does.
     OpenBeside,
     /// The record's folder is opened.
     OpenFolder,
-    /// Any other file is opened.
+    /// Any other file is opened or made.
     Open,
+    /// A file that was opened as a new record is held.
+    HoldBeside,
+    /// Any other file is held.
+    Hold,
     Write,
     Flush,
+    /// The length of a file is set.
+    Cut,
     SyncData,
     SyncAll,
     Rename,
+    /// A file is removed whose name ends as that of a new record does.
+    RemoveBeside,
+    /// Any other file is removed.
+    Remove,
 }
 
-/// A step that fails, and how; or none.
-pub type Failing = Option<(Step, ErrorKind)>;
+/// The steps that fail: which, at which time from 1, and how. To hold a file fails in one way alone.
+pub type Failing = &'static [(Step, usize, ErrorKind)];
 
-/// The steps that were asked for, and the one that fails.
+/// The steps that were asked for, and those that fail.
 #[derive(Drop)]
-pub struct Notes {
+pub struct Notes<'n> {
     pub steps: RefCell<Vec<Step>>,
     failing: Failing,
     /// The name of the record's folder.
-    folder: &'static str,
+    folder: &'n str,
 }
 
-impl Notes {
-    /// Nothing was asked yet; this step is to fail.
-    pub(crate) fn new(alloc: Global, failing: Failing, folder: &'static str) -> Notes {
+/// Whether a file of this name is a new record, beside the old one.
+fn is_beside(path: &str) -> bool {
+    path.ends_with("-new")
+}
+
+/// What it is to remove a file of this name.
+pub(crate) fn removing(path: &str) -> Step {
+    if is_beside(path) {
+        Step::RemoveBeside
+    } else {
+        Step::Remove
+    }
+}
+
+impl<'n> Notes<'n> {
+    /// Nothing was asked yet; these steps are to fail.
+    pub(crate) fn new(alloc: Global, failing: Failing, folder: &'n str) -> Notes<'n> {
         Notes {
             steps: RefCell::new(Vec::new(alloc)),
             failing,
@@ -43,32 +69,60 @@ impl Notes {
     }
 
     /// What opening a file of this name is.
-    pub(crate) fn opening(&self, path: &str) -> Step {
+    fn opening(&self, path: &str) -> Step {
         if path == self.folder {
             Step::OpenFolder
-        } else if path.ends_with("-new") {
+        } else if is_beside(path) {
             Step::OpenBeside
         } else {
             Step::Open
         }
     }
 
-    /// Takes note of a step, which may be the one that fails.
-    pub(crate) fn take(&self, step: Step) -> io::Result<()> {
+    /// How often a step was asked for.
+    fn count(&self, step: Step) -> usize {
+        match self.steps.try_borrow() {
+            Ok(steps) => steps.iter().filter(|noted| **noted == step).count(),
+            Err(_) => 0,
+        }
+    }
+
+    /// Takes note of a step, which may be one that fails.
+    fn take(&self, step: Step) -> io::Result<()> {
         if let Ok(mut steps) = self.steps.try_borrow_mut() {
             steps.push(step)?;
         }
-        match self.failing {
-            Some((failing, kind)) if failing == step => Err(io::Error::from(kind)),
-            _ => Ok(()),
+        let time = self.count(step);
+        for (failing, number, kind) in self.failing {
+            if *failing == step && *number == time {
+                return Err(io::Error::from(*kind));
+            }
         }
+        Ok(())
     }
 }
 
 /// Takes note of a step where there are notes.
-pub(crate) fn note(notes: Option<&Notes>, step: Step) -> io::Result<()> {
+pub(crate) fn note(notes: Option<&Notes<'_>>, step: Step) -> io::Result<()> {
     match notes {
         Some(notes) => notes.take(step),
         None => Ok(()),
+    }
+}
+
+/// Takes note that a file of this name is opened, where there are notes.
+pub(crate) fn note_opening(notes: Option<&Notes<'_>>, path: &str) -> io::Result<()> {
+    match notes {
+        Some(notes) => notes.take(notes.opening(path)),
+        None => Ok(()),
+    }
+}
+
+/// What it is to hold a file of this name.
+pub(crate) fn holding(path: &str) -> Step {
+    if is_beside(path) {
+        Step::HoldBeside
+    } else {
+        Step::Hold
     }
 }

@@ -1,0 +1,116 @@
+//! Surroundings of a load whose console is in memory, and whose record's input and output may fail.
+
+use crate::failing_devices::{BrokenInput, BrokenOutput};
+use crate::tapes::plan_of_one_word;
+use command_io::read_up_to;
+use honest_line::MemoryLine;
+use load_devices::LineFault;
+use load_record::{FileKeep, RECORD_LIMIT};
+use machine_load::{
+    LoadFault, LoadOptions, OldRecord, Outcome, RecordFault, Surroundings, Unwatched, load,
+};
+use odt_machine::{LARGEST_WORDS, Odt, PLAIN_STYLE};
+use std::alloc::Global;
+use std::cell::RefCell;
+use std::io;
+use std::io::{ErrorKind, Write};
+use tape_image::Plan;
+
+/// The record of the smallest tape's word, of version 1, without the mark.
+pub const VERIFIED: &[u8] = b"LDAODT 1\n001000 177777 011064\n";
+
+/// The whole record of a load of the smallest tape.
+pub const RECORD: &[u8] = b"LDAODT 2\n001000 011064\nG\n";
+
+/// An output that is looked at once the load has let it go.
+#[derive(Drop)]
+pub struct SharedOutput<'a> {
+    output: &'a RefCell<BrokenOutput>,
+}
+
+impl Write for SharedOutput<'_> {
+    fn write(&mut self, buf: &[u8]) -> io::Result<usize> {
+        match self.output.try_borrow_mut() {
+            Ok(mut output) => output.write(buf),
+            Err(_) => Err(io::Error::from(ErrorKind::Other)),
+        }
+    }
+
+    fn flush(&mut self) -> io::Result<()> {
+        Ok(())
+    }
+}
+
+/// A console in memory, and a record whose input and output may fail.
+#[derive(Drop)]
+pub struct Frail<'a> {
+    pub input: BrokenInput<'a>,
+
+    /// Whether the record's file may be written.
+    pub writable: bool,
+
+    /// Why the record is not even tried, where that is so.
+    pub refusal: Option<RecordFault>,
+
+    /// The line, until somebody is connected to it.
+    pub line: Option<MemoryLine>,
+
+    pub output: &'a RefCell<BrokenOutput>,
+}
+
+impl<'a> Surroundings for Frail<'a> {
+    type Line = MemoryLine;
+
+    type Keeper = FileKeep<SharedOutput<'a>>;
+
+    fn read_record(&mut self, alloc: Global) -> Result<OldRecord, RecordFault> {
+        if let Some(fault) = self.refusal {
+            return Err(fault);
+        }
+        let text = read_up_to(alloc, &mut self.input, RECORD_LIMIT + 1)?;
+        let writable = self.writable;
+        Ok(OldRecord { text, writable })
+    }
+
+    fn connect(&mut self) -> Result<MemoryLine, LineFault> {
+        match self.line.take() {
+            Some(line) => Ok(line),
+            None => Err(LineFault::Connect),
+        }
+    }
+
+    fn begin_record(
+        &mut self,
+        _alloc: Global,
+        plan: &Plan,
+        verified: u32,
+    ) -> Result<FileKeep<SharedOutput<'a>>, RecordFault> {
+        let output = self.output;
+        let mut keeper = FileKeep::new(SharedOutput { output });
+        keeper.begin(plan, verified)?;
+        Ok(keeper)
+    }
+}
+
+/// A line to a machine that holds this at 001000, which fails at the call of this number and from there on,
+/// where there is one.
+pub(crate) fn line(alloc: Global, word: u16, fail_at: Option<u64>) -> Option<MemoryLine> {
+    let mut odt = Odt::new(alloc, LARGEST_WORDS, PLAIN_STYLE).ok()?;
+    odt.put(0o001000, word);
+    MemoryLine::new(alloc, odt, Vec::new(alloc), 1000, fail_at).ok()
+}
+
+/// Loads the smallest tape, and answers how that ends, or None where there is no memory for the tape.
+pub(crate) fn load_one_word(
+    alloc: Global,
+    recheck: bool,
+    around: &mut Frail<'_>,
+    out: &mut Vec<u8>,
+) -> Option<Result<Outcome, LoadFault>> {
+    let plan = plan_of_one_word(alloc)?;
+    let options = LoadOptions {
+        patience: 8,
+        recheck,
+    };
+    Some(load(alloc, plan, options, around, out, &Unwatched))
+}

@@ -73,7 +73,7 @@ fn load_command<'a>(alloc: Global) -> Result<Command<'a>, AllocError> {
         address_argument(alloc),
         more_argument(alloc),
         record_option(alloc),
-        recheck_option(alloc),
+        recheck_option(alloc)?,
         patience_option(alloc),
         quiet_option(alloc),
     ]?)
@@ -163,13 +163,13 @@ fn record_option<'a>(alloc: Global) -> Arg<'a> {
     option(alloc, RECORD, "FILE", help)
 }
 
-fn recheck_option<'a>(alloc: Global) -> Arg<'a> {
+fn recheck_option<'a>(alloc: Global) -> Result<Arg<'a>, AllocError> {
     let help = "Look at every word again: of the record only a typed\nstart counts";
     Arg::new(alloc, RECHECK)
         .long(RECHECK)
         .action(ArgAction::SetTrue)
-        .requires(RECORD)
         .help(help)
+        .requires_arg(RECORD)
 }
 
 fn patience_option<'a>(alloc: Global) -> Arg<'a> {

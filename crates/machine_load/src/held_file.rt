@@ -66,7 +66,8 @@ enum Opening<T: Drop> {
 
 /// The file of a record, which is held until this value goes: no other load can hold it.
 ///
-/// Where the load made the file, and no record was begun in it, it goes with this value, while it is held.
+/// Where the load made the file under this very name, and nothing was written to it, it goes with this
+/// value, while it is held. One that was made where a link leads to stays, empty.
 pub struct HeldFile<'a, F: Locks> {
     pub(crate) files: &'a F,
     pub(crate) name: &'a str,

@@ -6,6 +6,6 @@ pub struct Outcome {
     /// How it stopped.
     pub stop: Stop,
 
-    /// Whether the mark of the start was kept, so that `G` was typed or may have been.
+    /// Whether the host had come to the start: `G` was typed, or was about to be, once its mark was kept.
     pub marked: bool,
 }

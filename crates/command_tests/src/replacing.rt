@@ -53,19 +53,8 @@ const FOLDER: usize = 5;
 
 const RENAME: usize = 13;
 
-/// The record itself is written anew: what stands there goes first, and is cut off behind the new text.
+/// The record itself is written over, and what it has more is cut off last.
 const IN_PLACE: &[Step] = &[
-    Step::Cut,
-    Step::Write,
-    Step::Write,
-    Step::Flush,
-    Step::SyncData,
-    Step::Cut,
-    Step::SyncAll,
-];
-
-/// The same, where what stands there is a record of the same version.
-const OVER_CURRENT: &[Step] = &[
     Step::Write,
     Step::Write,
     Step::Flush,
@@ -77,7 +66,6 @@ const OVER_CURRENT: &[Step] = &[
 /// The new record goes, which could not be renamed, and the old one is written in its place.
 const NOT_RENAMED: &[Step] = &[
     Step::RemoveBeside,
-    Step::Cut,
     Step::Write,
     Step::Write,
     Step::Flush,
@@ -91,7 +79,6 @@ const MADE_NOT_RENAMED: &[Step] = &[
     Step::RemoveBeside,
     Step::OpenFolder,
     Step::SyncAll,
-    Step::Cut,
     Step::Write,
     Step::Write,
     Step::Flush,
@@ -104,7 +91,6 @@ const MADE_NOT_RENAMED: &[Step] = &[
 const MADE_IN_PLACE: &[Step] = &[
     Step::OpenFolder,
     Step::SyncAll,
-    Step::Cut,
     Step::Write,
     Step::Write,
     Step::Flush,
@@ -120,7 +106,6 @@ const BEHIND_LINK: &[Step] = &[
     Step::Look,
     Step::OpenFolder,
     Step::SyncAll,
-    Step::Cut,
     Step::Write,
     Step::Write,
     Step::Flush,
@@ -322,30 +307,16 @@ const FORMS: [Row; 8] = [
         &[],
         Some(BEGUN),
     ),
-    (
-        Before::Link(OLD),
-        NO_FAULT,
-        Course::Begun,
-        READ,
-        IN_PLACE,
-        Some(BEGUN),
-    ),
+    (Before::Link(OLD), NO_FAULT, UNBEGUN, READ, &[], Some(OLD)),
     (
         Before::Link(CURRENT),
         NO_FAULT,
         Course::Begun,
         READ,
-        OVER_CURRENT,
-        Some(BEGUN),
-    ),
-    (
-        Before::Named(OLD),
-        NO_FAULT,
-        Course::Begun,
-        READ,
         IN_PLACE,
         Some(BEGUN),
     ),
+    (Before::Named(OLD), NO_FAULT, UNBEGUN, READ, &[], Some(OLD)),
     (
         Before::Dangling,
         NO_FAULT,
@@ -524,9 +495,9 @@ fn a_record_is_held_before_it_is_read(rt: HostRuntime) {
 }
 
 /// A record that is there, and each step of its replacing fails in turn.
-const REPLACING: [Row; 16] = [
+const REPLACING: [Row; 17] = [
     (
-        Before::Holds(OLD),
+        Before::Holds(CURRENT),
         &[(Step::OpenFolder, 1, ErrorKind::PermissionDenied)],
         Course::Begun,
         FOLDER,
@@ -535,11 +506,19 @@ const REPLACING: [Row; 16] = [
     ),
     (
         Before::Holds(OLD),
+        &[(Step::OpenFolder, 1, ErrorKind::PermissionDenied)],
+        UNBEGUN,
+        FOLDER,
+        &[],
+        Some(OLD),
+    ),
+    (
+        Before::Holds(OLD),
         &[(Step::OpenBeside, 1, ErrorKind::PermissionDenied)],
-        Course::Begun,
+        UNBEGUN,
         6,
-        IN_PLACE,
-        Some(BEGUN),
+        &[],
+        Some(OLD),
     ),
     (
         Before::Holds(OLD),
@@ -599,7 +578,7 @@ const REPLACING: [Row; 16] = [
         Some(OLD),
     ),
     (
-        Before::Holds(OLD),
+        Before::Holds(CURRENT),
         &[(Step::Rename, 1, ErrorKind::Other)],
         Course::Begun,
         RENAME,
@@ -608,13 +587,10 @@ const REPLACING: [Row; 16] = [
     ),
     (
         Before::Holds(OLD),
-        &[
-            (Step::Rename, 1, ErrorKind::Other),
-            (Step::Cut, 1, ErrorKind::Other),
-        ],
+        &[(Step::Rename, 1, ErrorKind::Other)],
         UNBEGUN,
         RENAME,
-        &[Step::RemoveBeside, Step::Cut],
+        GIVEN_UP,
         Some(OLD),
     ),
     (
@@ -657,12 +633,18 @@ const REPLACING: [Row; 16] = [
     ),
     // A second name is not left behind with the old record.
     (
-        Before::Named(OLD),
+        Before::Named(CURRENT),
         &[(Step::Cut, 1, ErrorKind::Other)],
         UNBEGUN,
         READ,
-        &[Step::Cut],
-        Some(OLD),
+        &[
+            Step::Write,
+            Step::Write,
+            Step::Flush,
+            Step::SyncData,
+            Step::Cut,
+        ],
+        Some(CURRENT),
     ),
 ];
 
@@ -717,11 +699,13 @@ const MADE: [Row; 12] = [
         &[
             Step::OpenFolder,
             Step::SyncAll,
+            Step::Write,
+            Step::Write,
+            Step::Flush,
+            Step::SyncData,
             Step::Cut,
-            Step::Look,
-            Step::Remove,
         ],
-        None,
+        Some(BEGUN),
     ),
     // Once it is written to, it stays.
     (
@@ -732,7 +716,7 @@ const MADE: [Row; 12] = [
         ],
         UNBEGUN,
         FOLDER,
-        &[Step::OpenFolder, Step::SyncAll, Step::Cut, Step::Write],
+        &[Step::OpenFolder, Step::SyncAll, Step::Write],
         Some(""),
     ),
     (
@@ -804,8 +788,8 @@ fn a_record_that_was_made_in_vain_goes(rt: HostRuntime) {
     clear(&rt);
 }
 
-/// A record that is written where it is, and each step fails in turn. One of the version that is written is never
-/// less than it was.
+/// A record that is written where it is, and each step fails in turn. It is never less
+/// than it was: one of version 1 is not written over.
 const WRITTEN_OVER: [Row; 12] = [
     (
         Before::Link(CURRENT),
@@ -858,27 +842,33 @@ const WRITTEN_OVER: [Row; 12] = [
         &[(Step::SyncAll, 1, ErrorKind::Other)],
         UNBEGUN,
         READ,
-        OVER_CURRENT,
+        IN_PLACE,
         Some(BEGUN),
     ),
     (
-        Before::Link(OLD),
+        Before::Link(""),
         &[(Step::Cut, 1, ErrorKind::Other)],
         UNBEGUN,
         READ,
-        &[Step::Cut],
-        Some(OLD),
-    ),
-    (
-        Before::Link(OLD),
-        &[(Step::Flush, 1, ErrorKind::Other)],
-        UNBEGUN,
-        READ,
-        &[Step::Cut, Step::Write, Step::Write, Step::Flush],
+        &[
+            Step::Write,
+            Step::Write,
+            Step::Flush,
+            Step::SyncData,
+            Step::Cut,
+        ],
         Some(BEGUN),
     ),
     (
-        Before::Link(OLD),
+        Before::Link(""),
+        &[(Step::Flush, 1, ErrorKind::Other)],
+        UNBEGUN,
+        READ,
+        &[Step::Write, Step::Write, Step::Flush],
+        Some(BEGUN),
+    ),
+    (
+        Before::Link("LDAODT 1"),
         &[(Step::SyncAll, 1, ErrorKind::Other)],
         UNBEGUN,
         READ,
@@ -890,7 +880,7 @@ const WRITTEN_OVER: [Row; 12] = [
         NO_FAULT,
         Course::Begun,
         READ,
-        OVER_CURRENT,
+        IN_PLACE,
         Some(BEGUN),
     ),
     (
@@ -906,7 +896,7 @@ const WRITTEN_OVER: [Row; 12] = [
         &[(Step::OpenBeside, 1, ErrorKind::PermissionDenied)],
         Course::Begun,
         6,
-        OVER_CURRENT,
+        IN_PLACE,
         Some(BEGUN),
     ),
 ];
@@ -994,7 +984,7 @@ fn is_in_use(rt: &HostRuntime, before: Before, name: &str) -> bool {
     let wanted = Course::Unread(RecordFault::InUse);
     let is_refused = file.is_some()
         && is_taken_so(rt, (RECORD, ".", Task::Begin), NO_FAULT, wanted, (3, &[]))
-        && is_left_so(rt, before, Some(OLD));
+        && is_left_so(rt, before, Some(CURRENT));
     drop(file);
     let system = System::new(rt, AMPLE);
     is_refused
@@ -1004,9 +994,9 @@ fn is_in_use(rt: &HostRuntime, before: Before, name: &str) -> bool {
 
 #[test]
 fn a_record_that_somebody_holds_is_in_use(rt: HostRuntime) {
-    assert!(rt; is_in_use(&rt, Before::Holds(OLD), RECORD));
-    assert!(rt; is_in_use(&rt, Before::Link(OLD), OTHER));
-    assert!(rt; is_in_use(&rt, Before::Named(OLD), OTHER));
+    assert!(rt; is_in_use(&rt, Before::Holds(CURRENT), RECORD));
+    assert!(rt; is_in_use(&rt, Before::Link(CURRENT), OTHER));
+    assert!(rt; is_in_use(&rt, Before::Named(CURRENT), OTHER));
     clear(&rt);
 }
 
@@ -1054,7 +1044,6 @@ const LEFT_BEHIND: &[Step] = &[
 const HELD_BESIDE: &[Step] = &[
     Step::OpenBeside,
     Step::HoldBeside,
-    Step::Cut,
     Step::Write,
     Step::Write,
     Step::Flush,
@@ -1078,7 +1067,7 @@ fn is_begun_beside(rt: &HostRuntime, then: &[Step], left: Option<&str>) -> bool 
 /// Puts a record there, and a file beside it.
 fn put_beside(rt: &HostRuntime) -> io::Result<()> {
     clear(rt);
-    fs::write(rt, RECORD, OLD)?;
+    fs::write(rt, RECORD, CURRENT)?;
     fs::write(rt, BESIDE, "left")
 }
 
@@ -1101,7 +1090,7 @@ fn a_new_record_that_was_left_goes(rt: HostRuntime) -> Result<(), Fail> {
 #[test]
 fn a_link_beside_the_record_is_left_alone(rt: HostRuntime) -> Result<(), Fail> {
     clear(&rt);
-    fs::write(&rt, RECORD, OLD)?;
+    fs::write(&rt, RECORD, CURRENT)?;
     fs::write(&rt, OTHER, "left")?;
     symlink(&rt, OTHER, BESIDE)?;
     assert!(rt; is_begun_beside(&rt, IN_PLACE, Some("left")));
@@ -1113,7 +1102,7 @@ fn a_link_beside_the_record_is_left_alone(rt: HostRuntime) -> Result<(), Fail> {
 #[test]
 fn a_new_record_that_somebody_holds_is_left_alone(rt: HostRuntime) -> Result<(), Fail> {
     clear(&rt);
-    fs::write(&rt, RECORD, OLD)?;
+    fs::write(&rt, RECORD, CURRENT)?;
     let failing: Failing = &[(Step::HoldBeside, 1, ErrorKind::Other)];
     let place = (RECORD, ".", Task::Begin);
     assert!(rt; is_taken_so(&rt, place, failing, Course::Begun, (7, IN_PLACE)));

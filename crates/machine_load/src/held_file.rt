@@ -3,6 +3,7 @@ ghost use Rattle.std.specs.Prelude.{IfErr};
 ghost use Rattle.machine_load.specs.RecordFault.{IsUnread};
 
 use crate::locks::Locks;
+use crate::old_record::has_line;
 use crate::record_fault::RecordFault;
 use command_io::read_up_to;
 use load_record::{RECORD_LIMIT, Version};
@@ -83,7 +84,7 @@ struct State {
     /// Whether it is a device.
     device: bool,
 
-    /// Whether it held a record of the version that is written.
+    /// Whether it held a record of the version that is written, or none.
     current: bool,
 
     made: Made,
@@ -120,7 +121,7 @@ impl<'a, F: Locks> HeldFile<'a, F> {
         ensures fault { IfErr result IsUnread }
     {
         let text = read_up_to(alloc, &mut self.file, RECORD_LIMIT + 1)?;
-        self.state.current = text.starts_with(Version::Second.header());
+        self.state.current = !has_line(&text) || text.starts_with(Version::Second.header());
         // Another load may have written to it between its making and its lock.
         if !text.is_empty() {
             self.keep();
@@ -160,8 +161,8 @@ impl<'a, F: Locks> HeldFile<'a, F> {
         self.state.device
     }
 
-    /// Whether it held a record of the version that is written, so that what is written over it changes
-    /// nothing that was there.
+    /// Whether it held a record of the version that is written, or none, so that what is written over it
+    /// takes none of its words away.
     pub(crate) fn is_current(&self) -> bool {
         self.state.current
     }

@@ -35,8 +35,8 @@ fn begins(text: &[u8], version: Version) -> bool
     version.header().starts_with(text)
 }
 
-// Whether a text has a line: an LF stands in it.
-fn has_line(text: &[u8]) -> bool
+/// Whether a text has a line: an LF stands in it.
+pub(crate) fn has_line(text: &[u8]) -> bool
     ensures { IsTrue result ↔ Contains text.now 10 }
 {
     text.contains(&b'\n')

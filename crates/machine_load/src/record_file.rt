@@ -90,7 +90,7 @@ impl<F: Locks> HeldFile<'_, F> {
     /// Begins the record in this file anew, with the first verified words of a plan, where it is.
     ///
     /// What is written over a record of the same version changes none of its words; what that has more is
-    /// cut off last. The fault is `Write` or `Memory`.
+    /// cut off last. The fault is `Write`, also for a record of version 1, or `Memory`.
     pub(crate) fn begin_in_place(
         mut self,
         alloc: Global,
@@ -124,12 +124,12 @@ impl<F: Locks> HeldFile<'_, F> {
         }
     }
 
-    // Goes back to the beginning, to write there. A record of another version has other lines, so that
-    // one goes first.
+    // Goes back to the beginning, to write there. A record of version 1 is not written over: its lines are
+    // others, and where a write failed it would be neither the old record nor the new one.
     fn rewind(&mut self) -> Result<(), RecordFault>
         ensures fault { IfErr result IsUnbegun }
     {
-        if !self.is_current() && self.file.set_len(0).is_err() {
+        if !self.is_current() {
             return Err(RecordFault::Write);
         }
         match self.file.seek(SeekFrom::Start(0)) {
@@ -187,11 +187,10 @@ fn begun<T: OpenFile + Write + Drop>(
 fn cut_behind<T: OpenFile + Write + Drop>(writer: &DurableWriter<T>) -> Result<(), RecordFault>
     ensures fault { IfErr result IsUnbegun }
 {
-    let file = &writer.file;
-    if file.set_len(writer.length).is_err() || file.sync_all().is_err() {
-        return Err(RecordFault::Write);
+    match writer.file.set_len(writer.length) {
+        Ok(()) => sync(&writer.file),
+        Err(_) => Err(RecordFault::Write),
     }
-    Ok(())
 }
 
 // The folder in which a file of this name is.
@@ -213,11 +212,11 @@ fn sync_folder<F: Locks>(files: &F, name: &str) -> Result<(), RecordFault>
     }
 }
 
-// Brings a folder to the disk. One that has no disk behind it is taken as synced.
-fn sync<T: OpenFile>(folder: &T) -> Result<(), RecordFault>
+// Brings a file or a folder to the disk. One that has no disk behind it is taken as synced.
+fn sync<T: OpenFile>(file: &T) -> Result<(), RecordFault>
     ensures fault { IfErr result IsUnbegun }
 {
-    match folder.sync_all() {
+    match file.sync_all() {
         Err(error) if error.kind() != ErrorKind::InvalidInput => Err(RecordFault::Write),
         _ => Ok(()),
     }

@@ -64,8 +64,11 @@ impl<'a> Surroundings for Frail<'a> {
     type Keeper = FileKeep<SharedOutput<'a>>;
 
     fn read_record(&mut self, alloc: Global) -> Result<OldRecord, RecordFault> {
-        if let Some(fault) = self.refusal {
-            return Err(fault);
+        match self.refusal {
+            Some(RecordFault::InUse) => return Err(RecordFault::InUse),
+            Some(RecordFault::Read) => return Err(RecordFault::Read),
+            Some(RecordFault::Memory) => return Err(RecordFault::Memory),
+            Some(RecordFault::Write) | None => {}
         }
         let text = read_up_to(alloc, &mut self.input, RECORD_LIMIT + 1)?;
         let writable = self.writable;

@@ -158,8 +158,8 @@ fn failures(rt: &HostRuntime) -> (u32, u32) {
     let (mut before, mut behind) = (0, 0);
     for reads in 1..READS {
         match failed_behind_mark(rt, reads) {
-            Some(false) if behind == 0 => before += 1,
-            Some(true) => behind += 1,
+            Some(false) if behind == 0 => before = reads,
+            Some(true) => behind = reads.saturating_sub(before),
             _ => break,
         }
     }
@@ -181,10 +181,10 @@ fn ends_so(rt: &HostRuntime, reads: u32, status: Status, out: &str, err: &str) -
 fn a_line_that_fails_behind_the_start_says_so(rt: HostRuntime) -> Result<(), Fail> {
     fs::write(&rt, TAPE, ONE_WORD)?;
     let (before, behind) = failures(&rt);
-    let enough = before + behind + 1;
+    let most = before.saturating_add(behind);
     assert!(rt; before > 0 && behind > 0);
-    assert!(rt; ends_so(&rt, enough - 1, Status::DeviceFailed, UNSURE, IN_DOUBT));
-    assert!(rt; ends_so(&rt, enough, Status::Done, STARTED, ""));
+    assert!(rt; ends_so(&rt, most, Status::DeviceFailed, UNSURE, IN_DOUBT));
+    assert!(rt; ends_so(&rt, most.saturating_add(1), Status::Done, STARTED, ""));
     clear(&rt);
     Ok(fs::remove_file(&rt, TAPE)?)
 }

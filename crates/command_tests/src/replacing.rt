@@ -178,7 +178,7 @@ const ADDRESS: Address<'static> = Address {
 };
 
 /// Reads a record, and begins it anew with the smallest tape's word; None where there is no memory for the tape.
-fn take(system: &System<'_>, alloc: Global, name: &str, task: Task) -> Option<Course> {
+fn take<'x>(system: &'x System<'x>, alloc: Global, name: &'x str, task: Task) -> Option<Course> {
     let plan = plan_of_one_word(alloc)?;
     let mut around = Recorded::new(system, ADDRESS, name);
     Some(match around.read_record(alloc) {

@@ -25,7 +25,7 @@ test: toolchain
 	@tools/gate
 
 # The built program from outside: the examples, each transcript of the documents and of tests/, and the
-# tests of tests/. A minute or two.
+# tests of tests/. Some three minutes, most of them loads that are begun at once.
 check: ldaodt
 	@tools/check-program
 

@@ -1,60 +1,49 @@
-# What a person does here: make, make demo, make check, make install, make test, make bench, make hostile.
-# All but install and uninstall need rt, the command of the Rattle toolchain, on the PATH.
+# What a person does here; README.md has it as a table. Only `make` and `make test` need rt, the command of the Rattle
+# toolchain: the others take a ./ldaodt that is there.
 
-built := crates/load_command/out/load_command
-
-# Where make install puts the program and its manual page; DESTDIR goes before it, for packagers.
+# Where make install puts things; DESTDIR goes before it, for packagers. They reach the shell as variables, so that a
+# space in them is a space.
 PREFIX ?= /usr/local
-program := $(DESTDIR)$(PREFIX)/bin/ldaodt
-manual := $(DESTDIR)$(PREFIX)/share/man/man1/ldaodt.1
+export PREFIX DESTDIR
 
-.PHONY: all ldaodt test check demo bench hostile install uninstall toolchain
+.PHONY: all ldaodt test check demo bench hostile install uninstall dist
 
 all: ldaodt
 
-# rt proves every crate below the program and the program, builds it and runs it once, here on a
-# tape that it must accept. It knows by itself what has changed since, so it is asked every time.
-ldaodt: toolchain
-	@cd crates/load_command && rt run < ../../examples/first.lda > /dev/null
-	@cmp -s $(built) $@ || cp -f $(built) $@
-	@echo "./$@ is proved and built"
+# Proves and builds. rt knows by itself what has changed since, so it is asked every time.
+ldaodt:
+	@tools/build
 
-# The merge gate: every proof from nothing, the must-fail edits, the tests, the program's stored run;
-# then the program that was just built, tried from outside.
-test: toolchain
+# The merge gate: the proofs, the must-fail edits, the tests, the program's stored run; then the program that was just
+# built, tried from outside; and what each lane took.
+test:
 	@tools/gate
 
-# The built program from outside: the examples, each transcript of the documents and of tests/, and the
-# tests of tests/. Some three minutes, most of them loads that are begun at once.
+# The built program from outside: the examples, each transcript of the documents and of tests/, the tests of tests/.
 check: ldaodt
 	@tools/check-program
 
-# The main jobs: a tape that is a real program, its load over TCP into a simulated machine, the same
-# load character by character, and a lost digit.
+# The main jobs, one after another, against a simulated machine.
 demo: ldaodt
-	./ldaodt check examples/hello.lda
-	@tools/demo-load
-	./ldaodt dialogue examples/hello.lda
-	./ldaodt rehearse examples/first.lda examples/losses/third-digit-lost.script
+	@tools/demo
 
 # Times, for a reader to judge: nothing here fails for being slow.
 bench: ldaodt
 	@tools/bench
 	@tools/bench-load
 
-# The built program in bad company: little memory, full disks, a peer that hangs up, lost characters and
-# kills. It takes minutes and depends on time, so it is no part of the gate.
+# The built program in bad company: little memory, full disks, a peer that hangs up, lost characters and kills. It
+# takes minutes and depends on time, so it is no part of the gate.
 hostile: ldaodt
 	@tools/hostile
 
-# It builds nothing, so that it can be run as another user than make was.
+# They build nothing, so that they can be run as another user than make was.
 install:
-	$(if $(wildcard ldaodt),,$(error there is no ./ldaodt yet: run make first))
-	install -D -m 755 ldaodt $(program)
-	install -D -m 644 docs/ldaodt.1 $(manual)
+	@tools/lay-out install "$$DESTDIR$$PREFIX"
 
 uninstall:
-	rm -f $(program) $(manual)
+	@tools/lay-out uninstall "$$DESTDIR$$PREFIX"
 
-toolchain:
-	$(if $(shell command -v rt 2> /dev/null),,$(error the command rt is not on the PATH: the Rattle toolchain proves and builds ldaodt))
+# The program for somebody who has no toolchain: one tar.gz with its manual page, documents and examples.
+dist: ldaodt
+	@tools/lay-out dist

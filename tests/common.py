@@ -1,5 +1,6 @@
 """What the tests share: a folder for each test, the program run in it, and a machine to load."""
 import os
+import pty
 import shutil
 import subprocess
 import sys
@@ -10,7 +11,7 @@ from concurrent.futures import ThreadPoolExecutor
 
 sys.path.insert(0, os.path.join(os.path.dirname(os.path.dirname(os.path.realpath(__file__))), "tools"))
 import odt_peer
-from outside import FIRST, PROGRAM, TOP, Answer, bytes_of, run, text_of
+from outside import FIRST, PROGRAM, TOP, Answer, HeldUp, bytes_of, run, text_of
 
 # The tapes that the tests name, by the names that they have in a test's folder.
 TAPES = {
@@ -20,15 +21,15 @@ TAPES = {
     "bad-sum.lda": f"{TOP}/examples/refused/bad-sum.lda",
 }
 
-# A silence long enough for a console on this computer, also on one that is busy.
-QUIET = 200
+# A silence long enough for a console on this computer, and one that is so on a computer which is busy.
+QUIET, LONG_QUIET = 200, 3000
 
 
 class Console(odt_peer.Machine):
     """A machine that keeps which keys were typed at it, and when."""
 
-    def __init__(self, words=28672, memory=None):
-        super().__init__(words)
+    def __init__(self, words=28672, memory=None, says=()):
+        super().__init__(words, says=says)
         self.typed, self.times = "", []
         for address, value in (memory or {}).items():
             self.words[address // 2] = value
@@ -61,8 +62,50 @@ class LateConsole(Console):
         return answer
 
 
+class Noted(unittest.TestResult):
+    """A result that is told to another one later, if at all."""
+
+    def __init__(self):
+        super().__init__()
+        self.told = []
+
+    def tell(self, result):
+        for name, *rest in self.told:
+            getattr(result, name)(*rest)
+
+
+def noting(name):
+    def note(self, *rest):
+        self.told.append((name, *rest))
+        getattr(unittest.TestResult, name)(self, *rest)
+    return note
+
+
+for it in ("startTest", "stopTest", "addSuccess", "addError", "addFailure", "addSkip", "addSubTest"):
+    setattr(Noted, it, noting(it))
+
+
 class Case(unittest.TestCase):
-    """A test with a folder of its own, in which the program is run."""
+    """A test with a folder of its own, in which the program is run.
+
+    A test that counts mishaps is right only where no answer of its machine was late. So one that fails while this
+    computer held it up for a tenth of the quiet time is run once more, with a quiet time far above that.
+    """
+
+    quiet = QUIET
+
+    def run(self, result=None):
+        result = result if result is not None else self.defaultTestResult()
+        noted, watch = Noted(), HeldUp()
+        watch.start()
+        super().run(noted)
+        watch.is_over = True
+        if not noted.wasSuccessful() and watch.longest * 1000 > self.quiet / 10:
+            print(f"held up: {self.id()}, for {watch.longest * 1000:.0f} ms; once more", flush=True)
+            self.quiet, noted = LONG_QUIET, Noted()
+            super().run(noted)
+        noted.tell(result)
+        return result
 
     def setUp(self):
         self.room = tempfile.mkdtemp(prefix="outside-")
@@ -99,8 +142,32 @@ class Case(unittest.TestCase):
         """Puts a machine behind a port; `named` says after how many characters the line breaks."""
         peer = odt_peer.Peer(machine, **named)
         self.addCleanup(peer.close)
-        peer.address = f"127.0.0.1:{peer.port}"
+        peer.address = peer.name
         return peer
+
+    def at_a_terminal(self, load):
+        """Does a load whose standard error is a terminal, which it is given; returns the answer, and all that came to
+        the terminal, which writes a return before each line feed."""
+        ours, theirs = pty.openpty()
+        try:
+            given = load(theirs)
+        finally:
+            os.close(theirs)
+        shown = b""
+        try:
+            while piece := os.read(ours, 4096):
+                shown += piece
+        except OSError:
+            pass  # Linux ends a terminal that nobody has open so.
+        os.close(ours)
+        return given, shown.decode()
+
+    def device_at(self, machine, **named):
+        """Puts a machine at a serial device; `named` says how it is set, and after how many characters it hangs up."""
+        device = odt_peer.Device(machine, **named)
+        self.addCleanup(device.close)
+        device.address = device.name
+        return device
 
     def holds(self, files):
         """Asserts that the test's folder has these files, and no others but tapes."""

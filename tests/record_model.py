@@ -182,6 +182,18 @@ def life(of, way):
     yield "start",
 
 
+def begun_in(new, text, way):
+    """A record begun in a new file and renamed over FILE, the rest of the words, and the start."""
+    yield "write", new, text
+    if (yield "rename", way.new, way.name) is None:
+        raise Over
+    yield "note", "begun", new
+    if text == EMPTY:
+        yield "write", new, WORD
+    yield "write", new, MARKED
+    yield "start",
+
+
 def without_a_lock(_, way):
     """A load that takes nothing: FILE is read, and replaced by a new file."""
     file = yield "open", way.name
@@ -195,14 +207,7 @@ def without_a_lock(_, way):
         new = yield "make", way.new
     if new is None:
         raise Over
-    yield "write", new, text
-    if (yield "rename", way.new, way.name) is None:
-        raise Over
-    yield "note", "begun", new
-    if text == EMPTY:
-        yield "write", new, WORD
-    yield "write", new, MARKED
-    yield "start",
+    yield from begun_in(new, text, way)
 
 
 def new_file_first(_, way):
@@ -232,14 +237,7 @@ def new_file_first(_, way):
         yield "remove", way.new
         raise Over
     yield "note", "goes on", None
-    yield "write", new, text
-    if (yield "rename", way.new, way.name) is None:
-        raise Over
-    yield "note", "begun", new
-    if text == EMPTY:
-        yield "write", new, WORD
-    yield "write", new, MARKED
-    yield "start",
+    yield from begun_in(new, text, way)
 
 
 # ---------------------------------------------------------------- the file system

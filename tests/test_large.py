@@ -6,7 +6,7 @@ import os
 import unittest
 from concurrent.futures import ThreadPoolExecutor
 
-from common import QUIET, Case, Console
+from common import Case, Console
 from odt_peer import Peer
 from outside import block
 
@@ -39,7 +39,7 @@ class FullImage(Case):
     def recorded(self, tape, record, peer):
         """Loads with a record, and returns the answer and the record that is left."""
         self.put("a.record", record.encode())
-        given = self.ldaodt(f"load {tape} {peer.address} --quiet {QUIET} --record a.record")
+        given = self.ldaodt(f"load {tape} {peer.address} --quiet {self.quiet} --record a.record")
         peer.settle()
         with open(self.path("a.record"), encoding="ascii") as file:
             return given, file.read()

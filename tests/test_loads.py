@@ -11,7 +11,7 @@ import time
 import unittest
 from concurrent.futures import ThreadPoolExecutor
 
-from common import QUIET, Case, Console, DeafConsole, LateConsole
+from common import Case, Console, DeafConsole, LateConsole
 from outside import NO_OUTPUT, Answer
 
 # Records of first.lda: whole, as it is written today and as it was written once, and without the mark.
@@ -33,10 +33,10 @@ class Loads(Case):
         super().setUp()
         self.put_tapes("first.lda", "no-word.lda", "two-words.lda")
 
-    def load(self, peer, words, quiet=QUIET, **more):
+    def load(self, peer, words, quiet=None, **more):
         """Loads at a console: `words` are the tape and all that stands behind the address."""
         tape, *rest = words.split()
-        given = self.ldaodt(["load", tape, peer.address, "--quiet", str(quiet), *rest], **more)
+        given = self.ldaodt(["load", tape, peer.address, "--quiet", str(quiet or self.quiet), *rest], **more)
         peer.settle()
         self.assertLessEqual(peer.machine.typed.count("G"), 1)
         return given
@@ -166,7 +166,7 @@ class Words(Loads):
 
     def test_a_name_in_place_of_the_address(self):
         peer = self.console_at(Console())
-        given = self.ldaodt(f"load first.lda localhost:{peer.port} --quiet {QUIET}")
+        given = self.ldaodt(f"load first.lda localhost:{peer.port} --quiet {self.quiet}")
         self.ends(given, 0, STARTED)
 
     def test_no_address(self):
@@ -188,7 +188,7 @@ class Silence(Loads):
                 self.holds({"a.record": "LDAODT 2\n"})
                 self.was_typed(peer, "Z" * keys)
                 for number, typed_at in enumerate(peer.machine.times, 1):
-                    self.assertGreaterEqual(typed_at - began, number * QUIET / 1000)
+                    self.assertGreaterEqual(typed_at - began, number * self.quiet / 1000)
 
     def test_a_late_answer(self):
         """With no patience at all. A fifth key whose echo is late was sent, and no sixth where the load gave up."""

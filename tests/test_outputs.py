@@ -6,7 +6,7 @@ import socket
 import subprocess
 import unittest
 
-from common import QUIET, Case, Console
+from common import Case, Console
 from outside import HELLO, LOST_DIGIT, NO_OUTPUT, PROGRAM, bytes_of
 
 NO_INPUT = "ldaodt: cannot read standard input\n"
@@ -73,7 +73,7 @@ class Outputs(Case):
         """The machine is loaded and started, whatever becomes of the report."""
         for before in ("> /dev/full", ">&-"):
             peer = self.console_at(Console())
-            self.ends(self.ldaodt(f"load first.lda {peer.address} --quiet {QUIET}", before=before), 4, "", NO_OUTPUT)
+            self.ends(self.ldaodt(f"load first.lda {peer.address} --quiet {self.quiet}", before=before), 4, "", NO_OUTPUT)
             peer.settle()
             self.is_so(peer.machine.starts, [0o1000])
 
@@ -99,7 +99,7 @@ class Descriptors(Case):
     def load_without(self, closed, close_after):
         self.put_tapes("first.lda")
         peer = self.console_at(Console(), close_after=close_after)
-        given = self.ldaodt(f"load first.lda {peer.address} --quiet {QUIET} --record a.record", before=closed)
+        given = self.ldaodt(f"load first.lda {peer.address} --quiet {self.quiet} --record a.record", before=closed)
         peer.settle()
         return given, peer
 

@@ -5,10 +5,9 @@ A word that has to be deposited is 22 keys and 40 characters of answers, one tha
 start seven keys.
 """
 import os
-import pty
 import unittest
 
-from common import QUIET, Case, Console
+from common import Case, Console
 from outside import NO_OUTPUT
 
 # The tape's words, a whole one and a byte, and its records.
@@ -21,7 +20,7 @@ BEHIND_ONE_WORD = 1 + 4 + 22 + 40
 
 FAILED = "ldaodt: line failed\n"
 LOOK_FIRST = "ldaodt: the start may have gone out: look at the machine first\n"
-GOING_ON = "going on behind 1 of 2 words; if the machine lost its power, stop and use --recheck"
+GOING_ON = "going on behind 1 of 2 words, listening; power lost? use --recheck"
 
 
 class Loads(Case):
@@ -33,7 +32,7 @@ class Loads(Case):
 
     def load(self, peer, words="two-words.lda --record a.record", **more):
         tape, *rest = words.split()
-        given = self.ldaodt(["load", tape, peer.address, "--quiet", str(QUIET), *rest], **more)
+        given = self.ldaodt(["load", tape, peer.address, "--quiet", str(self.quiet), *rest], **more)
         peer.settle()
         self.assertLessEqual(peer.machine.typed.count("G"), 1)
         return given
@@ -141,19 +140,11 @@ class PowerLoss(Loads):
         for record, option, is_told in ((ONE_WORD, "", True), (ONE_WORD, " --recheck", False), ("", "", False)):
             self.put("a.record", record.encode())
             peer = self.console_at(Console(memory={0o1000: 0o031421}))
-            ours, theirs = pty.openpty()
-            given = self.load(peer, "two-words.lda --record a.record" + option, stderr=theirs)
-            os.close(theirs)
-            shown = b""
-            try:
-                while piece := os.read(ours, 4096):
-                    shown += piece
-            except OSError:
-                pass  # Linux ends a terminal that nobody has open so.
-            os.close(ours)
+            words = "two-words.lda --record a.record" + option
+            given, shown = self.at_a_terminal(lambda terminal: self.load(peer, words, stderr=terminal))
             self.is_so(given.status, 0)
-            self.is_so(GOING_ON in shown.decode(), is_told)
-            self.assertTrue(shown.decode().endswith("\r\x1b[K"), repr(shown))
+            self.is_so(GOING_ON in shown, is_told)
+            self.assertTrue(shown.endswith("\r\x1b[K"), repr(shown))
 
 
 class BehindTheStart(Loads):

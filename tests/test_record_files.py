@@ -8,7 +8,7 @@ import stat
 import tempfile
 import unittest
 
-from common import QUIET, Case, Console
+from common import Case, Console
 from outside import PROGRAM, Answer, bytes_of, run
 
 MARKED = "LDAODT 2\n001000 011064\nG\n"
@@ -38,7 +38,7 @@ class Files(Case):
 
     def load(self, record, tape="first.lda", more="", seconds=20, **named):
         """Loads with a record, within some seconds."""
-        words = ["load", tape, self.peer.address, *more.split(), "--quiet", str(QUIET), "--record", record]
+        words = ["load", tape, self.peer.address, *more.split(), "--quiet", str(self.quiet), "--record", record]
         given = run(words, cwd=self.room, seconds=seconds, **named)
         self.peer.settle()
         return given

@@ -8,7 +8,7 @@ here the line breaks at once: so its report says how many words those are, and n
 import os
 import unittest
 
-from common import QUIET, Case, Console, changes, each_file
+from common import Case, Console, changes, each_file
 from outside import Answer, bytes_of, tape_of
 
 # Three words with both bytes, the low byte of a word, the high byte of another, and two words more.
@@ -159,7 +159,7 @@ class Records(Case):
         self.is_so(len(record), 141)
         self.put("tape.lda", tape_of([(0o1000, bytes(34))]))
         peer = self.console_at(Console())
-        load = f"load tape.lda {peer.address} --quiet {QUIET} --record a.record"
+        load = f"load tape.lda {peer.address} --quiet {self.quiet} --record a.record"
         self.ends(self.ldaodt(load), 0, "sent 137 spent 0 verified 17 of 17\nend Loaded\n")
         self.is_so(bytes_of(self.path("a.record")), record.encode())
         self.ends(self.ldaodt(load), 0, "sent 0 spent 0 verified 17 of 17\nend Loaded\n")

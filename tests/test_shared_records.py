@@ -50,7 +50,7 @@ NAMES = {
 }
 
 # Silence on a computer that is busy with ten loads and their machines.
-LONG_QUIET = ["--quiet", "1000"]
+BUSY_QUIET = 1000
 ROUNDS_AT_ONCE = 6
 
 
@@ -75,6 +75,7 @@ class Round:
     def __init__(self, case, state, name, console=None):
         files, memory = STATES[state]
         self.room, self.state = case.path(f"{state}, {name}, {random.random()}"), state
+        self.quiet = ["--quiet", str(max(BUSY_QUIET, case.quiet))]
         os.makedirs(f"{self.room}/folder")
         os.symlink(TAPES[TAPE], f"{self.room}/{TAPE}")
         os.symlink(".", f"{self.room}/linked")
@@ -92,7 +93,7 @@ class Round:
 
     def begin(self, kind, options=None, setup=None):
         """Begins a load; `kind` is the name that it has for the record."""
-        words = [PROGRAM, "load", TAPE, self.peer.address, *(options or LONG_QUIET), "--record", self.name(kind)]
+        words = [PROGRAM, "load", TAPE, self.peer.address, *(options or self.quiet), "--record", self.name(kind)]
         return subprocess.Popen(words, cwd=self.room, stdin=subprocess.DEVNULL, stdout=subprocess.PIPE, stderr=subprocess.PIPE,
                                 preexec_fn=setup)
 
@@ -247,7 +248,7 @@ class SecondLoads(Shared):
         under_way = it.begin("the same name")
         self.assertTrue(it.peer.machine.has_come.wait(60))
         other = self.console_at(Console())
-        given = self.ldaodt(["load", f"{it.room}/{TAPE}", other.address, *LONG_QUIET, "--record", f"{it.room}/b.record"])
+        given = self.ldaodt(["load", f"{it.room}/{TAPE}", other.address, *it.quiet, "--record", f"{it.room}/b.record"])
         self.is_so(given.status, 0)
         it.peer.machine.may_go_on.set()
         self.is_so(it.answer(under_way).status, 0)
@@ -260,7 +261,7 @@ class SecondLoads(Shared):
         under_way = it.begin("the same name")
         self.assertTrue(it.peer.machine.has_come.wait(60))
         other = self.console_at(Console())
-        given = self.ldaodt(["load", f"{it.room}/{TAPE}", other.address, *LONG_QUIET, "--record", f"{it.room}/a.record"])
+        given = self.ldaodt(["load", f"{it.room}/{TAPE}", other.address, *it.quiet, "--record", f"{it.room}/a.record"])
         self.is_so((given.status, other.machine.starts), (0, [0o1000]))
         it.peer.machine.may_go_on.set()
         self.is_so(it.answer(under_way).status, 0)

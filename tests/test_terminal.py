@@ -1,14 +1,14 @@
 """Standard error on a terminal: one line says how far a load is, and nothing of it is left."""
-import os
-import pty
 import time
 import unittest
 
-from common import QUIET, Case, Console, DeafConsole
+from common import Case, Console, DeafConsole
 
-# Each line that is shown, and its end, which takes away what is left of the one before it.
-SHOWN = "\r{}\x1b[K"
-FIRST_SHOWN = SHOWN.format("0 of 1 words, 0%")
+# Each line that is shown: the terminal is asked to cut what it has no column for, and behind the text to take away what
+# is left of the line before it and to wrap again.
+SHOWN = "\r\x1b[?7l{}\x1b[K\x1b[?7h"
+LISTENING = SHOWN.format("0 of 1 words, 0%, listening")
+NO_WORD = SHOWN.format("0 of 1 words, 0%")
 CLEARED = "\r\x1b[K"
 STARTED = "sent 30 spent 0 verified 1 of 1\nend Started\n"
 
@@ -30,37 +30,25 @@ class SlowConsole(Console):
 class Terminal(Case):
     """A load whose standard error is a terminal."""
 
-    def load_at_a_terminal(self, machine=None, words="first.lda", quiet=QUIET, close_after=None, **more):
-        """Returns the answer, and all that came to the terminal, which writes a return before each line feed."""
+    def load_at_a_terminal(self, machine=None, words="first.lda", quiet=None, close_after=None, **more):
         self.put_tapes("first.lda", "two-words.lda")
         tape, *rest = words.split()
         peer = self.console_at(machine or Console(), close_after=close_after)
-        ours, theirs = pty.openpty()
-        try:
-            given = self.ldaodt(["load", tape, peer.address, "--quiet", str(quiet), *rest], stderr=theirs, **more)
-        finally:
-            os.close(theirs)
-        shown = b""
-        try:
-            while piece := os.read(ours, 4096):
-                shown += piece
-        except OSError:
-            pass  # Linux ends a terminal that nobody has open so.
-        os.close(ours)
-        return given, shown.decode()
+        words = ["load", tape, peer.address, "--quiet", str(quiet or self.quiet), *rest]
+        return self.at_a_terminal(lambda terminal: self.ldaodt(words, stderr=terminal, **more))
 
     def test_a_load_is_shown(self):
         given, shown = self.load_at_a_terminal()
         self.is_so((given.status, given.out), (0, STARTED))
-        self.assertTrue(shown.startswith(FIRST_SHOWN), repr(shown))
-        self.assertTrue(shown.endswith("\x1b[K" + CLEARED), repr(shown))
+        self.assertTrue(shown.startswith(LISTENING), repr(shown))
+        self.assertTrue(shown.endswith("\x1b[?7h" + CLEARED), repr(shown))
         self.assertNotIn("\n", shown)
 
     def test_a_fault_stands_on_a_cleared_line(self):
         """The machine hangs up after `Z` and two characters of its answer."""
         given, shown = self.load_at_a_terminal(close_after=3)
         self.is_so((given.status, given.out), (4, "sent 1 spent 0 verified 0 of 1\nend LineFailed\n"))
-        self.assertTrue(shown.startswith(FIRST_SHOWN), repr(shown))
+        self.assertTrue(shown.startswith(LISTENING), repr(shown))
         self.assertTrue(shown.endswith(f"{CLEARED}ldaodt: line failed\r\n"), repr(shown))
 
     def test_mishaps_are_counted(self):
@@ -69,7 +57,7 @@ class Terminal(Case):
         given, shown = self.load_at_a_terminal(DeafConsole(), "first.lda --patience 3")
         self.is_so((given.status, given.out), (5, "sent 4 spent 3 verified 0 of 1\nend GaveUp\n"))
         mishaps = "".join(SHOWN.format(f"0 of 1 words, 0%, {text}") for text in ("1 mishap", "2 mishaps", "3 mishaps"))
-        self.is_so(shown, FIRST_SHOWN * 2 + mishaps + CLEARED)
+        self.is_so(shown, LISTENING + NO_WORD + mishaps + CLEARED)
 
     def test_words_of_the_record_count(self):
         """Of the second word's eight keys and the start's seven the last ten are slow."""
@@ -77,7 +65,7 @@ class Terminal(Case):
         machine = SlowConsole(6, memory={0o1002: 0o104})
         given, shown = self.load_at_a_terminal(machine, "two-words.lda --record a.record", quiet=1000)
         self.is_so((given.status, given.out), (0, "sent 16 spent 0 verified 2 of 2\nend Started\n"))
-        going_on = "going on behind 1 of 2 words; if the machine lost its power, stop and use --recheck"
+        going_on = "going on behind 1 of 2 words, listening; power lost? use --recheck"
         self.assertTrue(shown.startswith(SHOWN.format(going_on)), repr(shown))
         self.is_so(shown.count(going_on), 1)
         self.assertTrue(shown.endswith(SHOWN.format("2 of 2 words, 100%, 0:00 left") + CLEARED), repr(shown))
@@ -87,7 +75,7 @@ class Terminal(Case):
         given, shown = self.load_at_a_terminal(SlowConsole(19), "first.lda --record a.record", quiet=1000, file_size=9)
         self.is_so((given.status, given.out), (4, "sent 23 spent 0 verified 1 of 1\nend KeepFailed\n"))
         self.assertTrue(shown.endswith(f"{CLEARED}ldaodt: cannot write a.record\r\n"), repr(shown))
-        self.is_so(set(shown[:shown.index(CLEARED)].split("\r")), {"", FIRST_SHOWN[1:]})
+        self.is_so(set(shown[:shown.index(CLEARED)].split("\r")), {"", LISTENING[1:], NO_WORD[1:]})
 
 
 if __name__ == "__main__":

@@ -1,17 +1,23 @@
 #!/usr/bin/env python3
-"""A simulated LSI-11 console behind a TCP port, with a line that may lose characters or break.
+"""A simulated LSI-11 console behind a TCP port or a serial device, with a line that may lose characters or break.
 
-    tools/odt_peer.py [--port N] [--words N] [--style N] [--loss PERCENT] [--seed N] [--baud N] [--break-after N]
+    tools/odt_peer.py [--port N | --device [--stty "SETTING.."]] [--words N] [--style N] [--says TEXT]
+                      [--loss PERCENT] [--seed N] [--baud N] [--break-after N]
 
 It is a second console, written from docs/CONSOLE.md alone, for trying `ldaodt load` from outside: the
-built program meets a machine that shares no line of text with it. Without --port the system chooses one.
-It tells its port on its first line, and each start and each end of a connection after it. Its memory lasts
-from one connection to the next, as that of a machine does whose cable is pulled. It never sees the
-network: it listens on 127.0.0.1.
+built program meets a machine that shares no line of text with it. Without --port the system chooses one;
+with --device it is behind a pseudo-terminal, which is set by stty as a person sets a serial device. It tells
+its port or its device on its first line, and each start and each end of a connection after it. Its memory
+lasts from one connection to the next, as that of a machine does whose cable is pulled. With --says the
+program that is started prints TEXT. It never sees the network: it listens on 127.0.0.1.
 """
 import argparse
+import os
+import pty
 import random
+import select
 import socket
+import subprocess
 import sys
 import threading
 import time
@@ -20,15 +26,16 @@ ILLEGAL, RUNNING = "illegal", "running"
 
 
 class Machine:
-    """An LSI-11 as its console shows it."""
+    """An LSI-11 as its console shows it. What its program prints, once it is started, is pieces of text, each
+    behind so many seconds."""
 
-    def __init__(self, words=28672, style=0):
+    def __init__(self, words=28672, style=0, says=()):
         self.words = [0] * words
         self.blank = " " if style & 1 else ""
         self.newline = "\r\r\n" if style & 2 else "\r\n"
         self.echoes_illegal = bool(style & 4)
         self.mode, self.number, self.digits, self.open_at = "prompt", 0, 0, None
-        self.starts = []
+        self.starts, self.says = [], says
 
     def word(self, address):
         return self.words[address // 2]
@@ -64,62 +71,60 @@ class Machine:
         return self.to_prompt(f"{key}?" if self.echoes_illegal else "?")
 
 
-class Peer:
-    """A machine behind a port, and the line between them."""
+class Line:
+    """A machine, and the line to it: subclasses say what the line is made of."""
 
-    def __init__(self, machine, port=0, loss=0.0, seed=0, close_after=None, takes_last=False, baud=None, tell=None):
+    def __init__(self, machine, loss=0.0, seed=0, close_after=None, takes_last=False, baud=None, tell=None):
         self.machine, self.loss, self.baud = machine, loss, baud
         self.chance = random.Random(seed)
         # How many characters, keys and answers together, pass before the line breaks (None: it holds),
         # and whether a key that is the last of them still reaches the machine.
         self.close_after, self.takes_last = close_after, takes_last
-        self.connections = self.keys = self.answered = self.lost = 0
+        self.keys = self.answered = self.lost = 0
         self.tell = tell or (lambda _text: None)
-        self.listener = socket.create_server(("127.0.0.1", port))
-        self.port = self.listener.getsockname()[1]
-        threading.Thread(target=self.serve, daemon=True).start()
+        self.is_hung_up = threading.Event()
 
-    def serve(self):
-        while True:
-            try:
-                connection, _ = self.listener.accept()
-            except OSError:
-                return
-            self.connections += 1
-            self.tell("connected")
-            with connection:
-                try:
-                    connection.setsockopt(socket.IPPROTO_TCP, socket.TCP_NODELAY, 1)
-                    self.talk(connection)
-                except OSError:
-                    pass
-            self.tell(f"gone: {self.keys} keys, {self.answered} characters answered, {self.lost} lost")
-
-    def talk(self, connection):
+    def talk(self, receive, send):
+        """Lets the machine answer what is received, until nothing is; returns whether the line broke before."""
         if self.is_over():
-            return
-        while keys := connection.recv(64):
+            return True
+        while keys := receive(64):
             for key in keys.decode("latin-1"):
                 self.keys += 1
                 if self.is_over():
                     if self.takes_last:
                         self.machine.take(key)
-                    return
+                    return True
                 self.wait_a_character()
                 if self.loses():
                     continue
                 starts = len(self.machine.starts)
                 answer = self.machine.take(key)
-                if len(self.machine.starts) > starts:
+                is_started = len(self.machine.starts) > starts
+                if is_started:
                     self.tell(f"started at {self.machine.starts[-1]:06o}")
-                for character in answer:
-                    self.wait_a_character()
-                    if self.loses():
-                        continue
-                    connection.sendall(character.encode("latin-1"))
-                    self.answered += 1
-                    if self.is_over():
-                        return
+                if not self.say(answer, send) or is_started and not self.run(send):
+                    return True
+        return False
+
+    def say(self, text, send):
+        """Sends what the machine prints; returns whether the line still holds."""
+        for character in text:
+            self.wait_a_character()
+            if self.loses():
+                continue
+            send(character.encode("latin-1"))
+            self.answered += 1
+            if self.is_over():
+                return False
+        return True
+
+    def run(self, send):
+        """Prints what the program prints; returns whether the line still holds."""
+        for seconds, text in self.machine.says:
+            if self.is_hung_up.wait(seconds) or not self.say(text, send):
+                return False
+        return True
 
     def wait_a_character(self):
         """Waits as long as a character of ten bits takes."""
@@ -133,6 +138,37 @@ class Peer:
 
     def is_over(self):
         return self.close_after is not None and self.keys + self.answered >= self.close_after
+
+    def count(self):
+        return f"{self.keys} keys, {self.answered} characters answered, {self.lost} lost"
+
+
+class Peer(Line):
+    """A machine behind a port of this computer."""
+
+    def __init__(self, machine, port=0, **named):
+        super().__init__(machine, **named)
+        self.connections = 0
+        self.listener = socket.create_server(("127.0.0.1", port))
+        self.port = self.listener.getsockname()[1]
+        self.name = f"127.0.0.1:{self.port}"
+        threading.Thread(target=self.serve, daemon=True).start()
+
+    def serve(self):
+        while True:
+            try:
+                connection, _ = self.listener.accept()
+            except OSError:
+                return
+            self.connections += 1
+            self.tell("connected")
+            with connection:
+                try:
+                    connection.setsockopt(socket.IPPROTO_TCP, socket.TCP_NODELAY, 1)
+                    self.talk(connection.recv, connection.sendall)
+                except OSError:
+                    pass
+            self.tell(f"gone: {self.count()}")
 
     def settle(self, seconds=10):
         """Waits until all earlier callers are served, and what they sent is taken: connections are served in turn,
@@ -148,19 +184,95 @@ class Peer:
         self.listener.close()
 
 
+class Device(Line):
+    """A machine at a serial device: a pseudo-terminal, set by stty. A line that breaks is one that is hung up, as
+    that of an adapter which is pulled out; the device is then gone."""
+
+    # How long the system may take to bring what was written at one end to the other.
+    TRANSIT = 0.05
+
+    def __init__(self, machine, settings="raw -echo", **named):
+        super().__init__(machine, **named)
+        self.ours, self.theirs = pty.openpty()
+        # Theirs stays open with us, so that our end is not told of a hang-up when the program closes it.
+        self.name = os.ttyname(self.theirs)
+        self.set(settings)
+        self.asks, self.asked = os.pipe()
+        self.is_settled = threading.Event()
+        self.is_gone = threading.Event()
+        threading.Thread(target=self.serve, daemon=True).start()
+
+    def set(self, settings):
+        """Sets the device, as a person does."""
+        subprocess.run(["stty", "-F", self.name, *settings.split()], check=True)
+
+    def serve(self):
+        try:
+            self.talk(self.receive, self.send)
+        except OSError:
+            pass
+        os.close(self.ours)
+        self.is_gone.set()
+        self.is_settled.set()
+        self.tell(f"gone: {self.count()}")
+
+    def receive(self, size):
+        """Waits for keys; answers whoever asks whether there are none left; nothing once it is closed."""
+        while True:
+            ready, _, _ = select.select([self.ours, self.asks], [], [])
+            if self.ours in ready:
+                return os.read(self.ours, size)
+            if os.read(self.asks, 1) == b"c":
+                return b""
+            self.is_settled.set()
+
+    def send(self, text):
+        """Sends; a device at which nobody reads holds only so much, and the rest is lost, as on a real line."""
+        _, ready, _ = select.select([], [self.ours], [], 0)
+        if ready:
+            os.write(self.ours, text)
+
+    def settle(self, seconds=60):
+        """Waits until what was typed is taken and answered."""
+        time.sleep(self.TRANSIT)
+        self.is_settled.clear()
+        if not self.is_gone.is_set():
+            os.write(self.asked, b"s")
+            self.is_settled.wait(seconds)
+
+    def hang_up(self):
+        """Hangs up: the device is gone for whoever has it open."""
+        self.is_hung_up.set()
+        if not self.is_gone.is_set():
+            os.write(self.asked, b"c")
+            self.is_gone.wait(60)
+
+    def close(self):
+        """Hangs up, and lets go of the device."""
+        self.hang_up()
+        for end in (self.theirs, self.asks, self.asked):
+            os.close(end)
+
+
 def main():
-    words = argparse.ArgumentParser(description="A simulated LSI-11 console behind a TCP port.")
+    words = argparse.ArgumentParser(description="A simulated LSI-11 console behind a TCP port or a serial device.")
     words.add_argument("--port", type=int, default=0)
+    words.add_argument("--device", action="store_true", help="behind a pseudo-terminal, in place of a port")
+    words.add_argument("--stty", default="raw -echo", help="how the device is set: %(default)s")
     words.add_argument("--words", type=int, default=28672)
     words.add_argument("--style", type=int, choices=range(8), default=0)
+    words.add_argument("--says", default="", help="what the program prints that is started; \\r and \\n as there")
     words.add_argument("--loss", type=float, default=0, help="of a hundred characters, each way")
     words.add_argument("--seed", type=int, default=0)
     words.add_argument("--baud", type=int)
     words.add_argument("--break-after", type=int, help="characters, keys and answers together, after which the line is dead")
     asked = words.parse_args()
     tell = lambda text: print(text, flush=True)
-    peer = Peer(Machine(asked.words, asked.style), asked.port, asked.loss / 100, asked.seed, asked.break_after, baud=asked.baud, tell=tell)
-    tell(f"127.0.0.1:{peer.port}")
+    says = asked.says.encode("latin-1").decode("unicode_escape")
+    machine = Machine(asked.words, asked.style, [(0, says)])
+    named = {"loss": asked.loss / 100, "seed": asked.seed, "close_after": asked.break_after, "baud": asked.baud, "tell": tell}
+    line = Device(machine, asked.stty, **named) if asked.device else Peer(machine, asked.port, **named)
+    tell(line.name)
     try:
         threading.Event().wait()
     except KeyboardInterrupt:

@@ -7,6 +7,8 @@ import shutil
 import subprocess
 import sys
 import tempfile
+import threading
+import time
 
 TOP = os.path.dirname(os.path.dirname(os.path.realpath(__file__)))
 PROGRAM = f"{TOP}/ldaodt"
@@ -70,6 +72,26 @@ def bytes_of(path):
             return file.read()
     except FileNotFoundError:
         return b""
+
+
+# ---------------------------------------------------------------- a busy computer
+
+class HeldUp(threading.Thread):
+    """A watch that looks at the clock every few milliseconds, and knows for how long this process did not run at most:
+    so long an answer of its machines may have been late."""
+
+    PAUSE = 0.005
+
+    def __init__(self):
+        super().__init__(daemon=True)
+        self.longest, self.is_over = 0.0, False
+
+    def run(self):
+        last = time.monotonic()
+        while not self.is_over:
+            time.sleep(self.PAUSE)
+            now = time.monotonic()
+            self.longest, last = max(self.longest, now - last - self.PAUSE), now
 
 
 # ---------------------------------------------------------------- want of memory

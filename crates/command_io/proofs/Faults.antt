@@ -1,5 +1,5 @@
 -- What a `?` on a failed write answers.
-use Rattle.std.proofs.Common.{◌≡◌, Result, Ok, Err, IfErr, OnErr, sym, subst}
+use Rattle.std.proofs.Common.{◌≡◌, Result, Ok, Err, IfErr, sym, subst}
 use Rattle.std.specs.Result.{IsErrAnd}
 use Rattle.command_io.specs.declared.fault.CommandFault.{CommandFault}
 
@@ -7,8 +7,3 @@ use Rattle.command_io.specs.declared.fault.CommandFault.{CommandFault}
 pub fault_is : {T : Type 0} (r : Result T CommandFault) (fault : CommandFault) (P : CommandFault → Type 0) → IsErrAnd r (λ e. e ≡ fault) → P fault → IfErr r P
 fault_is (Ok x) fault P h p = tt
 fault_is (Err e) fault P h p = subst P (sym h) p
-
--- what holds in any case holds of an error
-pub on_err : {T E : Type 0} (r : Result T E) (P : Type 0) → P → OnErr r P
-on_err (Ok x) P p = tt
-on_err (Err e) P p = p

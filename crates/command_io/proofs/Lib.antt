@@ -1,4 +1,3 @@
 pub mod Faults
-pub mod Fronts
 pub mod TapeInput
 pub mod TapesInput

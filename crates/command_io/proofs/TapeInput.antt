@@ -8,10 +8,11 @@ use Rattle.std.specs.Prelude.{◌⊎◌}
 use Rattle.tape_blocks.specs.Tape.{TapeValue}
 use Rattle.tape_blocks.specs.declared.input.FromError.{FromError}
 use Rattle.tape_blocks.specs.declared.input.FromError.TheVariants.{Tape}
-use Rattle.tape_blocks.specs.Input.{IsReadFrom}
+use Rattle.tape_blocks.specs.Input.{IsReadFrom, input_limit}
 use Rattle.std.proofs.Common.{Result, Ok, Err}
-use Rattle.command_io.specs.Input.{TakesAtMost}
-use Rattle.command_io.specs.TapeFile.{IsInput, IsRefusedInput, input_limit}
+use Rattle.byte_io.specs.Input.{TakesAtMost}
+use Rattle.tape_blocks.specs.Told.{IsAsTold}
+use Rattle.command_io.specs.TapeFile.{IsRefusedInput}
 use Rattle.command_io.specs.Tapes.{IsTapeTaken}
 
 -- what a reader has left, where it tells
@@ -19,10 +20,10 @@ abbrev pub left_of : Option (List ℕ) → List ℕ
 left_of None = []
 left_of (Some bytes) = bytes
 
-pub whole : (before after : Option (List ℕ)) (bytes : List ℕ) → Consumes before after bytes → IsInput before (bytes ++ left_of after)
+pub whole : (before after : Option (List ℕ)) (bytes : List ℕ) → Consumes before after bytes → IsAsTold before (bytes ++ left_of after)
 whole None after bytes h = tt
 whole (Some xs) None bytes h = absurd h
-whole (Some xs) (Some ys) bytes h = h
+whole (Some xs) (Some ys) bytes h = sym h
 
 pub ends : (after : Option (List ℕ)) → IsAtEnd after → left_of after ≡ []
 ends None h = refl

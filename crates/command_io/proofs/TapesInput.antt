@@ -1,12 +1,12 @@
 -- Tapes taken of inputs, one after another.
-use Rattle.std.proofs.Common.{◌≡◌, ◌<◌, ◌≤◌, ◌+◌, ℕ, List, [], ◌∷◌, ◌++◌, Option, map, take, drop, set, length, refl, sym, ap, ◌∙◌, subst, arith}
+use Rattle.std.proofs.Common.{◌≡◌, ◌<◌, ◌≤◌, ◌+◌, ℕ, List, [], ◌∷◌, ◌++◌, Option, map, take, drop, set, length, sym, ap, ◌∙◌, subst, arith}
 use Rattle.std.proofs.Common.{get_or, take-append-drop}
 use Rattle.std.proofs.KnownBytes.{Consumes-nil}
 use Rattle.std.proofs.lemmas.List.{map-append, take-map, drop-map, take_all, take_more, take_more_set, take-set, drop_more, drop-set-lt, length-append, length-set}
 use Rattle.std.proofs.lemmas.List.Elements.{AllZip-push}
 use Rattle.tape_blocks.specs.Tape.{TapeValue}
-use Rattle.command_io.specs.Input.{TakesAtMost}
-use Rattle.command_io.specs.TapeFile.{input_limit}
+use Rattle.byte_io.specs.Input.{TakesAtMost}
+use Rattle.tape_blocks.specs.Input.{input_limit}
 use Rattle.command_io.specs.Tapes.{TapeText, IsTapeTaken, AreTaken, AreTapes, StopsAt, TakeAtMost, tapes_of, lengths_of}
 
 -- of the first inputs tapes were taken, and the others are as they were
@@ -19,18 +19,6 @@ pub record IsTaking {X : Type 0} (known : X → Option (List ℕ)) (start now : 
   pub rest : drop done now ≡ drop done start
   pub tapes_are : tapes ≡ tapes_of texts
   pub lengths_are : lengths ≡ lengths_of texts
-
-pub taking_none : {X : Type 0} (known : X → Option (List ℕ)) (start : List X) (tapes : List TapeValue) (lengths : List ℕ) → tapes ≡ [] → lengths ≡ [] → IsTaking known start start 0 tapes lengths
-taking_none known start tapes lengths no_tapes no_lengths = record {
-  texts = [];
-  count = refl;
-  size = refl;
-  taken = tt;
-  at_most = tt;
-  rest = refl;
-  tapes_are = no_tapes;
-  lengths_are = no_lengths;
-}
 
 -- one tape more
 are_more : (befores afters : List (Option (List ℕ))) (texts : List TapeText) (before after : Option (List ℕ)) (t : TapeText) → AreTaken befores afters texts → IsTapeTaken before after t

@@ -1,5 +1,2 @@
-pub mod Input
-pub mod Output
 pub mod TapeFile
 pub mod Tapes
-pub mod Text

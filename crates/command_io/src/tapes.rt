@@ -12,12 +12,13 @@ use tape_blocks::{FromError, Tape, read_from};
 pub struct Tapes {
     /// The tapes, in order.
     pub tapes: Vec<Tape>,
+
     /// How many bytes each has, up to the end of its transfer block.
     pub lengths: Vec<u32>,
 }
 
 impl Tapes {
-    /// Puts a tape behind the others.
+    // Puts a tape behind the others.
     fn add(&mut self, tape: Tape, length: u32) -> Result<(), AllocError>
         ensures tapes { OnOk result (self.new.tapes.items ≡ self.old.tapes.items ++ tape ∷ []) }
         ensures lengths { OnOk result (self.new.lengths.items ≡ self.old.lengths.items ++ length ∷ []) }

@@ -8,6 +8,7 @@ use rehearsals::{dialogue_to, rehearse_to};
 use std::alloc::Global;
 use std::slice;
 use tape_check::check_to;
+use tape_image::Start;
 
 /// A script in which characters of an earlier session wait, and look like echoes.
 const STALE: &str =
@@ -57,7 +58,14 @@ fn fault_of(
     match command {
         Command::Check => check_to(alloc, tapes, out).err(),
         Command::Rehearsal => rehearse_to(alloc, tapes, script, out).err(),
-        Command::Dialogue => dialogue_to(alloc, tapes, LARGEST_WORDS, PLAIN_STYLE, out).err(),
+        Command::Dialogue => dialogue_to(
+            alloc,
+            tapes,
+            LARGEST_WORDS,
+            PLAIN_STYLE,
+            Start::OfTape,
+            out,
+        ).err(),
     }
 }
 

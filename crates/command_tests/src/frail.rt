@@ -2,14 +2,14 @@
 
 use crate::failing_devices::{BrokenInput, BrokenOutput};
 use crate::tapes::plan_of_one_word;
-use command_io::read_up_to;
+use byte_io::read_up_to;
 use honest_line::MemoryLine;
 use load_devices::LineFault;
+use load_progress::Unwatched;
 use load_record::{FileKeep, RECORD_LIMIT};
-use machine_load::{
-    LoadFault, LoadOptions, OldRecord, Outcome, RecordFault, Surroundings, Unwatched, load,
-};
+use machine_load::{LoadFault, LoadOptions, Outcome, Surroundings, load};
 use odt_machine::{LARGEST_WORDS, Odt, PLAIN_STYLE};
+use record_file::{OldRecord, RecordFault};
 use std::alloc::Global;
 use std::cell::RefCell;
 use std::io;

@@ -5,7 +5,7 @@
 //! any time; here stands what no clause can say: that they succeed where memory is ample; that with a
 //! growth refused they answer just that, with nothing written but the beginning of the whole; that a
 //! device that failed is not asked again; that a record is on the disk before it replaces the old one;
-//! that the engine loads over a stream; and at what pace a load is shown while it goes on.
+//! and that the engine loads over a stream.
 //!
 //! What the built program shows from outside is tested in `tests/` at the top: the largest sizes and
 //! scripts and records with a byte changed among it. These tests stand in a crate of their own, since a
@@ -36,8 +36,6 @@ mod full_disks;
 mod limits;
 #[cfg(test)]
 mod old_records;
-#[cfg(test)]
-mod progress;
 #[cfg(test)]
 mod replacing;
 #[cfg(test)]

@@ -7,7 +7,8 @@ use crate::tapes::ONE_WORD;
 use host_core::End;
 use load_engine::Stop;
 use load_record::RecordError;
-use machine_load::{LoadFault, Outcome, RecordFault};
+use machine_load::{LoadFault, Outcome};
+use record_file::RecordFault;
 use std::alloc::Global;
 use std::cell::RefCell;
 

@@ -2,7 +2,8 @@
 
 use crate::simulated_system::{AMPLE, Failing, Notes, QUIET_MS, Step, System};
 use crate::tapes::plan_of_one_word;
-use machine_load::{Address, RecordFault, Recorded, Surroundings};
+use machine_load::{Address, Recorded, Surroundings};
+use record_file::RecordFault;
 use std::alloc::Global;
 use std::fs::File;
 use std::io::ErrorKind;

@@ -5,10 +5,10 @@
 mod notes;
 
 use arrayvec::ArrayVec;
-use machine_load::Locks;
 use notes::{holding, note, note_opening, removing};
 pub use notes::{Failing, Notes, Step};
 use odt_machine::{LARGEST_WORDS, Odt, PLAIN_STYLE};
+use record_file::Locks;
 use std::alloc::{Allocator, Global};
 use std::cell::Cell;
 use std::fs::{File, Metadata, OpenFile, OpenOptions, TryLockError};

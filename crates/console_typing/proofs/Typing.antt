@@ -5,7 +5,7 @@ use Rattle.std.proofs.KnownBytes.{Appends-trans, Consumes-kept, Consumes-trans}
 use Rattle.std.specs.Io.KnownBytes.{Appends, Consumes, Keeps}
 use Rattle.odt_machine.specs.Machine.{Machine}
 use Rattle.odt_machine.specs.KeyTable.{take_of, after_key}
-use Rattle.command_io.specs.Output.{WritesPrefix}
+use Rattle.byte_io.specs.Output.{WritesProperPrefix}
 use Rattle.console_typing.specs.Typing.{key_limit, typed_key, after_typing, answers_of, IsTyped, IsTypedSoFar, IsTypedInPart}
 
 after_typing-append : (xs ys : List ℕ) (m : Machine) → after_typing m (xs ++ ys) ≡ after_typing (after_typing m xs) ys
@@ -65,7 +65,7 @@ module _ (input rest next : Option (List ℕ)) (machine mid after : Machine) (be
       joined keys e = answers_of-append keys more machine ∙ ap (λ m. answers_of machine keys ++ answers_of m more) (sym e)
 
   -- the next characters typed, and answered in part
-  pub in_part : IsTypedSoFar input rest machine mid before written count → Typed → WritesPrefix written now (answers_of mid more)
+  pub in_part : IsTypedSoFar input rest machine mid before written count → Typed → WritesProperPrefix written now (answers_of mid more)
       → IsTypedInPart input next machine after before now
   in_part so_far typed (left, missing, part) = record {
     keys = so_far.keys ++ more;

@@ -1,21 +1,22 @@
 //! The command `type`: keys typed into a simulated console.
 ghost use Rattle.std.specs.Prelude.{◌≡◌, ◌≤◌, length, OnOk, OnErr, IfOk, IfErr};
 ghost use Rattle.std.specs.Io.KnownBytes.{Appends};
-ghost use Rattle.command_io.specs.Output.{WritesPrefix};
+ghost use Rattle.byte_io.specs.Output.{WritesProperPrefix};
 ghost use Rattle.console_typing.specs.Typing.{typed_key as key_of_character, after_typing, answers_of, IsTypedToEnd, IsTypeFault};
 
 use arrayvec::ArrayVec;
-use command_io::{CommandFault, WriteFailed, write_whole};
+use byte_io::{WriteFault, write_whole};
+use command_io::CommandFault;
 use odt_machine::{CARRIAGE_RETURN, LINE_FEED, Odt};
 use std::io::{Read, Write};
 
-/// The most keys that are typed. What stands behind them stays unread.
+// The most keys that are typed. What stands behind them stays unread.
 const KEY_LIMIT: usize = 1_048_576;
 
-/// How many keys are asked for in one read. What a terminal or a pipe has is answered at once.
+// How many keys are asked for in one read. What a terminal or a pipe has is answered at once.
 const PIECE: usize = 512;
 
-/// The answers to the keys of one read, nine characters for each at most.
+// The answers to the keys of one read, nine characters for each at most.
 type Answers = ArrayVec<u8, 4608>;
 
 /// Types the characters of an input into a console, a line feed as a carriage return, and writes
@@ -48,11 +49,11 @@ pub fn type_to<R: Read, W: Write>(
     Ok(count as u32)
 }
 
-fn type_piece<W: Write>(odt: &mut Odt, keys: &[u8], out: &mut W) -> Result<(), WriteFailed>
+fn type_piece<W: Write>(odt: &mut Odt, keys: &[u8], out: &mut W) -> Result<(), WriteFault>
     requires { length keys.now ≤ 512 }
     ensures machine { odt.new ≡ after_typing odt.old keys.now }
     ensures ok { OnOk result (Appends (W.contents out.old) (W.contents out.new) (answers_of odt.old keys.now)) }
-    ensures err { OnErr result (WritesPrefix (W.contents out.old) (W.contents out.new) (answers_of odt.old keys.now)) }
+    ensures err { OnErr result (WritesProperPrefix (W.contents out.old) (W.contents out.new) (answers_of odt.old keys.now)) }
 {
     let answers = answers_to(odt, keys);
     write_whole(out, &answers)
@@ -71,7 +72,7 @@ fn answers_to(odt: &mut Odt, keys: &[u8]) -> Answers
     answers
 }
 
-/// The key that a character types.
+// The key that a character types.
 fn typed_key(character: u8) -> u8
     ensures { result ≡ key_of_character character }
 {

@@ -1,10 +1,10 @@
-//! Tests of what a load stands on: the keeper of its record, and the lines over a socket
-//! and a serial device.
+//! Tests of what a load stands on: the keeper of its record, the lines over a socket and a serial device,
+//! the ways to them, and the line that shows how far it is.
 //!
 //! Contracts say which bytes a keeper writes, and what is made of the bytes of a stream; here stand
 //! examples of all that, and what no clause can say: that each call of a keeper flushes, that no device
-//! is asked again that has failed, what a socket is set to, and
-//! how many looks at a terminal make a silence.
+//! is asked again that has failed, what a socket is set to, how many looks at a terminal make a silence, when
+//! listening is over, and at what pace a load is shown.
 //!
 //! They stand in a crate of their own, since a crate with tests is proved twice.
 #![tactic(auto)]
@@ -16,10 +16,17 @@ mod devices;
 #[cfg(test)]
 mod keeping;
 #[cfg(test)]
+mod listening;
+#[cfg(test)]
 mod plans;
+#[cfg(test)]
+mod progress;
 #[cfg(test)]
 mod sockets;
 #[cfg(test)]
 mod streams;
+mod telling;
 #[cfg(test)]
 mod terminals;
+#[cfg(test)]
+mod watching;

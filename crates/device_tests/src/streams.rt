@@ -131,3 +131,44 @@ impl OpenStream for Faulty<'_> {
         Ok(())
     }
 }
+
+/// A stream that says a script, a byte with each read: `-` is a silence, and the last goes on for ever.
+#[derive(Drop)]
+pub struct Spoken<'a> {
+    pub script: &'static [u8],
+    pub reads: &'a Cell<usize>,
+}
+
+impl Read for Spoken<'_> {
+    fn read(&mut self, buf: &mut [u8]) -> io::Result<usize> {
+        if buf.is_empty() {
+            return Ok(0);
+        }
+        let number = self.reads.get();
+        self.reads.set(number.saturating_add(1));
+        let last = self.script.len().saturating_sub(1);
+        match self.script.get(number.min(last)) {
+            Some(b'-') | None => Err(io::Error::from(ErrorKind::WouldBlock)),
+            Some(byte) => {
+                buf[0] = *byte;
+                Ok(1)
+            }
+        }
+    }
+}
+
+impl Write for Spoken<'_> {
+    fn write(&mut self, _buf: &[u8]) -> io::Result<usize> {
+        Err(io::Error::from(ErrorKind::BrokenPipe))
+    }
+
+    fn flush(&mut self) -> io::Result<()> {
+        Ok(())
+    }
+}
+
+impl OpenStream for Spoken<'_> {
+    fn set_read_timeout(&self, _time: Option<Duration>) -> io::Result<()> {
+        Ok(())
+    }
+}

@@ -3,7 +3,7 @@ use Rattle.std.proofs.Common.{◌≡◌, ◌<◌, ℕ, List, [], ◌++◌, Optio
 use Rattle.std.proofs.lemmas.List.{length-append}
 use Rattle.std.proofs.KnownBytes.{Appends-nil, Appends-trans}
 use Rattle.std.specs.Io.KnownBytes.{Appends}
-use Rattle.command_io.specs.Output.{WritesAllBut, WritesPrefix}
+use Rattle.byte_io.specs.Output.{WritesAllBut, WritesProperPrefix}
 
 pub on_any_err : {T E : Type 0} (r : Result T E) (P : Type 0) → P → OnErr r P
 on_any_err (Ok x) P p = tt
@@ -13,7 +13,7 @@ pub none_written : (a : Option (List ℕ)) (text left : List ℕ) → text ≡ l
 none_written a text left same = record { written = []; whole = same; appended = Appends-nil a }
 
 -- a prefix of a text that is not empty: nothing of it
-pub no_prefix : (a : Option (List ℕ)) (text : List ℕ) → 0 < length text → WritesPrefix a a text
+pub no_prefix : (a : Option (List ℕ)) (text : List ℕ) → 0 < length text → WritesProperPrefix a a text
 no_prefix a text some = (text, some, none_written a text text refl)
 
 pub piece_written : (a b d : Option (List ℕ)) (text piece left : List ℕ) → WritesAllBut a b text (piece ++ left) → Appends b d piece → WritesAllBut a d text left
@@ -23,7 +23,7 @@ piece_written a b d text piece left before wrote = record {
   appended = Appends-trans a b d before.written piece before.appended wrote;
 }
 
-pub piece_cut : (a b d : Option (List ℕ)) (text piece left : List ℕ) → WritesAllBut a b text (piece ++ left) → WritesPrefix b d piece → WritesPrefix a d text
+pub piece_cut : (a b d : Option (List ℕ)) (text piece left : List ℕ) → WritesAllBut a b text (piece ++ left) → WritesProperPrefix b d piece → WritesProperPrefix a d text
 piece_cut a b d text piece left before (missing, some, part) = (
   missing ++ left,
   omega (arith, length-append missing left),

@@ -8,8 +8,8 @@ use Rattle.std.specs.Str.{chars}
 use Rattle.std.specs.Io.KnownBytes.{Appends}
 use Rattle.tape_blocks.specs.Fault.{why_text, read_error_text}
 use Rattle.tape_blocks.specs.declared.fault.ReadError.TheVariants as reading
-use Rattle.command_io.specs.Output.{WritesPrefix}
-use Rattle.command_io.specs.Text.{line}
+use Rattle.byte_io.specs.Output.{WritesProperPrefix}
+use Rattle.byte_io.specs.Text.{line}
 use Rattle.endings.specs.declared.failure.Failure.{Failure}
 use Rattle.endings.specs.declared.failure.OneTape.{OneTape}
 use Rattle.endings.specs.declared.failure.Failure.TheVariants.{CannotRead, CannotWrite, CannotWriteFile, RecordInUse, CannotConnect, LineFailed, StartInDoubt, TapeRefused, OneTapeRefused, ScriptRefused, RecordRefused, TooLarge, BadWord, NoMemory}
@@ -85,7 +85,7 @@ fault_line failure = line (codes "ldaodt: " ++ (failure_words failure ++ failure
 
 -- standard error tells of a failure: its line was written there and nothing else; or, where that output fails, a prefix of the line
 abbrev pub IsTold : Option (List ℕ) → Option (List ℕ) → Failure → Type 0
-IsTold err err' failure = Appends err err' (fault_line failure) ⊎ WritesPrefix err err' (fault_line failure)
+IsTold err err' failure = Appends err err' (fault_line failure) ⊎ WritesProperPrefix err err' (fault_line failure)
 
 -- the failure is that a file of this name can't be read
 abbrev pub NamesFile : List ℕ → Failure → Type 0

@@ -1,12 +1,12 @@
 //! Texts for words that ask for nothing to be done: help, the version, or what is wrong with the words.
 ghost use Rattle.std.specs.Prelude.{◌≡◌};
-ghost use Rattle.command_io.specs.Output.{WritesFront};
+ghost use Rattle.byte_io.specs.Output.{WritesPrefix};
 ghost use Rattle.endings.specs.Explained.{IsShown};
 
 use crate::failure::Failure;
 use crate::status::Status;
 use crate::telling::tell;
-use command_io::{write_and_flush, write_whole};
+use byte_io::{write_and_flush, write_whole};
 use std::alloc::Global;
 use std::io::Write;
 
@@ -23,7 +23,7 @@ pub fn show<W: Write, E: Write>(alloc: Global, text: &str, out: &mut W, err: &mu
 
 /// Says what is wrong with the words, in one write. What can't be written is not told.
 pub fn refuse<E: Write>(text: &str, err: &mut E) -> Status
-    ensures written { WritesFront (E.contents err.old) (E.contents err.new) text.now }
+    ensures written { WritesPrefix (E.contents err.old) (E.contents err.new) text.now }
     ensures status { result ≡ Status.BadCommandLine }
 {
     let _ = write_whole(err, text.as_bytes());

@@ -4,7 +4,7 @@ ghost use Rattle.endings.specs.Failure.{failure_words};
 
 use crate::failure::Failure;
 use arrayvec::ArrayString;
-use command_io::WriteFailed;
+use byte_io::WriteFault;
 use load_record::RecordError;
 use std::fmt;
 use std::fmt::Write;
@@ -50,12 +50,12 @@ impl fmt::Display for Words<'_> {
 type LineWords = ArrayString<128>;
 
 /// The program's name and the words of a failure's line. The error is want of room, which no words have.
-pub(crate) fn line_words(failure: Failure<'_>) -> Result<LineWords, WriteFailed>
+pub(crate) fn line_words(failure: Failure<'_>) -> Result<LineWords, WriteFault>
     ensures { IfOk result (λ words. words.bytes ≡ codes "ldaodt: " ++ failure_words failure.entry) }
 {
     let mut words = LineWords::new();
     match write!(words, "ldaodt: {}", Words(failure)) {
         Ok(()) => Ok(words),
-        Err(_) => Err(WriteFailed),
+        Err(_) => Err(WriteFault),
     }
 }

@@ -5,14 +5,14 @@ ghost use Rattle.std.specs.Prelude.{◌≡◌, ◌<◌, OnOk, OnErr, IsTrue};
 ghost use Rattle.std.specs.Char.{is_control, digit_char};
 ghost use Rattle.std.specs.Char.Escape.{escape_default};
 ghost use Rattle.std.specs.Io.KnownBytes.{Appends};
-ghost use Rattle.command_io.specs.Output.{WritesPrefix};
+ghost use Rattle.byte_io.specs.Output.{WritesProperPrefix};
 ghost use Rattle.endings.specs.Failure.{status_of, failure_name, fault_line, shown_char, shown_name, IsTold};
 
 use crate::failure::Failure;
 use crate::line_words::line_words;
 use crate::status::Status;
 use arrayvec::ArrayVec;
-use command_io::{WriteFailed, write_whole};
+use byte_io::{WriteFault, write_whole};
 use std::alloc::Global;
 use std::io::Write;
 
@@ -37,9 +37,9 @@ fn write_at_once<E: Write>(
     alloc: Global,
     failure: Failure<'_>,
     err: &mut E,
-) -> Result<(), WriteFailed>
+) -> Result<(), WriteFault>
     ensures ok { OnOk result (Appends (E.contents err.old) (E.contents err.new) (fault_line failure.entry)) }
-    ensures err { OnErr result (WritesPrefix (E.contents err.old) (E.contents err.new) (fault_line failure.entry)) }
+    ensures err { OnErr result (WritesProperPrefix (E.contents err.old) (E.contents err.new) (fault_line failure.entry)) }
 {
     if let Failure::NoMemory = failure {
         return write_whole(err, b"ldaodt: out of memory\n");
@@ -52,9 +52,9 @@ fn write_at_once<E: Write>(
 }
 
 /// Writes a failure's line in pieces. At the first write that fails it stops.
-fn write_line<W: Write>(out: &mut W, failure: Failure<'_>) -> Result<(), WriteFailed>
+fn write_line<W: Write>(out: &mut W, failure: Failure<'_>) -> Result<(), WriteFault>
     ensures ok { OnOk result (Appends (W.contents out.old) (W.contents out.new) (fault_line failure.entry)) }
-    ensures err { OnErr result (WritesPrefix (W.contents out.old) (W.contents out.new) (fault_line failure.entry)) }
+    ensures err { OnErr result (WritesProperPrefix (W.contents out.old) (W.contents out.new) (fault_line failure.entry)) }
 {
     let words = line_words(failure)?;
     write_whole(out, words.as_str().as_bytes())?;
@@ -63,9 +63,9 @@ fn write_line<W: Write>(out: &mut W, failure: Failure<'_>) -> Result<(), WriteFa
 }
 
 /// Writes the name at the end of a failure's line, where it has one.
-fn write_shown_name<W: Write>(out: &mut W, failure: Failure<'_>) -> Result<(), WriteFailed>
+fn write_shown_name<W: Write>(out: &mut W, failure: Failure<'_>) -> Result<(), WriteFault>
     ensures ok { OnOk result (Appends (W.contents out.old) (W.contents out.new) (failure_name failure.entry)) }
-    ensures err { OnErr result (WritesPrefix (W.contents out.old) (W.contents out.new) (failure_name failure.entry)) }
+    ensures err { OnErr result (WritesProperPrefix (W.contents out.old) (W.contents out.new) (failure_name failure.entry)) }
 {
     match failure {
         Failure::CannotRead(name)
@@ -77,9 +77,9 @@ fn write_shown_name<W: Write>(out: &mut W, failure: Failure<'_>) -> Result<(), W
 }
 
 /// Writes a name as a fault shows it.
-fn write_name<W: Write>(out: &mut W, name: &str) -> Result<(), WriteFailed>
+fn write_name<W: Write>(out: &mut W, name: &str) -> Result<(), WriteFault>
     ensures ok { OnOk result (Appends (W.contents out.old) (W.contents out.new) (shown_name name.now)) }
-    ensures err { OnErr result (WritesPrefix (W.contents out.old) (W.contents out.new) (shown_name name.now)) }
+    ensures err { OnErr result (WritesProperPrefix (W.contents out.old) (W.contents out.new) (shown_name name.now)) }
 {
     if name.is_empty() {
         return write_whole(out, b"''");

@@ -12,8 +12,8 @@ use Rattle.honest_line.specs.declared.loss.Loss.{Loss}
 use Rattle.honest_line.specs.Moves.{Moves, MovesOn, Passes}
 use Rattle.honest_line.specs.Honest.{Moved, resting}
 use Rattle.honest_line.specs.LineTable.{LineValue, is_key, is_answer, unless_lost, let_through, called, delivered, with_sent, with_heard, first_heard, rest_waiting, sent_or_not, heard_or_not}
-use Rattle.honest_line.specs.Reached.{HasMoved, IsReached, IsHonestFrom}
-use Rattle.honest_line.proofs.Wires.{none_moves, one_first, moves_join, moved_is_honest}
+use Rattle.honest_line.specs.Reached.{HasMoved, IsReached}
+use Rattle.honest_line.proofs.Wires.{none_moves, one_first, moves_join}
 
 -- ---- what is let through
 
@@ -85,10 +85,6 @@ sent_reached opening line key (Some fault) reached = reached
 pub heard_reached : (opening : Machine) (line : LineValue) (refusal : Option LineFault) → IsReached opening line → IsReached opening (heard_or_not refusal line)
 heard_reached opening line None reached = more_reached opening line (with_heard (called line None)) (Came (first_heard line.waiting)) reached (heard_moved (called line None)) refl
 heard_reached opening line (Some fault) reached = reached
-
--- what is reached is honest
-pub reached_is_honest : (opening : Machine) (line : LineValue) → IsReached opening line → IsHonestFrom opening line
-reached_is_honest opening line reached = (reached.0, moved_is_honest opening line.machine [] line.waiting line.items reached.0 (omega arith) reached.1)
 
 -- ---- calls
 

@@ -6,7 +6,7 @@ use Rattle.odt_machine.specs.KeyTable.{take_of}
 use Rattle.host_core.specs.declared.heard.Heard.{Heard}
 use Rattle.host_core.specs.declared.heard.Heard.TheVariants.{Got, Quiet as Silence}
 use Rattle.host_core.specs.Core.{Core}
-use Rattle.host_core.specs.Laws.{led, keys, replay}
+use Rattle.host_core.specs.Laws.{led, replay}
 use Rattle.host_core.specs.PhaseTable.{move}
 use Rattle.line_world.specs.declared.event.Event.{Event}
 use Rattle.line_world.specs.declared.event.Event.TheVariants.{Take, Hear, LoseDown, LoseUp, Quiet}
@@ -106,16 +106,11 @@ passes_said : (key : Option ℕ) (items : List Item) (x y : Wire) → Passes x (
 passes_said None items x y passes = subst (λ down. Passes (record x { down = down }) items y) (sym (append-nil x.down)) passes
 passes_said (Some key) items x y passes = passes
 
-keys_same : (key : Option ℕ) → option_to_list key ≡ keys key
-keys_same None = refl
-keys_same (Some key) = refl
-
 pub dialogue_leads : (things : List Heard) (core : Core) (x y : Wire) → Passes x (dialogue core things) y → Leads (over core x) (replay core things) (over (led core things) y)
 dialogue_leads [] core x y moves = moves_lead core x y moves
 dialogue_leads (what ∷ things) core x y (z, v, before, gives, passes) =
     let key = (move core what).key in
     let next = (move core what).next in
-    subst (λ keys. Leads (over core x) (keys ++ replay next things) (over (led next things) y)) (keys_same key)
-    (leads_then (over core x) (over core z) (over (led next things) y) [] (option_to_list key ++ replay next things) (moves_lead core x z before)
+    leads_then (over core x) (over core z) (over (led next things) y) [] (option_to_list key ++ replay next things) (moves_lead core x z before)
     (leads_then (over core z) (over next (sent v (option_to_list key))) (over (led next things) y) (option_to_list key) (replay next things) (gives_lead core what z v gives)
-    (dialogue_leads things next (sent v (option_to_list key)) y (passes_said key (dialogue next things) v y passes))))
+    (dialogue_leads things next (sent v (option_to_list key)) y (passes_said key (dialogue next things) v y passes)))

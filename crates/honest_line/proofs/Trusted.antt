@@ -1,4 +1,5 @@
 -- What a run of the world says of a host that heard an honest line.
+use Rattle.std.specs.Prelude.{option_to_list}
 use Rattle.std.proofs.Common.{◌≡◌, ℕ, ◌+◌, ◌≤◌, List, [], ◌∷◌, ◌++◌, length, Option, Some, None, refl, arith, ap, sym, subst, ◌∙◌}
 use Rattle.std.proofs.lemmas.List.Elements.{Contains-append_left}
 use Rattle.tape_image.proofs.Halves.{merged-Stands}
@@ -6,7 +7,7 @@ use Rattle.odt_machine.specs.Machine.{Machine}
 use Rattle.host_core.specs.declared.heard.Heard.{Heard}
 use Rattle.host_core.specs.Core.{Core, word_nr}
 use Rattle.host_core.specs.Host.{IsHost}
-use Rattle.host_core.specs.Laws.{led, keys, replay}
+use Rattle.host_core.specs.Laws.{led, replay}
 use Rattle.host_core.specs.PhaseTable.{move}
 use Rattle.line_world.specs.Scene.{Scene, over}
 use Rattle.line_world.specs.Wire.{Wire}
@@ -29,7 +30,7 @@ use Rattle.honest_line.proofs.Runs.{Leads, dialogue_leads}
 
 -- ---- the beginning
 
-begin_kept : (core : Core) (machine : Machine) (waiting : List ℕ) → IsHost core → MayBegin core machine → length waiting ≤ 32 → IsKept (over core (resting machine waiting 0))
+pub begin_kept : (core : Core) (machine : Machine) (waiting : List ℕ) → IsHost core → MayBegin core machine → length waiting ≤ 32 → IsKept (over core (resting machine waiting 0))
 begin_kept core machine waiting host may few =
     subst (λ c. IsKept (over c (resting machine waiting 0))) (sym may.begun)
     (opening_kept machine core.plan core.verified core.patience waiting may.console (subst IsHost may.begun host) few may.stopped
@@ -51,14 +52,14 @@ run_trusted w next typing k run =
 
 -- ---- the keys of a dialogue
 
-keys_of_said : (key : Option ℕ) (items : List Item) → keys_of (said key ++ items) ≡ keys key ++ keys_of items
+keys_of_said : (key : Option ℕ) (items : List Item) → keys_of (said key ++ items) ≡ option_to_list key ++ keys_of items
 keys_of_said None items = refl
 keys_of_said (Some key) items = refl
 
 pub keys_of-dialogue : (things : List Heard) (core : Core) → keys_of (dialogue core things) ≡ replay core things
 keys_of-dialogue [] core = refl
 keys_of-dialogue (what ∷ things) core =
-    keys_of_said (move core what).key (dialogue (move core what).next things) ∙ ap (λ more. keys (move core what).key ++ more) (keys_of-dialogue things (move core what).next)
+    keys_of_said (move core what).key (dialogue (move core what).next things) ∙ ap (λ more. option_to_list (move core what).key ++ more) (keys_of-dialogue things (move core what).next)
 
 keys_of_more : (items : List Item) (key : ℕ) → keys_of (items ++ Sent key ∷ []) ≡ keys_of items ++ key ∷ []
 keys_of_more [] key = refl

@@ -1,7 +1,7 @@
 -- Honest lines: what was sent and heard came about over a machine, with some characters lost.
 use Rattle.std.specs.Prelude.{◌≡◌, ℕ, ◌+◌, ◌≤◌, List, [], ◌++◌, length}
 use Rattle.odt_machine.specs.Machine.{Machine}
-use Rattle.line_world.specs.Wire.{Wire}
+use Rattle.line_world.specs.Wire.{Wire, most_waiting}
 use Rattle.load_devices.specs.declared.item.Item.{Item}
 use Rattle.honest_line.specs.Moves.{Passes}
 
@@ -16,7 +16,7 @@ Moved machine waiting items lost now left = Passes (resting machine waiting 0) i
 -- the list is honest from one machine to another, with so many characters lost: some answers may wait at first, and anything may be under way at the end
 pub record IsHonest (machine : Machine) (items : List Item) (lost : ℕ) (now : Machine) : Type 0 where
   pub waiting : List ℕ
-  pub few : length waiting ≤ 32
+  pub few : length waiting ≤ most_waiting
   pub end : Wire
   pub passes : Passes (resting machine waiting 0) items end
   pub machine_is : end.machine ≡ now
@@ -32,4 +32,4 @@ MovesJoin =
 abbrev pub MovedIsHonest : Type 0
 MovedIsHonest =
     (a b : Machine) (first second : List ℕ) (items : List Item) (lost : ℕ) →
-    length first ≤ 32 → Moved a first items lost b second → IsHonest a items lost b
+    length first ≤ most_waiting → Moved a first items lost b second → IsHonest a items lost b

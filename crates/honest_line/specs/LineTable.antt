@@ -1,5 +1,5 @@
 -- A line in memory: what it shows, and what its calls make of it.
-use Rattle.std.specs.Prelude.{ℕ, ◌+◌, ◌-◌, ◌^◌, ◌==◌, ◌||◌, min, Bool, true, false, nat_lt, if◌then◌else◌, List, [], ◌∷◌, ◌++◌, length, Option, Some, None}
+use Rattle.std.specs.Prelude.{ℕ, ◌+◌, ◌==◌, ◌||◌, Bool, true, false, nat_lt, if◌then◌else◌, List, [], ◌∷◌, ◌++◌, length, Option, Some, None}
 use Rattle.std.specs.List.{list_any}
 use Rattle.odt_machine.specs.Machine.{Machine}
 use Rattle.odt_machine.specs.KeyTable.{take_of, after_key}
@@ -52,11 +52,11 @@ let_through losses before (c ∷ answer) = unless_lost (list_any (is_answer (bef
 
 -- the number of the next call, from 1; at its largest, 64 bits, it stays
 abbrev pub next_call : LineValue → ℕ
-next_call line = min (line.calls + 1) (2 ^ 64 - 1)
+next_call line = one_more line.calls
 
 -- what the next call fails with, if it does: by its number, else Full where no room is left
-abbrev pub refusal_of : LineValue → LineFault → Bool → Option LineFault
-refusal_of line failure is_full =
+abbrev pub call_refusal : LineValue → LineFault → Bool → Option LineFault
+call_refusal line failure is_full =
     if is_failing line.fail_at (next_call line) then Some failure
     else (if is_full || (length line.items == line.room) then Some Full
     else None)
@@ -98,13 +98,21 @@ rest_waiting (c ∷ waiting) = waiting
 abbrev pub with_heard : LineValue → LineValue
 with_heard line = record line { waiting = rest_waiting line.waiting; items = line.items ++ Came (first_heard line.waiting) ∷ [] }
 
--- a send fails with Send by its number, and with Full also where more than 55 answer characters wait
+-- the most answer characters for which the line has room (this project's choice)
+abbrev pub waiting_room : ℕ
+waiting_room = 64
+
+-- the most that may wait when a key is sent: the answer to it has room then
+abbrev pub most_before_key : ℕ
+most_before_key = 55
+
+-- a send fails with Send by its number, and with Full also where so many answer characters wait that the answer may have no room
 abbrev pub send_refusal : LineValue → Option LineFault
-send_refusal line = refusal_of line Send (nat_lt 55 (length line.waiting))
+send_refusal line = call_refusal line Send (nat_lt most_before_key (length line.waiting))
 
 -- a hear fails with Receive by its number
 abbrev pub hear_refusal : LineValue → Option LineFault
-hear_refusal line = refusal_of line Receive false
+hear_refusal line = call_refusal line Receive false
 
 -- the line after a send that was judged so
 abbrev pub sent_or_not : Option LineFault → LineValue → ℕ → LineValue

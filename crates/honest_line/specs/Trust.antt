@@ -4,6 +4,7 @@ use Rattle.tape_image.specs.Word.{Stands}
 use Rattle.odt_machine.specs.Machine.{Machine, IsMachine, word_at}
 use Rattle.odt_machine.specs.Laws.{is_running}
 use Rattle.host_core.specs.declared.heard.Heard.{Heard}
+use Rattle.host_core.specs.Console.{go}
 use Rattle.host_core.specs.Core.{Core, begun, word_nr}
 use Rattle.host_core.specs.Host.{IsHost}
 use Rattle.host_core.specs.Laws.{led}
@@ -22,18 +23,21 @@ pub record MayBegin (core : Core) (machine : Machine) : Type 0 where
   pub lies : (i : ℕ) → i < core.verified → WordLies core.plan machine.memory i
   pub stands : (i : ℕ) → i < core.verified → Stands (word_nr core.plan.words i) (word_at machine.memory (word_nr core.plan.words i).address)
 
--- what came of it: the record is true of memory and memory is safe; `G` is the last of the keys if it is one of them, and then the mark is set; and no mishap and no end is without its losses
+-- what came of it: the record is true of memory and memory is safe; `G` is the last of the keys if it is one of them, and then the mark
+-- is set; and no mishap and no end is without its losses
 pub record IsTrusted (before : List ℕ) (core : Core) (now : List ℕ) (keys : List ℕ) (lost : ℕ) : Type 0 where
   pub safe : IsSafe before core now
   pub last : EndsAtGo keys
-  pub marked : Contains keys 71 → core.going ≡ true
+  pub marked : Contains keys go → core.going ≡ true
   pub spent : core.spent ≤ lost
   pub cause : HasCause core.phase now core.patience core.spent lost
 
--- a host that went from one core to another while these items were sent and heard may be trusted over every machine and honest line, and so many losses more than the line had pay for its mishaps
+-- a host that went from one core to another while these items were sent and heard may be trusted over every machine and honest line, and
+-- so many losses more than the line had pay for its mishaps
 abbrev pub IsTrustworthy : Core → Core → List Item → ℕ → Type 0
 IsTrustworthy core next items more =
-    (machine now : Machine) (lost : ℕ) → MayBegin core machine → IsHonest machine items lost now → IsTrusted machine.memory next now.memory (keys_of items) (lost + more)
+    (machine now : Machine) (lost : ℕ) → MayBegin core machine → IsHonest machine items lost now →
+    IsTrusted machine.memory next now.memory (keys_of items) (lost + more)
 
 -- a host that heard an honest line may be trusted
 abbrev pub DialoguesAreTrustworthy : Type 0
@@ -42,4 +46,5 @@ DialoguesAreTrustworthy = (core : Core) (things : List Heard) → IsHost core �
 -- a host whose last key was never sent may be trusted as one over a line that lost this key
 abbrev pub UnsaidAreTrustworthy : Type 0
 UnsaidAreTrustworthy =
-    (core : Core) (things : List Heard) (items : List Item) (key : ℕ) → IsHost core → dialogue core things ≡ items ++ Sent key ∷ [] → IsTrustworthy core (led core things) items 1
+    (core : Core) (things : List Heard) (items : List Item) (key : ℕ) → IsHost core →
+    dialogue core things ≡ items ++ Sent key ∷ [] → IsTrustworthy core (led core things) items 1

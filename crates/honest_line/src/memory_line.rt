@@ -1,8 +1,10 @@
 ghost use Rattle.std.specs.Prelude.{◌≡◌, ℕ, ◌+◌, ◌*◌, ◌^◌, ◌<◌, ◌≤◌, ◌++◌, List, [], ◌∷◌, length, Option, Some, None, IfOk, OnOk, OnErr};
 ghost use Rattle.std.specs.List.{list_any};
+ghost use Rattle.odt_machine.specs.Answer.{longest_answer};
 ghost use Rattle.odt_machine.specs.Machine.{Machine};
 ghost use Rattle.load_devices.specs.Failures.{fault_of};
-ghost use Rattle.honest_line.specs.LineTable.{is_key, is_answer, let_through, refusal_of, called, with_key, with_sent, with_heard, first_heard, send_refusal, hear_refusal, after_send, after_hear, quiet_line};
+ghost use Rattle.honest_line.specs.LineTable.{is_key, is_answer, let_through, called, with_key, with_sent, with_heard, first_heard};
+ghost use Rattle.honest_line.specs.LineTable.{call_refusal, send_refusal, hear_refusal, after_send, after_hear, quiet_line, most_before_key, waiting_room};
 ghost use Rattle.honest_line.specs.Reached.{HasMoved, IsUnmoved, IsReached, IsHonestFrom};
 
 use crate::loss::Loss;
@@ -14,10 +16,10 @@ use std::alloc::Global;
 use std::marker::Model;
 use tape_blocks::Memory;
 
-/// The most answer characters that ever wait.
+// The most answer characters that ever wait.
 const MOST_WAITING: usize = 64;
 
-/// The most answer characters that may wait when a key is sent: the longest answer has nine more.
+// The most answer characters that may wait when a key is sent: the longest answer has nine more.
 const MOST_WAITING_FOR_KEY: usize = 55;
 
 /// A line in memory, with a simulated console at its other end. It shows what was said on it, loses
@@ -41,13 +43,26 @@ pub struct MemoryLine {
 
 impl Model for MemoryLine {
     ghost use Rattle.std.specs.Prelude.{◌≤◌, ◌*◌, length, vec_capacity};
+    ghost use Rattle.odt_machine.specs.Answer.{longest_answer};
     ghost use Rattle.honest_line.specs.LineTable.{LineValue};
 
     ghost Value = { LineValue };
 
-    ghost view = { λ l. record { machine = l.odt; waiting = l.waiting.items; items = l.items.items; losses = l.losses.items; room = l.room; fail_at = l.fail_at; calls = l.calls; keys = l.keys; answers = l.answers; failures = l.failures; fault = l.fault } };
+    ghost view = { λ l. record {
+      machine = l.odt;
+      waiting = l.waiting.items;
+      items = l.items.items;
+      losses = l.losses.items;
+      room = l.room;
+      fail_at = l.fail_at;
+      calls = l.calls;
+      keys = l.keys;
+      answers = l.answers;
+      failures = l.failures;
+      fault = l.fault;
+    } };
 
-    ghost invariant = { λ l. (l.room ≤ vec_capacity l.items) × (length l.items.items ≤ l.room) × (l.keys ≤ length l.items.items) × (l.answers ≤ 9 * l.keys) };
+    ghost invariant = { λ l. (l.room ≤ vec_capacity l.items) × (length l.items.items ≤ l.room) × (l.keys ≤ length l.items.items) × (l.answers ≤ longest_answer * l.keys) };
 }
 
 impl MemoryLine {
@@ -106,7 +121,7 @@ impl MemoryLine {
 
     // Counts a call and judges it: whether it fails by its number, or for want of room.
     fn judge(&mut self, failure: LineFault, is_full: bool) -> Option<LineFault>
-        ensures answer { result ≡ refusal_of self.old failure is_full }
+        ensures answer { result ≡ call_refusal self.old failure is_full }
         ensures next { self.new ≡ called self.old result }
         ensures room { result ≡ None → length self.new.items < self.new.room }
     {
@@ -127,7 +142,7 @@ impl MemoryLine {
     // The next key goes out, and the console takes it unless it is lost.
     fn pass_key(&mut self, key: u8)
         requires room { length self.old.items < self.old.room }
-        requires short { length self.old.waiting ≤ 55 }
+        requires short { length self.old.waiting ≤ most_before_key }
         ensures { self.new ≡ with_sent self.old key }
     {
         let _ = self.items.push(Item::Sent(key));
@@ -139,8 +154,8 @@ impl MemoryLine {
 
     // The console takes a key that was sent.
     fn deliver(&mut self, key: u8)
-        requires short { length self.old.waiting ≤ 55 }
-        requires counted { self.old.answers + 9 ≤ 9 * self.old.keys }
+        requires short { length self.old.waiting ≤ most_before_key }
+        requires counted { self.old.answers + longest_answer ≤ longest_answer * self.old.keys }
         ensures { self.new ≡ with_key self.old key }
     {
         let answer = self.odt.take(key);
@@ -235,7 +250,7 @@ fn let_through(
     before: u64,
     answer: &[u8],
 )
-    requires room { length waiting.old.items + length answer.now ≤ 64 }
+    requires room { length waiting.old.items + length answer.now ≤ waiting_room }
     requires count { before + length answer.now < 2 ^ 64 }
     ensures { waiting.new.items ≡ waiting.old.items ++ let_through losses.now before answer.now }
 {

@@ -1,4 +1,5 @@
 -- What a move of the phase table leaves alone, and how its parts hang together.
+use Rattle.std.specs.Prelude.{option_to_list}
 use Rattle.std.proofs.Common.{◌≡◌, ℕ, ◌+◌, Bool, true, false, ◌==◌, nat_lt, if◌then◌else◌, Option, Some, None, length, refl, arith}
 use Rattle.octal.specs.Octal.{digit_of}
 use Rattle.tape_image.specs.Word.{WordValue}
@@ -13,7 +14,6 @@ use Rattle.host_core.specs.declared.turn.Turn.TheVariants.{Listen, Key, Verified
 use Rattle.host_core.specs.Console.{resynchronise}
 use Rattle.host_core.specs.Core.{Core, word_under_way, start_of}
 use Rattle.host_core.specs.Host.{IsHost, MarkFits, IsPastMark}
-use Rattle.host_core.specs.Laws.{keys}
 use Rattle.host_core.specs.PhaseTable.{Move, move, listens, sends, taken, turn_of, hears, waits, after_words}
 
 -- a test has two outcomes
@@ -30,7 +30,7 @@ on_move P test m n is isnt = on_test (λ v. P (if v then m else n)) test is isnt
 pub record IsMoved (core : Core) (m : Move) : Type 0 where
   pub plan : m.next.plan ≡ core.plan
   pub patience : m.next.patience ≡ core.patience
-  pub sent : m.next.sent ≡ core.sent + length (keys m.key)
+  pub sent : m.next.sent ≡ core.sent + length (option_to_list m.key)
   pub going : core.going ≡ true → m.next.going ≡ true
   pub start : start_of m.next ≡ start_of core
 

@@ -1,10 +1,11 @@
 -- What holds of a life over every list of heard things.
+use Rattle.std.specs.Prelude.{option_to_list}
 use Rattle.std.proofs.Common.{◌≡◌, ◌+◌, ◌≤◌, true, List, [], ◌∷◌, length, refl, arith, ◌∙◌, ap, length-append}
 use Rattle.host_core.specs.declared.heard.Heard.{Heard}
 use Rattle.host_core.specs.Core.{Core}
 use Rattle.host_core.specs.Bound.{character_bound}
 use Rattle.host_core.specs.Host.{IsHost}
-use Rattle.host_core.specs.Laws.{led, keys, replay, KeepsBound, IsSilent}
+use Rattle.host_core.specs.Laws.{led, replay, KeepsBound, IsSilent}
 use Rattle.host_core.specs.PhaseTable.{move}
 use Rattle.host_core.proofs.Frame.{moved, silent}
 use Rattle.host_core.proofs.Turns.{kept, within_bound}
@@ -24,7 +25,7 @@ led_patience core (heard ∷ more) = led_patience (move core heard).next more �
 pub led_sent : (core : Core) (heard : List Heard) → (led core heard).sent ≡ core.sent + length (replay core heard)
 led_sent core [] = omega arith
 led_sent core (heard ∷ more) =
-    omega (arith, led_sent (move core heard).next more, (moved core heard).sent, length-append (keys (move core heard).key) (replay (move core heard).next more))
+    omega (arith, led_sent (move core heard).next more, (moved core heard).sent, length-append (option_to_list (move core heard).key) (replay (move core heard).next more))
 
 pub keeps_bound : (core : Core) → IsHost core → KeepsBound core
 keeps_bound core h heard =

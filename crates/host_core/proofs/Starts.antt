@@ -1,4 +1,5 @@
 -- `G` is typed only right after the whole start address: what a life has typed so far, phase by phase.
+use Rattle.std.specs.Prelude.{option_to_list}
 use Rattle.std.proofs.Common.{◌≡◌, ℕ, zero, suc, ◌+◌, ◌<◌, ◌≤◌, ◌⊎◌, Bool, true, false, ◌==◌, ◌&&◌, nat_lt, if◌then◌else◌, List, [], ◌∷◌, ◌++◌, length, take, Option, Some, None, refl, arith, subst, sym, ◌∙◌, ap, inl, inr, append_assoc, append-nil}
 use Rattle.std.specs.List.{Contains}
 use Rattle.std.specs.Option.{is_none, unwrap_or}
@@ -21,7 +22,7 @@ use Rattle.host_core.specs.Console.{resynchronise, carriage_return, go}
 use Rattle.host_core.specs.Core.{Core, begun, first_phase, word_under_way, start_of}
 use Rattle.host_core.specs.Host.{IsHost, IsPlace, Basis, PhaseFits, basis_of}
 use Rattle.host_core.specs.Bound.{used_in}
-use Rattle.host_core.specs.Laws.{led, keys, replay, EndsWithStart, StartsOnlyWhole}
+use Rattle.host_core.specs.Laws.{led, replay, EndsWithStart, StartsOnlyWhole}
 use Rattle.host_core.specs.PhaseTable.{Move, move, listens, sends, taken, turn_of, hears, waits, differs, returned, start_hears, after_words}
 use Rattle.host_core.proofs.Frame.{on_test, on_move, IsMoved, moved, StaysStill, silent}
 use Rattle.host_core.proofs.Walk.{sync_walk, address_walk, slash_walk, before_walk, value_walk, deposit_walk, return_walk, start_walk, go_walk}
@@ -116,19 +117,19 @@ no_more typed key none other c = elim (Contains-append_cases typed (key ∷ []) 
 not_typed : (core : Core) (typed : List ℕ) → IsTyped core typed → IsTyped core (typed ++ [])
 not_typed core typed t = subst (λ all. IsTyped core all) (sym (append-nil typed)) t
 
-after_words_typed : (core : Core) (start : Option ℕ) (typed : List ℕ) → core.plan.start ≡ start → (Contains typed go → ⊥) → IsTyped (after_words core start).next (typed ++ keys (after_words core start).key)
+after_words_typed : (core : Core) (start : Option ℕ) (typed : List ℕ) → core.plan.start ≡ start → (Contains typed go → ⊥) → IsTyped (after_words core start).next (typed ++ option_to_list (after_words core start).key)
 after_words_typed core (Some start) typed e none =
     inl (no_more typed (digit_of start 1) none (no_digit start 1), (typed, ap (λ s. typed ++ digit_of (unwrap_or s 0) 1 ∷ []) (sym e)))
 after_words_typed core None typed e none = not_typed (listens core (Ended Loaded)).next typed (inl (none, tt))
 
 taken_typed : (core : Core) (turn : Turn) (typed : List ℕ) → TurnFits turn (basis_of core) (used_in core.phase) → Types core.phase (start_of core) turn → (Contains typed go → ⊥) → TypedFits core.phase (start_of core) typed →
-    IsTyped (taken core turn).next (typed ++ keys (taken core turn).key)
+    IsTyped (taken core turn).next (typed ++ option_to_list (taken core turn).key)
 taken_typed core (Listen phase) typed f t none past = not_typed (listens core phase).next typed (inl (none, t typed past))
 taken_typed core (Key key phase) typed f t none past = inl (no_more typed key none t.0, t.1 typed past)
 taken_typed core Verified typed f t none past = inl (no_more typed carriage_return none (λ e. omega arith), tt)
 taken_typed core ReadBack typed f t none past = inl (no_more typed (digit_of (word_under_way core).address 1) none (no_digit (word_under_way core).address 1), tt)
 taken_typed core Next typed f t none past =
-    on_move (λ m. IsTyped m.next (typed ++ keys m.key)) (nat_lt core.verified (length core.plan.words)) (sends core (digit_of (word_under_way core).address 1) (Address Look 1)) (after_words core core.plan.start)
+    on_move (λ m. IsTyped m.next (typed ++ option_to_list m.key)) (nat_lt core.verified (length core.plan.words)) (sends core (digit_of (word_under_way core).address 1) (Address Look 1)) (after_words core core.plan.start)
     (λ _. inl (no_more typed (digit_of (word_under_way core).address 1) none (no_digit (word_under_way core).address 1), tt))
     (λ _. after_words_typed core core.plan.start typed refl none)
 taken_typed core Mark typed f t none past =
@@ -136,18 +137,18 @@ taken_typed core Mark typed f t none past =
     inr ((whole.0, ap (λ all. all ++ go ∷ []) whole.1), f.0.all, refl)
 taken_typed core (Stop end) typed f t none past = not_typed (listens core (Ended end)).next typed (inl (none, tt))
 taken_typed core Stray typed f t none past =
-    on_move (λ m. IsTyped m.next (typed ++ keys m.key)) (nat_lt core.spent core.patience) (listens (record core { spent = core.spent + 1 }) Settle) (listens core (Ended GaveUp))
+    on_move (λ m. IsTyped m.next (typed ++ option_to_list m.key)) (nat_lt core.spent core.patience) (listens (record core { spent = core.spent + 1 }) Settle) (listens core (Ended GaveUp))
     (λ _. not_typed (listens (record core { spent = core.spent + 1 }) Settle).next typed (inl (none, tt)))
     (λ _. not_typed (listens core (Ended GaveUp)).next typed (inl (none, tt)))
 taken_typed core Timeout typed f t none past =
-    on_move (λ m. IsTyped m.next (typed ++ keys m.key)) (nat_lt core.spent core.patience) (sends (record core { spent = core.spent + 1 }) resynchronise (Sync 0)) (listens core (Ended GaveUp))
+    on_move (λ m. IsTyped m.next (typed ++ option_to_list m.key)) (nat_lt core.spent core.patience) (sends (record core { spent = core.spent + 1 }) resynchronise (Sync 0)) (listens core (Ended GaveUp))
     (λ _. inl (no_more typed resynchronise none (λ e. omega arith), tt))
     (λ _. not_typed (listens core (Ended GaveUp)).next typed (inl (none, tt)))
 
-stays_whole : (core : Core) (m : Move) (typed : List ℕ) → StaysStill core m → IsMoved core m → EndsWithStart (start_of core) typed → core.verified ≡ length core.plan.words → core.going ≡ true → IsTyped m.next (typed ++ keys m.key)
+stays_whole : (core : Core) (m : Move) (typed : List ℕ) → StaysStill core m → IsMoved core m → EndsWithStart (start_of core) typed → core.verified ≡ length core.plan.words → core.going ≡ true → IsTyped m.next (typed ++ option_to_list m.key)
 stays_whole core m typed s mv ends all e =
     inr (
-      (ends.0, ap (λ key. typed ++ keys key) s.key ∙ (append-nil typed ∙ (ends.1 ∙ ap (λ start. ends.0 ++ octal_text start ++ go ∷ []) (sym mv.start)))),
+      (ends.0, ap (λ key. typed ++ option_to_list key) s.key ∙ (append-nil typed ∙ (ends.1 ∙ ap (λ start. ends.0 ++ octal_text start ++ go ∷ []) (sym mv.start)))),
       s.verified ∙ (all ∙ ap (λ plan. length plan.words) (sym mv.plan)),
       mv.going e,
     )
@@ -156,15 +157,15 @@ turn_types : (core : Core) (heard : Heard) → IsHost core → Types core.phase 
 turn_types core (Got c) h = hears_types (word_under_way core) (start_of core) core.phase c (basis_of core) h.fits
 turn_types core Quiet h = waits_types (start_of core) core.phase
 
-move_typed : (core : Core) (heard : Heard) (typed : List ℕ) → IsHost core → IsTyped core typed → IsTyped (move core heard).next (typed ++ keys (move core heard).key)
+move_typed : (core : Core) (heard : Heard) (typed : List ℕ) → IsHost core → IsTyped core typed → IsTyped (move core heard).next (typed ++ option_to_list (move core heard).key)
 move_typed core heard typed h (inl t) = taken_typed core (turn_of core heard) typed (turn_fits core heard h) (turn_types core heard h) t.0 t.1
 move_typed core heard typed h (inr t) = stays_whole core (move core heard) typed (silent core heard h t.2) (moved core heard) t.0 t.1 t.2
 
 led_typed : (core : Core) (heard : List Heard) (typed : List ℕ) → IsHost core → IsTyped core typed → IsTyped (led core heard) (typed ++ replay core heard)
 led_typed core [] typed h t = not_typed core typed t
 led_typed core (heard ∷ more) typed h t =
-    subst (λ all. IsTyped (led core (heard ∷ more)) all) (append_assoc typed (keys (move core heard).key) (replay (move core heard).next more))
-    (led_typed (move core heard).next more (typed ++ keys (move core heard).key) (kept core heard h) (move_typed core heard typed h t))
+    subst (λ all. IsTyped (led core (heard ∷ more)) all) (append_assoc typed (option_to_list (move core heard).key) (replay (move core heard).next more))
+    (led_typed (move core heard).next more (typed ++ option_to_list (move core heard).key) (kept core heard h) (move_typed core heard typed h t))
 
 first_typed : (plan : PlanValue) (verified : ℕ) (going : Bool) (start : ℕ) → TypedFits (first_phase plan verified going) start []
 first_typed plan verified true start = tt

@@ -1,6 +1,6 @@
 -- What holds of every core, whatever it has heard: the part of the loading protocol that the host
 -- keeps by itself.
-use Rattle.std.specs.Prelude.{◌≡◌, ℕ, ◌^◌, ◌<◌, ◌≤◌, Bool, true, false, ◌==◌, if◌then◌else◌, length, Option, None, IsSome}
+use Rattle.std.specs.Prelude.{◌≡◌, ℕ, ◌^◌, ◌<◌, ◌≤◌, Bool, true, false, ◌==◌, if◌then◌else◌, length, Option, None, IsSome, ⊤}
 use Rattle.tape_image.specs.Plan.{PlanValue, IsPlan}
 use Rattle.host_core.specs.declared.phase.Phase.{Phase}
 use Rattle.host_core.specs.declared.phase.Phase.TheVariants.{Settle, Sync, Address, Slash, Before, Value, Deposit, Return, Start, Go, Ended}
@@ -17,9 +17,11 @@ pub record IsPlace (place : ℕ) : Type 0 where
 
 -- how many numbers the first digits of a word's octal text can make: the first digit is 0 or 1
 abbrev pub value_room : ℕ → ℕ
-value_room place = if place == 0 then 1 else (if place == 1 then 2 else (if place == 2 then 16 else (if place == 3 then 128 else (if place == 4 then 1024 else (if place == 5 then 8192 else 65536)))))
+value_room place =
+    if place == 0 then 1 else if place == 1 then 2 else if place == 2 then 16 else if place == 3 then 128
+    else if place == 4 then 1024 else if place == 5 then 8192 else 65536
 
--- what phases and ends are judged by: all of a core but the phase and the characters sent
+-- of the host alone: what its phases and ends are judged by, which is all of a core but the phase and the characters sent
 pub record Basis : Type 0 where
   pub plan : PlanValue
   pub verified : ℕ
@@ -62,7 +64,7 @@ EndFits (WontHold address) b = IsItsAddress address b
 
 -- what a phase says
 abbrev pub PhaseFits : Phase → Basis → Type 0
-PhaseFits Settle b = Unit {0}
+PhaseFits Settle b = ⊤
 PhaseFits (Sync place) b = place ≤ 5
 PhaseFits (Address visit place) b = HasWord b × IsPlace place
 PhaseFits (Slash visit) b = HasWord b
@@ -77,13 +79,13 @@ PhaseFits (Ended end) b = EndFits end b
 
 -- once the mark is set nothing is left but the echo of `G`, or the life is over
 abbrev pub IsPastMark : Phase → Type 0
-IsPastMark Go = Unit {0}
-IsPastMark (Ended end) = Unit {0}
+IsPastMark Go = ⊤
+IsPastMark (Ended end) = ⊤
 IsPastMark _ = ⊥
 
 -- the mark is set only over a start
 abbrev pub MarkFits : Bool → Option ℕ → Phase → Type 0
-MarkFits false start phase = Unit {0}
+MarkFits false start phase = ⊤
 MarkFits true start phase = IsSome start × IsPastMark phase
 
 -- every core is so: the plan is one, no count passes its limit, the phase and the mark fit, and what was sent is accounted for

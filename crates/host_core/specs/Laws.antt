@@ -1,5 +1,5 @@
 -- What holds of a host over everything that it may ever hear.
-use Rattle.std.specs.Prelude.{◌≡◌, ◌≢◌, ℕ, ◌+◌, ◌≤◌, List, [], ◌∷◌, ◌++◌, length, map, Option, Some, None}
+use Rattle.std.specs.Prelude.{◌≡◌, ◌≢◌, ℕ, ◌+◌, ◌≤◌, List, [], ◌∷◌, ◌++◌, length, map, option_to_list}
 use Rattle.std.specs.List.{Contains}
 use Rattle.octal.specs.Octal.{octal_text}
 use Rattle.tape_image.specs.Word.{WordValue, Stands}
@@ -15,15 +15,10 @@ abbrev pub led : Core → List Heard → Core
 led core [] = core
 led core (heard ∷ more) = led (move core heard).next more
 
--- the character that is sent, if any
-abbrev pub keys : Option ℕ → List ℕ
-keys None = []
-keys (Some key) = key ∷ []
-
 -- the characters that answer a list of heard things
 abbrev pub replay : Core → List Heard → List ℕ
 replay core [] = []
-replay core (heard ∷ more) = keys (move core heard).key ++ replay (move core heard).next more
+replay core (heard ∷ more) = option_to_list (move core heard).key ++ replay (move core heard).next more
 
 -- whatever is heard, this life sends no more characters than the bound, those that it has sent included
 abbrev pub KeepsBound : Core → Type 0

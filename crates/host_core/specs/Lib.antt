@@ -1,6 +1,7 @@
 pub mod Bound
 pub mod Console
 pub mod Core
+pub mod End
 pub mod Host
 pub mod Laws
 pub mod Life

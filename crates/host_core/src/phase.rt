@@ -1,3 +1,6 @@
+use octal::Octal;
+use std::fmt;
+
 /// Why the word under way is opened.
 #[derive(Clone, Copy)]
 pub enum Visit {
@@ -41,6 +44,25 @@ pub enum End {
 
     /// The word at this address was stored and reads back otherwise.
     WontHold(u16),
+}
+
+impl fmt::Display for End {
+    ghost use Rattle.std.specs.Prelude.{Some};
+    ghost use Rattle.host_core.specs.End.{end_name};
+
+    ghost output = { λ end. Some (end_name end) };
+
+    fn fmt<W: fmt::Write>(&self, f: &mut fmt::Formatter<W>) -> fmt::Result {
+        match *self {
+            End::Loaded => f.write_str("Loaded"),
+            End::Started => f.write_str("Started"),
+            End::Uncertain => f.write_str("Uncertain"),
+            End::MaybeStarted => f.write_str("MaybeStarted"),
+            End::GaveUp => f.write_str("GaveUp"),
+            End::NoWord(address) => write!(f, "NoWord {}", Octal(address)),
+            End::WontHold(address) => write!(f, "WontHold {}", Octal(address)),
+        }
+    }
 }
 
 /// What the host waits for. Places count the digits of a number from 1; in `Value` and in the

@@ -2,7 +2,8 @@
 
 ghost use Rattle.std.specs.Prelude.{◌≡◌, ℕ, ◌<◌, ◌≤◌};
 ghost use Rattle.octal.specs.Octal.{digit_of};
-ghost use Rattle.host_core.specs.PhaseTable.{sync_hears, echo_hears, address_hears, slash_hears, first_digit_hears, before_hears, read, value_hears, deposit_hears, return_hears, start_hears, go_hears, waits};
+ghost use Rattle.host_core.specs.PhaseTable.{sync_hears, echo_hears, address_hears, slash_hears, first_digit_hears, before_hears};
+ghost use Rattle.host_core.specs.PhaseTable.{read, value_hears, deposit_hears, return_hears, start_hears, go_hears, waits};
 ghost use Rattle.host_core.specs.Host.{IsPlace, value_room};
 
 use crate::console::{
@@ -13,7 +14,7 @@ use crate::turn::Turn;
 use octal::oct6;
 use tape_image::{Word, merge};
 
-/// How many octal digits the host types of every number.
+// How many octal digits the host types of every number.
 const DIGITS: u8 = 6;
 
 /// The answer to `Z`: its echo or none, `?`, one CR or two, LF, and the prompt.

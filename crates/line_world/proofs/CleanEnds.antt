@@ -26,12 +26,11 @@ use Rattle.host_core.proofs.Frame.{on_test, on_move}
 use Rattle.line_world.specs.declared.event.Event.{Event}
 use Rattle.line_world.specs.Scene.{Scene}
 use Rattle.line_world.specs.World.{happens, after, first_of, IsCleanRun}
-use Rattle.line_world.specs.Site.{site, site_of, IsThere}
-use Rattle.line_world.specs.Lawful.{ground}
+use Rattle.line_world.specs.Site.{site, site_of, IsThere, ground}
 use Rattle.line_world.specs.Invariant.{IsKept, InPhase, EndIsPaid}
 use Rattle.line_world.specs.Safe.{OnlyImage}
 use Rattle.line_world.specs.CleanText.{clean_text}
-use Rattle.line_world.specs.CleanLine.{IsOpening, LiesIn, full_end, StopsAt, LoadsClean}
+use Rattle.line_world.specs.CleanLine.{IsAtOpening, LiesIn, full_end, StopsAtWord, LoadsClean}
 use Rattle.line_world.proofs.Frame.{scene}
 use Rattle.line_world.proofs.Silence.{past_mark}
 use Rattle.line_world.proofs.Events.{Steps, kept_event, kept_events, steps_events, all_standing, under_mark, loaded}
@@ -128,7 +127,7 @@ ended_is : (phase : Phase) (end : End) → ended phase ≡ Some end → phase �
 ended_is (Ended e) end is = cc
 ended_is phase end is = absurd (cc)
 
-ending : (w : Scene) (events : List Event) (end : End) → IsOpening w → IsKept w → IsCleanRun w events → ended (after w events).core.phase ≡ Some end → Ending w (after w events) end
+ending : (w : Scene) (events : List Event) (end : End) → IsAtOpening w → IsKept w → IsCleanRun w events → ended (after w events).core.phase ≡ Some end → Ending w (after w events) end
 ending w events end o k run is =
     let now = after w events in
     let over : now.core.phase ≡ Ended end = ended_is now.core.phase end is in
@@ -209,7 +208,7 @@ whole_ends w now end e stand is = record {
 }
 
 -- where every word of the plan lies in memory, all of them are loaded
-pub clean_whole : (w : Scene) (events : List Event) (end : End) → IsOpening w → IsKept w → IsCleanRun w events → ended (after w events).core.phase ≡ Some end →
+pub clean_whole : (w : Scene) (events : List Event) (end : End) → IsAtOpening w → IsKept w → IsCleanRun w events → ended (after w events).core.phase ≡ Some end →
     ((i : ℕ) → i < length w.core.plan.words → LiesIn w i) → EndsWhole w (after w events) end
 clean_whole w events end o k run is lies =
     let now = after w events in
@@ -221,8 +220,8 @@ clean_whole w events end o k run is lies =
     ]
 
 -- where one does not, the load stops at the first of them
-pub clean_missing : (w : Scene) (events : List Event) (end : End) → IsOpening w → IsKept w → IsCleanRun w events → ended (after w events).core.phase ≡ Some end →
-    (i : ℕ) → i < length w.core.plan.words → (LiesIn w i → ⊥) → ((j : ℕ) → j < i → LiesIn w j) → StopsAt w (after w events) end i
+pub clean_missing : (w : Scene) (events : List Event) (end : End) → IsAtOpening w → IsKept w → IsCleanRun w events → ended (after w events).core.phase ≡ Some end →
+    (i : ℕ) → i < length w.core.plan.words → (LiesIn w i → ⊥) → ((j : ℕ) → j < i → LiesIn w j) → StopsAtWord w (after w events) end i
 clean_missing w events end o k run is i inside past before =
     let now = after w events in
     let e : Ending w now end = ending w events end o k run is in
@@ -246,7 +245,7 @@ clean_missing w events end o k run is i inside past before =
         three v i = grind arith
 
 -- with the keys of the whole load, how a load on such a line ends
-pub clean_ends : (w : Scene) (events : List Event) (keys : List ℕ) (end : End) → IsOpening w → IsKept w → IsCleanRun w events → ended (after w events).core.phase ≡ Some end →
+pub clean_ends : (w : Scene) (events : List Event) (keys : List ℕ) (end : End) → IsAtOpening w → IsKept w → IsCleanRun w events → ended (after w events).core.phase ≡ Some end →
     (((i : ℕ) → i < length w.core.plan.words → LiesIn w i) → keys ≡ clean_text w.core.plan.words w.machine.memory w.core.plan.start) → LoadsClean w (after w events) keys end
 clean_ends w events keys end o k run is keys_are = record {
   whole = λ lies. let all = clean_whole w events end o k run is lies in record { end_is = all.end_is; overlay = all.overlay; keys_are = keys_are lies; spent = all.spent };

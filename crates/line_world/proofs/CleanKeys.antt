@@ -27,7 +27,7 @@ use Rattle.line_world.specs.declared.event.Event.{Event}
 use Rattle.line_world.specs.World.{answered, stepped, happens, typed_in, typed, first_of, first_event, IsCleanRun}
 use Rattle.line_world.specs.Pending.{Live, BrokenIsPaid, rest_of}
 use Rattle.line_world.specs.Invariant.{IsKept}
-use Rattle.line_world.specs.CleanLine.{LiesIn, IsOpening}
+use Rattle.line_world.specs.CleanLine.{LiesIn, IsAtOpening}
 use Rattle.line_world.specs.Site.{Site, site, held, wanted, Lies}
 use Rattle.line_world.specs.CleanText.{words_keys, start_keys, clean_text}
 use Rattle.line_world.proofs.Frame.{scene, PhaseHolds, TurnFits}
@@ -313,7 +313,7 @@ left_fresh : (plan : PlanValue) (patience : ℕ) (m : Machine) (down up : List �
 left_fresh plan patience m down up lost = left_first plan.words plan.start _ _ m.memory
 
 -- on a line that loses nothing, where every word lies in memory, the keys typed are the clean text
-pub clean_typed : (w : Scene) (events : List Event) → IsKept w → IsOpening w → ((i : ℕ) → i < length w.core.plan.words → LiesIn w i) → IsCleanRun w events →
+pub clean_typed : (w : Scene) (events : List Event) → IsKept w → IsAtOpening w → ((i : ℕ) → i < length w.core.plan.words → LiesIn w i) → IsCleanRun w events →
     typed w events ≡ clean_text w.core.plan.words w.machine.memory w.core.plan.start
 clean_typed w events k opening lies run =
     types_left w events record { kept = k; none_lost = opening.none_lost; lies = lies; idle = rw opening.none_down (idle_none w.core.phase) } run

@@ -6,10 +6,10 @@ use Rattle.line_world.specs.declared.event.Event.{Event}
 use Rattle.line_world.specs.Scene.{Scene}
 use Rattle.line_world.specs.World.{after, typed, IsCleanRun}
 use Rattle.line_world.specs.Invariant.{IsKept}
-use Rattle.line_world.specs.CleanLine.{IsOpening, LoadsClean}
+use Rattle.line_world.specs.CleanLine.{IsAtOpening, LoadsClean}
 use Rattle.line_world.proofs.CleanKeys.{clean_typed}
 use Rattle.line_world.proofs.CleanEnds.{clean_ends}
 
-pub loads_clean : (w : Scene) (events : List Event) (end : End) → IsOpening w → IsKept w → IsCleanRun w events → ended (after w events).core.phase ≡ Some end →
+pub loads_clean : (w : Scene) (events : List Event) (end : End) → IsAtOpening w → IsKept w → IsCleanRun w events → ended (after w events).core.phase ≡ Some end →
     LoadsClean w (after w events) (typed w events) end
 loads_clean w events end opening k run is = clean_ends w events (typed w events) end opening k run is (λ lies. clean_typed w events k opening lies run)

@@ -17,9 +17,8 @@ use Rattle.line_world.specs.declared.event.Event.{Event}
 use Rattle.line_world.specs.declared.event.Event.TheVariants.{Take, Hear, LoseDown, LoseUp, Quiet, Restart}
 use Rattle.line_world.specs.Scene.{Scene}
 use Rattle.line_world.specs.World.{takes, hears, times_out, happens, after}
-use Rattle.line_world.specs.Site.{site_of, IsThere}
+use Rattle.line_world.specs.Site.{site_of, IsThere, ground}
 use Rattle.line_world.specs.Invariant.{IsKept}
-use Rattle.line_world.specs.Lawful.{ground}
 use Rattle.line_world.specs.Safe.{OnlyImage, IsLoaded, IsSafe}
 use Rattle.line_world.proofs.Frame.{scene}
 use Rattle.line_world.proofs.Losses.{kept_lose_down, kept_lose_up}
@@ -153,9 +152,6 @@ safe_of before w k only = record {
 -- the world's memory is safe against an earlier one
 abbrev pub SafeIn : List ℕ → Scene → Type 0
 SafeIn before w = IsSafe before w.core w.machine.memory
-
-pub safe_here : (w : Scene) → IsKept w → SafeIn w.machine.memory w
-safe_here w k = safe_of w.machine.memory w k (same_bytes w.core.plan.image w.machine.memory)
 
 safe_step : (before : List ℕ) (w next : Scene) → OnlyImage before w.core.plan.image w.machine.memory → IsKept next → Steps w next → SafeIn before next
 safe_step before w next only k s =

@@ -1,5 +1,5 @@
 -- The invariant of a world's fields after each event.
-use Rattle.std.proofs.Common.{◌≡◌, ℕ, suc, ◌+◌, ◌^◌, ◌<◌, ◌≤◌, Bool, true, eqb, Some, Ok, Err, Result, List, [], ◌∷◌, ◌++◌, length, refl, arith}
+use Rattle.std.proofs.Common.{◌≡◌, ℕ, suc, ◌+◌, ◌≤◌, Bool, true, eqb, Some, Ok, Err, Result, List, [], ◌∷◌, ◌++◌, length, refl, arith}
 use Rattle.std.proofs.lemmas.Bool.Decides.{nat_tests}
 use Rattle.std.specs.Prelude.{option_to_list, slice_get, IsOk, OnOk}
 use Rattle.std.specs.List.{remove}
@@ -8,7 +8,7 @@ use Rattle.odt_machine.specs.KeyTable.{take_of, after_key}
 use Rattle.host_core.specs.declared.heard.Heard.TheVariants.{Got, Quiet as Silence}
 use Rattle.host_core.specs.Core.{Core}
 use Rattle.host_core.specs.PhaseTable.{move}
-use Rattle.host_core.proofs.Turns.{kept, within_bound}
+use Rattle.host_core.proofs.Turns.{kept}
 use Rattle.line_world.specs.Invariant.{IsKept}
 use Rattle.line_world.proofs.Frame.{scene}
 use Rattle.line_world.proofs.Taking.{kept_take, key_takes}
@@ -55,15 +55,6 @@ pub none_down : (m : Machine) (core : Core) (down up : List ℕ) (lost c : ℕ) 
 none_down m core [] up lost c k first = refl
 none_down m core (d ∷ down) [] lost c k first = absurd (cc)
 none_down m core (d ∷ down) (u ∷ up) lost c k first = let none = k.one_way.1 in absurd (cc)
-
--- the losses of a life fit their count
-pub losses_fit : (m : Machine) (core : Core) (down up : List ℕ) (lost : ℕ) → IsKept (scene m core down up lost) → lost + 1 < 2 ^ 64
-losses_fit m core down up lost k =
-    let bound = within_bound core k.host in
-    let patience = k.host.long in
-    let words = k.host.image.few in
-    let before = k.characters in
-    omega arith
 
 -- a list that is found empty is
 pub nothing_there : (xs : List ℕ) (b : Bool) → b ≡ eqb (length xs) 0 → b ≡ true → xs ≡ []

@@ -18,9 +18,8 @@ use Rattle.host_core.specs.Host.{IsHost}
 use Rattle.host_core.specs.PhaseTable.{taken, after_words, sends, listens}
 use Rattle.line_world.specs.Scene.{Scene}
 use Rattle.line_world.specs.World.{stepped}
-use Rattle.line_world.specs.Site.{site, site_of, IsThere, number_mode}
+use Rattle.line_world.specs.Site.{site, site_of, IsThere, number_mode, ground}
 use Rattle.line_world.specs.Pending.{IsStopped, IsOpened}
-use Rattle.line_world.specs.Lawful.{ground}
 use Rattle.line_world.specs.Invariant.{IsKept, InPhase, EndIsPaid, RunsWith, standing}
 
 -- a world by its parts

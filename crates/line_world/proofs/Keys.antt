@@ -15,9 +15,9 @@ use Rattle.host_core.specs.declared.phase.Phase.{Phase}
 use Rattle.host_core.specs.declared.phase.Phase.TheVariants.{Settle, Sync, Address, Slash, Before, Value, Deposit, Return, Start, Go, Ended}
 use Rattle.host_core.specs.Core.{Core, word_nr, start_of}
 use Rattle.host_core.specs.Host.{basis_of, PhaseFits, IsPastMark, IsPlace}
-use Rattle.line_world.specs.Site.{wanted, Lies, number_mode, typing_mode}
+use Rattle.line_world.specs.Site.{wanted, Lies, number_mode, typing_mode, Ground, ground, site_in}
 use Rattle.line_world.specs.Pending.{IsStopped, IsOpened}
-use Rattle.line_world.specs.Lawful.{Ground, ground, site_in, TakesDigit, TakesSlash, TakesReturn, LawfulBefore, LawfulKey}
+use Rattle.line_world.specs.Lawful.{TakesDigit, TakesSlash, TakesReturn, LawfulBefore, LawfulKey}
 use Rattle.line_world.specs.Invariant.{IsKept, RunsWith}
 use Rattle.line_world.proofs.Digits.{digit_is, at_place}
 use Rattle.line_world.proofs.Frame.{scene, PhaseHolds}

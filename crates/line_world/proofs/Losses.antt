@@ -10,9 +10,8 @@ use Rattle.host_core.specs.declared.phase.End.TheVariants.{Loaded, Started, Unce
 use Rattle.host_core.specs.declared.phase.Phase.{Phase}
 use Rattle.host_core.specs.declared.phase.Phase.TheVariants.{Settle, Sync, Address, Slash, Before, Value, Deposit, Return, Start, Go, Ended}
 use Rattle.host_core.specs.Core.{Core}
-use Rattle.line_world.specs.Site.{Site, IsThere}
+use Rattle.line_world.specs.Site.{Site, IsThere, Ground}
 use Rattle.line_world.specs.Pending.{Live, IsPart, RestFits, Facts, StandsWhere, after_of, rest_of}
-use Rattle.line_world.specs.Lawful.{Ground}
 use Rattle.line_world.specs.Invariant.{IsKept, InPhase, EndIsPaid}
 use Rattle.line_world.proofs.Parts.{part_remove, part_length}
 use Rattle.line_world.proofs.Frame.{scene}

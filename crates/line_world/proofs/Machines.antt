@@ -13,8 +13,7 @@ use Rattle.odt_machine.specs.Key.{key_of}
 use Rattle.odt_machine.specs.Machine.{Machine, IsMachine, IsWide, ModeFits, is_word}
 use Rattle.odt_machine.specs.KeyTable.{Taken, row, take_of, after_key}
 use Rattle.host_core.specs.Core.{Core, word_nr}
-use Rattle.line_world.specs.Site.{wanted}
-use Rattle.line_world.specs.Lawful.{ground, site_in}
+use Rattle.line_world.specs.Site.{wanted, ground, site_in}
 use Rattle.line_world.specs.Invariant.{IsKept}
 use Rattle.line_world.proofs.Frame.{scene}
 use Rattle.line_world.proofs.Keys.{Stores, Takes}

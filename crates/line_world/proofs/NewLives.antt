@@ -9,8 +9,8 @@ use Rattle.host_core.specs.declared.phase.End.TheVariants.{Loaded, MaybeStarted}
 use Rattle.host_core.specs.Core.{Core, begun, restarted}
 use Rattle.host_core.specs.Host.{IsHost}
 use Rattle.host_core.proofs.Turns.{restart_kept}
-use Rattle.line_world.specs.Site.{Site, IsThere, site, site_of}
-use Rattle.line_world.specs.Lawful.{Ground, ground, Lawful}
+use Rattle.line_world.specs.Site.{Site, IsThere, site, site_of, Ground, ground}
+use Rattle.line_world.specs.Lawful.{Lawful}
 use Rattle.line_world.specs.Invariant.{IsKept, InPhase, OneWay, RunsWith, standing}
 use Rattle.line_world.proofs.Frame.{scene}
 use Rattle.line_world.proofs.Keys.{lawful}

@@ -1,15 +1,15 @@
 -- The invariant holds at every opening.
-use Rattle.std.proofs.Common.{◌≡◌, ℕ, ◌<◌, ◌≤◌, Bool, false, List, [], length, arith, sym, subst}
+use Rattle.std.proofs.Common.{◌≡◌, ℕ, ◌<◌, ◌≤◌, Bool, false, List, [], length}
 use Rattle.tape_image.specs.Plan.{PlanValue}
 use Rattle.odt_machine.specs.declared.mode.Mode.{Mode}
 use Rattle.odt_machine.specs.declared.mode.Mode.TheVariants.{Prompt, Number, Opened, Typing, Running}
 use Rattle.odt_machine.specs.Machine.{Machine, IsMachine}
 use Rattle.odt_machine.specs.Laws.{is_running}
-use Rattle.host_core.specs.Core.{Core, begun}
+use Rattle.host_core.specs.Core.{begun}
 use Rattle.host_core.specs.Host.{IsHost}
 use Rattle.line_world.specs.Site.{site_of, IsThere}
 use Rattle.line_world.specs.Invariant.{IsKept, RunsWith}
-use Rattle.line_world.specs.Opening.{opened, IsAccepted}
+use Rattle.line_world.specs.Opening.{opened}
 use Rattle.line_world.proofs.NewLives.{life_kept}
 
 at_rest : (going : Bool) (mode : Mode) → is_running mode ≡ false → RunsWith going mode
@@ -23,8 +23,3 @@ at_rest going (Running p) h = absurd (cc)
 pub opening_kept : (m : Machine) (plan : PlanValue) (verified patience : ℕ) (waiting : List ℕ) → IsMachine m → IsHost (begun plan verified false patience) → length waiting ≤ 32 → is_running m.mode ≡ false →
     ((i : ℕ) → i < verified → IsThere (site_of (opened m (begun plan verified false patience) waiting) i)) → IsKept (opened m (begun plan verified false patience) waiting)
 opening_kept m plan verified patience waiting machine host few stopped words = life_kept m plan verified false patience [] waiting machine host tt few words (at_rest false m.mode stopped) tt
-
-pub opened_kept : (m : Machine) (core : Core) (waiting : List ℕ) → IsMachine m → IsHost core → IsAccepted m core waiting → IsKept (opened m core waiting)
-opened_kept m core waiting machine host accepted =
-    subst (λ c. IsKept (opened m c waiting)) (sym accepted.fresh)
-    (opening_kept m core.plan 0 core.patience waiting machine (subst IsHost accepted.fresh host) accepted.few accepted.stopped (λ i below. absurd (omega arith)))

@@ -24,14 +24,6 @@ part_length (x ∷ xs) [] h = absurd h
 part_length (x ∷ xs) (y ∷ ys) (inl h) = omega (arith, part_length xs ys h.1)
 part_length (x ∷ xs) (y ∷ ys) (inr h) = omega (arith, part_length (x ∷ xs) ys h)
 
--- nothing was lost where the lists are equally long
-pub part_whole : (xs ys : List ℕ) → IsPart xs ys → length xs ≡ length ys → xs ≡ ys
-part_whole [] [] h e = refl
-part_whole [] (y ∷ ys) h e = absurd (omega arith)
-part_whole (x ∷ xs) [] h e = absurd h
-part_whole (x ∷ xs) (y ∷ ys) (inl h) e = let same = part_whole xs ys h.1 (omega arith) in let here = h.0 in cc
-part_whole (x ∷ xs) (y ∷ ys) (inr h) e = absurd (omega (arith, part_length (x ∷ xs) ys h))
-
 -- a rest of one character is heard whole
 pub part_one : (c d : ℕ) (u : List ℕ) → IsPart (c ∷ u) (d ∷ []) → (c ≡ d) × (u ≡ [])
 part_one c d [] (inl h) = (h.0, refl)

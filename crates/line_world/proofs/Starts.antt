@@ -19,7 +19,8 @@ use Rattle.line_world.specs.declared.event.Event.{Event}
 use Rattle.line_world.specs.declared.event.Event.TheVariants.{Take, Hear, LoseDown, LoseUp, Quiet, Restart}
 use Rattle.line_world.specs.Scene.{Scene}
 use Rattle.line_world.specs.World.{takes, hears, times_out, stepped, happens, after, typed_hearing, typed_timeout, typed_in, typed}
-use Rattle.line_world.specs.Lawful.{Ground, ground, LawfulBefore, LawfulKey}
+use Rattle.line_world.specs.Site.{Ground, ground}
+use Rattle.line_world.specs.Lawful.{LawfulBefore, LawfulKey}
 use Rattle.line_world.specs.Invariant.{IsKept}
 use Rattle.line_world.specs.Promises.{EndsAtGo, StartsOnce}
 use Rattle.line_world.proofs.Frame.{scene}
@@ -51,9 +52,6 @@ has_either c (x ∷ xs) ys (suc k, below, here) = elim (has_either c xs ys (k, o
 none_left : (xs ys : List ℕ) → xs ≡ [] → ys ≡ [] → xs ++ ys ≡ []
 none_left [] ys e f = f
 none_left (x ∷ xs) ys e f = absurd (cc)
-
-none_right : (xs ys : List ℕ) → ys ≡ [] → xs ≡ [] → xs ++ ys ≡ []
-none_right xs ys e f = none_left xs ys f e
 
 -- nothing follows `G`, in the first keys or in the keys after them
 pub ends_join : (xs ys : List ℕ) → EndsAtGo xs → EndsAtGo ys → (Contains xs 71 → ys ≡ []) → EndsAtGo (xs ++ ys)

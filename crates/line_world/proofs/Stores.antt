@@ -8,8 +8,7 @@ use Rattle.tape_image.proofs.Halves.{Stands-merged, merged-Stands}
 use Rattle.tape_image.proofs.Standing.{places_apart, byte_of-with_word_cases}
 use Rattle.odt_machine.specs.Machine.{is_word, stored}
 use Rattle.host_core.specs.Core.{word_nr, no_word}
-use Rattle.line_world.specs.Site.{Site, held, wanted, Lies, IsThere}
-use Rattle.line_world.specs.Lawful.{Ground, site_in}
+use Rattle.line_world.specs.Site.{Site, held, wanted, Lies, IsThere, Ground, site_in}
 use Rattle.line_world.specs.Safe.{OnlyImage}
 use Rattle.line_world.proofs.Keys.{Stores}
 

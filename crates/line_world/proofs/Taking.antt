@@ -12,9 +12,8 @@ use Rattle.host_core.specs.declared.phase.Phase.TheVariants.{Settle, Value, Retu
 use Rattle.host_core.specs.Core.{Core}
 use Rattle.host_core.specs.Host.{PhaseFits, basis_of}
 use Rattle.line_world.specs.World.{answered}
-use Rattle.line_world.specs.Site.{Site, site, wanted, Lies, prompt_from}
+use Rattle.line_world.specs.Site.{Site, site, wanted, Lies, prompt_from, Ground, ground}
 use Rattle.line_world.specs.Pending.{Live, RestFits, Facts, after_of, rest_of}
-use Rattle.line_world.specs.Lawful.{Ground, ground}
 use Rattle.line_world.specs.Invariant.{IsKept, EndIsPaid}
 use Rattle.line_world.proofs.Parts.{part_same}
 use Rattle.line_world.proofs.Rows.{IsSite, taken_in, row_live}

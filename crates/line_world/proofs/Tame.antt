@@ -15,9 +15,9 @@ use Rattle.line_world.specs.declared.event.Event.{Event}
 use Rattle.line_world.specs.declared.event.Event.TheVariants.{Take, Hear, LoseDown, LoseUp, Quiet, Restart}
 use Rattle.line_world.specs.Scene.{Scene}
 use Rattle.line_world.specs.World.{takes, hears, times_out, happens, after, is_timeout, had_timeout}
-use Rattle.line_world.specs.Site.{site}
+use Rattle.line_world.specs.Site.{site, Ground, ground}
 use Rattle.line_world.specs.Pending.{IsStopped}
-use Rattle.line_world.specs.Lawful.{Ground, ground, TakesDigit, TakesSlash, TakesReturn, LawfulBefore, LawfulKey}
+use Rattle.line_world.specs.Lawful.{TakesDigit, TakesSlash, TakesReturn, LawfulBefore, LawfulKey}
 use Rattle.line_world.specs.Invariant.{IsKept, InPhase, OneWay}
 use Rattle.line_world.specs.Promises.{HasAddress, KeysAreDescribed, QueuesAreShort, HasCause, IsTame}
 use Rattle.line_world.proofs.Frame.{scene}
@@ -95,7 +95,7 @@ has_cause : (phase : Phase) (w : Scene) → InPhase phase (ground w) (site w) w.
 has_cause (Ended end) w h = h.1
 has_cause phase w h = tt
 
-losses_low : (m : Machine) (core : Core) (down up : List ℕ) (lost : ℕ) → IsKept (scene m core down up lost) → lost ≤ 41 + 9 * core.sent
+losses_low : (m : Machine) (core : Core) (down up : List ℕ) (lost : ℕ) → IsKept (scene m core down up lost) → lost ≤ 32 + 9 * core.sent
 losses_low m core down up lost k = let before = k.characters in omega arith
 
 pub tame_of : (w : Scene) → IsKept w → IsTame w

@@ -11,7 +11,6 @@ use Rattle.host_core.specs.declared.phase.End.TheVariants.{GaveUp}
 use Rattle.host_core.specs.declared.turn.Turn.TheVariants.{Timeout}
 use Rattle.host_core.specs.Bound.{character_bound}
 use Rattle.host_core.specs.Core.{Core, ended}
-use Rattle.host_core.specs.Laws.{keys}
 use Rattle.host_core.specs.PhaseTable.{move, taken, waits, sends, listens}
 use Rattle.host_core.proofs.Turns.{kept, within_bound}
 use Rattle.host_core.proofs.Frame.{moved, on_move}
@@ -72,7 +71,7 @@ silence_ends core (Return why k) e none = timeout_ends core none
 silence_ends core (Start k) e none = timeout_ends core none
 
 -- what the host sends costs more than it adds
-key_falls : (bound sent after heard gone still : ℕ) (key : Option ℕ) → after ≡ sent + length (keys key) → after ≤ bound → still ≤ 1 → (key ≡ None → gone + still < heard + 1) → gone ≤ heard →
+key_falls : (bound sent after heard gone still : ℕ) (key : Option ℕ) → after ≡ sent + length (option_to_list key) → after ≤ bound → still ≤ 1 → (key ≡ None → gone + still < heard + 1) → gone ≤ heard →
     12 * (bound - after) + 11 * length (option_to_list key) + gone + still < 12 * (bound - sent) + 0 + heard + 1
 key_falls bound sent after heard gone still None is low one falls less = let strict = falls refl in omega arith
 key_falls bound sent after heard gone still (Some c) is low one falls less = omega arith

@@ -9,7 +9,7 @@ use Rattle.line_world.specs.Safe.{WordLies}
 use Rattle.line_world.specs.CleanText.{clean_text}
 
 -- the world as it was opened: the host has done nothing yet, no key is under way, nothing is lost
-pub record IsOpening (w : Scene) : Type 0 where
+pub record IsAtOpening (w : Scene) : Type 0 where
   pub fresh : IsFresh w.core
   pub none_down : w.down ≡ []
   pub none_lost : w.lost ≡ 0
@@ -31,11 +31,11 @@ pub record LoadsAll (before now : Scene) (keys : List ℕ) (end : End) : Type 0 
   pub spent : now.core.spent ≡ 0
 
 -- the load stopped at the word numbered i, with all words before it verified
-pub record StopsAt (before now : Scene) (end : End) (i : ℕ) : Type 0 where
+pub record StopsAtWord (before now : Scene) (end : End) (i : ℕ) : Type 0 where
   pub end_is : end ≡ NoWord (word_nr before.core.plan.words i).address
   pub verified : now.core.verified ≡ i
 
 -- where every word lies in memory all of them are loaded, else the load stops at the first that doesn't
 pub record LoadsClean (before now : Scene) (keys : List ℕ) (end : End) : Type 0 where
   pub whole : ((i : ℕ) → i < length before.core.plan.words → LiesIn before i) → LoadsAll before now keys end
-  pub missing : (i : ℕ) → i < length before.core.plan.words → (LiesIn before i → ⊥) → ((j : ℕ) → j < i → LiesIn before j) → StopsAt before now end i
+  pub missing : (i : ℕ) → i < length before.core.plan.words → (LiesIn before i → ⊥) → ((j : ℕ) → j < i → LiesIn before j) → StopsAtWord before now end i

@@ -1,5 +1,5 @@
 -- The invariant of the loading protocol: it holds at every opening, and every event keeps it.
-use Rattle.std.specs.Prelude.{ℕ, ◌≡◌, ◌<◌, ◌≤◌, ◌+◌, ◌*◌, Bool, true, if◌then◌else◌, List, [], ◌∷◌, length}
+use Rattle.std.specs.Prelude.{ℕ, ◌≡◌, ◌<◌, ◌≤◌, ◌+◌, ◌*◌, Bool, true, if◌then◌else◌, List, [], ◌∷◌, length, ⊤}
 use Rattle.tape_image.specs.Memory.{top_of}
 use Rattle.odt_machine.specs.declared.mode.Mode.{Mode}
 use Rattle.odt_machine.specs.declared.mode.Mode.TheVariants.{Running}
@@ -10,10 +10,12 @@ use Rattle.host_core.specs.declared.phase.Phase.{Phase}
 use Rattle.host_core.specs.declared.phase.Phase.TheVariants.{Settle, Ended}
 use Rattle.host_core.specs.Core.{Core}
 use Rattle.host_core.specs.Host.{IsHost}
+use Rattle.odt_machine.specs.Answer.{longest_answer}
+use Rattle.line_world.specs.Wire.{most_waiting}
 use Rattle.line_world.specs.Scene.{Scene}
-use Rattle.line_world.specs.Site.{Site, site, site_of, IsThere}
+use Rattle.line_world.specs.Site.{Ground, Site, ground, site, site_of, IsThere}
 use Rattle.line_world.specs.Pending.{Live}
-use Rattle.line_world.specs.Lawful.{Ground, Lawful, ground}
+use Rattle.line_world.specs.Lawful.{Lawful}
 
 -- an end has its cause
 abbrev pub EndIsPaid : End → List ℕ → ℕ → ℕ → ℕ → Type 0
@@ -21,7 +23,7 @@ EndIsPaid GaveUp memory patience spent lost = patience < lost
 EndIsPaid Uncertain memory patience spent lost = spent < lost
 EndIsPaid (NoWord a) memory patience spent lost = top_of memory ≤ a
 EndIsPaid (WontHold a) memory patience spent lost = ⊥
-EndIsPaid end memory patience spent lost = Unit {0}
+EndIsPaid end memory patience spent lost = ⊤
 
 -- what a phase says of the world: between answers only that a key under way is lawful
 abbrev pub InPhase : Phase → Ground → Site → (down up : List ℕ) → (patience spent lost : ℕ) → Type 0
@@ -31,7 +33,7 @@ InPhase phase g t down up patience spent lost = Live phase t g.machine.mode down
 
 -- one of the queues is empty, and `down` has at most one key
 abbrev pub OneWay : List ℕ → List ℕ → Type 0
-OneWay [] up = Unit {0}
+OneWay [] up = ⊤
 OneWay (c ∷ down) up = (down ≡ []) × (up ≡ [])
 
 -- how many words stand for sure: all of them under the mark
@@ -41,16 +43,16 @@ standing core = if core.going then length core.plan.words else core.verified
 -- a program runs only under the mark
 abbrev pub RunsWith : Bool → Mode → Type 0
 RunsWith going (Running p) = going ≡ true
-RunsWith going mode = Unit {0}
+RunsWith going mode = ⊤
 
 -- the invariant
 pub record IsKept (w : Scene) : Type 0 where
   pub machine : IsMachine w.machine
   pub host : IsHost w.core
   pub one_way : OneWay w.down w.up
-  pub few : length w.up ≤ 32
+  pub few : length w.up ≤ most_waiting
   pub words : (i : ℕ) → i < standing w.core → IsThere (site_of w i)
   pub running : RunsWith w.core.going w.machine.mode
   pub spent : w.core.spent ≤ w.lost
-  pub characters : w.lost + length w.up + 9 * length w.down ≤ 32 + 9 * w.core.sent
+  pub characters : w.lost + length w.up + longest_answer * length w.down ≤ most_waiting + longest_answer * w.core.sent
   pub phase : InPhase w.core.phase (ground w) (site w) w.down w.up w.core.patience w.core.spent w.lost

@@ -1,34 +1,18 @@
 -- The keys that cannot do harm, whatever the host knows.
-use Rattle.std.specs.Prelude.{ℕ, ◌≡◌, ◌<◌, ◌⊎◌, Bool, true, false, List, [], ◌∷◌, length, unwrap_or}
+use Rattle.std.specs.Prelude.{ℕ, ◌≡◌, ◌<◌, ◌⊎◌, Bool, true, false, List, [], ◌∷◌, length, unwrap_or, ⊤}
 use Rattle.octal.specs.Octal.{is_digit}
-use Rattle.tape_image.specs.Plan.{PlanValue}
+use Rattle.host_core.specs.Console.{carriage_return, go, resynchronise, slash}
 use Rattle.host_core.specs.Core.{word_nr}
 use Rattle.odt_machine.specs.declared.mode.Mode.{Mode}
 use Rattle.odt_machine.specs.declared.mode.Mode.TheVariants.{Prompt, Number, Opened, Typing, Running}
-use Rattle.odt_machine.specs.Machine.{Machine}
-use Rattle.line_world.specs.Scene.{Scene}
-use Rattle.line_world.specs.Site.{Site, Lies, wanted, number_mode}
+use Rattle.line_world.specs.Site.{Ground, Lies, site_in, wanted, number_mode}
 use Rattle.line_world.specs.Pending.{IsStopped}
-
--- what a key can meet: the machine, the plan and the mark
-pub record Ground : Type 0 where
-  pub machine : Machine
-  pub plan : PlanValue
-  pub going : Bool
-
--- what a key can meet in a world
-abbrev pub ground : Scene → Ground
-ground w = record { machine = w.machine; plan = w.core.plan; going = w.core.going }
-
--- the place of the plan's word numbered i
-abbrev pub site_in : Ground → ℕ → Site
-site_in g i = record { style = g.machine.style; memory = g.machine.memory; word = word_nr g.plan.words i; start = unwrap_or g.plan.start 0 }
 
 -- at most five digits stand
 abbrev pub TakesDigit : Mode → Type 0
-TakesDigit Prompt = Unit {0}
+TakesDigit Prompt = ⊤
 TakesDigit (Number v n) = n < 6
-TakesDigit (Opened a) = Unit {0}
+TakesDigit (Opened a) = ⊤
 TakesDigit (Typing a v n) = n < 6
 TakesDigit (Running p) = ⊥
 
@@ -39,7 +23,7 @@ TakesSlash g mode = ⊥
 
 -- a word is open, and no new value is typed or the whole value that a word of the plan wants there
 abbrev pub TakesReturn : Ground → Mode → Type 0
-TakesReturn g (Opened a) = Unit {0}
+TakesReturn g (Opened a) = ⊤
 TakesReturn g (Typing a v n) =
     (i : ℕ) × (i < length g.plan.words) × Lies (site_in g i) × (n ≡ 6) × (a ≡ (site_in g i).word.address) × (v ≡ wanted (site_in g i))
 TakesReturn g mode = ⊥
@@ -48,14 +32,14 @@ TakesReturn g mode = ⊥
 abbrev pub LawfulBefore : Ground → ℕ → Type 0
 LawfulBefore g c =
     ((is_digit c ≡ true) × TakesDigit g.machine.mode)
-    ⊎ (((c ≡ 47) × TakesSlash g g.machine.mode) ⊎ (((c ≡ 13) × TakesReturn g g.machine.mode) ⊎ ((c ≡ 90) × IsStopped g.machine.mode)))
+    ⊎ (((c ≡ slash) × TakesSlash g g.machine.mode) ⊎ (((c ≡ carriage_return) × TakesReturn g g.machine.mode) ⊎ ((c ≡ resynchronise) × IsStopped g.machine.mode)))
 
 -- a lawful key: under the mark `G` alone, after the whole start
 abbrev pub LawfulKey : Bool → Ground → ℕ → Type 0
-LawfulKey true g c = (c ≡ 71) × (g.machine.mode ≡ number_mode (unwrap_or g.plan.start 0) 6)
+LawfulKey true g c = (c ≡ go) × (g.machine.mode ≡ number_mode (unwrap_or g.plan.start 0) 6)
 LawfulKey false g c = LawfulBefore g c
 
 -- a key under way is lawful
 abbrev pub Lawful : Ground → List ℕ → Type 0
-Lawful g [] = Unit {0}
+Lawful g [] = ⊤
 Lawful g (c ∷ down) = LawfulKey g.going g c

@@ -1,5 +1,5 @@
 -- What holds of every world, and what the keys typed in some events say of the program's start.
-use Rattle.std.specs.Prelude.{ℕ, ◌≡◌, ◌<◌, ◌≤◌, ◌+◌, ◌*◌, ◌⊎◌, ◌↔◌, true, false, List, [], ◌∷◌, length, Contains}
+use Rattle.std.specs.Prelude.{ℕ, ◌≡◌, ◌<◌, ◌≤◌, ◌+◌, ◌*◌, ◌⊎◌, ◌↔◌, true, false, List, [], ◌∷◌, length, Contains, ⊤}
 use Rattle.tape_image.specs.Plan.{PlanValue}
 use Rattle.odt_machine.specs.declared.mode.Mode.{Mode}
 use Rattle.odt_machine.specs.declared.mode.Mode.TheVariants.{Number}
@@ -7,6 +7,9 @@ use Rattle.odt_machine.specs.Described.{IsDescribed}
 use Rattle.host_core.specs.declared.phase.Phase.{Phase}
 use Rattle.host_core.specs.declared.phase.Phase.TheVariants.{Ended}
 use Rattle.host_core.specs.Core.{Core, word_nr}
+use Rattle.odt_machine.specs.Answer.{longest_answer}
+use Rattle.host_core.specs.Console.{go, slash}
+use Rattle.line_world.specs.Wire.{most_waiting}
 use Rattle.line_world.specs.Scene.{Scene}
 use Rattle.line_world.specs.Invariant.{EndIsPaid}
 
@@ -17,19 +20,19 @@ HasAddress plan mode = ⊥
 
 -- a key under way finds the machine in a mode in which it is described, and a `/` opens an address that the plan has a word for
 abbrev pub KeysAreDescribed : PlanValue → Mode → List ℕ → Type 0
-KeysAreDescribed plan mode [] = Unit {0}
-KeysAreDescribed plan mode (c ∷ down) = IsDescribed mode c × (c ≡ 47 → HasAddress plan mode)
+KeysAreDescribed plan mode [] = ⊤
+KeysAreDescribed plan mode (c ∷ down) = IsDescribed mode c × (c ≡ slash → HasAddress plan mode)
 
 -- the queues are short, and one of them is empty
 pub record QueuesAreShort (down up : List ℕ) : Type 0 where
   pub keys : length down ≤ 1
-  pub answers : length up ≤ 32
+  pub answers : length up ≤ most_waiting
   pub one_way : (down ≡ []) ⊎ (up ≡ [])
 
 -- an end, if it is one, has its cause
 abbrev pub HasCause : Phase → List ℕ → (patience spent lost : ℕ) → Type 0
 HasCause (Ended end) memory patience spent lost = EndIsPaid end memory patience spent lost
-HasCause phase memory patience spent lost = Unit {0}
+HasCause phase memory patience spent lost = ⊤
 
 -- what holds of every world, however it came to be
 pub record IsTame (w : Scene) : Type 0 where
@@ -39,16 +42,17 @@ pub record IsTame (w : Scene) : Type 0 where
   pub spent : w.core.spent ≤ w.lost
   -- GaveUp after more losses than the patience, Uncertain after one that no mishap paid for, NoWord past memory, WontHold never
   pub cause : HasCause w.core.phase w.machine.memory w.core.patience w.core.spent w.lost
-  pub lost : w.lost ≤ 41 + 9 * w.core.sent
+  -- what waited at the beginning of this life of the host may be lost, and the answer to each key that it sent
+  pub lost : w.lost ≤ most_waiting + longest_answer * w.core.sent
 
 -- nothing stands after `G`, so it stands there once at most
 abbrev pub EndsAtGo : List ℕ → Type 0
-EndsAtGo [] = Unit {0}
-EndsAtGo (c ∷ keys) = (c ≡ 71 → keys ≡ []) × EndsAtGo keys
+EndsAtGo [] = ⊤
+EndsAtGo (c ∷ keys) = (c ≡ go → keys ≡ []) × EndsAtGo keys
 
 -- the keys start the program at most once: `G` is the last of them, none is typed where the mark stood, and `G` is typed exactly where the mark is set
 pub record StartsOnce (before after : Core) (keys : List ℕ) : Type 0 where
   pub last : EndsAtGo keys
   pub silent : before.going ≡ true → keys ≡ []
-  pub marked : Contains keys 71 ↔ ((before.going ≡ false) × (after.going ≡ true))
+  pub marked : Contains keys go ↔ ((before.going ≡ false) × (after.going ≡ true))
   pub stays : before.going ≡ true → after.going ≡ true

@@ -4,7 +4,7 @@ use Rattle.odt_machine.specs.Machine.{Machine}
 use Rattle.host_core.specs.Core.{Core}
 use Rattle.line_world.specs.Wire.{Wire}
 
--- a machine, a host, the keys under way (`down`), the answers under way (`up`), and how many characters the line has lost in this life
+-- the whole world: a machine, a host, the keys under way (`down`), the answers under way (`up`), and how many characters the line has lost in this life
 pub record Scene : Type 0 where
   pub machine : Machine
   pub core : Core

@@ -1,16 +1,27 @@
 -- What the machine's mode is after so many typed digits, and what its exact answer still holds.
 use Rattle.std.specs.Prelude.{ℕ, zero, suc, ◌≡◌, ◌-◌, ◌==◌, Bool, true, if◌then◌else◌, List, [], ◌∷◌, unwrap_or}
 use Rattle.octal.specs.Octal.{head, digit_of}
-use Rattle.tape_image.specs.Word.{WordValue}
-use Rattle.tape_image.specs.Word.{merged}
+use Rattle.tape_image.specs.Word.{WordValue, merged}
+use Rattle.tape_image.specs.Plan.{PlanValue}
+use Rattle.host_core.specs.Console.{carriage_return, line_feed, prompt, question_mark, resynchronise, space}
 use Rattle.host_core.specs.Core.{word_nr}
 use Rattle.odt_machine.specs.declared.style.Style.{Style}
 use Rattle.odt_machine.specs.declared.mode.Mode.{Mode}
 use Rattle.odt_machine.specs.declared.mode.Mode.TheVariants.{Prompt, Number, Opened, Typing}
-use Rattle.odt_machine.specs.Machine.{is_word, word_at as memory_word}
+use Rattle.odt_machine.specs.Machine.{Machine, is_word, word_at as memory_word}
 use Rattle.line_world.specs.Scene.{Scene}
 
--- where a word is loaded: the machine's style and memory, the word, and the start
+-- of the world, what a key under way can meet: the machine, and of the host its plan and its mark
+pub record Ground : Type 0 where
+  pub machine : Machine
+  pub plan : PlanValue
+  pub going : Bool
+
+-- what a key can meet in a world
+abbrev pub ground : Scene → Ground
+ground w = record { machine = w.machine; plan = w.core.plan; going = w.core.going }
+
+-- of the world, where one word is loaded: the machine's style and memory, the word, and the start
 pub record Site : Type 0 where
   pub style : Style
   pub memory : List ℕ
@@ -18,8 +29,12 @@ pub record Site : Type 0 where
   pub start : ℕ
 
 -- the place of the plan's word numbered i
+abbrev pub site_in : Ground → ℕ → Site
+site_in g i = record { style = g.machine.style; memory = g.machine.memory; word = word_nr g.plan.words i; start = unwrap_or g.plan.start 0 }
+
+-- the same in a world
 abbrev pub site_of : Scene → ℕ → Site
-site_of w i = record { style = w.machine.style; memory = w.machine.memory; word = word_nr w.core.plan.words i; start = unwrap_or w.core.plan.start 0 }
+site_of w i = site_in (ground w) i
 
 -- the place of the word that is loaded now
 abbrev pub site : Scene → Site
@@ -56,24 +71,25 @@ opened_mode t = if is_word t.memory t.word.address then Opened t.word.address el
 -- a new line and the prompt, without the first i of the longest form's characters: one CR more where the style has two
 abbrev pub prompt_from : Bool → ℕ → List ℕ
 prompt_from two_returns i =
-    if i == 0 then (if two_returns then 13 ∷ 13 ∷ 10 ∷ 64 ∷ [] else 13 ∷ 10 ∷ 64 ∷ [])
-    else if i == 1 then (if two_returns then 13 ∷ 10 ∷ 64 ∷ [] else 10 ∷ 64 ∷ [])
-    else if i == 2 then 10 ∷ 64 ∷ [] else 64 ∷ []
+    if i == 0 then (if two_returns then carriage_return ∷ carriage_return ∷ line_feed ∷ prompt ∷ [] else carriage_return ∷ line_feed ∷ prompt ∷ [])
+    else if i == 1 then (if two_returns then carriage_return ∷ line_feed ∷ prompt ∷ [] else line_feed ∷ prompt ∷ [])
+    else if i == 2 then line_feed ∷ prompt ∷ [] else prompt ∷ []
 
 -- the last digits of a word, and the space behind them
 abbrev pub last_digits : ℕ → ℕ → List ℕ
-last_digits w zero = 32 ∷ []
+last_digits w zero = space ∷ []
 last_digits w (suc left) = digit_of w (6 - left) ∷ last_digits w left
 
 -- what follows the echo of `/`
 abbrev pub reading : Site → List ℕ
 reading t =
-    if is_word t.memory t.word.address then (if t.style.space_before then 32 ∷ last_digits (held t) 6 else last_digits (held t) 6)
-    else 63 ∷ prompt_from t.style.two_returns 0
+    if is_word t.memory t.word.address then (if t.style.space_before then space ∷ last_digits (held t) 6 else last_digits (held t) 6)
+    else question_mark ∷ prompt_from t.style.two_returns 0
 
 -- what is left of the answer to `Z`
 abbrev pub refusal_from : Style → ℕ → List ℕ
 refusal_from s k =
-    if k == 0 then (if s.echo_illegal then 90 ∷ 63 ∷ prompt_from s.two_returns 0 else 63 ∷ prompt_from s.two_returns 0)
-    else if k == 1 then 63 ∷ prompt_from s.two_returns 0
+    if k == 0 then
+    (if s.echo_illegal then resynchronise ∷ question_mark ∷ prompt_from s.two_returns 0 else question_mark ∷ prompt_from s.two_returns 0)
+    else if k == 1 then question_mark ∷ prompt_from s.two_returns 0
     else prompt_from s.two_returns (k - 2)

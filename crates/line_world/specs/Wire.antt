@@ -4,12 +4,17 @@ use Rattle.std.specs.List.{remove}
 use Rattle.odt_machine.specs.Machine.{Machine}
 use Rattle.odt_machine.specs.KeyTable.{Taken}
 
--- a machine, the keys under way to it (`down`), the answers under way from it (`up`), and how many characters the line has lost
+-- all of the world but the host: a machine, the keys under way to it (`down`), the answers under way from it (`up`), and how many characters the line has lost
 pub record Wire : Type 0 where
   pub machine : Machine
   pub down : List ℕ
   pub up : List ℕ
   pub lost : ℕ
+
+-- the most answer characters that may wait for a host at its beginning; no more ever wait. Three of the longest answers have room, and
+-- a few characters of noise (this project's choice)
+abbrev pub most_waiting : ℕ
+most_waiting = 32
 
 -- after ODT took the first of `down`, of which `rest` is left: its answer stands at the end of `up`
 abbrev pub with_answer : Wire → List ℕ → Taken → Wire

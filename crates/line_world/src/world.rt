@@ -2,11 +2,13 @@ ghost use Rattle.std.specs.Prelude.{◌≡◌, ℕ, ◌<◌, ◌≤◌, true, Li
 ghost use Rattle.std.specs.Bool.{OnFalse};
 ghost use Rattle.host_core.specs.Core.{ended};
 ghost use Rattle.host_core.specs.Host.{IsHost};
+ghost use Rattle.odt_machine.specs.Answer.{longest_answer};
 ghost use Rattle.odt_machine.specs.Machine.{IsMachine};
 ghost use Rattle.line_world.specs.World.{occurs, happens, after, possible_count, typed_in, typed, is_timeout, had_timeout, first_event, work_left};
+ghost use Rattle.line_world.specs.Invariant.{IsKept};
 ghost use Rattle.line_world.specs.Safe.{IsSafe};
 ghost use Rattle.line_world.specs.Promises.{IsTame, StartsOnce};
-ghost use Rattle.line_world.specs.Opening.{opened, IsAccepted, IsRefused};
+ghost use Rattle.line_world.specs.Opening.{opened, IsAccepted, IsRefusedSetup};
 ghost use Rattle.line_world.specs.Runs.{RunsClean, RunsTo};
 
 use crate::event::Event;
@@ -53,7 +55,7 @@ impl World {
         ensures opened { IfOk result (λ world. world ≡ opened odt core waiting.now) }
         ensures safe { IfOk result (λ world. IsSafe odt.memory world.core world.machine.memory) }
         ensures tame { IfOk result IsTame }
-        ensures refused { IfErr result (λ err. IsRefused odt core waiting.now err.2) }
+        ensures refused { IfErr result (λ err. IsRefusedSetup odt core waiting.now err.2) }
         ensures given_back { IfErr result (λ err. (err.0 ≡ odt) × (err.1 ≡ core)) }
     {
         if waiting.len() > MOST_WAITING {
@@ -76,6 +78,13 @@ impl World {
         })
     }
 
+    // Does nothing, but that the invariant is known where it is called: it uses a field.
+    fn recall_invariant(&self)
+        ensures { IsKept self.now }
+    {
+        let _ = &self.lost;
+    }
+
     /// One event. False exactly where it is not possible, and then nothing changes.
     pub fn apply(&mut self, event: Event) -> bool
         ensures possible { result ≡ is_some (occurs self.old event) }
@@ -85,13 +94,12 @@ impl World {
         ensures since { (earlier : List ℕ) → IsSafe earlier self.old.core self.old.machine.memory → IsSafe earlier self.new.core self.new.machine.memory }
         ensures start { StartsOnce self.old.core self.new.core (typed_in self.old event) }
         ensures tame { IsTame self.new }
-        ensures short { length self.old.up ≤ 9 → length self.new.up ≤ 9 }
-        ensures silent { is_timeout self.old event ≡ true → length self.new.up ≤ 9 }
+        ensures short { length self.old.up ≤ longest_answer → length self.new.up ≤ longest_answer }
+        ensures silent { is_timeout self.old event ≡ true → length self.new.up ≤ longest_answer }
         ensures next { event ≡ first_event self.old → result ≡ true }
         ensures work { event ≡ first_event self.old → ended self.old.core.phase ≡ None → work_left self.new < work_left self.old }
     {
-        // A field's use, so that the invariant is known here.
-        let _ = &self.lost;
+        self.recall_invariant();
         self.happen(event)
     }
 
@@ -185,11 +193,10 @@ impl World {
         ensures since { (earlier : List ℕ) → IsSafe earlier self.old.core self.old.machine.memory → IsSafe earlier self.new.core self.new.machine.memory }
         ensures start { StartsOnce self.old.core self.new.core (typed self.old events.now) }
         ensures tame { IsTame self.new }
-        ensures short { length self.old.up ≤ 9 → length self.new.up ≤ 9 }
-        ensures silent { had_timeout self.old events.now ≡ true → length self.new.up ≤ 9 }
+        ensures short { length self.old.up ≤ longest_answer → length self.new.up ≤ longest_answer }
+        ensures silent { had_timeout self.old events.now ≡ true → length self.new.up ≤ longest_answer }
     {
-        // A field's use, so that the invariant is known here.
-        let _ = &self.lost;
+        self.recall_invariant();
         self.happen_in_turn(events)
     }
 
@@ -214,8 +221,7 @@ impl World {
         ensures since { (earlier : List ℕ) → IsSafe earlier self.old.core self.old.machine.memory → IsSafe earlier self.new.core self.new.machine.memory }
         ensures tame { IsTame self.new }
     {
-        // A field's use, so that the invariant is known here.
-        let _ = &self.lost;
+        self.recall_invariant();
         self.run_to_end()
     }
 

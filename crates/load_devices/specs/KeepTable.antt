@@ -1,5 +1,6 @@
 -- A keeper in memory: what it keeps, and what its calls answer.
 use Rattle.std.specs.Prelude.{ℕ, ◌+◌, ◌-◌, ◌^◌, min, Bool, false, nat_le, nat_lt, if◌then◌else◌, List, [], ◌∷◌, ◌++◌, length, Option, Some, None}
+use Rattle.load_devices.specs.Failures.{one_more}
 use Rattle.load_devices.specs.declared.item.Kept.{Kept}
 use Rattle.load_devices.specs.declared.fault.KeepFault.{KeepFault}
 use Rattle.load_devices.specs.declared.fault.KeepFault.TheVariants.{Write, Full}
@@ -23,8 +24,8 @@ is_failing None call = false
 is_failing (Some first) call = nat_le first call
 
 -- what the next call fails with, if it does: Write by its number, else Full where no room is left
-abbrev pub refusal_of : KeepValue → Option KeepFault
-refusal_of keep =
+abbrev pub keep_refusal : KeepValue → Option KeepFault
+keep_refusal keep =
     if is_failing keep.fail_at (next_call keep) then Some Write
     else (if nat_lt (length keep.kept) keep.room then None
     else Some Full)
@@ -33,11 +34,11 @@ refusal_of keep =
 abbrev pub after_answer : KeepValue → Kept → Option KeepFault → KeepValue
 after_answer keep item None = record keep { kept = keep.kept ++ item ∷ []; calls = next_call keep; fault = None }
 after_answer keep item (Some fault) =
-    record keep { calls = next_call keep; failures = min (keep.failures + 1) (2 ^ 64 - 1); fault = Some fault }
+    record keep { calls = next_call keep; failures = one_more keep.failures; fault = Some fault }
 
 -- the keeper after its next call
 abbrev pub after_keeping : KeepValue → Kept → KeepValue
-after_keeping keep item = after_answer keep item (refusal_of keep)
+after_keeping keep item = after_answer keep item (keep_refusal keep)
 
 -- a keeper that keeps nothing yet
 abbrev pub empty_keep : ℕ → Option ℕ → KeepValue

@@ -1,6 +1,6 @@
 ghost use Rattle.std.specs.Prelude.{◌≡◌, ℕ, [], ◌∷◌, ◌↔◌, Some, IsTrue, IsSome, IfOk, OnOk, OnErr};
 ghost use Rattle.load_devices.specs.Failures.{count_after, fault_of};
-ghost use Rattle.load_devices.specs.KeepTable.{empty_keep, after_keeping, refusal_of};
+ghost use Rattle.load_devices.specs.KeepTable.{empty_keep, after_keeping, keep_refusal};
 ghost use Rattle.load_devices.specs.Told.{Gains, Keeps};
 
 use crate::fault::KeepFault;
@@ -61,7 +61,7 @@ impl MemoryKeep {
     // Keeps one thing, where this call is not one that fails and there is room.
     fn keep(&mut self, item: Kept) -> Result<(), KeepFault>
         ensures next { self.new ≡ after_keeping self.old item }
-        ensures answer { fault_of result ≡ refusal_of self.old }
+        ensures answer { fault_of result ≡ keep_refusal self.old }
     {
         self.calls = self.calls.saturating_add(1);
         let outcome = if self.fail_at.is_some_and(|first| first <= self.calls) {
@@ -88,14 +88,14 @@ impl Keep for MemoryKeep {
 
     fn add(&mut self, word: Word) -> Result<(), KeepFault>
         ensures next { self.new ≡ after_keeping self.old (Kept.Word word) }
-        ensures answer { fault_of result ≡ refusal_of self.old }
+        ensures answer { fault_of result ≡ keep_refusal self.old }
     {
         self.keep(Kept::Word(word))
     }
 
     fn mark(&mut self) -> Result<(), KeepFault>
         ensures next { self.new ≡ after_keeping self.old Kept.Go }
-        ensures answer { fault_of result ≡ refusal_of self.old }
+        ensures answer { fault_of result ≡ keep_refusal self.old }
     {
         self.keep(Kept::Go)
     }

@@ -15,11 +15,13 @@ use Rattle.load_devices.specs.declared.item.Item.{Item}
 use Rattle.load_devices.specs.declared.item.Item.TheVariants.{Sent, Heard as Came}
 use Rattle.load_devices.specs.declared.item.Kept.{Kept}
 use Rattle.load_devices.specs.Dialogue.{said, dialogue, heard_of}
+use Rattle.honest_line.specs.Starts.{TellsStart}
 use Rattle.honest_line.specs.Trust.{IsTrustworthy}
+use Rattle.honest_line.proofs.Started.{tells_start, tells_start_unsaid}
 use Rattle.honest_line.proofs.Trusted.{trustworthy, trustworthy_unsaid}
 use Rattle.load_engine.specs.declared.stop.Stop.{Stop}
 use Rattle.load_engine.specs.declared.stop.Stop.TheVariants.{Ended, LineFailed, KeepFailed, TurnsOver}
-use Rattle.load_engine.specs.Belief.{IsBelievable, IsBelievableOver}
+use Rattle.load_engine.specs.Belief.{IsBelievable, IsBelievableOver, TellsStartOver}
 use Rattle.load_engine.specs.Session.{Session, LacksKey, IsSaid}
 use Rattle.load_engine.proofs.Sessions.{gained_is}
 
@@ -102,3 +104,23 @@ believable (LineFailed fault) left old new heard items host is (inr s) =
 pub session_believable : (turns : ℕ) (stop : Stop) (old new : Core) (line line' : Option (List Item)) (keep keep' : Option (List Kept)) → IsHost old → Session turns (Some stop) old new line line' keep keep' → IsBelievableOver stop old new line line'
 session_believable turns stop old new line line' keep keep' host s items gained =
     subst (IsBelievable stop old new) (sym (gained_is line line' items s.said gained s.on_line)) (believable stop (turns - length s.heard) old new s.heard s.said host s.core s.items)
+
+-- ---- the start
+
+whole_start : (old new : Core) (heard : List Heard) (items : List Item) → IsHost old → new ≡ led old heard → items ≡ dialogue old heard → TellsStart old new items
+whole_start old new heard items host is all =
+    subst (λ core. TellsStart old core items) (sym is) (subst (λ list. TellsStart old (led old heard) list) (sym all) (tells_start old heard host))
+
+cut_start : (old new : Core) (heard : List Heard) (items : List Item) → IsHost old → new ≡ led old heard → LacksKey (dialogue old heard) items → TellsStart old new items
+cut_start old new heard items host is lacks = subst (λ core. TellsStart old core items) (sym is) (tells_start_unsaid old heard items lacks.0 host lacks.1)
+
+start_told : (stop : Stop) (left : ℕ) (old new : Core) (heard : List Heard) (items : List Item) → IsHost old → new ≡ led old heard → IsSaid (Some stop) left (dialogue old heard) items → TellsStart old new items
+start_told (Ended end) left old new heard items host is s = whole_start old new heard items host is s
+start_told TurnsOver left old new heard items host is s = whole_start old new heard items host is s.0
+start_told (KeepFailed fault) left old new heard items host is s = cut_start old new heard items host is s
+start_told (LineFailed fault) left old new heard items host is (inl s) = whole_start old new heard items host is s.0
+start_told (LineFailed fault) left old new heard items host is (inr s) = cut_start old new heard items host is s
+
+pub session_start : (turns : ℕ) (stop : Stop) (old new : Core) (line line' : Option (List Item)) (keep keep' : Option (List Kept)) → IsHost old → Session turns (Some stop) old new line line' keep keep' → TellsStartOver old new line line'
+session_start turns stop old new line line' keep keep' host s items gained =
+    subst (TellsStart old new) (sym (gained_is line line' items s.said gained s.on_line)) (start_told stop (turns - length s.heard) old new s.heard s.said host s.core s.items)

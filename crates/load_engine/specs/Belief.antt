@@ -3,6 +3,7 @@ use Rattle.std.specs.Prelude.{List, Option}
 use Rattle.host_core.specs.Core.{Core}
 use Rattle.load_devices.specs.declared.item.Item.{Item}
 use Rattle.load_devices.specs.Dialogue.{dialogue, heard_of}
+use Rattle.honest_line.specs.Starts.{TellsStart}
 use Rattle.honest_line.specs.Trust.{IsTrustworthy}
 use Rattle.load_engine.specs.declared.stop.Stop.{Stop}
 use Rattle.load_engine.specs.declared.stop.Stop.TheVariants.{Ended, LineFailed, KeepFailed, TurnsOver}
@@ -20,3 +21,7 @@ IsBelievable (LineFailed fault) old new said = IsTrustworthy old new said 1 × I
 -- the same of a line that tells what was said on it
 abbrev pub IsBelievableOver : Stop → Core → Core → Option (List Item) → Option (List Item) → Type 0
 IsBelievableOver stop old new line line' = (said : List Item) → HasGained line line' said → IsBelievable stop old new said
+
+-- over a line that tells what was said on it, no program runs but by `G`, and where the core ended with `Started` one runs
+abbrev pub TellsStartOver : Core → Core → Option (List Item) → Option (List Item) → Type 0
+TellsStartOver old new line line' = (said : List Item) → HasGained line line' said → TellsStart old new said

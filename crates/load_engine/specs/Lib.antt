@@ -1,4 +1,5 @@
 pub mod Belief
 pub mod Failing
 pub mod Keeping
+pub mod Lent
 pub mod Session

@@ -7,7 +7,7 @@ ghost use Rattle.host_core.specs.PhaseTable.{move};
 ghost use Rattle.load_devices.specs.Dialogue.{news_between, said};
 ghost use Rattle.load_devices.specs.Failures.{count_after, fault_of};
 ghost use Rattle.load_devices.specs.Told.{Gains, Keeps};
-ghost use Rattle.load_engine.specs.Belief.{IsBelievableOver};
+ghost use Rattle.load_engine.specs.Belief.{IsBelievableOver, TellsStartOver};
 ghost use Rattle.load_engine.specs.Failing.{Counts, NamesFault};
 ghost use Rattle.load_engine.specs.Keeping.{KeptBy};
 ghost use Rattle.load_engine.specs.Session.{Session, KeepsMarkFirst, TellsEnd, IsFailure};
@@ -35,6 +35,7 @@ pub fn drive<L: Line, K: Keep>(
     ensures kept_by { KeptBy K.keeps K.fails (Some result.1) keep.old (news_between core result.0) keep.new }
     ensures mark_first { KeepsMarkFirst (L.told line.old) (L.told line.new) (K.told keep.old) (K.told keep.new) }
     ensures honest { IsBelievableOver result.1 core result.0 (L.told line.old) (L.told line.new) }
+    ensures start { TellsStartOver core result.0 (L.told line.old) (L.told line.new) }
     ensures same_plan { result.0.plan ≡ core.plan }
     ensures same_patience { result.0.patience ≡ core.patience }
     ensures bound { result.0.sent ≤ character_bound (length result.0.plan.words) result.0.patience }

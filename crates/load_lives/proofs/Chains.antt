@@ -43,6 +43,8 @@ use Rattle.load_lives.proofs.Renewals.{place, standing, Rests, rests_of, fewer_s
 use Rattle.load_lives.proofs.Running.{Ran, ran}
 use Rattle.load_lives.proofs.LastTurns.{Broken, broken, back, mark_verifies_none}
 use Rattle.load_lives.proofs.LastTurns.Broken.{between_turns, in_turn}
+use Rattle.load_lives.proofs.Starting.{typed_run}
+use Rattle.honest_line.proofs.Going.{MayRun}
 use Rattle.load_lives.proofs.Records.{Remains, remains, CanBeRead, says_sound, says_once}
 
 -- ---- one life as a run of the world, in which a key that was not sent counts as lost
@@ -308,5 +310,13 @@ lives_are_trusted plan old new lives fits may lived =
           (renewed plan s.progress s.progress 0 new.wire (forgiven new.wire) fits (says_sound plan new.text s.progress s.says) (omega arith) refl (omega arith) s.rests (inl refl)) s.bytes;
       last = s.last;
       marked = s.marked;
+      by_go = λ runs. typed_run plan lives old new still lived (inl runs);
       latest = latest plan old.wire.machine.memory lives old new fits first lived;
     }
+  where
+    none : (down : List ℕ) → down ≡ [] → Contains down go → ⊥
+    none down is has = let below = (subst (λ (l : List ℕ). Contains l go) is has).1 in omega (arith, below)
+
+    still : MayRun old.wire → ⊥
+    still (inl runs) = let stopped = may.begins.stopped in cc
+    still (inr has) = none old.wire.down may.none_down has

@@ -9,8 +9,8 @@ use Rattle.host_core.specs.Host.{IsHost}
 use Rattle.host_core.proofs.Turns.{begun_kept}
 use Rattle.line_world.specs.Wire.{Wire}
 use Rattle.line_world.specs.Scene.{over}
-use Rattle.line_world.specs.Site.{Site, IsThere}
-use Rattle.line_world.specs.Lawful.{ground, Lawful}
+use Rattle.line_world.specs.Site.{Site, IsThere, ground}
+use Rattle.line_world.specs.Lawful.{Lawful}
 use Rattle.line_world.specs.Invariant.{IsKept, OneWay, RunsWith}
 use Rattle.line_world.proofs.Frame.{scene}
 use Rattle.line_world.proofs.Keys.{lawful}

@@ -10,8 +10,7 @@ use Rattle.line_world.specs.declared.event.Event.{Event}
 use Rattle.line_world.specs.declared.event.Event.TheVariants.{Take, Hear, LoseDown, LoseUp, Quiet, Restart}
 use Rattle.line_world.specs.Scene.{Scene}
 use Rattle.line_world.specs.World.{takes, hears, times_out, happens, after, typed}
-use Rattle.line_world.specs.Site.{IsThere}
-use Rattle.line_world.specs.Lawful.{ground}
+use Rattle.line_world.specs.Site.{IsThere, ground}
 use Rattle.line_world.specs.Invariant.{IsKept}
 use Rattle.line_world.specs.Promises.{StartsOnce}
 use Rattle.line_world.specs.Safe.{IsSafe}

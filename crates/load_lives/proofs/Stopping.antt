@@ -38,7 +38,7 @@ unsent_of (Some (LineFailed fault)) left all told (inl s) = all_said all told s.
 unsent_of (Some (LineFailed fault)) left all told (inr s) = lacking all told s
 unsent_of (Some (KeepFailed fault)) left all told s = lacking all told s
 
-unsent_out : (stop : Option Stop) (left : ℕ) (all told items : List Item) → IsSaid stop left all told → WentOut all told items → (unsent : Option ℕ) × (all ≡ items ++ said unsent)
+pub unsent_out : (stop : Option Stop) (left : ℕ) (all told items : List Item) → IsSaid stop left all told → WentOut all told items → (unsent : Option ℕ) × (all ≡ items ++ said unsent)
 unsent_out stop left all told items s (inl same) = subst (λ (list : List Item). (unsent : Option ℕ) × (all ≡ list ++ said unsent)) (sym same) (unsent_of stop left all told s)
 unsent_out stop left all told items s (inr whole) = all_said all items whole
 

@@ -1,2 +1,3 @@
+pub mod Keepers
 pub mod Lives
 pub mod Stops

@@ -13,6 +13,7 @@ use Rattle.load_devices.specs.declared.item.Item.{Item}
 use Rattle.load_devices.specs.Dialogue.{said, dialogue, keys_of}
 use Rattle.honest_line.specs.Moves.{Passes}
 use Rattle.honest_line.specs.Honest.{resting}
+use Rattle.honest_line.specs.Starts.{RunsByGo}
 use Rattle.honest_line.specs.Trust.{MayBegin, IsTrusted}
 use Rattle.load_record.specs.declared.version.Version.TheVariants.{Second}
 use Rattle.load_record.specs.Reading.{Says}
@@ -101,13 +102,14 @@ IsLatestTrusted plan before (life ∷ earlier) now =
     IsTrusted before (last_core plan life) now.wire.machine.memory (typed (life ∷ earlier)) (length (option_to_list life.unsent) + now.wire.lost)
 
 -- what came of all these lives: the record that is left says a progress, which is true of memory; memory is safe against the one
--- before the first life; and `G`, if it was sent, was the last key of all, and then the record has the mark
+-- before the first life; `G`, if it was sent, was the last key of all, and then the record has the mark; and no program runs but by it
 pub record AreTrusted (plan : PlanValue) (before : List ℕ) (lives : List Life) (now : Setting) : Type 0 where
   pub progress : Progress
   pub says : Says plan now.text (Ok progress)
   pub safe : IsSafe before (begun plan progress.verified progress.going 0) now.wire.machine.memory
   pub last : EndsAtGo (typed lives)
   pub marked : Contains (typed lives) go → progress.going ≡ true
+  pub by_go : RunsByGo now.wire.machine (typed lives)
   pub latest : IsLatestTrusted plan before lives now
 
 -- lives may be trusted, however many they are and wherever each was stopped

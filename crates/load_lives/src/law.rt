@@ -1,3 +1,4 @@
+ghost use Rattle.load_lives.specs.Keepers.{KeepersLeave};
 ghost use Rattle.load_lives.specs.Lives.{LivesAreTrusted};
 ghost use Rattle.load_lives.specs.Stops.{FrontsAreStopped, RecordsAreFronts, SessionsAreLives};
 
@@ -26,4 +27,11 @@ pub fn fronts_are_stopped()
 /// contract is the law.
 pub fn records_are_fronts()
     ensures { RecordsAreFronts }
+{}
+
+/// A keeper that writes the record leaves what a life leaves, wherever the engine stopped: by what
+/// its calls do and by the order in which the engine makes them. This function does nothing: its
+/// contract is the law.
+pub fn keepers_leave()
+    ensures { KeepersLeave }
 {}

@@ -8,4 +8,6 @@
 
 mod law;
 
-pub use law::{fronts_are_stopped, lives_are_trusted, records_are_fronts, sessions_are_lives};
+pub use law::{
+    fronts_are_stopped, keepers_leave, lives_are_trusted, records_are_fronts, sessions_are_lives,
+};

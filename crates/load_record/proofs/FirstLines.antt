@@ -1,12 +1,12 @@
 -- In version 1 the lines of a record are one for each word, and then the mark.
 use Rattle.std.proofs.Common.{◌≡◌, ℕ, ◌+◌, ◌≤◌, Bool, true, false, cond, List, [], ◌∷◌, ◌++◌, length, map, take, drop, None, arith, ap, sym, refl, ◌∙◌, subst, append-nil, zero-add, length-append, length-drop, length-take-le, take-append-drop, inl, inr}
 use Rattle.std.proofs.lemmas.List.{take_at, nil_from_length}
-use Rattle.tape_image.specs.Word.{WordValue}
+use Rattle.tape_image.specs.Word.{WordValue, word_fields}
 use Rattle.tape_image.specs.Plan.{PlanValue}
 use Rattle.host_core.specs.declared.progress.Progress.{Progress}
 use Rattle.host_core.specs.Opening.{refusal_of}
 use Rattle.load_record.specs.declared.version.Version.TheVariants.{First}
-use Rattle.load_record.specs.Lines.{word_fields, mark_line}
+use Rattle.load_record.specs.Lines.{mark_line}
 use Rattle.load_record.specs.Reading.{Adds, AddsWords, AddsMark, Lead, nothing}
 use Rattle.load_record.specs.Law.{first_lines}
 use Rattle.load_record.proofs.Sound.{IsSound, nothing-sound, adds_sound, sound-accepted, accepted-sound}

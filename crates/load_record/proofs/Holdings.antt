@@ -7,10 +7,10 @@ use Rattle.std.proofs.lemmas.Slice.Eq.{bytes_eq-Decides}
 use Rattle.std.specs.Int.{from_bool}
 use Rattle.std.specs.List.{slice_get}
 use Rattle.std.specs.Str.{bytes_eq}
-use Rattle.tape_image.specs.Word.{WordValue}
+use Rattle.tape_image.specs.Word.{WordValue, word_fields}
 use Rattle.load_record.specs.declared.version.Version.{Version}
 use Rattle.load_record.specs.declared.version.Version.TheVariants.{First, Second}
-use Rattle.load_record.specs.Lines.{word_fields, half_line, run_text, is_full, IsRun, IsHalfLine, IsRunLine, HoldsWords}
+use Rattle.load_record.specs.Lines.{half_line, run_text, is_full, IsRun, IsHalfLine, IsRunLine, HoldsWords}
 use Rattle.load_record.specs.Reading.{torn_words, run_words, HoldsCount}
 use Rattle.load_record.proofs.Runs.{Torn, torn, torn_few, run_counted, no_half_run, length-run_text}
 
@@ -24,13 +24,6 @@ holds_some First line words h = let e = ap length h.alone in omega arith
 holds_some Second line words (inl h) = let e = ap length h.alone in omega arith
 holds_some Second line [] (inr h) = absurd h.run
 holds_some Second line (w ∷ words) (inr h) = omega arith
-
-pub held_none : (version : Version) (line : List ℕ) → HoldsCount version line [] 0
-held_none version line = record {
-  few = omega arith;
-  holds = λ some. absurd (omega arith);
-  only = λ words later next h. let some = holds_some version line words h in let e = ap length next ∙ length-append words later in omega arith;
-}
 
 pub word_held : (line : List ℕ) (w : WordValue) (ws : List WordValue) → line ≡ word_fields w → HoldsCount First line (w ∷ ws) 1
 word_held line w ws spelled = record {

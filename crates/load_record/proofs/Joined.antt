@@ -5,10 +5,10 @@ use Rattle.std.proofs.lemmas.List.Splits.{slice_split_none, slice_split_at}
 use Rattle.std.proofs.lemmas.List.Elements.{All-nil, All-cons}
 use Rattle.std.proofs.lemmas.Bool.Decides.{nat_tests}
 use Rattle.octal.specs.Octal.{octal_text}
-use Rattle.tape_image.specs.Word.{WordValue}
+use Rattle.tape_image.specs.Word.{WordValue, word_fields}
 use Rattle.load_record.specs.declared.version.Version.{Version}
 use Rattle.load_record.specs.declared.version.Version.TheVariants.{First, Second}
-use Rattle.load_record.specs.Lines.{header, word_fields, value_text, values_text, run_text, HoldsWords}
+use Rattle.load_record.specs.Lines.{header, value_text, values_text, run_text, HoldsWords}
 use Rattle.load_record.specs.Reading.{is_line_end}
 
 -- no LF stands in the text

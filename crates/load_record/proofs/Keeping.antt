@@ -9,12 +9,12 @@ use Rattle.load_devices.specs.declared.fault.KeepFault.{KeepFault}
 use Rattle.load_devices.specs.declared.fault.KeepFault.TheVariants.{Write}
 use Rattle.load_record.specs.declared.version.Version.TheVariants.{Second}
 use Rattle.load_record.specs.declared.run.OpenRun.{OpenRun}
-use Rattle.command_io.specs.declared.output.WriteFailed.{WriteFailed}
-use Rattle.command_io.specs.Output.{WritesPrefix}
+use Rattle.byte_io.specs.declared.output.WriteFault.{WriteFault}
+use Rattle.byte_io.specs.Output.{WritesProperPrefix}
 use Rattle.load_record.specs.Keeper.{Keeper, Wrote, Failed, HoldsRecord}
 use Rattle.load_record.specs.RecordText.{second_piece, second_run, words_text}
 use Rattle.load_record.proofs.Pieces.{words_text-more, open_run-more}
-use Rattle.command_io.proofs.Fronts.{front_prefix, front_whole}
+use Rattle.byte_io.proofs.Fronts.{front_prefix, front_whole}
 use Rattle.load_record.proofs.Writing.{Appends-kept, front_kept, no_front}
 
 -- what a call answers, and how it leaves the count
@@ -38,8 +38,8 @@ failed_before before after (Err fault) text had counts kept =
     (counts.0, record { counted = counts.1; part = no_front before.text after.text text kept; silent = λ h. kept })
 
 -- a call whose write failed, or whose flush
-pub failed_now : (before after : Keeper) (between : Option (List ℕ)) (written : Result (Option OpenRun) WriteFailed) (result : Result (Unit {0}) KeepFault) (text : List ℕ) (run : Option OpenRun)
-    → before.failures ≤ 0 → IfOk written (λ now_open. (now_open ≡ run) × Appends before.text between text) → OnErr written (WritesPrefix before.text between text)
+pub failed_now : (before after : Keeper) (between : Option (List ℕ)) (written : Result (Option OpenRun) WriteFault) (result : Result (Unit {0}) KeepFault) (text : List ℕ) (run : Option OpenRun)
+    → before.failures ≤ 0 → IfOk written (λ now_open. (now_open ≡ run) × Appends before.text between text) → OnErr written (WritesProperPrefix before.text between text)
     → Keeps between after.text → Counts before after result → FailsAs before after result text
 failed_now before after between written (Ok x) text run none ok err kept counts = tt
 failed_now before after between (Ok now_open) (Err fault) text run none ok err kept counts =
@@ -48,7 +48,7 @@ failed_now before after between (Err failed) (Err fault) text run none ok err ke
     (counts.0, record { counted = counts.1; part = front_kept before.text between after.text text (front_prefix before.text between text err) kept; silent = λ had. absurd (omega arith) })
 
 -- a call that wrote its text
-pub wrote_now : (before after : Keeper) (between : Option (List ℕ)) (written : Result (Option OpenRun) WriteFailed) (result : Result (Unit {0}) KeepFault) (text : List ℕ) (run : Option OpenRun)
+pub wrote_now : (before after : Keeper) (between : Option (List ℕ)) (written : Result (Option OpenRun) WriteFault) (result : Result (Unit {0}) KeepFault) (text : List ℕ) (run : Option OpenRun)
     → before.failures ≤ 0 → IfOk written (λ now_open. (now_open ≡ run) × Appends before.text between text) → Keeps between after.text
     → OnOk result (IfOk written (λ now_open. after.run ≡ now_open) × IsOk written × (after.failures ≡ before.failures)) → OnOk result (Wrote before after text run)
 wrote_now before after between written (Err fault) text run none ok kept settled = tt

@@ -10,8 +10,8 @@ use Rattle.tape_image.specs.Plan.{PlanValue}
 use Rattle.load_record.specs.declared.version.Version.{Version}
 use Rattle.load_record.specs.declared.version.Version.TheVariants.{Second}
 use Rattle.load_record.specs.declared.run.OpenRun.{OpenRun}
-use Rattle.command_io.specs.Output.{WritesPrefix}
-use Rattle.command_io.proofs.Fronts.{prefix_behind}
+use Rattle.byte_io.specs.Output.{WritesProperPrefix}
+use Rattle.byte_io.proofs.Fronts.{prefix_behind}
 use Rattle.load_record.specs.Lines.{header, half_line, value_text, run_text, is_full}
 use Rattle.load_record.specs.RecordText.{ending, joins, begun_text, second_piece, second_run, piece, run_after, pieces, run_over, open_run, words_text}
 
@@ -78,7 +78,7 @@ pieces_around words i w run within at now_open =
     ∙ ap (λ r. pieces Second None (take i words) ++ (second_piece r w ++ pieces Second (second_run r w) (drop (i + 1) words))) (sym now_open)
 
 -- a prefix of a text is one of a longer text
-prefix_more : (before after : Option (List ℕ)) (text more : List ℕ) → WritesPrefix before after text → WritesPrefix before after (text ++ more)
+prefix_more : (before after : Option (List ℕ)) (text more : List ℕ) → WritesProperPrefix before after text → WritesProperPrefix before after (text ++ more)
 prefix_more before after text more (left, missing, w) = (
   left ++ more,
   omega (arith, length-append left more, missing),
@@ -87,9 +87,9 @@ prefix_more before after text more (left, missing, w) = (
 
 -- a word of some words failed
 pub words_prefix : (words : List WordValue) (i : ℕ) (w : WordValue) (run : Option OpenRun) (a b c : Option (List ℕ)) → i < length words → w ≡ get_or words i w → run ≡ run_over Second None (take i words)
-    → Appends a b (pieces Second None (take i words)) → WritesPrefix b c (second_piece run w) → WritesPrefix a c (pieces Second None words)
+    → Appends a b (pieces Second None (take i words)) → WritesProperPrefix b c (second_piece run w) → WritesProperPrefix a c (pieces Second None words)
 words_prefix words i w run a b c within at now_open before part =
-    subst (WritesPrefix a c) (sym (pieces_around words i w run within at now_open))
+    subst (WritesProperPrefix a c) (sym (pieces_around words i w run within at now_open))
     (prefix_behind a b c (pieces Second None (take i words)) (second_piece run w ++ pieces Second (second_run run w) (drop (i + 1) words)) before
     (prefix_more b c (second_piece run w) (pieces Second (second_run run w) (drop (i + 1) words)) part))
 
@@ -111,16 +111,16 @@ begin_text run plan k =
     append_assoc (ending run) (header Second ++ 10 ∷ []) (pieces Second None (take k plan.words)) ∙ ap (λ l. ending run ++ l) (sym (words_text-of plan k))
 
 -- the header failed
-pub header_prefix : (run : Option OpenRun) (plan : PlanValue) (k : ℕ) (a b : Option (List ℕ)) → WritesPrefix a b (ending run ++ (header Second ++ 10 ∷ []))
-    → WritesPrefix a b (ending run ++ words_text Second plan k)
+pub header_prefix : (run : Option OpenRun) (plan : PlanValue) (k : ℕ) (a b : Option (List ℕ)) → WritesProperPrefix a b (ending run ++ (header Second ++ 10 ∷ []))
+    → WritesProperPrefix a b (ending run ++ words_text Second plan k)
 header_prefix run plan k a b part =
-    subst (WritesPrefix a b) (begin_text run plan k) (prefix_more a b (ending run ++ (header Second ++ 10 ∷ [])) (pieces Second None (take k plan.words)) part)
+    subst (WritesProperPrefix a b) (begin_text run plan k) (prefix_more a b (ending run ++ (header Second ++ 10 ∷ [])) (pieces Second None (take k plan.words)) part)
 
 -- the words behind the header failed
 pub begin_prefix : (run : Option OpenRun) (plan : PlanValue) (k : ℕ) (words : List WordValue) (a b c : Option (List ℕ)) → words ≡ take k plan.words
-    → Appends a b (ending run ++ (header Second ++ 10 ∷ [])) → WritesPrefix b c (pieces Second None words) → WritesPrefix a c (ending run ++ words_text Second plan k)
+    → Appends a b (ending run ++ (header Second ++ 10 ∷ [])) → WritesProperPrefix b c (pieces Second None words) → WritesProperPrefix a c (ending run ++ words_text Second plan k)
 begin_prefix run plan k words a b c these head part =
-    subst (WritesPrefix a c) (ap (λ l. (ending run ++ (header Second ++ 10 ∷ [])) ++ pieces Second None l) these ∙ begin_text run plan k)
+    subst (WritesProperPrefix a c) (ap (λ l. (ending run ++ (header Second ++ 10 ∷ [])) ++ pieces Second None l) these ∙ begin_text run plan k)
     (prefix_behind a b c (ending run ++ (header Second ++ 10 ∷ [])) (pieces Second None words) head part)
 
 -- header and words are written

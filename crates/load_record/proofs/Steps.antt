@@ -3,8 +3,7 @@ use Rattle.std.proofs.Common.{◌≡◌, ◌↔◌, ℕ, ◌+◌, ◌<◌, List,
 use Rattle.tape_image.specs.Plan.{PlanValue}
 use Rattle.host_core.specs.declared.progress.Progress.{Progress}
 use Rattle.load_record.specs.declared.version.Version.{Version}
-use Rattle.load_record.specs.Reading.{HoldsCount, Adds, AddsMark}
-use Rattle.load_record.proofs.Holdings.{holds_some}
+use Rattle.load_record.specs.Reading.{HoldsCount, Adds}
 
 -- a progress with so many words more
 abbrev further : Progress → ℕ → Progress
@@ -28,10 +27,3 @@ adds_words version plan line before count h some after =
         | inr m ↦ absurd (let l = length-drop before.verified plan.words in let f = h.few in let a = m.due.all in omega arith)
       ],
     )
-
--- a line that holds no word adds the mark at most
-pub only_mark : (version : Version) (plan : PlanValue) (line : List ℕ) (before after : Progress)
-    → HoldsCount version line (drop before.verified plan.words) 0 → Adds version plan line before after → AddsMark plan line before after
-only_mark version plan line before after h (inr m) = m
-only_mark version plan line before after h (inl w) =
-    absurd (let some = holds_some version line w.words w.holds in let none = h.only w.words w.later w.next w.holds in omega arith)

@@ -2,7 +2,7 @@
 use Rattle.std.proofs.Common.{◌≡◌, ℕ, List, [], Option, Some, None, refl, ◌∙◌, subst, Result, Ok, Err, OnOk, OnErr, IfOk}
 use Rattle.std.proofs.KnownBytes.{Appends-nil}
 use Rattle.std.specs.Io.KnownBytes.{Appends, Keeps}
-use Rattle.command_io.specs.Output.{WritesFront, WritesPrefix}
+use Rattle.byte_io.specs.Output.{WritesPrefix, WritesProperPrefix}
 
 -- what was written stays
 pub Appends-kept : (a b c : Option (List ℕ)) (text : List ℕ) → Appends a b text → Keeps b c → Appends a c text
@@ -12,11 +12,11 @@ Appends-kept (Some x) (Some y) None text p q = absurd q
 Appends-kept (Some x) (Some y) (Some z) text p q = q ∙ p
 
 -- a front of nothing new
-pub no_front : (a b : Option (List ℕ)) (text : List ℕ) → Keeps a b → WritesFront a b text
+pub no_front : (a b : Option (List ℕ)) (text : List ℕ) → Keeps a b → WritesPrefix a b text
 no_front a b text kept = (text, record { written = []; whole = refl; appended = Appends-kept a a b [] (Appends-nil a) kept })
 
 -- a front stays written
-pub front_kept : (a b c : Option (List ℕ)) (text : List ℕ) → WritesFront a b text → Keeps b c → WritesFront a c text
+pub front_kept : (a b c : Option (List ℕ)) (text : List ℕ) → WritesPrefix a b text → Keeps b c → WritesPrefix a c text
 front_kept a b c text part kept = (
   part.0,
   record {
@@ -48,5 +48,5 @@ on_ok_map (Ok x) P Q f p = f p
 on_ok_map (Err e) P Q f p = tt
 
 -- a prefix of an equal text
-pub err_same : {T E : Type 0} (r : Result T E) (a b : Option (List ℕ)) (text other : List ℕ) → text ≡ other → OnErr r (WritesPrefix a b text) → OnErr r (WritesPrefix a b other)
-err_same r a b text other e h = subst (λ l. OnErr r (WritesPrefix a b l)) e h
+pub err_same : {T E : Type 0} (r : Result T E) (a b : Option (List ℕ)) (text other : List ℕ) → text ≡ other → OnErr r (WritesProperPrefix a b text) → OnErr r (WritesProperPrefix a b other)
+err_same r a b text other e h = subst (λ l. OnErr r (WritesProperPrefix a b l)) e h

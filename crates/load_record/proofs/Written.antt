@@ -3,13 +3,13 @@ use Rattle.std.proofs.Common.{◌≡◌, ℕ, ◌+◌, true, false, cond, ◌&&�
 use Rattle.std.proofs.lemmas.List.{drop-drop, drop_at}
 use Rattle.std.proofs.lemmas.Bool.Decides.{nat_tests}
 use Rattle.octal.specs.Octal.{octal_text}
-use Rattle.tape_image.specs.Word.{WordValue}
+use Rattle.tape_image.specs.Word.{WordValue, word_fields}
 use Rattle.tape_image.specs.Plan.{PlanValue}
 use Rattle.host_core.specs.declared.progress.Progress.{Progress}
 use Rattle.load_record.specs.declared.version.Version.{Version}
 use Rattle.load_record.specs.declared.version.Version.TheVariants.{First, Second}
 use Rattle.load_record.specs.declared.run.OpenRun.{OpenRun}
-use Rattle.load_record.specs.Lines.{header, word_fields, half_line, value_text, values_text, run_text, is_full, run_at, longer, goes_on, GoOn, IsRun, HoldsWords}
+use Rattle.load_record.specs.Lines.{header, half_line, value_text, values_text, run_text, is_full, run_at, longer, goes_on, GoOn, IsRun, HoldsWords}
 use Rattle.load_record.specs.RecordText.{ending, begun_text, begun_run, second_piece, second_run, piece, run_after, pieces, run_over, open_run, words_text}
 use Rattle.load_record.specs.Reading.{Lead, nothing}
 use Rattle.load_record.proofs.Joined.{joined, joined-append, joined-ended}

@@ -1,12 +1,13 @@
 -- A keeper that writes a record of version 2, as one value, and what its calls do to it.
-use Rattle.std.specs.Prelude.{◌≡◌, ℕ, ◌+◌, ◌-◌, ◌^◌, ◌<◌, min, nat_lt, if◌then◌else◌, false, List, Option, Some, None}
+use Rattle.std.specs.Prelude.{◌≡◌, ℕ, ◌<◌, nat_lt, if◌then◌else◌, false, List, Option, Some, None}
 use Rattle.std.specs.Io.KnownBytes.{Appends, Keeps}
-use Rattle.command_io.specs.Output.{WritesFront}
+use Rattle.byte_io.specs.Output.{WritesPrefix}
 use Rattle.tape_image.specs.Plan.{PlanValue}
 use Rattle.load_devices.specs.declared.item.Kept.{Kept}
 use Rattle.load_devices.specs.declared.item.Kept.TheVariants.{Word, Go}
 use Rattle.load_devices.specs.declared.fault.KeepFault.{KeepFault}
 use Rattle.load_devices.specs.declared.fault.KeepFault.TheVariants.{Write}
+use Rattle.load_devices.specs.Failures.{one_more}
 use Rattle.load_record.specs.declared.version.Version.TheVariants.{Second}
 use Rattle.load_record.specs.declared.run.OpenRun.{OpenRun}
 use Rattle.load_record.specs.RecordText.{open_run, record_text, second_piece, second_run, mark_text}
@@ -30,8 +31,8 @@ pub record Wrote (before after : Keeper) (text : List ℕ) (run : Option OpenRun
 
 -- a call that fails is counted; it has written a front of its text, and nothing where a call had failed before
 pub record Failed (before after : Keeper) (text : List ℕ) : Type 0 where
-  pub counted : after.failures ≡ min (before.failures + 1) (2 ^ 64 - 1)
-  pub part : WritesFront before.text after.text text
+  pub counted : after.failures ≡ one_more before.failures
+  pub part : WritesPrefix before.text after.text text
   pub silent : 0 < before.failures → Keeps before.text after.text
 
 -- the writer holds the record of the first k words of a plan and nothing else, and the keeper knows which run line

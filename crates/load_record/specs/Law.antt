@@ -1,11 +1,12 @@
 -- Laws of both versions of a record.
 use Rattle.std.specs.Prelude.{◌≡◌, ◌↔◌, ℕ, ◌≤◌, Bool, true, if◌then◌else◌, List, [], ◌∷◌, ◌++◌, take, map, None, Ok}
 use Rattle.tape_image.specs.Plan.{PlanValue, IsPlan}
+use Rattle.tape_image.specs.Word.{word_fields}
 use Rattle.host_core.specs.declared.progress.Progress.{Progress}
 use Rattle.host_core.specs.Opening.{refusal_of}
 use Rattle.load_record.specs.declared.version.Version.{Version}
 use Rattle.load_record.specs.declared.version.Version.TheVariants.{First}
-use Rattle.load_record.specs.Lines.{word_fields, mark_line}
+use Rattle.load_record.specs.Lines.{mark_line}
 use Rattle.load_record.specs.RecordText.{record_text}
 use Rattle.load_record.specs.Reading.{Lead, Says, nothing}
 

@@ -1,7 +1,7 @@
 -- The lines of a record, in both versions. Their forms are this project's choice (docs/RECORD.md).
-use Rattle.std.specs.Prelude.{◌≡◌, ℕ, ◌+◌, Bool, false, ◌&&◌, ◌==◌, nat_lt, IsTrue, ◌⊎◌, List, [], ◌∷◌, ◌++◌, codes}
+use Rattle.std.specs.Prelude.{◌≡◌, ℕ, ◌+◌, Bool, false, ◌&&◌, ◌==◌, nat_lt, IsTrue, ◌⊎◌, List, [], ◌∷◌, ◌++◌, codes, ⊤}
 use Rattle.octal.specs.Octal.{octal_text}
-use Rattle.tape_image.specs.Word.{WordValue}
+use Rattle.tape_image.specs.Word.{WordValue, word_fields}
 use Rattle.load_record.specs.declared.version.Version.{Version}
 use Rattle.load_record.specs.declared.version.Version.TheVariants.{First, Second}
 use Rattle.load_record.specs.declared.run.OpenRun.{OpenRun}
@@ -14,10 +14,6 @@ header Second = codes "LDAODT 2"
 -- the line of the mark
 abbrev pub mark_line : List ℕ
 mark_line = codes "G"
-
--- a word by its address, mask and value, one space between
-abbrev pub word_fields : WordValue → List ℕ
-word_fields w = octal_text w.address ++ 32 ∷ (octal_text w.mask ++ 32 ∷ octal_text w.value)
 
 -- in version 2, the line of a word of which the tape has one byte alone
 abbrev pub half_line : WordValue → List ℕ
@@ -55,7 +51,7 @@ goes_on run w = w.address == run.next && (nat_lt run.count 16 && is_full w)
 
 -- the words go on a run line one after another
 abbrev pub GoOn : OpenRun → List WordValue → Type 0
-GoOn run [] = Unit {0}
+GoOn run [] = ⊤
 GoOn run (w ∷ ws) = IsTrue (goes_on run w) × GoOn (longer run) ws
 
 -- the words of a run line: one to 16 full words at consecutive even addresses

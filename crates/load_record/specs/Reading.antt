@@ -1,5 +1,6 @@
 -- What a text says as the record of a plan's load.
-use Rattle.std.specs.Prelude.{◌≡◌, ◌≢◌, ℕ, ◌+◌, ◌*◌, ◌<◌, ◌≤◌, ◌⊎◌, Bool, true, false, ◌&&◌, ◌==◌, if◌then◌else◌, nat_eq, List, [], ◌∷◌, ◌++◌, length, take, drop, IsSome, Result, Ok, Err}
+use Rattle.std.specs.Prelude.{◌≡◌, ◌≢◌, ℕ, ◌+◌, ◌*◌, ◌<◌, ◌≤◌, ◌⊎◌, Bool, true, false, ◌&&◌, ◌==◌, if◌then◌else◌, nat_eq}
+use Rattle.std.specs.Prelude.{List, [], ◌∷◌, ◌++◌, length, take, drop, IsSome, Result, Ok, Err}
 use Rattle.std.specs.List.{slice_split, starts_with}
 use Rattle.octal.specs.Octal.{octal_text}
 use Rattle.tape_image.specs.Word.{WordValue}
@@ -114,8 +115,12 @@ pub record IsForeign (plan : PlanValue) (text : List ℕ) (number : ℕ) : Type 
   pub wrong : (after : Progress) → Adds version plan line reached after → ⊥
   pub number_is : number ≡ length lines + 2
 
--- what a text of at most 1,048,576 bytes says; a longer one is no record
+-- the most bytes that a record may have: more than that of 28,672 words in either version (this project's choice)
+abbrev pub record_limit : ℕ
+record_limit = 1048576
+
+-- what a text of no more bytes than that says; a longer one is no record
 abbrev pub Says : PlanValue → List ℕ → Result Progress RecordError → Type 0
-Says plan text (Ok progress) = (length text ≤ 1048576) × (IsEmptyRecord text progress ⊎ IsRecord plan text progress)
-Says plan text (Err NotARecord) = (1048576 < length text) ⊎ ((length text ≤ 1048576) × HasNoHeader text)
-Says plan text (Err (Foreign number)) = (length text ≤ 1048576) × IsForeign plan text number
+Says plan text (Ok progress) = (length text ≤ record_limit) × (IsEmptyRecord text progress ⊎ IsRecord plan text progress)
+Says plan text (Err NotARecord) = (record_limit < length text) ⊎ ((length text ≤ record_limit) × HasNoHeader text)
+Says plan text (Err (Foreign number)) = (length text ≤ record_limit) × IsForeign plan text number

@@ -1,11 +1,11 @@
 -- The text of a record: how the words of a plan are written one after another, and the mark.
 use Rattle.std.specs.Prelude.{ℕ, Bool, true, false, if◌then◌else◌, List, [], ◌∷◌, ◌++◌, take, Option, Some, None}
-use Rattle.tape_image.specs.Word.{WordValue}
+use Rattle.tape_image.specs.Word.{WordValue, word_fields}
 use Rattle.tape_image.specs.Plan.{PlanValue}
 use Rattle.load_record.specs.declared.version.Version.{Version}
 use Rattle.load_record.specs.declared.version.Version.TheVariants.{First, Second}
 use Rattle.load_record.specs.declared.run.OpenRun.{OpenRun}
-use Rattle.load_record.specs.Lines.{header, mark_line, word_fields, half_line, value_text, run_text, is_full, run_at, longer, goes_on}
+use Rattle.load_record.specs.Lines.{header, mark_line, half_line, value_text, run_text, is_full, run_at, longer, goes_on}
 
 -- LF behind the run line that stands open, if one does
 abbrev pub ending : Option OpenRun → List ℕ

@@ -2,6 +2,7 @@
 ghost use Rattle.std.specs.Prelude.{◌≡◌, [], ◌++◌, ℕ, ◌+◌, ◌-◌, ◌^◌, min, ◌<◌, ◌↔◌, IsTrue, IsOk, OnOk, OnErr, IfOk, IfErr, Some, None, slice_get, true, false};
 ghost use Rattle.std.specs.Io.KnownBytes.{Keeps};
 ghost use Rattle.tape_image.specs.Plan.{PlanValue};
+ghost use Rattle.load_devices.specs.Failures.{one_more};
 ghost use Rattle.load_devices.specs.declared.fault.KeepFault.{KeepFault};
 ghost use Rattle.load_record.specs.declared.version.Version.TheVariants.{Second};
 ghost use Rattle.load_record.specs.Keeper.{Failed, HasCutShort, HasKept, HoldsRecord, Wrote, fault_now};
@@ -9,7 +10,7 @@ ghost use Rattle.load_record.specs.RecordText.{ending, mark_text, open_run, reco
 
 use crate::output::{write_begin, write_mark, write_word};
 use crate::run::OpenRun;
-use command_io::WriteFailed;
+use byte_io::WriteFault;
 use load_devices::{Keep, KeepFault};
 use std::io::Write;
 use std::marker::Model;
@@ -57,12 +58,14 @@ impl<W: Write> FileKeep<W> {
     /// Begins the record of a plan: the header and the first `verified` words, or all where the plan
     /// has fewer. A run line that stands open is ended first. A fault counts as one of `add` does.
     pub fn begin(&mut self, plan: &Plan, verified: u32) -> Result<(), KeepFault>
-        ensures ok { OnOk result (Wrote self.old self.new (ending self.old.run ++ record_text Second plan.now verified false) (open_run Second plan.now verified)) }
-        ensures err { IfErr result (λ fault. (fault ≡ KeepFault.Write) × Failed self.old self.new (ending self.old.run ++ record_text Second plan.now verified false)) }
+        ensures ok { OnOk result
+            (Wrote self.old self.new (ending self.old.run ++ record_text Second plan.now verified false) (open_run Second plan.now verified)) }
+        ensures err { IfErr result (λ fault. (fault ≡ KeepFault.Write)
+            × Failed self.old self.new (ending self.old.run ++ record_text Second plan.now verified false)) }
         ensures begins { OnOk result (self.old.text ≡ Some [] → self.old.run ≡ None → HoldsRecord self.new plan.now verified) }
     {
         if self.is_broken() {
-            return self.settle(Err(WriteFailed));
+            return self.settle(Err(WriteFault));
         }
         let outcome = write_begin(&mut self.writer, self.run, plan, verified);
         self.settle(outcome)
@@ -83,9 +86,9 @@ impl<W: Write> FileKeep<W> {
     }
 
     // Flushes what a call wrote, and takes note of the run line that stands open, or of the fault.
-    fn settle(&mut self, written: Result<Option<OpenRun>, WriteFailed>) -> Result<(), KeepFault>
+    fn settle(&mut self, written: Result<Option<OpenRun>, WriteFault>) -> Result<(), KeepFault>
         ensures ok { OnOk result (IfOk written (λ run. self.new.run ≡ run) × IsOk written × (self.new.failures ≡ self.old.failures)) }
-        ensures err { IfErr result (λ fault. (fault ≡ KeepFault.Write) × (self.new.failures ≡ min (self.old.failures + 1) (2 ^ 64 - 1))) }
+        ensures err { IfErr result (λ fault. (fault ≡ KeepFault.Write) × (self.new.failures ≡ one_more self.old.failures)) }
         ensures text { Keeps self.old.text self.new.text }
     {
         if let Ok(run) = written
@@ -111,10 +114,11 @@ impl<W: Write> Keep for FileKeep<W> {
     fn add(&mut self, word: Word) -> Result<(), KeepFault>
         ensures ok { OnOk result (Wrote self.old self.new (second_piece self.old.run word) (second_run self.old.run word)) }
         ensures err { IfErr result (λ fault. (fault ≡ KeepFault.Write) × Failed self.old self.new (second_piece self.old.run word)) }
-        ensures adds { OnOk result ((plan : PlanValue) (k : ℕ) → HoldsRecord self.old plan k → slice_get plan.words k ≡ Some word → HoldsRecord self.new plan (k + 1)) }
+        ensures adds { OnOk result ((plan : PlanValue) (k : ℕ)
+            → HoldsRecord self.old plan k → slice_get plan.words k ≡ Some word → HoldsRecord self.new plan (k + 1)) }
     {
         if self.is_broken() {
-            return self.settle(Err(WriteFailed));
+            return self.settle(Err(WriteFault));
         }
         let outcome = write_word(&mut self.writer, self.run, word);
         self.settle(outcome)
@@ -126,7 +130,7 @@ impl<W: Write> Keep for FileKeep<W> {
         ensures marks { OnOk result ((plan : PlanValue) (k : ℕ) → HoldsRecord self.old plan k → self.new.text ≡ Some (record_text Second plan k true)) }
     {
         if self.is_broken() {
-            return self.settle(Err(WriteFailed));
+            return self.settle(Err(WriteFault));
         }
         let outcome = write_mark(&mut self.writer, self.run);
         self.settle(outcome)

@@ -1,6 +1,7 @@
 //! What the lines of a record look like, by the word.
 ghost use Rattle.std.specs.Prelude.{◌≡◌, [], ◌∷◌, ◌++◌};
-ghost use Rattle.load_record.specs.Lines.{half_line, run_text, value_text, word_fields};
+ghost use Rattle.tape_image.specs.Word.{word_fields};
+ghost use Rattle.load_record.specs.Lines.{half_line, run_text, value_text};
 
 use octal::oct6;
 use tape_image::Word;

@@ -18,10 +18,10 @@ use thiserror::Error;
 /// The most bytes that a record may have.
 pub const RECORD_LIMIT: usize = 1_048_576;
 
-/// How many bytes a run line has before the first value.
+// How many bytes a run line has before the first value.
 const RUN_HEAD: usize = 6;
 
-/// How many bytes a run line has for each value.
+// How many bytes a run line has for each value.
 const RUN_VALUE: usize = 7;
 
 /// Why a text is not read as a record of a load.
@@ -76,23 +76,24 @@ pub fn read_record(input: &[u8], plan: &Plan) -> Result<Progress, RecordError>
     Ok(progress)
 }
 
-/// Where the first LF stands.
+// Where the first LF stands.
 fn line_end(text: &[u8]) -> Option<usize>
     ensures { result ≡ position is_line_end text.now }
 {
     text.iter().position(|c| *c == b'\n')
 }
 
-/// The first line without its LF, and what follows that. None where there is no LF.
+// The first line without its LF, and what follows that. None where there is no LF.
 fn first_line(text: &[u8]) -> Option<(&[u8], &[u8])>
-    ensures cut { MatchOption result (slice_split is_line_end text.now ≡ text.now ∷ []) (λ parts. slice_split is_line_end text.now ≡ parts.0.now ∷ slice_split is_line_end parts.1.now) }
+    ensures cut { MatchOption result (slice_split is_line_end text.now ≡ text.now ∷ [])
+        (λ parts. slice_split is_line_end text.now ≡ parts.0.now ∷ slice_split is_line_end parts.1.now) }
     ensures shorter { IfSome result (λ parts. length parts.1.now < length text.now) }
 {
     let end = line_end(text)?;
     Some((&text[..end], &text[end + 1..]))
 }
 
-/// The words of the plan that a progress has not reached.
+// The words of the plan that a progress has not reached.
 fn words_after(plan: &Plan, progress: Progress) -> &[Word]
     requires { progress.verified ≤ length plan.now.words }
     ensures words { result.now ≡ drop progress.verified plan.now.words }
@@ -101,7 +102,7 @@ fn words_after(plan: &Plan, progress: Progress) -> &[Word]
     &plan.words()[progress.verified as usize..]
 }
 
-/// The progress after one more line. None where the line is neither the next words nor a due mark.
+// The progress after one more line. None where the line is neither the next words nor a due mark.
 fn read_line(version: Version, plan: &Plan, before: Progress, line: &[u8]) -> Option<Progress>
     requires { before.verified ≤ length plan.now.words }
     ensures exact { (after : Progress) → (result ≡ Some after) ↔ Adds version plan.now line.now before after }
@@ -122,14 +123,14 @@ fn read_line(version: Version, plan: &Plan, before: Progress, line: &[u8]) -> Op
     None
 }
 
-/// Whether the mark may come now: it has not come, all words have, and the plan has a start.
+// Whether the mark may come now: it has not come, all words have, and the plan has a start.
 fn is_mark_due(plan: &Plan, progress: Progress) -> bool
     ensures { IsTrue result ↔ IsMarkDue plan.now progress }
 {
     !progress.going && progress.verified as usize == plan.words().len() && plan.start().is_some()
 }
 
-/// How many of the next words a whole line holds: 0 where it is none of their lines.
+// How many of the next words a whole line holds: 0 where it is none of their lines.
 fn words_held(version: Version, next: &[Word], line: &[u8]) -> usize
     ensures { HoldsCount version line.now next.now result }
 {
@@ -143,7 +144,7 @@ fn words_held(version: Version, next: &[Word], line: &[u8]) -> usize
     }
 }
 
-/// How many of the next words a whole run line holds: 0 where it is none.
+// How many of the next words a whole run line holds: 0 where it is none.
 fn run_words(next: &[Word], line: &[u8]) -> usize
     ensures { result ≡ run_words next.now line.now }
 {
@@ -155,7 +156,7 @@ fn run_words(next: &[Word], line: &[u8]) -> usize
     }
 }
 
-/// How many of the next words a torn piece holds: in version 2 it may be the beginning of a run line.
+// How many of the next words a torn piece holds: in version 2 it may be the beginning of a run line.
 fn torn_words(version: Version, next: &[Word], torn: &[u8]) -> usize
     ensures count { result ≡ torn_words version next.now torn.now }
     ensures few { result ≤ length next.now }
@@ -166,7 +167,7 @@ fn torn_words(version: Version, next: &[Word], torn: &[u8]) -> usize
     }
 }
 
-/// How many of the next words stand whole in the beginning of a run line.
+// How many of the next words stand whole in the beginning of a run line.
 fn words_begun(next: &[Word], begun: &[u8]) -> usize
     ensures count { result ≡ torn_words Second next.now begun.now }
     ensures few { result ≤ length next.now }
@@ -180,8 +181,8 @@ fn words_begun(next: &[Word], begun: &[u8]) -> usize
     usize::from(held(OpenRun::at(word.address()), next, &begun[RUN_HEAD..]))
 }
 
-/// How many words a run line has once each of the next words is added whose value stands next in the
-/// text.
+// How many words a run line has once each of the next words is added whose value stands next in the
+// text.
 fn held(begun: OpenRun, next: &[Word], text: &[u8]) -> u8
     ensures { result ≡ held begun next.now text.now }
 {

@@ -3,10 +3,10 @@ ghost use Rattle.load_record.specs.Lines.{goes_on, is_full, longer, run_at};
 
 use tape_image::Word;
 
-/// The most words of a run line.
+// The most words of a run line.
 const LONGEST_RUN: u8 = 16;
 
-/// The mask of a word of which the tape has both bytes.
+// The mask of a word of which the tape has both bytes.
 const BOTH_BYTES: u16 = 0o177777;
 
 /// The run line that stands open at a record's end: full words at consecutive addresses.

@@ -3,7 +3,7 @@ use Rattle.std.proofs.Common.{◌≡◌, ℕ, ◌+◌, ◌*◌, ◌<◌, ◌≤�
 use Rattle.std.proofs.lemmas.Bool.{false≢true}
 use Rattle.std.proofs.lemmas.Bool.Decides.{nat_tests}
 use Rattle.std.specs.Char.{digit_value}
-use Rattle.std.proofs.lemmas.List.{length-append, append_cancel_left}
+use Rattle.std.proofs.lemmas.List.{append_cancel_left}
 use Rattle.loss_scripts.specs.Line.{BeginsWithCode, AreCodes, IsWait}
 
 -- these characters have been read from a text, and the rest is left
@@ -50,11 +50,6 @@ gathers_stuck text rest characters all so none are =
     let end = stuck rest left.0 none left.2 in
     (left.1 ∙ ap (λ more. characters ++ more) end.0 ∙ append-nil characters, end.1)
 
-pub gathers_full : (text rest after characters all : List ℕ) (c : ℕ) → Gathers text rest characters → BeginsWithCode rest c after → AreCodes text all → length characters < length all
-gathers_full text rest after characters all c so begins are =
-    let next = (gathers_more text rest after characters c so begins).only all are in
-    omega (arith, ap length next.1, length-append (characters ++ c ∷ []) next.0, length-append characters (c ∷ []))
-
 -- the line of the characters that were read, and of no others
 pub wait_made : (text body rest characters : List ℕ) → text ≡ codes "wait" ++ body → Gathers body rest characters → rest ≡ [] → 0 < length characters → length characters ≤ 32 → IsWait text characters
 wait_made text body rest characters here so end some few = record {
@@ -73,9 +68,6 @@ pub wait_only : (text body rest characters all : List ℕ) → text ≡ codes "w
 wait_only text body rest characters all here so none is =
     let end = gathers_stuck body rest characters all so none (codes_of text body all here is) in
     (ap length end.0, ap length end.1)
-
-pub wait_full : (text body rest after characters all : List ℕ) (c : ℕ) → text ≡ codes "wait" ++ body → Gathers body rest characters → BeginsWithCode rest c after → IsWait text all → length characters < length all
-wait_full text body rest after characters all c here so begins is = gathers_full body rest after characters all c so begins (codes_of text body all here is)
 
 pub empty_by_test : (xs : List ℕ) (test : Bool) → test ≡ (length xs == 0) → test ≡ true → xs ≡ []
 empty_by_test [] test is on = refl

@@ -10,7 +10,7 @@ use Rattle.loss_scripts.specs.declared.line.Line.TheVariants as line
 use Rattle.loss_scripts.specs.declared.line.Setting.{Setting}
 use Rattle.loss_scripts.specs.declared.script.Draft.{Draft}
 use Rattle.loss_scripts.specs.Script.{first_in, words_in, style_in, patience_in, waiting_in, put_in, step_in, numbered, IsNew, MayCome, IsInOrder}
-use Rattle.loss_scripts.specs.Draft.{Holds, Joins}
+use Rattle.loss_scripts.specs.Draft.{HasNamed, Joins}
 
 -- what was named stays, and else the next may name it
 abbrev pub first_or : {A : Type 0} → Option A → Option A → Option A
@@ -47,11 +47,11 @@ listed_more kind before said number is =
     ∙ filter_map-append kind (numbered before) ((number, said) ∷ []) ∙ one_joined (filter_map kind (numbered before)) (kind (number, said))
 
 -- a draft that takes what the next line names has what all the lines name
-pub joined : (before : List Line) (said : Line) (number : ℕ) (old new : Draft) → number ≡ length before + 1 → Holds before old
+pub joined : (before : List Line) (said : Line) (number : ℕ) (old new : Draft) → number ≡ length before + 1 → HasNamed before old
     → new.words ≡ first_or old.words (words_in said) → new.style ≡ first_or old.style (style_in said)
     → new.patience ≡ first_or old.patience (patience_in said) → new.waiting ≡ first_or old.waiting (waiting_in said)
     → new.puts.items ≡ and_one old.puts.items (put_in (number, said)) → new.steps.items ≡ and_one old.steps.items (step_in (number, said))
-    → Holds (before ++ said ∷ []) new
+    → HasNamed (before ++ said ∷ []) new
 joined before said number old new is holds words style patience waiting puts steps = record {
   words = words ∙ ap (λ o. first_or o (words_in said)) holds.words ∙ sym (first_more words_in before said);
   style = style ∙ ap (λ o. first_or o (style_in said)) holds.style ∙ sym (first_more style_in before said);
@@ -69,8 +69,8 @@ is_new (Some x) named true is same = absurd (false≢true (sym is))
 is_new (Some x) named false is same = λ none. absurd (let e : Some x ≡ None = same ∙ none in cc)
 
 -- a setup line that comes before all event lines, by a test whether it is new
-pub taken : (before : List Line) (setting : Setting) (old new : Draft) (test : Bool) → Holds before old → old.steps.items ≡ []
-    → MatchBool test (IsNew before setting) (IsNew before setting → ⊥) → (IsNew before setting → Holds (before ++ line.Setting setting ∷ []) new)
+pub taken : (before : List Line) (setting : Setting) (old new : Draft) (test : Bool) → HasNamed before old → old.steps.items ≡ []
+    → MatchBool test (IsNew before setting) (IsNew before setting → ⊥) → (IsNew before setting → HasNamed (before ++ line.Setting setting ∷ []) new)
     → MatchBool test (Joins before (line.Setting setting) new) (MayCome before (line.Setting setting) → ⊥)
 taken before setting old new true holds none known next = ((sym holds.steps ∙ none, known), next known)
 taken before setting old new false holds none known next = λ may. known may.1

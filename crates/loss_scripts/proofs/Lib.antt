@@ -5,3 +5,4 @@ pub mod Lines
 pub mod Drafts
 pub mod Scripts
 pub mod OneLine
+pub mod OneScript

@@ -11,7 +11,7 @@ use Rattle.loss_scripts.specs.declared.script.Script.{Script}
 use Rattle.loss_scripts.specs.declared.script.Draft.{Draft}
 use Rattle.loss_scripts.specs.Line.{IsLine}
 use Rattle.loss_scripts.specs.Script.{MayCome, IsInOrder, first_in, words_in, IsScript, IsRefusedScript}
-use Rattle.loss_scripts.specs.Draft.{Holds, Joins}
+use Rattle.loss_scripts.specs.Draft.{HasNamed, Joins}
 use Rattle.loss_scripts.proofs.Drafts.{order_more}
 
 zip_length : (ls : List (List ℕ)) (said : List Line) → AllZip IsLine ls said → length ls ≡ length said
@@ -33,11 +33,11 @@ pub record IsReading (text rest : List ℕ) (draft : Draft) (number : ℕ) : Typ
   pub said : List Line
   pub spelled : AllZip IsLine before said
   pub in_order : IsInOrder said
-  pub holds : Holds said draft
+  pub holds : HasNamed said draft
   pub count : number ≡ length before
   pub short : number + length rest ≤ length text
 
-pub reading_none : (text : List ℕ) (draft : Draft) → Holds [] draft → IsReading text text draft 0
+pub reading_none : (text : List ℕ) (draft : Draft) → HasNamed [] draft → IsReading text text draft 0
 reading_none text draft holds = record {
   before = [];
   all = refl;

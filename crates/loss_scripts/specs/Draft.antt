@@ -5,7 +5,7 @@ use Rattle.loss_scripts.specs.declared.script.Draft.{Draft}
 use Rattle.loss_scripts.specs.Script.{first_in, words_in, style_in, patience_in, waiting_in, puts_of, steps_of, MayCome}
 
 -- a draft has what these lines name
-pub record Holds (said : List Line) (draft : Draft) : Type 0 where
+pub record HasNamed (said : List Line) (draft : Draft) : Type 0 where
   pub words : draft.words ≡ first_in words_in said
   pub style : draft.style ≡ first_in style_in said
   pub patience : draft.patience ≡ first_in patience_in said
@@ -15,4 +15,4 @@ pub record Holds (said : List Line) (draft : Draft) : Type 0 where
 
 -- a line may come after these, and the draft has it too; or it may not
 abbrev pub Joins : List Line → Line → Draft → Type 0
-Joins before line draft = MayCome before line × Holds (before ++ line ∷ []) draft
+Joins before line draft = MayCome before line × HasNamed (before ++ line ∷ []) draft

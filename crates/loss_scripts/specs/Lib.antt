@@ -1,3 +1,4 @@
 pub mod Line
 pub mod Script
 pub mod Draft
+pub mod Law

@@ -1,8 +1,9 @@
 -- The lines of a script, which `rehearse` plays. Their forms are this project's choice (docs/SCRIPTS.md).
-use Rattle.std.specs.Prelude.{◌≡◌, ℕ, ◌+◌, ◌*◌, ◌<◌, ◌≤◌, ◌⊎◌, List, [], ◌∷◌, ◌++◌, length, codes}
+use Rattle.std.specs.Prelude.{◌≡◌, ℕ, ◌+◌, ◌*◌, ◌<◌, ◌≤◌, ◌⊎◌, List, [], ◌∷◌, ◌++◌, length, codes, ⊤}
 use Rattle.std.specs.Char.{digit_value}
 use Rattle.std.specs.Str.Parse.{AllDigits, digits_value}
 use Rattle.octal.specs.Octal.{IsOct6}
+use Rattle.odt_machine.specs.Machine.{largest_words}
 use Rattle.odt_machine.specs.Style.{style_number}
 use Rattle.line_world.specs.declared.event.Event.TheVariants.{Take, Hear, LoseDown, LoseUp, Quiet, Restart}
 use Rattle.loss_scripts.specs.declared.line.Line.{Line}
@@ -59,7 +60,7 @@ pub record IsPut (text : List ℕ) (address value : ℕ) : Type 0 where
 
 -- what a setup line says, one row for each form
 abbrev pub IsSetting : List ℕ → Setting → Type 0
-IsSetting text (Words n) = HasNumber text (codes "words ") 0 28672 n
+IsSetting text (Words n) = HasNumber text (codes "words ") 0 largest_words n
 IsSetting text (OfStyle style) = HasNumber text (codes "style ") 0 7 (style_number style)
 IsSetting text (Patience n) = HasNumber text (codes "patience ") 0 4294967295 n
 IsSetting text (Wait waiting) = IsWait text waiting.items
@@ -82,7 +83,7 @@ IsStep text Clean = text ≡ codes "clean"
 
 -- an empty line, or a comment, which begins with a number sign
 abbrev pub IsBlank : List ℕ → Type 0
-IsBlank [] = Unit {0}
+IsBlank [] = ⊤
 IsBlank (c ∷ cs) = c ≡ 35
 
 -- what a line of a script says

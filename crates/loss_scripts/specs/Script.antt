@@ -1,9 +1,11 @@
 -- A whole script: its lines, in what order they may stand, and what they set up. This project's choice (docs/SCRIPTS.md).
-use Rattle.std.specs.Prelude.{◌≡◌, ℕ, ◌+◌, ◌<◌, ◌≤◌, ◌⊎◌, List, [], ◌∷◌, ◌++◌, length, take, filter_map, Option, Some, None, unwrap_or, slice_get, slice_index_or, ⊤}
+use Rattle.std.specs.Prelude.{◌≡◌, ℕ, ◌+◌, ◌<◌, ◌≤◌, ◌⊎◌, List, [], ◌∷◌, ◌++◌, length, take, filter_map}
+use Rattle.std.specs.Prelude.{Option, Some, None, unwrap_or, slice_get, slice_index_or, ⊤}
 use Rattle.std.specs.List.{AllZip, enumerate_from}
 use Rattle.std.specs.Str.Lines.{lines}
 use Rattle.arrayvec.specs.ArrayVec.{ArrayVec}
 use Rattle.odt_machine.specs.declared.style.Style.{Style}
+use Rattle.odt_machine.specs.Machine.{largest_words}
 use Rattle.odt_machine.specs.Style.{plain_style}
 use Rattle.loss_scripts.specs.declared.line.Line.{Line}
 use Rattle.loss_scripts.specs.declared.line.Line.TheVariants as line
@@ -12,9 +14,17 @@ use Rattle.loss_scripts.specs.declared.line.Setting.TheVariants.{Words, OfStyle,
 use Rattle.loss_scripts.specs.declared.script.PutLine.{PutLine}
 use Rattle.loss_scripts.specs.declared.script.StepLine.{StepLine}
 use Rattle.loss_scripts.specs.declared.script.Script.{Script}
-use Rattle.loss_scripts.specs.declared.script.ScriptError.{ScriptError}
-use Rattle.loss_scripts.specs.declared.script.ScriptError.TheVariants.{Refused, Memory}
+use Rattle.loss_scripts.specs.declared.script.ScriptFault.{ScriptFault}
+use Rattle.loss_scripts.specs.declared.script.ScriptFault.TheVariants.{Refused, Memory}
 use Rattle.loss_scripts.specs.Line.{IsLine}
+
+-- the most bytes that a script may have (this project's choice)
+abbrev pub script_limit : ℕ
+script_limit = 1048576
+
+-- the patience of a host where no line names one (this project's choice)
+abbrev pub plain_patience : ℕ
+plain_patience = 8
 
 -- the size of the machine that a line names
 abbrev pub words_in : Line → Option ℕ
@@ -82,12 +92,12 @@ IsInOrder said = (k : ℕ) (d : Line) → k < length said → MayCome (take k sa
 -- the text is this script: lines in order, and what they name, with the defaults of what none names
 pub record IsScript (text : List ℕ) (script : Script) : Type 0 where
   pub said : List Line
-  pub within : length text ≤ 1048576
+  pub within : length text ≤ script_limit
   pub spelled : AllZip IsLine (lines text) said
   pub in_order : IsInOrder said
-  pub words : script.words ≡ unwrap_or (first_in words_in said) 28672
+  pub words : script.words ≡ unwrap_or (first_in words_in said) largest_words
   pub style : script.style ≡ unwrap_or (first_in style_in said) plain_style
-  pub patience : script.patience ≡ unwrap_or (first_in patience_in said) 8
+  pub patience : script.patience ≡ unwrap_or (first_in patience_in said) plain_patience
   pub waiting : script.waiting ≡ unwrap_or (first_in waiting_in said) (record { items = [] })
   pub puts : script.puts.items ≡ puts_of said
   pub steps : script.steps.items ≡ steps_of said
@@ -106,9 +116,9 @@ pub record IsRefusedLine (text : List ℕ) (number : ℕ) : Type 0 where
 
 -- the text is refused at a line: at 0 where it is too long, else at the first that is wrong
 abbrev pub IsRefusedScript : List ℕ → ℕ → Type 0
-IsRefusedScript text number = ((number ≡ 0) × (1048576 < length text)) ⊎ ((length text ≤ 1048576) × IsRefusedLine text number)
+IsRefusedScript text number = ((number ≡ 0) × (script_limit < length text)) ⊎ ((length text ≤ script_limit) × IsRefusedLine text number)
 
 -- why a text was not read: it is refused, or want of memory
-abbrev pub IsScriptError : List ℕ → ScriptError → Type 0
-IsScriptError text (Refused number) = IsRefusedScript text number
-IsScriptError text Memory = ⊤
+abbrev pub IsScriptFault : List ℕ → ScriptFault → Type 0
+IsScriptFault text (Refused number) = IsRefusedScript text number
+IsScriptFault text Memory = ⊤

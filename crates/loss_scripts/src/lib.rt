@@ -13,5 +13,5 @@
 mod line;
 mod script;
 
-pub use line::{Line, Setting, Step, Waiting, read_line};
-pub use script::{PutLine, SCRIPT_LIMIT, Script, ScriptError, StepLine, read_script};
+pub use line::{Step, Waiting};
+pub use script::{PutLine, SCRIPT_LIMIT, Script, ScriptFault, StepLine, read_script};

@@ -8,7 +8,7 @@ ghost use Rattle.odt_machine.specs.Style.{style_number};
 use arrayvec::ArrayVec;
 use line_world::{Event, MOST_WAITING};
 use octal::read_oct6;
-use odt_machine::{LARGEST_WORDS, Style};
+use odt_machine::{LARGEST_STYLE, LARGEST_WORDS, Style};
 
 // A number has one to ten digits.
 const MOST_DIGITS: usize = 10;
@@ -16,7 +16,7 @@ const MOST_DIGITS: usize = 10;
 // A word of memory is written as so many octal digits.
 const OCTAL_DIGITS: usize = 6;
 
-const LAST_STYLE: u32 = 7;
+const LAST_STYLE: u32 = LARGEST_STYLE as u32;
 
 const LAST_PLACE: u32 = 255;
 
@@ -30,12 +30,16 @@ pub type Waiting = ArrayVec<u8, MOST_WAITING>;
 pub enum Setting {
     /// `words N`: the size of the machine.
     Words(u16),
+
     /// `style N`: its style, by its number.
     OfStyle(Style),
+
     /// `patience N`: the host's patience.
     Patience(u32),
+
     /// `wait HH ..`: the characters that wait at the opening.
     Wait(Waiting),
+
     /// `put AAAAAA VVVVVV`: a word of memory, by its address and its value.
     Put(u16, u16),
 }
@@ -45,8 +49,10 @@ pub enum Setting {
 pub enum Step {
     /// An event, so many times.
     Times(Event, u32),
+
     /// `to N`: a clean line until so many characters were sent.
     Until(u32),
+
     /// `clean`: a clean line to the end.
     Clean,
 }
@@ -56,8 +62,10 @@ pub enum Step {
 pub enum Line {
     /// Nothing: it is empty or a comment.
     Blank,
+
     /// It sets up the rehearsal.
     Setting(Setting),
+
     /// It lets something happen.
     Step(Step),
 }

@@ -1,11 +1,14 @@
 //! Scripts of rehearsals, read whole or refused at a line.
-ghost use Rattle.std.specs.Prelude.{◌≡◌, ℕ, ◌+◌, ◌*◌, ◌<◌, ◌≤◌, ◌++◌, ◌∷◌, List, [], length, IfSome, IfNone, IfOk, OnErr, IsTrue, MatchResult, MatchBool, position, ◌==◌};
+ghost use Rattle.std.specs.Prelude.{◌≡◌, ℕ, ◌+◌, ◌*◌, ◌<◌, ◌≤◌, ◌++◌, ◌∷◌, List, []};
+ghost use Rattle.std.specs.Prelude.{length, IfSome, IfNone, IfOk, OnErr, IsTrue, MatchResult, MatchBool, position, ◌==◌};
 ghost use Rattle.std.specs.List.{AllZip};
 ghost use Rattle.std.specs.Str.Lines.{lines, strip_carriage_return};
 ghost use Rattle.loss_scripts.specs.declared.line.Line.{Line};
 ghost use Rattle.loss_scripts.specs.Line.{IsLine};
-ghost use Rattle.loss_scripts.specs.Script.{MayCome, IsInOrder, IsScript, IsScriptError};
-ghost use Rattle.loss_scripts.specs.Draft.{Holds, Joins};
+ghost use Rattle.odt_machine.specs.Machine.{largest_words};
+ghost use Rattle.loss_scripts.specs.Script.{MayCome, IsInOrder, IsScript, IsScriptFault, script_limit};
+ghost use Rattle.loss_scripts.specs.Law.{IsOnlyScript, IsOnlyFault};
+ghost use Rattle.loss_scripts.specs.Draft.{HasNamed, Joins};
 
 use crate::line::{Line, Setting, Step, Waiting, read_line};
 use odt_machine::{LARGEST_WORDS, PLAIN_STYLE, Style};
@@ -21,8 +24,10 @@ const DEFAULT_PATIENCE: u32 = 8;
 pub struct PutLine {
     /// The line's number, from 1.
     pub line: u32,
+
     /// Where the word goes.
     pub address: u16,
+
     /// The word.
     pub value: u16,
 }
@@ -32,6 +37,7 @@ pub struct PutLine {
 pub struct StepLine {
     /// The line's number, from 1.
     pub line: u32,
+
     /// What it lets happen.
     pub step: Step,
 }
@@ -41,35 +47,41 @@ pub struct StepLine {
 pub struct Script {
     /// The size of the machine, in words.
     pub words: u16,
+
     /// The machine's style.
     pub style: Style,
+
     /// The host's patience.
     pub patience: u32,
+
     /// The characters that wait for the host at the opening.
     pub waiting: Waiting,
+
     /// The words that are put into memory, in order.
     pub puts: Vec<PutLine>,
+
     /// The event lines, in order.
     pub steps: Vec<StepLine>,
 }
 
 /// Why a text was not read as a script.
 #[derive(Clone, Copy, Debug, PartialEq, Eq)]
-pub enum ScriptError {
+pub enum ScriptFault {
     /// It is refused at this line, counted from 1; 0 is a text that is too long.
     Refused(u32),
+
     /// A growth of memory was refused.
     Memory,
 }
 
-impl From<AllocError> for ScriptError {
+impl From<AllocError> for ScriptFault {
     ghost use Rattle.std.specs.Prelude.{◌≡◌};
-    ghost use Rattle.loss_scripts.specs.declared.script.ScriptError.TheVariants.{Memory};
+    ghost use Rattle.loss_scripts.specs.declared.script.ScriptFault.TheVariants.{Memory};
 
     ghost from_gives = { λ _ error. error ≡ Memory };
 
-    fn from(_refused: AllocError) -> ScriptError {
-        ScriptError::Memory
+    fn from(_refused: AllocError) -> ScriptFault {
+        ScriptFault::Memory
     }
 }
 
@@ -85,8 +97,8 @@ struct Draft {
 }
 
 impl Draft {
-    fn new(alloc: Global) -> Self
-        ensures { Holds [] result }
+    fn new(alloc: Global) -> Draft
+        ensures { HasNamed [] result }
     {
         Draft {
             words: None,
@@ -100,7 +112,8 @@ impl Draft {
 
     // Takes what the next line says, by its number. Answers whether the line may come.
     fn add(&mut self, number: u32, said: Line) -> Result<bool, AllocError>
-        ensures { IfOk result (λ added. (before : List Line) → Holds before self.old → number ≡ length before + 1 → MatchBool added (Joins before said self.new) (MayCome before said → ⊥)) }
+        ensures { IfOk result (λ added. (before : List Line) → HasNamed before self.old → number ≡ length before + 1 →
+            MatchBool added (Joins before said self.new) (MayCome before said → ⊥)) }
     {
         match said {
             Line::Blank => Ok(true),
@@ -120,7 +133,8 @@ impl Draft {
     // Takes what a setup line names. Answers whether it repeats no other.
     fn set(&mut self, number: u32, setting: Setting) -> Result<bool, AllocError>
         requires { self.old.steps.items ≡ [] }
-        ensures { IfOk result (λ added. (before : List Line) → Holds before self.old → number ≡ length before + 1 → MatchBool added (Joins before (Line.Setting setting) self.new) (MayCome before (Line.Setting setting) → ⊥)) }
+        ensures { IfOk result (λ added. (before : List Line) → HasNamed before self.old → number ≡ length before + 1 →
+            MatchBool added (Joins before (Line.Setting setting) self.new) (MayCome before (Line.Setting setting) → ⊥)) }
     {
         match setting {
             Setting::Words(n) => Ok(self.words.replace(n).is_none()),
@@ -140,7 +154,8 @@ impl Draft {
 
     // The script, with the defaults of what no line named.
     fn finish(self) -> Script
-        ensures { (text : List ℕ) (said : List Line) → length text ≤ 1048576 → AllZip IsLine (lines text) said → IsInOrder said → Holds said self → IsScript text result }
+        ensures { (text : List ℕ) (said : List Line) → length text ≤ script_limit → AllZip IsLine (lines text) said → IsInOrder said → HasNamed said self →
+            IsScript text result }
     {
         let Draft {
             words,
@@ -190,17 +205,18 @@ fn first_line(text: &[u8]) -> (&[u8], &[u8])
     }
 }
 
-/// The script that a text is.
+/// The script that a text is: it is no other, and none where it is refused, which is at one line.
 ///
 /// `Refused` is the first line that is of no form, has a number out of range, repeats a setup line
 /// or sets up after an event line; 0 where the text has more than 1,048,576 bytes. `Memory` comes
 /// only where a growth was refused.
-pub fn read_script(alloc: Global, text: &[u8]) -> Result<Script, ScriptError>
-    ensures read { MatchResult result (IsScript text.now) (IsScriptError text.now) }
-    ensures size { IfOk result (λ script. script.words ≤ 28672) }
+pub fn read_script(alloc: Global, text: &[u8]) -> Result<Script, ScriptFault>
+    ensures read { MatchResult result (IsScript text.now) (IsScriptFault text.now) }
+    ensures alone { MatchResult result (IsOnlyScript text.now) (IsOnlyFault text.now) }
+    ensures size { IfOk result (λ script. script.words ≤ largest_words) }
 {
     if text.len() > SCRIPT_LIMIT {
-        return Err(ScriptError::Refused(0));
+        return Err(ScriptFault::Refused(0));
     }
     let mut draft = Draft::new(alloc);
     let mut rest = text;
@@ -209,11 +225,11 @@ pub fn read_script(alloc: Global, text: &[u8]) -> Result<Script, ScriptError>
         let (line, after) = first_line(rest);
         number += 1;
         let Some(said) = read_line(line) else {
-            return Err(ScriptError::Refused(number));
+            return Err(ScriptFault::Refused(number));
         };
         let may_come = draft.add(number, said)?;
         if !may_come {
-            return Err(ScriptError::Refused(number));
+            return Err(ScriptFault::Refused(number));
         }
         rest = after;
     }

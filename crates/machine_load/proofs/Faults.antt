@@ -11,10 +11,10 @@ use Rattle.machine_load.proofs.Steps.{gains_more, gains_nothing}
 use Rattle.machine_load.specs.Load.{IsLoad}
 use Rattle.machine_load.specs.LoadReport.{load_report}
 use Rattle.machine_load.specs.LoadFault.{IsLoadFault, IsOpeningFault, IsDrivingFault, IsReportFault, fault_of_record}
-use Rattle.machine_load.specs.RecordFault.{IsUnbegun}
+use Rattle.record_file.specs.RecordFault.{IsUnbegun}
 use Rattle.machine_load.specs.declared.options.LoadOptions.{LoadOptions}
-use Rattle.machine_load.specs.declared.record_fault.RecordFault.{RecordFault}
-use Rattle.machine_load.specs.declared.record_fault.RecordFault.TheVariants as why
+use Rattle.record_file.specs.declared.record_fault.RecordFault.{RecordFault}
+use Rattle.record_file.specs.declared.record_fault.RecordFault.TheVariants as why
 use Rattle.machine_load.specs.declared.fault.LoadFault.{LoadFault}
 use Rattle.machine_load.specs.declared.fault.LoadFault.TheVariants.{Record, RecordInUse, ReadRecord, Connect, WriteRecord, WriteOutput, Memory}
 

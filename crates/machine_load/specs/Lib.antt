@@ -1,9 +1,4 @@
-pub mod DiskRecord
-pub mod Durable
 pub mod Load
 pub mod LoadFault
 pub mod LoadReport
-pub mod OldRecord
-pub mod Pace
-pub mod RecordFault
 pub mod Step

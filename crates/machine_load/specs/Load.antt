@@ -14,9 +14,9 @@ use Rattle.load_engine.specs.Session.{Session, TellsEnd}
 use Rattle.load_record.specs.declared.version.Version.TheVariants.{Second}
 use Rattle.load_record.specs.RecordText.{record_text}
 use Rattle.load_record.specs.Reading.{Says}
-use Rattle.command_io.specs.Output.{WritesAllBut}
+use Rattle.byte_io.specs.Output.{WritesAllBut}
 use Rattle.machine_load.specs.LoadReport.{load_report}
-use Rattle.machine_load.specs.OldRecord.{HoldsNoRecord}
+use Rattle.record_file.specs.OldRecord.{HoldsNoRecord}
 use Rattle.machine_load.specs.Step.{Step, reading, Connect, BeginRecord}
 use Rattle.machine_load.specs.declared.options.LoadOptions.{LoadOptions}
 use Rattle.machine_load.specs.declared.outcome.Outcome.{Outcome}

@@ -6,17 +6,17 @@ use Rattle.load_devices.specs.Told.{Gains}
 use Rattle.load_record.specs.declared.reader.RecordError.{RecordError}
 use Rattle.load_record.specs.Reading.{Says}
 use Rattle.load_record.specs.declared.reader.RecordError.TheVariants.{NotARecord}
-use Rattle.command_io.specs.Output.{WritesAllBut}
+use Rattle.byte_io.specs.Output.{WritesAllBut}
 use Rattle.host_core.specs.Core.{Core}
 use Rattle.load_engine.specs.declared.stop.Stop.{Stop}
 use Rattle.machine_load.specs.Load.{IsRecordText, IsLoad, IsCutShort}
-use Rattle.machine_load.specs.OldRecord.{HoldsNoRecord}
+use Rattle.record_file.specs.OldRecord.{HoldsNoRecord}
 use Rattle.machine_load.specs.Step.{Step, reading, ReadProtected, Connect, InUse, NotRead, NotConnected, NotBegun, OutOfMemory}
 use Rattle.machine_load.specs.declared.options.LoadOptions.{LoadOptions}
 use Rattle.machine_load.specs.declared.fault.LoadFault.{LoadFault}
 use Rattle.machine_load.specs.declared.fault.LoadFault.TheVariants.{Record, RecordInUse, ReadRecord as RecordNotRead, Connect as LineNotConnected, WriteRecord, WriteOutput, Memory}
-use Rattle.machine_load.specs.declared.record_fault.RecordFault.{RecordFault}
-use Rattle.machine_load.specs.declared.record_fault.RecordFault.TheVariants as record_fault
+use Rattle.record_file.specs.declared.record_fault.RecordFault.{RecordFault}
+use Rattle.record_file.specs.declared.record_fault.RecordFault.TheVariants as record_fault
 
 -- the record's text says no progress of the plan, for this reason, or was never a record
 pub record IsRefusedRecord (record_told : Option (List ℕ)) (plan : PlanValue) (why : RecordError) : Type 0 where

@@ -1,10 +1,10 @@
 -- The report of `load` (this project's own). Counts are those of the host's life.
-use Rattle.std.specs.Prelude.{ℕ, List, ◌++◌, length, codes, decimal, Some}
+use Rattle.std.specs.Prelude.{ℕ, List, ◌++◌, length, codes, decimal}
 use Rattle.host_core.specs.Core.{Core}
+use Rattle.host_core.specs.End.{end_name}
 use Rattle.load_engine.specs.declared.stop.Stop.{Stop}
 use Rattle.load_engine.specs.declared.stop.Stop.TheVariants.{Ended, LineFailed, KeepFailed, TurnsOver}
-use Rattle.command_io.specs.Text.{line}
-use Rattle.load_reports.specs.Report.{end_name}
+use Rattle.byte_io.specs.Text.{line}
 
 -- the characters sent, the mishaps, and how many words of the plan are verified
 abbrev pub counts_text : Core → List ℕ
@@ -14,7 +14,7 @@ counts_text core =
 
 -- how the load stopped
 abbrev pub stop_name : Stop → List ℕ
-stop_name (Ended end) = end_name (Some end)
+stop_name (Ended end) = end_name end
 stop_name (LineFailed fault) = codes "LineFailed"
 stop_name (KeepFailed fault) = codes "KeepFailed"
 stop_name TurnsOver = codes "TurnsOver"

@@ -1,9 +1,9 @@
 -- What a load asks of its surroundings, and what they answer.
 use Rattle.std.specs.Prelude.{Bool, if◌then◌else◌, Result, Ok, Err}
 use Rattle.load_devices.specs.declared.fault.LineFault.{LineFault}
-use Rattle.machine_load.specs.declared.old_record.OldRecord.{OldRecord}
-use Rattle.machine_load.specs.declared.record_fault.RecordFault.{RecordFault}
-use Rattle.machine_load.specs.declared.record_fault.RecordFault.TheVariants as fault
+use Rattle.record_file.specs.declared.old_record.OldRecord.{OldRecord}
+use Rattle.record_file.specs.declared.record_fault.RecordFault.{RecordFault}
+use Rattle.record_file.specs.declared.record_fault.RecordFault.TheVariants as fault
 
 -- the record of earlier lives is read, or a record that is protected, a connection is made, the record is begun anew; or one of these
 -- fails, since another load holds the record, or for another reason, or memory is wanting

@@ -1,7 +1,7 @@
-use crate::record_fault::RecordFault;
-use command_io::WriteFailed;
+use byte_io::WriteFault;
 use load_devices::LineFault;
 use load_record::RecordError;
+use record_file::RecordFault;
 use std::alloc::AllocError;
 
 /// Why a load came to nothing.
@@ -67,13 +67,13 @@ impl From<LineFault> for LoadFault {
     }
 }
 
-impl From<WriteFailed> for LoadFault {
+impl From<WriteFault> for LoadFault {
     ghost use Rattle.std.specs.Prelude.{◌≡◌};
     ghost use Rattle.machine_load.specs.declared.fault.LoadFault.TheVariants.{WriteOutput};
 
     ghost from_gives = { λ _ fault. fault ≡ WriteOutput };
 
-    fn from(_failed: WriteFailed) -> LoadFault {
+    fn from(_failed: WriteFault) -> LoadFault {
         LoadFault::WriteOutput
     }
 }

@@ -1,13 +1,9 @@
 //! The machine behind HOST:PORT, with a record in a file or in memory.
 ghost use Rattle.std.specs.Prelude.{IfErr, IfOk};
 
-use crate::held_file::HeldFile;
-use crate::locks::Locks;
-use crate::old_record::OldRecord;
-use crate::record_fault::RecordFault;
-use crate::record_file::DiskRecord;
 use crate::surroundings::Surroundings;
 use load_devices::{LineFault, MemoryKeep};
+use record_file::{DiskRecord, Locks, OldRecord, RecordFault, RecordFile};
 use std::alloc::Global;
 use std::net::Net;
 use stream_line::SocketLine;
@@ -26,10 +22,9 @@ pub struct Address<'a> {
 /// A machine whose load is recorded in a file, which the load holds from its reading on.
 #[derive(Drop)]
 pub struct Recorded<'a, R: Locks + Net> {
-    rt: &'a R,
+    net: &'a R,
     address: Address<'a>,
-    record: &'a str,
-    held: Option<HeldFile<'a, R>>,
+    record: RecordFile<'a, R>,
 }
 
 impl<'a, R: Locks + Net> Recorded<'a, R> {
@@ -37,10 +32,9 @@ impl<'a, R: Locks + Net> Recorded<'a, R> {
     /// made, and is an empty record.
     pub fn new(rt: &'a R, address: Address<'a>, record: &'a str) -> Recorded<'a, R> {
         Recorded {
-            rt,
+            net: rt,
             address,
-            record,
-            held: None,
+            record: RecordFile::new(rt, record),
         }
     }
 }
@@ -51,39 +45,20 @@ impl<R: Locks + Net> Surroundings for Recorded<'_, R> {
     type Keeper = DiskRecord<R::File>;
 
     fn read_record(&mut self, alloc: Global) -> Result<OldRecord, RecordFault> {
-        let Some(mut held) = HeldFile::hold(self.rt, self.record)? else {
-            return Ok(OldRecord {
-                text: Vec::new(alloc),
-                writable: false,
-            });
-        };
-        let text = held.read(alloc)?;
-        let writable = held.is_writable();
-        self.held = Some(held);
-        Ok(OldRecord { text, writable })
+        self.record.read(alloc)
     }
 
     fn connect(&mut self) -> Result<SocketLine<R::Stream>, LineFault> {
-        SocketLine::connect(self.rt, self.address.name, self.address.quiet_ms)
+        SocketLine::connect(self.net, self.address.name, self.address.quiet_ms)
     }
 
-    // The old file is held to the end, also where another has its name now: a load may have opened it.
     fn begin_record(
         &mut self,
         alloc: Global,
         plan: &Plan,
         verified: u32,
     ) -> Result<DiskRecord<R::File>, RecordFault> {
-        let Some(mut held) = self.held.take() else {
-            return Err(RecordFault::Write);
-        };
-        match held.begin_beside(alloc, plan, verified)? {
-            Some(keeper) => {
-                self.held = Some(held);
-                Ok(keeper)
-            }
-            None => held.begin_in_place(alloc, plan, verified),
-        }
+        self.record.begin(alloc, plan, verified)
     }
 }
 

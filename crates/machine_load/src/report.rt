@@ -1,11 +1,10 @@
 //! The report of a load.
 ghost use Rattle.std.specs.Prelude.{◌≡◌, ◌++◌, codes, OnOk};
-ghost use Rattle.command_io.specs.Text.{line};
+ghost use Rattle.byte_io.specs.Text.{line};
 ghost use Rattle.machine_load.specs.LoadReport.{counts_text, load_report, stop_name};
 
 use host_core::HostCore;
 use load_engine::Stop;
-use load_reports::put_end_name;
 use std::alloc::AllocError;
 use std::io::Write;
 
@@ -44,7 +43,10 @@ fn put_stop_name(text: &mut Vec<u8>, stop: Stop) -> Result<(), AllocError>
     ensures { OnOk result (text.new.items ≡ text.old.items ++ stop_name stop) }
 {
     match stop {
-        Stop::Ended(end) => put_end_name(text, Some(end)),
+        Stop::Ended(end) => match write!(text, "{end}") {
+            Ok(()) => Ok(()),
+            Err(_) => Err(AllocError),
+        },
         Stop::LineFailed(_) => text.extend_from_slice(b"LineFailed"),
         Stop::KeepFailed(_) => text.extend_from_slice(b"KeepFailed"),
         Stop::TurnsOver => text.extend_from_slice(b"TurnsOver"),

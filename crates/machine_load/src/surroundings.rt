@@ -2,12 +2,11 @@ ghost use Rattle.std.specs.Prelude.{ℕ, List, [], ◌∷◌, Option, None, IfOk
 ghost use Rattle.std.specs.Io.KnownBytes.{Keeps};
 ghost use Rattle.load_devices.specs.Told.{Gains};
 ghost use Rattle.machine_load.specs.Load.{IsBegun, IsRecordText};
-ghost use Rattle.machine_load.specs.RecordFault.{IsUnread, IsUnbegun};
+ghost use Rattle.record_file.specs.RecordFault.{IsUnread, IsUnbegun};
 ghost use Rattle.machine_load.specs.Step.{Step, read_step, connect_step, begin_step};
 
-use crate::old_record::OldRecord;
-use crate::record_fault::RecordFault;
 use load_devices::{Keep, Line, LineFault};
+use record_file::{OldRecord, RecordFault};
 use std::alloc::Global;
 use tape_image::Plan;
 

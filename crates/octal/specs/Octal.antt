@@ -1,6 +1,7 @@
 -- Octal numbers as the console prints and reads them (the console ODT chapter of DEC's
 -- Microcomputer Processor Handbook).
-use Rattle.std.specs.Prelude.{◌≡◌, ℕ, ◌+◌, ◌-◌, ◌*◌, ◌/◌, ◌%◌, ◌^◌, ◌≤◌, Bool, ◌&&◌, ◌==◌, nat_le, if◌then◌else◌, IsTrue, All, List, [], ◌∷◌, length, slice_index}
+use Rattle.std.specs.Prelude.{◌≡◌, ℕ, ◌+◌, ◌-◌, ◌*◌, ◌/◌, ◌%◌, ◌^◌, ◌≤◌, Bool, ◌&&◌, ◌==◌, nat_le, if◌then◌else◌, IsTrue}
+use Rattle.std.specs.Prelude.{All, List, [], ◌∷◌, length, slice_index}
 
 -- the character is an octal digit, `0` to `7`
 abbrev pub is_digit : ℕ → Bool
@@ -28,7 +29,9 @@ pushed v c = (8 * v + digit_value c) % 65536
 
 -- the number that the first k of a word's six octal digits make, k from 0 to 6
 abbrev pub head : ℕ → ℕ → ℕ
-head w k = if k == 0 then 0 else (if k == 1 then w / 32768 else (if k == 2 then w / 4096 else (if k == 3 then w / 512 else (if k == 4 then w / 64 else (if k == 5 then w / 8 else w)))))
+head w k =
+    if k == 0 then 0 else if k == 1 then w / 32768 else if k == 2 then w / 4096 else if k == 3 then w / 512
+    else if k == 4 then w / 64 else if k == 5 then w / 8 else w
 
 -- the character of a word's k-th octal digit, k from 1 to 6
 abbrev pub digit_of : ℕ → ℕ → ℕ

@@ -2,6 +2,25 @@ ghost use Rattle.std.specs.Prelude.{◌≡◌, ℕ, ◌+◌, ◌/◌, ◌%◌, �
 ghost use Rattle.octal.specs.Octal.{is_digit, octal_text, IsOct6};
 
 use crate::digit::push_digit;
+use std::fmt;
+
+/// A word that is shown as its six octal digits.
+#[derive(Clone, Copy, Debug, PartialEq, Eq)]
+pub struct Octal(pub u16);
+
+impl fmt::Display for Octal {
+    ghost use Rattle.std.specs.Prelude.{Some};
+    ghost use Rattle.octal.specs.Octal.{octal_text};
+
+    ghost output = { λ word. Some (octal_text word.0) };
+
+    fn fmt<W: fmt::Write>(&self, f: &mut fmt::Formatter<W>) -> fmt::Result {
+        for digit in oct6(self.0) {
+            f.write_char(char::from(digit))?;
+        }
+        Ok(())
+    }
+}
 
 /// The octal text of `word`: six ASCII digits, the first `0` or `1`.
 pub fn oct6(word: u16) -> [u8; 6]

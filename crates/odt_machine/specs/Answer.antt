@@ -5,6 +5,10 @@ use Rattle.octal.specs.Octal.{octal_text}
 use Rattle.odt_machine.specs.Character.{carriage_return, line_feed, prompt, question_mark, space}
 use Rattle.odt_machine.specs.declared.style.Style.{Style}
 
+-- the most characters of an answer: the `/` that opened a word, a space, six digits and a space
+abbrev pub longest_answer : ℕ
+longest_answer = 9
+
 -- a new line with the prompt: one carriage return, or two by the style, a line feed and `@`
 abbrev pub prompt_text : Style → List ℕ
 prompt_text s = if s.two_returns then carriage_return ∷ carriage_return ∷ line_feed ∷ prompt ∷ [] else carriage_return ∷ line_feed ∷ prompt ∷ []

@@ -38,9 +38,13 @@ row s memory Prompt _ c = illegal s memory c
 -- the count stays at 7 (choice)
 row s memory (Number v n) Digit c = record { mode = Number (pushed v c) (digits_after n); memory = memory; answer = c ∷ [] }
 -- `/` opens the word at the address typed (handbook); where no word lies there: `?` (choice)
-row s memory (Number v n) Slash c = if is_word memory v then record { mode = Opened v; memory = memory; answer = c ∷ word_text s (word_at memory v) } else record { mode = Prompt; memory = memory; answer = refused_text s c }
+row s memory (Number v n) Slash c =
+    if is_word memory v then record { mode = Opened v; memory = memory; answer = c ∷ word_text s (word_at memory v) }
+    else record { mode = Prompt; memory = memory; answer = refused_text s c }
 -- `G` starts the program at the address typed (handbook); at an odd address: `?` (choice)
-row s memory (Number v n) Go c = if v % 2 == 0 then record { mode = Running v; memory = memory; answer = c ∷ [] } else record { mode = Prompt; memory = memory; answer = refused_text s c }
+row s memory (Number v n) Go c =
+    if v % 2 == 0 then record { mode = Running v; memory = memory; answer = c ∷ [] }
+    else record { mode = Prompt; memory = memory; answer = refused_text s c }
 -- a return forgets the number (choice)
 row s memory (Number v n) Return c = record { mode = Prompt; memory = memory; answer = prompt_text s }
 -- after a number any other key is illegal (choice)

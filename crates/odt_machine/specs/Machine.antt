@@ -1,5 +1,5 @@
 -- The machine that a console stands on: its memory, and what the console is in the middle of.
-use Rattle.std.specs.Prelude.{ℕ, ◌*◌, ◌/◌, ◌%◌, ◌<◌, ◌≤◌, Bool, ◌&&◌, ◌==◌, nat_lt, IsTrue, List, length, slice_index, slice_set}
+use Rattle.std.specs.Prelude.{ℕ, ◌*◌, ◌/◌, ◌%◌, ◌<◌, ◌≤◌, Bool, ◌&&◌, ◌==◌, nat_lt, IsTrue, List, length, slice_index, slice_set, ⊤}
 use Rattle.odt_machine.specs.declared.style.Style.{Style}
 use Rattle.odt_machine.specs.declared.mode.Mode.{Mode}
 use Rattle.odt_machine.specs.declared.mode.Mode.TheVariants.{Prompt, Number, Opened, Typing, Running}
@@ -28,15 +28,19 @@ IsWide memory = (i : ℕ) → slice_index memory i < 65536
 
 -- a digit count is 1 to 7 (7 stands for seven or more), and an open word lies in memory
 abbrev pub ModeFits : List ℕ → Mode → Type 0
-ModeFits memory Prompt = Unit {0}
+ModeFits memory Prompt = ⊤
 ModeFits memory (Number value digits) = (1 ≤ digits) × (digits ≤ 7)
 ModeFits memory (Opened address) = IsTrue (is_word memory address)
 ModeFits memory (Typing address value digits) = IsTrue (is_word memory address) × (1 ≤ digits) × (digits ≤ 7)
-ModeFits memory (Running address) = Unit {0}
+ModeFits memory (Running address) = ⊤
 
--- what holds of every machine: at most 28,672 words (the addresses below the I/O page), each of
--- sixteen bits, and a mode that fits
+-- the most words that a machine has: those below 160000 (octal), where the I/O page begins
+abbrev pub largest_words : ℕ
+largest_words = 28672
+
+-- what holds of every machine: no more words than the largest, each of sixteen bits, and a mode that
+-- fits
 pub record IsMachine (m : Machine) : Type 0 where
-  pub size : length m.memory ≤ 28672
+  pub size : length m.memory ≤ largest_words
   pub wide : IsWide m.memory
   pub mode : ModeFits m.memory m.mode

@@ -8,12 +8,16 @@ use crate::character::{CARRIAGE_RETURN, GO, SLASH};
 pub enum Key {
     /// An octal digit, `0` to `7`.
     Digit,
+
     /// Carriage return, which closes an open word.
     Return,
+
     /// `/`, which opens a word.
     Slash,
+
     /// `G`, which starts the program.
     Go,
+
     /// Any other character, which no command of this console uses.
     Other,
 }

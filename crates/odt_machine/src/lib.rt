@@ -24,4 +24,4 @@ pub use character::{CARRIAGE_RETURN, GO, LINE_FEED, PROMPT, QUESTION_MARK, SLASH
 pub use key::Key;
 pub use machine::{LARGEST_WORDS, Odt, OdtError};
 pub use mode::Mode;
-pub use style::{PLAIN_STYLE, Style};
+pub use style::{LARGEST_STYLE, PLAIN_STYLE, Style};

@@ -1,6 +1,6 @@
 ghost use Rattle.std.specs.Prelude.{◌≡◌, ℕ, ◌<◌, ◌≤◌, ◌↔◌, replicate, IsTrue, IsOk, IfOk, IfErr, Some};
 ghost use Rattle.odt_machine.specs.Error.{error_text};
-ghost use Rattle.odt_machine.specs.Machine.{ModeFits, IsMachine};
+ghost use Rattle.odt_machine.specs.Machine.{ModeFits, IsMachine, largest_words};
 
 mod memory;
 mod typing;
@@ -24,6 +24,7 @@ pub(crate) const MANY_DIGITS: u8 = 7;
 pub enum OdtError {
     /// More than 28,672 words were asked for.
     TooLarge,
+
     /// No memory was left for the machine's words.
     Memory,
 }
@@ -69,7 +70,7 @@ impl Odt {
     /// where that was refused.
     pub fn new(alloc: Global, words: u16, style: Style) -> Result<Odt, OdtError>
         ensures ok { IfOk result (λ odt. odt ≡ record { style = style; memory = replicate words 0; mode = Mode.Prompt }) }
-        ensures too_large { (result ≡ Err OdtError.TooLarge) ↔ (28672 < words) }
+        ensures too_large { (result ≡ Err OdtError.TooLarge) ↔ (largest_words < words) }
         ensures machine { IfOk result IsMachine }
     {
         if words > LARGEST_WORDS {

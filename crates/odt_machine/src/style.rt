@@ -6,8 +6,10 @@ ghost use Rattle.odt_machine.specs.Style.{style_number};
 pub struct Style {
     /// One space stands before the digits of an opened word.
     pub space_before: bool,
+
     /// Two carriage returns, in place of one, stand before the line feed.
     pub two_returns: bool,
+
     /// An illegal key is echoed before the question mark.
     pub echo_illegal: bool,
 }
@@ -19,13 +21,16 @@ pub const PLAIN_STYLE: Style = Style {
     echo_illegal: false,
 };
 
+/// The largest number of a style: all three choices.
+pub const LARGEST_STYLE: u8 = 7;
+
 impl Style {
     /// The style with this number: 1 for `space_before`, plus 2 for `two_returns`, plus 4 for
     /// `echo_illegal`. `None` exactly above 7.
     pub fn from_number(number: u8) -> Option<Style>
         ensures { MatchOption result (8 ≤ number) (λ style. style_number style ≡ number) }
     {
-        if number > 7 {
+        if number > LARGEST_STYLE {
             return None;
         }
         Some(Style {

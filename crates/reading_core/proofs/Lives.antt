@@ -1,9 +1,9 @@
 -- What holds of a life over every list of heard things.
+use Rattle.std.specs.Prelude.{option_to_list}
 use Rattle.std.proofs.Common.{◌≡◌, ℕ, ◌+◌, ◌≤◌, Bool, nat_lt, if◌then◌else◌, List, [], ◌∷◌, length, refl, arith, ◌∙◌, ap, length-append}
 use Rattle.host_core.specs.declared.heard.Heard.{Heard}
 use Rattle.octal.specs.Octal.{digit_of}
 use Rattle.host_core.specs.Console.{resynchronise}
-use Rattle.host_core.specs.Laws.{keys}
 use Rattle.host_core.proofs.Frame.{on_test}
 use Rattle.reading_core.specs.declared.phase.Phase.TheVariants.{Settle, Sync, Address, Ended}
 use Rattle.reading_core.specs.declared.phase.End.TheVariants.{Complete, GaveUp}
@@ -21,7 +21,7 @@ pub record IsAsked (r : Reader) (turn : Turn) (a : Asked) : Type 0 where
   pub addresses : a.next.addresses ≡ r.addresses
   pub values : a.next.values ≡ values_after r.values turn
   pub patience : a.next.patience ≡ r.patience
-  pub sent : a.next.sent ≡ r.sent + length (keys a.key)
+  pub sent : a.next.sent ≡ r.sent + length (option_to_list a.key)
 
 not_sent : (n : ℕ) → n ≡ n + 0
 not_sent n = omega arith
@@ -65,7 +65,7 @@ led_patience r (heard ∷ more) = led_patience (ask r heard).next more ∙ (aske
 pub led_sent : (r : Reader) (heard : List Heard) → (led r heard).sent ≡ r.sent + length (replay r heard)
 led_sent r [] = omega arith
 led_sent r (heard ∷ more) =
-    omega (arith, led_sent (ask r heard).next more, (asked r heard).sent, length-append (keys (ask r heard).key) (replay (ask r heard).next more))
+    omega (arith, led_sent (ask r heard).next more, (asked r heard).sent, length-append (option_to_list (ask r heard).key) (replay (ask r heard).next more))
 
 pub keeps_bound : (r : Reader) → IsReader r → KeepsBound r
 keeps_bound r h heard =

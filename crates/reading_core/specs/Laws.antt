@@ -1,7 +1,6 @@
 -- What holds of a reading host over everything that it may ever hear.
-use Rattle.std.specs.Prelude.{ℕ, ◌+◌, ◌≤◌, List, [], ◌∷◌, ◌++◌, length}
+use Rattle.std.specs.Prelude.{ℕ, ◌+◌, ◌≤◌, List, [], ◌∷◌, ◌++◌, length, option_to_list}
 use Rattle.host_core.specs.declared.heard.Heard.{Heard}
-use Rattle.host_core.specs.Laws.{keys}
 use Rattle.reading_core.specs.Reader.{Reader}
 use Rattle.reading_core.specs.Bound.{reading_bound}
 use Rattle.reading_core.specs.ReadingTable.{ask}
@@ -14,7 +13,7 @@ led r (heard ∷ more) = led (ask r heard).next more
 -- the characters that answer a list of heard things
 abbrev pub replay : Reader → List Heard → List ℕ
 replay r [] = []
-replay r (heard ∷ more) = keys (ask r heard).key ++ replay (ask r heard).next more
+replay r (heard ∷ more) = option_to_list (ask r heard).key ++ replay (ask r heard).next more
 
 -- whatever is heard, this life sends no more characters than the bound, those that it has sent included
 abbrev pub KeepsBound : Reader → Type 0

@@ -1,75 +1,16 @@
 ghost use Rattle.std.specs.Prelude.{◌≡◌, ◌≤◌, Some, length};
+ghost use Rattle.honest_line.specs.Lent.{HasMovedOn};
 ghost use Rattle.reading_core.specs.Bound.{reading_bound};
 ghost use Rattle.reading_core.specs.Invariant.{IsReader};
 ghost use Rattle.reading_engine.specs.Failing.{Counts, NamesFault};
 ghost use Rattle.reading_engine.specs.Inquired.{Inquired, TellsEnd};
-ghost use Rattle.reading_engine.specs.Lent.{HasMovedOn, ReadsTrue};
+ghost use Rattle.reading_engine.specs.Lent.{ReadsTrue};
 
 use crate::inquiring::inquire;
 use crate::stop::Stop;
-use honest_line::MemoryLine;
-use host_core::Heard;
-use load_devices::{Line, LineFault};
+use honest_line::{LentLine, MemoryLine, Opening};
 use reading_core::ReadingCore;
-use std::marker::{Brand, Model, PhantomData};
-
-/// A name for the line as it was lent.
-trait Opening {
-    ghost use Rattle.honest_line.specs.LineTable.{LineValue};
-
-    /// The line as it was lent.
-    ghost line: { LineValue };
-}
-
-impl Opening for Brand {
-    ghost use Rattle.reading_engine.specs.Lent.{no_line};
-
-    ghost line = { no_line };
-}
-
-/// A line in memory that is lent: all that was said since passed over it, whoever said it.
-#[derive(Drop)]
-struct Lent<E: Opening> {
-    line: MemoryLine,
-    of: PhantomData<E>,
-}
-
-impl<E: Opening> Model for Lent<E> {
-    ghost use Rattle.honest_line.specs.LineTable.{LineValue};
-    ghost use Rattle.reading_engine.specs.Lent.{HasMovedOn};
-
-    ghost Value = { LineValue };
-
-    ghost view = { λ l. l.line };
-
-    ghost invariant = { λ l. HasMovedOn E.line l.line };
-}
-
-impl<E: Opening> Line for Lent<E> {
-    ghost use Rattle.std.specs.Prelude.{Some};
-
-    ghost told = { λ lent. Some lent.items };
-
-    ghost fault_count = { λ lent. lent.failures };
-
-    ghost last_fault = { λ lent. lent.fault };
-
-    fn send(&mut self, key: u8) -> Result<(), LineFault> {
-        self.line.send(key)
-    }
-
-    fn hear(&mut self) -> Result<Heard, LineFault> {
-        self.line.hear()
-    }
-
-    fn failures(&self) -> u64 {
-        self.line.failures()
-    }
-
-    fn failed(&self) -> bool {
-        self.line.failed()
-    }
-}
+use std::marker::Brand;
 
 /// Lends the core to the line for at most so many turns, as `inquire` does, and the line comes back.
 /// Where a reading may begin over its machine and at most 32 characters wait, what was read is true
@@ -111,10 +52,7 @@ fn inquire_lent<E: Opening>(
     ensures bound { result.0.0.sent ≤ reading_bound (length result.0.0.addresses) result.0.0.patience }
     ensures kept { IsReader result.0.0 }
 {
-    let mut lent: Lent<E> = Lent {
-        line,
-        of: PhantomData,
-    };
+    let mut lent: LentLine<E> = LentLine::lend(line);
     let answer = inquire(core, &mut lent, turns);
-    (answer, lent.line)
+    (answer, lent.take_back())
 }

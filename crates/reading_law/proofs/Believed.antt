@@ -1,8 +1,8 @@
 -- What a run of the world says of a reading host that heard an honest line.
+use Rattle.std.specs.Prelude.{option_to_list}
 use Rattle.std.proofs.Common.{◌≡◌, ℕ, ◌+◌, ◌==◌, ◌≤◌, Bool, false, List, [], ◌∷◌, ◌++◌, length, Option, Some, None, refl, arith, ap, sym, subst, ◌∙◌}
 use Rattle.odt_machine.specs.Machine.{Machine}
 use Rattle.host_core.specs.declared.heard.Heard.{Heard}
-use Rattle.host_core.specs.Laws.{keys}
 use Rattle.line_world.specs.Wire.{Wire}
 use Rattle.load_devices.specs.declared.item.Item.{Item}
 use Rattle.load_devices.specs.declared.item.Item.TheVariants.{Sent, Heard as Came}
@@ -44,14 +44,14 @@ run_true memory w next typing k run =
 
 -- ---- the keys of a dialogue
 
-keys_of_said : (key : Option ℕ) (items : List Item) → keys_of (said key ++ items) ≡ keys key ++ keys_of items
+keys_of_said : (key : Option ℕ) (items : List Item) → keys_of (said key ++ items) ≡ option_to_list key ++ keys_of items
 keys_of_said None items = refl
 keys_of_said (Some key) items = refl
 
 keys_of-dialogue : (things : List Heard) (r : Reader) → keys_of (dialogue r things) ≡ replay r things
 keys_of-dialogue [] r = refl
 keys_of-dialogue (what ∷ things) r =
-    keys_of_said (ask r what).key (dialogue (ask r what).next things) ∙ ap (λ more. keys (ask r what).key ++ more) (keys_of-dialogue things (ask r what).next)
+    keys_of_said (ask r what).key (dialogue (ask r what).next things) ∙ ap (λ more. option_to_list (ask r what).key ++ more) (keys_of-dialogue things (ask r what).next)
 
 keys_of_more : (items : List Item) (key : ℕ) → keys_of (items ++ Sent key ∷ []) ≡ keys_of items ++ key ∷ []
 keys_of_more [] key = refl

@@ -5,8 +5,7 @@ use Rattle.tape_image.specs.Memory.{top_of}
 use Rattle.tape_image.specs.Word.{WordValue}
 use Rattle.line_world.specs.declared.event.Event.{Event}
 use Rattle.host_core.specs.Core.{word_nr}
-use Rattle.line_world.specs.Lawful.{ground}
-use Rattle.line_world.specs.Site.{site}
+use Rattle.line_world.specs.Site.{site, ground}
 use Rattle.line_world.specs.Invariant.{InPhase}
 use Rattle.reading_core.specs.declared.phase.Phase.{Phase}
 use Rattle.reading_core.specs.declared.phase.Phase.TheVariants.{Settle, Sync, Address, Slash, Before, Value, Close, Ended}

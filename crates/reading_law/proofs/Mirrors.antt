@@ -18,9 +18,8 @@ use Rattle.line_world.specs.Scene.{Scene, over as load_over}
 use Rattle.line_world.specs.Wire.{without_down, without_up, forgiven}
 use Rattle.line_world.specs.World.{stepped as load_stepped, takes as load_takes, hears as load_hears, times_out as load_times_out, happens as load_happens}
 use Rattle.line_world.specs.Opening.{opened as load_opened}
-use Rattle.line_world.specs.Site.{Site, site, site_of, held, IsThere, last_digits}
+use Rattle.line_world.specs.Site.{Site, site, site_of, held, IsThere, last_digits, ground}
 use Rattle.line_world.specs.Pending.{IsPart, RestFits}
-use Rattle.line_world.specs.Lawful.{ground}
 use Rattle.line_world.specs.Invariant.{IsKept, InPhase}
 use Rattle.line_world.specs.Safe.{OnlyImage}
 use Rattle.line_world.proofs.Opening.{opening_kept}

@@ -7,7 +7,6 @@ use Rattle.host_core.specs.declared.heard.Heard.{Heard}
 use Rattle.host_core.specs.declared.heard.Heard.TheVariants.{Got, Quiet as Silence}
 use Rattle.reading_core.specs.Reader.{Reader}
 use Rattle.reading_core.specs.Laws.{led, replay}
-use Rattle.host_core.specs.Laws.{keys}
 use Rattle.reading_core.specs.ReadingTable.{ask}
 use Rattle.line_world.specs.declared.event.Event.{Event}
 use Rattle.line_world.specs.declared.event.Event.TheVariants.{Take, Hear, LoseDown, LoseUp, Quiet}
@@ -107,16 +106,11 @@ passes_said : (key : Option ℕ) (items : List Item) (x y : Wire) → Passes x (
 passes_said None items x y passes = subst (λ down. Passes (record x { down = down }) items y) (sym (append-nil x.down)) passes
 passes_said (Some key) items x y passes = passes
 
-keys_same : (key : Option ℕ) → option_to_list key ≡ keys key
-keys_same None = refl
-keys_same (Some key) = refl
-
 pub dialogue_leads : (things : List Heard) (r : Reader) (x y : Wire) → Passes x (dialogue r things) y → Leads (over r x) (replay r things) (over (led r things) y)
 dialogue_leads [] r x y moves = moves_lead r x y moves
 dialogue_leads (what ∷ things) r x y (z, v, before, gives, passes) =
     let key = (ask r what).key in
     let next = (ask r what).next in
-    subst (λ keys. Leads (over r x) (keys ++ replay next things) (over (led next things) y)) (keys_same key)
-    (leads_then (over r x) (over r z) (over (led next things) y) [] (option_to_list key ++ replay next things) (moves_lead r x z before)
+    leads_then (over r x) (over r z) (over (led next things) y) [] (option_to_list key ++ replay next things) (moves_lead r x z before)
     (leads_then (over r z) (over next (sent v (option_to_list key))) (over (led next things) y) (option_to_list key) (replay next things) (gives_lead r what z v gives)
-    (dialogue_leads things next (sent v (option_to_list key)) y (passes_said key (dialogue next things) v y passes))))
+    (dialogue_leads things next (sent v (option_to_list key)) y (passes_said key (dialogue next things) v y passes)))

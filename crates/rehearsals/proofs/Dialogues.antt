@@ -8,7 +8,8 @@ use Rattle.std.proofs.Math.Seq.{drop-append_seam}
 use Rattle.std.proofs.KnownBytes.{Appends-nil, Appends-trans}
 use Rattle.std.specs.Io.KnownBytes.{Appends, Keeps}
 use Rattle.tape_blocks.specs.Tape.{TapeValue}
-use Rattle.tape_image.specs.Plan.{plan_of_all}
+use Rattle.tape_image.specs.declared.start.Start.{Start}
+use Rattle.tape_image.specs.Plan.{PlanValue, plan_of_all, starting}
 use Rattle.odt_machine.specs.declared.style.Style.{Style}
 use Rattle.odt_machine.specs.Machine.{Machine, IsMachine}
 use Rattle.odt_machine.specs.KeyTable.{take_of}
@@ -24,16 +25,16 @@ use Rattle.line_world.specs.World.{happens, after, first_event, first_of, IsClea
 use Rattle.line_world.proofs.Opening.{opening_kept}
 use Rattle.command_io.specs.declared.fault.CommandFault.{CommandFault}
 use Rattle.command_io.specs.declared.fault.CommandFault.TheVariants as fault
-use Rattle.command_io.specs.Output.{WritesFront, WritesPrefix}
+use Rattle.byte_io.specs.Output.{WritesPrefix, WritesProperPrefix}
 use Rattle.command_io.specs.Tapes.{AreTapes, AreAllTaken, AreTapesFault, tapes_of}
-use Rattle.command_io.specs.Text.{line}
-use Rattle.load_reports.specs.Report.{counts_text, end_name, mode_name, word_text, report}
+use Rattle.byte_io.specs.Text.{line}
+use Rattle.rehearsals.specs.Report.{life_text, end_text, mode_name, held_word_text, report}
 use Rattle.rehearsals.specs.Dialogue.{Talks, IsDialogueText, IsDialogue, IsDialogueInPart, IsDialogueFault, IsReportFault, IsTalkFault, dialogue_opening, dialogue_patience}
 use Rattle.rehearsals.specs.declared.exchange.Exchange.{Exchange}
 use Rattle.rehearsals.specs.KeyLines.{Answered, Gathers, Holds, Notes, answered_in, answered_keys, key_text, last_line}
 use Rattle.rehearsals.specs.Rehearsal.{IsMachineFault, machine_of}
 use Rattle.rehearsals.proofs.CleanRuns.{ComesToEnd, comes_to_end}
-use Rattle.command_io.proofs.Fronts.{front_behind, front_whole, prefix_behind, prefix_longer}
+use Rattle.byte_io.proofs.Fronts.{front_behind, front_whole, prefix_behind, prefix_longer}
 use Rattle.rehearsals.proofs.KeyTexts.{gathered_text}
 
 -- events that end from one world on end from an earlier one on, lead to the same world and tell the same; what was told so far is written
@@ -105,25 +106,25 @@ conversation_more start w next exchange noted before between now on is notes so 
 
 -- a turn that fails
 pub conversation_stops : (start w : Scene) (exchange : Exchange) (before between now : Option (List ℕ)) → Conversation start w exchange before between → ended w.core.phase ≡ None
-    → ((gathered : List Answered) → Gathers gathered exchange → (more : List Answered) → WritesFront between now (key_text (gathered ++ (answered_in w (first_event w) ++ more))))
-    → (all : List Event) → IsCleanRun start all → WritesFront before now (key_text (answered_keys start all))
+    → ((gathered : List Answered) → Gathers gathered exchange → (more : List Answered) → WritesPrefix between now (key_text (gathered ++ (answered_in w (first_event w) ++ more))))
+    → (all : List Event) → IsCleanRun start all → WritesPrefix before now (key_text (answered_keys start all))
 conversation_stops start w exchange before between now so on front all clean =
     let left = so.rest all clean in
     let later = clean_more w left.0 on left.1 in
-    subst (WritesFront before now) (sym (left.2 ∙ ap (λ ks. so.told ++ key_text (so.gathered ++ ks)) later.2))
+    subst (WritesPrefix before now) (sym (left.2 ∙ ap (λ ks. so.told ++ key_text (so.gathered ++ ks)) later.2))
     (front_behind before between now so.told (key_text (so.gathered ++ (answered_in w (first_event w) ++ answered_keys (happens w (first_event w)) later.0))) so.written
     (front so.gathered so.gathers (answered_keys (happens w (first_event w)) later.0)))
 
 -- a last line that fails
 pub conversation_unfinished : (start w : Scene) (end : End) (exchange : Exchange) (before between now : Option (List ℕ)) → Conversation start w exchange before between → ended w.core.phase ≡ Some end
-    → ((held : List Answered) → Holds held exchange → WritesFront between now (last_line held))
-    → (all : List Event) → IsCleanRun start all → WritesFront before now (key_text (answered_keys start all))
+    → ((held : List Answered) → Holds held exchange → WritesPrefix between now (last_line held))
+    → (all : List Event) → IsCleanRun start all → WritesPrefix before now (key_text (answered_keys start all))
 conversation_unfinished start w end exchange before between now so is front all clean =
     let left = so.rest all clean in
     let text : key_text (answered_keys start all) ≡ so.told ++ last_line so.gathered =
     left.2 ∙ ap (λ es. so.told ++ key_text (so.gathered ++ answered_keys w es)) (clean_none w end left.0 is left.1)
     ∙ ap (λ g. so.told ++ key_text g) (append-nil so.gathered) ∙ ap (λ l. so.told ++ l) (gathered_text so.gathered so.gathers.echoes) in
-    subst (WritesFront before now) (sym text) (front_behind before between now so.told (last_line so.gathered) so.written (front so.gathered so.gathers.holds))
+    subst (WritesPrefix before now) (sym text) (front_behind before between now so.told (last_line so.gathered) so.written (front so.gathered so.gathers.holds))
 
 -- the end, and the line under way with it
 pub conversation_ends : (start w : Scene) (end : End) (exchange : Exchange) (before between now : Option (List ℕ)) → Conversation start w exchange before between → ended w.core.phase ≡ Some end
@@ -174,36 +175,37 @@ answered_next w next key waiting up answer first is waiting_is up_is answer_is =
     one.1 ∙ ap (λ a. a ∷ []) (answered_is one.0 key answer one.2 (sym behind ∙ sym answer_is))
 
 -- the world of a dialogue, from its parts
-pub opens_dialogue : (words : ℕ) (style : Style) (tapes opened_tapes known : List TapeValue) (odt : Machine) (world : Scene) (waiting : List ℕ)
-    → opened_tapes ≡ tapes → tapes ≡ known → odt ≡ machine_of style (replicate words 0) → waiting ≡ [] → world ≡ opened odt (begun (plan_of_all opened_tapes) 0 false dialogue_patience) waiting
-    → world ≡ dialogue_opening known words style
-opens_dialogue words style tapes opened_tapes known odt world waiting same is odt_is waits world_is =
-    world_is ∙ ap (λ m. opened m (begun (plan_of_all opened_tapes) 0 false dialogue_patience) waiting) odt_is
-    ∙ ap (λ ws. opened (machine_of style (replicate words 0)) (begun (plan_of_all opened_tapes) 0 false dialogue_patience) ws) waits
-    ∙ ap (λ ts. dialogue_opening ts words style) (same ∙ is)
+pub opens_dialogue : (words : ℕ) (style : Style) (start : Start) (tapes opened_tapes known : List TapeValue) (plan : PlanValue) (odt : Machine) (world : Scene) (waiting : List ℕ)
+    → opened_tapes ≡ tapes → tapes ≡ known → plan ≡ starting (plan_of_all opened_tapes) start → odt ≡ machine_of style (replicate words 0) → waiting ≡ []
+    → world ≡ opened odt (begun plan 0 false dialogue_patience) waiting → world ≡ dialogue_opening known words style start
+opens_dialogue words style start tapes opened_tapes known plan odt world waiting same is plan_is odt_is waits world_is =
+    world_is ∙ ap (λ m. opened m (begun plan 0 false dialogue_patience) waiting) odt_is
+    ∙ ap (λ ws. opened (machine_of style (replicate words 0)) (begun plan 0 false dialogue_patience) ws) waits
+    ∙ ap (λ p. opened (machine_of style (replicate words 0)) (begun p 0 false dialogue_patience) []) plan_is
+    ∙ ap (λ ts. dialogue_opening ts words style start) (same ∙ is)
 
 -- no tapes were taken
-pub tapes_fault : (inputs rests : List (Option (List ℕ))) (out : Option (List ℕ)) (words : ℕ) (style : Style) (why : CommandFault) → Keeps out out → AreTapesFault inputs rests why → IsDialogueFault inputs rests out out words style why
-tapes_fault inputs rests out words style (fault.Tape number refusal) keeps failed = (failed, keeps)
-tapes_fault inputs rests out words style (fault.ReadTape number) keeps failed = (failed, keeps)
-tapes_fault inputs rests out words style fault.Memory keeps failed = inl keeps
-tapes_fault inputs rests out words style (fault.Script line) keeps failed = absurd failed
-tapes_fault inputs rests out words style fault.TooLarge keeps failed = absurd failed
-tapes_fault inputs rests out words style fault.ReadScript keeps failed = absurd failed
-tapes_fault inputs rests out words style fault.ReadKeys keeps failed = absurd failed
-tapes_fault inputs rests out words style fault.Write keeps failed = absurd failed
+pub tapes_fault : (inputs rests : List (Option (List ℕ))) (out : Option (List ℕ)) (words : ℕ) (style : Style) (start : Start) (why : CommandFault) → Keeps out out → AreTapesFault inputs rests why → IsDialogueFault inputs rests out out words style start why
+tapes_fault inputs rests out words style start (fault.Tape number refusal) keeps failed = (failed, keeps)
+tapes_fault inputs rests out words style start (fault.ReadTape number) keeps failed = (failed, keeps)
+tapes_fault inputs rests out words style start fault.Memory keeps failed = inl keeps
+tapes_fault inputs rests out words style start (fault.Script line) keeps failed = absurd failed
+tapes_fault inputs rests out words style start fault.TooLarge keeps failed = absurd failed
+tapes_fault inputs rests out words style start fault.ReadScript keeps failed = absurd failed
+tapes_fault inputs rests out words style start fault.ReadKeys keeps failed = absurd failed
+tapes_fault inputs rests out words style start fault.Write keeps failed = absurd failed
 
 -- no machine was made
-pub machine_fault : (inputs rests : List (Option (List ℕ))) (out : Option (List ℕ)) (words : ℕ) (style : Style) (why : CommandFault) → AreAllTaken inputs rests → Keeps out out → IsMachineFault words why
-    → IsDialogueFault inputs rests out out words style why
-machine_fault inputs rests out words style fault.TooLarge taken keeps failed = (taken, failed, keeps)
-machine_fault inputs rests out words style fault.Memory taken keeps failed = inl keeps
-machine_fault inputs rests out words style (fault.Tape number refusal) taken keeps failed = absurd failed
-machine_fault inputs rests out words style (fault.Script line) taken keeps failed = absurd failed
-machine_fault inputs rests out words style (fault.ReadTape number) taken keeps failed = absurd failed
-machine_fault inputs rests out words style fault.ReadScript taken keeps failed = absurd failed
-machine_fault inputs rests out words style fault.ReadKeys taken keeps failed = absurd failed
-machine_fault inputs rests out words style fault.Write taken keeps failed = absurd failed
+pub machine_fault : (inputs rests : List (Option (List ℕ))) (out : Option (List ℕ)) (words : ℕ) (style : Style) (start : Start) (why : CommandFault) → AreAllTaken inputs rests → Keeps out out → IsMachineFault words why
+    → IsDialogueFault inputs rests out out words style start why
+machine_fault inputs rests out words style start fault.TooLarge taken keeps failed = (taken, failed, keeps)
+machine_fault inputs rests out words style start fault.Memory taken keeps failed = inl keeps
+machine_fault inputs rests out words style start (fault.Tape number refusal) taken keeps failed = absurd failed
+machine_fault inputs rests out words style start (fault.Script line) taken keeps failed = absurd failed
+machine_fault inputs rests out words style start (fault.ReadTape number) taken keeps failed = absurd failed
+machine_fault inputs rests out words style start fault.ReadScript taken keeps failed = absurd failed
+machine_fault inputs rests out words style start fault.ReadKeys taken keeps failed = absurd failed
+machine_fault inputs rests out words style start fault.Write taken keeps failed = absurd failed
 
 some_report : (counts end mode words : List ℕ) → 0 < length (((line counts ++ end) ++ mode) ++ words)
 some_report counts end mode words = omega (arith, length-append ((line counts ++ end) ++ mode) words, length-append (line counts ++ end) mode, length-append (line counts) end, length-append counts (10 ∷ []))
@@ -211,31 +213,31 @@ some_report counts end mode words = omega (arith, length-append ((line counts ++
 -- a report has some text
 report_some : (w : Scene) → 0 < length (report w)
 report_some w =
-    some_report (counts_text w) (line (codes "end " ++ end_name (ended w.core.phase))) (line (codes "odt " ++ mode_name w.machine.mode))
-    (flat_map (λ word. line (word_text w.machine.memory word)) w.core.plan.words)
+    some_report (life_text w) (line (codes "end " ++ end_text (ended w.core.phase))) (line (codes "odt " ++ mode_name w.machine.mode))
+    (flat_map (λ word. line (held_word_text w.machine.memory word)) w.core.plan.words)
 
-module _ (inputs rests : List (Option (List ℕ))) (words : ℕ) (style : Style) (tapes : List TapeValue) (lengths : List ℕ) (are : AreTapes inputs rests tapes lengths) (world : Scene)
-    (opens : world ≡ dialogue_opening (tapes_of are.texts) words style) where
+module _ (inputs rests : List (Option (List ℕ))) (words : ℕ) (style : Style) (start : Start) (tapes : List TapeValue) (lengths : List ℕ) (are : AreTapes inputs rests tapes lengths) (world : Scene)
+    (opens : world ≡ dialogue_opening (tapes_of are.texts) words style start) where
   -- the text of a run from there
-  text_is : (last : Scene) (end : End) (run : RunsTo world last end) → IsDialogueText inputs rests words style end (key_text (answered_keys world run.events) ++ report last)
+  text_is : (last : Scene) (end : End) (run : RunsTo world last end) → IsDialogueText inputs rests words style start end (key_text (answered_keys world run.events) ++ report last)
   text_is last end run =
-      subst (λ v. (r : RunsTo v last end) → IsDialogueText inputs rests words style end (key_text (answered_keys v r.events) ++ report last)) (sym opens)
+      subst (λ v. (r : RunsTo v last end) → IsDialogueText inputs rests words style start end (key_text (answered_keys v r.events) ++ report last)) (sym opens)
       (λ r. record { texts = are.texts; taken = are.taken; last = last; run = r; told = refl }) run
 
   kept : IsMachine (machine_of style (replicate words 0)) → IsHost world.core → IsKept world
   kept machine host =
       subst IsKept (sym opens)
-      (opening_kept (machine_of style (replicate words 0)) (plan_of_all (tapes_of are.texts)) 0 dialogue_patience [] machine (subst (λ (w : Scene). IsHost w.core) opens host) (omega arith) refl (λ i below. absurd (omega arith)))
+      (opening_kept (machine_of style (replicate words 0)) (starting (plan_of_all (tapes_of are.texts)) start) 0 dialogue_patience [] machine (subst (λ (w : Scene). IsHost w.core) opens host) (omega arith) refl (λ i below. absurd (omega arith)))
 
   -- the conversation stopped
   pub stopped_in_talk : (odt : Machine) (before now : Option (List ℕ)) (why : CommandFault) → odt ≡ machine_of style (replicate words 0) → IsMachine odt → IsHost world.core → IsTalkFault why
-      → ((events : List Event) → IsCleanRun world events → WritesFront before now (key_text (answered_keys world events))) → IsDialogueFault inputs rests before now words style why
+      → ((events : List Event) → IsCleanRun world events → WritesPrefix before now (key_text (answered_keys world events))) → IsDialogueFault inputs rests before now words style start why
   stopped_in_talk odt before now why odt_is machine host talk front = told why talk
     where
       ends : ComesToEnd world
       ends = comes_to_end world (kept (subst IsMachine odt_is machine) host)
 
-      part : IsDialogueInPart inputs rests before now words style
+      part : IsDialogueInPart inputs rests before now words style start
       part = record {
         end = ends.end;
         text = key_text (answered_keys world ends.run.events) ++ report ends.last;
@@ -243,7 +245,7 @@ module _ (inputs rests : List (Option (List ℕ))) (words : ℕ) (style : Style)
         written = prefix_longer before now (key_text (answered_keys world ends.run.events)) (report ends.last) (report_some ends.last) (front ends.run.events ends.run.clean);
       }
 
-      told : (other : CommandFault) → IsTalkFault other → IsDialogueFault inputs rests before now words style other
+      told : (other : CommandFault) → IsTalkFault other → IsDialogueFault inputs rests before now words style start other
       told fault.Write talk = part
       told fault.Memory talk = inr part
       told (fault.Tape number refusal) talk = absurd talk
@@ -254,7 +256,7 @@ module _ (inputs rests : List (Option (List ℕ))) (words : ℕ) (style : Style)
       told fault.ReadKeys talk = absurd talk
 
   -- the report was not made
-  no_report : (last : Scene) (end : End) (before now : Option (List ℕ)) → Talks world last end before now → IsDialogueInPart inputs rests before now words style
+  no_report : (last : Scene) (end : End) (before now : Option (List ℕ)) → Talks world last end before now → IsDialogueInPart inputs rests before now words style start
   no_report last end before now talks = record {
     end = end;
     text = key_text (answered_keys world talks.run.events) ++ report last;
@@ -263,7 +265,7 @@ module _ (inputs rests : List (Option (List ℕ))) (words : ℕ) (style : Style)
   }
 
   -- the report was written in part
-  report_in_part : (last : Scene) (end : End) (before between now : Option (List ℕ)) → Talks world last end before between → WritesPrefix between now (report last) → IsDialogueInPart inputs rests before now words style
+  report_in_part : (last : Scene) (end : End) (before between now : Option (List ℕ)) → Talks world last end before between → WritesProperPrefix between now (report last) → IsDialogueInPart inputs rests before now words style start
   report_in_part last end before between now talks written = record {
     end = end;
     text = key_text (answered_keys world talks.run.events) ++ report last;
@@ -272,7 +274,7 @@ module _ (inputs rests : List (Option (List ℕ))) (words : ℕ) (style : Style)
   }
 
   -- the report was not written whole
-  pub report_failed : (last : Scene) (end : End) (before between now : Option (List ℕ)) (why : CommandFault) → Talks world last end before between → IsReportFault between now (report last) why → IsDialogueFault inputs rests before now words style why
+  pub report_failed : (last : Scene) (end : End) (before between now : Option (List ℕ)) (why : CommandFault) → Talks world last end before between → IsReportFault between now (report last) why → IsDialogueFault inputs rests before now words style start why
   report_failed last end before between now fault.Write talks failed = report_in_part last end before between now talks failed
   report_failed last end before between now fault.Memory talks failed = inr (no_report last end before now (subst (Talks world last end before) (sym failed) talks))
   report_failed last end before between now (fault.Tape number refusal) talks failed = absurd failed
@@ -283,7 +285,7 @@ module _ (inputs rests : List (Option (List ℕ))) (words : ℕ) (style : Style)
   report_failed last end before between now fault.ReadKeys talks failed = absurd failed
 
   -- all was written
-  pub dialogue_made : (last : Scene) (end : End) (before between now : Option (List ℕ)) → Talks world last end before between → Appends between now (report last) → IsDialogue inputs rests before now words style end
+  pub dialogue_made : (last : Scene) (end : End) (before between now : Option (List ℕ)) → Talks world last end before between → Appends between now (report last) → IsDialogue inputs rests before now words style start end
   dialogue_made last end before between now talks written = record {
     text = key_text (answered_keys world talks.run.events) ++ report last;
     is_text = text_is last end talks.run;

@@ -8,10 +8,10 @@ use Rattle.std.proofs.KnownBytes.{Appends-nil}
 use Rattle.std.proofs.lemmas.Grind.{flat_map-append}
 use Rattle.std.proofs.lemmas.List.{map-append, length-append}
 use Rattle.std.proofs.lemmas.List.Concat.{flat_map-cons}
-use Rattle.command_io.specs.Output.{WritesFront}
+use Rattle.byte_io.specs.Output.{WritesPrefix}
 use Rattle.rehearsals.specs.declared.exchange.Exchange.{Exchange}
 use Rattle.rehearsals.specs.KeyLines.{Answered, Gathers, Holds, Notes, is_echo, in_first_line, key_lines, key_line, key_text, last_line, shown, shown_character, shown_keys, shown_answers}
-use Rattle.command_io.proofs.Fronts.{front_longer, front_none}
+use Rattle.byte_io.proofs.Fronts.{front_longer, front_none}
 
 -- each of the keys was merely echoed
 abbrev pub Echoes : List Answered → Type 0
@@ -115,37 +115,37 @@ line_ends (Ok x) a old mid now before after finished keys answers off = λ gathe
 
 -- a line that is written in part is a front of the text of all keys
 pub line_fails : {T E : Type 0} (r : Result T E) (a : Answered) (old mid : Exchange) (before after : Option (List ℕ))
-    → OnErr r ((held : List Answered) → Holds held mid → WritesFront before after (last_line held))
+    → OnErr r ((held : List Answered) → Holds held mid → WritesPrefix before after (last_line held))
     → mid.keys.items ≡ old.keys.items ++ shown (a.key ∷ []) → mid.answers.items ≡ old.answers.items ++ shown a.answer → is_echo a ≡ false
-    → OnErr r ((gathered : List Answered) → Gathers gathered old → (more : List Answered) → WritesFront before after (key_text (gathered ++ (a ∷ more))))
+    → OnErr r ((gathered : List Answered) → Gathers gathered old → (more : List Answered) → WritesPrefix before after (key_text (gathered ++ (a ∷ more))))
 line_fails (Ok x) a old mid before after failed keys answers off = tt
 line_fails (Err e) a old mid before after failed keys answers off = λ gathered gathers more.
     let line = failed (gathered ++ a ∷ []) (holds_more gathered a old mid gathers.holds keys answers) in
-    subst (WritesFront before after) (sym (ap (flat_map key_line) (ended_line gathered a more gathers.echoes off) ∙ flat_map-cons key_line (gathered ++ a ∷ []) (key_lines more)))
-    (front_longer before after (key_line (gathered ++ a ∷ [])) (key_text more) (subst (WritesFront before after) (last_is (gathered ++ a ∷ []) (some_more gathered a)) line))
+    subst (WritesPrefix before after) (sym (ap (flat_map key_line) (ended_line gathered a more gathers.echoes off) ∙ flat_map-cons key_line (gathered ++ a ∷ []) (key_lines more)))
+    (front_longer before after (key_line (gathered ++ a ∷ [])) (key_text more) (subst (WritesPrefix before after) (last_is (gathered ++ a ∷ []) (some_more gathered a)) line))
 
 -- a line that is written in part is a front of the line of the keys held
 held_fails : (exchange : Exchange) (held : List Answered) (text : List ℕ) (before after : Option (List ℕ)) → Holds held exchange → (length exchange.keys.items ≡ 0 → ⊥)
-    → text ≡ (exchange.keys.items ++ codes " -> " ++ exchange.answers.items) ++ 10 ∷ [] → WritesFront before after text → WritesFront before after (last_line held)
+    → text ≡ (exchange.keys.items ++ codes " -> " ++ exchange.answers.items) ++ 10 ∷ [] → WritesPrefix before after text → WritesPrefix before after (last_line held)
 held_fails exchange held text before after holds some is front =
-    subst (WritesFront before after)
+    subst (WritesPrefix before after)
     (is ∙ ap (λ l. (l ++ codes " -> " ++ exchange.answers.items) ++ 10 ∷ []) holds.keys ∙ ap (λ l. (shown_keys held ++ codes " -> " ++ l) ++ 10 ∷ []) holds.answers
     ∙ sym (last_is held (λ none. some (ap length holds.keys ∙ ap (λ h. length (shown_keys h)) none))))
     front
 
 -- where nothing was written, nothing of a key's line was
 pub none_of_key : {T E : Type 0} (r : Result T E) (a : Answered) (old : Exchange) (out : Option (List ℕ))
-    → OnErr r ((gathered : List Answered) → Gathers gathered old → (more : List Answered) → WritesFront out out (key_text (gathered ++ (a ∷ more))))
+    → OnErr r ((gathered : List Answered) → Gathers gathered old → (more : List Answered) → WritesPrefix out out (key_text (gathered ++ (a ∷ more))))
 none_of_key (Ok x) a old out = tt
 none_of_key (Err e) a old out = λ gathered gathers more. front_none out (key_text (gathered ++ (a ∷ more)))
 
 -- .. nor of the line under way
-pub none_of_line : {T E : Type 0} (r : Result T E) (old : Exchange) (out : Option (List ℕ)) → OnErr r ((held : List Answered) → Holds held old → WritesFront out out (last_line held))
+pub none_of_line : {T E : Type 0} (r : Result T E) (old : Exchange) (out : Option (List ℕ)) → OnErr r ((held : List Answered) → Holds held old → WritesPrefix out out (last_line held))
 none_of_line (Ok x) old out = tt
 none_of_line (Err e) old out = λ held holds. front_none out (last_line held)
 
 -- the line under way, written in part
 pub some_of_line : {T E : Type 0} (r : Result T E) (old : Exchange) (text shown_text : List ℕ) (before after : Option (List ℕ)) → (length old.keys.items ≡ 0 → ⊥) → shown_text ≡ text
-    → text ≡ (old.keys.items ++ codes " -> " ++ old.answers.items) ++ 10 ∷ [] → WritesFront before after shown_text → OnErr r ((held : List Answered) → Holds held old → WritesFront before after (last_line held))
+    → text ≡ (old.keys.items ++ codes " -> " ++ old.answers.items) ++ 10 ∷ [] → WritesPrefix before after shown_text → OnErr r ((held : List Answered) → Holds held old → WritesPrefix before after (last_line held))
 some_of_line (Ok x) old text shown_text before after some same is front = tt
-some_of_line (Err e) old text shown_text before after some same is front = λ held holds. held_fails old held text before after holds some is (subst (WritesFront before after) same front)
+some_of_line (Err e) old text shown_text before after some same is front = λ held holds. held_fails old held text before after holds some is (subst (WritesPrefix before after) same front)

@@ -4,3 +4,4 @@ pub mod Rehearsals
 pub mod KeyTexts
 pub mod CleanRuns
 pub mod Dialogues
+pub mod Reports

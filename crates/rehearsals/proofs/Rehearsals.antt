@@ -1,9 +1,9 @@
 -- What a script's input says, by the bytes that were taken of it.
-use Rattle.std.proofs.Common.{◌≡◌, ℕ, ◌<◌, ◌≤◌, inl, inr, ⊎_elim, List, [], ◌++◌, length, Option, [], replicate, false, arith, ap, ◌∙◌, subst, append-nil}
+use Rattle.std.proofs.Common.{◌≡◌, ℕ, ◌<◌, ◌≤◌, ◌+◌, inl, inr, ⊎_elim, List, [], ◌++◌, length, Option, [], replicate, false, arith, ap, ◌∙◌, subst, append-nil}
 use Rattle.std.specs.Io.KnownBytes.{Keeps}
 use Rattle.std.proofs.lemmas.List.{length-append}
 use Rattle.tape_blocks.specs.Tape.{TapeValue}
-use Rattle.tape_image.specs.Plan.{plan_of_all}
+use Rattle.tape_image.specs.Plan.{PlanValue, plan_of_all}
 use Rattle.odt_machine.specs.declared.style.Style.{Style}
 use Rattle.odt_machine.specs.Machine.{Machine}
 use Rattle.host_core.specs.Core.{begun}
@@ -12,11 +12,11 @@ use Rattle.line_world.specs.Opening.{opened}
 use Rattle.loss_scripts.specs.declared.script.PutLine.{PutLine}
 use Rattle.loss_scripts.specs.declared.script.StepLine.{StepLine}
 use Rattle.rehearsals.specs.Played.{Played, not_possible_lines}
-use Rattle.load_reports.specs.Report.{report}
-use Rattle.command_io.specs.Input.{IsTaken}
-use Rattle.command_io.specs.TapeFile.{IsInput, input_limit}
+use Rattle.rehearsals.specs.Report.{report}
+use Rattle.byte_io.specs.Input.{IsTaken}
+use Rattle.tape_blocks.specs.Told.{IsAsTold}
 use Rattle.command_io.specs.Tapes.{AreTapes, AreAllTaken}
-use Rattle.loss_scripts.specs.Script.{IsScript, IsRefusedScript, IsRefusedLine}
+use Rattle.loss_scripts.specs.Script.{IsScript, IsRefusedScript, IsRefusedLine, script_limit}
 use Rattle.rehearsals.specs.Rehearsal.{IsScriptInput, IsScriptInputFault, IsPlayFault, IsRehearseFault, IsRehearsal, IsRehearsed, AllLie, after_puts, machine_of, opening}
 use Rattle.command_io.specs.declared.fault.CommandFault.{CommandFault}
 use Rattle.command_io.specs.declared.fault.CommandFault.TheVariants as fault
@@ -24,24 +24,24 @@ use Rattle.loss_scripts.specs.declared.script.Script.{Script}
 use Rattle.command_io.proofs.TapeInput.{left_of, whole, ends}
 
 -- an input of which fewer bytes were taken than the limit is just these
-pub all_taken : (before after : Option (List ℕ)) (bytes : List ℕ) → IsTaken before after input_limit bytes → length bytes ≤ 1048576 → IsInput before bytes
+pub all_taken : (before after : Option (List ℕ)) (bytes : List ℕ) → IsTaken before after (script_limit + 1) bytes → length bytes ≤ script_limit → IsAsTold before bytes
 all_taken before after bytes taken few =
-    subst (IsInput before) (ap (λ rest. bytes ++ rest) (ends after (taken.to_end (omega arith))) ∙ append-nil bytes) (whole before after bytes taken.consumed)
+    subst (IsAsTold before) (ap (λ rest. bytes ++ rest) (ends after (taken.to_end (omega arith))) ∙ append-nil bytes) (whole before after bytes taken.consumed)
 
-pub script_input : (before after : Option (List ℕ)) (bytes read : List ℕ) (script : Script) → IsTaken before after input_limit bytes → read ≡ bytes → IsScript read script → IsScriptInput before script
+pub script_input : (before after : Option (List ℕ)) (bytes read : List ℕ) (script : Script) → IsTaken before after (script_limit + 1) bytes → read ≡ bytes → IsScript read script → IsScriptInput before script
 script_input before after bytes read script taken same is = record {
   text = bytes;
-  is_input = all_taken before after bytes taken (subst (λ t. length t ≤ 1048576) same is.within);
+  is_input = all_taken before after bytes taken (subst (λ t. length t ≤ script_limit) same is.within);
   is_script = subst (λ t. IsScript t script) same is;
 }
 
 -- what is refused of the bytes taken is refused of the input
-pub refused_input : (before after : Option (List ℕ)) (bytes read : List ℕ) (number : ℕ) → IsTaken before after input_limit bytes → read ≡ bytes → IsRefusedScript read number
-    → (text : List ℕ) × IsInput before text × IsRefusedScript text number
+pub refused_input : (before after : Option (List ℕ)) (bytes read : List ℕ) (number : ℕ) → IsTaken before after (script_limit + 1) bytes → read ≡ bytes → IsRefusedScript read number
+    → (text : List ℕ) × IsAsTold before text × IsRefusedScript text number
 refused_input before after bytes read number taken same refused =
     ⊎_elim
-    (λ long. (bytes ++ left_of after, whole before after bytes taken.consumed, inl (long.0, let longer = subst (λ t. 1048576 < length t) same long.1 in omega (arith, length-append bytes (left_of after)))))
-    (λ short. (bytes, all_taken before after bytes taken (subst (λ t. length t ≤ 1048576) same short.0), inr (subst (λ t. (length t ≤ 1048576) × IsRefusedLine t number) same short)))
+    (λ long. (bytes ++ left_of after, whole before after bytes taken.consumed, inl (long.0, let longer = subst (λ t. script_limit < length t) same long.1 in omega (arith, length-append bytes (left_of after)))))
+    (λ short. (bytes, all_taken before after bytes taken (subst (λ t. length t ≤ script_limit) same short.0), inr (subst (λ t. (length t ≤ script_limit) × IsRefusedLine t number) same short)))
     refused
 
 -- what a rehearsal that was not played says of the inputs
@@ -83,14 +83,14 @@ lie_is : (m n : List ℕ) (puts all : List PutLine) → m ≡ n → puts ≡ all
 lie_is m n puts all same puts_are lie = subst (λ k. AllLie k all) same (subst (AllLie m) puts_are lie)
 
 -- a rehearsal from its parts
-pub rehearsal_made : (tapes : List TapeValue) (script : Script) (odt put : Machine) (world last : Scene) (puts : List PutLine) (steps : List StepLine) (waiting start told text : List ℕ)
+pub rehearsal_made : (tapes : List TapeValue) (script : Script) (plan : PlanValue) (odt put : Machine) (world last : Scene) (puts : List PutLine) (steps : List StepLine) (waiting start told text : List ℕ)
     → odt ≡ machine_of script.style (replicate script.words 0) → puts ≡ script.puts.items
     → put ≡ record odt { memory = after_puts odt.memory puts } → AllLie odt.memory puts → waiting ≡ script.waiting.items
-    → world ≡ opened put (begun (plan_of_all tapes) 0 false script.patience) waiting → steps ≡ script.steps.items → start ≡ []
+    → plan ≡ plan_of_all tapes → world ≡ opened put (begun plan 0 false script.patience) waiting → steps ≡ script.steps.items → start ≡ []
     → (numbers : List ℕ) × Played world steps last numbers × (told ≡ start ++ not_possible_lines numbers) → text ≡ told ++ report last → IsRehearsal tapes script text
-rehearsal_made tapes script odt put world last puts steps waiting start told text odt_is puts_are is lie waits world_is steps_are none played text_is =
+rehearsal_made tapes script plan odt put world last puts steps waiting start told text odt_is puts_are is lie waits plan_is world_is steps_are none played text_is =
     let machine = put_is script.style script.words odt put puts script.puts.items odt_is puts_are is in
-    let opens : world ≡ opening tapes script = world_is ∙ ap (λ m. opened m (begun (plan_of_all tapes) 0 false script.patience) waiting) machine
+    let opens : world ≡ opening tapes script = world_is ∙ ap (λ p. opened put (begun p 0 false script.patience) waiting) plan_is ∙ ap (λ m. opened m (begun (plan_of_all tapes) 0 false script.patience) waiting) machine
     ∙ ap (λ ws. opened (machine_of script.style (after_puts (replicate script.words 0) script.puts.items)) (begun (plan_of_all tapes) 0 false script.patience) ws) waits in
     record {
       lie = lie_is odt.memory (replicate script.words 0) puts script.puts.items (ap (λ (m : Machine). m.memory) odt_is) puts_are lie;

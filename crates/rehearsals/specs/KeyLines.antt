@@ -5,11 +5,12 @@ use Rattle.std.specs.Cmp.Lexicographic.{pointwise}
 use Rattle.std.specs.Io.KnownBytes.{Appends}
 use Rattle.odt_machine.specs.Machine.{Machine}
 use Rattle.odt_machine.specs.KeyTable.{take_of}
+use Rattle.odt_machine.specs.Character.{space, carriage_return, line_feed}
 use Rattle.line_world.specs.declared.event.Event.{Event}
 use Rattle.line_world.specs.declared.event.Event.TheVariants.{Take}
 use Rattle.line_world.specs.Scene.{Scene}
 use Rattle.line_world.specs.World.{happens}
-use Rattle.command_io.specs.Text.{line}
+use Rattle.byte_io.specs.Text.{line}
 use Rattle.rehearsals.specs.declared.exchange.Exchange.{Exchange}
 
 -- a key that the console took, and what it answered
@@ -48,7 +49,7 @@ key_lines (a ∷ others) = if is_echo a then in_first_line a (key_lines others) 
 
 -- a character as a line shows it
 abbrev pub shown_character : ℕ → List ℕ
-shown_character c = if c == 32 then codes "_" else (if c == 13 then codes "<CR>" else (if c == 10 then codes "<LF>" else c ∷ []))
+shown_character c = if c == space then codes "_" else (if c == carriage_return then codes "<CR>" else (if c == line_feed then codes "<LF>" else c ∷ []))
 
 -- characters as a line shows them
 abbrev pub shown : List ℕ → List ℕ
@@ -86,9 +87,9 @@ pub record Gathers (gathered : List Answered) (exchange : Exchange) : Type 0 whe
   pub echoes : AllByRecursion (λ a. is_echo a ≡ true) gathered
 
 -- behind gathered keys come the next ones: the lines that they end were written, and what is left is gathered
-pub record Notes (gathered next : List Answered) (now : Exchange) (before after : Option (List ℕ)) : Type 0 where
+pub record Notes (gathered next : List Answered) (exchange' : Exchange) (out out' : Option (List ℕ)) : Type 0 where
   pub told : List ℕ
   pub left : List Answered
-  pub gathers : Gathers left now
-  pub written : Appends before after told
+  pub gathers : Gathers left exchange'
+  pub written : Appends out out' told
   pub text : (more : List Answered) → key_text (gathered ++ (next ++ more)) ≡ told ++ key_text (left ++ more)

@@ -2,3 +2,4 @@ pub mod Played
 pub mod Rehearsal
 pub mod KeyLines
 pub mod Dialogue
+pub mod Report

@@ -8,7 +8,7 @@ use Rattle.line_world.specs.World.{happens, after, possible_count, first_event, 
 use Rattle.loss_scripts.specs.declared.line.Step.{Step}
 use Rattle.loss_scripts.specs.declared.line.Step.TheVariants.{Times, Until, Clean}
 use Rattle.loss_scripts.specs.declared.script.StepLine.{StepLine}
-use Rattle.command_io.specs.Text.{line}
+use Rattle.byte_io.specs.Text.{line}
 
 -- so many characters were sent, or the host has an end
 abbrev pub is_over : ℕ → Scene → Bool
@@ -22,15 +22,15 @@ IsCleanUntil n w (event ∷ events) = (is_over n w ≡ false) × (event ≡ firs
 -- an event line leads from one world to another, and was possible or not: an event so many times is possible where it is
 -- each time, and where it is not the world stays, so the rest of the count does nothing
 abbrev pub Plays : Scene → Step → Scene → Bool → Type 0
-Plays w (Times event n) next possible = (next ≡ after w (replicate n event)) × (possible ≡ (possible_count w (replicate n event) == n))
-Plays w (Until n) next possible = (possible ≡ true) × ((events : List Event) × IsCleanUntil n w events × (next ≡ after w events))
-Plays w Clean next possible = (possible ≡ true) × ((events : List Event) × IsCleanRun w events × (next ≡ after w events))
+Plays w (Times event n) w' possible = (w' ≡ after w (replicate n event)) × (possible ≡ (possible_count w (replicate n event) == n))
+Plays w (Until n) w' possible = (possible ≡ true) × ((events : List Event) × IsCleanUntil n w events × (w' ≡ after w events))
+Plays w Clean w' possible = (possible ≡ true) × ((events : List Event) × IsCleanRun w events × (w' ≡ after w events))
 
 -- the lines, one after another, lead from one world to another, and these are the numbers of those that were not possible
 abbrev pub Played : Scene → List StepLine → Scene → List ℕ → Type 0
-Played w [] next numbers = (next ≡ w) × (numbers ≡ [])
-Played w (l ∷ lines) next numbers =
-    (between : Scene) × (possible : Bool) × (others : List ℕ) × Plays w l.step between possible × Played between lines next others
+Played w [] w' numbers = (w' ≡ w) × (numbers ≡ [])
+Played w (l ∷ lines) w' numbers =
+    (between : Scene) × (possible : Bool) × (others : List ℕ) × Plays w l.step between possible × Played between lines w' others
     × (numbers ≡ (if possible then others else l.line ∷ others))
 
 -- what is told of a line that was not possible

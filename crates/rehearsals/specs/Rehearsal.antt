@@ -6,7 +6,7 @@ use Rattle.tape_blocks.specs.Tape.{TapeValue}
 use Rattle.tape_image.specs.Plan.{plan_of_all}
 use Rattle.odt_machine.specs.declared.style.Style.{Style}
 use Rattle.odt_machine.specs.declared.mode.Mode.TheVariants.{Prompt}
-use Rattle.odt_machine.specs.Machine.{Machine, is_word, stored}
+use Rattle.odt_machine.specs.Machine.{Machine, is_word, stored, largest_words}
 use Rattle.host_core.specs.Core.{begun}
 use Rattle.line_world.specs.Scene.{Scene}
 use Rattle.line_world.specs.Opening.{opened}
@@ -14,11 +14,11 @@ use Rattle.loss_scripts.specs.declared.script.PutLine.{PutLine}
 use Rattle.loss_scripts.specs.declared.script.Script.{Script}
 use Rattle.command_io.specs.declared.fault.CommandFault.{CommandFault}
 use Rattle.command_io.specs.declared.fault.CommandFault.TheVariants as fault
-use Rattle.command_io.specs.Output.{WritesPrefix}
+use Rattle.byte_io.specs.Output.{WritesProperPrefix}
 use Rattle.rehearsals.specs.Played.{Played, not_possible_lines}
-use Rattle.load_reports.specs.Report.{report}
+use Rattle.rehearsals.specs.Report.{report}
 use Rattle.loss_scripts.specs.Script.{IsScript, IsRefusedScript}
-use Rattle.command_io.specs.TapeFile.{IsInput}
+use Rattle.tape_blocks.specs.Told.{IsAsTold}
 use Rattle.command_io.specs.Tapes.{TapeText, AreTaken, AreAllTaken, AreTapesFault, tapes_of}
 
 -- the memory after these words are put into it, in order
@@ -47,7 +47,8 @@ machine_of style memory = record { style = style; memory = memory; mode = Prompt
 -- the world that tapes and a script open: the words are put into a zeroed machine, the host has done nothing yet
 abbrev pub opening : List TapeValue → Script → Scene
 opening tapes script =
-    opened (machine_of script.style (after_puts (replicate script.words 0) script.puts.items)) (begun (plan_of_all tapes) 0 false script.patience) script.waiting.items
+    opened (machine_of script.style (after_puts (replicate script.words 0) script.puts.items))
+    (begun (plan_of_all tapes) 0 false script.patience) script.waiting.items
 
 -- the text of a rehearsal: the lines that were not possible, and then the report
 pub record IsRehearsal (tapes : List TapeValue) (script : Script) (text : List ℕ) : Type 0 where
@@ -60,19 +61,19 @@ pub record IsRehearsal (tapes : List TapeValue) (script : Script) (text : List �
 -- the input is this script
 pub record IsScriptInput (known : Option (List ℕ)) (script : Script) : Type 0 where
   pub text : List ℕ
-  pub is_input : IsInput known text
+  pub is_input : IsAsTold known text
   pub is_script : IsScript text script
 
 -- the input is refused at this line: its text is, or it is a script and one of its puts is
 pub record IsRefusedScriptInput (known : Option (List ℕ)) (number : ℕ) : Type 0 where
   pub text : List ℕ
-  pub is_input : IsInput known text
+  pub is_input : IsAsTold known text
   pub refused : IsRefusedScript text number ⊎ ((script : Script) × IsScript text script × IsRefusedPut (replicate script.words 0) script.puts.items number)
 
 -- tapes were taken of the inputs, the other input is a script, and this is the text of their rehearsal
-pub record IsRehearsed (inputs rests : List (Option (List ℕ))) (script_input : Option (List ℕ)) (text : List ℕ) : Type 0 where
+pub record IsRehearsed (inputs inputs' : List (Option (List ℕ))) (script_input : Option (List ℕ)) (text : List ℕ) : Type 0 where
   pub texts : List TapeText
-  pub taken : AreTaken inputs rests texts
+  pub taken : AreTaken inputs inputs' texts
   pub script : Script
   pub is_script : IsScriptInput script_input script
   pub rehearsal : IsRehearsal (tapes_of texts) script text
@@ -80,24 +81,23 @@ pub record IsRehearsed (inputs rests : List (Option (List ℕ))) (script_input :
 -- how a rehearsal fails: a refusal or a failed read of a tape's input, by its number; the script's only where the tapes were taken first; or want of
 -- memory, all before anything is written; or a failed write, with a prefix of the text written
 abbrev pub IsRehearseFault : List (Option (List ℕ)) → List (Option (List ℕ)) → Option (List ℕ) → Option (List ℕ) → Option (List ℕ) → CommandFault → Type 0
-IsRehearseFault inputs rests script before after (fault.Tape number refusal) = AreTapesFault inputs rests (fault.Tape number refusal) × Keeps before after
-IsRehearseFault inputs rests script before after (fault.Script number) = AreAllTaken inputs rests × IsRefusedScriptInput script number × Keeps before after
-IsRehearseFault inputs rests script before after (fault.ReadTape number) = AreTapesFault inputs rests (fault.ReadTape number) × Keeps before after
-IsRehearseFault inputs rests script before after fault.ReadScript = AreAllTaken inputs rests × Keeps before after
-IsRehearseFault inputs rests script before after fault.Memory = Keeps before after
-IsRehearseFault inputs rests script before after fault.Write = (text : List ℕ) × IsRehearsed inputs rests script text × WritesPrefix before after text
-IsRehearseFault inputs rests script before after fault.TooLarge = ⊥
-IsRehearseFault inputs rests script before after fault.ReadKeys = ⊥
+IsRehearseFault inputs inputs' script out out' (fault.Tape number refusal) = AreTapesFault inputs inputs' (fault.Tape number refusal) × Keeps out out'
+IsRehearseFault inputs inputs' script out out' (fault.ReadTape number) = AreTapesFault inputs inputs' (fault.ReadTape number) × Keeps out out'
+IsRehearseFault inputs inputs' script out out' (fault.Script number) = AreAllTaken inputs inputs' × IsRefusedScriptInput script number × Keeps out out'
+IsRehearseFault inputs inputs' script out out' fault.ReadScript = AreAllTaken inputs inputs' × Keeps out out'
+IsRehearseFault inputs inputs' script out out' fault.Memory = Keeps out out'
+IsRehearseFault inputs inputs' script out out' fault.Write = (text : List ℕ) × IsRehearsed inputs inputs' script text × WritesProperPrefix out out' text
+IsRehearseFault inputs inputs' script out out' other = ⊥
 
 -- a machine was not made: it would be too large, or want of memory
 abbrev pub IsMachineFault : ℕ → CommandFault → Type 0
-IsMachineFault words fault.TooLarge = 28672 < words
+IsMachineFault words fault.TooLarge = largest_words < words
 IsMachineFault words fault.Memory = ⊤
 IsMachineFault words other = ⊥
 
 -- a script was not taken: the text of the input is refused, a failed read, or want of memory
 abbrev pub IsScriptInputFault : Option (List ℕ) → CommandFault → Type 0
-IsScriptInputFault known (fault.Script number) = (text : List ℕ) × IsInput known text × IsRefusedScript text number
+IsScriptInputFault known (fault.Script number) = (text : List ℕ) × IsAsTold known text × IsRefusedScript text number
 IsScriptInputFault known fault.ReadScript = ⊤
 IsScriptInputFault known fault.Memory = ⊤
 IsScriptInputFault known other = ⊥

@@ -1,11 +1,12 @@
 //! The lines of a dialogue: keys, and what the console answered to them.
 ghost use Rattle.std.specs.Prelude.{◌≡◌, ◌++◌, ◌∷◌, [], List, codes, OnOk, OnErr, IfErr};
 ghost use Rattle.std.specs.Io.KnownBytes.{Appends};
-ghost use Rattle.command_io.specs.Output.{WritesFront};
+ghost use Rattle.byte_io.specs.Output.{WritesPrefix};
 ghost use Rattle.rehearsals.specs.Dialogue.{IsTalkFault};
 ghost use Rattle.rehearsals.specs.KeyLines.{Answered, Gathers, Holds, Notes, key_text, last_line, shown};
 
-use command_io::{CommandFault, write_whole};
+use byte_io::write_whole;
+use command_io::CommandFault;
 use odt_machine::{CARRIAGE_RETURN, LINE_FEED, SPACE};
 use std::alloc::{AllocError, Global};
 use std::io::Write;
@@ -21,7 +22,7 @@ pub struct Exchange {
 
 impl Exchange {
     /// Nothing was typed yet.
-    pub fn new(alloc: Global) -> Self
+    pub fn new(alloc: Global) -> Exchange
         ensures { Gathers [] result }
     {
         Exchange {
@@ -37,8 +38,10 @@ impl Exchange {
         answer: &[u8],
         out: &mut W,
     ) -> Result<(), CommandFault>
-        ensures ok { OnOk result ((gathered : List Answered) → Gathers gathered self.old → Notes gathered (record { key = key; answer = answer.now } ∷ []) self.new (W.contents out.old) (W.contents out.new)) }
-        ensures front { OnErr result ((gathered : List Answered) → Gathers gathered self.old → (more : List Answered) → WritesFront (W.contents out.old) (W.contents out.new) (key_text (gathered ++ (record { key = key; answer = answer.now } ∷ more)))) }
+        ensures ok { OnOk result ((gathered : List Answered) → Gathers gathered self.old →
+            Notes gathered (record { key = key; answer = answer.now } ∷ []) self.new (W.contents out.old) (W.contents out.new)) }
+        ensures front { OnErr result ((gathered : List Answered) → Gathers gathered self.old → (more : List Answered) →
+            WritesPrefix (W.contents out.old) (W.contents out.new) (key_text (gathered ++ (record { key = key; answer = answer.now } ∷ more)))) }
         ensures err { IfErr result IsTalkFault }
     {
         show(&mut self.keys, &[key])?;
@@ -51,8 +54,9 @@ impl Exchange {
 
     /// Writes the line under way, if keys are gathered.
     pub fn finish<W: Write>(&mut self, out: &mut W) -> Result<(), CommandFault>
-        ensures ok { OnOk result ((held : List Answered) → Holds held self.old → Appends (W.contents out.old) (W.contents out.new) (last_line held) × Holds [] self.new) }
-        ensures front { OnErr result ((held : List Answered) → Holds held self.old → WritesFront (W.contents out.old) (W.contents out.new) (last_line held)) }
+        ensures ok { OnOk result ((held : List Answered) → Holds held self.old →
+            Appends (W.contents out.old) (W.contents out.new) (last_line held) × Holds [] self.new) }
+        ensures front { OnErr result ((held : List Answered) → Holds held self.old → WritesPrefix (W.contents out.old) (W.contents out.new) (last_line held)) }
         ensures err { IfErr result IsTalkFault }
     {
         if self.keys.is_empty() {

@@ -14,6 +14,7 @@ mod exchange;
 mod opening;
 mod play;
 mod rehearse;
+mod report;
 
 pub use dialogue::dialogue_to;
 pub use rehearse::rehearse_to;

@@ -1,7 +1,6 @@
 //! The worlds that commands open.
 ghost use Rattle.std.specs.Prelude.{◌≡◌, ℕ, ◌≤◌, false, length, replicate, IfOk, IfErr, [], OnOk};
 ghost use Rattle.odt_machine.specs.declared.mode.Mode.TheVariants.{Prompt};
-ghost use Rattle.tape_image.specs.Plan.{plan_of_all};
 ghost use Rattle.host_core.specs.Core.{begun};
 ghost use Rattle.host_core.specs.Host.{IsHost};
 ghost use Rattle.odt_machine.specs.Machine.{IsMachine};
@@ -14,25 +13,16 @@ use line_world::World;
 use loss_scripts::PutLine;
 use odt_machine::{Odt, OdtError, Style};
 use std::alloc::Global;
-use tape_blocks::Tape;
 use tape_image::Plan;
 
-/// A host that has done nothing yet, with tapes to load as one into a machine at its prompt, while
-/// `waiting` answers wait for it. `Memory` is the only fault.
-pub fn open(
-    alloc: Global,
-    tapes: &[Tape],
-    odt: Odt,
-    patience: u32,
-    waiting: &[u8],
-) -> Result<World, CommandFault>
+/// A host that has done nothing yet, with a plan to type into a machine at its prompt, while `waiting`
+/// answers wait for it.
+pub fn open(plan: Plan, odt: Odt, patience: u32, waiting: &[u8]) -> World
     requires prompt { odt.mode ≡ Prompt }
     requires few { length waiting.now ≤ 32 }
-    ensures ok { IfOk result (λ world. world ≡ opened odt (begun (plan_of_all tapes.now) 0 false patience) waiting.now) }
-    ensures host { IfOk result (λ world. IsHost world.core) }
-    ensures err { IfErr result (λ fault. fault ≡ CommandFault.Memory) }
+    ensures world { result ≡ opened odt (begun plan 0 false patience) waiting.now }
+    ensures host { IsHost result.core }
 {
-    let plan = Plan::of_all(alloc, tapes)?;
     let nothing = Progress {
         verified: 0,
         going: false,
@@ -43,7 +33,7 @@ pub fn open(
     let Ok(world) = World::new(odt, core, waiting) else {
         unreachable!()
     };
-    Ok(world)
+    world
 }
 
 /// A zeroed machine. `TooLarge` exactly above 28,672 words, else `Memory`.

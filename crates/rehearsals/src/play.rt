@@ -4,7 +4,7 @@ ghost use Rattle.line_world.specs.declared.event.Event.{Event};
 ghost use Rattle.line_world.specs.World.{after, possible_count};
 ghost use Rattle.rehearsals.specs.Played.{is_over, IsCleanUntil, Plays, Played, not_possible_text, not_possible_lines};
 
-use command_io::put_decimal;
+use byte_io::put_decimal;
 use line_world::{Event, World};
 use loss_scripts::{Step, StepLine};
 use std::alloc::AllocError;
@@ -13,7 +13,8 @@ use std::alloc::AllocError;
 /// at the end of `text`, the rest of its count is dropped, and the script goes on. The error is
 /// want of memory.
 pub fn play(world: &mut World, steps: &[StepLine], text: &mut Vec<u8>) -> Result<(), AllocError>
-    ensures { OnOk result ((numbers : List ℕ) × Played world.old steps.now world.new numbers × (text.new.items ≡ text.old.items ++ not_possible_lines numbers)) }
+    ensures { OnOk result ((numbers : List ℕ) × Played world.old steps.now world.new numbers × (text.new.items ≡ text.old.items
+        ++ not_possible_lines numbers)) }
 {
     for line in steps {
         play_line(world, *line, text)?;
@@ -23,7 +24,8 @@ pub fn play(world: &mut World, steps: &[StepLine], text: &mut Vec<u8>) -> Result
 
 // One event line.
 fn play_line(world: &mut World, line: StepLine, text: &mut Vec<u8>) -> Result<(), AllocError>
-    ensures { OnOk result ((possible : Bool) × Plays world.old line.step world.new possible × (text.new.items ≡ text.old.items ++ (if possible then [] else not_possible_text line.line))) }
+    ensures { OnOk result ((possible : Bool) × Plays world.old line.step world.new possible × (text.new.items ≡ text.old.items
+        ++ (if possible then [] else not_possible_text line.line))) }
 {
     if play_step(world, line.step) {
         return Ok(());

@@ -1,19 +1,22 @@
 //! The command `rehearse`: a script of losses, played over a simulated machine.
-ghost use Rattle.std.specs.Prelude.{◌≡◌, ◌<◌, ◌≤◌, replicate, map, OnOk, IfOk, IfErr, List, ℕ};
+ghost use Rattle.std.specs.Prelude.{◌≡◌, ◌<◌, ◌≤◌, ◌+◌, replicate, map, OnOk, IfOk, IfErr, List, ℕ};
 ghost use Rattle.std.specs.Io.KnownBytes.{Appends};
-ghost use Rattle.command_io.specs.Input.{TakesAtMost};
+ghost use Rattle.odt_machine.specs.Machine.{largest_words};
+ghost use Rattle.loss_scripts.specs.Script.{script_limit};
+ghost use Rattle.byte_io.specs.Input.{TakesAtMost};
 ghost use Rattle.rehearsals.specs.Rehearsal.{IsRehearsal, IsRehearsed, IsRehearseFault, IsScriptInput, IsScriptInputFault, IsPlayFault};
-ghost use Rattle.command_io.specs.TapeFile.{input_limit};
 ghost use Rattle.command_io.specs.Tapes.{TakeAtMost};
 
 use crate::opening::{open, put_words, zeroed};
 use crate::play::play;
-use command_io::{CommandFault, InputFault, read_up_to, take_tapes, write_whole};
-use load_reports::put_report;
-use loss_scripts::{SCRIPT_LIMIT, Script, ScriptError, read_script};
+use crate::report::put_report;
+use byte_io::{InputFault, read_up_to, write_whole};
+use command_io::{CommandFault, take_tapes};
+use loss_scripts::{SCRIPT_LIMIT, Script, ScriptFault, read_script};
 use std::alloc::Global;
 use std::io::{Read, Write};
 use tape_blocks::Tape;
+use tape_image::Plan;
 
 /// Rehearses a script with tapes, one from each input, as one: opens the world that they set up, lets
 /// the script's lines happen, and prints the lines that were not possible and then the report.
@@ -30,9 +33,11 @@ pub fn rehearse_to<R: Read, S: Read, W: Write>(
     script: &mut S,
     out: &mut W,
 ) -> Result<(), CommandFault>
-    ensures ok { OnOk result ((text : List ℕ) × IsRehearsed (map R.remaining tapes.old) (map R.remaining tapes.new) (S.remaining script.old) text × Appends (W.contents out.old) (W.contents out.new) text) }
-    ensures err { IfErr result (IsRehearseFault (map R.remaining tapes.old) (map R.remaining tapes.new) (S.remaining script.old) (W.contents out.old) (W.contents out.new)) }
-    ensures taken { TakesAtMost (S.remaining script.old) (S.remaining script.new) input_limit }
+    ensures ok { OnOk result ((text : List ℕ) × IsRehearsed (map R.remaining tapes.old) (map R.remaining tapes.new) (S.remaining script.old) text ×
+        Appends (W.contents out.old) (W.contents out.new) text) }
+    ensures err { IfErr result (IsRehearseFault (map R.remaining tapes.old) (map R.remaining tapes.new)
+        (S.remaining script.old) (W.contents out.old) (W.contents out.new)) }
+    ensures taken { TakesAtMost (S.remaining script.old) (S.remaining script.new) (script_limit + 1) }
     ensures at_most { TakeAtMost (map R.remaining tapes.old) (map R.remaining tapes.new) }
 {
     let taken = take_tapes(alloc, tapes)?;
@@ -45,9 +50,9 @@ pub fn rehearse_to<R: Read, S: Read, W: Write>(
 // The script that an input is.
 fn take_script<S: Read>(alloc: Global, input: &mut S) -> Result<Script, CommandFault>
     ensures ok { IfOk result (IsScriptInput (S.remaining input.old)) }
-    ensures size { IfOk result (λ script. script.words ≤ 28672) }
+    ensures size { IfOk result (λ script. script.words ≤ largest_words) }
     ensures err { IfErr result (IsScriptInputFault (S.remaining input.old)) }
-    ensures taken { TakesAtMost (S.remaining input.old) (S.remaining input.new) input_limit }
+    ensures taken { TakesAtMost (S.remaining input.old) (S.remaining input.new) (script_limit + 1) }
 {
     let text = match read_up_to(alloc, input, SCRIPT_LIMIT + 1) {
         Ok(bytes) => bytes,
@@ -56,14 +61,14 @@ fn take_script<S: Read>(alloc: Global, input: &mut S) -> Result<Script, CommandF
     };
     match read_script(alloc, &text) {
         Ok(script) => Ok(script),
-        Err(ScriptError::Refused(line)) => Err(CommandFault::Script(line)),
-        Err(ScriptError::Memory) => Err(CommandFault::Memory),
+        Err(ScriptFault::Refused(line)) => Err(CommandFault::Script(line)),
+        Err(ScriptFault::Memory) => Err(CommandFault::Memory),
     }
 }
 
 // What is printed of a rehearsal.
 fn rehearsal(alloc: Global, tapes: &[Tape], script: &Script) -> Result<Vec<u8>, CommandFault>
-    requires size { script.now.words ≤ 28672 }
+    requires size { script.now.words ≤ largest_words }
     ensures ok { IfOk result (λ text. IsRehearsal tapes.now script.now text.items) }
     ensures err { IfErr result (IsPlayFault (replicate script.now.words 0) script.now.puts.items) }
 {
@@ -71,13 +76,8 @@ fn rehearsal(alloc: Global, tapes: &[Tape], script: &Script) -> Result<Vec<u8>, 
     if let Err(line) = put_words(&mut odt, &script.puts) {
         return Err(CommandFault::Script(line));
     }
-    let mut world = open(
-        alloc,
-        tapes,
-        odt,
-        script.patience,
-        script.waiting.as_slice(),
-    )?;
+    let plan = Plan::of_all(alloc, tapes)?;
+    let mut world = open(plan, odt, script.patience, script.waiting.as_slice());
     let mut text = Vec::new(alloc);
     play(&mut world, &script.steps, &mut text)?;
     put_report(&mut text, &world)?;

@@ -4,6 +4,7 @@ use Rattle.std.proofs.KnownBytes.{Appends-kept}
 use Rattle.std.specs.Io.KnownBytes.{Keeps}
 use Rattle.host_core.specs.declared.phase.End.{End}
 use Rattle.machine_load.specs.declared.outcome.Outcome.{Outcome}
+use Rattle.tape_image.specs.declared.start.Start.TheVariants.{OfTape}
 use Rattle.tape_image.specs.Plan.{PlanValue}
 use Rattle.tape_check.specs.CheckText.{IsChecked}
 use Rattle.rehearsals.specs.Dialogue.{IsDialogue}
@@ -20,7 +21,7 @@ module _ (out out' out'' : Known) (kept : Keeps out' out'') where
   checked : (held rests : List Known) → IsChecked held rests out out' → IsChecked held rests out out''
   checked held rests is = record { texts = is.texts; taken = is.taken; written = Appends-kept out out' out'' _ is.written kept }
 
-  dialogue : (held rests : List Known) (console : Console) (end : End) → IsDialogue held rests out out' console.words console.style end → IsDialogue held rests out out'' console.words console.style end
+  dialogue : (held rests : List Known) (console : Console) (end : End) → IsDialogue held rests out out' console.words console.style OfTape end → IsDialogue held rests out out'' console.words console.style OfTape end
   dialogue held rests console end is = record { text = is.text; is_text = is.is_text; written = Appends-kept out out' out'' is.text is.written kept }
 
   rehearsed : (held rests : List Known) → IsRehearsedInto held rests out out' → IsRehearsedInto held rests out out''

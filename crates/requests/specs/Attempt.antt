@@ -3,6 +3,7 @@
 use Rattle.std.specs.Prelude.{◌≡◌, ◌⊎◌, ℕ, ◌<◌, List, [], ◌∷◌, length, replicate, Contains, Option, Some, None, codes, ⊤}
 use Rattle.std.specs.Borrow.{Bor}
 use Rattle.std.specs.Io.KnownBytes.{Appends}
+use Rattle.tape_image.specs.declared.start.Start.TheVariants.{OfTape}
 use Rattle.tape_image.specs.Plan.{PlanValue, plan_of_all}
 use Rattle.odt_machine.specs.Machine.{Machine}
 use Rattle.host_core.specs.declared.phase.End.{End}
@@ -90,7 +91,7 @@ IsDone CheckInput input input' out out' status = IsChecked (input ∷ []) (input
 IsDone (Check names) input input' out out' status =
     OfFiles names.items (λ held rests. IsChecked held rests out out') × (input' ≡ input) × (status ≡ Done)
 IsDone (Dialogue names console) input input' out out' status =
-    OfFiles names.items (λ held rests. (end : End) × IsDialogue held rests out out' console.words console.style end × (status ≡ end_status end)) × (input' ≡ input)
+    OfFiles names.items (λ held rests. (end : End) × IsDialogue held rests out out' console.words console.style OfTape end × (status ≡ end_status end)) × (input' ≡ input)
 IsDone (Rehearse tape script more) input input' out out' status =
     OfFiles (tape ∷ more.items) (λ held rests. IsRehearsedInto held rests out out') × (input' ≡ input) × (status ≡ Done)
 IsDone (TypeKeys console) input input' out out' status = IsTypedThrough console input input' out out' × (status ≡ Done)
@@ -171,7 +172,7 @@ IsFaulty CheckInput input input' out out' failure =
 IsFaulty (Check names) input input' out out' failure =
     OfFiles names.items (λ held rests. HasFault (IsCheckFault held rests out out') names.items (codes "standard input") failure) × (input' ≡ input)
 IsFaulty (Dialogue names console) input input' out out' failure =
-    OfFiles names.items (λ held rests. HasFault (IsDialogueFault held rests out out' console.words console.style) names.items (codes "standard input") failure) × (input' ≡ input)
+    OfFiles names.items (λ held rests. HasFault (IsDialogueFault held rests out out' console.words console.style OfTape) names.items (codes "standard input") failure) × (input' ≡ input)
 IsFaulty (Rehearse tape script more) input input' out out' failure =
     OfFiles (tape ∷ more.items) (λ held rests. IsRehearsalFailure (tape ∷ more.items) script.now held rests out out' failure) × (input' ≡ input)
 IsFaulty (TypeKeys console) input input' out out' failure = IsTypingFailure console input input' out out' failure

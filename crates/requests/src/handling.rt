@@ -3,6 +3,7 @@ ghost use Rattle.std.specs.Prelude.{◌≡◌, ◌⊎◌, [], ◌∷◌, map, If
 ghost use Rattle.std.specs.Mem.{FitsInMemory};
 ghost use Rattle.tape_check.specs.CheckText.{IsChecked};
 ghost use Rattle.tape_check.specs.CheckFault.{IsCheckFault};
+ghost use Rattle.tape_image.specs.declared.start.Start.TheVariants.{OfTape};
 ghost use Rattle.rehearsals.specs.Dialogue.{IsDialogue, IsDialogueFault};
 ghost use Rattle.requests.specs.Attempt.{OfFiles, HasFault, FailsUnopened, IsRehearsedInto, IsRehearsalFailure, IsTypedThrough, IsTypingFailure, IsDone, IsFaulty, IsNotBegun, IsFailed, IsAttempted};
 ghost use Rattle.endings.specs.Status.{end_status};
@@ -13,8 +14,8 @@ use crate::request::{Console, Request};
 use console_typing::type_to;
 use endings::{Failure, STANDARD_INPUT, Status, tell};
 use host_core::End;
-use machine_load::Locks;
 use odt_machine::{Odt, OdtError};
+use record_file::Locks;
 use rehearsals::{dialogue_to, rehearse_to};
 use std::alloc::Global;
 use std::io::{Print, Read, Write};
@@ -23,6 +24,7 @@ use std::rt::Files;
 use std::slice;
 use std::time::Clock;
 use tape_check::check_to;
+use tape_image::Start;
 
 /// Does a request and answers the exit status, or tells why not, with the status that says so.
 ///
@@ -139,8 +141,8 @@ fn show_dialogue<'a, F: Files, W: Write>(
     console: Console,
     out: &mut W,
 ) -> Result<Status, Failure<'a>>
-    ensures ok { IfOk result (λ status. OfFiles names.now (λ held rests. (end : End) × IsDialogue held rests (W.contents out.old) (W.contents out.new) console.words console.style end × (status ≡ end_status end))) }
-    ensures err { IfErr result (λ failure. FailsUnopened names.now (W.contents out.old) (W.contents out.new) failure ⊎ OfFiles names.now (λ held rests. HasFault (IsDialogueFault held rests (W.contents out.old) (W.contents out.new) console.words console.style) names.now (codes "standard input") failure)) }
+    ensures ok { IfOk result (λ status. OfFiles names.now (λ held rests. (end : End) × IsDialogue held rests (W.contents out.old) (W.contents out.new) console.words console.style OfTape end × (status ≡ end_status end))) }
+    ensures err { IfErr result (λ failure. FailsUnopened names.now (W.contents out.old) (W.contents out.new) failure ⊎ OfFiles names.now (λ held rests. HasFault (IsDialogueFault held rests (W.contents out.old) (W.contents out.new) console.words console.style OfTape) names.now (codes "standard input") failure)) }
 {
     let mut files = open_all(rt, alloc, names)?;
     dialogue(alloc, names, &mut files, console, out)
@@ -153,10 +155,17 @@ fn dialogue<'a, R: Read, W: Write>(
     console: Console,
     out: &mut W,
 ) -> Result<Status, Failure<'a>>
-    ensures ok { IfOk result (λ status. (end : End) × IsDialogue (map R.remaining tapes.old) (map R.remaining tapes.new) (W.contents out.old) (W.contents out.new) console.words console.style end × (status ≡ end_status end)) }
-    ensures err { IfErr result (HasFault (IsDialogueFault (map R.remaining tapes.old) (map R.remaining tapes.new) (W.contents out.old) (W.contents out.new) console.words console.style) names.now (codes "standard input")) }
+    ensures ok { IfOk result (λ status. (end : End) × IsDialogue (map R.remaining tapes.old) (map R.remaining tapes.new) (W.contents out.old) (W.contents out.new) console.words console.style OfTape end × (status ≡ end_status end)) }
+    ensures err { IfErr result (HasFault (IsDialogueFault (map R.remaining tapes.old) (map R.remaining tapes.new) (W.contents out.old) (W.contents out.new) console.words console.style OfTape) names.now (codes "standard input")) }
 {
-    match dialogue_to(alloc, tapes, console.words, console.style, out) {
+    match dialogue_to(
+        alloc,
+        tapes,
+        console.words,
+        console.style,
+        Start::OfTape,
+        out,
+    ) {
         Ok(end) => Ok(Status::of_end(end)),
         Err(fault) => Err(Failure::of(fault, names, STANDARD_INPUT)),
     }

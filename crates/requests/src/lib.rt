@@ -5,7 +5,7 @@
 //! was at fault. Each command's own contract stands in its crate: `tape_check`, `console_typing`,
 //! `rehearsals`, `machine_load`. Which status and which line an end or a fault becomes stands in `endings`.
 //!
-//! The program `load_command` makes the request of the words of its command line.
+//! The program `ldaodt` makes the request of the words of its command line.
 #![tactic(auto)]
 
 mod files;

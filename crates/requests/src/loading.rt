@@ -11,9 +11,9 @@ use crate::request::Load;
 use command_io::take_tapes;
 use endings::{Failure, STANDARD_INPUT, Status};
 use load_engine::Stop;
-use machine_load::{
-    Address, LoadFault, Locks, Onlooker, Outcome, ProgressLine, Recorded, Unrecorded, Unwatched,
-};
+use load_progress::{Onlooker, ProgressLine, Unwatched};
+use machine_load::{Address, LoadFault, Outcome, Recorded, Unrecorded};
+use record_file::Locks;
 use std::alloc::Global;
 use std::io::{Print, Read, Write};
 use std::net::Net;

@@ -1,5 +1,9 @@
 -- What is heard of a stream, where the stream tells its bytes; where it doesn't, these say counts and characters alone.
-use Rattle.std.specs.Prelude.{◌≡◌, ◌≢◌, ◌⊎◌, ℕ, ◌<◌, ◌+◌, ◌%◌, List, [], ◌∷◌, ◌++◌, length, All, Option, Some, None, Result, Ok, Err, ⊤}
+use Rattle.std.specs.Prelude.{◌≡◌, ◌≢◌, ◌⊎◌, ℕ, ◌<◌, ◌+◌, ◌%◌, Bool, true, false, if◌then◌else◌, List, [], ◌∷◌, ◌++◌, length, All, Option, Some, None, Result, Ok, Err, ⊤}
+use Rattle.std.specs.IoError.{error_kind}
+use Rattle.std.specs.declared.io.Error.{Error}
+use Rattle.std.specs.declared.io.ErrorKind.{ErrorKind}
+use Rattle.std.specs.declared.io.ErrorKind.TheVariants.{WouldBlock, TimedOut}
 use Rattle.std.specs.Io.KnownBytes.{Consumes, Appends, Keeps, IsAtEnd}
 use Rattle.host_core.specs.declared.heard.Heard.{Heard}
 use Rattle.host_core.specs.declared.heard.Heard.TheVariants.{Got, Quiet}
@@ -52,6 +56,17 @@ IsHearingFault old new Noise = DropsThenTakes old new 4096 []
 IsHearingFault old new Connect = ⊥
 IsHearingFault old new Send = ⊥
 IsHearingFault old new Full = ⊥
+
+-- the kinds of error with which a read ends that met its time limit
+abbrev pub ends_waiting : ErrorKind → Bool
+ends_waiting WouldBlock = true
+ends_waiting TimedOut = true
+ends_waiting kind = false
+
+-- a read meets the time limit where it ends with one of these
+abbrev pub limits_of : Result ℕ Error → ℕ
+limits_of (Ok count) = 0
+limits_of (Err error) = if ends_waiting (error_kind error) then 1 else 0
 
 -- a receipt meets the time limit where it gives nothing
 abbrev pub limits_met : Result (Option ℕ) LineFault → ℕ

@@ -1,19 +1,20 @@
 -- A line over a stream as one value.
-use Rattle.std.specs.Prelude.{◌≡◌, ℕ, ◌+◌, ◌-◌, ◌^◌, min, List, Option, Some, None}
+use Rattle.std.specs.Prelude.{◌≡◌, ℕ, ◌+◌, ◌-◌, ◌^◌, min, Bool, List, Option, Some, None}
 use Rattle.load_devices.specs.declared.fault.LineFault.{LineFault}
 
--- the bytes that are still to come, those that went out and how often the time limit was met, where the stream tells; how many
--- calls failed, and how the last did
+-- the bytes that are still to come, those that went out, how often the time limit was met and whether the stream is at its end, where
+-- the stream tells; how many calls failed, and how the last did
 pub record LineValue : Type 0 where
   pub to_come : Option (List ℕ)
   pub gone_out : Option (List ℕ)
   pub silences : Option ℕ
+  pub is_over : Bool
   pub failures : ℕ
   pub fault : Option LineFault
 
 -- a line on which nothing has been said
-abbrev pub fresh_line : Option (List ℕ) → Option (List ℕ) → Option ℕ → LineValue
-fresh_line to_come gone_out silences = record { to_come = to_come; gone_out = gone_out; silences = silences; failures = 0; fault = None }
+abbrev pub fresh_line : Option (List ℕ) → Option (List ℕ) → Option ℕ → Bool → LineValue
+fresh_line to_come gone_out silences is_over = record { to_come = to_come; gone_out = gone_out; silences = silences; is_over = is_over; failures = 0; fault = None }
 
 -- no call of the line has failed
 pub record IsFreshLine (line : LineValue) : Type 0 where

@@ -4,7 +4,8 @@
 //! `StreamLine` stands over any stream whose reads end within a time: over the sockets of std, over a
 //! serial device, over a test's. Bit 7 of each byte is cleared and the character 000 is dropped, since
 //! consoles send parity and padding that no host asks for. What a stream does is the system's; what is
-//! made of the bytes that it gives is proved here.
+//! made of the bytes that it gives is proved here, and that silence is never made up: it is heard only
+//! where a read met its time limit, and the stream's end as `Closed`.
 #![tactic(auto)]
 
 mod receive;
@@ -12,6 +13,6 @@ mod socket;
 mod stream;
 mod stream_line;
 
-pub use receive::Receive;
+pub use receive::TimedStream;
 pub use socket::SocketLine;
 pub use stream_line::StreamLine;

@@ -2,7 +2,7 @@
 ghost use Rattle.std.specs.Prelude.{◌≡◌, ◌⊎◌, IfOk, IfErr};
 ghost use Rattle.stream_line.specs.StreamLine.{IsFreshLine};
 
-use crate::receive::Receive;
+use crate::receive::TimedStream;
 use crate::stream_line::StreamLine;
 use load_devices::LineFault;
 use std::net::{Net, TcpStream};
@@ -10,7 +10,7 @@ use std::net::{Net, TcpStream};
 /// A line over a socket: the console is behind a port of the network.
 pub type SocketLine<S> = StreamLine<S>;
 
-impl<S: Receive + Drop> StreamLine<S> {
+impl<S: TimedStream + Drop> StreamLine<S> {
     /// A line over a connection to `HOST:PORT`. Where the name has several addresses they are tried in
     /// turn.
     ///

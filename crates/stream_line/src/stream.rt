@@ -1,9 +1,9 @@
 //! What is made of the bytes of a stream.
-ghost use Rattle.std.specs.Prelude.{IfOk, IfErr, OnOk, [], ◌∷◌};
+ghost use Rattle.std.specs.Prelude.{◌≡◌, true, IfOk, IfErr, OnOk, Err, [], ◌∷◌};
 ghost use Rattle.std.specs.Io.KnownBytes.{Appends};
 ghost use Rattle.stream_line.specs.Hearing.{IsHearing, IsHearingFault, IsSentInPart, MeetsLimit, silences_of};
 
-use crate::receive::Receive;
+use crate::receive::{TimedStream, receive};
 use host_core::Heard;
 use load_devices::LineFault;
 use std::io::Write;
@@ -16,13 +16,14 @@ const MOST_DROPPED: u32 = 4096;
 ///
 /// Bit 7 is cleared and the character 000 dropped; the 4,096th that is dropped is `Noise`. `Closed`
 /// is the stream's end, and `Receive` a read that failed.
-pub fn hear_from<S: Receive>(stream: &mut S) -> Result<Heard, LineFault>
-    ensures heard { IfOk result (IsHearing (S.remaining stream.old) (S.remaining stream.new)) }
-    ensures fault { IfErr result (IsHearingFault (S.remaining stream.old) (S.remaining stream.new)) }
+pub fn hear_from<S: TimedStream>(stream: &mut S) -> Result<Heard, LineFault>
+    ensures heard { IfOk result (IsHearing (S.to_come stream.old) (S.to_come stream.new)) }
+    ensures fault { IfErr result (IsHearingFault (S.to_come stream.old) (S.to_come stream.new)) }
     ensures silence { MeetsLimit (S.silences stream.old) (S.silences stream.new) (silences_of result) }
+    ensures over { S.is_over stream.old ≡ true → result ≡ Err LineFault.Closed }
 {
     for _ in 0..MOST_DROPPED {
-        let Some(byte) = stream.receive()? else {
+        let Some(byte) = receive(stream)? else {
             return Ok(Heard::Quiet);
         };
         let character = byte % 128;

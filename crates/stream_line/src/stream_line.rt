@@ -1,9 +1,9 @@
-ghost use Rattle.std.specs.Prelude.{◌≡◌, [], ◌∷◌, None, IfOk, IfErr, OnOk};
+ghost use Rattle.std.specs.Prelude.{◌≡◌, [], ◌∷◌, true, None, IfOk, IfErr, OnOk, Err};
 ghost use Rattle.std.specs.Io.KnownBytes.{Appends};
 ghost use Rattle.load_devices.specs.Failures.{count_after, fault_of};
 ghost use Rattle.stream_line.specs.Hearing.{IsCharacter, IsHearing, IsHearingFault, IsSentInPart, MeetsLimit, silences_of};
 
-use crate::receive::Receive;
+use crate::receive::TimedStream;
 use crate::stream::{hear_from, send_to};
 use host_core::Heard;
 use load_devices::{Line, LineFault};
@@ -12,31 +12,32 @@ use std::time::Duration;
 
 /// A line over a stream: the console is behind its other end.
 ///
-/// Contracts see the bytes that are still to come, those that went out and how often the time limit
-/// was met, where the stream tells them, and how the line's calls failed.
+/// Contracts see the bytes that are still to come, those that went out, how often the time limit was
+/// met and whether the stream is at its end, where the stream tells them, and how the line's calls
+/// failed.
 #[derive(Drop)]
-pub struct StreamLine<S: Receive> {
+pub struct StreamLine<S: TimedStream> {
     stream: S,
     failures: u64,
     fault: Option<LineFault>,
 }
 
-impl<S: Receive> Model for StreamLine<S> {
+impl<S: TimedStream> Model for StreamLine<S> {
     ghost use Rattle.stream_line.specs.StreamLine.{LineValue};
 
     ghost Value = { LineValue };
 
-    ghost view = { λ l. record { to_come = S.remaining l.stream; gone_out = S.contents l.stream; silences = S.silences l.stream; failures = l.failures; fault = l.fault } };
+    ghost view = { λ l. record { to_come = S.to_come l.stream; gone_out = S.contents l.stream; silences = S.silences l.stream; is_over = S.is_over l.stream; failures = l.failures; fault = l.fault } };
 }
 
-impl<S: Receive + Drop> StreamLine<S> {
+impl<S: TimedStream + Drop> StreamLine<S> {
     ghost use Rattle.stream_line.specs.StreamLine.{fresh_line};
 
     /// A line over a stream, on which silence for the quiet time, in milliseconds, is heard as such.
     ///
     /// `Receive` where the stream takes no such time limit, as none takes 0; it is then closed.
     pub fn new(stream: S, quiet_ms: u32) -> Result<StreamLine<S>, LineFault>
-        ensures fresh { IfOk result (λ line. line ≡ fresh_line (S.remaining stream) (S.contents stream) (S.silences stream)) }
+        ensures fresh { IfOk result (λ line. line ≡ fresh_line (S.to_come stream) (S.contents stream) (S.silences stream) (S.is_over stream)) }
         ensures fault { IfErr result (λ fault. fault ≡ LineFault.Receive) }
     {
         let quiet_time = Duration::from_millis(u64::from(quiet_ms));
@@ -54,7 +55,7 @@ impl<S: Receive + Drop> StreamLine<S> {
     }
 }
 
-impl<S: Receive> StreamLine<S> {
+impl<S: TimedStream> StreamLine<S> {
     ghost use Rattle.stream_line.specs.StreamLine.{after_call};
 
     // Counts a call that failed, and keeps how the last one did.
@@ -68,7 +69,7 @@ impl<S: Receive> StreamLine<S> {
     }
 }
 
-impl<S: Receive> Line for StreamLine<S> {
+impl<S: TimedStream> Line for StreamLine<S> {
     ghost fault_count = { λ line. line.failures };
 
     ghost last_fault = { λ line. line.fault };
@@ -94,6 +95,7 @@ impl<S: Receive> Line for StreamLine<S> {
         ensures taken { IfOk result (IsHearing self.old.to_come self.new.to_come) }
         ensures failed { IfErr result (IsHearingFault self.old.to_come self.new.to_come) }
         ensures silence { MeetsLimit self.old.silences self.new.silences (silences_of result) }
+        ensures over { self.old.is_over ≡ true → result ≡ Err LineFault.Closed }
         ensures counted { self.new.failures ≡ count_after self.old.failures result }
         ensures fault { self.new.fault ≡ fault_of result }
     {

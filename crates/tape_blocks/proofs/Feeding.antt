@@ -7,7 +7,7 @@ use Rattle.tape_blocks.specs.Block.{BlockValue}
 use Rattle.tape_blocks.specs.Tape.{TapeValue, text_of, IsTape, tape_limit}
 use Rattle.tape_blocks.specs.Refusal.{Test, IsRefused, first_fault, missing_fault, tests_of, fault_at}
 use Rattle.tape_blocks.specs.Reading.{IsReading}
-use Rattle.tape_blocks.specs.Standing.{IsReadTo, EndsTape, IsRefusedForGood}
+use Rattle.tape_blocks.specs.Standing.{EndsTape, IsRefusedForGood}
 use Rattle.tape_blocks.specs.Progress.{IsPart, IsReadBy, IsStep, part_of}
 use Rattle.tape_blocks.specs.TapeReader.{ReaderValue, IsUnderWay, StandsAs, StandsAt, IsForMore, IsFed, IsFinished, used_of}
 use Rattle.tape_blocks.specs.declared.fault.Fault.{Fault}
@@ -135,9 +135,6 @@ failed_finishes r Memory fed e h = tt
 
 pub open_finishes : (r : ReaderValue) (fed : List ℕ) → r.outcome ≡ Open → StandsAt r fed → IsFinished fed (Err (Tape (missing_fault fed r.place)))
 open_finishes r fed e h = (under_way_says fed r.blocks r.place r.part (stands_as r Open fed e h)).0
-
-pub open_read : (r : ReaderValue) (fed : List ℕ) → r.outcome ≡ Open → StandsAt r fed → IsReadTo fed r.blocks r.place r.part
-open_read r fed e h = (stands_as r Open fed e h).read
 
 -- behind a piece that was read to its end
 pub took_stands : (p : Progress) (fed : List ℕ) → IsPart p → IsReadBy p fed → IsUnderWay fed p.blocks.items p.place (part_of p)

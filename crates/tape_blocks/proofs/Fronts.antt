@@ -1,5 +1,5 @@
 -- Lists of pieces that begin one text: the one whose text goes on with no piece extends the other.
-use Rattle.std.proofs.Common.{◌≡◌, ℕ, List, [], ◌∷◌, ◌++◌, length, arith, refl, sym, ap, ◌∙◌, append_assoc, append-nil, All, subst, length-append}
+use Rattle.std.proofs.Common.{◌≡◌, ℕ, List, [], ◌∷◌, ◌++◌, length, arith, refl, sym, ap, ◌∙◌, append_assoc, append-nil, All, length-append}
 use Rattle.std.proofs.lemmas.List.Elements.{All-head, All-tail}
 use Rattle.tape_blocks.specs.Block.{BlockValue, IsBlock, data_block, transfer_block, block_at}
 use Rattle.tape_blocks.specs.Tape.{Piece, text_of, blocks_of, IsTape}
@@ -85,9 +85,6 @@ pub record SameTape (bs cs : List BlockValue) (s t : ℕ) (x y : List ℕ) : Typ
   pub blocks : bs ≡ cs
   pub starts : s ≡ t
   pub rests : x ≡ y
-
-pub allowed-used : (ps : List Piece) (bs : List BlockValue) → blocks_of ps ≡ bs → All IsBlock (blocks_of ps) → All IsBlock bs
-allowed-used ps bs e ok = subst (All IsBlock) e ok
 
 same_tape : (ps qs : List Piece) (s t : ℕ) (x y : List ℕ) → All IsBlock (blocks_of ps) → All IsBlock (blocks_of qs)
     → text_of ps ++ (transfer_block s ++ x) ≡ text_of qs ++ (transfer_block t ++ y)

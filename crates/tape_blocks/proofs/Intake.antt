@@ -32,20 +32,6 @@ pub record IsTaking (before after : Option (List ℕ)) (reader : ReaderValue) (t
   pub counted : length fed ≡ taken
   pub limited : taken < input_limit
 
-consumes_none : (before : Option (List ℕ)) → Consumes before before []
-consumes_none None = tt
-consumes_none (Some xs) = refl
-
-pub taking-start : (before : Option (List ℕ)) (reader : ReaderValue) → StandsAt reader [] → IsOpen reader → IsTaking before before reader 0
-taking-start before reader stands going = record {
-  fed = [];
-  stands = stands;
-  going = going;
-  so_far = record { consumed = consumes_none before; within = omega arith; needed = λ more n blocks start h t. omega arith };
-  counted = refl;
-  limited = omega arith;
-}
-
 -- the reader's need, as its contract says it
 abbrev pub Needs : ReaderValue → ℕ → Type 0
 Needs reader need =

@@ -17,11 +17,15 @@ why_text PastTop = codes "PastTop"
 why_text NoTransfer = codes "NoTransfer"
 why_text TooLong = codes "TooLong"
 
+-- what is said of a growth of memory that was refused
+abbrev pub memory_text : List ℕ
+memory_text = codes "out of memory"
+
 -- the place of a fault, counted from 0, and its reason
 abbrev pub fault_text : Fault → List ℕ
-fault_text fault = decimal fault.at ++ codes ": " ++ why_text fault.why
+fault_text fault = codes "refused at " ++ decimal fault.at ++ codes ": " ++ why_text fault.why
 
 -- what is said of an input that was not read
 abbrev pub read_error_text : ReadError → List ℕ
-read_error_text (Tape fault) = codes "tape refused at " ++ fault_text fault
-read_error_text Memory = codes "out of memory"
+read_error_text (Tape fault) = codes "tape " ++ fault_text fault
+read_error_text Memory = memory_text

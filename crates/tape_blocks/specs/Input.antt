@@ -1,9 +1,9 @@
 -- What is taken of an input to read the tape that begins it, where the input tells its bytes; where it doesn't, these
 -- definitions speak of lengths and answers alone.
-use Rattle.std.specs.Prelude.{◌≡◌, ◌⊎◌, ℕ, ◌≤◌, ◌++◌, List, Option, length, take, codes, Result, Ok, Err}
+use Rattle.std.specs.Prelude.{◌≡◌, ◌⊎◌, ℕ, ◌+◌, ◌≤◌, ◌++◌, List, Option, length, take, codes, Result, Ok, Err, ⊤}
 use Rattle.std.specs.Io.KnownBytes.{Consumes, IsAtEnd}
 use Rattle.tape_blocks.specs.Block.{BlockValue}
-use Rattle.tape_blocks.specs.Tape.{TapeValue, IsTape}
+use Rattle.tape_blocks.specs.Tape.{TapeValue, IsTape, tape_limit}
 use Rattle.tape_blocks.specs.Refusal.{IsRefused}
 use Rattle.tape_blocks.specs.Fault.{read_error_text}
 use Rattle.tape_blocks.specs.Standing.{IsRefusedForGood}
@@ -14,9 +14,9 @@ use Rattle.tape_blocks.specs.declared.fault.ReadError.TheVariants.{Tape, Memory}
 use Rattle.tape_blocks.specs.declared.input.FromError.{FromError}
 use Rattle.tape_blocks.specs.declared.input.FromError.TheVariants.{Tape as TapeOf, Memory as NoMemory, Io}
 
--- the most bytes that are taken: one more than a tape may have
+-- the most bytes that are taken of an input for a tape: one more than a tape may have, so that a longer one is seen
 abbrev pub input_limit : ℕ
-input_limit = 1048577
+input_limit = tape_limit + 1
 
 -- no byte behind a tape: every tape that begins with these bytes, or is begun by them, is as long as they are
 abbrev pub IsNeeded : List ℕ → Type 0
@@ -29,7 +29,7 @@ IsNeeded taken =
 abbrev pub IsAnswerTo : List ℕ → Option (List ℕ) → Result (TapeValue × ℕ) FromError → Type 0
 IsAnswerTo taken after (Ok (tape, n)) = (length taken ≡ n) × IsTape taken tape.blocks tape.start
 IsAnswerTo taken after (Err (TapeOf fault)) = IsRefused taken fault.at fault.why × (IsAtEnd after ⊎ IsRefusedForGood taken fault)
-IsAnswerTo taken after (Err NoMemory) = Unit {0}
+IsAnswerTo taken after (Err NoMemory) = ⊤
 IsAnswerTo taken after (Err Io) = (fault : Fault) × IsRefused taken fault.at fault.why × IsForMore fault.why
 
 -- reading a tape from an input: what was taken of it, and what was answered

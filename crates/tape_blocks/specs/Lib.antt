@@ -1,3 +1,4 @@
+pub mod Told
 pub mod Block
 pub mod Tape
 pub mod BadTape

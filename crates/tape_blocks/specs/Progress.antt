@@ -1,5 +1,5 @@
 -- How far a tape has been read: relations between what a reader keeps and the list that it was fed.
-use Rattle.std.specs.Prelude.{◌≡◌, ℕ, ◌+◌, ◌<◌, ◌≤◌, List, [], ◌++◌, length, take, Result, Ok, Err}
+use Rattle.std.specs.Prelude.{◌≡◌, ℕ, ◌+◌, ◌<◌, ◌≤◌, List, [], ◌++◌, length, take, Result, Ok, Err, ⊤}
 use Rattle.tape_blocks.specs.Tape.{tape_limit}
 use Rattle.tape_blocks.specs.Head.{IsSplit, IsWanting}
 use Rattle.tape_blocks.specs.declared.fault.ReadError.{ReadError}
@@ -30,22 +30,22 @@ IsStep old left new (Ok (Took n)) =
 IsStep old left new (Ok (Ended n start)) =
     (n ≤ length left) × ((fed : List ℕ) → IsReadBy old fed → EndsTape (fed ++ take n left) new.blocks.items new.place start)
 IsStep old left new (Err (Tape fault)) = (fed : List ℕ) → IsReadBy old fed → IsRefusedForGood (fed ++ left) fault
-IsStep old left new (Err Memory) = Unit {0}
+IsStep old left new (Err Memory) = ⊤
 
 -- a byte at least was taken
 abbrev pub Advances : Result Step ReadError → Type 0
 Advances (Ok (Took n)) = 0 < n
 Advances (Ok (Ended n start)) = 0 < n
-Advances (Err e) = Unit {0}
+Advances (Err e) = ⊤
 
 -- the tape goes on only behind the whole piece
 abbrev pub TakesAll : List ℕ → Result Step ReadError → Type 0
 TakesAll piece (Ok (Took n)) = n ≡ length piece
-TakesAll piece (Ok (Ended n start)) = Unit {0}
-TakesAll piece (Err e) = Unit {0}
+TakesAll piece (Ok (Ended n start)) = ⊤
+TakesAll piece (Err e) = ⊤
 
 -- no growth was refused, and no block is under way
 abbrev pub TakesNoMemory : Progress → Result Step ReadError → Type 0
 TakesNoMemory new (Ok step) = new.header.items ≡ []
-TakesNoMemory new (Err (Tape fault)) = Unit {0}
+TakesNoMemory new (Err (Tape fault)) = ⊤
 TakesNoMemory new (Err Memory) = ⊥

@@ -1,5 +1,5 @@
 -- What reading an input has to answer, and the laws of it.
-use Rattle.std.specs.Prelude.{◌≡◌, ℕ, ◌<◌, ◌≤◌, ◌^◌, List, [], ◌++◌, length, take, All, Result, Ok, Err}
+use Rattle.std.specs.Prelude.{◌≡◌, ℕ, ◌<◌, ◌≤◌, ◌^◌, List, [], ◌++◌, length, take, All, Result, Ok, Err, ⊤}
 use Rattle.tape_blocks.specs.Block.{BlockValue}
 use Rattle.tape_blocks.specs.Tape.{TapeValue, IsTape}
 use Rattle.tape_blocks.specs.Refusal.{IsRefused}
@@ -16,7 +16,7 @@ IsReading input (Err Memory) = ⊥
 abbrev pub IsReadingUnlessMemory : List ℕ → Result (TapeValue × ℕ) ReadError → Type 0
 IsReadingUnlessMemory input (Ok read) = IsReading input (Ok read)
 IsReadingUnlessMemory input (Err (Tape fault)) = IsReading input (Err (Tape fault))
-IsReadingUnlessMemory input (Err Memory) = Unit {0}
+IsReadingUnlessMemory input (Err Memory) = ⊤
 
 -- no tape begins another, and a text has one list of blocks and one start
 abbrev pub OneTape : Type 0

@@ -1,5 +1,6 @@
 -- Which input is no tape, at which place, and why: one longest front and one list of tests behind it.
-use Rattle.std.specs.Prelude.{◌≡◌, ◌==◌, ℕ, ◌+◌, ◌-◌, ◌*◌, ◌%◌, ◌≤◌, Bool, nat_lt, nat_le, if◌then◌else◌, List, [], ◌∷◌, length, take, sum, slice_index, Option, Some, None}
+use Rattle.std.specs.Prelude.{◌≡◌, ◌==◌, ℕ, ◌+◌, ◌-◌, ◌*◌, ◌%◌, ◌≤◌, Bool, nat_lt, nat_le, if◌then◌else◌}
+use Rattle.std.specs.Prelude.{List, [], ◌∷◌, length, take, sum, slice_index, Option, Some, None}
 use Rattle.tape_blocks.specs.Block.{BlockValue, top}
 use Rattle.tape_blocks.specs.Tape.{Piece, text_of, tape_limit, IsFront, IsTape}
 use Rattle.tape_blocks.specs.declared.fault.Why.{Why}

@@ -31,7 +31,8 @@ blocks_of [] = []
 blocks_of (blank ∷ pieces) = blocks_of pieces
 blocks_of (block b ∷ pieces) = b ∷ blocks_of pieces
 
--- the most bytes that a tape may have (this project's choice)
+-- the most bytes that a tape may have: 2 to the 20th, which is more than eighteen times what memory holds, so that a tape may lay many
+-- addresses down more than once, and yet has an end (this project's choice)
 abbrev pub tape_limit : ℕ
 tape_limit = 1048576
 

@@ -1,8 +1,10 @@
 -- A reader of tapes in pieces: where it stands, as a relation between what it keeps and the list that it was fed.
-use Rattle.std.specs.Prelude.{◌≡◌, ◌⊎◌, ◌-◌, ℕ, ◌≤◌, ◌++◌, List, length, take, Result, Ok, Err}
+use Rattle.std.specs.Prelude.{◌≡◌, ◌⊎◌, ◌-◌, ℕ, ◌≤◌, ◌++◌, List, length, take, Result, Ok, Err, ⊤}
 use Rattle.tape_blocks.specs.Block.{BlockValue}
 use Rattle.tape_blocks.specs.Tape.{TapeValue, tape_limit}
 use Rattle.tape_blocks.specs.Head.{IsSplit, IsWanting}
+use Rattle.tape_blocks.specs.Progress.{part_of}
+use Rattle.tape_blocks.specs.declared.progress.Progress.{Progress}
 use Rattle.tape_blocks.specs.Standing.{IsReadTo, EndsTape, IsRefusedForGood}
 use Rattle.tape_blocks.specs.Reading.{IsReading}
 use Rattle.tape_blocks.specs.declared.fault.Fault.{Fault}
@@ -22,6 +24,10 @@ pub record ReaderValue : Type 0 where
   pub part : List ℕ
   pub outcome : Outcome
 
+-- the value of a reader that has come so far
+abbrev pub value_of : Progress → Outcome → ReaderValue
+value_of p outcome = record { blocks = p.blocks.items; place = p.place; part = part_of p; outcome = outcome }
+
 -- the list may yet be the beginning of a tape: blocks that were read, and then the beginning of a block or nothing
 pub record IsUnderWay (fed : List ℕ) (blocks : List BlockValue) (place : ℕ) (part : List ℕ) : Type 0 where
   pub read : IsReadTo fed blocks place part
@@ -33,15 +39,17 @@ abbrev pub StandsAs : Outcome → ReaderValue → List ℕ → Type 0
 StandsAs Open r fed = IsUnderWay fed r.blocks r.place r.part
 StandsAs (Done start) r fed = (r.place ≤ length fed) × EndsTape (take r.place fed) r.blocks r.place start
 StandsAs (Failed (Tape fault)) r fed = IsRefusedForGood fed fault
-StandsAs (Failed Memory) r fed = Unit {0}
+StandsAs (Failed Memory) r fed = ⊤
 
 -- the reader stands at this list
 abbrev pub StandsAt : ReaderValue → List ℕ → Type 0
 StandsAt r fed = StandsAs r.outcome r fed
 
+-- the tape goes on: no transfer block has come, nothing was refused, and no growth of memory either
 abbrev pub IsOpen : ReaderValue → Type 0
 IsOpen r = r.outcome ≡ Open
 
+-- a growth of memory was refused: the reader answers nothing else from then on
 abbrev pub IsOutOfMemory : ReaderValue → Type 0
 IsOutOfMemory r = r.outcome ≡ Failed Memory
 
@@ -56,13 +64,13 @@ IsFed fed piece (Ok (DoneAt used)) =
     (tape : TapeValue) × (n : ℕ) × IsReading (fed ++ piece) (Ok (tape, n)) × (used ≡ n - length fed)
 IsFed fed piece (Err (Tape fault)) =
     IsReading (fed ++ piece) (Err (Tape fault)) × (IsForMore fault.why → ⊥) × IsRefusedForGood (fed ++ piece) fault
-IsFed fed piece (Err Memory) = Unit {0}
+IsFed fed piece (Err Memory) = ⊤
 
 -- what the list says where the input ends there
 abbrev pub IsFinished : List ℕ → Result TapeValue ReadError → Type 0
 IsFinished fed (Ok tape) = (n : ℕ) × IsReading fed (Ok (tape, n))
 IsFinished fed (Err (Tape fault)) = IsReading fed (Err (Tape fault))
-IsFinished fed (Err Memory) = Unit {0}
+IsFinished fed (Err Memory) = ⊤
 
 -- how many bytes of a piece belong to the tape
 abbrev pub used_of : Fed → ℕ

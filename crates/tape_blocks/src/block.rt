@@ -24,6 +24,7 @@ pub const TOP: usize = 0o160000;
 pub struct Block {
     /// The address of the first byte.
     pub address: u16,
+
     /// The bytes, for rising addresses.
     pub bytes: Vec<u8>,
 }

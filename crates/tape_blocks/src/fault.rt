@@ -9,18 +9,25 @@ use std::fmt;
 pub enum Why {
     /// A byte that is not 00 and begins no block: at that byte.
     Stray,
+
     /// The byte behind the 01 is not 00: at `s + 1`.
     BadMark,
+
     /// The count is below 6: at `s + 2`.
     BadCount,
+
     /// The input ends inside a block: at `s`.
     Cut,
+
     /// The sum of the whole block is not 0 modulo 256: at `s`.
     BadSum,
+
     /// A data block with a good sum ends above 160000 (octal): at `s + 4`.
     PastTop,
+
     /// The input is over between blocks, and no transfer block came: at its length.
     NoTransfer,
+
     /// The tape goes on behind its last possible byte (the limit is this project's choice): at
     /// 1,048,576.
     TooLong,
@@ -51,6 +58,7 @@ impl fmt::Display for Why {
 pub struct Fault {
     /// The place of the fault in the input.
     pub at: u32,
+
     /// The reason.
     pub why: Why,
 }
@@ -73,7 +81,7 @@ impl fmt::Display for Fault {
     fn fmt<W: fmt::Write>(&self, f: &mut fmt::Formatter<W>) -> fmt::Result {
         let at = self.at;
         let why = self.why;
-        write!(f, "{at}: {why}")
+        write!(f, "refused at {at}: {why}")
     }
 }
 
@@ -84,9 +92,10 @@ impl Error for Fault {}
 pub struct Memory;
 
 impl fmt::Display for Memory {
-    ghost use Rattle.std.specs.Prelude.{Some, codes};
+    ghost use Rattle.std.specs.Prelude.{Some};
+    ghost use Rattle.tape_blocks.specs.Fault.{memory_text};
 
-    ghost output = { λ _. Some (codes "out of memory") };
+    ghost output = { λ _. Some memory_text };
 
     fn fmt<W: fmt::Write>(&self, f: &mut fmt::Formatter<W>) -> fmt::Result {
         f.write_str("out of memory")
@@ -112,6 +121,7 @@ impl<T: Drop> From<AllocFailed<T>> for Memory {
 pub enum ReadError {
     /// The input is no tape.
     Tape(Fault),
+
     /// A growth of memory was refused.
     Memory,
 }
@@ -124,8 +134,8 @@ impl fmt::Display for ReadError {
 
     fn fmt<W: fmt::Write>(&self, f: &mut fmt::Formatter<W>) -> fmt::Result {
         match self {
-            ReadError::Tape(fault) => write!(f, "tape refused at {fault}"),
-            ReadError::Memory => f.write_str("out of memory"),
+            ReadError::Tape(fault) => write!(f, "tape {fault}"),
+            ReadError::Memory => write!(f, "{Memory}"),
         }
     }
 }

@@ -11,8 +11,10 @@ use byteorder::{ByteOrder, LittleEndian};
 pub enum Head<'a> {
     /// The beginning of a block, or nothing: the text ends before the block does.
     Part,
+
     /// A data block: its address and its data.
     Data(u16, &'a [u8]),
+
     /// The transfer block: its start address.
     Transfer(u16),
 }
@@ -46,7 +48,7 @@ pub fn head_of<'a>(header: &[u8], body: &'a [u8], at: usize) -> Result<Head<'a>,
     Ok(Head::Data(address, &body[..length]))
 }
 
-/// The count in a block's header, where it is there.
+// The count in a block's header, where it is there.
 fn count_of(header: &[u8], at: usize) -> Result<Option<usize>, Fault>
     requires { at + length header.now ≤ tape_limit }
     ensures { MatchResult result (SaysCount at header.now) (FailsHeader at header.now) }

@@ -10,7 +10,7 @@ use std::error::Error;
 use std::io::Read;
 use std::{fmt, io};
 
-/// The most bytes that are taken: one more than a tape may have, so that a longer one is seen.
+// The most bytes that are taken: one more than a tape may have, so that a longer one is seen.
 const INPUT_LIMIT: usize = TAPE_LIMIT + 1;
 
 /// Why an input gave no tape.
@@ -18,8 +18,10 @@ const INPUT_LIMIT: usize = TAPE_LIMIT + 1;
 pub enum FromError {
     /// The input is no tape.
     Tape(Fault),
+
     /// A growth of memory was refused.
     Memory,
+
     /// A read failed.
     Io,
 }

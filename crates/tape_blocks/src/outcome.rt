@@ -5,8 +5,10 @@ use crate::fault::ReadError;
 pub enum Outcome {
     /// The tape goes on.
     Open,
+
     /// The transfer block came, with this start address.
     Done(u16),
+
     /// What was fed is no tape's beginning, or a growth was refused.
     Failed(ReadError),
 }

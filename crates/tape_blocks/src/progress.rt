@@ -30,6 +30,7 @@ pub struct Progress {
 pub enum Step {
     /// So many bytes were taken, and the tape goes on.
     Took(usize),
+
     /// So many bytes were taken, and the last of them ends the transfer block of this start.
     Ended(usize, u16),
 }
@@ -66,7 +67,7 @@ impl Progress {
         Ok(Step::Took(used))
     }
 
-    /// Takes some of the bytes that are left.
+    // Takes some of the bytes that are left.
     fn step(&mut self, left: &[u8]) -> Result<Step, ReadError>
         requires part { IsPart self.old }
         requires some { 0 < length left.now }
@@ -87,7 +88,7 @@ impl Progress {
         }
     }
 
-    /// Takes a byte 00, a block, or the beginning of one, where none is under way.
+    // Takes a byte 00, a block, or the beginning of one, where none is under way.
     fn begin(&mut self, text: &[u8]) -> Result<Step, ReadError>
         requires part { IsPart self.old }
         requires between { self.old.header.items ≡ [] }
@@ -120,7 +121,7 @@ impl Progress {
         }
     }
 
-    /// Takes more of the block under way, and of nothing behind it.
+    // Takes more of the block under way, and of nothing behind it.
     fn go_on(&mut self, text: &[u8]) -> Result<Step, ReadError>
         requires part { IsPart self.old }
         requires under_way { 0 < length self.old.header.items }
@@ -144,7 +145,7 @@ impl Progress {
         }
     }
 
-    /// How many bytes the header lacks or, where it is whole, its block.
+    // How many bytes the header lacks or, where it is whole, its block.
     fn lacking(&self) -> usize
         requires { IsPart self.now }
         ensures some { 0 < result }
@@ -157,7 +158,7 @@ impl Progress {
         self.count() + 1 - HEADER - self.body.len()
     }
 
-    /// The count in the header.
+    // The count in the header.
     fn count(&self) -> usize
         requires { 4 ≤ length self.now.header.items }
         ensures value { result ≡ count_of (part_of self.now) }
@@ -166,7 +167,7 @@ impl Progress {
         usize::from(LittleEndian::read_u16(&self.header.as_slice()[2..]))
     }
 
-    /// Adds bytes to the block under way: to its header until that is whole, and then behind it.
+    // Adds bytes to the block under way: to its header until that is whole, and then behind it.
     fn put(&mut self, bytes: &[u8]) -> Result<(), AllocError>
         requires { IsSplit self.old.header.items self.old.body.items }
         ensures added { OnOk result (part_of self.new ≡ part_of self.old ++ bytes.now) }
@@ -180,7 +181,7 @@ impl Progress {
         self.body.extend_from_slice(body)
     }
 
-    /// Ends the block under way, whose last byte is its checksum.
+    // Ends the block under way, whose last byte is its checksum.
     fn end_block(&mut self, address: u16) -> Result<(), AllocError>
         requires some { 0 < length self.old.body.items }
         requires within { self.old.place + length (part_of self.old) ≤ tape_limit }

@@ -36,12 +36,13 @@ pub fn read_tape(alloc: Global, bytes: &[u8]) -> Result<(Tape, u32), ReadError>
 pub enum Fed {
     /// The tape goes on behind the piece.
     More,
+
     /// So many bytes of the piece belong to the tape, which ends there.
     Done(usize),
 }
 
 impl Fed {
-    /// How many bytes of the piece belong to the tape, where that ends in it; else 0.
+    // How many bytes of the piece belong to the tape, where that ends in it; else 0.
     fn used(self) -> usize
         ensures { result ≡ used_of self }
     {
@@ -67,12 +68,11 @@ impl Model for TapeReader {
 
     ghost Value = { ReaderValue };
 
-    ghost use Rattle.tape_blocks.specs.Progress.{part_of};
-    ghost use Rattle.tape_blocks.specs.TapeReader.{IsReader};
+    ghost use Rattle.tape_blocks.specs.TapeReader.{IsReader, value_of};
 
-    ghost view = { λ r. record { blocks = r.progress.blocks.items; place = r.progress.place; part = part_of r.progress; outcome = r.outcome } };
+    ghost view = { λ r. value_of r.progress r.outcome };
 
-    ghost invariant = { λ r. IsReader (record { blocks = r.progress.blocks.items; place = r.progress.place; part = part_of r.progress; outcome = r.outcome }) r.progress.header.items r.progress.body.items };
+    ghost invariant = { λ r. IsReader (value_of r.progress r.outcome) r.progress.header.items r.progress.body.items };
 }
 
 impl TapeReader {

@@ -16,8 +16,10 @@ pub const TAPE_LIMIT: usize = 1_048_576;
 pub enum BadTape {
     /// This block has no bytes, and the blocks before it are good.
     EmptyBlock(usize),
+
     /// This block ends above 160000 (octal), and the blocks before it are good.
     BlockPastTop(usize),
+
     /// Each block is good, but the tape cannot be written in 1,048,576 bytes.
     TooMuch,
 }
@@ -120,7 +122,7 @@ impl Tape {
     }
 }
 
-/// The first bad block, if any.
+// The first bad block, if any.
 fn bad_block(blocks: &[Block]) -> Option<BadTape>
     ensures judged { MatchOption result (All IsBlock blocks.now) (IsBadTape blocks.now) }
     ensures of_bytes { IfNone result (All HoldsBytes blocks.now) }
@@ -133,7 +135,7 @@ fn bad_block(blocks: &[Block]) -> Option<BadTape>
     None
 }
 
-/// What is wrong with the bytes at an address, as block of this number, if anything is.
+// What is wrong with the bytes at an address, as block of this number, if anything is.
 fn bad_bytes(number: usize, address: u16, bytes: &[u8]) -> Option<BadTape>
     ensures judged { let b = block_at address bytes.now in
         MatchOption result (IsBlock b) (λ bad. (blocks : List BlockValue) → IsFirstAt blocks number (λ x. x ≡ b) → IsBadTape blocks bad) }
@@ -148,7 +150,7 @@ fn bad_bytes(number: usize, address: u16, bytes: &[u8]) -> Option<BadTape>
     None
 }
 
-/// Whether the blocks and the transfer block fill more bytes than a tape may have.
+// Whether the blocks and the transfer block fill more bytes than a tape may have.
 fn is_too_much(blocks: &[Block]) -> bool
     requires { All IsBlock blocks.now }
     ensures { IsTrue result ↔ (tape_limit < written_length blocks.now) }

@@ -28,7 +28,7 @@ pub fn write_tape(alloc: Global, tape: &Tape) -> Result<Vec<u8>, Memory>
     Ok(text)
 }
 
-/// Appends the block of this address and these bytes, its checksum included.
+// Appends the block of this address and these bytes, its checksum included.
 fn write_block(text: &mut Vec<u8>, address: u16, bytes: &[u8]) -> Result<(), AllocError>
     requires { length bytes.now ≤ top }
     ensures { OnOk result (text.new.items ≡ text.old.items ++ framed address bytes.now) }

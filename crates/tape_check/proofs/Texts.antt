@@ -7,8 +7,8 @@ use Rattle.std.proofs.lemmas.List.Concat.{flat_map-cons}
 use Rattle.std.proofs.lemmas.Grind.{flat_map-append}
 use Rattle.tape_blocks.specs.Tape.{TapeValue, IsTape, plain_text}
 use Rattle.command_io.specs.Tapes.{TapeText, AreTaken, AreTapes}
-use Rattle.tape_check.specs.CheckText.{AreTexts, tape_text, counts_text, start_text, canonical_text, is_same}
-use Rattle.command_io.specs.Text.{line}
+use Rattle.tape_check.specs.CheckText.{AreTexts, tape_text, blocks_text, start_text, canonical_text, is_same}
+use Rattle.byte_io.specs.Text.{line}
 
 -- the text is the tape's
 abbrev IsText : TapeText → Type 0
@@ -38,10 +38,6 @@ are_texts befores afters tapes lengths are = record {
   each = taken_each befores afters are.texts are.taken;
 }
 
-pub as_many : (befores afters : List (Option (List ℕ))) (tapes : List TapeValue) (lengths : List ℕ) → AreTapes befores afters tapes lengths → length lengths ≡ length tapes
-as_many befores afters tapes lengths are =
-    ap length are.lengths_are ∙ length-map are.texts (λ (t : TapeText). length t.text) ∙ sym (ap length are.tapes_are ∙ length-map are.texts (λ (t : TapeText). t.tape))
-
 each_at : (texts : List TapeText) (place : ℕ) (d : TapeText) → AllByRecursion IsText texts → place < length texts → IsText (get_or texts place d)
 each_at [] place d each within = absurd (omega arith)
 each_at (t ∷ texts) zero d each within = each.0
@@ -70,14 +66,14 @@ spread : (old a b d : List ℕ) → ((old ++ a) ++ b) ++ d ≡ old ++ (a ++ b ++
 spread old a b d = simp append_assoc
 
 -- the three lines of a tape, one after another
-pub three_lines : {T E : Type 0} (r : Result T E) (old first second third : List ℕ) (tape : TapeValue) (size : ℕ) (is_canonical : Bool) (start : ℕ) → first ≡ old ++ line (counts_text tape size) → start ≡ tape.start
+pub three_lines : {T E : Type 0} (r : Result T E) (old first second third : List ℕ) (tape : TapeValue) (size : ℕ) (is_canonical : Bool) (start : ℕ) → first ≡ old ++ line (blocks_text tape size) → start ≡ tape.start
     → second ≡ first ++ line (start_text start) → OnOk r (third ≡ second ++ line (canonical_text is_canonical))
     → ((text : List ℕ) → IsTape text tape.blocks tape.start → size ≡ length text → is_canonical ≡ is_same text (plain_text tape))
     → OnOk r ((text : List ℕ) → IsTape text tape.blocks tape.start → size ≡ length text → third ≡ old ++ tape_text (record { text = text; tape = tape }))
 three_lines (Err e) old first second third tape size is_canonical start one start_is two three judged = tt
 three_lines (Ok x) old first second third tape size is_canonical start one start_is two three judged = λ text is long.
     three ∙ ap (λ l. l ++ line (canonical_text is_canonical)) (two ∙ ap (λ l. l ++ line (start_text start)) one)
-    ∙ ap (λ b. ((old ++ line (counts_text tape size)) ++ line (start_text start)) ++ line (canonical_text b)) (judged text is long)
-    ∙ ap (λ a. ((old ++ line (counts_text tape size)) ++ line (start_text a)) ++ line (canonical_text (is_same text (plain_text tape)))) start_is
-    ∙ ap (λ n. ((old ++ line (counts_text tape n)) ++ line (start_text tape.start)) ++ line (canonical_text (is_same text (plain_text tape)))) long
-    ∙ spread old (line (counts_text tape (length text))) (line (start_text tape.start)) (line (canonical_text (is_same text (plain_text tape))))
+    ∙ ap (λ b. ((old ++ line (blocks_text tape size)) ++ line (start_text start)) ++ line (canonical_text b)) (judged text is long)
+    ∙ ap (λ a. ((old ++ line (blocks_text tape size)) ++ line (start_text a)) ++ line (canonical_text (is_same text (plain_text tape)))) start_is
+    ∙ ap (λ n. ((old ++ line (blocks_text tape n)) ++ line (start_text tape.start)) ++ line (canonical_text (is_same text (plain_text tape)))) long
+    ∙ spread old (line (blocks_text tape (length text))) (line (start_text tape.start)) (line (canonical_text (is_same text (plain_text tape))))

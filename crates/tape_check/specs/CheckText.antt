@@ -1,15 +1,15 @@
 -- The text that `check` prints of tapes (this project's own).
-use Rattle.std.specs.Prelude.{◌≡◌, ℕ, ◌%◌, ◌==◌, if◌then◌else◌, Bool, nat_eq, List, [], ◌∷◌, ◌++◌, length, sum_by, codes, decimal, Option}
+use Rattle.std.specs.Prelude.{◌≡◌, ℕ, ◌%◌, ◌==◌, if◌then◌else◌, Bool, nat_eq, List, ◌++◌, length, sum_by, codes, decimal, Option}
 use Rattle.std.specs.List.{flat_map, AllByRecursion}
 use Rattle.std.specs.Cmp.Lexicographic.{pointwise}
 use Rattle.std.specs.Io.KnownBytes.{Appends}
 use Rattle.octal.specs.Octal.{octal_text}
 use Rattle.tape_blocks.specs.Block.{BlockValue}
 use Rattle.tape_blocks.specs.Tape.{TapeValue, IsTape, plain_text}
-use Rattle.tape_image.specs.Word.{WordValue}
+use Rattle.tape_image.specs.Word.{WordValue, word_fields}
 use Rattle.tape_image.specs.Plan.{plan_of_all}
-use Rattle.command_io.specs.Text.{line}
-use Rattle.command_io.specs.Output.{WritesPrefix}
+use Rattle.byte_io.specs.Text.{line}
+use Rattle.byte_io.specs.Output.{WritesProperPrefix}
 use Rattle.command_io.specs.Tapes.{TapeText, AreTaken, tapes_of, lengths_of}
 
 -- how many data bytes the blocks have together
@@ -17,8 +17,8 @@ abbrev pub data_count : List BlockValue → ℕ
 data_count blocks = sum_by (λ b. length b.bytes) blocks
 
 -- how many blocks there are, how many data bytes in them, and how many bytes the tape has
-abbrev pub counts_text : TapeValue → ℕ → List ℕ
-counts_text tape count =
+abbrev pub blocks_text : TapeValue → ℕ → List ℕ
+blocks_text tape count =
     codes "blocks " ++ decimal (length tape.blocks) ++ codes " data " ++ decimal (data_count tape.blocks)
     ++ codes " read " ++ decimal count
 
@@ -30,13 +30,9 @@ start_text start = (if start % 2 == 0 then codes "start " else codes "no start "
 abbrev pub is_same : List ℕ → List ℕ → Bool
 is_same = pointwise nat_eq
 
--- whether the tape's bytes are its plain text
+-- the line's words that say whether a tape is canonical
 abbrev pub canonical_text : Bool → List ℕ
 canonical_text is_canonical = codes "canonical " ++ (if is_canonical then codes "yes" else codes "no")
-
--- a word's address, mask and value
-abbrev pub word_fields : WordValue → List ℕ
-word_fields w = octal_text w.address ++ 32 ∷ [] ++ octal_text w.mask ++ 32 ∷ [] ++ octal_text w.value
 
 -- how many words there are, and a line for each
 abbrev pub words_text : List WordValue → List ℕ
@@ -44,23 +40,23 @@ words_text words = line (codes "words " ++ decimal (length words)) ++ flat_map (
 
 -- the three lines of a tape
 abbrev pub tape_text : TapeText → List ℕ
-tape_text t = line (counts_text t.tape (length t.text)) ++ line (start_text t.tape.start) ++ line (canonical_text (is_same t.text (plain_text t.tape)))
+tape_text t = line (blocks_text t.tape (length t.text)) ++ line (start_text t.tape.start) ++ line (canonical_text (is_same t.text (plain_text t.tape)))
 
 -- what `check` prints of tapes and the bytes that they were read from: three lines of each, and then once the words of all
 abbrev pub check_text : List TapeText → List ℕ
 check_text texts = flat_map tape_text texts ++ words_text (plan_of_all (tapes_of texts)).words
 
 -- tapes were taken of the inputs, and their text for `check` was written, and nothing else
-pub record IsChecked (inputs rests : List (Option (List ℕ))) (before after : Option (List ℕ)) : Type 0 where
+pub record IsChecked (inputs inputs' : List (Option (List ℕ))) (out out' : Option (List ℕ)) : Type 0 where
   pub texts : List TapeText
-  pub taken : AreTaken inputs rests texts
-  pub written : Appends before after (check_text texts)
+  pub taken : AreTaken inputs inputs' texts
+  pub written : Appends out out' (check_text texts)
 
 -- the same, but only a prefix of the text for `check` was written
-pub record IsCheckedInPart (inputs rests : List (Option (List ℕ))) (before after : Option (List ℕ)) : Type 0 where
+pub record IsCheckedInPart (inputs inputs' : List (Option (List ℕ))) (out out' : Option (List ℕ)) : Type 0 where
   pub texts : List TapeText
-  pub taken : AreTaken inputs rests texts
-  pub written : WritesPrefix before after (check_text texts)
+  pub taken : AreTaken inputs inputs' texts
+  pub written : WritesProperPrefix out out' (check_text texts)
 
 -- tapes of these texts, which are so long
 pub record AreTexts (tapes : List TapeValue) (lengths : List ℕ) (texts : List TapeText) : Type 0 where

@@ -3,12 +3,15 @@ ghost use Rattle.std.specs.Prelude.{◌≡◌, ◌≤◌, ◌++◌, ℕ, List, l
 ghost use Rattle.std.specs.List.{flat_map};
 ghost use Rattle.octal.specs.Octal.{octal_text};
 ghost use Rattle.tape_blocks.specs.Tape.{IsTape, tape_limit};
+ghost use Rattle.tape_image.specs.Word.{word_fields};
 ghost use Rattle.command_io.specs.Tapes.{TapeText, TakeAtMost};
-ghost use Rattle.command_io.specs.Text.{line};
-ghost use Rattle.tape_check.specs.CheckText.{data_count, counts_text, start_text, canonical_text, tape_text, words_text, word_fields, check_text as text_of_check, AreTexts, IsChecked};
+ghost use Rattle.byte_io.specs.Text.{line};
+ghost use Rattle.tape_check.specs.CheckText.{data_count, blocks_text, start_text, canonical_text};
+ghost use Rattle.tape_check.specs.CheckText.{tape_text, words_text, check_text as text_of_check, AreTexts, IsChecked};
 ghost use Rattle.tape_check.specs.CheckFault.{IsCheckFault};
 
-use command_io::{CommandFault, Tapes, put_decimal, put_octal, take_tapes, write_whole};
+use byte_io::{put_decimal, put_octal, write_whole};
+use command_io::{CommandFault, Tapes, take_tapes};
 use std::alloc::{AllocError, Global};
 use std::io::{Read, Write};
 use tape_blocks::{Block, Tape};
@@ -36,10 +39,11 @@ pub fn check_to<R: Read, W: Write>(
     Ok(())
 }
 
-/// What is printed of tapes.
+// What is printed of tapes.
 fn check_text(alloc: Global, taken: &Tapes) -> Result<Vec<u8>, CommandFault>
     requires { length taken.now.lengths.items ≡ length taken.now.tapes.items }
-    ensures ok { IfOk result (λ report. (texts : List TapeText) → AreTexts taken.now.tapes.items taken.now.lengths.items texts → report.items ≡ text_of_check texts) }
+    ensures ok { IfOk result (λ report. (texts : List TapeText) → AreTexts taken.now.tapes.items taken.now.lengths.items texts →
+        report.items ≡ text_of_check texts) }
     ensures err { IfErr result (λ fault. fault ≡ CommandFault.Memory) }
 {
     let plan = Plan::of_all(alloc, &taken.tapes)?;
@@ -51,10 +55,11 @@ fn check_text(alloc: Global, taken: &Tapes) -> Result<Vec<u8>, CommandFault>
     Ok(report)
 }
 
-/// The lines of one tape, which was read from so many bytes: they are its plain text where nothing stands
-/// between its blocks.
+// The lines of one tape, which was read from so many bytes: they are its plain text where nothing stands
+// between its blocks.
 fn put_tape(report: &mut Vec<u8>, tape: &Tape, size: u32) -> Result<(), AllocError>
-    ensures { OnOk result ((text : List ℕ) → IsTape text tape.now.blocks tape.now.start → size ≡ length text → report.new.items ≡ report.old.items ++ tape_text (record { text = text; tape = tape.now })) }
+    ensures { OnOk result ((text : List ℕ) → IsTape text tape.now.blocks tape.now.start → size ≡ length text →
+        report.new.items ≡ report.old.items ++ tape_text (record { text = text; tape = tape.now })) }
 {
     put_counts(report, tape, size)?;
     put_start(report, tape.start())?;
@@ -62,7 +67,7 @@ fn put_tape(report: &mut Vec<u8>, tape: &Tape, size: u32) -> Result<(), AllocErr
 }
 
 fn put_counts(report: &mut Vec<u8>, tape: &Tape, size: u32) -> Result<(), AllocError>
-    ensures { OnOk result (report.new.items ≡ report.old.items ++ line (counts_text tape.now size)) }
+    ensures { OnOk result (report.new.items ≡ report.old.items ++ line (blocks_text tape.now size)) }
 {
     let blocks = tape.blocks();
     report.extend_from_slice(b"blocks ")?;

@@ -1,30 +1,13 @@
 -- The last of the blocks that has a byte for an address.
-use Rattle.std.proofs.Common.{◌≡◌, ℕ, zero, suc, ◌-◌, ◌+◌, ◌^◌, ◌<◌, ◌≤◌, true, false, cond, leb, ltb, List, [], ◌∷◌, length, get_or, drop, Option, Some, None, refl, arith, ap, sym, ◌∙◌}
+use Rattle.std.proofs.Common.{◌≡◌, ℕ, zero, suc, ◌-◌, ◌+◌, ◌^◌, ◌<◌, ◌≤◌, true, false, cond, leb, ltb, List, [], ◌∷◌, length, get_or, Option, Some, None, refl, arith, ap, ◌∙◌}
 use Rattle.std.specs.Prelude.{All, IfSome, slice_get}
 use Rattle.std.specs.Option.{option_or}
 use Rattle.std.proofs.lemmas.Bool.{leb-true, le-leb, ltb-true, ltb-false}
 use Rattle.std.proofs.lemmas.Bool.Decides.{nat_tests}
 use Rattle.std.proofs.lemmas.Option.{slice_get-get_or, slice_get_past}
-use Rattle.std.proofs.Math.Seq.{drop-cons}
 use Rattle.std.proofs.lemmas.List.Elements.{All-tail, All-head}
 use Rattle.tape_blocks.specs.Block.{BlockValue, IsBlock, HoldsBytes, block_at, top}
 use Rattle.tape_image.specs.Image.{byte_in, byte_at}
-
--- a byte that the later blocks have is the byte of all the blocks
-pub byte_at-drop : (blocks : List BlockValue) (k a byte : ℕ) → byte_at (drop k blocks) a ≡ Some byte → byte_at blocks a ≡ Some byte
-byte_at-drop blocks zero a byte e = e
-byte_at-drop [] (suc k) a byte e = e
-byte_at-drop (block ∷ blocks) (suc k) a byte e = ap (λ o. option_or o (byte_in block a)) (byte_at-drop blocks k a byte e)
-
--- of the block before the place n, where those from n on have no byte
-pub byte_at-last : (blocks : List BlockValue) (n a byte : ℕ) (block : BlockValue) → 0 < n → n ≤ length blocks → byte_at (drop n blocks) a ≡ None → block ≡ get_or blocks (n - 1) block → byte_in block a ≡ Some byte → byte_at blocks a ≡ Some byte
-byte_at-last blocks zero a byte block some l none is e = absurd (omega arith)
-byte_at-last blocks (suc k) a byte block some l none is e =
-    let before : k ≡ suc k - 1 = omega arith in
-    let rest : drop k blocks ≡ get_or blocks k block ∷ drop (suc k) blocks = drop-cons blocks k block (omega arith) in
-    byte_at-drop blocks k a byte
-    (ap (λ bs. byte_at bs a) rest ∙ ap (λ o. option_or o (byte_in (get_or blocks k block) a)) none
-    ∙ ap (λ i. byte_in (get_or blocks i block) a) before ∙ ap (λ b. byte_in b a) (sym is) ∙ e)
 
 -- what holds of each byte of a list holds of the one that is found
 slice_get-All : (P : ℕ → Type 0) (xs : List ℕ) (i : ℕ) → All P xs → IfSome (slice_get xs i) P

@@ -33,10 +33,6 @@ half-merged b w old =
 pub half-merged_given : (b : ℕ) (w : WordValue) (old : ℕ) → covers b w.mask ≡ true → half b (merged w old) ≡ half b w.value
 half-merged_given b w old e = half-merged b w old ∙ ap (λ t. cond t (half b w.value) (half b old)) e
 
--- outside the mask it stays
-pub half-merged_other : (b : ℕ) (w : WordValue) (old : ℕ) → covers b w.mask ≡ false → half b (merged w old) ≡ half b old
-half-merged_other b w old e = half-merged b w old ∙ ap (λ t. cond t (half b w.value) (half b old)) e
-
 -- a word stands where it was merged
 pub Stands-merged : (w : WordValue) (old : ℕ) → Stands w (merged w old)
 Stands-merged w old = record { low = λ t. half-merged_given 0 w old t; high = λ t. half-merged_given 1 w old t }

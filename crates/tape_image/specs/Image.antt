@@ -3,7 +3,7 @@ use Rattle.std.specs.Prelude.{◌≡◌, ℕ, zero, suc, ◌-◌, nat_le, if◌t
 use Rattle.std.specs.Option.{option_or}
 use Rattle.std.specs.Ordering.{nat_cmp}
 use Rattle.std.specs.FinMap.{FinMap, empty, insert, get}
-use Rattle.tape_blocks.specs.Block.{BlockValue}
+use Rattle.tape_blocks.specs.Block.{BlockValue, top}
 
 -- the byte that a block has for an address
 abbrev pub byte_in : BlockValue → ℕ → Option ℕ
@@ -34,4 +34,4 @@ image_below f (suc n) = with_byte (image_below f n) n (f n)
 
 -- the addresses below 160000 that a block covers, with the bytes that the last ones have for them
 unfoldable pub image_of : List BlockValue → Image
-image_of blocks = image_below (byte_at blocks) 0o160000
+image_of blocks = image_below (byte_at blocks) top

@@ -10,6 +10,10 @@ half b word = if b % 2 == 0 then word % 256 else word / 256
 abbrev pub byte_of : List ℕ → ℕ → ℕ
 byte_of memory b = half b (slice_index memory (b / 2))
 
+-- the most words that a memory has: those below 160000 (octal), where the I/O page begins
+abbrev pub most_words : ℕ
+most_words = 28672
+
 -- the first address above the memory
 abbrev pub top_of : List ℕ → ℕ
 top_of memory = 2 * length memory

@@ -1,14 +1,17 @@
 -- The plan: the image of a tape as the words that the host types, and the program's start.
-use Rattle.std.specs.Prelude.{◌≡◌, ◌↔◌, ℕ, zero, suc, ◌+◌, ◌*◌, ◌%◌, ◌<◌, ◌≤◌, ◌==◌, if◌then◌else◌, List, [], ◌∷◌, ◌++◌, length, Option, Some, None, All, AllPairs, IfSome, refl}
+use Rattle.std.specs.Prelude.{◌≡◌, ◌↔◌, ℕ, zero, suc, ◌+◌, ◌*◌, ◌%◌, ◌<◌, ◌≤◌, ◌==◌, if◌then◌else◌}
+use Rattle.std.specs.Prelude.{List, [], ◌∷◌, ◌++◌, length, Option, Some, None, All, AllPairs, IfSome, refl}
 use Rattle.std.specs.Coded.{Coded, code_by, coded×, coded_ℕ, coded_list, coded_option}
 use Rattle.std.specs.List.{flat_map}
 use Rattle.std.specs.Option.{option_to_list}
 use Rattle.std.specs.FinMap.{get, code}
-use Rattle.tape_blocks.specs.Block.{BlockValue}
+use Rattle.tape_blocks.specs.Block.{BlockValue, top}
 use Rattle.tape_blocks.specs.Tape.{TapeValue}
-use Rattle.tape_image.specs.Memory.{half}
+use Rattle.tape_image.specs.Memory.{half, most_words}
 use Rattle.tape_image.specs.Word.{WordValue, word_code, IsWord, gives}
 use Rattle.tape_image.specs.Image.{Image, image_of}
+use Rattle.tape_image.specs.declared.start.Start.{Start}
+use Rattle.tape_image.specs.declared.start.Start.TheVariants.{OfTape, At, Nowhere}
 
 -- the word for an even address, by the image's bytes there and at the next: none where it has neither, a mask of
 -- 000377 for the first and 177400 for the second, and 0 outside the mask
@@ -25,7 +28,7 @@ words_below image (suc n) = words_below image n ++ option_to_list (word_of (2 * 
 
 -- the words of the image: one for each even address below 160000 with a byte of the image at it or after it
 unfoldable pub words_of : Image → List WordValue
-words_of image = words_below image 28672
+words_of image = words_below image most_words
 
 -- the byte for an address in the first of the words that gives it, or none
 abbrev pub given_byte : List WordValue → ℕ → Option ℕ
@@ -80,13 +83,19 @@ start_of_all (tape ∷ (next ∷ more)) = start_of_all (next ∷ more)
 abbrev pub plan_of_all : List TapeValue → PlanValue
 plan_of_all tapes = plan_with (image_of (blocks_of_all tapes)) (start_of_all tapes)
 
+-- the same image and words, with the start that is asked for in place of the tape's
+abbrev pub starting : PlanValue → Start → PlanValue
+starting plan OfTape = plan
+starting plan (At address) = record plan { start = program_start address }
+starting plan Nowhere = record plan { start = None }
+
 -- what every plan keeps, however it was made
 pub record IsPlan (p : PlanValue) : Type 0 where
   pub words_of_image : p.words ≡ words_of p.image
   pub each : All IsWord p.words
   pub rising : AllPairs (λ v w. v.address < w.address) p.words
-  pub few : length p.words ≤ 28672
+  pub few : length p.words ≤ most_words
   pub image_of_words : (b : ℕ) → get p.image b ≡ given_byte p.words b
-  pub within : (b : ℕ) → IfSome (get p.image b) (λ _. b < 0o160000)
+  pub within : (b : ℕ) → IfSome (get p.image b) (λ _. b < top)
   pub bytes : (b : ℕ) → IfSome (get p.image b) (λ byte. byte < 256)
   pub start_even : IfSome p.start (λ start. (start % 2 ≡ 0) × (start < 65536))

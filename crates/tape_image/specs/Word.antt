@@ -1,6 +1,8 @@
 -- A word of the plan: which bytes of a machine's word are the tape's, and what they are.
-use Rattle.std.specs.Prelude.{◌≡◌, ℕ, ◌+◌, ◌*◌, ◌/◌, ◌%◌, ◌<◌, ◌⊎◌, Bool, false, ◌==◌, ◌&&◌, if◌then◌else◌, IsTrue, refl}
+use Rattle.std.specs.Prelude.{◌≡◌, ℕ, ◌+◌, ◌*◌, ◌/◌, ◌%◌, ◌<◌, ◌⊎◌, Bool, false, ◌==◌, ◌&&◌, if◌then◌else◌, IsTrue, List, ◌∷◌, ◌++◌, refl}
 use Rattle.std.specs.Coded.{Coded, code_by, coded×, coded_ℕ}
+use Rattle.octal.specs.Octal.{octal_text}
+use Rattle.tape_blocks.specs.Block.{top}
 use Rattle.tape_image.specs.Memory.{half}
 
 -- the address of the word, the bits that the tape gives (the mask), and these bits
@@ -50,9 +52,13 @@ pub record IsInside (mask value : ℕ) : Type 0 where
   pub low : covers 0 mask ≡ false → half 0 value ≡ 0
   pub high : covers 1 mask ≡ false → half 1 value ≡ 0
 
+-- a word by its address, mask and value, one space between (this project's choice)
+abbrev pub word_fields : WordValue → List ℕ
+word_fields w = octal_text w.address ++ 32 ∷ (octal_text w.mask ++ 32 ∷ octal_text w.value)
+
 -- an even address below 160000 (this project's choice), and a value of 16 bits inside the mask
 pub record IsWord (w : WordValue) : Type 0 where
   pub even : w.address % 2 ≡ 0
-  pub below : w.address < 0o160000
+  pub below : w.address < top
   pub inside : IsInside w.mask w.value
   pub fits : w.value < 65536

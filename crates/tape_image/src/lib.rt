@@ -2,7 +2,7 @@
 //!
 //! A `Plan` is made of a tape, or of several as one. It shows the image (which byte the tape leaves at
 //! which address), the words of the image, each with a mask for the bytes that are the tape's, and the
-//! program's start. `merge` lays a word over an old one, and `stands` says whether a word is there
+//! program's start, which `starting` may replace. `merge` lays a word over an old one, and `stands` says whether a word is there
 //! already.
 //!
 //! The contract: the words are those of the image, for each even address with a byte at it or after
@@ -14,7 +14,9 @@
 mod page;
 mod pages;
 mod plan;
+mod start;
 mod word;
 
 pub use plan::Plan;
+pub use start::Start;
 pub use word::{Word, merge, stands};

@@ -11,7 +11,7 @@ use std::alloc::Global;
 use std::marker::Model;
 use tape_blocks::{Block, Memory};
 
-/// How many pages memory has below 160000 (octal).
+// How many pages memory has below 160000 (octal).
 const PAGES: usize = 112;
 
 /// The image of blocks, as a table of pages that are made where a block touches them.
@@ -26,6 +26,7 @@ impl Model for Pages {
     ghost use Rattle.std.specs.Prelude.{◌≡◌, length};
     ghost use Rattle.std.specs.Coded.{coded_ℕ};
     ghost use Rattle.std.specs.FinMap.{code};
+    ghost use Rattle.tape_blocks.specs.Block.{top};
     ghost use Rattle.tape_image.specs.Image.{Image, image_below};
     ghost use Rattle.tape_image.specs.Pages.{byte_in_table};
 
@@ -33,7 +34,7 @@ impl Model for Pages {
 
     ghost coded = { code coded_ℕ coded_ℕ };
 
-    ghost view = { λ p. image_below (byte_in_table p.table.items) 0o160000 };
+    ghost view = { λ p. image_below (byte_in_table p.table.items) top };
 
     ghost invariant = { λ p. length p.table.items ≡ 112 };
 }
@@ -61,7 +62,7 @@ impl Pages {
         Ok(())
     }
 
-    /// Lays the bytes over the image, the first at the address: a run of them for each page.
+    // Lays the bytes over the image, the first at the address: a run of them for each page.
     fn lay(&mut self, alloc: Global, address: u16, bytes: &[u8]) -> Result<(), Memory>
         requires { IsBlock (block_at address bytes.now) }
         ensures { IfOk result (λ _. IsLaid (byte_in (block_at address bytes.now)) self.old self.new) }
@@ -82,8 +83,8 @@ impl Pages {
         Ok(())
     }
 
-    /// Lays the run over the page of this number, its first byte at the offset. The page is made if it
-    /// is not there.
+    // Lays the run over the page of this number, its first byte at the offset. The page is made if it
+    // is not there.
     fn lay_run(
         &mut self,
         alloc: Global,

@@ -2,10 +2,11 @@ ghost use Rattle.std.specs.Prelude.{◌≡◌, [], ◌∷◌, IfOk};
 ghost use Rattle.std.specs.FinMap.{empty, get};
 ghost use Rattle.tape_blocks.specs.Tape.{TapeValue};
 ghost use Rattle.tape_image.specs.Image.{IsImageOf};
-ghost use Rattle.tape_image.specs.Plan.{AreTheWordsOf, IsPlan, blocks_of_all, plan_of, plan_of_all, plan_with, program_start};
+ghost use Rattle.tape_image.specs.Plan.{AreTheWordsOf, IsPlan, blocks_of_all, plan_of, plan_of_all, plan_with, program_start, starting};
 ghost use Rattle.tape_image.specs.Overlay.{MakesOverlay};
 
 use crate::pages::Pages;
+use crate::start::{Start, program_start};
 use crate::word::Word;
 use std::alloc::Global;
 use std::marker::Model;
@@ -66,8 +67,8 @@ impl Plan {
         Plan::of_pages(alloc, pages, start)
     }
 
-    /// The plan of the image in the pages, with this start. The one error is want of memory, for the
-    /// words.
+    // The plan of the image in the pages, with this start. The one error is want of memory, for the
+    // words.
     fn of_pages(alloc: Global, pages: Pages, start: Option<u16>) -> Result<Plan, Memory>
         requires { IsPlan (plan_with pages start) }
         ensures plan { IfOk result (λ plan. plan ≡ plan_with pages start) }
@@ -80,6 +81,20 @@ impl Plan {
             words,
             start,
         })
+    }
+
+    /// The same words with the start that is asked for in place of the tape's.
+    pub fn starting(self, start: Start) -> Plan
+        ensures value { result ≡ starting self start }
+        ensures sound { IsPlan result }
+    {
+        let mut plan = self;
+        match start {
+            Start::OfTape => {}
+            Start::At(address) => plan.start = program_start(address),
+            Start::Nowhere => plan.start = None,
+        }
+        plan
     }
 
     /// The words that have a byte of the image or two, in the order of their addresses; at most
@@ -108,11 +123,4 @@ impl Plan {
     {
         self.pages.byte_at(address)
     }
-}
-
-/// Where the program begins: an odd start address says that it does not.
-fn program_start(start: u16) -> Option<u16>
-    ensures { result ≡ program_start start }
-{
-    (start % 2 == 0).then_some(start)
 }

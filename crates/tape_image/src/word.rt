@@ -5,19 +5,19 @@ ghost use Rattle.tape_image.specs.Plan.{word_of};
 
 use std::marker::Model;
 
-/// The mask of the low byte, at the word's own address.
+// The mask of the low byte, at the word's own address.
 const LOW_BYTE: u16 = 0o377;
 
-/// The mask of the high byte, at the next address.
+// The mask of the high byte, at the next address.
 const HIGH_BYTE: u16 = 0o177400;
 
-/// The mask of both bytes.
+// The mask of both bytes.
 const BOTH_BYTES: u16 = 0o177777;
 
 /// 160000 octal, where memory ends and the I/O page begins: no image reaches it (this project's choice).
 pub(crate) const TOP: u16 = 0o160000;
 
-/// How many values a byte has: a word is its low byte plus so many times its high byte.
+// How many values a byte has: a word is its low byte plus so many times its high byte.
 const BYTE: u16 = 256;
 
 /// A word of a tape's image: an address, and the bits that the tape has for the word there.
@@ -107,14 +107,14 @@ impl Word {
         self.value
     }
 
-    /// Whether the low byte is the tape's.
+    // Whether the low byte is the tape's.
     fn has_low(self) -> bool
         ensures { result ≡ covers 0 self.mask }
     {
         matches!(self.mask, LOW_BYTE | BOTH_BYTES)
     }
 
-    /// Whether the high byte is the tape's.
+    // Whether the high byte is the tape's.
     fn has_high(self) -> bool
         ensures { result ≡ covers 1 self.mask }
     {
@@ -122,7 +122,7 @@ impl Word {
     }
 }
 
-/// Whether the mask is one of the three, and the value has no bit outside it.
+// Whether the mask is one of the three, and the value has no bit outside it.
 fn is_inside(mask: u16, value: u16) -> bool
     ensures { IsTrue result ↔ IsInside mask value }
 {

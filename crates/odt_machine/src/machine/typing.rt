@@ -1,6 +1,6 @@
 ghost use Rattle.std.specs.Prelude.{◌≡◌, ℕ, ◌≤◌, [], length, IsTrue};
 ghost use Rattle.octal.specs.Octal.{is_digit, pushed as pushed_value};
-ghost use Rattle.odt_machine.specs.Answer.{illegal_text};
+ghost use Rattle.odt_machine.specs.Answer.{illegal_text, longest_answer};
 ghost use Rattle.odt_machine.specs.Key.{key_of};
 ghost use Rattle.odt_machine.specs.KeyTable.{digits_after, take_of, after_key};
 ghost use Rattle.odt_machine.specs.Laws.{StoresOnlyTyped, is_illegal, is_running};
@@ -24,9 +24,10 @@ impl Odt {
         ensures stores { StoresOnlyTyped self.old.memory self.old.mode (key_of key) self.new.memory }
 
         // An illegal key stores nothing and forgets what was typed; a running machine is silent.
-        ensures illegal { IsTrue (is_illegal self.old.mode (key_of key)) → (self.new ≡ record self.old { mode = Mode.Prompt }) × (result.items ≡ illegal_text self.old.style key) }
+        ensures illegal { IsTrue (is_illegal self.old.mode (key_of key))
+            → (self.new ≡ record self.old { mode = Mode.Prompt }) × (result.items ≡ illegal_text self.old.style key) }
         ensures running { IsTrue (is_running self.old.mode) → (self.new ≡ self.old) × (result.items ≡ []) }
-        ensures short { length result.items ≤ 9 }
+        ensures short { length result.items ≤ longest_answer }
         ensures sound { IsMachine self.new }
     {
         match self.mode {

@@ -1,6 +1,6 @@
 use Rattle.std.proofs.Common.{◌≡◌, ◌++◌, ◌∷◌, [], ◌∙◌, ℕ, List, Option, codes, sym, subst, arith}
 use Rattle.std.proofs.lemmas.Result.{on_err_weaker}
-use Rattle.command_io.specs.Output.{WritesAllBut}
+use Rattle.byte_io.specs.Output.{WritesAllBut}
 use Rattle.endings.specs.declared.failure.Failure.{Failure}
 use Rattle.endings.specs.Failure.{failure_words, failure_name, fault_line}
 use Rattle.endings.proofs.Lines.{on_any_err, none_written, no_prefix, piece_written, piece_cut, line_pieces}

@@ -1,7 +1,7 @@
 -- What is written and what is still to be shown are the whole name.
 use Rattle.std.proofs.Common.{IsUtf8}
 use Rattle.std.specs.Str.Iter.{chars_rest}
-use Rattle.command_io.specs.Output.{WritesAllBut}
+use Rattle.byte_io.specs.Output.{WritesAllBut}
 use Rattle.endings.proofs.Names.{shown_text}
 use Rattle.endings.proofs.telling.write_name.Given as goal
 

@@ -4,7 +4,7 @@ use Rattle.host_core.proofs.Turns.{within_bound}
 use Rattle.load_engine.proofs.Keepings.{keeps_none, kept_then}
 use Rattle.load_engine.proofs.Sessions.{forward, session_none, session_join, session_wider, session_marks, session_ended, session_over}
 use Rattle.load_engine.specs.Session.{Session}
-use Rattle.load_engine.proofs.Beliefs.{session_believable}
+use Rattle.load_engine.proofs.Beliefs.{session_believable, session_start}
 use Rattle.load_engine.proofs.driving.drive.Goals as goal
 use Rattle.load_engine.proofs.driving.drive.Goals.{in-Some-end, in-None}
 
@@ -26,6 +26,9 @@ returns-in-Some-clause-turns g c = session_ended c.in-Some.end c.loop.counter c.
 
 pub returns-in-Some-clause-honest : goal.returns-in-Some-clause-honest
 returns-in-Some-clause-honest g c = session_believable _ _ _ _ _ _ _ _ c.loop.invariant.first (returns-in-Some-clause-turns g c)
+
+pub returns-in-Some-clause-start : goal.returns-in-Some-clause-start
+returns-in-Some-clause-start g c = session_start _ _ _ _ _ _ _ _ c.loop.invariant.first (returns-in-Some-clause-turns g c)
 
 pub returns-in-Some-clause-same_plan : goal.returns-in-Some-clause-same_plan
 returns-in-Some-clause-same_plan g c = let s = c.loop.invariant.session in ap (λ core. core.plan) s.core ∙ led_plan c.args.core s.heard
@@ -61,6 +64,9 @@ returns-in-Err-clause-mark_first g c = session_marks _ _ _ _ _ _ _ _ (returns-in
 
 pub returns-in-Err-clause-honest : goal.returns-in-Err-clause-honest
 returns-in-Err-clause-honest g c = session_believable _ _ _ _ _ _ _ _ c.loop.invariant.first (returns-in-Err-clause-turns g c)
+
+pub returns-in-Err-clause-start : goal.returns-in-Err-clause-start
+returns-in-Err-clause-start g c = session_start _ _ _ _ _ _ _ _ c.loop.invariant.first (returns-in-Err-clause-turns g c)
 
 pub returns-in-Err-clause-same_plan : goal.returns-in-Err-clause-same_plan
 returns-in-Err-clause-same_plan g c = let s = returns-in-Err-clause-turns g c in ap (λ core. core.plan) s.core ∙ led_plan c.args.core s.heard
@@ -105,6 +111,9 @@ returns-clause-turns g c =
 
 pub returns-clause-honest : goal.returns-clause-honest
 returns-clause-honest g c = session_believable _ _ _ _ _ _ _ _ c.loop.invariant.first (returns-clause-turns g c)
+
+pub returns-clause-start : goal.returns-clause-start
+returns-clause-start g c = session_start _ _ _ _ _ _ _ _ c.loop.invariant.first (returns-clause-turns g c)
 
 pub returns-clause-same_plan : goal.returns-clause-same_plan
 returns-clause-same_plan g c = let s = c.loop.invariant.session in ap (λ core. core.plan) s.core ∙ led_plan c.args.core s.heard

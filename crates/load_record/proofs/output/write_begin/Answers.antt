@@ -2,7 +2,7 @@ use Rattle.std.proofs.Common.{◌∷◌, [], ◌++◌, ◌∙◌, ap, refl, subs
 use Rattle.std.proofs.lemmas.List.{take_min}
 use Rattle.std.specs.Io.KnownBytes.{Appends}
 use Rattle.load_record.specs.declared.version.Version.TheVariants.{Second}
-use Rattle.command_io.specs.Output.{WritesPrefix}
+use Rattle.byte_io.specs.Output.{WritesProperPrefix}
 use Rattle.load_record.specs.Lines.{header}
 use Rattle.load_record.proofs.Pieces.{ended_text, header_prefix, begin_prefix, begin_whole}
 use Rattle.load_record.proofs.Writing.{on_err, on_err_map, if_ok_map}
@@ -12,7 +12,7 @@ pub returns-in_err-write_whole-clause-err : goal.returns-in_err-write_whole-clau
 returns-in_err-write_whole-clause-err g c =
     on_err c.from_residual.result _
     (header_prefix c.args.run c.args.plan.now c.args.verified _ _
-    (subst (WritesPrefix (g.W.Write.contents c.args.out.now) (g.W.Write.contents c.write_whole.new.out))
+    (subst (WritesProperPrefix (g.W.Write.contents c.args.out.now) (g.W.Write.contents c.write_whole.new.out))
     (ended_text c.args.run (10 ∷ (header Second ++ 10 ∷ [])) (header Second ++ 10 ∷ []) 10 c.front_of_line.result refl refl c.front_of_line.ensures.front)
     c.in_err-write_whole.ensures.err))
 

@@ -1,6 +1,6 @@
 use Rattle.std.proofs.Common.{sym, ap, ◌∙◌}
 use Rattle.host_core.specs.Core.{Core, ended}
-use Rattle.command_io.proofs.Faults.{on_err}
+use Rattle.byte_io.proofs.Faults.{on_err}
 use Rattle.rehearsals.proofs.Dialogues.{conversation_none, conversation_more, conversation_ends, conversation_stops, conversation_unfinished}
 use Rattle.rehearsals.proofs.dialogue.talk.Goals as goal
 

@@ -1,7 +1,7 @@
 use Rattle.std.proofs.Common.{rules, ◌≡◌, ◌++◌, None, List, sym, subst, ap, ◌∙◌}
 use Rattle.std.specs.Prelude.{slice_get, OnOk, OnErr}
 use Rattle.line_world.specs.World.{happens}
-use Rattle.command_io.specs.Output.{WritesFront}
+use Rattle.byte_io.specs.Output.{WritesPrefix}
 use Rattle.rehearsals.specs.KeyLines.{Answered, Gathers, Notes, key_text}
 use Rattle.rehearsals.proofs.KeyTexts.{none_noted}
 use Rattle.rehearsals.proofs.Dialogues.{none_answered, answered_next}
@@ -23,7 +23,7 @@ returns-in-Some-get-clause-ok g c =
 
 pub returns-in-Some-get-clause-front : goal.returns-in-Some-get-clause-front
 returns-in-Some-get-clause-front g c =
-    subst (λ keys. OnErr c.note.result ((gathered : List Answered) → Gathers gathered c.args.exchange.now → (more : List Answered) → WritesFront (g.W.Write.contents c.args.out.now) (g.W.Write.contents c.note.new.out) (key_text (gathered ++ (keys ++ more)))))
+    subst (λ keys. OnErr c.note.result ((gathered : List Answered) → Gathers gathered c.args.exchange.now → (more : List Answered) → WritesPrefix (g.W.Write.contents c.args.out.now) (g.W.Write.contents c.note.new.out) (key_text (gathered ++ (keys ++ more)))))
     (sym
     (answered_next c.args.world.now c.apply.new.self c.in-Some.key c.up-waiting.result.now c.up.result.now c.in-Some-get.answer.now (search rules) (c.apply.ensures.world ∙ ap (happens c.args.world.now) c.next_event-event.ensures)
     c.up-waiting.ensures.value c.up.ensures.value c.in-Some-get.ensures.lookup.0.2))

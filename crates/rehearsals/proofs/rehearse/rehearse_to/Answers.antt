@@ -1,7 +1,7 @@
 use Rattle.std.proofs.Common.{map, subst}
 use Rattle.std.proofs.KnownBytes.{Keeps-refl}
 use Rattle.std.specs.Io.KnownBytes.{Appends}
-use Rattle.command_io.specs.Output.{WritesPrefix}
+use Rattle.byte_io.specs.Output.{WritesProperPrefix}
 use Rattle.rehearsals.specs.Rehearsal.{IsRehearseFault}
 use Rattle.command_io.specs.declared.fault.CommandFault.TheVariants.{Write}
 use Rattle.command_io.proofs.Faults.{fault_is}
@@ -29,7 +29,7 @@ returns-in_err-write_whole-clause-err g c =
     c.from_residual-in_err-write_whole.ensures.1 (
       c.in_ok-text.text.items,
       rehearsed _ _ _ c.in_ok-taken.taken.tapes.items c.deref.result.now c.in_ok-taken.taken.lengths.items _ _ c.in_ok-taken.ensures.ok c.deref.ensures.value c.in_ok-script.ensures.ok c.in_ok-text.ensures.ok,
-      subst (WritesPrefix (g.W.Write.contents c.args.out.now) (g.W.Write.contents c.write_whole.new.out)) c.deref-2.ensures.value c.in_err-write_whole.ensures.err,
+      subst (WritesProperPrefix (g.W.Write.contents c.args.out.now) (g.W.Write.contents c.write_whole.new.out)) c.deref-2.ensures.value c.in_err-write_whole.ensures.err,
     )
 
 pub returns-clause-ok : goal.returns-clause-ok

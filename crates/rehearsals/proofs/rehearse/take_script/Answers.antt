@@ -1,8 +1,8 @@
 use Rattle.std.proofs.Common.{subst}
-use Rattle.loss_scripts.specs.Script.{IsScriptError}
+use Rattle.loss_scripts.specs.Script.{IsScriptFault}
 use Rattle.rehearsals.proofs.Rehearsals.{refused_input}
 use Rattle.rehearsals.proofs.rehearse.take_script.Goals as goal
 
 pub returns-in-Err-Refused-clause-err : goal.returns-in-Err-Refused-clause-err
 returns-in-Err-Refused-clause-err g c =
-    refused_input _ _ _ _ c.in-Err-Refused.line c.in-Ok.ensures.ok c.deref.ensures.value (subst (IsScriptError c.deref.result.now) c.in-Err-Refused.field-0-is c.in-Err-Refused.ensures.read)
+    refused_input _ _ _ _ c.in-Err-Refused.line c.in-Ok.ensures.ok c.deref.ensures.value (subst (IsScriptFault c.deref.result.now) c.in-Err-Refused.field-0-is c.in-Err-Refused.ensures.read)

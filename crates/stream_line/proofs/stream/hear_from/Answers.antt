@@ -1,12 +1,13 @@
 use Rattle.std.proofs.Common.{rules}
 use Rattle.stream_line.proofs.Dropping.{drops_more, takes_behind}
-use Rattle.stream_line.proofs.Silences.{unmet_more}
+use Rattle.stream_line.proofs.Silences.{not_closed, unmet_more}
 use Rattle.stream_line.proofs.stream.hear_from.Goals as goal
 
 pub loop-preserved : goal.loop-preserved
 loop-preserved g c = record {
   so_far = drops_more _ _ _ c.loop.counter c.in-Some.byte c.loop.invariant.so_far (search rules) (search rules);
   unmet = unmet_more _ _ _ c.in-Some.byte c.loop.invariant.unmet (rw (c.in_ok-byte.was, c.in-Some.is) at c.receive.ensures.silence);
+  over = λ ended. absurd (not_closed c.receive.result _ _ c.in_ok-byte.was (c.receive.ensures.over (c.loop.invariant.over ended).1));
 }
 
 pub returns-then-character-ne0-clause-heard : goal.returns-then-character-ne0-clause-heard

@@ -1,6 +1,6 @@
 use Rattle.std.proofs.Common.{map, ◌∙◌, subst}
 use Rattle.std.specs.Io.KnownBytes.{Appends}
-use Rattle.command_io.specs.Output.{WritesPrefix}
+use Rattle.byte_io.specs.Output.{WritesProperPrefix}
 use Rattle.command_io.specs.declared.fault.CommandFault.TheVariants.{Write}
 use Rattle.command_io.proofs.Faults.{fault_is}
 use Rattle.tape_check.specs.CheckFault.{IsCheckFault}
@@ -15,7 +15,7 @@ returns-in_err-write_whole-clause-err g c =
     c.from_residual-in_err-write_whole.ensures.1 (record {
       texts = are.texts;
       taken = are.taken;
-      written = subst (WritesPrefix (g.W.Write.contents c.args.out.now) (g.W.Write.contents c.write_whole.new.out))
+      written = subst (WritesProperPrefix (g.W.Write.contents c.args.out.now) (g.W.Write.contents c.write_whole.new.out))
           (c.deref.ensures.value ∙ c.in_ok-report.ensures.ok are.texts (are_texts _ _ _ _ are)) c.in_err-write_whole.ensures.err;
     })
 

@@ -1,8 +1,8 @@
 use Rattle.std.proofs.Common.{◌≡◌, ℕ, List, [], ◌∷◌, ◌++◌, Result, Ok, Err, OnOk, ap, ◌∙◌, append_assoc}
 use Rattle.octal.specs.Octal.{octal_text}
 use Rattle.tape_image.specs.Word.{WordValue}
-use Rattle.command_io.specs.Text.{line}
-use Rattle.tape_check.specs.CheckText.{word_fields}
+use Rattle.byte_io.specs.Text.{line}
+use Rattle.tape_image.specs.Word.{word_fields}
 use Rattle.tape_check.proofs.check.put_word.Goals as goal
 
 spread : (old a b d : List ℕ) → ((old ++ a ++ 32 ∷ []) ++ b ++ 32 ∷ []) ++ d ++ 10 ∷ [] ≡ old ++ line (a ++ 32 ∷ [] ++ b ++ 32 ∷ [] ++ d)

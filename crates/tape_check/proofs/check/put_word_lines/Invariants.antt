@@ -1,8 +1,8 @@
 -- The lines so far are those of the words so far.
 use Rattle.std.proofs.Common.{◌≡◌, ◌++◌, take}
 use Rattle.std.specs.List.{flat_map}
-use Rattle.command_io.specs.Text.{line}
-use Rattle.tape_check.specs.CheckText.{word_fields}
+use Rattle.byte_io.specs.Text.{line}
+use Rattle.tape_image.specs.Word.{word_fields}
 use Rattle.tape_check.proofs.check.put_word_lines.Given as goal
 
 abbrev pub invariant-loop-word : goal.invariant-loop-word

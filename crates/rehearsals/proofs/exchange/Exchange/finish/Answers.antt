@@ -2,7 +2,7 @@ use Rattle.std.proofs.Common.{rules, ◌≡◌, ◌++◌, ◌∷◌, [], codes, 
 use Rattle.std.specs.Io.KnownBytes.{Appends}
 use Rattle.std.proofs.KnownBytes.{Appends-nil}
 use Rattle.rehearsals.specs.KeyLines.{Holds, last_line}
-use Rattle.command_io.proofs.Fronts.{front_prefix}
+use Rattle.byte_io.proofs.Fronts.{front_prefix}
 use Rattle.rehearsals.proofs.KeyTexts.{none_held, none_of_line, some_of_line}
 use Rattle.rehearsals.proofs.exchange.Exchange.finish.Goals as goal
 

@@ -1,0 +1,24 @@
+-- What reaching a console gives, and what it is for.
+use Rattle.std.specs.Prelude.{◌≡◌, ℕ, ◌+◌, List, [], Option, Some, None, ⊤}
+use Rattle.tape_blocks.specs.Told.{IsAsTold}
+use Rattle.load_devices.specs.declared.item.Item.{Item}
+use Rattle.load_devices.specs.declared.fault.LineFault.{LineFault}
+use Rattle.load_devices.specs.declared.fault.LineFault.TheVariants.{Connect, Receive}
+
+-- a line on which nothing was said, where it tells, and of which no call failed
+pub record IsFresh (told : Option (List Item)) (failures : ℕ) (fault : Option LineFault) : Type 0 where
+  pub nothing_said : IsAsTold told []
+  pub none_failed : failures ≡ 0
+  pub no_fault : fault ≡ None
+
+-- a console can't be reached, or its line takes no such quiet time
+abbrev pub IsReachFault : LineFault → Type 0
+IsReachFault Connect = ⊤
+IsReachFault Receive = ⊤
+IsReachFault other = ⊥
+
+-- it was tried once more, where the type tells
+abbrev pub OneMoreTime : Option ℕ → Option ℕ → Type 0
+OneMoreTime None new = ⊤
+OneMoreTime (Some tries) None = ⊥
+OneMoreTime (Some tries) (Some more) = more ≡ tries + 1

@@ -1,0 +1,19 @@
+//! The ways to a console, and what is heard of it once a load is over.
+//!
+//! Whoever needs a line asks a `Reach` for it: a `Port` connects to HOST:PORT, a `Wire` opens a serial
+//! device, and `is_path` tells which of both a name is. A line that was reached is fresh: nothing was
+//! said on it and none of its calls failed. `listen` copies what is heard of a line to an output: what
+//! was written is promised to be what was heard, in its order, and nothing was sent.
+//!
+//! The commands that need a machine stand on it: `machine_load`, `machine_look` and `requests`.
+#![tactic(auto)]
+
+mod listening;
+mod port;
+mod reach;
+mod wire;
+
+pub use listening::{listen, silences_within};
+pub use port::Port;
+pub use reach::Reach;
+pub use wire::{Wire, is_path};

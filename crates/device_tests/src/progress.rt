@@ -1,0 +1,367 @@
+//! What a person sees of a load and at what pace: over a clock that stands where it is set, or has no time.
+
+use load_progress::{Onlooker, ProgressLine, Showing};
+use std::alloc::Global;
+use std::cell::{Cell, RefCell};
+use std::fmt::Display;
+use std::io;
+use std::io::Print;
+use std::time::{Clock, Duration};
+
+/// A clock that stands where it is set, in milliseconds, or has no time.
+#[derive(Drop)]
+struct SetClock {
+    millis: Cell<Option<u64>>,
+}
+
+impl SetClock {
+    fn new(millis: Option<u64>) -> SetClock {
+        SetClock {
+            millis: Cell::new(millis),
+        }
+    }
+}
+
+impl Clock for SetClock {
+    fn monotonic(&self) -> io::Result<Duration> {
+        match self.millis.get() {
+            Some(millis) => Ok(Duration::from_millis(millis)),
+            None => Err(io::Error::from(io::ErrorKind::Other)),
+        }
+    }
+
+    fn since_1970(&self) -> io::Result<Duration> {
+        self.monotonic()
+    }
+}
+
+/// A terminal that keeps what was written last, and counts the writes.
+#[derive(Drop)]
+struct Screen {
+    alloc: Global,
+    text: RefCell<Vec<u8>>,
+    writes: Cell<u32>,
+}
+
+impl Screen {
+    fn new(alloc: Global) -> Screen {
+        Screen {
+            alloc,
+            text: RefCell::new(Vec::new(alloc)),
+            writes: Cell::new(0),
+        }
+    }
+
+    /// Whether this was written last.
+    fn shows(&self, last: &str) -> bool {
+        match self.text.try_borrow() {
+            Ok(text) => text.as_slice() == last.as_bytes(),
+            Err(_) => false,
+        }
+    }
+
+    /// Whether there were so many writes, and the last put this in the line's place, for a terminal that
+    /// does not wrap it.
+    fn has_shown(&self, writes: u32, text: &str) -> bool {
+        match format!(in self.alloc; "\r\x1b[?7l{text}\x1b[K\x1b[?7h") {
+            Ok(line) => self.writes.get() == writes && self.shows(&line),
+            Err(_) => false,
+        }
+    }
+}
+
+impl Print for Screen {
+    fn print<D: Display + Drop>(&self, _value: D) -> io::Result<()> {
+        Err(io::Error::from(io::ErrorKind::Unsupported))
+    }
+
+    fn println<D: Display + Drop>(&self, _value: D) -> io::Result<()> {
+        Err(io::Error::from(io::ErrorKind::Unsupported))
+    }
+
+    fn write_all(&self, bytes: &[u8]) -> io::Result<()> {
+        self.writes.set(self.writes.get().saturating_add(1));
+        if let Ok(mut text) = self.text.try_borrow_mut() {
+            text.clear();
+            text.extend_from_slice(bytes)?;
+        }
+        Ok(())
+    }
+}
+
+/// What happens to a load of 2,000 words, 500 of them verified before.
+#[derive(Clone, Copy)]
+enum Step {
+    Verified,
+    Resynchronised,
+}
+
+/// When the load begins, in milliseconds of its clock.
+const BEGINNING: u64 = 7_000_000;
+
+/// What is shown of it before its first key.
+const GOING_ON: &str = "going on behind 500 of 2000 words, listening; power lost? use --recheck";
+
+/// The time since then in milliseconds, what happens, how often something was shown by then, and what last.
+const STORY: [(u64, Step, u32, &str); 7] = [
+    (10, Step::Resynchronised, 1, GOING_ON),
+    (99, Step::Verified, 1, GOING_ON),
+    (100, Step::Verified, 2, "502 of 2000 words, 25%, 1:14 left"),
+    (199, Step::Verified, 2, "502 of 2000 words, 25%, 1:14 left"),
+    (
+        200,
+        Step::Resynchronised,
+        3,
+        "503 of 2000 words, 25%, 1 mishap, 1:39 left",
+    ),
+    (
+        1000,
+        Step::Resynchronised,
+        4,
+        "503 of 2000 words, 25%, 2 mishaps, 8:19 left",
+    ),
+    (
+        10000,
+        Step::Verified,
+        5,
+        "504 of 2000 words, 25%, 2 mishaps, 1:02:20 left",
+    ),
+];
+
+/// What a step is to an onlooker, with a key behind it, which shows nothing of its own.
+fn happens<O: Onlooker>(line: &O, step: Step) {
+    match step {
+        Step::Verified => line.verifies(),
+        Step::Resynchronised => line.sends(b'Z'),
+    }
+    line.sends(b'/');
+}
+
+#[test]
+fn a_load_is_shown_at_its_pace(rt: HostRuntime) {
+    let clock = SetClock::new(Some(BEGINNING));
+    let terminal = Screen::new(rt.alloc());
+    let line = ProgressLine::new(&clock, &terminal);
+    line.begins(500, 2000);
+    for row in &STORY {
+        let (millis, step, writes, text) = *row;
+        clock.millis.set(Some(BEGINNING.saturating_add(millis)));
+        happens(&line, step);
+        assert!(rt; terminal.has_shown(writes, text), "{millis}");
+    }
+    line.ends();
+    assert!(rt; terminal.shows("\r\x1b[K"));
+}
+
+/// How many words are done when a load begins, of how many, and what is shown of it before its first key.
+const BEGINNINGS: [(u32, u32, &str); 5] = [
+    (0, 0, "0 of 0 words, listening"),
+    (0, 28, "0 of 28 words, 0%, listening"),
+    (
+        1,
+        28,
+        "going on behind 1 of 28 words, listening; power lost? use --recheck",
+    ),
+    (
+        28671,
+        28672,
+        "going on behind 28671 of 28672 words, listening; power lost? use --recheck",
+    ),
+    (
+        4294967295,
+        4294967295,
+        "going on behind 4294967295 of 4294967295 words, listening; power lost? use --recheck",
+    ),
+];
+
+/// Whether a load that begins so is shown so, in one write, at this time.
+fn begins_so(alloc: Global, time: Option<u64>, done: u32, words: u32, text: &str) -> bool {
+    let clock = SetClock::new(time);
+    let terminal = Screen::new(alloc);
+    ProgressLine::new(&clock, &terminal).begins(done, words);
+    terminal.has_shown(1, text)
+}
+
+#[test]
+fn a_load_that_goes_on_says_so_and_that_it_listens(rt: HostRuntime) {
+    for row in &BEGINNINGS {
+        let (done, words, text) = *row;
+        for time in &[None, Some(0), Some(BEGINNING), Some(u64::MAX)] {
+            assert!(rt;
+                begins_so(rt.alloc(), *time, done, words, text),
+                "{done} of {words}"
+            );
+        }
+    }
+}
+
+/// A clock's time in milliseconds, if it has one, when a word of four is verified, how often something was shown
+/// by then, and what last. Where the clock has no time nothing more is shown; where it had none at first no time
+/// left is known.
+const STUMBLING: [(Option<u64>, u32, &str); 4] = [
+    (None, 1, "0 of 4 words, 0%, listening"),
+    (Some(50), 2, "2 of 4 words, 50%, listening"),
+    (None, 2, "2 of 4 words, 50%, listening"),
+    (Some(149), 2, "2 of 4 words, 50%, listening"),
+];
+
+/// The same for a clock that had a time at first, 1,000, and then goes back.
+const GOING_BACK: [(Option<u64>, u32, &str); 3] = [
+    (Some(500), 1, "0 of 4 words, 0%, listening"),
+    (Some(1099), 1, "0 of 4 words, 0%, listening"),
+    (Some(4000), 2, "3 of 4 words, 75%, listening, 0:01 left"),
+];
+
+/// Whether a load of four words that begins at this time is shown so.
+fn is_shown(alloc: Global, first: Option<u64>, rows: &[(Option<u64>, u32, &str)]) -> bool {
+    let clock = SetClock::new(first);
+    let terminal = Screen::new(alloc);
+    let line = ProgressLine::new(&clock, &terminal);
+    line.begins(0, 4);
+    for row in rows {
+        let (time, writes, text) = *row;
+        clock.millis.set(time);
+        line.verifies();
+        if !terminal.has_shown(writes, text) {
+            return false;
+        }
+    }
+    true
+}
+
+#[test]
+fn a_clock_that_fails_or_goes_back_stops_nothing(rt: HostRuntime) {
+    assert!(rt; is_shown(rt.alloc(), None, &STUMBLING));
+    assert!(rt; is_shown(rt.alloc(), Some(1000), &GOING_BACK));
+}
+
+/// How many words are done of how many, whether the load listens, the mishaps, the seconds left, and the text.
+const SHOWINGS: [(u32, u32, bool, u32, Option<u64>, &str); 14] = [
+    (0, 0, false, 0, None, "0 of 0 words"),
+    (0, 28, true, 0, None, "0 of 28 words, 0%, listening"),
+    (0, 28, false, 1, None, "0 of 28 words, 0%, 1 mishap"),
+    (1, 28, false, 0, Some(27), "1 of 28 words, 3%, 0:27 left"),
+    (
+        27,
+        28,
+        false,
+        2,
+        Some(1),
+        "27 of 28 words, 96%, 2 mishaps, 0:01 left",
+    ),
+    (28, 28, false, 0, Some(0), "28 of 28 words, 100%, 0:00 left"),
+    (
+        28671,
+        28672,
+        false,
+        0,
+        Some(59),
+        "28671 of 28672 words, 99%, 0:59 left",
+    ),
+    (1, 2, false, 0, Some(60), "1 of 2 words, 50%, 1:00 left"),
+    (1, 2, false, 0, Some(3599), "1 of 2 words, 50%, 59:59 left"),
+    (
+        1,
+        2,
+        false,
+        0,
+        Some(3600),
+        "1 of 2 words, 50%, 1:00:00 left",
+    ),
+    (
+        1,
+        2,
+        false,
+        0,
+        Some(86399),
+        "1 of 2 words, 50%, 23:59:59 left",
+    ),
+    (
+        1,
+        2,
+        false,
+        0,
+        Some(86400),
+        "1 of 2 words, 50%, 24:00:00 left",
+    ),
+    (
+        1,
+        2,
+        false,
+        0,
+        Some(360000),
+        "1 of 2 words, 50%, 100:00:00 left",
+    ),
+    (
+        4294967295,
+        4294967295,
+        true,
+        4294967295,
+        Some(18446744073709551615),
+        "4294967295 of 4294967295 words, 100%, listening, 4294967295 mishaps, 5124095576030431:00:15 left",
+    ),
+];
+
+/// Whether a showing has this text.
+fn is_text(alloc: Global, showing: Showing, text: &str) -> bool {
+    match format!(in alloc; "{showing}") {
+        Ok(shown) => shown.as_str() == text,
+        Err(_) => false,
+    }
+}
+
+#[test]
+fn the_text_says_words_mishaps_and_time(rt: HostRuntime) {
+    for row in &SHOWINGS {
+        let (done, words, is_listening, mishaps, seconds_left, text) = *row;
+        let showing = Showing {
+            done,
+            words,
+            is_listening,
+            mishaps,
+            seconds_left,
+        };
+        assert!(rt; is_text(rt.alloc(), showing, text), "{text}");
+    }
+}
+
+/// How many characters are heard behind the first key of a load of 28 words, and what is then shown of it: a console
+/// answers with 32 at most, and whatever says more is listened to until it is silent, or the next key is sent.
+const TALKS: [(u32, &str); 3] = [
+    (0, "0 of 28 words, 0%"),
+    (32, "0 of 28 words, 0%"),
+    (33, "0 of 28 words, 0%, listening"),
+];
+
+/// Whether a load is shown so, each tenth of a second.
+fn is_talk_shown(alloc: Global, heard: u32, text: &str) -> bool {
+    let clock = SetClock::new(Some(BEGINNING));
+    let terminal = Screen::new(alloc);
+    let line = ProgressLine::new(&clock, &terminal);
+    line.begins(0, 28);
+    clock.millis.set(Some(BEGINNING.saturating_add(100)));
+    line.sends(b'Z');
+    clock.millis.set(Some(BEGINNING.saturating_add(200)));
+    for _ in 0..heard {
+        line.hears();
+    }
+    let writes = if heard > 32 { 3 } else { 2 };
+    let is_so = terminal.has_shown(writes, text);
+    clock.millis.set(Some(BEGINNING.saturating_add(300)));
+    line.sends(b'0');
+    clock.millis.set(Some(BEGINNING.saturating_add(400)));
+    line.verifies();
+    let writes = if heard > 32 { 5 } else { 3 };
+    is_so && terminal.has_shown(writes, "1 of 28 words, 3%, 0:10 left")
+}
+
+#[test]
+fn a_line_that_talks_is_listened_to(rt: HostRuntime) {
+    for row in &TALKS {
+        let (heard, text) = *row;
+        assert!(rt;
+            is_talk_shown(rt.alloc(), heard, text),
+            "{heard} characters"
+        );
+    }
+}

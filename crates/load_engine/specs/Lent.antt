@@ -1,0 +1,24 @@
+-- What a load does over a line in memory that is lent for it.
+use Rattle.std.specs.Prelude.{ℕ, ◌+◌, ◌≤◌, List, length}
+use Rattle.host_core.specs.Core.{Core}
+use Rattle.load_devices.specs.declared.item.Item.{Item}
+use Rattle.load_devices.specs.Dialogue.{keys_of}
+use Rattle.honest_line.specs.Lent.{Passed}
+use Rattle.honest_line.specs.LineTable.{LineValue}
+use Rattle.honest_line.specs.Starts.{IsStartTrue}
+use Rattle.honest_line.specs.Trust.{MayBegin, IsTrusted}
+use Rattle.load_engine.specs.declared.stop.Stop.{Stop}
+use Rattle.load_engine.specs.declared.stop.Stop.TheVariants.{LineFailed, KeepFailed}
+
+-- the key that was not sent, where a device failed, may have cost a mishap that no loss paid for
+abbrev pub unpaid : Stop → ℕ
+unpaid (LineFailed fault) = 1
+unpaid (KeepFailed fault) = 1
+unpaid stop = 0
+
+-- where a life may begin over the line's machine and at most 32 characters wait: the host may be trusted and is right about the
+-- start, with the losses of what passed meanwhile
+abbrev pub LoadsSafely : Stop → Core → Core → LineValue → LineValue → Type 0
+LoadsSafely stop core next old new =
+    (said : List Item) (lost : ℕ) → Passed old new said lost → MayBegin core old.machine → length old.waiting ≤ 32 →
+    IsTrusted old.machine.memory next new.machine.memory (keys_of said) (lost + unpaid stop) × IsStartTrue next new.machine (keys_of said)

@@ -1,0 +1,3 @@
+pub mod Pace
+pub mod ProgressText
+pub mod Tally

@@ -1,0 +1,60 @@
+-- What the progress line says (this project's own).
+use Rattle.std.specs.Prelude.{ℕ, ◌/◌, ◌%◌, ◌==◌, nat_lt, Bool, true, false, if◌then◌else◌, List, [], ◌∷◌, ◌++◌, codes, decimal, Option, Some, None}
+use Rattle.load_progress.specs.Pace.{percent_of}
+use Rattle.load_progress.specs.declared.showing.Showing.{Showing}
+use Rattle.load_progress.specs.declared.showing.GoingOn.{GoingOn}
+
+-- a number below a hundred
+abbrev pub two_digits : ℕ → List ℕ
+two_digits number = decimal (number / 10) ++ decimal (number % 10)
+
+-- so many seconds as minutes and seconds, and as hours where there are any
+abbrev pub time_text : ℕ → List ℕ
+time_text seconds =
+    if nat_lt (seconds / 60) 60 then decimal (seconds / 60) ++ codes ":" ++ two_digits (seconds % 60)
+    else decimal (seconds / 60 / 60) ++ codes ":" ++ two_digits (seconds / 60 % 60) ++ codes ":" ++ two_digits (seconds % 60)
+
+-- which part of all words is done, where there are any
+abbrev pub part_text : ℕ → ℕ → List ℕ
+part_text done words = if words == 0 then [] else codes ", " ++ decimal (percent_of done words) ++ codes "%"
+
+-- that the line is listened to until it is silent
+abbrev pub listening_text : Bool → List ℕ
+listening_text true = codes ", listening"
+listening_text false = []
+
+-- the mishaps, where there were any
+abbrev pub mishaps_text : ℕ → List ℕ
+mishaps_text mishaps =
+    if mishaps == 0 then []
+    else (if mishaps == 1 then codes ", 1 mishap"
+    else codes ", " ++ decimal mishaps ++ codes " mishaps")
+
+-- the time left, where it is known
+abbrev pub left_text : Option ℕ → List ℕ
+left_text None = []
+left_text (Some seconds) = codes ", " ++ time_text seconds ++ codes " left"
+
+-- how far it is
+abbrev pub showing_text : Showing → List ℕ
+showing_text showing =
+    decimal showing.done ++ codes " of " ++ decimal showing.words ++ codes " words" ++ part_text showing.done showing.words
+    ++ listening_text showing.is_listening ++ mishaps_text showing.mishaps ++ left_text showing.seconds_left
+
+-- that it goes on behind words that were done before
+abbrev pub going_on_text : GoingOn → List ℕ
+going_on_text going_on =
+    codes "going on behind " ++ decimal going_on.done ++ codes " of " ++ decimal going_on.words
+    ++ codes " words, listening; power lost? use --recheck"
+
+-- CR, and ESC [ ? 7 l, which asks a terminal to cut what has no column
+abbrev pub before_text : List ℕ
+before_text = 13 ∷ 27 ∷ 91 ∷ 63 ∷ 55 ∷ 108 ∷ []
+
+-- ESC [ K, which clears what stood behind the text, and ESC [ ? 7 h, which asks it to wrap again
+abbrev pub behind_text : List ℕ
+behind_text = 27 ∷ 91 ∷ 75 ∷ 27 ∷ 91 ∷ 63 ∷ 55 ∷ 104 ∷ []
+
+-- what is written to put a text in the line's place
+abbrev pub on_line : List ℕ → List ℕ
+on_line text = before_text ++ text ++ behind_text

@@ -1,0 +1,134 @@
+//! One line on a terminal that says how far it is, rewritten in place.
+ghost use Rattle.std.specs.Prelude.{◌≡◌, IfSome};
+ghost use Rattle.load_progress.specs.ProgressText.{going_on_text, on_line, showing_text};
+
+use crate::onlooker::Onlooker;
+use crate::pace::is_due;
+use crate::showing::{GoingOn, Showing};
+use crate::tally::Tally;
+use arrayvec::ArrayString;
+use std::cell::Cell;
+use std::fmt::Write;
+use std::io::Print;
+use std::time::Clock;
+
+/// What moves the cursor to the line's beginning and clears the line.
+const CLEARED: &str = "\r\x1b[K";
+
+/// Room for the longest line.
+type LineText = ArrayString<128>;
+
+/// Shows, while a load or a reading goes on, how many words are done of all, the mishaps, and the time
+/// left at the pace so far: one line, at most ten times a second. A terminal that has fewer columns cuts
+/// it, so that it never wraps. What can't be written is left out.
+#[derive(Drop)]
+pub struct ProgressLine<'a, C: Clock, E: Print> {
+    clock: &'a C,
+    terminal: &'a E,
+    tally: Cell<Tally>,
+
+    // When it was last shown, in milliseconds of the clock, where it was.
+    shown: Cell<Option<u64>>,
+}
+
+impl<'a, C: Clock, E: Print> ProgressLine<'a, C, E> {
+    /// A line on a terminal, which shows nothing yet.
+    pub fn new(clock: &'a C, terminal: &'a E) -> ProgressLine<'a, C, E> {
+        ProgressLine {
+            clock,
+            terminal,
+            tally: Cell::new(Tally::new(0, 0, None)),
+            shown: Cell::new(None),
+        }
+    }
+
+    // The clock's time in milliseconds, where it has one.
+    fn now(&self) -> Option<u64> {
+        let time = self.clock.monotonic().ok()?;
+        u64::try_from(time.as_millis()).ok()
+    }
+
+    // Keeps a tally, and shows it where that is due. A clock with no time makes nothing due.
+    fn keep(&self, tally: Tally) {
+        self.tally.set(tally);
+        let now = self.now();
+        let due = match (self.shown.get(), now) {
+            (Some(shown), Some(now)) => is_due(shown, now),
+            (None, Some(_)) => true,
+            (_, None) => false,
+        };
+        if due {
+            self.put(showing_line(tally.showing(now)), now);
+        }
+    }
+
+    // Puts the line.
+    fn put(&self, line: Option<LineText>, now: Option<u64>) {
+        self.shown.set(now);
+        if let Some(line) = line {
+            let _ = self.terminal.write_all(line.as_str().as_bytes());
+        }
+    }
+}
+
+impl<C: Clock, E: Print> Onlooker for ProgressLine<'_, C, E> {
+    fn begins(&self, done: u32, words: u32) {
+        let now = self.now();
+        let tally = Tally::new(done, words, now);
+        self.tally.set(tally);
+        if done == 0 {
+            self.put(showing_line(tally.showing(now)), now);
+        } else {
+            self.put(going_on_line(GoingOn { done, words }), now);
+        }
+    }
+
+    fn verifies(&self) {
+        self.keep(self.tally.get().with_word());
+    }
+
+    fn sends(&self, key: u8) {
+        let tally = self.tally.get();
+        let then = tally.with_key(key);
+        if then.is_news(tally) {
+            self.keep(then);
+        } else {
+            self.tally.set(then);
+        }
+    }
+
+    fn hears(&self) {
+        let tally = self.tally.get().with_character();
+        if tally.is_listening() {
+            self.keep(tally);
+        } else {
+            self.tally.set(tally);
+        }
+    }
+
+    fn ends(&self) {
+        let _ = self.terminal.write_all(CLEARED.as_bytes());
+    }
+}
+
+// What is written to show how far it is; none where that has no room.
+fn showing_line(showing: Showing) -> Option<LineText>
+    ensures { IfSome result (λ line. line.bytes ≡ on_line (showing_text showing)) }
+{
+    let mut line = LineText::new();
+    match write!(line, "\r\x1b[?7l{showing}\x1b[K\x1b[?7h") {
+        Ok(()) => Some(line),
+        Err(_) => None,
+    }
+}
+
+// What is written to show that it goes on; none where that has no room.
+fn going_on_line(going_on: GoingOn) -> Option<LineText>
+    ensures { IfSome result (λ line. line.bytes ≡ on_line (going_on_text going_on)) }
+{
+    let mut line = LineText::new();
+    match write!(line, "\r\x1b[?7l{going_on}\x1b[K\x1b[?7h") {
+        Ok(()) => Some(line),
+        Err(_) => None,
+    }
+}

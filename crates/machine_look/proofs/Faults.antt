@@ -1,0 +1,78 @@
+-- Looks that come to nothing.
+use Rattle.std.proofs.Common.{◌≡◌, ℕ, true, false, eqb, List, [], ◌∷◌, ◌++◌, length, Option, None, Some, Result, Ok, Err, IfErr, IfOk, IsErrAnd, refl, arith, ap, sym, subst, ◌∙◌, inl, inr, append_assoc, append-nil, OnOk}
+use Rattle.std.proofs.lemmas.Bool.{eqb-true}
+use Rattle.std.specs.Io.KnownBytes.{Keeps}
+use Rattle.tape_blocks.specs.Tape.{plain_text}
+use Rattle.load_devices.specs.Told.{Gains}
+use Rattle.reading_core.specs.Reader.{Reader}
+use Rattle.reading_engine.specs.declared.stop.Stop.{Stop}
+use Rattle.machine_look.specs.declared.look_fault.LookFault.{LookFault}
+use Rattle.machine_look.specs.declared.look_fault.LookFault.TheVariants.{IsThere, WriteTape, Connect, WriteOutput, Memory}
+use Rattle.machine_look.specs.declared.shelf.ShelfFault.{ShelfFault}
+use Rattle.machine_look.specs.declared.shelf.ShelfFault.TheVariants as why
+use Rattle.machine_look.specs.LookFault.{IsKeepFault, IsSaveFault, fault_of_shelf}
+use Rattle.machine_look.specs.Save.{IsRead, puts}
+use Rattle.machine_look.specs.SavedTape.{saved_tape}
+use Rattle.machine_look.specs.Shelf.{Step, Reserve, Put, NotPut, reserve_step, put_step, IsPutFault}
+
+-- ---- what is done on a shelf, one step after another
+
+pub gains_then : {A : Type 0} (a b c : Option (List A)) (xs ys : List A) → Gains a b xs → Gains b c ys → Gains a c (xs ++ ys)
+gains_then None b c xs ys first then_ = tt
+gains_then (Some old) None c xs ys first then_ = absurd first
+gains_then (Some old) (Some mid) None xs ys first then_ = absurd then_
+gains_then (Some old) (Some mid) (Some new) xs ys first then_ = then_ ∙ (ap (λ list. list ++ ys) first ∙ append_assoc old xs ys)
+
+pub gains_none : {A : Type 0} (a : Option (List A)) → Gains a a []
+gains_none None = tt
+gains_none (Some items) = sym (append-nil items)
+
+pub puts_none : (from : ℕ) (numbers : List ℕ) (start : ℕ) → eqb (length numbers) 0 ≡ true → puts from numbers start ≡ []
+puts_none from [] start none = refl
+puts_none from (n ∷ numbers) start none = absurd (omega (arith, eqb-true (length (n ∷ numbers)) 0 none))
+
+pub puts_some : (from : ℕ) (numbers : List ℕ) (start : ℕ) → eqb (length numbers) 0 ≡ false → puts from numbers start ≡ Put (plain_text (saved_tape from numbers start)) ∷ []
+puts_some from [] start some = absurd (cc some)
+puts_some from (n ∷ numbers) start some = refl
+
+-- ---- how a save fails
+
+pub not_reserved : (from to start patience : ℕ) (shelf shelf' : Option (List Step)) (tries : Option ℕ) (out : Option (List ℕ)) (fault : ShelfFault)
+    → Gains shelf shelf' (reserve_step (Err fault) ∷ []) → Keeps out out → IsSaveFault from to start patience shelf shelf' tries tries out out (fault_of_shelf fault)
+not_reserved from to start patience shelf shelf' tries out why.IsThere step same = inl (record { refused = step; not_tried = refl; nothing_reported = same })
+not_reserved from to start patience shelf shelf' tries out why.Write step same = inl (record { refused = step; not_tried = refl; nothing_reported = same })
+not_reserved from to start patience shelf shelf' tries out why.Memory step same = (inr (inl step), same)
+
+-- a tape that the shelf does not take
+pub not_put : (from : ℕ) (numbers : List ℕ) (start : ℕ) (shelf shelf' : Option (List Step)) (text : List ℕ) (fault : ShelfFault) → text ≡ plain_text (saved_tape from numbers start)
+    → IsPutFault fault → Gains shelf shelf' (put_step text (Err fault) ∷ []) → IsKeepFault from numbers start shelf shelf' (fault_of_shelf fault)
+not_put from numbers start shelf shelf' text why.IsThere is can step = subst (λ t. Gains shelf shelf' (NotPut t why.IsThere ∷ [])) is step
+not_put from numbers start shelf shelf' text why.Write is can step = subst (λ t. Gains shelf shelf' (NotPut t why.Write ∷ [])) is step
+not_put from numbers start shelf shelf' text why.Memory is can step = absurd can
+
+pub not_kept : (from to start patience : ℕ) (shelf mid shelf' : Option (List Step)) (tries tries' : Option ℕ) (out : Option (List ℕ)) (last : Reader) (stop : Stop) (fault : LookFault)
+    → Gains shelf mid (Reserve ∷ []) → IsRead from to start patience tries tries' last stop → IsKeepFault from last.values start mid shelf' fault → Keeps out out
+    → IsSaveFault from to start patience shelf shelf' tries tries' out out fault
+not_kept from to start patience shelf mid shelf' tries tries' out last stop IsThere reserved read fails same =
+    inr (record { last = last; stop = stop; is_read = read; refused = gains_then shelf mid shelf' _ _ reserved fails; nothing_reported = same })
+not_kept from to start patience shelf mid shelf' tries tries' out last stop WriteTape reserved read fails same =
+    inr (record { last = last; stop = stop; is_read = read; refused = gains_then shelf mid shelf' _ _ reserved fails; nothing_reported = same })
+not_kept from to start patience shelf mid shelf' tries tries' out last stop Memory reserved read fails same = (inr (inr (gains_then shelf mid shelf' _ _ reserved fails)), same)
+not_kept from to start patience shelf mid shelf' tries tries' out last stop Connect reserved read fails same = absurd fails
+not_kept from to start patience shelf mid shelf' tries tries' out last stop WriteOutput reserved read fails same = absurd fails
+
+-- ---- results
+
+-- what is known of the error that a result has is known of the result
+pub error_is : {T E : Type 0} (r : Result T E) (error : E) (P : E → Type 0) → IsErrAnd r (λ e. e ≡ error) → P error → IfErr r P
+error_is (Ok x) error P is h = tt
+error_is (Err e) error P is h = subst P (sym is) h
+
+-- a result with an error says nothing of a value
+pub no_value : {T E : Type 0} (r : Result T E) (error : E) (P : T → Type 0) → IsErrAnd r (λ e. e ≡ error) → IfOk r P
+no_value (Ok x) error P is = absurd is
+no_value (Err e) error P is = tt
+
+pub no_ok : {T E : Type 0} (r : Result T E) (error : E) (P : Type 0) → IsErrAnd r (λ e. e ≡ error) → OnOk r P
+no_ok (Ok x) error P is = absurd is
+no_ok (Err e) error P is = tt

@@ -1,0 +1,90 @@
+-- Looks, and what they say over an honest line.
+use Rattle.std.proofs.Common.{◌≡◌, ℕ, ◌+◌, ◌≤◌, List, [], length, Option, Some, None, refl, arith}
+use Rattle.odt_machine.specs.Machine.{Machine}
+use Rattle.load_devices.specs.declared.item.Item.{Item}
+use Rattle.load_devices.specs.Dialogue.{keys_of}
+use Rattle.honest_line.specs.Honest.{IsHonest}
+use Rattle.reading_core.specs.declared.phase.End.{End}
+use Rattle.reading_core.specs.declared.phase.End.TheVariants.{Complete, GaveUp, NoWord}
+use Rattle.reading_core.specs.declared.phase.Phase.{Phase}
+use Rattle.reading_core.specs.declared.phase.Phase.TheVariants.{Settle, Sync, Address, Slash, Before, Value, Close, Ended as Over}
+use Rattle.reading_core.specs.Bound.{reading_bound}
+use Rattle.reading_core.specs.Invariant.{Basis, PhaseFits, IsReader}
+use Rattle.reading_core.specs.Reader.{Reader, ended}
+use Rattle.reading_core.proofs.Turns.{within_bound}
+use Rattle.reading_law.specs.Belief.{IsTrue, MayBegin}
+use Rattle.reading_engine.specs.declared.stop.Stop.{Stop}
+use Rattle.reading_engine.specs.declared.stop.Stop.TheVariants.{Ended, LineFailed, TurnsOver}
+use Rattle.reading_engine.specs.Belief.{IsBelievableAt}
+use Rattle.reading_engine.specs.Inquired.{Inquired, TellsEnd}
+use Rattle.reading_engine.proofs.Beliefs.{inquired_believable}
+use Rattle.machine_look.specs.Look.{IsLook}
+
+-- ---- how a look comes to be
+
+-- what was said may be believed, also where the line doesn't tell it
+believed_said : (turns : ℕ) (stop : Stop) (first last : Reader) (line line' : Option (List Item)) (s : Inquired turns (Some stop) first last line line') → IsReader first → IsBelievableAt stop first last s.said
+believed_said turns stop first last line line' s reads =
+    let told : Inquired turns (Some stop) first last (Some []) (Some s.said) = record {
+      heard = s.heard;
+      said = s.said;
+      reader = s.reader;
+      goes_on = s.goes_on;
+      within = s.within;
+      items = s.items;
+      on_line = refl;
+    } in
+    inquired_believable turns stop first last (Some []) (Some s.said) reads told s.said ([], refl, refl)
+
+pub is_look : (first last : Reader) (stop : Stop) (line line' : Option (List Item)) → IsReader first → Inquired 10000000 (Some stop) first last line line' → TellsEnd stop last
+    → last.addresses ≡ first.addresses → last.patience ≡ first.patience → last.sent ≤ reading_bound (length last.addresses) last.patience → IsReader last → IsLook first last stop
+is_look first last stop line line' reads inquired end addresses patience bound kept = record {
+  line = line;
+  line' = line';
+  inquired = inquired;
+  end = end;
+  believed = believed_said 10000000 stop first last line line' inquired reads;
+  addresses = addresses;
+  patience = patience;
+  bound = bound;
+  kept = kept;
+}
+
+-- a reader that has an end from the beginning needs no line
+pub no_look : (reader : Reader) (end : End) → IsReader reader → ended reader.phase ≡ Some end → IsLook reader reader (Ended end)
+no_look reader end reads is =
+    let nothing : Inquired 10000000 (Some (Ended end)) reader reader None None = record {
+      heard = [];
+      said = [];
+      reader = refl;
+      goes_on = tt;
+      within = omega arith;
+      items = refl;
+      on_line = tt;
+    } in
+    is_look reader reader (Ended end) None None reads nothing is refl refl (within_bound reader reads) reads
+
+-- ---- what it says
+
+-- over an honest line what was read is true, with the losses or one more
+pub is_true : (stop : Stop) (first last : Reader) (items : List Item) (machine now : Machine) (lost : ℕ) → IsBelievableAt stop first last items → MayBegin first machine → IsHonest machine items lost now
+    → (more : ℕ) × IsTrue machine.memory last now.memory (keys_of items) (lost + more)
+is_true (Ended end) first last items machine now lost believed may honest = (0, believed machine now lost may honest)
+is_true TurnsOver first last items machine now lost believed may honest = (0, believed machine now lost may honest)
+is_true (LineFailed fault) first last items machine now lost believed may honest = (1, believed.0 machine now lost may honest)
+
+-- a reader that has read all has as many numbers as addresses
+all_in : (phase : Phase) (b : Basis) → PhaseFits phase b → ended phase ≡ Some Complete → length b.values ≡ length b.addresses
+all_in (Over Complete) b fits is = fits
+all_in (Over GaveUp) b fits is = absurd (cc is)
+all_in (Over (NoWord a)) b fits is = absurd (cc is)
+all_in Settle b fits is = absurd (cc is)
+all_in (Sync place) b fits is = absurd (cc is)
+all_in (Address place) b fits is = absurd (cc is)
+all_in Slash b fits is = absurd (cc is)
+all_in Before b fits is = absurd (cc is)
+all_in (Value value place) b fits is = absurd (cc is)
+all_in (Close place) b fits is = absurd (cc is)
+
+pub all_read : (reader : Reader) → IsReader reader → ended reader.phase ≡ Some Complete → length reader.values ≡ length reader.addresses
+all_read reader reads is = all_in reader.phase _ reads.fits is

@@ -1,0 +1,87 @@
+-- A verification that ends as `Same` over an honest line.
+use Rattle.std.proofs.Common.{◌≡◌, ℕ, ◌<◌, true, false, cond, eqb, List, [], ◌++◌, length, get_or, Some, Option, refl, arith, ap, sym, subst, ◌∙◌}
+use Rattle.std.proofs.lemmas.Bool.{eqb-true}
+use Rattle.std.proofs.lemmas.List.{get_or-map, length-map}
+use Rattle.tape_image.specs.Plan.{PlanValue}
+use Rattle.tape_image.specs.Word.{WordValue, Stands}
+use Rattle.tape_image.proofs.Halves.{Stands-unchanged}
+use Rattle.odt_machine.specs.Machine.{is_word, word_at}
+use Rattle.host_core.specs.Core.{word_nr, no_word}
+use Rattle.reading_core.specs.declared.phase.End.TheVariants.{Complete, GaveUp as HostGaveUp, NoWord as HostFoundNoWord}
+use Rattle.reading_core.specs.Addresses.{addresses_of}
+use Rattle.reading_core.specs.Reader.{Reader, begun, ended}
+use Rattle.reading_law.specs.Belief.{IsTrue}
+use Rattle.reading_engine.specs.Inquired.{TellsEnd}
+use Rattle.reading_engine.specs.declared.stop.Stop.{Stop}
+use Rattle.reading_engine.specs.declared.stop.Stop.TheVariants.{Ended, LineFailed as LineHasFailed, TurnsOver as TurnsAreOver}
+use Rattle.machine_look.specs.declared.difference.Difference.{Difference}
+use Rattle.machine_look.specs.declared.verify_end.VerifyEnd.{VerifyEnd}
+use Rattle.machine_look.specs.declared.verify_end.VerifyEnd.TheVariants.{Same, Differs}
+use Rattle.machine_look.specs.Differences.{differences}
+use Rattle.machine_look.specs.Look.{IsLook, OverHonestLine, TriesOnce}
+use Rattle.machine_look.specs.Verify.{AllStand, IsSameWith, IsVerified}
+use Rattle.machine_look.specs.VerifyReport.{report_text, verify_end, verify_report}
+use Rattle.machine_look.proofs.Found.{none_differ}
+use Rattle.machine_look.proofs.Looks.{all_read, is_true}
+
+-- it ends so only where every word was read and none differs
+same_means : (differ : ℕ) (stop : Stop) → verify_end differ stop ≡ Same → (stop ≡ Ended Complete) × (differ ≡ 0)
+same_means differ (Ended Complete) is =
+    (refl, elim (eqb differ 0) as (λ t. eqb differ 0 ≡ t → cond t Same Differs ≡ Same → differ ≡ 0) [ true ↦ λ e same. eqb-true _ _ e | false ↦ λ e same. absurd (cc same) ] refl is)
+same_means differ (Ended HostGaveUp) is = absurd (cc is)
+same_means differ (Ended (HostFoundNoWord address)) is = absurd (cc is)
+same_means differ (LineHasFailed fault) is = absurd (cc is)
+same_means differ TurnsAreOver is = absurd (cc is)
+
+address_is : (words : List WordValue) (addresses : List ℕ) (i : ℕ) → addresses ≡ addresses_of words → i < length words → get_or addresses i 0 ≡ (word_nr words i).address
+address_is words addresses i are low = ap (λ list. get_or list i 0) are ∙ get_or-map (λ (w : WordValue). w.address) words i no_word 0 low
+
+-- where memory holds what was read, and no number that was read differs from its word, every word stands
+stand_where_read : (words : List WordValue) (last : Reader) (before now : List ℕ) (keys : List ℕ) (lost : ℕ) → last.addresses ≡ addresses_of words → length last.values ≡ length words → length (differences words last.values) ≡ 0
+    → IsTrue before last now keys lost → AllStand words now
+stand_where_read words last before now keys lost are all none heard = record {
+  lies = λ i low. subst (λ a. is_word now a ≡ true) (address_is words last.addresses i are low) (heard.read.lies i (omega arith));
+  stands = λ i low.
+      let here : get_or last.values i 0 ≡ word_at now (word_nr words i).address = heard.read.holds i (omega arith) ∙ ap (word_at now) (address_is words last.addresses i are low) in
+      subst (Stands (word_nr words i)) here (Stands-unchanged (word_nr words i) (get_or last.values i 0) (none_differ words last.values all none i low));
+}
+
+pub all_stand : (words : List WordValue) (first last : Reader) (stop : Stop) (look : IsLook first last stop) → first.addresses ≡ addresses_of words
+    → verify_end (length (differences words last.values)) stop ≡ Same → OverHonestLine look (IsSameWith words)
+all_stand words first last stop look are same machine now lost may honest =
+    let means = same_means (length (differences words last.values)) stop same in
+    let addresses = look.addresses ∙ are in
+    let all : length last.values ≡ length words =
+    all_read last look.kept (ended_is last stop means.0 look) ∙ (ap length addresses ∙ length-map words (λ (w : WordValue). w.address)) in
+    let heard = is_true stop first last look.inquired.said machine now lost look.believed may honest in
+    (heard.1.same, stand_where_read words last machine.memory now.memory _ _ addresses all means.1 heard.1)
+  where
+    ended_is : (last : Reader) (stop : Stop) → stop ≡ Ended Complete → IsLook first last stop → ended last.phase ≡ Some Complete
+    ended_is last stop is look = subst (λ s. TellsEnd s last) is look.end
+
+-- ---- a verification
+
+pub verified_of : (plan : PlanValue) (patience : ℕ) (tries tries' : Option ℕ) (first last : Reader) (stop : Stop) (end : VerifyEnd) → first ≡ begun (addresses_of plan.words) [] patience → IsLook first last stop
+    → TriesOnce (ended first.phase) tries tries' → end ≡ verify_end (length (differences plan.words last.values)) stop → IsVerified plan patience tries tries' last stop end
+verified_of plan patience tries tries' first last stop end is look tried ends =
+    let moved : IsLook (begun (addresses_of plan.words) [] patience) last stop = subst (λ r. IsLook r last stop) is look in
+    record {
+      look = moved;
+      tried = subst (λ r. TriesOnce (ended r.phase) tries tries') is tried;
+      end_is = ends;
+      stand = λ same. all_stand plan.words (begun (addresses_of plan.words) [] patience) last stop moved refl (sym ends ∙ same);
+    }
+
+-- its words were as many as the addresses
+pub words_count : (words : List WordValue) (last : Reader) → last.addresses ≡ addresses_of words → length last.addresses ≡ length words
+words_count words last are = ap length are ∙ length-map words (λ (w : WordValue). w.address)
+
+pub report_is : (words : List WordValue) (last : Reader) (stop : Stop) (found : List Difference) (start text : List ℕ) → last.addresses ≡ addresses_of words → found ≡ differences words last.values
+    → start ≡ [] → text ≡ start ++ report_text found (length last.addresses) last stop → text ≡ verify_report words last stop
+report_is words last stop found start text are finds none is =
+    is ∙ (ap (λ s. s ++ report_text found (length last.addresses) last stop) none
+    ∙ (ap (λ f. report_text f (length last.addresses) last stop) finds ∙ ap (λ n. report_text (differences words last.values) n last stop) (words_count words last are)))
+
+pub found_is : (words words' : List WordValue) (numbers numbers' : List ℕ) (start found : List Difference) → words' ≡ words → numbers' ≡ numbers → start ≡ [] → found ≡ start ++ differences words' numbers' → found ≡ differences words numbers
+found_is words words' numbers numbers' start found w n none is =
+    is ∙ (ap (λ s. s ++ differences words' numbers') none ∙ (ap (λ list. differences list numbers') w ∙ ap (differences words) n))

@@ -1,0 +1,8 @@
+-- The bytes so far are those of the numbers so far.
+use Rattle.std.proofs.Common.{◌≡◌, take}
+use Rattle.std.specs.List.{flat_map}
+use Rattle.tape_blocks.specs.Block.{low_first}
+use Rattle.machine_look.proofs.saved_tape.low_bytes_first.Given as goal
+
+abbrev pub invariant-loop-number : goal.invariant-loop-number
+invariant-loop-number l = l.bytes.items ≡ flat_map low_first (take l.number-index l.numbers)

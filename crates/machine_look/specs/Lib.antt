@@ -1,0 +1,9 @@
+pub mod Differences
+pub mod Look
+pub mod LookFault
+pub mod Save
+pub mod SavedTape
+pub mod SaveReport
+pub mod Shelf
+pub mod Verify
+pub mod VerifyReport

@@ -1,0 +1,36 @@
+-- A look at a machine: a reading that begins with nothing read, over a line that was reached for it.
+use Rattle.std.specs.Prelude.{◌≡◌, ℕ, ◌≤◌, List, length, Option, Some, None}
+use Rattle.odt_machine.specs.Machine.{Machine}
+use Rattle.load_devices.specs.declared.item.Item.{Item}
+use Rattle.honest_line.specs.Honest.{IsHonest}
+use Rattle.console_reach.specs.Reached.{OneMoreTime}
+use Rattle.reading_core.specs.Bound.{reading_bound}
+use Rattle.reading_core.specs.Invariant.{IsReader}
+use Rattle.reading_core.specs.Reader.{Reader}
+use Rattle.reading_core.specs.declared.phase.End.{End}
+use Rattle.reading_law.specs.Belief.{MayBegin}
+use Rattle.reading_engine.specs.Belief.{IsBelievableAt}
+use Rattle.reading_engine.specs.Inquired.{Inquired, TellsEnd}
+use Rattle.reading_engine.specs.declared.stop.Stop.{Stop}
+
+-- an engine that had 10,000,000 turns led the one reader to the other, with what was said meanwhile, and stopped so
+pub record IsLook (first last : Reader) (stop : Stop) : Type 0 where
+  pub line : Option (List Item)
+  pub line' : Option (List Item)
+  pub inquired : Inquired 10000000 (Some stop) first last line line'
+  pub end : TellsEnd stop last
+  -- where what was said is honest, memory is what it was and what was read is what it holds
+  pub believed : IsBelievableAt stop first last inquired.said
+  pub addresses : last.addresses ≡ first.addresses
+  pub patience : last.patience ≡ first.patience
+  pub bound : last.sent ≤ reading_bound (length last.addresses) last.patience
+  pub kept : IsReader last
+
+-- what holds of memory wherever a look was over an honest line of a machine that runs no program
+abbrev pub OverHonestLine : {first last : Reader} {stop : Stop} → IsLook first last stop → (Machine → Machine → Type 0) → Type 0
+OverHonestLine {first} look holds = (machine now : Machine) (lost : ℕ) → MayBegin first machine → IsHonest machine look.inquired.said lost now → holds machine now
+
+-- the console was tried to be reached once, where there is something to look at, and else not at all
+abbrev pub TriesOnce : Option End → Option ℕ → Option ℕ → Type 0
+TriesOnce (Some end) tries tries' = tries' ≡ tries
+TriesOnce None tries tries' = OneMoreTime tries tries'

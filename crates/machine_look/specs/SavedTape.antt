@@ -1,0 +1,41 @@
+-- The tape that holds what was read (this project's own).
+use Rattle.std.specs.Prelude.{◌≡◌, ℕ, zero, suc, ◌+◌, ◌*◌, ◌/◌, ◌<◌, List, [], ◌∷◌, ◌++◌, length, take, drop, slice_index}
+use Rattle.std.specs.List.{flat_map}
+use Rattle.std.specs.FinMap.{get}
+use Rattle.tape_blocks.specs.Block.{BlockValue, block_at, low_first}
+use Rattle.tape_blocks.specs.Tape.{TapeValue}
+use Rattle.tape_image.specs.Word.{WordValue}
+use Rattle.tape_image.specs.Plan.{plan_of, given_byte, program_start}
+
+-- block number k of the numbers from an address on: 256 of them, or as many as are left, each with its low byte first
+abbrev pub saved_block : ℕ → List ℕ → ℕ → BlockValue
+saved_block from numbers k = block_at (from + 512 * k) (flat_map low_first (take 256 (drop (256 * k) numbers)))
+
+-- the first n blocks
+unfoldable pub saved_blocks : ℕ → List ℕ → ℕ → List BlockValue
+saved_blocks from numbers zero = []
+saved_blocks from numbers (suc n) = saved_blocks from numbers n ++ saved_block from numbers n ∷ []
+
+-- the tape of the numbers that stand from an address on, in as few blocks as hold them
+abbrev pub saved_tape : ℕ → List ℕ → ℕ → TapeValue
+saved_tape from numbers start = record { blocks = saved_blocks from numbers ((length numbers + 255) / 256); start = start }
+
+-- a number that was read as a word of a plan: all of it counts
+abbrev pub whole_word : ℕ → ℕ → WordValue
+whole_word address number = record { address = address; mask = 0o177777; value = number }
+
+-- the words that were read: the numbers at the first of the addresses
+abbrev pub words_read : List ℕ → List ℕ → List WordValue
+words_read [] numbers = []
+words_read (address ∷ addresses) [] = []
+words_read (address ∷ addresses) (number ∷ numbers) = whole_word address number ∷ words_read addresses numbers
+
+-- the plan of a tape is word for word, and byte for byte, that of the numbers at the addresses
+pub record HoldsWhatWasRead (addresses numbers : List ℕ) (tape : TapeValue) : Type 0 where
+  pub words : (plan_of tape).words ≡ words_read addresses numbers
+  pub bytes : (b : ℕ) → get (plan_of tape).image b ≡ given_byte (words_read addresses numbers) b
+  pub start : (plan_of tape).start ≡ program_start tape.start
+
+-- the addresses follow one another, word by word, from the first on
+abbrev pub StandFrom : ℕ → List ℕ → Type 0
+StandFrom from addresses = (i : ℕ) → i < length addresses → slice_index addresses i ≡ from + 2 * i

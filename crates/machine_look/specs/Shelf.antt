@@ -1,0 +1,25 @@
+-- What is asked of the place where a saved tape goes.
+use Rattle.std.specs.Prelude.{ℕ, List, Result, Ok, Err, ⊤}
+use Rattle.machine_look.specs.declared.shelf.ShelfFault.{ShelfFault}
+use Rattle.machine_look.specs.declared.shelf.ShelfFault.TheVariants.{IsThere, Write}
+
+-- room was asked for, or a tape of this text was put there, and what came of it
+pub data Step : Type 0 where
+  Reserve : Step
+  NotReserved : ShelfFault → Step
+  Put : List ℕ → Step
+  NotPut : List ℕ → ShelfFault → Step
+
+abbrev pub reserve_step : Result (Unit {0}) ShelfFault → Step
+reserve_step (Ok done) = Reserve
+reserve_step (Err fault) = NotReserved fault
+
+abbrev pub put_step : List ℕ → Result (Unit {0}) ShelfFault → Step
+put_step text (Ok done) = Put text
+put_step text (Err fault) = NotPut text fault
+
+-- a tape is not put there because something is there, or because it can't be written
+abbrev pub IsPutFault : ShelfFault → Type 0
+IsPutFault IsThere = ⊤
+IsPutFault Write = ⊤
+IsPutFault other = ⊥

@@ -1,0 +1,48 @@
+-- What `verify` does (this project's own).
+use Rattle.std.specs.Prelude.{◌≡◌, ℕ, ◌<◌, true, List, [], length, Option}
+use Rattle.std.specs.Io.KnownBytes.{Appends}
+use Rattle.tape_image.specs.Plan.{PlanValue}
+use Rattle.tape_image.specs.Word.{WordValue, Stands}
+use Rattle.odt_machine.specs.Machine.{Machine, is_word, word_at}
+use Rattle.host_core.specs.Core.{word_nr}
+use Rattle.byte_io.specs.Output.{WritesAllBut}
+use Rattle.reading_core.specs.Addresses.{addresses_of}
+use Rattle.reading_core.specs.Reader.{Reader, begun, ended}
+use Rattle.reading_engine.specs.declared.stop.Stop.{Stop}
+use Rattle.machine_look.specs.declared.verify_end.VerifyEnd.{VerifyEnd}
+use Rattle.machine_look.specs.declared.verify_end.VerifyEnd.TheVariants.{Same}
+use Rattle.machine_look.specs.Differences.{differences}
+use Rattle.machine_look.specs.Look.{IsLook, OverHonestLine, TriesOnce}
+use Rattle.machine_look.specs.VerifyReport.{verify_end, verify_report}
+
+-- every word lies in memory and stands there
+pub record AllStand (words : List WordValue) (memory : List ℕ) : Type 0 where
+  pub lies : (i : ℕ) → i < length words → is_word memory (word_nr words i).address ≡ true
+  pub stands : (i : ℕ) → i < length words → Stands (word_nr words i) (word_at memory (word_nr words i).address)
+
+-- a memory is what it was, and every word stands in it
+abbrev pub IsSameWith : List WordValue → Machine → Machine → Type 0
+IsSameWith words before now = (now.memory ≡ before.memory) × AllStand words now.memory
+
+-- a plan's words were looked at, and so it ended; where it ends as `Same` over an honest line, every word stands
+pub record IsVerified (plan : PlanValue) (patience : ℕ) (tries tries' : Option ℕ) (last : Reader) (stop : Stop) (end : VerifyEnd) : Type 0 where
+  pub look : IsLook (begun (addresses_of plan.words) [] patience) last stop
+  pub tried : TriesOnce (ended (begun (addresses_of plan.words) [] patience).phase) tries tries'
+  pub end_is : end ≡ verify_end (length (differences plan.words last.values)) stop
+  pub stand : end ≡ Same → OverHonestLine look (IsSameWith plan.words)
+
+-- it was reported, too
+pub record IsReported (plan : PlanValue) (patience : ℕ) (tries tries' : Option ℕ) (out out' : Option (List ℕ)) (end : VerifyEnd) : Type 0 where
+  pub last : Reader
+  pub stop : Stop
+  pub verified : IsVerified plan patience tries tries' last stop end
+  pub reported : Appends out out' (verify_report plan.words last stop)
+
+-- the same, with a report that may be cut short
+pub record IsCutShort (plan : PlanValue) (patience : ℕ) (tries tries' : Option ℕ) (out out' : Option (List ℕ)) : Type 0 where
+  pub last : Reader
+  pub stop : Stop
+  pub end : VerifyEnd
+  pub verified : IsVerified plan patience tries tries' last stop end
+  pub missing : List ℕ
+  pub reported : WritesAllBut out out' (verify_report plan.words last stop) missing

@@ -1,0 +1,54 @@
+-- What `verify` prints (this project's own).
+use Rattle.std.specs.Prelude.{ℕ, ◌==◌, if◌then◌else◌, List, ◌++◌, length, codes, decimal}
+use Rattle.std.specs.List.{flat_map}
+use Rattle.octal.specs.Octal.{octal_text}
+use Rattle.tape_image.specs.Word.{WordValue, word_fields}
+use Rattle.byte_io.specs.Text.{line}
+use Rattle.reading_core.specs.declared.phase.End.TheVariants.{Complete, GaveUp as HostGaveUp, NoWord as HostFoundNoWord}
+use Rattle.reading_core.specs.Reader.{Reader}
+use Rattle.reading_engine.specs.declared.stop.Stop.{Stop}
+use Rattle.reading_engine.specs.declared.stop.Stop.TheVariants.{Ended, LineFailed as LineHasFailed, TurnsOver as TurnsAreOver}
+use Rattle.machine_look.specs.declared.difference.Difference.{Difference}
+use Rattle.machine_look.specs.declared.verify_end.VerifyEnd.{VerifyEnd}
+use Rattle.machine_look.specs.declared.verify_end.VerifyEnd.TheVariants.{Same, Differs, NoWord, GaveUp, TurnsOver, LineFailed}
+use Rattle.machine_look.specs.Differences.{differences}
+
+-- how it ends, by how many words differ and how the reading stopped: memory is the same only where every word was read
+abbrev pub verify_end : ℕ → Stop → VerifyEnd
+verify_end differ (Ended Complete) = if differ == 0 then Same else Differs
+verify_end differ (Ended HostGaveUp) = GaveUp
+verify_end differ (Ended (HostFoundNoWord address)) = NoWord address
+verify_end differ (LineHasFailed fault) = LineFailed fault
+verify_end differ TurnsAreOver = TurnsOver
+
+-- the name of an end
+abbrev pub end_name : VerifyEnd → List ℕ
+end_name Same = codes "Same"
+end_name Differs = codes "Differs"
+end_name (NoWord address) = codes "NoWord " ++ octal_text address
+end_name GaveUp = codes "GaveUp"
+end_name TurnsOver = codes "TurnsOver"
+end_name (LineFailed fault) = codes "LineFailed"
+
+-- a word's address, mask and value, and the whole word that memory holds there
+abbrev pub difference_text : Difference → List ℕ
+difference_text d = word_fields d.word ++ codes " differs " ++ octal_text d.now
+
+-- the characters sent, and the mishaps
+abbrev pub life_text : Reader → List ℕ
+life_text reader = codes "sent " ++ decimal reader.sent ++ codes " spent " ++ decimal reader.spent
+
+-- the characters sent, the mishaps, how many of the words were looked at and how many of these differ
+abbrev pub counts_text : ℕ → Reader → ℕ → List ℕ
+counts_text words reader differ =
+    life_text reader ++ codes " looked " ++ decimal (length reader.values) ++ codes " of " ++ decimal words ++ codes " differ " ++ decimal differ
+
+-- a line for each difference, the counts, and the end
+abbrev pub report_text : List Difference → ℕ → Reader → Stop → List ℕ
+report_text found words reader stop =
+    flat_map (λ d. line (difference_text d)) found ++ line (counts_text words reader (length found))
+    ++ line (codes "end " ++ end_name (verify_end (length found) stop))
+
+-- what `verify` prints of a reading of words
+abbrev pub verify_report : List WordValue → Reader → Stop → List ℕ
+verify_report words reader stop = report_text (differences words reader.values) (length words) reader stop

@@ -1,0 +1,38 @@
+//! Looking at a machine that nothing is to change: the commands `verify` and `save`.
+//!
+//! `verify` looks at every word of a plan and lists those that memory does not have, `save` reads a range
+//! of words and puts the tape of them on a `Shelf`, and neither types a digit into a word. Both are
+//! promised to write exactly their report, and to say of memory only what was read; over an honest line
+//! that is what memory holds, and it is what it was. `NewFile` is the shelf of a real system: a tape comes
+//! to its name whole, and replaces nothing.
+//!
+//! The crate `requests` calls them, and their tests stand in `command_tests`.
+#![tactic(auto)]
+
+mod difference;
+mod look_fault;
+mod looking;
+mod new_file;
+mod range;
+mod save_end;
+mod save_report;
+mod saved_tape;
+mod saving;
+mod shelf;
+mod verify_end;
+mod verify_report;
+mod verifying;
+
+pub use difference::{Difference, differences};
+pub use look_fault::LookFault;
+pub use looking::look;
+pub use new_file::NewFile;
+pub use range::AddressRange;
+pub use save_end::SaveEnd;
+pub use save_report::put_save_report;
+pub use saved_tape::tape_of;
+pub use saving::{SaveOptions, save};
+pub use shelf::{Shelf, ShelfFault};
+pub use verify_end::VerifyEnd;
+pub use verify_report::put_verify_report;
+pub use verifying::verify;

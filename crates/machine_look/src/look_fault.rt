@@ -1,0 +1,83 @@
+use crate::shelf::ShelfFault;
+use byte_io::WriteFault;
+use load_devices::LineFault;
+use std::alloc::AllocError;
+use tape_blocks::Memory;
+
+/// Why a look came to nothing.
+#[derive(Clone, Copy, Debug, PartialEq, Eq)]
+pub enum LookFault {
+    /// There is a file of that name already. It is as it was.
+    IsThere,
+
+    /// The tape can't be written. There is no file of that name.
+    WriteTape,
+
+    /// The console can't be reached. Nothing was sent.
+    Connect,
+
+    /// The report can't be written whole. What was saved is saved.
+    WriteOutput,
+
+    /// A growth of memory was refused. Nothing was saved and nothing reported.
+    Memory,
+}
+
+impl From<ShelfFault> for LookFault {
+    ghost use Rattle.std.specs.Prelude.{◌≡◌};
+    ghost use Rattle.machine_look.specs.LookFault.{fault_of_shelf};
+
+    ghost from_gives = { λ why fault. fault ≡ fault_of_shelf why };
+
+    fn from(why: ShelfFault) -> LookFault {
+        match why {
+            ShelfFault::IsThere => LookFault::IsThere,
+            ShelfFault::Write => LookFault::WriteTape,
+            ShelfFault::Memory => LookFault::Memory,
+        }
+    }
+}
+
+impl From<LineFault> for LookFault {
+    ghost use Rattle.std.specs.Prelude.{◌≡◌};
+    ghost use Rattle.machine_look.specs.declared.look_fault.LookFault.TheVariants.{Connect};
+
+    ghost from_gives = { λ _ fault. fault ≡ Connect };
+
+    fn from(_line: LineFault) -> LookFault {
+        LookFault::Connect
+    }
+}
+
+impl From<WriteFault> for LookFault {
+    ghost use Rattle.std.specs.Prelude.{◌≡◌};
+    ghost use Rattle.machine_look.specs.declared.look_fault.LookFault.TheVariants.{WriteOutput};
+
+    ghost from_gives = { λ _ fault. fault ≡ WriteOutput };
+
+    fn from(_failed: WriteFault) -> LookFault {
+        LookFault::WriteOutput
+    }
+}
+
+impl From<AllocError> for LookFault {
+    ghost use Rattle.std.specs.Prelude.{◌≡◌};
+    ghost use Rattle.machine_look.specs.declared.look_fault.LookFault.TheVariants.{Memory as OutOfMemory};
+
+    ghost from_gives = { λ _ fault. fault ≡ OutOfMemory };
+
+    fn from(_refused: AllocError) -> LookFault {
+        LookFault::Memory
+    }
+}
+
+impl From<Memory> for LookFault {
+    ghost use Rattle.std.specs.Prelude.{◌≡◌};
+    ghost use Rattle.machine_look.specs.declared.look_fault.LookFault.TheVariants.{Memory as OutOfMemory};
+
+    ghost from_gives = { λ _ fault. fault ≡ OutOfMemory };
+
+    fn from(_refused: Memory) -> LookFault {
+        LookFault::Memory
+    }
+}

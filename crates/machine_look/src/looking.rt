@@ -1,0 +1,63 @@
+//! Looking at a machine, over a line that is given or reached.
+ghost use Rattle.std.specs.Prelude.{◌≡◌, ◌≤◌, None, Some, length, IfOk, IfErr, OnOk};
+ghost use Rattle.reading_core.specs.Bound.{reading_bound};
+ghost use Rattle.reading_core.specs.Invariant.{IsReader};
+ghost use Rattle.reading_core.specs.Reader.{ended};
+ghost use Rattle.reading_engine.specs.Belief.{IsBelievableOver};
+ghost use Rattle.reading_engine.specs.Failing.{Counts, NamesFault};
+ghost use Rattle.reading_engine.specs.Inquired.{Inquired, TellsEnd};
+ghost use Rattle.machine_look.specs.Look.{IsLook, TriesOnce};
+
+use crate::look_fault::LookFault;
+use console_reach::Reach;
+use load_devices::Line;
+use load_progress::{Onlooker, WatchedLine};
+use reading_core::ReadingCore;
+use reading_engine::{Stop, inquire};
+
+/// The most turns of a look.
+const TURNS: u64 = 10_000_000;
+
+/// Lends the core to the line for at most 10,000,000 turns, as `inquire` does, and the line comes back. An
+/// onlooker is told of each key and of each word that was read.
+pub fn look<L: Line + Drop, O: Onlooker>(
+    core: ReadingCore,
+    line: L,
+    onlooker: &O,
+) -> ((ReadingCore, Stop), L)
+    ensures turns { Inquired 10000000 (Some result.0.1) core result.0.0 (L.told line) (L.told result.1) }
+    ensures end { TellsEnd result.0.1 result.0.0 }
+    ensures counted { Counts (Some result.0.1) (L.fault_count line) (L.fault_count result.1) }
+    ensures fault { NamesFault (Some result.0.1) (L.last_fault result.1) }
+    ensures honest { IsBelievableOver result.0.1 core result.0.0 (L.told line) (L.told result.1) }
+    ensures same_addresses { result.0.0.addresses ≡ core.addresses }
+    ensures same_patience { result.0.0.patience ≡ core.patience }
+    ensures bound { result.0.0.sent ≤ reading_bound (length result.0.0.addresses) result.0.0.patience }
+    ensures kept { IsReader result.0.0 }
+{
+    onlooker.begins(0, core.addresses().len() as u32);
+    let mut watched = WatchedLine::of_reading(line, onlooker);
+    let answer = inquire(core, &mut watched, TURNS);
+    onlooker.ends();
+    (answer, watched.into_line())
+}
+
+/// Reaches the console, where the core has something to read, and looks.
+///
+/// The one fault is `Connect`: the console can't be reached, and nothing was sent.
+pub(crate) fn look_over<R: Reach, O: Onlooker>(
+    core: ReadingCore,
+    console: &mut R,
+    onlooker: &O,
+) -> Result<(ReadingCore, Stop), LookFault>
+    ensures look { IfOk result (λ looked. IsLook core looked.0 looked.1) }
+    ensures tried { TriesOnce (ended core.phase) (R.tries console.old) (R.tries console.new) }
+    ensures fault { IfErr result (λ fault. (fault ≡ LookFault.Connect) × (ended core.phase ≡ None)) }
+{
+    if let Some(end) = core.end() {
+        return Ok((core, Stop::Ended(end)));
+    }
+    let line = console.reach()?;
+    let (answer, _line) = look(core, line, onlooker);
+    Ok(answer)
+}

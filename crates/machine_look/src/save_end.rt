@@ -1,0 +1,20 @@
+use load_devices::LineFault;
+
+/// How a `save` ended.
+#[derive(Clone, Copy, Debug, PartialEq, Eq)]
+pub enum SaveEnd {
+    /// Every word was read.
+    Saved,
+
+    /// Memory has no word at this address.
+    NoWord(u16),
+
+    /// There were more mishaps than the patience.
+    GaveUp,
+
+    /// The turns were over before all words were read.
+    TurnsOver,
+
+    /// The line failed.
+    LineFailed(LineFault),
+}

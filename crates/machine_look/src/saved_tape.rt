@@ -1,0 +1,60 @@
+//! The tape of what was read.
+ghost use Rattle.std.specs.Prelude.{◌≡◌, ℕ, ◌+◌, ◌*◌, ◌%◌, ◌<◌, ◌≤◌, List, length, IfOk};
+ghost use Rattle.std.specs.List.{flat_map};
+ghost use Rattle.tape_blocks.specs.Block.{block_at, low_first};
+ghost use Rattle.machine_look.specs.SavedTape.{HoldsWhatWasRead, StandFrom, saved_block, saved_tape};
+
+use std::alloc::{AllocError, Global};
+use tape_blocks::{Block, Tape};
+
+/// How many words a block has, but for the last: 512 bytes.
+const BLOCK_WORDS: usize = 256;
+
+/// The tape of the numbers that stand in memory from an address on, in blocks of 512 bytes, of which the
+/// last may be shorter, and with this start address. The error is want of memory.
+pub fn tape_of(alloc: Global, from: u16, numbers: &[u16], start: u16) -> Result<Tape, AllocError>
+    requires even { from % 2 ≡ 0 }
+    requires below { from + 2 * length numbers.now ≤ 0o160000 }
+    ensures made { IfOk result (λ tape. tape ≡ saved_tape from numbers.now start) }
+
+    // So a load of it gives memory back what was read, and changes nothing else.
+    ensures holds { (addresses : List ℕ) → StandFrom from addresses → length numbers.now ≤ length addresses → IfOk result (HoldsWhatWasRead addresses numbers.now) }
+{
+    let count = numbers.len().div_ceil(BLOCK_WORDS);
+    let mut blocks = Vec::with_capacity(alloc, count)?;
+    for number in 0..count {
+        blocks.push(saved_block(alloc, from, numbers, number)?)?;
+    }
+    Ok(Tape::new(blocks, start).unwrap())
+}
+
+// The block of this number.
+fn saved_block(
+    alloc: Global,
+    from: u16,
+    numbers: &[u16],
+    number: usize,
+) -> Result<Block, AllocError>
+    requires below { from + 2 * length numbers.now ≤ 0o160000 }
+    requires within { 256 * number < length numbers.now }
+    ensures { IfOk result (λ block. block ≡ saved_block from numbers.now number) }
+{
+    let first = BLOCK_WORDS * number;
+    let behind = (first + BLOCK_WORDS).min(numbers.len());
+    Ok(Block {
+        address: from + 2 * first as u16,
+        bytes: low_bytes_first(alloc, &numbers[first..behind])?,
+    })
+}
+
+// The bytes of numbers, of each the low one first.
+fn low_bytes_first(alloc: Global, numbers: &[u16]) -> Result<Vec<u8>, AllocError>
+    requires { length numbers.now ≤ 256 }
+    ensures { IfOk result (λ bytes. bytes.items ≡ flat_map low_first numbers.now) }
+{
+    let mut bytes = Vec::with_capacity(alloc, 2 * numbers.len())?;
+    for number in numbers {
+        bytes.extend_from_slice(&number.to_le_bytes())?;
+    }
+    Ok(bytes)
+}

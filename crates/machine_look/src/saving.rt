@@ -1,0 +1,91 @@
+//! The command `save`: what memory holds, as a tape.
+ghost use Rattle.std.specs.Prelude.{◌≡◌, ◌⊎◌, ◌*◌, ◌+◌, ◌%◌, ◌<◌, ◌≤◌, length, [], ◌∷◌, IfErr, IfOk, OnOk};
+ghost use Rattle.load_devices.specs.Told.{Gains};
+ghost use Rattle.machine_look.specs.LookFault.{IsKeepFault, IsSaveFault};
+ghost use Rattle.machine_look.specs.Save.{IsSavedAndReported, puts};
+
+use crate::look_fault::LookFault;
+use crate::looking::look_over;
+use crate::range::AddressRange;
+use crate::save_end::SaveEnd;
+use crate::save_report::{put_save_report, save_end};
+use crate::saved_tape::tape_of;
+use crate::shelf::Shelf;
+use byte_io::write_and_flush;
+use console_reach::Reach;
+use load_progress::Onlooker;
+use reading_core::ReadingCore;
+use std::alloc::Global;
+use std::io::Write;
+use tape_blocks::write_tape;
+
+/// Room for the longest report.
+const REPORT_ROOM: usize = 160;
+
+/// What is to be saved, and how.
+#[derive(Clone, Copy, Debug, PartialEq, Eq)]
+pub struct SaveOptions {
+    /// The words that are read.
+    pub range: AddressRange,
+
+    /// The start address of the tape; an odd one starts nothing.
+    pub start: u16,
+
+    /// How many mishaps the host survives.
+    pub patience: u32,
+}
+
+/// Reads the words of a range, changes none, puts the tape of what was read on the shelf, and reports how
+/// far that came and how it ended.
+///
+/// The tape is put there once the host has ended, with every word that was read by then, also where the
+/// machine has no more memory, the line failed or the host gave up; where no word was read, none is.
+///
+/// `IsThere` and `WriteTape` come before the console is reached, or where the tape can't be put there at
+/// the end. `Connect` comes before anything was sent. `WriteOutput` is a report that could not be written
+/// whole; the tape is where it belongs. `Memory` comes only where a growth was refused, with no tape put
+/// and nothing reported.
+pub fn save<S: Shelf, R: Reach, W: Write, O: Onlooker>(
+    alloc: Global,
+    options: SaveOptions,
+    shelf: &mut S,
+    console: &mut R,
+    out: &mut W,
+    onlooker: &O,
+) -> Result<SaveEnd, LookFault>
+    ensures reported { IfOk result (IsSavedAndReported options.range.from options.range.to options.start options.patience (S.steps shelf.old) (S.steps shelf.new) (R.tries console.old) (R.tries console.new) (W.contents out.old) (W.contents out.new)) }
+    ensures fault { IfErr result (IsSaveFault options.range.from options.range.to options.start options.patience (S.steps shelf.old) (S.steps shelf.new) (R.tries console.old) (R.tries console.new) (W.contents out.old) (W.contents out.new)) }
+{
+    let (from, to) = (options.range.from(), options.range.to());
+    let core = ReadingCore::of_range(alloc, from, to, options.patience)?;
+    let mut report = Vec::with_capacity(alloc, REPORT_ROOM)?;
+    shelf.reserve(alloc)?;
+    let (core, stop) = look_over(core, console, onlooker)?;
+    put_save_report(&mut report, &core, stop)?;
+    keep(alloc, from, core.values(), options.start, shelf)?;
+    write_and_flush(out, &report)?;
+    Ok(save_end(stop))
+}
+
+// Puts the tape of the numbers that were read from an address on where it belongs, if there are any.
+fn keep<S: Shelf>(
+    alloc: Global,
+    from: u16,
+    numbers: &[u16],
+    start: u16,
+    shelf: &mut S,
+) -> Result<(), LookFault>
+    requires even { from % 2 ≡ 0 }
+    requires below { from + 2 * length numbers.now ≤ 0o160000 }
+    ensures fits { start < 65536 }
+    ensures ok { OnOk result (Gains (S.steps shelf.old) (S.steps shelf.new) (puts from numbers.now start)) }
+    ensures fault { IfErr result (IsKeepFault from numbers.now start (S.steps shelf.old) (S.steps shelf.new)) }
+{
+    if numbers.is_empty() {
+        return Ok(());
+    }
+    let tape = tape_of(alloc, from, numbers, start)?;
+    let text = write_tape(alloc, &tape)?;
+    shelf.put(&text)?;
+    Ok(())
+}

@@ -1,0 +1,34 @@
+ghost use Rattle.std.specs.Prelude.{List, [], ◌∷◌, Option, None, IfErr};
+ghost use Rattle.load_devices.specs.Told.{Gains};
+ghost use Rattle.machine_look.specs.Shelf.{IsPutFault, Step, put_step, reserve_step};
+
+use std::alloc::Global;
+
+/// Why a tape can't be put somewhere.
+#[derive(Clone, Copy, Debug, PartialEq, Eq)]
+pub enum ShelfFault {
+    /// Something is there already.
+    IsThere,
+
+    /// Nothing can be made or written there.
+    Write,
+
+    /// A growth of memory was refused.
+    Memory,
+}
+
+/// Where the tape of a save goes.
+pub trait Shelf {
+    /// What was asked so far, in its order, with what came of it; None where the type doesn't tell.
+    ghost steps: { Self → Option (List Step) } = { λ _. None };
+
+    /// Makes room for a tape, where there is none yet.
+    fn reserve(&mut self, alloc: Global) -> Result<(), ShelfFault>
+        ensures step { Gains (steps self.old) (steps self.new) (reserve_step result ∷ []) };
+
+    /// Puts a tape of this text into the room, whole or not at all, and in place of nothing. `Memory` does
+    /// not come.
+    fn put(&mut self, text: &[u8]) -> Result<(), ShelfFault>
+        ensures step { Gains (steps self.old) (steps self.new) (put_step text.now result ∷ []) }
+        ensures fault { IfErr result IsPutFault };
+}

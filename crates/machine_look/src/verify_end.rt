@@ -1,0 +1,23 @@
+use load_devices::LineFault;
+
+/// How a `verify` ended.
+#[derive(Clone, Copy, Debug, PartialEq, Eq)]
+pub enum VerifyEnd {
+    /// Every word was looked at, and each stands.
+    Same,
+
+    /// Every word was looked at, and one or more differ.
+    Differs,
+
+    /// Memory has no word at this address.
+    NoWord(u16),
+
+    /// There were more mishaps than the patience.
+    GaveUp,
+
+    /// The turns were over before all words were looked at.
+    TurnsOver,
+
+    /// The line failed.
+    LineFailed(LineFault),
+}

@@ -1,0 +1,47 @@
+//! The command `verify`: whether memory holds what a plan says.
+ghost use Rattle.std.specs.Prelude.{IfErr, IfOk};
+ghost use Rattle.machine_look.specs.LookFault.{IsVerifyFault};
+ghost use Rattle.machine_look.specs.Verify.{IsReported};
+
+use crate::difference::differences;
+use crate::look_fault::LookFault;
+use crate::looking::look_over;
+use crate::verify_end::VerifyEnd;
+use crate::verify_report::{longest_report, put_verify_report};
+use byte_io::write_and_flush;
+use console_reach::Reach;
+use load_progress::Onlooker;
+use reading_core::ReadingCore;
+use std::alloc::Global;
+use std::io::Write;
+use tape_image::Plan;
+
+/// Looks at every word of a plan, in the order of their addresses, changes none, and reports each one that
+/// was read and differs, how far that came, and how it ended.
+///
+/// A plan without words needs no console: it ends as `Same`.
+///
+/// `Connect` comes before anything was sent. `WriteOutput` is a report that could not be written whole.
+/// `Memory` comes only where a growth was refused, with nothing reported.
+pub fn verify<R: Reach, W: Write, O: Onlooker>(
+    alloc: Global,
+    plan: &Plan,
+    patience: u32,
+    console: &mut R,
+    out: &mut W,
+    onlooker: &O,
+) -> Result<VerifyEnd, LookFault>
+    ensures reported { IfOk result (IsReported plan.now patience (R.tries console.old) (R.tries console.new) (W.contents out.old) (W.contents out.new)) }
+    ensures fault { IfErr result (IsVerifyFault plan.now patience (R.tries console.old) (R.tries console.new) (W.contents out.old) (W.contents out.new)) }
+{
+    let core = ReadingCore::of_plan(alloc, plan, patience)?;
+    let words = plan.words();
+    // A look that is over needs no memory to say so.
+    let mut found = Vec::with_capacity(alloc, words.len())?;
+    let mut report = Vec::with_capacity(alloc, longest_report(words.len()))?;
+    let (core, stop) = look_over(core, console, onlooker)?;
+    differences(&mut found, words, core.values())?;
+    let end = put_verify_report(&mut report, &found, &core, stop)?;
+    write_and_flush(out, &report)?;
+    Ok(end)
+}

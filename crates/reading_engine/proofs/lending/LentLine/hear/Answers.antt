@@ -1,9 +1,0 @@
-use Rattle.std.proofs.Common.{subst, sym}
-use Rattle.honest_line.specs.LineTable.{hear_refusal}
-use Rattle.reading_engine.specs.Lent.{HasMovedOn}
-use Rattle.reading_engine.proofs.Calls.{lent_heard}
-use Rattle.reading_engine.proofs.lending.LentLine.hear.Goals as goal
-
-pub invariant_of-self : goal.invariant_of-self
-invariant_of-self g c =
-    subst (HasMovedOn g.E.Opening.line) (sym c.hear.ensures.next) (lent_heard g.E.Opening.line c.self.inside.line (hear_refusal c.self.inside.line) c.self.invariant)

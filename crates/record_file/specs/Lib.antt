@@ -1,0 +1,4 @@
+pub mod DiskRecord
+pub mod Durable
+pub mod OldRecord
+pub mod RecordFault

@@ -1,0 +1,25 @@
+//! The record of a load as a file on the disk.
+//!
+//! One load at a time has it: `RecordFile` holds its file from its reading on (`HeldFile`, over a system
+//! that `Locks`). What the file held is read whole; a record that is begun anew replaces it whole, or is
+//! written over it where a rename would not reach it (`DiskRecord`); and what was flushed to it is on the
+//! disk (`DurableWriter`).
+//!
+//! The crate `machine_load` uses it, and its tests stand in `command_tests`.
+#![tactic(auto)]
+
+mod disk_record;
+mod durable;
+mod held_file;
+mod locks;
+mod old_record;
+mod record_fault;
+mod record_file;
+
+pub use disk_record::DiskRecord;
+pub use durable::{DurableWriter, SyncWrite};
+pub use held_file::HeldFile;
+pub use locks::Locks;
+pub use old_record::{OldRecord, holds_no_record};
+pub use record_fault::RecordFault;
+pub use record_file::RecordFile;

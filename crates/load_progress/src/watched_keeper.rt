@@ -1,4 +1,5 @@
 //! A keeper that somebody looks on at.
+ghost use Rattle.std.specs.Prelude.{◌≡◌};
 
 use crate::onlooker::Onlooker;
 use load_devices::{Keep, KeepFault};
@@ -13,8 +14,17 @@ pub struct WatchedKeeper<'a, K: Keep, O: Onlooker> {
 
 impl<'a, K: Keep, O: Onlooker> WatchedKeeper<'a, K, O> {
     /// A keeper, and who looks on at it.
-    pub fn new(keeper: K, onlooker: &'a O) -> WatchedKeeper<'a, K, O> {
+    pub fn new(keeper: K, onlooker: &'a O) -> WatchedKeeper<'a, K, O>
+        ensures { result.keeper ≡ keeper }
+    {
         WatchedKeeper { keeper, onlooker }
+    }
+
+    /// The keeper, given back.
+    pub fn into_keeper(self) -> K
+        ensures { result ≡ self.entry.keeper }
+    {
+        self.keeper
     }
 }
 

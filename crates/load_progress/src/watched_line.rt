@@ -18,7 +18,9 @@ pub struct WatchedLine<'a, L: Line, O: Onlooker> {
 
 impl<'a, L: Line, O: Onlooker> WatchedLine<'a, L, O> {
     /// The line of a load, whose words are told by its keeper, and who looks on at it.
-    pub fn new(line: L, onlooker: &'a O) -> WatchedLine<'a, L, O> {
+    pub fn new(line: L, onlooker: &'a O) -> WatchedLine<'a, L, O>
+        ensures { result.line ≡ line }
+    {
         WatchedLine {
             line,
             onlooker,

@@ -2,10 +2,9 @@
 ghost use Rattle.std.specs.Prelude.{◌≡◌, ◌⊎◌, true, [], ◌∷◌, None, Ok, Err, IfOk, IfErr, OnOk};
 ghost use Rattle.std.specs.Io.KnownBytes.{Appends, Keeps};
 ghost use Rattle.host_core.specs.Core.{ended};
-ghost use Rattle.load_devices.specs.Told.{Gains};
 ghost use Rattle.host_core.specs.Opening.{refusal_of};
 ghost use Rattle.load_record.specs.Reading.{Says};
-ghost use Rattle.machine_load.specs.Load.{IsBegun, IsDriven, IsLife, IsOpening, IsReported, words_taken};
+ghost use Rattle.machine_load.specs.Load.{around_of, setting, Asks, IsBegun, IsDriven, IsLife, IsOpening, IsReported, words_taken};
 ghost use Rattle.machine_load.specs.LoadFault.{IsLoadFault, IsOpeningFault, IsDrivingFault, IsReportFault};
 ghost use Rattle.machine_load.specs.LoadReport.{load_report};
 ghost use Rattle.record_file.specs.OldRecord.{HoldsNoRecord};
@@ -39,7 +38,8 @@ const REPORT_ROOM: usize = 128;
 /// one whose start was typed before, is reported with no connection, and its record stays as it is.
 /// Else a connection is made, the record is written anew with the words that count as verified, and
 /// the engine drives for 10,000,000 turns at most. The report is of the core that the engine gives
-/// back. Where each word is to be looked at again, no word counts as verified; a typed start does.
+/// back, and so is the line. Where each word is to be looked at again, no word counts as verified; a
+/// typed start does.
 ///
 /// `ReadRecord`, `RecordInUse`, `Record` and `Connect` come with nothing reported and the record as it
 /// was, `WriteRecord` before the first key, and before the connection where the record is protected.
@@ -52,16 +52,43 @@ pub fn load<S: Surroundings, W: Write, O: Onlooker>(
     around: &mut S,
     out: &mut W,
     onlooker: &O,
-) -> Result<Outcome, LoadFault>
-    ensures reported { IfOk result (IsReported (S.record_text around.old) plan options (S.steps around.old) (S.steps around.new) (S.record_text around.new) (W.contents out.old) (W.contents out.new)) }
-    ensures fault { IfErr result (IsLoadFault plan options (S.steps around.old) (S.steps around.new) (S.record_text around.old) (S.record_text around.new) (W.contents out.old) (W.contents out.new)) }
+) -> Result<Outcome<S::Line>, LoadFault>
+    ensures reported { IfOk result (λ outcome. IsReported plan options
+        (setting S.steps S.record_text W.contents around.old out.old)
+        (setting S.steps S.record_text W.contents around.new out.new)
+        outcome.stop outcome.marked) }
+    ensures fault { IfErr result (IsLoadFault plan options
+        (setting S.steps S.record_text W.contents around.old out.old)
+        (setting S.steps S.record_text W.contents around.new out.new)) }
 {
     let (core, writable) = open(alloc, plan, options, around)?;
     let report = Vec::with_capacity(alloc, REPORT_ROOM)?;
-    let (core, stop) = live(alloc, core, writable, around, onlooker)?;
-    tell(report, &core, stop, out)?;
-    let marked = core.progress().going;
-    Ok(Outcome { stop, marked })
+    let lived = live(alloc, core, writable, around, onlooker)?;
+    tell(report, &lived.core, lived.stop, out)?;
+    Ok(lived.outcome())
+}
+
+// A life that is over, and the line that it had.
+#[derive(Drop)]
+struct Lived<L> {
+    core: HostCore,
+    stop: Stop,
+    line: Option<L>,
+}
+
+impl<L> Lived<L> {
+    fn outcome(self) -> Outcome<L>
+        ensures stop { result.stop ≡ self.stop }
+        ensures marked { result.marked ≡ self.core.going }
+        ensures line { result.line ≡ self.line }
+    {
+        let Lived { core, stop, line } = self;
+        Outcome {
+            stop,
+            marked: core.progress().going,
+            line,
+        }
+    }
 }
 
 // The life that begins with what the record says, and whether the record may be written.
@@ -72,8 +99,13 @@ fn open<S: Surroundings>(
     around: &mut S,
 ) -> Result<(HostCore, bool), LoadFault>
     ensures opened { IfOk result (λ opened. IsOpening (S.record_text around.old) plan options opened.0) }
-    ensures step { IfOk result (λ opened. Gains (S.steps around.old) (S.steps around.new) (reading opened.1 ∷ [])) }
-    ensures fault { IfErr result (IsOpeningFault (S.steps around.old) (S.steps around.new) (S.record_text around.old) plan) }
+    ensures step { IfOk result (λ opened. Asks
+        (around_of S.steps S.record_text around.old)
+        (around_of S.steps S.record_text around.new)
+        (reading opened.1 ∷ [])) }
+    ensures fault { IfErr result (IsOpeningFault plan
+        (around_of S.steps S.record_text around.old)
+        (around_of S.steps S.record_text around.new)) }
     ensures same { Keeps (S.record_text around.old) (S.record_text around.new) }
 {
     let record = around.read_record(alloc)?;
@@ -119,12 +151,20 @@ fn live<S: Surroundings, O: Onlooker>(
     writable: bool,
     around: &mut S,
     onlooker: &O,
-) -> Result<(HostCore, Stop), LoadFault>
-    ensures life { IfOk result (λ lived. IsLife writable core lived.0 lived.1 (S.steps around.old) (S.steps around.new) (S.record_text around.old) (S.record_text around.new)) }
-    ensures fault { IfErr result (IsDrivingFault writable (S.steps around.old) (S.steps around.new) (S.record_text around.old) (S.record_text around.new)) }
+) -> Result<Lived<S::Line>, LoadFault>
+    ensures life { IfOk result (λ lived. IsLife writable core lived.core lived.stop
+        (around_of S.steps S.record_text around.old)
+        (around_of S.steps S.record_text around.new)) }
+    ensures fault { IfErr result (IsDrivingFault writable
+        (around_of S.steps S.record_text around.old)
+        (around_of S.steps S.record_text around.new)) }
 {
     match core.end() {
-        Some(end) => Ok((core, Stop::Ended(end))),
+        Some(end) => Ok(Lived {
+            core,
+            stop: Stop::Ended(end),
+            line: None,
+        }),
         None if writable => drive_over(alloc, core, around, onlooker),
         None => Err(LoadFault::WriteRecord),
     }
@@ -136,11 +176,16 @@ fn drive_over<S: Surroundings, O: Onlooker>(
     core: HostCore,
     around: &mut S,
     onlooker: &O,
-) -> Result<(HostCore, Stop), LoadFault>
-    ensures driven { IfOk result (λ driven. IsDriven core driven.0 driven.1) }
-    ensures steps { OnOk result (Gains (S.steps around.old) (S.steps around.new) (Connect ∷ BeginRecord ∷ [])) }
+) -> Result<Lived<S::Line>, LoadFault>
+    ensures driven { IfOk result (λ lived. IsDriven core lived.core lived.stop) }
+    ensures steps { OnOk result (Asks
+        (around_of S.steps S.record_text around.old)
+        (around_of S.steps S.record_text around.new)
+        (Connect ∷ BeginRecord ∷ [])) }
     ensures begun { OnOk result (IsBegun (S.record_text around.new) core.plan core.verified) }
-    ensures fault { IfErr result (IsDrivingFault true (S.steps around.old) (S.steps around.new) (S.record_text around.old) (S.record_text around.new)) }
+    ensures fault { IfErr result (IsDrivingFault true
+        (around_of S.steps S.record_text around.old)
+        (around_of S.steps S.record_text around.new)) }
 {
     let line = around.connect()?;
     let verified = core.progress().verified;
@@ -154,16 +199,20 @@ fn drive_watched<L: Line + Drop, K: Keep + Drop, O: Onlooker>(
     line: L,
     keeper: K,
     onlooker: &O,
-) -> (HostCore, Stop)
-    ensures { IsDriven core result.0 result.1 }
+) -> Lived<L>
+    ensures { IsDriven core result.core result.stop }
 {
     let words = core.plan().words().len() as u32;
     onlooker.begins(core.progress().verified, words);
     let mut line = WatchedLine::new(line, onlooker);
     let mut keeper = WatchedKeeper::new(keeper, onlooker);
-    let driven = drive(core, &mut line, &mut keeper, TURNS);
+    let (core, stop) = drive(core, &mut line, &mut keeper, TURNS);
     onlooker.ends();
-    driven
+    Lived {
+        core,
+        stop,
+        line: Some(line.into_line()),
+    }
 }
 
 // Reports a life, in a text that has the room.

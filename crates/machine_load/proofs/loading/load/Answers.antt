@@ -1,6 +1,7 @@
-use Rattle.std.proofs.Common.{inl, inr}
+use Rattle.std.proofs.Common.{inl, inr, sym, subst}
 use Rattle.std.proofs.KnownBytes.{Keeps-refl}
 use Rattle.machine_load.specs.declared.fault.LoadFault.TheVariants.{Memory}
+use Rattle.machine_load.specs.Load.{around_of, setting, IsReported}
 use Rattle.machine_load.specs.LoadFault.{IsLoadFault}
 use Rattle.machine_load.proofs.Faults.{of_opening, of_driving, of_report, error_is, no_value}
 use Rattle.machine_load.proofs.loading.load.Goals as goal
@@ -11,10 +12,11 @@ returns-in_err-core-clause-reported g c = no_value c.from_residual.result _ _ c.
 pub returns-in_err-core-clause-fault : goal.returns-in_err-core-clause-fault
 returns-in_err-core-clause-fault g c =
     error_is c.from_residual.result c.in_err-core.field-0.0
-    (IsLoadFault c.args.plan c.args.options (g.S.Surroundings.steps c.args.around.now) (g.S.Surroundings.steps c.open.new.around)
-    (g.S.Surroundings.record_text c.args.around.now) (g.S.Surroundings.record_text c.open.new.around) (g.W.Write.contents c.args.out.now) (g.W.Write.contents c.args.out.now))
+    (IsLoadFault c.args.plan c.args.options
+    (setting g.S.Surroundings.steps g.S.Surroundings.record_text g.W.Write.contents c.args.around.now c.args.out.now)
+    (setting g.S.Surroundings.steps g.S.Surroundings.record_text g.W.Write.contents c.open.new.around c.args.out.now))
     c.from_residual.ensures.1
-    (of_opening _ _ _ _ _ _ _ c.in_err-core.field-0.0 c.in_err-core.ensures.fault c.open.ensures.same)
+    (of_opening _ _ _ _ _ c.in_err-core.field-0.0 c.in_err-core.ensures.fault c.open.ensures.same)
 
 pub returns-in_err-report-clause-reported : goal.returns-in_err-report-clause-reported
 returns-in_err-report-clause-reported g c = no_value c.from_residual-in_err-report.result _ _ c.from_residual-in_err-report.ensures.1
@@ -22,21 +24,23 @@ returns-in_err-report-clause-reported g c = no_value c.from_residual-in_err-repo
 pub returns-in_err-report-clause-fault : goal.returns-in_err-report-clause-fault
 returns-in_err-report-clause-fault g c =
     error_is c.from_residual-in_err-report.result Memory
-    (IsLoadFault c.args.plan c.args.options (g.S.Surroundings.steps c.args.around.now) (g.S.Surroundings.steps c.open.new.around)
-    (g.S.Surroundings.record_text c.args.around.now) (g.S.Surroundings.record_text c.open.new.around) (g.W.Write.contents c.args.out.now) (g.W.Write.contents c.args.out.now))
+    (IsLoadFault c.args.plan c.args.options
+    (setting g.S.Surroundings.steps g.S.Surroundings.record_text g.W.Write.contents c.args.around.now c.args.out.now)
+    (setting g.S.Surroundings.steps g.S.Surroundings.record_text g.W.Write.contents c.open.new.around c.args.out.now))
     c.from_residual-in_err-report.ensures.1
     (inr (inl (c.in_ok-core.writable, record { steps_are = c.in_ok-core.ensures.step; record_same = c.open.ensures.same; nothing_reported = Keeps-refl (g.W.Write.contents c.args.out.now) })))
 
-pub returns-in_err-core-2-clause-reported : goal.returns-in_err-core-2-clause-reported
-returns-in_err-core-2-clause-reported g c = no_value c.from_residual-in_err-core-2.result _ _ c.from_residual-in_err-core-2.ensures.1
+pub returns-in_err-lived-clause-reported : goal.returns-in_err-lived-clause-reported
+returns-in_err-lived-clause-reported g c = no_value c.from_residual-in_err-lived.result _ _ c.from_residual-in_err-lived.ensures.1
 
-pub returns-in_err-core-2-clause-fault : goal.returns-in_err-core-2-clause-fault
-returns-in_err-core-2-clause-fault g c =
-    error_is c.from_residual-in_err-core-2.result c.in_err-core-2.field-0.0
-    (IsLoadFault c.args.plan c.args.options (g.S.Surroundings.steps c.args.around.now) (g.S.Surroundings.steps c.live.new.around)
-    (g.S.Surroundings.record_text c.args.around.now) (g.S.Surroundings.record_text c.live.new.around) (g.W.Write.contents c.args.out.now) (g.W.Write.contents c.args.out.now))
-    c.from_residual-in_err-core-2.ensures.1
-    (of_driving _ _ _ _ _ _ _ _ _ _ c.in_err-core-2.field-0.0 c.in_ok-core.ensures.step c.open.ensures.same c.in_err-core-2.ensures.fault)
+pub returns-in_err-lived-clause-fault : goal.returns-in_err-lived-clause-fault
+returns-in_err-lived-clause-fault g c =
+    error_is c.from_residual-in_err-lived.result c.in_err-lived.field-0.0
+    (IsLoadFault c.args.plan c.args.options
+    (setting g.S.Surroundings.steps g.S.Surroundings.record_text g.W.Write.contents c.args.around.now c.args.out.now)
+    (setting g.S.Surroundings.steps g.S.Surroundings.record_text g.W.Write.contents c.live.new.around c.args.out.now))
+    c.from_residual-in_err-lived.ensures.1
+    (of_driving _ _ _ _ (around_of g.S.Surroundings.steps g.S.Surroundings.record_text c.open.new.around) _ _ c.in_err-lived.field-0.0 c.in_ok-core.ensures.step c.open.ensures.same c.in_err-lived.ensures.fault)
 
 pub returns-in_err-tell-clause-reported : goal.returns-in_err-tell-clause-reported
 returns-in_err-tell-clause-reported g c = no_value c.from_residual-in_err-tell.result _ _ c.from_residual-in_err-tell.ensures.1
@@ -44,36 +48,43 @@ returns-in_err-tell-clause-reported g c = no_value c.from_residual-in_err-tell.r
 pub returns-in_err-tell-clause-fault : goal.returns-in_err-tell-clause-fault
 returns-in_err-tell-clause-fault g c =
     error_is c.from_residual-in_err-tell.result c.in_err-tell.field-0.0
-    (IsLoadFault c.args.plan c.args.options (g.S.Surroundings.steps c.args.around.now) (g.S.Surroundings.steps c.live.new.around)
-    (g.S.Surroundings.record_text c.args.around.now) (g.S.Surroundings.record_text c.live.new.around) (g.W.Write.contents c.args.out.now) (g.W.Write.contents c.tell.new.out))
+    (IsLoadFault c.args.plan c.args.options
+    (setting g.S.Surroundings.steps g.S.Surroundings.record_text g.W.Write.contents c.args.around.now c.args.out.now)
+    (setting g.S.Surroundings.steps g.S.Surroundings.record_text g.W.Write.contents c.live.new.around c.tell.new.out))
     c.from_residual-in_err-tell.ensures.1
-    (of_report _ _ _ _ _ _ _ _ c.in_ok-core-2.core c.in_ok-core-2.stop c.in_err-tell.field-0.0 (record {
+    (of_report _ _
+    (setting g.S.Surroundings.steps g.S.Surroundings.record_text g.W.Write.contents c.args.around.now c.args.out.now)
+    (setting g.S.Surroundings.steps g.S.Surroundings.record_text g.W.Write.contents c.live.new.around c.tell.new.out)
+    c.in_ok-lived.lived.core c.in_ok-lived.lived.stop c.in_err-tell.field-0.0 (record {
       first = c.in_ok-core.core;
       writable = c.in_ok-core.writable;
-      steps_between = _;
-      record_between = _;
+      between = around_of g.S.Surroundings.steps g.S.Surroundings.record_text c.open.new.around;
       read_first = c.in_ok-core.ensures.step;
       record_read = c.open.ensures.same;
       opened = c.in_ok-core.ensures.opened;
-      life = c.in_ok-core-2.ensures.life;
+      life = c.in_ok-lived.ensures.life;
     }) c.in_err-tell.ensures.err)
 
 pub returns-clause-reported : goal.returns-clause-reported
-returns-clause-reported g c = record {
-  last = c.in_ok-core-2.core;
+returns-clause-reported g c =
+    subst (λ stop. IsReported c.args.plan c.args.options
+    (setting g.S.Surroundings.steps g.S.Surroundings.record_text g.W.Write.contents c.args.around.now c.args.out.now)
+    (setting g.S.Surroundings.steps g.S.Surroundings.record_text g.W.Write.contents c.live.new.around c.tell.new.out)
+    stop c.outcome.result.marked)
+    (sym c.outcome.ensures.stop) (record {
+  last = c.in_ok-lived.lived.core;
   load = record {
     first = c.in_ok-core.core;
     writable = c.in_ok-core.writable;
-    steps_between = _;
-    record_between = _;
+    between = around_of g.S.Surroundings.steps g.S.Surroundings.record_text c.open.new.around;
     read_first = c.in_ok-core.ensures.step;
     record_read = c.open.ensures.same;
     opened = c.in_ok-core.ensures.opened;
-    life = c.in_ok-core-2.ensures.life;
+    life = c.in_ok-lived.ensures.life;
   };
-  marked = c.progress-marked.ensures.going;
+  marked_is = c.outcome.ensures.marked;
   reported = c.in_ok-tell.ensures.ok;
-}
+})
 
 pub returns-clause-fault : goal.returns-clause-fault
 returns-clause-fault g c = tt

@@ -1,2 +1,4 @@
+mod Driving
 mod Faults
+mod Kept
 mod Steps

@@ -1,4 +1,5 @@
 mod Driving
 mod Faults
 mod Kept
+mod Lives
 mod Steps

@@ -3,3 +3,4 @@ pub mod LoadFault
 pub mod LoadReport
 pub mod Driving
 pub mod Step
+pub mod Lives

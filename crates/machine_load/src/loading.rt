@@ -1,5 +1,5 @@
 //! The load itself.
-ghost use Rattle.std.specs.Prelude.{◌≡◌, ◌≤◌, ◌⊎◌, true, length, [], ◌∷◌, None, Some, Ok, Err, IfOk, IfErr, IfSome, OnOk};
+ghost use Rattle.std.specs.Prelude.{◌≡◌, ◌≤◌, ◌⊎◌, true, length, [], ◌∷◌, None, Some, Ok, Err, IfOk, IfErr, IfSome, IsSome, OnOk};
 ghost use Rattle.std.specs.Io.KnownBytes.{Appends, Keeps};
 ghost use Rattle.host_core.specs.Bound.{character_bound};
 ghost use Rattle.host_core.specs.Core.{ended};
@@ -11,7 +11,7 @@ ghost use Rattle.load_engine.specs.Session.{KeepsMarkFirst, Session, TellsEnd};
 ghost use Rattle.host_core.specs.Opening.{refusal_of};
 ghost use Rattle.load_record.specs.Reading.{Says};
 ghost use Rattle.machine_load.specs.Driving.{ending_of, keeper_tells, line_told, IsDrivenAround, IsLoadDriven};
-ghost use Rattle.machine_load.specs.Load.{around_of, setting, Asks, IsLife, IsOpening, IsReported, words_taken};
+ghost use Rattle.machine_load.specs.Load.{around_of, setting, Asks, IsLife, IsNeverBegun, IsOpening, IsOverAtOnce, IsReported, words_taken};
 ghost use Rattle.machine_load.specs.LoadFault.{IsLoadFault, IsOpeningFault, IsDrivingFault, IsReportFault};
 ghost use Rattle.machine_load.specs.LoadReport.{load_report};
 ghost use Rattle.record_file.specs.OldRecord.{HoldsNoRecord};
@@ -45,7 +45,7 @@ const REPORT_ROOM: usize = 128;
 /// one whose start was typed before, is reported with no connection, and its record stays as it is.
 /// Else a connection is made, the record is written anew with the words that count as verified, and
 /// the engine drives for 10,000,000 turns at most. The report is of the core that the engine gives
-/// back, and so is the line. Where each word is to be looked at again, no word counts as verified; a
+/// back, and so is the line, without which only a life ends that was over before it began. Where each word is to be looked at again, no word counts as verified; a
 /// typed start does.
 ///
 /// `ReadRecord`, `RecordInUse`, `Record` and `Connect` come with nothing reported and the record as it
@@ -70,6 +70,7 @@ pub fn load<S: Surroundings, W: Write, O: Onlooker>(
         (around_of S.steps S.record_text around.old)
         (around_of S.steps S.record_text around.new)
         (ending_of outcome.stop outcome.marked (line_told S.Line.told S.Line.fault_count S.Line.last_fault line)))) }
+    ensures line { IfOk result (λ outcome. IsSome outcome.line ⊎ IsNeverBegun outcome.stop) }
     ensures fault { IfErr result (IsLoadFault plan options
         (setting S.steps S.record_text W.contents around.old out.old)
         (setting S.steps S.record_text W.contents around.new out.new)) }
@@ -173,6 +174,7 @@ fn live<S: Surroundings, O: Onlooker>(
         core lived.core lived.stop
         (line_told S.Line.told S.Line.fault_count S.Line.last_fault line)
         (S.record_text around.new))) }
+    ensures line { IfOk result (λ lived. IsSome lived.line ⊎ IsOverAtOnce core lived.core lived.stop) }
     ensures fault { IfErr result (IsDrivingFault writable
         (around_of S.steps S.record_text around.old)
         (around_of S.steps S.record_text around.new)) }

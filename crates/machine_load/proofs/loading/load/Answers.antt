@@ -4,6 +4,7 @@ use Rattle.machine_load.specs.declared.fault.LoadFault.TheVariants.{Memory}
 use Rattle.machine_load.specs.Driving.{keeper_tells, line_told}
 use Rattle.machine_load.specs.Load.{around_of, setting, IsReported}
 use Rattle.machine_load.specs.LoadFault.{IsLoadFault}
+use Rattle.machine_load.proofs.Begun.{line_or_never, never_begun}
 use Rattle.machine_load.proofs.Driving.{load_driven}
 use Rattle.machine_load.proofs.Faults.{of_opening, of_driving, of_report, error_is, no_value}
 use Rattle.machine_load.proofs.loading.load.Goals as goal
@@ -102,3 +103,7 @@ returns-clause-driven g c =
     (around_of g.S.Surroundings.steps g.S.Surroundings.record_text c.live.new.around)
     c.in_ok-core.core c.in_ok-lived.lived.core c.in_ok-lived.lived.stop c.in_ok-lived.lived.line
     c.in_ok-core.ensures.opened c.in_ok-lived.ensures.driven)
+
+pub returns-clause-line : goal.returns-clause-line
+returns-clause-line g c = rw (sym c.outcome.ensures.stop, sym c.outcome.ensures.line) at
+    (line_or_never c.in_ok-lived.lived.line (never_begun _ _ _ _ _ _ c.in_ok-core.ensures.opened) c.in_ok-lived.ensures.line)

@@ -29,12 +29,6 @@ SETTINGS = (
 )
 
 
-def setUpModule():
-    """What has no word for listening has no devices either."""
-    if "--listen" not in subprocess.run([PROGRAM, "load", "--help"], capture_output=True, text=True, check=False).stdout:
-        raise unittest.SkipTest("./ldaodt loads over no device yet")
-
-
 def all_at_once(trial, rows):
     """Tries all rows side by side."""
     with ThreadPoolExecutor(len(rows)) as pool:
@@ -196,7 +190,8 @@ class Refusals(Devices):
         device = self.device_at(Console())
         os.symlink(device.name, self.path("ttyUSB0"))
         given = self.ldaodt("load first.lda ttyUSB0")
-        self.assertIn(given.status, (2, 4))
+        self.is_so((given.status, given.out, "ttyUSB0" in given.err), (2, "", True))
+        self.was_typed(device, "")
         device.address = "./ttyUSB0"
         self.ends(self.load(device), 0, STARTED)
 

@@ -146,6 +146,62 @@ class Endings(Loads):
             self.is_so(peer.connections, 2)
 
 
+class Starts(Loads):
+    """A start in place of the tape's."""
+
+    def test_no_start(self):
+        """The record has no mark, and a later load without the option starts the program."""
+        peer = self.console_at(Console())
+        loaded = "sent 23 spent 0 verified 1 of 1\nend Loaded\n"
+        self.ends(self.recorded(peer, "first.lda --no-start"), 0, loaded)
+        self.holds({"a.record": VERIFIED})
+        self.was_typed(peer, "Z001000/011064\r001000/\r")
+        self.ends(self.recorded(peer, "first.lda --no-start"), 0, "sent 0 spent 0 verified 1 of 1\nend Loaded\n")
+        self.holds({"a.record": VERIFIED})
+        self.ends(self.recorded(peer), 0, "sent 8 spent 0 verified 1 of 1\nend Started\n")
+        self.holds({"a.record": MARKED})
+        self.was_typed(peer, "Z001000/011064\r001000/\rZ001000G", connections=2)
+
+    def test_no_start_of_a_record_with_a_mark(self):
+        """Such a record is none of a load that starts nothing, and stays."""
+        peer = self.console_at(Console())
+        self.put("a.record", MARKED.encode())
+        self.ends(self.recorded(peer, "first.lda --no-start"), 3, "", "ldaodt: record refused at line 3\n")
+        self.holds({"a.record": MARKED})
+        self.was_typed(peer, "", connections=0)
+
+    def test_another_start(self):
+        """Written with one digit or six, as the tape's it is typed with six."""
+        for start, typed in (("2", "000002"), ("001002", "001002"), ("157776", "157776")):
+            with self.subTest(start):
+                peer = self.console_at(Console())
+                self.ends(self.load(peer, f"first.lda --start {start}"), 0, STARTED)
+                self.was_typed(peer, f"Z001000/011064\r001000/\r{typed}G")
+                self.is_so(peer.machine.starts, [int(start, 8)])
+
+    def test_a_start_where_the_tape_has_none(self):
+        peer = self.console_at(Console())
+        self.ends(self.load(peer, "no-word.lda --start 1000"), 0, "sent 8 spent 0 verified 0 of 0\nend Started\n")
+        self.was_typed(peer, "Z001000G")
+
+    def test_starts_that_are_none(self):
+        peer = self.console_at(Console())
+        for words in ("--start 1001", "--start 8", "--start 0001000", "--start -2", "--start", "--start 1000 --no-start"):
+            with self.subTest(words):
+                given = self.load(peer, f"first.lda {words}")
+                self.is_so((given.status, given.out, given.err.startswith("error: ")), (2, "", True))
+        self.was_typed(peer, "", connections=0)
+
+    def test_a_dialogue_takes_them_too(self):
+        for words, behind in (
+            ("", ["001000G -> 001000G", "sent 30 lost 0 spent 0 verified 1 of 1", "end Started", "odt Running 001000"]),
+            ("--start 1002", ["001002G -> 001002G", "sent 30 lost 0 spent 0 verified 1 of 1", "end Started", "odt Running 001002"]),
+            ("--no-start", ["sent 23 lost 0 spent 0 verified 1 of 1", "end Loaded", "odt Prompt"]),
+        ):
+            given = self.ldaodt(f"dialogue first.lda {words}")
+            self.is_so((given.status, given.out.split("\n<CR> -> <CR><LF>@\n")[1].split("\n")[:-2]), (0, behind))
+
+
 class Words(Loads):
     """The words of a load."""
 

@@ -196,19 +196,24 @@ class Pasting(Case):
         os.symlink(PROGRAM, self.path("bin/ldaodt"))
 
     def pastes(self, block):
-        """Asserts that each command of a block ends well and says nothing of a fault."""
+        """Asserts that each command of a block ends well and says nothing of a fault. What is only looked at was
+        loaded before."""
         subprocess.run(["tools/machine", "./ttyUSB0"], cwd=self.room, check=True, stdout=subprocess.DEVNULL)
+        if "verify" in block and "load" not in block:
+            loaded = self.ldaodt("load first.lda ./ttyUSB0 --no-start --quiet 200")
+            self.is_so((loaded.status, loaded.err), (0, ""))
         text = block.replace("/dev/ttyUSB0", "./ttyUSB0").replace("--listen 10", "--listen 1")
         env = {**os.environ, "PATH": f"{self.room}/bin:{os.environ['PATH']}"}
         ran = subprocess.run(["bash", "-e"], input=text, text=True, cwd=self.room, env=env, capture_output=True, timeout=120)
         self.is_so((block, ran.returncode, ran.stderr), (block, 0, ""))
-        os.remove(self.path("ttyUSB0"))
-        for name in glob.glob(self.path("*.record")):
-            os.remove(name)
+        for name in ("ttyUSB0", "lsi11", "before.lda", "memory.lda", *glob.glob(self.path("*.record"))):
+            if os.path.lexists(self.path(name)):
+                os.remove(self.path(name))
 
     def test_the_blocks_of_the_pages(self):
-        blocks = re.findall(r"^```sh\n(.*?)^```$", text_at("README.md") + text_at("docs/REAL-MACHINE.md"), re.MULTILINE | re.DOTALL)
-        self.assertGreaterEqual(len(blocks), 1)
+        blocks = re.findall(r"^```sh\n(.*?)^```$", "".join(map(text_at, ("README.md", "docs/REAL-MACHINE.md", "examples/README.md"))),
+                            re.MULTILINE | re.DOTALL)
+        self.assertGreaterEqual(len(blocks), 4)
         for block in blocks:
             self.pastes(block)
 

@@ -1,5 +1,5 @@
 -- Loads by their lives.
-use Rattle.std.proofs.Common.{◌≡◌, ℕ, Bool, List, [], ◌∷◌, Option, Some, None, option_map, refl, subst, inl, inr}
+use Rattle.std.proofs.Common.{◌≡◌, Bool, [], ◌∷◌, Option, option_map, refl, subst, inl, inr}
 use Rattle.std.specs.Io.KnownBytes.{Appends}
 use Rattle.tape_image.specs.Plan.{PlanValue}
 use Rattle.host_core.specs.Core.{Core}

@@ -1,3 +1,4 @@
+mod Begun
 mod Driving
 mod Faults
 mod Kept

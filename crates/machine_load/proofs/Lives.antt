@@ -79,18 +79,18 @@ module _ (plan : PlanValue) (progress : Progress) (patience : ℕ) (told : Optio
   -- one that is over at once
   idle_life : IsIdleLife (begun plan progress.verified progress.going patience) between after finish → items ≡ [] → Lives plan finish.last items old new
   idle_life idle out = (
-      record { patience = patience; progress = progress; heard = []; items = []; unsent = None },
-      sym idle.idle.over.same,
-      sym out,
-      record {
-        patient = long;
-        goes_on = goes;
-        stopped = refl;
-        found = found;
-        reopens = reopens;
-        passes = subst (λ list. Passes found list new.wire) out passes;
-        left = record { cut = inl same; whole = λ has. absurd (none_sent has); alone = λ set. same };
-      },
+    record { patience = patience; progress = progress; heard = []; items = []; unsent = None },
+    sym idle.idle.over.same,
+    sym out,
+    record {
+      patient = long;
+      goes_on = goes;
+      stopped = refl;
+      found = found;
+      reopens = reopens;
+      passes = subst (λ list. Passes found list new.wire) out passes;
+      left = record { cut = inl same; whole = λ has. absurd (none_sent has); alone = λ set. same };
+    },
   )
     where
       same : new.text ≡ old.text

@@ -122,7 +122,8 @@ abbrev pub ending_of : Stop → Bool → Option LineTold → Ending
 ending_of stop marked line = record { stop = stop; marked = marked; line = line }
 
 -- a load that was reported: the report is of the core that the life came to which was over this line
-pub record IsLoadReported {K : Type 0} (tells : KeeperTells K) (plan : PlanValue) (options : LoadOptions) (before after : Setting) (ending : Ending) : Type 0 where
+pub record IsLoadReported {K : Type 0} (tells : KeeperTells K) (plan : PlanValue) (options : LoadOptions) (before after : Setting)
+    (ending : Ending) : Type 0 where
   pub last : Core
   pub lived : IsLoadLived tells plan options before.around after.around (finish_of last ending.stop ending.line)
   pub marked_is : ending.marked ≡ last.going

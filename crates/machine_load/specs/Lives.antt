@@ -1,5 +1,5 @@
 -- A load is a life: so what is promised of lives in a row is promised of loads in a row.
-use Rattle.std.specs.Prelude.{◌≡◌, ℕ, ◌^◌, ◌<◌, Bool, List, [], Option, Some, None}
+use Rattle.std.specs.Prelude.{◌≡◌, ◌^◌, ◌<◌, Bool, List, [], Some, None}
 use mathlib.Core.Logic.{inl, inr}
 use Rattle.tape_image.specs.Plan.{PlanValue, IsPlan}
 use Rattle.host_core.specs.Core.{Core}
@@ -23,7 +23,8 @@ of_file =
 
 -- what was said of a life in its dialogue with the console: nothing, where it was over at once; else what its line tells, or all of the
 -- dialogue, where the call that failed sent its key after all
-abbrev pub GoesOut : {writable : Bool} {first : Core} {before after : Around} {finish : Finish} → IsLived of_file writable first before after finish → List Item → Type 0
+abbrev pub GoesOut : {writable : Bool} {first : Core} {before after : Around} {finish : Finish} → IsLived of_file writable first before after finish
+    → List Item → Type 0
 GoesOut {writable} {first} {before} {after} {finish} (inl idle) items = items ≡ []
 GoesOut {writable} {first} {before} {after} {finish} (inr life) items =
     WentOutAt finish.stop (dialogue first life.driven.session.heard) life.driven.session.said items

@@ -3,6 +3,7 @@ use Rattle.std.specs.Prelude.{◌≡◌, ◌⊎◌, ℕ, Bool, true, false, ◌&
 use Rattle.std.specs.Io.KnownBytes.{Appends, Keeps}
 use Rattle.tape_image.specs.Plan.{PlanValue}
 use Rattle.host_core.specs.declared.phase.End.{End}
+use Rattle.host_core.specs.declared.phase.End.TheVariants.{Loaded, MaybeStarted}
 use Rattle.host_core.specs.declared.progress.Progress.{Progress}
 use Rattle.host_core.specs.Core.{Core, begun, ended}
 use Rattle.load_devices.specs.declared.item.Item.{Item}
@@ -83,6 +84,10 @@ pub record IsOverAtOnce (old new : Core) (stop : Stop) : Type 0 where
   pub over : ended old.phase ≡ Some end
   pub stop_is : stop ≡ Ended end
   pub same : new ≡ old
+
+-- so a life stops that is over before it has begun: nothing is left to load, or the start was typed before
+abbrev pub IsNeverBegun : Stop → Type 0
+IsNeverBegun stop = (stop ≡ Ended Loaded) ⊎ (stop ≡ Ended MaybeStarted)
 
 -- the life goes on, and the engine drives it
 pub record IsDrivenOn (old new : Core) (stop : Stop) : Type 0 where

@@ -1,5 +1,5 @@
 //! The load itself.
-ghost use Rattle.std.specs.Prelude.{◌≡◌, ◌≤◌, ◌⊎◌, true, length, [], ◌∷◌, None, Some, Ok, Err, IfOk, IfErr, OnOk, option_map};
+ghost use Rattle.std.specs.Prelude.{◌≡◌, ◌≤◌, ◌⊎◌, true, length, [], ◌∷◌, None, Some, Ok, Err, IfOk, IfErr, IsSome, OnOk, option_map};
 ghost use Rattle.std.specs.Io.KnownBytes.{Appends, Keeps};
 ghost use Rattle.host_core.specs.Bound.{character_bound};
 ghost use Rattle.host_core.specs.Core.{ended};
@@ -11,7 +11,7 @@ ghost use Rattle.load_engine.specs.Session.{KeepsMarkFirst, Session, TellsEnd};
 ghost use Rattle.host_core.specs.Opening.{refusal_of};
 ghost use Rattle.load_record.specs.Reading.{Says};
 ghost use Rattle.machine_load.specs.Driving.{ending_of, finish_of, keeper_tells, line_told, IsDrivenLife, IsLived, IsLoadReported, IsLoadUntold};
-ghost use Rattle.machine_load.specs.Load.{around_of, setting, Asks, IsOpening, IsReported, words_taken};
+ghost use Rattle.machine_load.specs.Load.{around_of, setting, Asks, IsNeverBegun, IsOpening, IsReported, words_taken};
 ghost use Rattle.machine_load.specs.LoadFault.{IsLoadFault, IsOpeningFault, IsDrivingFault, IsReportFault};
 ghost use Rattle.machine_load.specs.LoadReport.{load_report};
 ghost use Rattle.record_file.specs.OldRecord.{HoldsNoRecord};
@@ -45,8 +45,8 @@ const REPORT_ROOM: usize = 128;
 /// one whose start was typed before, is reported with no connection, and its record stays as it is.
 /// Else a connection is made, the record is written anew with the words that count as verified, and
 /// the engine drives for 10,000,000 turns at most. The report is of the core that the engine gives
-/// back, and so is the line. Where each word is to be looked at again, no word counts as verified; a
-/// typed start does.
+/// back, and so is the line, without which only a life ends that was over before it began. Where each
+/// word is to be looked at again, no word counts as verified; a typed start does.
 ///
 /// `ReadRecord`, `RecordInUse`, `Record` and `Connect` come with nothing reported and the record as it
 /// was, `WriteRecord` before the first key, and before the connection where the record is protected.
@@ -75,6 +75,7 @@ pub fn load<S: Surroundings, W: Write, O: Onlooker>(
         plan options
         (setting S.steps S.record_text W.contents around.old out.old)
         (setting S.steps S.record_text W.contents around.new out.new)) }
+    ensures line { IfOk result (λ outcome. IsSome outcome.line ⊎ IsNeverBegun outcome.stop) }
     ensures fault { IfErr result (IsLoadFault plan options
         (setting S.steps S.record_text W.contents around.old out.old)
         (setting S.steps S.record_text W.contents around.new out.new)) }

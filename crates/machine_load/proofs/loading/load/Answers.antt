@@ -4,6 +4,7 @@ use Rattle.machine_load.specs.declared.fault.LoadFault.TheVariants.{Memory}
 use Rattle.machine_load.specs.Driving.{finish_of, keeper_tells, line_told}
 use Rattle.machine_load.specs.Load.{around_of, setting, IsReported}
 use Rattle.machine_load.specs.LoadFault.{IsLoadFault}
+use Rattle.machine_load.proofs.Begun.{line_or_never, line_or_over, never_begun}
 use Rattle.machine_load.proofs.Driving.{is_life, load_reported, load_untold, undriven_told, unopened_told}
 use Rattle.machine_load.proofs.Faults.{of_opening, of_driving, of_report, error_is, no_value}
 use Rattle.machine_load.proofs.loading.load.Goals as goal
@@ -74,19 +75,19 @@ returns-clause-reported g c =
     (setting g.S.Surroundings.steps g.S.Surroundings.record_text g.W.Write.contents c.live.new.around c.tell.new.out)
     stop c.outcome.result.marked)
     (sym c.outcome.ensures.stop) (record {
-  last = c.in_ok-lived.lived.core;
-  load = record {
-    first = c.in_ok-core.core;
-    writable = c.in_ok-core.writable;
-    between = around_of g.S.Surroundings.steps g.S.Surroundings.record_text c.open.new.around;
-    read_first = c.in_ok-core.ensures.step;
-    record_read = c.open.ensures.same;
-    opened = c.in_ok-core.ensures.opened;
-    life = is_life _ _ _ _ _ (finish_of c.in_ok-lived.lived.core c.in_ok-lived.lived.stop _) c.in_ok-lived.ensures.lived;
-  };
-  marked_is = c.outcome.ensures.marked;
-  reported = c.in_ok-tell.ensures.ok;
-})
+      last = c.in_ok-lived.lived.core;
+      load = record {
+        first = c.in_ok-core.core;
+        writable = c.in_ok-core.writable;
+        between = around_of g.S.Surroundings.steps g.S.Surroundings.record_text c.open.new.around;
+        read_first = c.in_ok-core.ensures.step;
+        record_read = c.open.ensures.same;
+        opened = c.in_ok-core.ensures.opened;
+        life = is_life _ _ _ _ _ (finish_of c.in_ok-lived.lived.core c.in_ok-lived.lived.stop _) c.in_ok-lived.ensures.lived;
+      };
+      marked_is = c.outcome.ensures.marked;
+      reported = c.in_ok-tell.ensures.ok;
+    })
 
 pub returns-clause-fault : goal.returns-clause-fault
 returns-clause-fault g c = tt
@@ -137,3 +138,14 @@ returns-in_err-tell-clause-untold g c =
     (finish_of c.in_ok-lived.lived.core c.in_ok-lived.lived.stop (option_map (line_told g.S.Line.Line.told g.S.Line.Line.fault_count g.S.Line.Line.last_fault) c.in_ok-lived.lived.line))
     c.in_err-tell.field-0.0
     c.in_ok-core.ensures.step c.open.ensures.same c.in_ok-core.ensures.opened c.in_ok-lived.ensures.lived c.in_err-tell.ensures.err)
+
+pub returns-clause-line : goal.returns-clause-line
+returns-clause-line g c = rw (sym c.outcome.ensures.stop, sym c.outcome.ensures.line) at
+    (line_or_never c.in_ok-lived.lived.line (never_begun _ _ _ _ _ _ c.in_ok-core.ensures.opened)
+    (line_or_over
+    (keeper_tells g.S.Keeper.Keep.told g.S.Keeper.Keep.fault_count g.S.Keeper.Keep.last_fault g.S.Keeper.Keep.keeps g.S.Keeper.Keep.fails g.S.Surroundings.begins g.S.Surroundings.kept_text)
+    (line_told g.S.Line.Line.told g.S.Line.Line.fault_count g.S.Line.Line.last_fault)
+    c.in_ok-core.writable c.in_ok-core.core c.in_ok-lived.lived.core
+    (around_of g.S.Surroundings.steps g.S.Surroundings.record_text c.open.new.around)
+    (around_of g.S.Surroundings.steps g.S.Surroundings.record_text c.live.new.around)
+    c.in_ok-lived.lived.stop c.in_ok-lived.lived.line c.in_ok-lived.ensures.lived))

@@ -1,2 +1,0 @@
-use Rattle.std.proofs.Common.{inl, refl}
-use Rattle.machine_load.proofs.loading.live.Goals as goal

@@ -1,11 +1,17 @@
 //! Requests, attempted as the program does it.
 
 use crate::simulated_system::QUIET_MS;
-use endings::Status;
+use endings::{Status, Streams};
 use machine_load::LoadOptions;
+use record_file::Locks;
 use requests::{Load, Request, attempt};
+use serial_line::Devices;
 use std::alloc::{AllocError, Global};
 use std::io::Stderr;
+use std::mem;
+use std::net::Net;
+use std::time::Clock;
+use tape_image::Start;
 
 /// No terminal looks on.
 pub const NOBODY: Option<&Stderr> = None;
@@ -39,19 +45,24 @@ impl Ended {
     }
 }
 
-/// Does a request over the test's files, in place of what the one before it left.
-pub(crate) fn run(rt: &HostRuntime, request: Request<'_>, mut input: &[u8], ended: &mut Ended) {
-    ended.out.clear();
-    ended.err.clear();
-    ended.status = attempt(
-        rt,
-        rt.alloc(),
-        request,
-        &mut input,
-        &mut ended.out,
-        &mut ended.err,
-        NOBODY,
-    );
+/// Does a request over a system, in place of what the one before it left.
+pub(crate) fn run<F: Locks + Devices + Net + Clock>(
+    system: &F,
+    alloc: Global,
+    request: Request<'_>,
+    input: &[u8],
+    ended: &mut Ended,
+) {
+    let mut streams = Streams {
+        input,
+        out: mem::replace(&mut ended.out, Vec::new(alloc)),
+        err: mem::replace(&mut ended.err, Vec::new(alloc)),
+    };
+    streams.out.clear();
+    streams.err.clear();
+    ended.status = attempt(system, alloc, request, &mut streams, NOBODY);
+    ended.out = streams.out;
+    ended.err = streams.err;
 }
 
 /// A load that survives three mishaps.
@@ -69,9 +80,11 @@ pub(crate) fn load_of<'a>(
     Ok(Request::Load(
         Vec::from_slice(alloc, &[tape])?,
         Load {
-            address: "127.0.0.1:2323",
+            line: "127.0.0.1:2323",
             record,
             options: OPTIONS,
+            start: Start::OfTape,
+            listen: None,
             quiet_ms: QUIET_MS,
         },
     ))

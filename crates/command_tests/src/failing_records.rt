@@ -2,16 +2,16 @@
 //! written.
 
 use crate::failing_devices::{BrokenInput, BrokenOutput, NOWHERE};
-use crate::frail::{Frail, RECORD, VERIFIED, line, load_one_word};
+use crate::frail::{Frail, RECORD, Stopped, VERIFIED, line, load_one_word};
 use host_core::End;
 use load_devices::KeepFault;
 use load_engine::Stop;
-use machine_load::{LoadFault, Outcome};
+use machine_load::LoadFault;
 use std::alloc::Global;
 use std::cell::RefCell;
 
 /// How a load ends.
-type Ending = Result<Outcome, LoadFault>;
+type Ending = Result<Stopped, LoadFault>;
 
 /// Surroundings with this input and output, and a machine that holds this at 001000.
 fn frail_with<'a>(
@@ -68,19 +68,19 @@ fn the_record_that_is_read(rt: HostRuntime) {
 const UNBEGUN: Ending = Err(LoadFault::WriteRecord);
 
 /// A word could not be kept.
-const UNKEPT: Ending = Ok(Outcome {
+const UNKEPT: Ending = Ok(Stopped {
     stop: Stop::KeepFailed(KeepFault::Write),
     marked: false,
 });
 
 /// The mark could not be kept: the start is not typed.
-const UNMARKED: Ending = Ok(Outcome {
+const UNMARKED: Ending = Ok(Stopped {
     stop: Stop::KeepFailed(KeepFault::Write),
     marked: true,
 });
 
 /// The program was started.
-const STARTED: Ending = Ok(Outcome {
+const STARTED: Ending = Ok(Stopped {
     stop: Stop::Ended(End::Started),
     marked: true,
 });

@@ -4,7 +4,7 @@ use crate::attempts::{NOBODY, load_of};
 use crate::failing_devices::{BrokenInput, BrokenOutput, NOWHERE, UnflushedOutput};
 use crate::simulated_system::{AMPLE, Setting, System};
 use crate::tapes::ONE_WORD;
-use endings::Status;
+use endings::{Status, Streams};
 use odt_machine::{LARGEST_WORDS, PLAIN_STYLE};
 use requests::{Console, Request, attempt};
 use std::alloc::{AllocError, Global};
@@ -49,26 +49,27 @@ const OUTPUT_FAILED: &[u8] = b"ldaodt: cannot write output\n";
 fn is_told_alone<W: Write>(
     rt: &HostRuntime,
     (asked, reads): (Asked, u32),
-    input: &mut BrokenInput<'_>,
-    out: &mut W,
+    streams: &mut Streams<BrokenInput<'_>, W, Vec<u8>>,
     line: &[u8],
 ) -> bool {
     let Ok(request) = request_of(rt.alloc(), asked) else {
         return false;
     };
     let system = System::new(rt, Setting { reads, ..AMPLE });
-    let mut err = Vec::new(rt.alloc());
-    let status = attempt(&system, rt.alloc(), request, input, out, &mut err, NOBODY);
-    status == Status::DeviceFailed && err.as_slice() == line
+    let status = attempt(&system, rt.alloc(), request, streams, NOBODY);
+    status == Status::DeviceFailed && streams.err.as_slice() == line
 }
 
 /// Whether a request whose input fails before the byte at this place says so and reads no more, where this is
 /// printed by then.
 fn input_stops(rt: &HostRuntime, asked: Asked, bytes: &[u8], place: usize, printed: &[u8]) -> bool {
-    let mut input = BrokenInput::new(bytes, place);
-    let mut out = Vec::new(rt.alloc());
-    let is_told = is_told_alone(rt, (asked, AMPLE.reads), &mut input, &mut out, INPUT_FAILED);
-    is_told && input.failed_once() && out.as_slice() == printed
+    let mut streams = Streams {
+        input: BrokenInput::new(bytes, place),
+        out: Vec::new(rt.alloc()),
+        err: Vec::new(rt.alloc()),
+    };
+    let is_told = is_told_alone(rt, (asked, AMPLE.reads), &mut streams, INPUT_FAILED);
+    is_told && streams.input.failed_once() && streams.out.as_slice() == printed
 }
 
 #[test]
@@ -93,18 +94,33 @@ const PRINTING: [Row; 4] = [
     (Asked::Load, &[], 3),
 ];
 
+/// A request's streams, with this output.
+fn streams_with<W: Write>(
+    rt: &HostRuntime,
+    row: &Row,
+    out: W,
+) -> Streams<BrokenInput<'static>, W, Vec<u8>> {
+    Streams {
+        input: BrokenInput::new(row.1, NOWHERE),
+        out,
+        err: Vec::new(rt.alloc()),
+    }
+}
+
 /// Whether a request says that its output fails, and nothing else.
-fn output_stops<W: Write>(rt: &HostRuntime, row: &Row, out: &mut W) -> bool {
-    let (asked, bytes, reads) = *row;
-    let mut input = BrokenInput::new(bytes, NOWHERE);
-    is_told_alone(rt, (asked, reads), &mut input, out, OUTPUT_FAILED)
+fn output_stops<W: Write>(
+    rt: &HostRuntime,
+    row: &Row,
+    streams: &mut Streams<BrokenInput<'_>, W, Vec<u8>>,
+) -> bool {
+    is_told_alone(rt, (row.0, row.2), streams, OUTPUT_FAILED)
 }
 
 /// The same of an output that fails at its first write, and is not asked again.
 fn writing_stops(rt: &HostRuntime, row: &Row) -> bool {
-    let mut broken = BrokenOutput::new(Vec::new(rt.alloc()), 1);
-    let is_told = output_stops(rt, row, &mut broken);
-    is_told && broken.failed_once() && broken.written.is_empty()
+    let mut streams = streams_with(rt, row, BrokenOutput::new(Vec::new(rt.alloc()), 1));
+    let is_told = output_stops(rt, row, &mut streams);
+    is_told && streams.out.failed_once() && streams.out.written.is_empty()
 }
 
 #[test]
@@ -113,7 +129,7 @@ fn standard_output_fails(rt: HostRuntime) -> Result<(), Fail> {
     for (place, row) in PRINTING.iter().enumerate() {
         let stops = writing_stops(&rt, row);
         assert!(rt; stops, "row {place}");
-        let stops = output_stops(&rt, row, &mut UnflushedOutput);
+        let stops = output_stops(&rt, row, &mut streams_with(&rt, row, UnflushedOutput));
         assert!(rt; stops, "row {place}, at the flush");
     }
     Ok(fs::remove_file(&rt, TAPE)?)

@@ -1,7 +1,7 @@
 //! Lines of faults and texts that explain, help and refusals, over outputs that fail once.
 
 use crate::failing_devices::{BrokenOutput, UnflushedOutput};
-use endings::{Failure, Status, refuse, show, tell};
+use endings::{Failure, Status, Streams, refuse, show, tell};
 use std::alloc::Global;
 use std::io::Write;
 
@@ -11,17 +11,28 @@ const TEXT: &str = "Usage: ldaodt\n";
 /// What is said where it can't be shown.
 const CANNOT_WRITE: &[u8] = b"ldaodt: cannot write output\n";
 
+/// Streams with this output and this standard error, and nothing on standard input.
+fn streams_of<W: Write, E: Write>(out: W, err: E) -> Streams<&'static [u8], W, E> {
+    Streams {
+        input: &[],
+        out,
+        err,
+    }
+}
+
 /// Whether a text that can't be shown on an output is told on standard error.
-fn is_told<W: Write>(alloc: Global, out: &mut W) -> bool {
-    let mut err = Vec::new(alloc);
-    let status = show(alloc, TEXT, out, &mut err);
-    status == Status::DeviceFailed && err.as_slice() == CANNOT_WRITE
+fn is_told<W: Write>(alloc: Global, streams: &mut Streams<&[u8], W, Vec<u8>>) -> bool {
+    let status = show(alloc, TEXT, streams);
+    status == Status::DeviceFailed && streams.err.as_slice() == CANNOT_WRITE
 }
 
 /// Whether a text is told whose showing fails at the write of this number, where that is not asked again.
 fn showing_stops(alloc: Global, number: u32) -> bool {
-    let mut out = BrokenOutput::new(Vec::new(alloc), number);
-    is_told(alloc, &mut out) && out.failed_once() && TEXT.as_bytes().starts_with(&out.written)
+    let out = BrokenOutput::new(Vec::new(alloc), number);
+    let mut streams = streams_of(out, Vec::new(alloc));
+    is_told(alloc, &mut streams)
+        && streams.out.failed_once()
+        && TEXT.as_bytes().starts_with(&streams.out.written)
 }
 
 #[test]
@@ -29,7 +40,8 @@ fn a_text_that_can_not_be_shown_is_told(rt: HostRuntime) {
     for number in 1..3 {
         assert!(rt; showing_stops(rt.alloc(), number), "write {number}");
     }
-    assert!(rt; is_told(rt.alloc(), &mut UnflushedOutput));
+    let mut streams = streams_of(UnflushedOutput, Vec::new(rt.alloc()));
+    assert!(rt; is_told(rt.alloc(), &mut streams));
 }
 
 /// How a refusal ends whose telling fails at the write of this number: where that is not asked again.
@@ -41,9 +53,10 @@ fn refused(alloc: Global, number: u32) -> Option<Status> {
 
 /// The same of a text that can't be shown.
 fn shown(alloc: Global, number: u32) -> Option<Status> {
-    let mut err = BrokenOutput::new(Vec::new(alloc), number);
-    let status = show(alloc, TEXT, &mut UnflushedOutput, &mut err);
-    err.failed_once().then_some(status)
+    let err = BrokenOutput::new(Vec::new(alloc), number);
+    let mut streams = streams_of(UnflushedOutput, err);
+    let status = show(alloc, TEXT, &mut streams);
+    streams.err.failed_once().then_some(status)
 }
 
 #[test]

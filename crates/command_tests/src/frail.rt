@@ -5,6 +5,7 @@ use crate::tapes::plan_of_one_word;
 use byte_io::read_up_to;
 use honest_line::MemoryLine;
 use load_devices::LineFault;
+use load_engine::Stop;
 use load_progress::Unwatched;
 use load_record::{FileKeep, RECORD_LIMIT};
 use machine_load::{LoadFault, LoadOptions, Outcome, Surroundings, load};
@@ -93,6 +94,8 @@ impl<'a> Surroundings for Frail<'a> {
         keeper.begin(plan, verified)?;
         Ok(keeper)
     }
+
+    fn end_record(&mut self, _keeper: FileKeep<SharedOutput<'a>>) {}
 }
 
 /// A line to a machine that holds this at 001000, which fails at the call of this number and from there on,
@@ -103,17 +106,40 @@ pub(crate) fn line(alloc: Global, word: u16, fail_at: Option<u64>) -> Option<Mem
     MemoryLine::new(alloc, odt, Vec::new(alloc), 1000, fail_at).ok()
 }
 
-/// Loads the smallest tape, and answers how that ends, or None where there is no memory for the tape.
-pub(crate) fn load_one_word(
+/// How a load stopped that was reported, and whether the host had come to the start.
+#[derive(Clone, Copy, PartialEq, Eq)]
+pub struct Stopped {
+    pub stop: Stop,
+    pub marked: bool,
+}
+
+/// Loads the smallest tape, and answers what comes back, or None where there is no memory for the tape.
+pub(crate) fn live(
     alloc: Global,
     recheck: bool,
     around: &mut Frail<'_>,
     out: &mut Vec<u8>,
-) -> Option<Result<Outcome, LoadFault>> {
+) -> Option<Result<Outcome<MemoryLine>, LoadFault>> {
     let plan = plan_of_one_word(alloc)?;
     let options = LoadOptions {
         patience: 8,
         recheck,
     };
     Some(load(alloc, plan, options, around, out, &Unwatched))
+}
+
+/// The same, and answers how that ends.
+pub(crate) fn load_one_word(
+    alloc: Global,
+    recheck: bool,
+    around: &mut Frail<'_>,
+    out: &mut Vec<u8>,
+) -> Option<Result<Stopped, LoadFault>> {
+    Some(match live(alloc, recheck, around, out)? {
+        Ok(outcome) => Ok(Stopped {
+            stop: outcome.stop,
+            marked: outcome.marked,
+        }),
+        Err(fault) => Err(fault),
+    })
 }

@@ -1,11 +1,10 @@
 //! Loads whose record has room for so many bytes alone, and requests whose line fails after so many reads: what the
 //! record then holds.
 
-use crate::attempts::{Ended, NOBODY, load_of};
+use crate::attempts::{Ended, load_of, run};
 use crate::simulated_system::{AMPLE, Setting, System};
 use crate::tapes::ONE_WORD;
 use endings::Status;
-use requests::attempt;
 use std::alloc::AllocError;
 use std::os::unix::fs::symlink;
 use std::test::Fail;
@@ -46,9 +45,7 @@ const ROWS: [Row; 6] = [
 fn load(rt: &HostRuntime, setting: Setting, ended: &mut Ended) -> Result<(), AllocError> {
     let request = load_of(rt.alloc(), TAPE, Some(RECORD))?;
     let system = System::new(rt, setting);
-    let mut input: &[u8] = &[];
-    let (out, err) = (&mut ended.out, &mut ended.err);
-    ended.status = attempt(&system, rt.alloc(), request, &mut input, out, err, NOBODY);
+    run(&system, rt.alloc(), request, &[], ended);
     Ok(())
 }
 

@@ -35,6 +35,10 @@ mod full_disks;
 #[cfg(test)]
 mod limits;
 #[cfg(test)]
+mod loads_in_a_row;
+#[cfg(test)]
+mod machines;
+#[cfg(test)]
 mod old_records;
 #[cfg(test)]
 mod replacing;

@@ -9,6 +9,7 @@ use std::alloc::{AllocError, Global};
 use std::test::Fail;
 use std::{fs, io};
 use tape_check::check_to;
+use tape_image::Start;
 
 #[test]
 fn no_tape_has_no_word(rt: HostRuntime) {
@@ -31,7 +32,8 @@ const TOO_LARGE: Console = Console {
 
 /// A dialogue with it.
 fn dialogue(alloc: Global, tape: &str) -> Result<Request<'_>, AllocError> {
-    Ok(Request::Dialogue(Vec::from_slice(alloc, &[tape])?, TOO_LARGE))
+    let names = Vec::from_slice(alloc, &[tape])?;
+    Ok(Request::Dialogue(names, TOO_LARGE, Start::OfTape))
 }
 
 /// The line that says that a machine is too large.
@@ -51,7 +53,7 @@ fn is_refused(
     let Ok(mut ended) = Ended::with_room(rt.alloc()) else {
         return false;
     };
-    run(rt, request, input, &mut ended);
+    run(rt, rt.alloc(), request, input, &mut ended);
     ended.is(status, "", line)
 }
 

@@ -2,27 +2,27 @@
 //! are to be looked at again; and what it says of a line that fails before and behind the start.
 
 use crate::failing_devices::{BrokenInput, BrokenOutput, NOWHERE};
-use crate::frail::{Frail, RECORD, VERIFIED, line, load_one_word};
+use crate::frail::{Frail, RECORD, Stopped, VERIFIED, line, load_one_word};
 use crate::tapes::ONE_WORD;
 use host_core::End;
 use load_engine::Stop;
 use load_record::RecordError;
-use machine_load::{LoadFault, Outcome};
+use machine_load::LoadFault;
 use record_file::RecordFault;
 use std::alloc::Global;
 use std::cell::RefCell;
 
 /// How a load ends.
-type Ending = Result<Outcome, LoadFault>;
+type Ending = Result<Stopped, LoadFault>;
 
 /// The program was started.
-const STARTED: Ending = Ok(Outcome {
+const STARTED: Ending = Ok(Stopped {
     stop: Stop::Ended(End::Started),
     marked: true,
 });
 
 /// The start was typed in an earlier life.
-const MAYBE_STARTED: Ending = Ok(Outcome {
+const MAYBE_STARTED: Ending = Ok(Stopped {
     stop: Stop::Ended(End::MaybeStarted),
     marked: true,
 });

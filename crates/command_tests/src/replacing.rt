@@ -1,9 +1,8 @@
 //! What a load asks of the system for its record, in which order, and what comes of each step that fails.
 
-use crate::simulated_system::{AMPLE, Failing, Notes, QUIET_MS, Step, System};
+use crate::simulated_system::{AMPLE, Failing, Notes, Step, System};
 use crate::tapes::plan_of_one_word;
-use machine_load::{Address, Recorded, Surroundings};
-use record_file::RecordFault;
+use record_file::{RecordFault, RecordFile};
 use std::alloc::Global;
 use std::fs::File;
 use std::io::ErrorKind;
@@ -172,21 +171,15 @@ type Row = (
     Option<&'static str>,
 );
 
-/// Where the console would be.
-const ADDRESS: Address<'static> = Address {
-    name: "127.0.0.1:2323",
-    quiet_ms: QUIET_MS,
-};
-
 /// Reads a record, and begins it anew with the smallest tape's word; None where there is no memory for the tape.
 fn take<'x>(system: &'x System<'x>, alloc: Global, name: &'x str, task: Task) -> Option<Course> {
     let plan = plan_of_one_word(alloc)?;
-    let mut around = Recorded::new(system, ADDRESS, name);
-    Some(match around.read_record(alloc) {
+    let mut record = RecordFile::new(system, name);
+    Some(match record.read(alloc) {
         Err(fault) => Course::Unread(fault),
         Ok(old) if !old.writable => Course::Protected,
         Ok(_) if task == Task::LetGo => Course::LetGo,
-        Ok(_) => match around.begin_record(alloc, &plan, 1) {
+        Ok(_) => match record.begin(alloc, &plan, 1) {
             Ok(_) => Course::Begun,
             Err(fault) => Course::Unbegun(fault),
         },
@@ -1005,14 +998,14 @@ fn a_record_that_somebody_holds_is_in_use(rt: HostRuntime) {
 fn is_held_to_the_end(rt: &HostRuntime) -> Option<bool> {
     let plan = plan_of_one_word(rt.alloc())?;
     let system = System::new(rt, AMPLE);
-    let mut around = Recorded::new(&system, ADDRESS, RECORD);
+    let mut record = RecordFile::new(&system, RECORD);
     let old = File::options().read(true).open(rt, RECORD).ok()?;
-    around.read_record(rt.alloc()).ok()?;
+    record.read(rt.alloc()).ok()?;
     let held_first = old.try_lock().is_err();
-    let keeper = around.begin_record(rt.alloc(), &plan, 1).ok()?;
+    let keeper = record.begin(rt.alloc(), &plan, 1).ok()?;
     let held_then = held(rt, RECORD).is_none() && old.try_lock().is_err();
     drop(keeper);
-    drop(around);
+    drop(record);
     Some(held_first && held_then && held(rt, RECORD).is_some() && old.try_lock().is_ok())
 }
 

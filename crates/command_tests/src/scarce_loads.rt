@@ -1,10 +1,9 @@
 //! Want of memory while a load goes on: each growth is refused in turn, those behind the connection, too.
 
-use crate::attempts::{Ended, NOBODY, OUT_OF_MEMORY, load_of};
+use crate::attempts::{Ended, OUT_OF_MEMORY, load_of, run};
 use crate::simulated_system::{AMPLE, Setting, System};
 use crate::tapes::ONE_WORD;
 use endings::Status;
-use requests::attempt;
 use scarce_memory::{Famine, ROOMS};
 use std::alloc::{AllocError, Global};
 use std::fs;
@@ -69,11 +68,7 @@ fn load(
     ended: &mut Ended,
 ) -> Result<(), AllocError> {
     let request = load_of(alloc, TAPE, record)?;
-    ended.out.clear();
-    ended.err.clear();
-    let mut input: &[u8] = &[];
-    let (out, err) = (&mut ended.out, &mut ended.err);
-    ended.status = attempt(system, alloc, request, &mut input, out, err, NOBODY);
+    run(system, alloc, request, &[], ended);
     Ok(())
 }
 

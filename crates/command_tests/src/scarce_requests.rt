@@ -11,6 +11,7 @@ use scarce_memory::{Famine, ROOMS};
 use std::alloc::{AllocError, Global};
 use std::test::Fail;
 use std::{fs, io};
+use tape_image::Start;
 
 /// The files that the requests name.
 const FILES: [(&str, &[u8]); 6] = [
@@ -30,17 +31,21 @@ const OPTIONS: LoadOptions = LoadOptions {
 
 /// A load whose start was typed in an earlier life, so that nothing is connected to.
 const MARKED_LOAD: Load<'static> = Load {
-    address: "127.0.0.1:1",
+    line: "127.0.0.1:1",
     record: Some("scarce.record"),
     options: OPTIONS,
+    start: Start::OfTape,
+    listen: None,
     quiet_ms: 2000,
 };
 
 /// A load through a port where nobody listens.
 const VAIN_LOAD: Load<'static> = Load {
-    address: "127.0.0.1:1",
+    line: "127.0.0.1:1",
     record: None,
     options: OPTIONS,
+    start: Start::OfTape,
+    listen: None,
     quiet_ms: 2000,
 };
 
@@ -85,7 +90,7 @@ fn request_of(alloc: Global, asked: Asked) -> Result<Request<'static>, AllocErro
         Asked::CheckInput => Request::CheckInput,
         Asked::Check(tapes) => Request::Check(Vec::from_slice(alloc, tapes)?),
         Asked::Dialogue(tapes, console) => {
-            Request::Dialogue(Vec::from_slice(alloc, tapes)?, console)
+            Request::Dialogue(Vec::from_slice(alloc, tapes)?, console, Start::OfTape)
         }
         Asked::Rehearse(tape, script) => Request::Rehearse(tape, script, Vec::new(alloc)),
         Asked::Type(console) => Request::Type(console),
@@ -205,7 +210,7 @@ fn refusals_of(
     let Ok(request) = request_of(rt.alloc(), asked) else {
         return Some(0);
     };
-    run(rt, request, input, ended);
+    run(rt, rt.alloc(), request, input, ended);
     (ended.status == Status::NoMemory && is_orderly(ended, whole)).then_some(1)
 }
 
@@ -269,7 +274,7 @@ fn each_growth_is_refused_in_turn(rt: HostRuntime) -> Result<(), Fail> {
 /// Runs a request where there is no memory, and answers whether there was none.
 fn run_without_memory(rt: &HostRuntime, ended: &mut Ended) -> bool {
     let famine = Famine::begin(rt.alloc());
-    run(rt, Request::CheckInput, &ONE_WORD, ended);
+    run(rt, rt.alloc(), Request::CheckInput, &ONE_WORD, ended);
     famine.is_ok()
 }
 

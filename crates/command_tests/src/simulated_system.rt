@@ -1,6 +1,7 @@
 //! A system for tests: its files are real, but have room for so many bytes alone, and behind one
-//! address of its network answers a simulated console, which may close the line after a while. What is
-//! asked of its files can be noted, step by step, and steps can be made to fail.
+//! address of its network, and at one serial device, answers a simulated console, which may close the
+//! line after a while. What is asked of its files can be noted, step by step, and steps can be made to
+//! fail.
 
 mod notes;
 
@@ -9,11 +10,12 @@ use notes::{holding, note, note_opening, removing};
 pub use notes::{Failing, Notes, Step};
 use odt_machine::{LARGEST_WORDS, Odt, PLAIN_STYLE};
 use record_file::Locks;
+use serial_line::Devices;
 use std::alloc::{Allocator, Global};
 use std::cell::Cell;
 use std::fs::{File, Metadata, OpenFile, OpenOptions, TryLockError};
 use std::io;
-use std::io::{ErrorKind, Read, Seek, SeekFrom, Write};
+use std::io::{ErrorKind, IsTerminal, Read, Seek, SeekFrom, Write};
 use std::net::{Ipv4Addr, Net, OpenListener, OpenStream, SocketAddr};
 use std::os::fd::{AsRawFd, RawFd};
 use std::path::PathBuf;
@@ -33,6 +35,9 @@ pub struct Setting {
     /// Whether the console answers no key at all.
     pub deaf: bool,
 
+    /// What the program prints that a console starts.
+    pub greeting: &'static [u8],
+
     /// How many bytes each new file takes.
     pub room: usize,
 
@@ -46,12 +51,16 @@ pub const AMPLE: Setting = Setting {
     memory: &[],
     reads: 1_000_000,
     deaf: false,
+    greeting: &[],
     room: 1_000_000,
     tick: 0,
 };
 
 /// Where the console is: this port of 127.0.0.1.
 pub const PORT: u16 = 2323;
+
+/// The device at which the console is, too.
+pub const DEVICE: &str = "/dev/ttyUSB0";
 
 /// How long silence lasts there, in milliseconds. A console takes no other time limit.
 pub const QUIET_MS: u32 = 2000;
@@ -116,6 +125,7 @@ pub struct Console {
     answer: ArrayVec<u8, 64>,
     reads: u32,
     deaf: bool,
+    greeting: &'static [u8],
 }
 
 impl Console {
@@ -126,6 +136,7 @@ impl Console {
             answer: ArrayVec::new(),
             reads: setting.reads,
             deaf: setting.deaf,
+            greeting: setting.greeting,
         }
     }
 }
@@ -153,6 +164,9 @@ impl Write for Console {
             Some(key) => {
                 let answer = self.odt.take(*key);
                 let _ = self.answer.try_extend_from_slice(&answer);
+                if *key == b'G' {
+                    let _ = self.answer.try_extend_from_slice(self.greeting);
+                }
                 Ok(1)
             }
             None => Ok(0),
@@ -177,6 +191,29 @@ impl OpenStream for Console {
 impl AsRawFd for Console {
     fn as_raw_fd(&self) -> RawFd {
         -1
+    }
+}
+
+// A device that closes the line is hung up.
+impl IsTerminal for Console {
+    fn is_terminal(&self) -> bool {
+        self.reads > 0
+    }
+}
+
+impl Devices for System<'_> {
+    type Terminal = Console;
+
+    fn open_terminal(&self, path: &str) -> io::Result<Console> {
+        self.connections
+            .set(self.connections.get().saturating_add(1));
+        if self.setting.reads == 0 || path != DEVICE {
+            return Err(io::Error::from(ErrorKind::NotFound));
+        }
+        match self.machine.replace(None) {
+            Some(odt) => Ok(Console::over(odt, self.setting)),
+            None => Err(io::Error::from(ErrorKind::NotFound)),
+        }
     }
 }
 
@@ -230,6 +267,9 @@ impl Clock for System<'_> {
     fn since_1970(&self) -> io::Result<Duration> {
         self.monotonic()
     }
+
+    // A pause passes at once, and counts for what was asked.
+    fn sleep(&self, _duration: Duration) {}
 }
 
 /// A file that takes so many bytes and then is full.

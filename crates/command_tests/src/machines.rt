@@ -1,0 +1,280 @@
+//! Requests at a machine: loads with another start or none, listening behind them, looks and saves, through a port
+//! and at a device.
+
+use crate::attempts::{Ended, run};
+use crate::simulated_system::{AMPLE, DEVICE, QUIET_MS, Setting, System};
+use crate::tapes::ONE_WORD;
+use endings::Status;
+use machine_load::LoadOptions;
+use machine_look::AddressRange;
+use requests::{Load, Look, Request, Save};
+use std::alloc::{AllocError, Global};
+use std::fs;
+use std::test::Fail;
+use tape_image::Start;
+
+/// The tape, and the file of a save.
+const TAPE: &str = "machines.lda";
+
+const SAVED: &str = "machines-saved.lda";
+
+/// The port at which the console is.
+const PORT: &str = "127.0.0.1:2323";
+
+/// A load through the port.
+const LOAD: Load<'static> = Load {
+    line: PORT,
+    record: None,
+    options: LoadOptions {
+        patience: 0,
+        recheck: false,
+    },
+    start: Start::OfTape,
+    listen: None,
+    quiet_ms: QUIET_MS,
+};
+
+/// A look through it.
+const LOOK: Look<'static> = Look {
+    line: PORT,
+    patience: 0,
+    quiet_ms: QUIET_MS,
+};
+
+/// What is asked for.
+#[derive(Clone, Copy)]
+enum Asked {
+    Load(Load<'static>),
+    Verify(Look<'static>),
+    Save(Look<'static>),
+}
+
+/// The request, with the smallest tape, or for its word.
+fn request_of(alloc: Global, asked: Asked) -> Result<Request<'static>, AllocError> {
+    let names = Vec::from_slice(alloc, &[TAPE])?;
+    Ok(match asked {
+        Asked::Load(load) => Request::Load(names, load),
+        Asked::Verify(look) => Request::Verify(names, look),
+        Asked::Save(look) => match AddressRange::new(0o001000, 0o001000) {
+            Some(range) => Request::Save(
+                SAVED,
+                Save {
+                    range,
+                    start: 1,
+                    look,
+                },
+            ),
+            None => Request::CheckInput,
+        },
+    })
+}
+
+/// A machine of which the tape's word stands.
+const LOADED: Setting = Setting {
+    memory: &[(0o001000, 0o011064)],
+    ..AMPLE
+};
+
+/// A machine that has another word there.
+const OTHER: Setting = Setting {
+    memory: &[(0o001000, 0o011065)],
+    ..AMPLE
+};
+
+/// A machine without memory there.
+const SMALL: Setting = Setting {
+    words: 256,
+    ..AMPLE
+};
+
+/// A machine whose program greets.
+const GREETING: Setting = Setting {
+    greeting: b"HELLO\r\n",
+    ..AMPLE
+};
+
+/// What is asked for, of which machine, and how it ends, with how many connections.
+type Row = (Asked, Setting, Status, &'static str, &'static str, u32);
+
+/// Loads with each start, and what is heard behind them.
+static LOADS: [Row; 7] = [
+    (
+        Asked::Load(Load {
+            start: Start::Nowhere,
+            ..LOAD
+        }),
+        AMPLE,
+        Status::Done,
+        "sent 23 spent 0 verified 1 of 1\nend Loaded\n",
+        "",
+        1,
+    ),
+    (
+        Asked::Load(Load {
+            start: Start::At(0o002000),
+            listen: Some(1),
+            ..LOAD
+        }),
+        GREETING,
+        Status::Done,
+        "sent 30 spent 0 verified 1 of 1\nend Started\nHELLO\r\n",
+        "",
+        1,
+    ),
+    (
+        Asked::Load(Load {
+            line: DEVICE,
+            listen: Some(60),
+            ..LOAD
+        }),
+        GREETING,
+        Status::Done,
+        "sent 30 spent 0 verified 1 of 1\nend Started\nHELLO\r\n",
+        "",
+        1,
+    ),
+    (
+        Asked::Load(Load {
+            start: Start::Nowhere,
+            listen: Some(1),
+            ..LOAD
+        }),
+        GREETING,
+        Status::Done,
+        "sent 23 spent 0 verified 1 of 1\nend Loaded\n",
+        "",
+        1,
+    ),
+    (
+        Asked::Load(LOAD),
+        GREETING,
+        Status::Done,
+        "sent 30 spent 0 verified 1 of 1\nend Started\n",
+        "",
+        1,
+    ),
+    (
+        Asked::Load(Load {
+            line: "/dev/ttyUSB1",
+            ..LOAD
+        }),
+        AMPLE,
+        Status::DeviceFailed,
+        "",
+        "ldaodt: cannot connect to /dev/ttyUSB1\n",
+        1,
+    ),
+    (
+        Asked::Load(Load {
+            line: DEVICE,
+            ..LOAD
+        }),
+        Setting { reads: 12, ..AMPLE },
+        Status::DeviceFailed,
+        "sent 0 spent 0 verified 0 of 1\nend LineFailed\n",
+        "ldaodt: line failed\n",
+        1,
+    ),
+];
+
+/// Looks and saves.
+static LOOKS: [Row; 7] = [
+    (
+        Asked::Verify(LOOK),
+        LOADED,
+        Status::Done,
+        "sent 9 spent 0 looked 1 of 1 differ 0\nend Same\n",
+        "",
+        1,
+    ),
+    (
+        Asked::Verify(Look {
+            line: DEVICE,
+            ..LOOK
+        }),
+        OTHER,
+        Status::Differs,
+        "001000 177777 011064 differs 011065\nsent 9 spent 0 looked 1 of 1 differ 1\nend Differs\n",
+        "",
+        1,
+    ),
+    (
+        Asked::Verify(LOOK),
+        SMALL,
+        Status::NotLoaded,
+        "sent 8 spent 0 looked 0 of 1 differ 0\nend NoWord 001000\n",
+        "",
+        1,
+    ),
+    (
+        Asked::Verify(LOOK),
+        Setting { reads: 0, ..AMPLE },
+        Status::DeviceFailed,
+        "",
+        "ldaodt: cannot connect to 127.0.0.1:2323\n",
+        1,
+    ),
+    (
+        Asked::Save(LOOK),
+        SMALL,
+        Status::NotLoaded,
+        "sent 8 spent 0 read 0 of 1\nend NoWord 001000\n",
+        "",
+        1,
+    ),
+    (
+        Asked::Save(Look {
+            line: DEVICE,
+            ..LOOK
+        }),
+        LOADED,
+        Status::Done,
+        "sent 9 spent 0 read 1 of 1\nend Saved\n",
+        "",
+        1,
+    ),
+    (
+        Asked::Save(LOOK),
+        OTHER,
+        Status::DeviceFailed,
+        "",
+        "ldaodt: machines-saved.lda is there already\n",
+        0,
+    ),
+];
+
+/// Whether a request ends so.
+fn is_so(rt: &HostRuntime, row: &Row) -> bool {
+    let (asked, setting, status, out, err, connections) = *row;
+    let (Ok(request), Ok(mut ended)) = (request_of(rt.alloc(), asked), Ended::with_room(rt.alloc()))
+    else {
+        return false;
+    };
+    let system = System::new(rt, setting);
+    run(&system, rt.alloc(), request, &[], &mut ended);
+    ended.is(status, out, err) && system.connections.get() == connections
+}
+
+#[test]
+fn a_machine_is_loaded_and_heard(rt: HostRuntime) -> Result<(), Fail> {
+    fs::write(&rt, TAPE, ONE_WORD)?;
+    for (place, row) in LOADS.iter().enumerate() {
+        assert!(rt; is_so(&rt, row), "row {place}");
+    }
+    Ok(fs::remove_file(&rt, TAPE)?)
+}
+
+/// The tape of the word 011064 at 001000, and no start: a block, its sum, and the end.
+const ONE_WORD_SAVED: [u8; 16] = [1, 0, 8, 0, 0, 2, 0x34, 0x12, 0xaf, 1, 0, 6, 0, 1, 0, 0xf8];
+
+#[test]
+fn a_machine_is_looked_at_and_saved(rt: HostRuntime) -> Result<(), Fail> {
+    let _ = fs::remove_file(&rt, SAVED);
+    fs::write(&rt, TAPE, ONE_WORD)?;
+    for (place, row) in LOOKS.iter().enumerate() {
+        assert!(rt; is_so(&rt, row), "row {place}");
+    }
+    assert!(rt; fs::read(&rt, SAVED)?.as_slice() == ONE_WORD_SAVED.as_slice());
+    fs::remove_file(&rt, SAVED)?;
+    Ok(fs::remove_file(&rt, TAPE)?)
+}

@@ -38,11 +38,19 @@ class Words(Case):
             with self.subTest(shown):
                 self.ends(self.ldaodt(["check", "--", name]), 4, "", f"ldaodt: cannot read {shown}\n")
 
-    def test_so_does_an_address(self):
+    def test_so_does_a_line(self):
+        """The name of a host without a port, and that of a device in a folder that is not there."""
         self.put_tapes("first.lda")
-        for name, shown in SHOWN[:-1]:
+        for name, shown in SHOWN[1:-1]:
             with self.subTest(shown):
-                self.ends(self.ldaodt(["load", "first.lda", "--", name]), 4, "", f"ldaodt: cannot connect to {shown}\n")
+                self.ends(self.ldaodt(["load", "first.lda", "--", f"{name}:"]), 4, "", f"ldaodt: cannot connect to {shown}:\n")
+                self.ends(self.ldaodt(["load", "first.lda", f"no-such/{name}"]), 4, "", f"ldaodt: cannot connect to no-such/{shown}\n")
+
+    def test_what_is_no_line_is_refused_in_the_same_form(self):
+        for name, shown in SHOWN[1:-2]:
+            with self.subTest(shown):
+                given = self.ldaodt(["load", "first.lda", name])
+                self.is_so((given.status, given.out, given.err.split("\n")[0].split("'" + shown + "'")[0]), (2, "", "error: invalid value "))
 
     def test_so_does_a_record(self):
         """In a folder that is not there: it is seen before there is a connection."""
@@ -56,10 +64,26 @@ class Words(Case):
         self.is_so((peer.connections, peer.machine.typed), (0, ""))
 
     def test_odd_names_of_files_that_are_there(self):
-        for name in ("a b.lda", "two\nlines", "k\xe4se.lda", "--help", "-", "'"):
+        for name in ("a b.lda", "two\nlines", "k\xe4se.lda", "--help", "./-", "'"):
             with self.subTest(name):
                 self.put(name, bytes_of(FIRST))
                 self.ends(self.ldaodt(["check", "--", name]), 0, CHECKED)
+
+    def test_a_tape_that_is_standard_input(self):
+        """Where it is the only one; among others it is a file of that name."""
+        self.put_tapes("bad-sum.lda")
+        for words in (["check", "-"], ["check", "--", "-"]):
+            self.ends(self.ldaodt(words, bytes_of(FIRST)), 0, CHECKED)
+        self.ends(self.ldaodt(["check", "-"], b"A"), 3, "", "ldaodt: tape refused at 0: Stray\n")
+        self.ends(self.ldaodt(["check", "-"], before="<&-"), 4, "", "ldaodt: cannot read standard input\n")
+        given = self.ldaodt(["rehearse", "-", LOST_DIGIT], bytes_of(FIRST))
+        self.ends(given, 0, "sent 34 lost 1 spent 1 verified 1 of 1\nend Started\nodt Running 001000\n001000 011064 stands\n")
+        given = self.ldaodt(["dialogue", "-"], bytes_of(FIRST))
+        self.is_so((given.status, given.err, given.out.split("\n")[-4]), (0, "", "end Started"))
+        self.ends(self.ldaodt(["check", FIRST, "-"], bytes_of(FIRST)), 4, "", "ldaodt: cannot read -\n")
+        self.put("-", bytes_of(FIRST))
+        given = self.ldaodt(["check", FIRST, "-"], b"A")
+        self.ends(given, 0, "".join(CHECKED.splitlines(True)[:3]) * 2 + "words 1\n001000 177777 011064\n")
 
     def test_a_word_that_is_empty_is_a_word(self):
         self.ends(self.ldaodt(["check", ""]), 4, "", "ldaodt: cannot read ''\n")

@@ -3,6 +3,7 @@ use Rattle.std.specs.Prelude.{◌≡◌, ◌⊎◌, ℕ, Bool, true, false, ◌&
 use Rattle.std.specs.Io.KnownBytes.{Appends, Keeps}
 use Rattle.tape_image.specs.Plan.{PlanValue}
 use Rattle.host_core.specs.declared.phase.End.{End}
+use Rattle.host_core.specs.declared.phase.End.TheVariants.{Loaded, MaybeStarted}
 use Rattle.host_core.specs.declared.progress.Progress.{Progress}
 use Rattle.host_core.specs.Core.{Core, begun, ended}
 use Rattle.load_devices.specs.declared.item.Item.{Item}
@@ -17,7 +18,7 @@ use Rattle.load_record.specs.Reading.{Says}
 use Rattle.byte_io.specs.Output.{WritesAllBut}
 use Rattle.machine_load.specs.LoadReport.{load_report}
 use Rattle.record_file.specs.OldRecord.{HoldsNoRecord}
-use Rattle.machine_load.specs.Step.{Step, reading, Connect, BeginRecord}
+use Rattle.machine_load.specs.Step.{Step, reading, Connect, BeginRecord, EndRecord}
 use Rattle.machine_load.specs.declared.options.LoadOptions.{LoadOptions}
 
 -- what the surroundings of a load tell: what was asked of them, with what was answered, and what the record is
@@ -55,13 +56,17 @@ IsRecordText (Some told) text = text ≡ told
 abbrev pub words_taken : Bool → Progress → ℕ
 words_taken recheck said = if recheck && not said.going then 0 else said.verified
 
--- the life that begins with what the record says of the plan
-pub record IsOpening (record_told : Option (List ℕ)) (plan : PlanValue) (options : LoadOptions) (core : Core) : Type 0 where
+-- the record says this progress of the plan
+pub record IsOpened (record_told : Option (List ℕ)) (plan : PlanValue) (said : Progress) : Type 0 where
   pub text : List ℕ
   pub is_record : IsRecordText record_told text
   pub is_ours : HoldsNoRecord text → ⊥
-  pub said : Progress
   pub says : Says plan text (Ok said)
+
+-- the life that begins with what the record says of the plan
+pub record IsOpening (record_told : Option (List ℕ)) (plan : PlanValue) (options : LoadOptions) (core : Core) : Type 0 where
+  pub said : Progress
+  pub opened : IsOpened record_told plan said
   pub core_is : core ≡ begun plan (words_taken options.recheck said) said.going options.patience
 
 -- an engine that had 10,000,000 turns led the one core to the other, and stopped so
@@ -80,6 +85,10 @@ pub record IsOverAtOnce (old new : Core) (stop : Stop) : Type 0 where
   pub stop_is : stop ≡ Ended end
   pub same : new ≡ old
 
+-- so a life stops that is over before it has begun: nothing is left to load, or the start was typed before
+abbrev pub IsNeverBegun : Stop → Type 0
+IsNeverBegun stop = (stop ≡ Ended Loaded) ⊎ (stop ≡ Ended MaybeStarted)
+
 -- the life goes on, and the engine drives it
 pub record IsDrivenOn (old new : Core) (stop : Stop) : Type 0 where
   pub goes_on : ended old.phase ≡ None
@@ -96,13 +105,12 @@ pub record IsIdle (old new : Core) (stop : Stop) (before after : Around) : Type 
   pub nothing_asked : Asks before after []
   pub record_same : KeepsRecord before after
 
--- the life goes on, over a record that may be written: a connection is made, then the record is begun anew, with the words that are
--- verified already
+-- the life goes on, over a record that may be written: a connection is made, then the record is begun anew, and in the end its keeper
+-- is given back
 pub record IsBusy (writable : Bool) (old new : Core) (stop : Stop) (before after : Around) : Type 0 where
   pub may_write : writable ≡ true
   pub driven : IsDrivenOn old new stop
-  pub asked : Asks before after (Connect ∷ BeginRecord ∷ [])
-  pub begun : IsBegun after.record_text old.plan old.verified
+  pub asked : Asks before after (Connect ∷ BeginRecord ∷ EndRecord ∷ [])
 
 -- a life, once it has opened
 abbrev pub IsLife : Bool → Core → Core → Stop → Around → Around → Type 0

@@ -23,6 +23,8 @@ impl<C: Reach, R: Records> Surroundings for Around<C, R> {
 
     type Keeper = R::Keeper;
 
+    ghost begins = { λ keeper plan count. R.begins keeper plan count };
+
     fn read_record(&mut self, alloc: Global) -> Result<OldRecord, RecordFault> {
         self.records.read(alloc)
     }
@@ -39,4 +41,7 @@ impl<C: Reach, R: Records> Surroundings for Around<C, R> {
     ) -> Result<R::Keeper, RecordFault> {
         self.records.begin(alloc, plan, verified)
     }
+
+    // Its file is closed with the keeper, and held on by the records.
+    fn end_record(&mut self, _keeper: R::Keeper) {}
 }

@@ -11,6 +11,7 @@
 
 mod around;
 mod fault;
+mod law;
 mod loading;
 mod options;
 mod outcome;
@@ -20,6 +21,7 @@ mod surroundings;
 
 pub use around::Around;
 pub use fault::LoadFault;
+pub use law::loads_are_lives;
 pub use loading::load;
 pub use options::LoadOptions;
 pub use outcome::Outcome;

@@ -1,14 +1,21 @@
 //! The load itself.
-ghost use Rattle.std.specs.Prelude.{◌≡◌, ◌⊎◌, true, [], ◌∷◌, None, Ok, Err, IfOk, IfErr, OnOk};
+ghost use Rattle.std.specs.Prelude.{◌≡◌, ◌≤◌, ◌⊎◌, true, length, [], ◌∷◌, None, Some, Ok, Err, IfOk, IfErr, IfSome, IsSome, OnOk};
 ghost use Rattle.std.specs.Io.KnownBytes.{Appends, Keeps};
+ghost use Rattle.host_core.specs.Bound.{character_bound};
 ghost use Rattle.host_core.specs.Core.{ended};
+ghost use Rattle.load_devices.specs.Dialogue.{news_between};
+ghost use Rattle.load_engine.specs.Belief.{IsBelievableOver, TellsStartOver};
+ghost use Rattle.load_engine.specs.Failing.{Counts, NamesFault};
+ghost use Rattle.load_engine.specs.Keeping.{KeptBy};
+ghost use Rattle.load_engine.specs.Session.{KeepsMarkFirst, Session, TellsEnd};
 ghost use Rattle.host_core.specs.Opening.{refusal_of};
 ghost use Rattle.load_record.specs.Reading.{Says};
-ghost use Rattle.machine_load.specs.Load.{around_of, setting, Asks, IsBegun, IsDriven, IsLife, IsOpening, IsReported, words_taken};
+ghost use Rattle.machine_load.specs.Driving.{ending_of, keeper_tells, line_told, IsDrivenAround, IsLoadDriven};
+ghost use Rattle.machine_load.specs.Load.{around_of, setting, Asks, IsLife, IsNeverBegun, IsOpening, IsOverAtOnce, IsReported, words_taken};
 ghost use Rattle.machine_load.specs.LoadFault.{IsLoadFault, IsOpeningFault, IsDrivingFault, IsReportFault};
 ghost use Rattle.machine_load.specs.LoadReport.{load_report};
 ghost use Rattle.record_file.specs.OldRecord.{HoldsNoRecord};
-ghost use Rattle.machine_load.specs.Step.{reading, Connect, BeginRecord};
+ghost use Rattle.machine_load.specs.Step.{reading, Connect, BeginRecord, EndRecord};
 
 use crate::fault::LoadFault;
 use crate::options::LoadOptions;
@@ -38,7 +45,7 @@ const REPORT_ROOM: usize = 128;
 /// one whose start was typed before, is reported with no connection, and its record stays as it is.
 /// Else a connection is made, the record is written anew with the words that count as verified, and
 /// the engine drives for 10,000,000 turns at most. The report is of the core that the engine gives
-/// back, and so is the line. Where each word is to be looked at again, no word counts as verified; a
+/// back, and so is the line, without which only a life ends that was over before it began. Where each word is to be looked at again, no word counts as verified; a
 /// typed start does.
 ///
 /// `ReadRecord`, `RecordInUse`, `Record` and `Connect` come with nothing reported and the record as it
@@ -57,6 +64,13 @@ pub fn load<S: Surroundings, W: Write, O: Onlooker>(
         (setting S.steps S.record_text W.contents around.old out.old)
         (setting S.steps S.record_text W.contents around.new out.new)
         outcome.stop outcome.marked) }
+    ensures driven { IfOk result (λ outcome. IfSome outcome.line (λ line. IsLoadDriven
+        (keeper_tells S.Keeper.told S.Keeper.fault_count S.Keeper.last_fault S.Keeper.keeps S.Keeper.fails S.begins S.kept_text)
+        plan options
+        (around_of S.steps S.record_text around.old)
+        (around_of S.steps S.record_text around.new)
+        (ending_of outcome.stop outcome.marked (line_told S.Line.told S.Line.fault_count S.Line.last_fault line)))) }
+    ensures line { IfOk result (λ outcome. IsSome outcome.line ⊎ IsNeverBegun outcome.stop) }
     ensures fault { IfErr result (IsLoadFault plan options
         (setting S.steps S.record_text W.contents around.old out.old)
         (setting S.steps S.record_text W.contents around.new out.new)) }
@@ -155,6 +169,12 @@ fn live<S: Surroundings, O: Onlooker>(
     ensures life { IfOk result (λ lived. IsLife writable core lived.core lived.stop
         (around_of S.steps S.record_text around.old)
         (around_of S.steps S.record_text around.new)) }
+    ensures driven { IfOk result (λ lived. IfSome lived.line (λ line. IsDrivenAround
+        (keeper_tells S.Keeper.told S.Keeper.fault_count S.Keeper.last_fault S.Keeper.keeps S.Keeper.fails S.begins S.kept_text)
+        core lived.core lived.stop
+        (line_told S.Line.told S.Line.fault_count S.Line.last_fault line)
+        (S.record_text around.new))) }
+    ensures line { IfOk result (λ lived. IsSome lived.line ⊎ IsOverAtOnce core lived.core lived.stop) }
     ensures fault { IfErr result (IsDrivingFault writable
         (around_of S.steps S.record_text around.old)
         (around_of S.steps S.record_text around.new)) }
@@ -165,9 +185,23 @@ fn live<S: Surroundings, O: Onlooker>(
             stop: Stop::Ended(end),
             line: None,
         }),
-        None if writable => drive_over(alloc, core, around, onlooker),
+        None if writable => {
+            let Driven { core, stop, line } = drive_over(alloc, core, around, onlooker)?;
+            Ok(Lived {
+                core,
+                stop,
+                line: Some(line),
+            })
+        }
         None => Err(LoadFault::WriteRecord),
     }
+}
+
+// A life that the engine drove, and its line.
+struct Driven<L> {
+    core: HostCore,
+    stop: Stop,
+    line: L,
 }
 
 // A life that goes on, over a new connection.
@@ -176,13 +210,17 @@ fn drive_over<S: Surroundings, O: Onlooker>(
     core: HostCore,
     around: &mut S,
     onlooker: &O,
-) -> Result<Lived<S::Line>, LoadFault>
-    ensures driven { IfOk result (λ lived. IsDriven core lived.core lived.stop) }
+) -> Result<Driven<S::Line>, LoadFault>
+    requires goes_on { ended core.phase ≡ None }
+    ensures driven { IfOk result (λ driven. IsDrivenAround
+        (keeper_tells S.Keeper.told S.Keeper.fault_count S.Keeper.last_fault S.Keeper.keeps S.Keeper.fails S.begins S.kept_text)
+        core driven.core driven.stop
+        (line_told S.Line.told S.Line.fault_count S.Line.last_fault driven.line)
+        (S.record_text around.new)) }
     ensures steps { OnOk result (Asks
         (around_of S.steps S.record_text around.old)
         (around_of S.steps S.record_text around.new)
-        (Connect ∷ BeginRecord ∷ [])) }
-    ensures begun { OnOk result (IsBegun (S.record_text around.new) core.plan core.verified) }
+        (Connect ∷ BeginRecord ∷ EndRecord ∷ [])) }
     ensures fault { IfErr result (IsDrivingFault true
         (around_of S.steps S.record_text around.old)
         (around_of S.steps S.record_text around.new)) }
@@ -190,17 +228,29 @@ fn drive_over<S: Surroundings, O: Onlooker>(
     let line = around.connect()?;
     let verified = core.progress().verified;
     let keeper = around.begin_record(alloc, core.plan(), verified)?;
-    Ok(drive_watched(core, line, keeper, onlooker))
+    let (driven, keeper) = drive_watched(core, line, keeper, onlooker);
+    around.end_record(keeper);
+    Ok(driven)
 }
 
-// Drives a life that an onlooker is told of.
+// Drives a life that an onlooker is told of. Line and keeper come back.
 fn drive_watched<L: Line + Drop, K: Keep + Drop, O: Onlooker>(
     core: HostCore,
     line: L,
     keeper: K,
     onlooker: &O,
-) -> Lived<L>
-    ensures { IsDriven core result.core result.stop }
+) -> (Driven<L>, K)
+    ensures turns { Session 10000000 (Some result.0.stop) core result.0.core
+        (L.told line) (L.told result.0.line) (K.told keeper) (K.told result.1) }
+    ensures end { TellsEnd result.0.stop result.0.core }
+    ensures counted { Counts (Some result.0.stop)
+        (L.fault_count line) (L.fault_count result.0.line) (K.fault_count keeper) (K.fault_count result.1) }
+    ensures fault { NamesFault (Some result.0.stop) (L.last_fault result.0.line) (K.last_fault result.1) }
+    ensures kept_by { KeptBy K.keeps K.fails (Some result.0.stop) keeper (news_between core result.0.core) result.1 }
+    ensures mark_first { KeepsMarkFirst (L.told line) (L.told result.0.line) (K.told keeper) (K.told result.1) }
+    ensures honest { IsBelievableOver result.0.stop core result.0.core (L.told line) (L.told result.0.line) }
+    ensures start { TellsStartOver core result.0.core (L.told line) (L.told result.0.line) }
+    ensures bound { result.0.core.sent ≤ character_bound (length result.0.core.plan.words) result.0.core.patience }
 {
     let words = core.plan().words().len() as u32;
     onlooker.begins(core.progress().verified, words);
@@ -208,11 +258,8 @@ fn drive_watched<L: Line + Drop, K: Keep + Drop, O: Onlooker>(
     let mut keeper = WatchedKeeper::new(keeper, onlooker);
     let (core, stop) = drive(core, &mut line, &mut keeper, TURNS);
     onlooker.ends();
-    Lived {
-        core,
-        stop,
-        line: Some(line.into_line()),
-    }
+    let line = line.into_line();
+    (Driven { core, stop, line }, keeper.into_keeper())
 }
 
 // Reports a life, in a text that has the room.

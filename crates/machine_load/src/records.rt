@@ -1,6 +1,8 @@
 //! Where the record of a load is: in a file, or in memory alone.
-ghost use Rattle.std.specs.Prelude.{IfErr};
+ghost use Rattle.std.specs.Prelude.{ℕ, IfErr, IfOk, ⊤};
+ghost use Rattle.record_file.specs.DiskRecord.{HasBegun};
 ghost use Rattle.record_file.specs.RecordFault.{IsUnbegun, IsUnread};
+ghost use Rattle.tape_image.specs.Plan.{PlanValue};
 
 use load_devices::{Keep, MemoryKeep};
 use record_file::{DiskRecord, Locks, OldRecord, RecordFault, RecordFile};
@@ -11,6 +13,9 @@ use tape_image::Plan;
 pub trait Records {
     /// Who keeps the progress of the life that begins.
     type Keeper: Keep + Drop;
+
+    /// What a keeper is that was begun with so many words of a plan, where the type says it.
+    ghost begins: { Self.Keeper → PlanValue → ℕ → Type 0 } = { λ _ _ _. ⊤ };
 
     /// The record of earlier lives, which from there on is held. It is changed in nothing.
     fn read(&mut self, alloc: Global) -> Result<OldRecord, RecordFault>
@@ -23,11 +28,14 @@ pub trait Records {
         plan: &Plan,
         verified: u32,
     ) -> Result<Self::Keeper, RecordFault>
+        ensures keeper { IfOk result (λ keeper. begins keeper plan.now verified) }
         ensures fault { IfErr result IsUnbegun };
 }
 
 impl<F: Locks> Records for RecordFile<'_, F> {
     type Keeper = DiskRecord<F::File>;
+
+    ghost begins = { λ keeper plan count. HasBegun plan count keeper };
 
     fn read(&mut self, alloc: Global) -> Result<OldRecord, RecordFault> {
         RecordFile::read(self, alloc)

@@ -1,8 +1,11 @@
 use Rattle.std.proofs.Common.{inl, inr, sym, subst}
 use Rattle.std.proofs.KnownBytes.{Keeps-refl}
 use Rattle.machine_load.specs.declared.fault.LoadFault.TheVariants.{Memory}
+use Rattle.machine_load.specs.Driving.{keeper_tells, line_told}
 use Rattle.machine_load.specs.Load.{around_of, setting, IsReported}
 use Rattle.machine_load.specs.LoadFault.{IsLoadFault}
+use Rattle.machine_load.proofs.Begun.{line_or_never, never_begun}
+use Rattle.machine_load.proofs.Driving.{load_driven}
 use Rattle.machine_load.proofs.Faults.{of_opening, of_driving, of_report, error_is, no_value}
 use Rattle.machine_load.proofs.loading.load.Goals as goal
 
@@ -88,3 +91,19 @@ returns-clause-reported g c =
 
 pub returns-clause-fault : goal.returns-clause-fault
 returns-clause-fault g c = tt
+
+pub returns-clause-driven : goal.returns-clause-driven
+returns-clause-driven g c =
+    rw (sym c.outcome.ensures.stop, sym c.outcome.ensures.marked, sym c.outcome.ensures.line) at
+    (load_driven
+    (keeper_tells g.S.Keeper.Keep.told g.S.Keeper.Keep.fault_count g.S.Keeper.Keep.last_fault g.S.Keeper.Keep.keeps g.S.Keeper.Keep.fails g.S.Surroundings.begins g.S.Surroundings.kept_text)
+    (line_told g.S.Line.Line.told g.S.Line.Line.fault_count g.S.Line.Line.last_fault)
+    c.args.plan c.args.options
+    (around_of g.S.Surroundings.steps g.S.Surroundings.record_text c.args.around.now)
+    (around_of g.S.Surroundings.steps g.S.Surroundings.record_text c.live.new.around)
+    c.in_ok-core.core c.in_ok-lived.lived.core c.in_ok-lived.lived.stop c.in_ok-lived.lived.line
+    c.in_ok-core.ensures.opened c.in_ok-lived.ensures.driven)
+
+pub returns-clause-line : goal.returns-clause-line
+returns-clause-line g c = rw (sym c.outcome.ensures.stop, sym c.outcome.ensures.line) at
+    (line_or_never c.in_ok-lived.lived.line (never_begun _ _ _ _ _ _ c.in_ok-core.ensures.opened) c.in_ok-lived.ensures.line)

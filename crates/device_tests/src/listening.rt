@@ -5,9 +5,11 @@ use crate::streams::{Faulty, Notes, Spoken};
 use crate::terminals::{Bench, PATH, Pace, Turn};
 use console_reach::{Reach, Wire, is_path, listen, silences_within};
 use load_devices::{Line, LineFault};
+use serial_line::Devices;
 use std::alloc::Global;
 use std::cell::Cell;
 use std::io::ErrorKind;
+use std::time::Clock;
 use stream_line::StreamLine;
 
 /// Nothing has come.
@@ -104,8 +106,21 @@ const LISTENINGS: [Listening; 8] = [
 fn is_copied(alloc: Global, row: &Listening) -> bool {
     let bench = Bench::new(row.reads, &[], Pace::Late(0));
     let system = &bench;
+    is_heard_out(alloc, &system, row.silences, row.copied, row.is_over)
+        && bench.read.get() == row.looks
+        && bench.written.get() == 0
+}
+
+/// Whether this is copied of a system's device, with each character flushed, and the line is then over or not.
+fn is_heard_out<D: Devices + Clock>(
+    alloc: Global,
+    system: &D,
+    silences: u32,
+    copied: &[u8],
+    is_over: bool,
+) -> bool {
     let mut wire = Wire {
-        system: &system,
+        system,
         path: PATH,
         quiet_ms: 1,
     };
@@ -113,14 +128,12 @@ fn is_copied(alloc: Global, row: &Listening) -> bool {
         return false;
     };
     let mut out = Brittle::new(alloc, 8, 0);
-    let listened = listen(&mut line, &mut out, row.silences);
+    let listened = listen(&mut line, &mut out, silences);
     listened.is_ok()
-        && out.text.as_slice() == row.copied
-        && out.flushes as usize == row.copied.len()
-        && out.calls as usize == 2 * row.copied.len()
-        && line.failed() == row.is_over
-        && bench.read.get() == row.looks
-        && bench.written.get() == 0
+        && out.text.as_slice() == copied
+        && out.flushes as usize == copied.len()
+        && out.calls as usize == 2 * copied.len()
+        && line.failed() == is_over
 }
 
 #[test]
@@ -251,15 +264,21 @@ fn silences_last_the_seconds(rt: HostRuntime) {
 fn is_not_reached(path: &str, quiet_ms: u32, wanted: LineFault) -> bool {
     let bench = Bench::new(&[], &[], Pace::Still);
     let system = &bench;
+    fault_of(&system, path, quiet_ms) == Some(wanted)
+}
+
+/// How a system's device is not reached.
+fn fault_of<'a, D: Devices + Clock>(
+    system: &'a D,
+    path: &'a str,
+    quiet_ms: u32,
+) -> Option<LineFault> {
     let mut wire = Wire {
-        system: &system,
+        system,
         path,
         quiet_ms,
     };
-    match wire.reach() {
-        Ok(_) => false,
-        Err(fault) => fault == wanted,
-    }
+    wire.reach().err()
 }
 
 #[test]

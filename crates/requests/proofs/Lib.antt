@@ -1,3 +1,5 @@
 pub mod Errors
+pub mod Machines
 pub mod OneInput
 pub mod Unopened
+pub mod Whatever

@@ -36,4 +36,4 @@ pub more_unopened : (tape script : Name) (more : List Name) (f : Failure) → Is
 more_unopened tape script more f is = unopened_within more (tape ∷ script ∷ more) (λ x h. Contains-append_right (tape ∷ script ∷ []) more x h) f is
 
 pub of_files : {X : Type 0} (known : X → Known) (names : List Name) (files now : List X) (P : Inputs → Type 0) → length files ≡ length names → P (inputs_of names known files now) → OfFiles names P
-of_files known names files now P count is = record { held = map known files; rests = map known now; one_each = length-map known files ∙ count; is_so = is }
+of_files known names files now P count is = record { held = map known files; rests = map known now; one_each = length-map files known ∙ count; is_so = is }

@@ -1,14 +1,15 @@
 -- Lives that are over before they have begun.
-use Rattle.std.proofs.Common.{◌≡◌, ◌⊎◌, ℕ, Bool, true, false, ◌==◌, ◌&&◌, if◌then◌else◌, List, Option, Some, None, IsSome, length, refl, sym, subst, ap, ◌∙◌, inl, inr}
+use Rattle.std.proofs.Common.{◌≡◌, ◌⊎◌, ℕ, Bool, true, false, ◌==◌, ◌&&◌, if◌then◌else◌, List, Option, Some, None, IsSome, option_map, length, refl, sym, subst, ap, ◌∙◌, inl, inr}
 use Rattle.std.specs.Option.{is_none}
 use Rattle.tape_image.specs.Plan.{PlanValue}
 use Rattle.host_core.specs.declared.phase.End.{End}
 use Rattle.host_core.specs.declared.phase.End.TheVariants.{Loaded, MaybeStarted}
 use Rattle.host_core.specs.declared.phase.Phase.TheVariants.{Settle, Ended as HasEnded}
-use Rattle.host_core.specs.Core.{Core, begun, ended}
+use Rattle.host_core.specs.Core.{Core, ended}
 use Rattle.load_engine.specs.declared.stop.Stop.{Stop}
 use Rattle.load_engine.specs.declared.stop.Stop.TheVariants.{Ended}
-use Rattle.machine_load.specs.Load.{IsOpening, IsOverAtOnce, IsNeverBegun, words_taken}
+use Rattle.machine_load.specs.Driving.{KeeperTells, LineTold, IsLived, finish_of}
+use Rattle.machine_load.specs.Load.{Around, IsOpening, IsOverAtOnce, IsNeverBegun, words_taken}
 use Rattle.machine_load.specs.declared.options.LoadOptions.{LoadOptions}
 
 abbrev end_of : (otherwise : End) → Option End → End
@@ -34,3 +35,10 @@ never_begun told plan options core last stop opening over =
 pub line_or_never : {L A B : Type 0} (line : Option L) → (A → B) → (IsSome line ⊎ A) → (IsSome line ⊎ B)
 line_or_never line so (inl is) = inl is
 line_or_never line so (inr over) = inr (so over)
+
+-- a life has a line, or it was over at once
+pub line_or_over : {K L : Type 0} (tells : KeeperTells K) (told_of : L → LineTold) (writable : Bool) (first last : Core) (before after : Around) (stop : Stop) (line : Option L)
+    → IsLived tells writable first before after (finish_of last stop (option_map told_of line)) → IsSome line ⊎ IsOverAtOnce first last stop
+line_or_over tells told_of writable first last before after stop line (inl idle) = inr idle.idle.over
+line_or_over tells told_of writable first last before after stop (Some l) (inr life) = inl refl
+line_or_over tells told_of writable first last before after stop None (inr life) = absurd (cc life.has_line)

@@ -1,9 +1,9 @@
 -- A keeper inside another value: what its calls make of it.
-use Rattle.std.proofs.Common.{◌≡◌, List, [], ◌∷◌, Option, Some, None, refl, ap}
+use Rattle.std.proofs.Common.{List, [], ◌∷◌, Option, Some, None, ap}
 use Rattle.load_devices.specs.declared.item.Kept.{Kept}
 use Rattle.load_engine.specs.declared.stop.Stop.{Stop}
 use Rattle.load_engine.specs.declared.stop.Stop.TheVariants.{Ended, LineFailed, KeepFailed, TurnsOver}
-use Rattle.load_engine.specs.Keeping.{KeepsEach, KeepsAllButLast, KeptBy}
+use Rattle.load_engine.specs.Keeping.{KeepsEach, KeptBy}
 
 -- what is kept by a value is kept by the keeper in it
 each_inside : {A K : Type 0} (inside : A → K) (keeps : K → Kept → K → Type 0) (old : A) (items : List Kept) (new : A)

@@ -1,20 +1,28 @@
 -- A load is a life.
-use Rattle.std.proofs.Common.{◌≡◌, ◌≤◌, ℕ, Bool, true, false, not, ◌&&◌, if◌then◌else◌, List, Option, Some, None, Ok, refl, sym, subst, ap, ◌∙◌, inl, arith}
-use Rattle.tape_image.specs.Plan.{PlanValue}
+use Rattle.std.proofs.Common.{◌≡◌, ◌≤◌, ◌<◌, ◌^◌, ℕ, Bool, true, false, not, ◌&&◌, if◌then◌else◌, List, [], Option, Some, None, Ok, refl, sym, subst, ap, ◌∙◌, inl, inr, arith}
+use Rattle.std.specs.Prelude.{Contains}
+use Rattle.std.specs.Io.KnownBytes.{Keeps}
+use Rattle.std.proofs.KnownBytes.{Keeps-trans}
+use Rattle.tape_image.specs.Plan.{PlanValue, IsPlan}
 use Rattle.host_core.specs.declared.progress.Progress.{Progress}
-use Rattle.host_core.specs.Core.{begun, ended}
+use Rattle.host_core.specs.Console.{go}
+use Rattle.host_core.specs.Core.{Core, begun, ended}
+use Rattle.line_world.specs.Wire.{Wire}
 use Rattle.load_devices.specs.declared.item.Item.{Item}
+use Rattle.load_devices.specs.Dialogue.{dialogue, keys_of}
+use Rattle.honest_line.specs.Moves.{Passes}
 use Rattle.load_engine.specs.declared.stop.Stop.{Stop}
 use Rattle.load_engine.specs.declared.stop.Stop.TheVariants.{Ended, LineFailed, KeepFailed, TurnsOver}
 use Rattle.load_lives.specs.Keepers.{WentOutAt, HasLeft}
-use Rattle.load_lives.specs.Lives.{GoesOnFrom, IsLeft}
+use Rattle.load_lives.specs.Lives.{Life, GoesOnFrom, IsLeft, IsLife, Reopens, last_core}
+use Rattle.load_lives.specs.Lives.{Setting as Found}
 use Rattle.load_lives.specs.Stops.{WentOut}
 use Rattle.load_record.specs.Reading.{Says}
 use Rattle.load_lives.proofs.Keepers.{keepers_leave}
 use Rattle.load_lives.proofs.Stopping.{sessions_are_lives}
-use Rattle.machine_load.specs.Driving.{IsDrivenOver}
-use Rattle.machine_load.specs.Lives.{LoadsAreLives, of_file}
-use Rattle.machine_load.specs.Load.{IsOpened, IsRecordText, words_taken}
+use Rattle.machine_load.specs.Driving.{Finish, IsDrivenLife, IsIdleLife, IsLived}
+use Rattle.machine_load.specs.Lives.{GoesOut, LoadsAreLives, of_file}
+use Rattle.machine_load.specs.Load.{Around, IsRecordText, words_taken}
 
 -- a life that goes on began without the mark
 unmarked : (plan : PlanValue) (verified patience : ℕ) (going : Bool) → ended (begun plan verified going patience).phase ≡ None → going ≡ false
@@ -54,27 +62,72 @@ went_out (LineFailed fault) all told items out = out
 went_out TurnsOver all told items out = out
 went_out (Ended end) all told items out = out
 
+-- a record that is kept is the text that it was
+kept_text : (told told' : Option (List ℕ)) (old new : List ℕ) → Keeps told told' → told ≡ Some old → told' ≡ Some new → new ≡ old
+kept_text told told' old new kept was is = subst (Keeps (Some old)) is (subst (λ o. Keeps o told') was kept)
+
+-- no key is among none
+none_sent : Contains (keys_of []) go → ⊥
+none_sent (k, below, is) = omega (arith, below)
+
+-- a life of this plan came to this core, and said these items
+abbrev Lives : PlanValue → Core → List Item → Found → Found → Type 0
+Lives plan last items old new = (life : Life) × (last_core plan life ≡ last) × (life.items ≡ items) × IsLife plan old life new
+
+-- a life that goes on with a progress, once its record was read
+module _ (plan : PlanValue) (progress : Progress) (patience : ℕ) (told : Option (List ℕ)) (between after : Around) (finish : Finish) (items : List Item) (found : Wire) (old new : Found) (fits : IsPlan plan) (long : patience < 2 ^ 32) (goes : GoesOnFrom plan old.text progress) (was : told ≡ Some old.text) (read : Keeps told between.record_text) (is : after.record_text ≡ Some new.text) (reopens : Reopens old.wire found) (passes : Passes found items new.wire) where
+  -- one that is over at once
+  idle_life : IsIdleLife (begun plan progress.verified progress.going patience) between after finish → items ≡ [] → Lives plan finish.last items old new
+  idle_life idle out = (
+    record { patience = patience; progress = progress; heard = []; items = []; unsent = None },
+    sym idle.idle.over.same,
+    sym out,
+    record {
+      patient = long;
+      goes_on = goes;
+      stopped = refl;
+      found = found;
+      reopens = reopens;
+      passes = subst (λ list. Passes found list new.wire) out passes;
+      left = record { cut = inl same; whole = λ has. absurd (none_sent has); alone = λ set. same };
+    },
+  )
+    where
+      same : new.text ≡ old.text
+      same = kept_text told after.record_text old.text new.text (Keeps-trans told between.record_text after.record_text read idle.idle.record_same) was is
+
+  -- one that is driven
+  driven_life : {writable : Bool} (life : IsDrivenLife of_file writable (begun plan progress.verified progress.going patience) between after finish)
+      → WentOutAt finish.stop (dialogue (begun plan progress.verified progress.going patience) life.driven.session.heard) life.driven.session.said items → Lives plan finish.last items old new
+  driven_life life out =
+      sessions_are_lives plan progress patience 10000000 (Some finish.stop) finish.last life.driven.line.said life.line'.said None None items found old new long goes life.driven.session
+      (went_out finish.stop _ _ items out) reopens passes
+      (subst (IsLeft plan progress finish.last items old.text) (same_text left.0 new.text (sym left.1 ∙ sym life.left ∙ is)) left.2)
+    where
+      left : HasLeft plan progress finish.last items old.text life.keeper'
+      left =
+          keepers_leave plan progress patience 10000000 finish.stop finish.last life.driven.line.said life.line'.said None None life.driven.keeper life.keeper' items old.text fits long goes
+          (unmarked plan progress.verified patience progress.going life.driven.goes_on) life.driven.begun_so life.driven.session out life.driven.kept_by
+
+  lived : {writable : Bool} (life : IsLived of_file writable (begun plan progress.verified progress.going patience) between after finish) → GoesOut life items → Lives plan finish.last items old new
+  lived (inl idle) out = idle_life idle out
+  lived (inr life) out = driven_life life out
+
 pub loads_are_lives : LoadsAreLives
-loads_are_lives plan options before after ending load items found old new fits patient was is out reopens passes =
-    sessions_are_lives plan progress options.patience 10000000 (Some ending.stop) load.last driven.line.said ending.line.said None None items found old new patient goes driven.session
-    (went_out ending.stop _ _ items out) reopens passes
-    (subst (IsLeft plan progress load.last items old.text) (same_text left.0 new.text (sym left.1 ∙ sym load.driven.left ∙ is)) left.2)
+loads_are_lives plan options before after finish load items found old new fits long was is out reopens passes =
+    subst (λ (core : Core). (life : IsLived of_file load.writable core load.between after finish) → GoesOut life items → Lives plan finish.last items old new) (sym load.opened.core_is)
+    (lived plan progress options.patience before.record_text load.between after finish items found old new fits long goes was load.record_read is reopens passes) load.life out
   where
-    driven : IsDrivenOver of_file (begun plan (words_taken options.recheck load.said) load.said.going options.patience) load.last ending.stop ending.line load.driven.keeper'
-    driven = load.driven.driven
+    said : Progress
+    said = load.opened.said
 
     progress : Progress
-    progress = record { verified = words_taken options.recheck load.said; going = load.said.going }
+    progress = record { verified = words_taken options.recheck said; going = said.going }
 
     goes : GoesOnFrom plan old.text progress
     goes = record {
-      recorded = load.said;
-      says = subst (λ text. Says plan text (Ok load.said)) (told_text before.record_text load.opened.text old.text load.opened.is_record was) load.opened.says;
-      fewer = fewer (options.recheck && not load.said.going) load.said.verified;
+      recorded = said;
+      says = subst (λ text. Says plan text (Ok said)) (told_text before.record_text load.opened.opened.text old.text load.opened.opened.is_record was) load.opened.opened.says;
+      fewer = fewer (options.recheck && not said.going) said.verified;
       same_mark = refl;
     }
-
-    left : HasLeft plan progress load.last items old.text load.driven.keeper'
-    left =
-        keepers_leave plan progress options.patience 10000000 ending.stop load.last driven.line.said ending.line.said None None driven.keeper load.driven.keeper' items old.text fits patient goes
-        (unmarked plan progress.verified options.patience load.said.going driven.goes_on) driven.begun_so driven.session out driven.kept_by

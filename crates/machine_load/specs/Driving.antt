@@ -1,9 +1,9 @@
 -- A life that the engine drives, over the line that was reached for it and the keeper that was begun for it.
-use Rattle.std.specs.Prelude.{◌≡◌, ℕ, ◌≤◌, List, length, Bool, Option, Some, None}
+use Rattle.std.specs.Prelude.{◌≡◌, ◌⊎◌, ℕ, ◌≤◌, List, [], ◌∷◌, length, Bool, true, Option, Some, None}
+use Rattle.std.specs.Io.KnownBytes.{Appends}
 use Rattle.tape_image.specs.Plan.{PlanValue}
-use Rattle.host_core.specs.declared.progress.Progress.{Progress}
 use Rattle.host_core.specs.Bound.{character_bound}
-use Rattle.host_core.specs.Core.{Core, begun, ended}
+use Rattle.host_core.specs.Core.{Core, ended}
 use Rattle.load_devices.specs.declared.fault.KeepFault.{KeepFault}
 use Rattle.load_devices.specs.declared.fault.LineFault.{LineFault}
 use Rattle.load_devices.specs.declared.item.Item.{Item}
@@ -15,7 +15,10 @@ use Rattle.load_engine.specs.Keeping.{KeptBy}
 use Rattle.load_engine.specs.Session.{Session, KeepsMarkFirst, TellsEnd}
 use Rattle.load_engine.specs.declared.stop.Stop.{Stop}
 use Rattle.console_reach.specs.Reached.{IsFresh}
-use Rattle.machine_load.specs.Load.{Around, IsOpened, words_taken}
+use Rattle.byte_io.specs.Output.{WritesAllBut}
+use Rattle.machine_load.specs.Load.{Around, Setting, Asks, IsIdle, IsLoadOf}
+use Rattle.machine_load.specs.LoadReport.{load_report}
+use Rattle.machine_load.specs.Step.{Connect, BeginRecord, EndRecord}
 use Rattle.machine_load.specs.declared.options.LoadOptions.{LoadOptions}
 
 -- what a line tells at a moment: what was said on it, how many calls of it failed, and the fault of the last one
@@ -73,26 +76,62 @@ pub record IsDrivenOver {K : Type 0} (tells : KeeperTells K) (first last : Core)
   pub start : TellsStartOver first last line.said line'.said
   pub bound : last.sent ≤ character_bound (length last.plan.words) last.patience
 
--- the same with some keeper, and the record is what that kept
-pub record IsDrivenAround {K : Type 0} (tells : KeeperTells K) (first last : Core) (stop : Stop) (line' : LineTold) (record_after : Option (List ℕ)) : Type 0 where
-  pub keeper' : K
-  pub driven : IsDrivenOver tells first last stop line' keeper'
-  pub left : record_after ≡ tells.text keeper'
+-- how a life ended: the core that it came to, why it stopped, and what its line tells then, where it had one
+pub record Finish : Type 0 where
+  pub last : Core
+  pub stop : Stop
+  pub line : Option LineTold
 
--- how a load ended that had a line, and what the line tells that came back
+-- how it ended
+abbrev pub finish_of : Core → Stop → Option LineTold → Finish
+finish_of last stop line = record { last = last; stop = stop; line = line }
+
+-- a life that was over at once has no line; nobody was asked, and the record is as it was
+pub record IsIdleLife (first : Core) (before after : Around) (finish : Finish) : Type 0 where
+  pub idle : IsIdle first finish.last finish.stop before after
+  pub no_line : finish.line ≡ None
+
+-- a life that goes on has a line: a connection is made, the record is begun anew, the engine drives the life, and in the end the record is
+-- what its keeper has kept
+pub record IsDrivenLife {K : Type 0} (tells : KeeperTells K) (writable : Bool) (first : Core) (before after : Around) (finish : Finish) : Type 0 where
+  pub may_write : writable ≡ true
+  pub asked : Asks before after (Connect ∷ BeginRecord ∷ EndRecord ∷ [])
+  pub line' : LineTold
+  pub has_line : finish.line ≡ Some line'
+  pub keeper' : K
+  pub driven : IsDrivenOver tells first finish.last finish.stop line' keeper'
+  pub left : after.record_text ≡ tells.text keeper'
+
+-- a life, over its line where it has one
+abbrev pub IsLived : {K : Type 0} → KeeperTells K → Bool → Core → Around → Around → Finish → Type 0
+IsLived tells writable first before after finish = IsIdleLife first before after finish ⊎ IsDrivenLife tells writable first before after finish
+
+-- a load that ended so: the record says where its life begins
+abbrev pub IsLoadLived : {K : Type 0} → KeeperTells K → PlanValue → LoadOptions → Around → Around → Finish → Type 0
+IsLoadLived tells plan options before after finish =
+    IsLoadOf plan options before (λ writable first between. IsLived tells writable first between after finish)
+
+-- what a load gives back that was reported: why it stopped, whether the host had come to the start, and what the line tells, where there is one
 pub record Ending : Type 0 where
   pub stop : Stop
   pub marked : Bool
-  pub line : LineTold
+  pub line : Option LineTold
 
--- how it ended
-abbrev pub ending_of : Stop → Bool → LineTold → Ending
+-- what it gives back
+abbrev pub ending_of : Stop → Bool → Option LineTold → Ending
 ending_of stop marked line = record { stop = stop; marked = marked; line = line }
 
--- a load was driven from what the record said on, and the record is what its keeper kept
-pub record IsLoadDriven {K : Type 0} (tells : KeeperTells K) (plan : PlanValue) (options : LoadOptions) (before after : Around) (ending : Ending) : Type 0 where
-  pub said : Progress
-  pub opened : IsOpened before.record_text plan said
+-- a load that was reported: the report is of the core that the life came to which was over this line
+pub record IsLoadReported {K : Type 0} (tells : KeeperTells K) (plan : PlanValue) (options : LoadOptions) (before after : Setting)
+    (ending : Ending) : Type 0 where
   pub last : Core
-  pub driven : IsDrivenAround tells (begun plan (words_taken options.recheck said) said.going options.patience) last ending.stop ending.line after.record_text
+  pub lived : IsLoadLived tells plan options before.around after.around (finish_of last ending.stop ending.line)
   pub marked_is : ending.marked ≡ last.going
+  pub reported : Appends before.out after.out (load_report last ending.stop)
+
+-- a load whose report could not be written whole: its life was lived all the same
+pub record IsLoadUntold {K : Type 0} (tells : KeeperTells K) (plan : PlanValue) (options : LoadOptions) (before after : Setting) : Type 0 where
+  pub finish : Finish
+  pub lived : IsLoadLived tells plan options before.around after.around finish
+  pub missing : List ℕ
+  pub reported : WritesAllBut before.out after.out (load_report finish.last finish.stop) missing

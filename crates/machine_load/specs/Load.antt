@@ -116,15 +116,19 @@ pub record IsBusy (writable : Bool) (old new : Core) (stop : Stop) (before after
 abbrev pub IsLife : Bool → Core → Core → Stop → Around → Around → Type 0
 IsLife writable old new stop before after = IsIdle old new stop before after ⊎ IsBusy writable old new stop before after
 
--- a load: first the record is read, which says where the life begins; then the life
-pub record IsLoad (plan : PlanValue) (options : LoadOptions) (before after : Around) (last : Core) (stop : Stop) : Type 0 where
+-- a load: first the record is read, which says whether it may be written and with which core the life begins; then the life, from there on
+pub record IsLoadOf (plan : PlanValue) (options : LoadOptions) (before : Around) (IsLifeFrom : Bool → Core → Around → Type 0) : Type 0 where
   pub first : Core
   pub writable : Bool
   pub between : Around
   pub read_first : Asks before between (reading writable ∷ [])
   pub record_read : KeepsRecord before between
   pub opened : IsOpening before.record_text plan options first
-  pub life : IsLife writable first last stop between after
+  pub life : IsLifeFrom writable first between
+
+-- a load that came to this core, and stopped so
+abbrev pub IsLoad : PlanValue → LoadOptions → Around → Around → Core → Stop → Type 0
+IsLoad plan options before after last stop = IsLoadOf plan options before (λ writable first between. IsLife writable first last stop between after)
 
 -- a load and its report, which is of the core that the life ended with
 pub record IsReported (plan : PlanValue) (options : LoadOptions) (before after : Setting) (stop : Stop) (marked : Bool) : Type 0 where

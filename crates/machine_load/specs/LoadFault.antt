@@ -13,7 +13,8 @@ use Rattle.record_file.specs.OldRecord.{HoldsNoRecord}
 use Rattle.machine_load.specs.Step.{Step, reading, ReadProtected, Connect, InUse, NotRead, NotConnected, NotBegun, OutOfMemory}
 use Rattle.machine_load.specs.declared.options.LoadOptions.{LoadOptions}
 use Rattle.machine_load.specs.declared.fault.LoadFault.{LoadFault}
-use Rattle.machine_load.specs.declared.fault.LoadFault.TheVariants.{Record, RecordInUse, ReadRecord as RecordNotRead, Connect as LineNotConnected, WriteRecord, WriteOutput, Memory}
+use Rattle.machine_load.specs.declared.fault.LoadFault.TheVariants.{Record, RecordInUse, WriteRecord, WriteOutput, Memory}
+use Rattle.machine_load.specs.declared.fault.LoadFault.TheVariants.{ReadRecord as RecordNotRead, Connect as LineNotConnected}
 use Rattle.record_file.specs.declared.record_fault.RecordFault.{RecordFault}
 use Rattle.record_file.specs.declared.record_fault.RecordFault.TheVariants as record_fault
 

@@ -6,8 +6,7 @@ use Rattle.record_file.specs.declared.record_fault.RecordFault.{RecordFault}
 use Rattle.record_file.specs.declared.record_fault.RecordFault.TheVariants as fault
 
 -- the record of earlier lives is read, or a record that is protected, a connection is made, the record is begun anew, and its keeper is
--- given back; or one of these
--- fails, since another load holds the record, or for another reason, or memory is wanting
+-- given back; or one of these fails, since another load holds the record, or for another reason, or memory is wanting
 pub data Step : Type 0 where
   ReadRecord : Step
   ReadProtected : Step

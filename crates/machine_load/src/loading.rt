@@ -1,5 +1,5 @@
 //! The load itself.
-ghost use Rattle.std.specs.Prelude.{◌≡◌, ◌≤◌, ◌⊎◌, true, length, [], ◌∷◌, None, Some, Ok, Err, IfOk, IfErr, IfSome, IsSome, OnOk};
+ghost use Rattle.std.specs.Prelude.{◌≡◌, ◌≤◌, ◌⊎◌, true, length, [], ◌∷◌, None, Some, Ok, Err, IfOk, IfErr, IsSome, OnOk, option_map};
 ghost use Rattle.std.specs.Io.KnownBytes.{Appends, Keeps};
 ghost use Rattle.host_core.specs.Bound.{character_bound};
 ghost use Rattle.host_core.specs.Core.{ended};
@@ -10,8 +10,8 @@ ghost use Rattle.load_engine.specs.Keeping.{KeptBy};
 ghost use Rattle.load_engine.specs.Session.{KeepsMarkFirst, Session, TellsEnd};
 ghost use Rattle.host_core.specs.Opening.{refusal_of};
 ghost use Rattle.load_record.specs.Reading.{Says};
-ghost use Rattle.machine_load.specs.Driving.{ending_of, keeper_tells, line_told, IsDrivenAround, IsLoadDriven};
-ghost use Rattle.machine_load.specs.Load.{around_of, setting, Asks, IsLife, IsNeverBegun, IsOpening, IsOverAtOnce, IsReported, words_taken};
+ghost use Rattle.machine_load.specs.Driving.{ending_of, finish_of, keeper_tells, line_told, IsDrivenLife, IsLived, IsLoadReported, IsLoadUntold};
+ghost use Rattle.machine_load.specs.Load.{around_of, setting, Asks, IsNeverBegun, IsOpening, IsReported, words_taken};
 ghost use Rattle.machine_load.specs.LoadFault.{IsLoadFault, IsOpeningFault, IsDrivingFault, IsReportFault};
 ghost use Rattle.machine_load.specs.LoadReport.{load_report};
 ghost use Rattle.record_file.specs.OldRecord.{HoldsNoRecord};
@@ -45,8 +45,8 @@ const REPORT_ROOM: usize = 128;
 /// one whose start was typed before, is reported with no connection, and its record stays as it is.
 /// Else a connection is made, the record is written anew with the words that count as verified, and
 /// the engine drives for 10,000,000 turns at most. The report is of the core that the engine gives
-/// back, and so is the line, without which only a life ends that was over before it began. Where each word is to be looked at again, no word counts as verified; a
-/// typed start does.
+/// back, and so is the line, without which only a life ends that was over before it began. Where each
+/// word is to be looked at again, no word counts as verified; a typed start does.
 ///
 /// `ReadRecord`, `RecordInUse`, `Record` and `Connect` come with nothing reported and the record as it
 /// was, `WriteRecord` before the first key, and before the connection where the record is protected.
@@ -64,12 +64,17 @@ pub fn load<S: Surroundings, W: Write, O: Onlooker>(
         (setting S.steps S.record_text W.contents around.old out.old)
         (setting S.steps S.record_text W.contents around.new out.new)
         outcome.stop outcome.marked) }
-    ensures driven { IfOk result (λ outcome. IfSome outcome.line (λ line. IsLoadDriven
+    ensures lived { IfOk result (λ outcome. IsLoadReported
         (keeper_tells S.Keeper.told S.Keeper.fault_count S.Keeper.last_fault S.Keeper.keeps S.Keeper.fails S.begins S.kept_text)
         plan options
-        (around_of S.steps S.record_text around.old)
-        (around_of S.steps S.record_text around.new)
-        (ending_of outcome.stop outcome.marked (line_told S.Line.told S.Line.fault_count S.Line.last_fault line)))) }
+        (setting S.steps S.record_text W.contents around.old out.old)
+        (setting S.steps S.record_text W.contents around.new out.new)
+        (ending_of outcome.stop outcome.marked (option_map (line_told S.Line.told S.Line.fault_count S.Line.last_fault) outcome.line))) }
+    ensures untold { IfErr result (λ fault. fault ≡ LoadFault.WriteOutput → IsLoadUntold
+        (keeper_tells S.Keeper.told S.Keeper.fault_count S.Keeper.last_fault S.Keeper.keeps S.Keeper.fails S.begins S.kept_text)
+        plan options
+        (setting S.steps S.record_text W.contents around.old out.old)
+        (setting S.steps S.record_text W.contents around.new out.new)) }
     ensures line { IfOk result (λ outcome. IsSome outcome.line ⊎ IsNeverBegun outcome.stop) }
     ensures fault { IfErr result (IsLoadFault plan options
         (setting S.steps S.record_text W.contents around.old out.old)
@@ -166,15 +171,12 @@ fn live<S: Surroundings, O: Onlooker>(
     around: &mut S,
     onlooker: &O,
 ) -> Result<Lived<S::Line>, LoadFault>
-    ensures life { IfOk result (λ lived. IsLife writable core lived.core lived.stop
-        (around_of S.steps S.record_text around.old)
-        (around_of S.steps S.record_text around.new)) }
-    ensures driven { IfOk result (λ lived. IfSome lived.line (λ line. IsDrivenAround
+    ensures lived { IfOk result (λ lived. IsLived
         (keeper_tells S.Keeper.told S.Keeper.fault_count S.Keeper.last_fault S.Keeper.keeps S.Keeper.fails S.begins S.kept_text)
-        core lived.core lived.stop
-        (line_told S.Line.told S.Line.fault_count S.Line.last_fault line)
-        (S.record_text around.new))) }
-    ensures line { IfOk result (λ lived. IsSome lived.line ⊎ IsOverAtOnce core lived.core lived.stop) }
+        writable core
+        (around_of S.steps S.record_text around.old)
+        (around_of S.steps S.record_text around.new)
+        (finish_of lived.core lived.stop (option_map (line_told S.Line.told S.Line.fault_count S.Line.last_fault) lived.line))) }
     ensures fault { IfErr result (IsDrivingFault writable
         (around_of S.steps S.record_text around.old)
         (around_of S.steps S.record_text around.new)) }
@@ -212,15 +214,12 @@ fn drive_over<S: Surroundings, O: Onlooker>(
     onlooker: &O,
 ) -> Result<Driven<S::Line>, LoadFault>
     requires goes_on { ended core.phase ≡ None }
-    ensures driven { IfOk result (λ driven. IsDrivenAround
+    ensures driven { IfOk result (λ driven. IsDrivenLife
         (keeper_tells S.Keeper.told S.Keeper.fault_count S.Keeper.last_fault S.Keeper.keeps S.Keeper.fails S.begins S.kept_text)
-        core driven.core driven.stop
-        (line_told S.Line.told S.Line.fault_count S.Line.last_fault driven.line)
-        (S.record_text around.new)) }
-    ensures steps { OnOk result (Asks
+        true core
         (around_of S.steps S.record_text around.old)
         (around_of S.steps S.record_text around.new)
-        (Connect ∷ BeginRecord ∷ EndRecord ∷ [])) }
+        (finish_of driven.core driven.stop (Some (line_told S.Line.told S.Line.fault_count S.Line.last_fault driven.line)))) }
     ensures fault { IfErr result (IsDrivingFault true
         (around_of S.steps S.record_text around.old)
         (around_of S.steps S.record_text around.new)) }

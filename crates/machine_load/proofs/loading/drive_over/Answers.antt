@@ -1,13 +1,10 @@
-use Rattle.std.proofs.Common.{true}
+use Rattle.std.proofs.Common.{true, refl}
 use Rattle.machine_load.specs.Driving.{line_told}
 use Rattle.machine_load.specs.Load.{around_of}
 use Rattle.machine_load.specs.LoadFault.{IsDrivingFault, fault_of_record}
 use Rattle.machine_load.proofs.Faults.{error_is, not_begun}
 use Rattle.machine_load.proofs.Steps.{gains_more}
 use Rattle.machine_load.proofs.loading.drive_over.Goals as goal
-
-pub returns-clause-steps : goal.returns-clause-steps
-returns-clause-steps g c = gains_more _ _ _ _ _ (gains_more _ _ _ _ _ c.in_ok-line.ensures.step c.in_ok-keeper.ensures.step) c.end_record.ensures.step
 
 pub returns-in_err-keeper-clause-fault : goal.returns-in_err-keeper-clause-fault
 returns-in_err-keeper-clause-fault g c =
@@ -20,6 +17,10 @@ returns-in_err-keeper-clause-fault g c =
 
 pub returns-clause-driven : goal.returns-clause-driven
 returns-clause-driven g c = record {
+  may_write = refl;
+  asked = gains_more _ _ _ _ _ (gains_more _ _ _ _ _ c.in_ok-line.ensures.step c.in_ok-keeper.ensures.step) c.end_record.ensures.step;
+  line' = _;
+  has_line = refl;
   keeper' = c.drive_watched-driven.result.1;
   driven = record {
     goes_on = c.requires.goes_on;

@@ -1,9 +1,10 @@
 //! Loading a real machine.
-ghost use Rattle.std.specs.Prelude.{◌≡◌, IfOk, IfErr};
+ghost use Rattle.std.specs.Prelude.{◌≡◌, ◌⊎◌, IfOk, IfErr, IsSome};
 ghost use Rattle.std.specs.Mem.{FitsInMemory};
 ghost use Rattle.endings.specs.Failure.{IsStopFailure};
 ghost use Rattle.endings.specs.Status.{IsStopStatus};
 ghost use Rattle.endings.specs.Streams.{held};
+ghost use Rattle.machine_load.specs.Load.{IsNeverBegun};
 ghost use Rattle.requests.specs.Loading.{record_name, AreLoaded, AreUnloaded, IsEnded, IsEndFailure, IsPlanLoaded, IsPlanFailure};
 
 use crate::host::Host;
@@ -49,7 +50,8 @@ pub(crate) fn load_tapes<
         (held R.remaining W.contents E.contents streams.new)) }
     ensures quiet { streams.new.err ≡ streams.old.err }
 {
-    let plan = plan_tapes(rt, alloc, names, streams)?.starting(load.start);
+    let planned = plan_tapes(rt, alloc, names, streams)?;
+    let plan = planned.starting(load.start);
     match terminal {
         Some(terminal) => {
             let onlooker = &ProgressLine::new(rt, terminal);
@@ -128,6 +130,7 @@ fn end<'a, L: Line + Drop, W: Write>(
     outcome: Outcome<L>,
     out: &mut W,
 ) -> Result<Status, Failure<'a>>
+    requires { IsSome outcome.line ⊎ IsNeverBegun outcome.stop }
     ensures ok { IfOk result (IsEnded load.entry outcome.stop (W.contents out.old) (W.contents out.new)) }
     ensures err { IfErr result (IsEndFailure load.entry outcome.stop outcome.marked (W.contents out.old) (W.contents out.new)) }
 {
@@ -153,7 +156,7 @@ fn status_after(stop: Stop, marked: bool, file: &str) -> Result<Status, Failure<
 
 // What faults call the record.
 fn record_name<'a>(file: Option<&'a str>) -> &'a str
-    ensures { result.entry.now ≡ record_name file.entry }
+    ensures { result.now ≡ record_name file.entry }
 {
     match file {
         Some(name) => name,

@@ -12,7 +12,7 @@ import unittest
 from concurrent.futures import ThreadPoolExecutor
 
 from common import Case, Console, DeafConsole, LateConsole
-from outside import NO_OUTPUT, Answer
+from outside import NO_OUTPUT, Answer, bytes_of
 
 # Records of first.lda: whole, as it is written today and as it was written once, and without the mark.
 MARKED = "LDAODT 2\n001000 011064\nG\n"
@@ -154,10 +154,10 @@ class Starts(Loads):
         peer = self.console_at(Console())
         loaded = "sent 23 spent 0 verified 1 of 1\nend Loaded\n"
         self.ends(self.recorded(peer, "first.lda --no-start"), 0, loaded)
-        self.holds({"a.record": VERIFIED})
+        self.holds({"a.record": "LDAODT 2\n001000 011064"})
         self.was_typed(peer, "Z001000/011064\r001000/\r")
         self.ends(self.recorded(peer, "first.lda --no-start"), 0, "sent 0 spent 0 verified 1 of 1\nend Loaded\n")
-        self.holds({"a.record": VERIFIED})
+        self.holds({"a.record": "LDAODT 2\n001000 011064"})
         self.ends(self.recorded(peer), 0, "sent 8 spent 0 verified 1 of 1\nend Started\n")
         self.holds({"a.record": MARKED})
         self.was_typed(peer, "Z001000/011064\r001000/\rZ001000G", connections=2)
@@ -226,8 +226,23 @@ class Words(Loads):
         self.ends(given, 0, STARTED)
 
     def test_no_address(self):
-        for address in ("127.0.0.1", "127.0.0.1:", ":", "127.0.0.1:65536", "127.0.0.1:x"):
+        for address in ("127.0.0.1:", ":", "127.0.0.1:65536", "127.0.0.1:x"):
             self.ends(self.ldaodt(f"load first.lda {address}"), 4, "", f"ldaodt: cannot connect to {address}\n")
+
+    def test_no_line(self):
+        """What has neither `:` nor `/` is none, and nothing is opened."""
+        for line in ("127.0.0.1", "ttyUSB0", "first.lda", "-"):
+            given = self.ldaodt(f"load nothing.lda {line}")
+            self.is_so((given.status, given.out, given.err.startswith("error: ")), (2, "", True))
+
+    def test_a_tape_on_standard_input(self):
+        peer = self.console_at(Console())
+        self.ends(self.load(peer, "-", keys=bytes_of(self.path("first.lda"))), 0, STARTED)
+        self.was_typed(peer, WHOLE)
+        given = self.load(peer, "-", keys=b"A")
+        self.ends(given, 3, "", "ldaodt: tape refused at 0: Stray\n")
+        given = self.load(peer, "-", before="<&-")
+        self.ends(given, 4, "", "ldaodt: cannot read standard input\n")
 
 
 class Silence(Loads):

@@ -38,6 +38,6 @@ piece_cut a b d text piece left before (missing, some, part) = (
 pub all_written : (a b : Option (List ℕ)) (text : List ℕ) → WritesAllBut a b text [] → Appends a b text
 all_written a b text done = subst (Appends a b) (sym (done.whole ∙ append-nil done.written)) done.appended
 
--- a line of a beginning, words and a name, and how its pieces follow one another
-pub line_pieces : (front words name end : List ℕ) → (front ++ (words ++ name)) ++ end ≡ (front ++ words) ++ (name ++ end)
-line_pieces front words name end = ap (λ l. l ++ end) (sym (append_assoc front words name)) ∙ append_assoc (front ++ words) name end
+-- a line of a beginning, words, a name and an end, and how its pieces follow one another
+pub line_pieces : (front words name end : List ℕ) → front ++ (words ++ (name ++ end)) ≡ (front ++ words) ++ (name ++ end)
+line_pieces front words name end = sym (append_assoc front words (name ++ end))

@@ -9,10 +9,9 @@ use Rattle.std.specs.Io.KnownBytes.{Appends}
 use Rattle.tape_blocks.specs.Fault.{why_text, read_error_text}
 use Rattle.tape_blocks.specs.declared.fault.ReadError.TheVariants as reading
 use Rattle.byte_io.specs.Output.{WritesProperPrefix}
-use Rattle.byte_io.specs.Text.{line}
 use Rattle.endings.specs.declared.failure.Failure.{Failure}
 use Rattle.endings.specs.declared.failure.OneTape.{OneTape}
-use Rattle.endings.specs.declared.failure.Failure.TheVariants.{CannotRead, CannotWrite, CannotWriteFile, RecordInUse, CannotConnect, LineFailed, StartInDoubt, TapeRefused, OneTapeRefused, ScriptRefused, RecordRefused, TooLarge, BadWord, NoMemory}
+use Rattle.endings.specs.declared.failure.Failure.TheVariants.{CannotRead, CannotWrite, CannotWriteFile, FileIsThere, RecordInUse, CannotConnect, LineFailed, StartInDoubt, TapeRefused, OneTapeRefused, ScriptRefused, RecordRefused, TooLarge, BadWord, NoMemory}
 use Rattle.command_io.specs.declared.fault.CommandFault.{CommandFault}
 use Rattle.command_io.specs.declared.fault.CommandFault.TheVariants as fault
 use Rattle.load_engine.specs.declared.stop.Stop.{Stop}
@@ -20,6 +19,8 @@ use Rattle.load_engine.specs.declared.stop.Stop.TheVariants as stop
 use Rattle.load_record.specs.declared.reader.RecordError.TheVariants as why
 use Rattle.machine_load.specs.declared.fault.LoadFault.{LoadFault}
 use Rattle.machine_load.specs.declared.fault.LoadFault.TheVariants as load
+use Rattle.machine_look.specs.declared.look_fault.LookFault.{LookFault}
+use Rattle.machine_look.specs.declared.look_fault.LookFault.TheVariants as look
 use Rattle.endings.specs.declared.status.Status.{Status}
 use Rattle.endings.specs.declared.status.Status.TheVariants.{BadCommandLine, Refused, DeviceFailed, NoMemory as OutOfMemory}
 
@@ -28,6 +29,7 @@ abbrev pub status_of : Failure → Status
 status_of (CannotRead name) = DeviceFailed
 status_of CannotWrite = DeviceFailed
 status_of (CannotWriteFile name) = DeviceFailed
+status_of (FileIsThere name) = DeviceFailed
 status_of (RecordInUse name) = DeviceFailed
 status_of (CannotConnect address) = DeviceFailed
 status_of LineFailed = DeviceFailed
@@ -53,12 +55,13 @@ abbrev pub shown_name : List ℕ → List ℕ
 shown_name [] = codes "''"
 shown_name (b ∷ bs) = flat_map shown_char (chars (b ∷ bs))
 
--- what a failure's line says after the program's name, up to the name at its end where it has one
+-- what a failure's line says after the program's name, up to the name in it where it has one
 abbrev pub failure_words : Failure → List ℕ
 failure_words (CannotRead name) = codes "cannot read "
 failure_words CannotWrite = codes "cannot write output"
 failure_words (CannotWriteFile name) = codes "cannot write "
 failure_words (CannotConnect address) = codes "cannot connect to "
+failure_words (FileIsThere name) = []
 failure_words (RecordInUse name) = codes "record in use: "
 failure_words LineFailed = codes "line failed"
 failure_words StartInDoubt = codes "line failed\nldaodt: the start may have gone out: look at the machine first"
@@ -71,17 +74,23 @@ failure_words TooLarge = codes "machine too large"
 failure_words BadWord = codes "a word of the command line is not UTF-8"
 failure_words NoMemory = read_error_text reading.Memory
 
--- the name at the end of a failure's line, where it has one
+-- the name in a failure's line, where it has one
 abbrev pub failure_name : Failure → List ℕ
 failure_name (CannotRead name) = shown_name name.now
 failure_name (CannotWriteFile name) = shown_name name.now
+failure_name (FileIsThere name) = shown_name name.now
 failure_name (RecordInUse name) = shown_name name.now
 failure_name (CannotConnect address) = shown_name address.now
 failure_name other = []
 
+-- what stands behind the name, and the line's end
+abbrev pub failure_end : Failure → List ℕ
+failure_end (FileIsThere name) = codes " is there already\n"
+failure_end other = codes "\n"
+
 -- the line of a failure on standard error
 abbrev pub fault_line : Failure → List ℕ
-fault_line failure = line (codes "ldaodt: " ++ (failure_words failure ++ failure_name failure))
+fault_line failure = codes "ldaodt: " ++ (failure_words failure ++ (failure_name failure ++ failure_end failure))
 
 -- standard error tells of a failure: its line was written there and nothing else; or, where that output fails, a prefix of the line
 abbrev pub IsTold : Option (List ℕ) → Option (List ℕ) → Failure → Type 0
@@ -121,6 +130,19 @@ IsLoadFailureOf load.Connect address file failure = NamesAddress address failure
 IsLoadFailureOf load.WriteRecord address file failure = NamesWrittenFile file failure
 IsLoadFailureOf load.WriteOutput address file failure = failure ≡ CannotWrite
 IsLoadFailureOf load.Memory address file failure = failure ≡ NoMemory
+
+-- the failure is that there is a file of this name already
+abbrev pub NamesFileThere : List ℕ → Failure → Type 0
+NamesFileThere text (FileIsThere name) = name.now ≡ text
+NamesFileThere text other = ⊥
+
+-- the failure that a look's fault is, where its console and its new file have these names
+abbrev pub IsLookFailureOf : LookFault → List ℕ → List ℕ → Failure → Type 0
+IsLookFailureOf look.IsThere address file failure = NamesFileThere file failure
+IsLookFailureOf look.WriteTape address file failure = NamesWrittenFile file failure
+IsLookFailureOf look.Connect address file failure = NamesAddress address failure
+IsLookFailureOf look.WriteOutput address file failure = failure ≡ CannotWrite
+IsLookFailureOf look.Memory address file failure = failure ≡ NoMemory
 
 -- how a load fails whose line did: once the start was typed, or may have been, it says so
 abbrev pub line_failure : Bool → Failure

@@ -1,3 +1,4 @@
 pub mod Explained
 pub mod Failure
 pub mod Status
+pub mod Streams

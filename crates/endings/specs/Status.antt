@@ -1,15 +1,22 @@
 -- The exit status of the program (this project's own).
-use Rattle.std.specs.Prelude.{◌≡◌, ℕ}
+use Rattle.std.specs.Prelude.{◌≡◌, ℕ, Result, Ok, Err}
 use Rattle.host_core.specs.declared.phase.End.{End}
 use Rattle.host_core.specs.declared.phase.End.TheVariants as end
 use Rattle.load_engine.specs.declared.stop.Stop.{Stop}
 use Rattle.load_engine.specs.declared.stop.Stop.TheVariants as stop
+use Rattle.machine_look.specs.declared.save_end.SaveEnd.{SaveEnd}
+use Rattle.machine_look.specs.declared.save_end.SaveEnd.TheVariants as save
+use Rattle.machine_look.specs.declared.verify_end.VerifyEnd.{VerifyEnd}
+use Rattle.machine_look.specs.declared.verify_end.VerifyEnd.TheVariants as verify
+use Rattle.endings.specs.declared.failure.Failure.{Failure}
+use Rattle.endings.specs.declared.failure.Failure.TheVariants.{LineFailed}
 use Rattle.endings.specs.declared.status.Status.{Status}
-use Rattle.endings.specs.declared.status.Status.TheVariants.{Done, BadCommandLine, Refused, DeviceFailed, NotLoaded, Uncertain, NoMemory}
+use Rattle.endings.specs.declared.status.Status.TheVariants.{Done, Differs, BadCommandLine, Refused, DeviceFailed, NotLoaded, Uncertain, NoMemory}
 
 -- the number of each ending
 abbrev pub status_code : Status → ℕ
 status_code Done = 0
+status_code Differs = 1
 status_code BadCommandLine = 2
 status_code Refused = 3
 status_code DeviceFailed = 4
@@ -33,3 +40,20 @@ IsStopStatus (stop.Ended end) status = status ≡ end_status end
 IsStopStatus stop.TurnsOver status = status ≡ NotLoaded
 IsStopStatus (stop.LineFailed fault) status = ⊥
 IsStopStatus (stop.KeepFailed fault) status = ⊥
+
+-- how the program ends after a `verify` that ended so: where its line failed, that is a failure and no ending
+abbrev pub after_verify : VerifyEnd → Result Status Failure
+after_verify verify.Same = Ok Done
+after_verify verify.Differs = Ok Differs
+after_verify (verify.NoWord address) = Ok NotLoaded
+after_verify verify.GaveUp = Ok NotLoaded
+after_verify verify.TurnsOver = Ok NotLoaded
+after_verify (verify.LineFailed fault) = Err LineFailed
+
+-- how the program ends after a `save` that ended so: where its line failed, that is a failure and no ending
+abbrev pub after_save : SaveEnd → Result Status Failure
+after_save save.Saved = Ok Done
+after_save (save.NoWord address) = Ok NotLoaded
+after_save save.GaveUp = Ok NotLoaded
+after_save save.TurnsOver = Ok NotLoaded
+after_save (save.LineFailed fault) = Err LineFailed

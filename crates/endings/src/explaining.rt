@@ -2,22 +2,28 @@
 ghost use Rattle.std.specs.Prelude.{◌≡◌};
 ghost use Rattle.byte_io.specs.Output.{WritesPrefix};
 ghost use Rattle.endings.specs.Explained.{IsShown};
+ghost use Rattle.endings.specs.Streams.{held};
 
 use crate::failure::Failure;
 use crate::status::Status;
+use crate::streams::Streams;
 use crate::telling::tell;
 use byte_io::{write_and_flush, write_whole};
 use std::alloc::Global;
-use std::io::Write;
+use std::io::{Read, Write};
 
 /// Prints a text that was asked for, in one write, and flushes it. Where that fails, standard error says
 /// so.
-pub fn show<W: Write, E: Write>(alloc: Global, text: &str, out: &mut W, err: &mut E) -> Status
-    ensures { IsShown text.now (W.contents out.old) (W.contents out.new) (E.contents err.old) (E.contents err.new) result }
+pub fn show<R: Read, W: Write, E: Write>(
+    alloc: Global,
+    text: &str,
+    streams: &mut Streams<R, W, E>,
+) -> Status
+    ensures { IsShown text.now (held R.remaining W.contents E.contents streams.old) (held R.remaining W.contents E.contents streams.new) result }
 {
-    match write_and_flush(out, text.as_bytes()) {
+    match write_and_flush(&mut streams.out, text.as_bytes()) {
         Ok(()) => Status::Done,
-        Err(_) => tell(alloc, Failure::CannotWrite, err),
+        Err(_) => tell(alloc, Failure::CannotWrite, &mut streams.err),
     }
 }
 

@@ -2,6 +2,7 @@ use crate::status::Status;
 use command_io::CommandFault;
 use load_record::RecordError;
 use machine_load::LoadFault;
+use machine_look::LookFault;
 use std::fmt;
 use tape_blocks::Fault;
 
@@ -14,11 +15,13 @@ pub enum Failure<'a> {
     CannotWrite,
     /// The record's file of this name can't be written.
     CannotWriteFile(&'a str),
+    /// There is a file of this name already, which is as it was.
+    FileIsThere(&'a str),
     /// Another load holds the record's file of this name.
     RecordInUse(&'a str),
-    /// No connection to this HOST:PORT could be made.
+    /// The console at this HOST:PORT or device can't be reached.
     CannotConnect(&'a str),
-    /// The line failed during a load, before the start was typed.
+    /// The line failed during a load or a look, before the start was typed.
     LineFailed,
     /// The line failed once the start was typed or may have been: the program may be running.
     StartInDoubt,
@@ -40,7 +43,7 @@ pub enum Failure<'a> {
 
 impl<'a> Failure<'a> {
     ghost use Rattle.std.specs.Prelude.{◌≡◌, ◌-◌, slice_get};
-    ghost use Rattle.endings.specs.Failure.{status_of, IsFailureOf, IsLoadFailureOf, NamesTape};
+    ghost use Rattle.endings.specs.Failure.{status_of, IsFailureOf, IsLoadFailureOf, IsLookFailureOf, NamesTape};
 
     /// The failure that a command's fault is, where its tapes and its script have these names. A tape
     /// that has no name is standard input's.
@@ -91,6 +94,19 @@ impl<'a> Failure<'a> {
         }
     }
 
+    /// The failure that a look's fault is, where its console and its new file have these names.
+    pub fn of_look(fault: LookFault, address: &'a str, file: &'a str) -> Failure<'a>
+        ensures { IsLookFailureOf fault address.entry.now file.entry.now result }
+    {
+        match fault {
+            LookFault::IsThere => Failure::FileIsThere(file),
+            LookFault::WriteTape => Failure::CannotWriteFile(file),
+            LookFault::Connect => Failure::CannotConnect(address),
+            LookFault::WriteOutput => Failure::CannotWrite,
+            LookFault::Memory => Failure::NoMemory,
+        }
+    }
+
     /// The exit status that tells of this failure.
     pub fn status(&self) -> Status
         ensures { result ≡ status_of self.now }
@@ -99,6 +115,7 @@ impl<'a> Failure<'a> {
             Failure::CannotRead(_)
             | Failure::CannotWrite
             | Failure::CannotWriteFile(_)
+            | Failure::FileIsThere(_)
             | Failure::RecordInUse(_)
             | Failure::CannotConnect(_)
             | Failure::LineFailed

@@ -3,7 +3,7 @@
 //! A `Failure` has one line on standard error and one status. `tell` prints the line, in one write, and
 //! answers the status; a file's name in it can't break the line. Words of the command line that ask for
 //! nothing to be done are explained: `show` prints help to standard output, `refuse` says on standard
-//! error what is wrong with them.
+//! error what is wrong with them. `Streams` are the three standard streams, as one value.
 #![tactic(auto)]
 
 mod explaining;
@@ -11,10 +11,12 @@ mod failure;
 mod line_words;
 mod process_words;
 mod status;
+mod streams;
 mod telling;
 
 pub use explaining::{refuse, show};
 pub use failure::{Failure, OneTape, STANDARD_INPUT};
 pub use process_words::words_of;
 pub use status::Status;
+pub use streams::Streams;
 pub use telling::tell;

@@ -10,7 +10,7 @@ use std::fmt;
 use std::fmt::Write;
 use tape_blocks::ReadError;
 
-/// What a failure's line says after the program's name, up to the name at its end where it has one.
+/// What a failure's line says after the program's name, up to the name in it where it has one.
 #[derive(Clone, Copy)]
 struct Words<'a>(Failure<'a>);
 
@@ -24,6 +24,7 @@ impl fmt::Display for Words<'_> {
             Failure::CannotRead(_) => f.write_str("cannot read "),
             Failure::CannotWrite => f.write_str("cannot write output"),
             Failure::CannotWriteFile(_) => f.write_str("cannot write "),
+            Failure::FileIsThere(_) => Ok(()),
             Failure::CannotConnect(_) => f.write_str("cannot connect to "),
             Failure::RecordInUse(_) => f.write_str("record in use: "),
             Failure::LineFailed => f.write_str("line failed"),

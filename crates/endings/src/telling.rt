@@ -6,7 +6,7 @@ ghost use Rattle.std.specs.Char.{is_control, digit_char};
 ghost use Rattle.std.specs.Char.Escape.{escape_default};
 ghost use Rattle.std.specs.Io.KnownBytes.{Appends};
 ghost use Rattle.byte_io.specs.Output.{WritesProperPrefix};
-ghost use Rattle.endings.specs.Failure.{status_of, failure_name, fault_line, shown_char, shown_name, IsTold};
+ghost use Rattle.endings.specs.Failure.{status_of, failure_end, failure_name, fault_line, shown_char, shown_name, IsTold};
 
 use crate::failure::Failure;
 use crate::line_words::line_words;
@@ -59,10 +59,20 @@ fn write_line<W: Write>(out: &mut W, failure: Failure<'_>) -> Result<(), WriteFa
     let words = line_words(failure)?;
     write_whole(out, words.as_str().as_bytes())?;
     write_shown_name(out, failure)?;
-    write_whole(out, b"\n")
+    write_whole(out, line_end(failure))
 }
 
-/// Writes the name at the end of a failure's line, where it has one.
+/// What a failure's line says behind its name, and the line's end.
+fn line_end(failure: Failure<'_>) -> &'static [u8]
+    ensures { result.now ≡ failure_end failure.entry }
+{
+    match failure {
+        Failure::FileIsThere(_) => b" is there already\n",
+        _ => b"\n",
+    }
+}
+
+/// Writes the name in a failure's line, where it has one.
 fn write_shown_name<W: Write>(out: &mut W, failure: Failure<'_>) -> Result<(), WriteFault>
     ensures ok { OnOk result (Appends (W.contents out.old) (W.contents out.new) (failure_name failure.entry)) }
     ensures err { OnErr result (WritesProperPrefix (W.contents out.old) (W.contents out.new) (failure_name failure.entry)) }
@@ -70,6 +80,7 @@ fn write_shown_name<W: Write>(out: &mut W, failure: Failure<'_>) -> Result<(), W
     match failure {
         Failure::CannotRead(name)
         | Failure::CannotWriteFile(name)
+        | Failure::FileIsThere(name)
         | Failure::RecordInUse(name)
         | Failure::CannotConnect(name) => write_name(out, name),
         _ => Ok(()),

@@ -1,7 +1,7 @@
 //! The command line: which words ask for what.
 ghost use Rattle.std.specs.Prelude.{◌≡◌, ◌≢◌, [], IfOk};
 ghost use Rattle.clap.specs.Matches.{found_of};
-ghost use Rattle.ldaodt.specs.Options.{IsLoadOf, IsLookOf};
+ghost use Rattle.ldaodt.specs.Options.{IsLoadOf, IsLookOf, IsRequestOf};
 
 mod addresses;
 mod commands;
@@ -87,7 +87,8 @@ fn request_of<'a>(alloc: Global, matches: &ArgMatches<'a>) -> Result<Request<'a>
 
 /// The load of tapes into a machine.
 fn loading_of<'a>(alloc: Global, found: &ArgMatches<'a>) -> Result<Request<'a>, NoRequest>
-    ensures { IfOk result (λ request. request ≢ Request.CheckInput) }
+    ensures value { IfOk result (IsRequestOf (found_of found.now)) }
+    ensures some { IfOk result (λ request. request ≢ Request.CheckInput) }
 {
     let load = load_of(alloc, found)?;
     Ok(Request::Load(tapes_of(alloc, found)?, load))
@@ -112,7 +113,8 @@ fn load_of<'a>(alloc: Global, found: &ArgMatches<'a>) -> Result<Load<'a>, NoRequ
 
 /// The look whether a machine holds what tapes say.
 fn verifying_of<'a>(alloc: Global, found: &ArgMatches<'a>) -> Result<Request<'a>, NoRequest>
-    ensures { IfOk result (λ request. request ≢ Request.CheckInput) }
+    ensures value { IfOk result (IsRequestOf (found_of found.now)) }
+    ensures some { IfOk result (λ request. request ≢ Request.CheckInput) }
 {
     let look = look_of(alloc, found)?;
     Ok(Request::Verify(tapes_of(alloc, found)?, look))
@@ -120,7 +122,8 @@ fn verifying_of<'a>(alloc: Global, found: &ArgMatches<'a>) -> Result<Request<'a>
 
 /// The save of words of a machine.
 fn saving_of<'a>(alloc: Global, found: &ArgMatches<'a>) -> Result<Request<'a>, NoRequest>
-    ensures { IfOk result (λ request. request ≢ Request.CheckInput) }
+    ensures value { IfOk result (IsRequestOf (found_of found.now)) }
+    ensures some { IfOk result (λ request. request ≢ Request.CheckInput) }
 {
     let file = text_of(found, FILE)?;
     let look = look_of(alloc, found)?;
@@ -142,7 +145,8 @@ fn look_of<'a>(alloc: Global, found: &ArgMatches<'a>) -> Result<Look<'a>, NoRequ
 
 /// The dialogue of tapes with a console.
 fn dialogue_of<'a>(alloc: Global, found: &ArgMatches<'a>) -> Result<Request<'a>, NoRequest>
-    ensures { IfOk result (λ request. request ≢ Request.CheckInput) }
+    ensures value { IfOk result (IsRequestOf (found_of found.now)) }
+    ensures some { IfOk result (λ request. request ≢ Request.CheckInput) }
 {
     let console = console_of(found)?;
     let start = start_of(alloc, found)?;
@@ -151,7 +155,8 @@ fn dialogue_of<'a>(alloc: Global, found: &ArgMatches<'a>) -> Result<Request<'a>,
 
 /// The rehearsal of a tape, its script and further tapes.
 fn rehearsal_of<'a>(alloc: Global, found: &ArgMatches<'a>) -> Result<Request<'a>, NoRequest>
-    ensures { IfOk result (λ request. request ≢ Request.CheckInput) }
+    ensures value { IfOk result (IsRequestOf (found_of found.now)) }
+    ensures some { IfOk result (λ request. request ≢ Request.CheckInput) }
 {
     let tape = text_of(found, TAPE)?;
     let script = text_of(found, SCRIPT)?;

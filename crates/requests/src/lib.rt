@@ -1,35 +1,17 @@
-//! A stand-in.
+//! What a person can ask of `ldaodt`, as a value, and how it ends.
+//!
+//! A `Request` names a command, its files and its options. `attempt` does it and answers the exit
+//! status; where it can't be done, one line on standard error says why, by the name of the file that
+//! was at fault. Each command's own contract stands in its crate: `tape_check`, `console_typing`,
+//! `rehearsals`, `machine_load`. Which status and which line an end or a fault becomes stands in `endings`.
+//!
+//! The program `ldaodt` makes the request of the words of its command line.
 #![tactic(auto)]
 
+mod files;
+mod handling;
+mod loading;
 mod request;
 
-pub use request::{Console, Load, Look, Request, Save};
-
-ghost use Rattle.std.specs.Mem.{FitsInMemory};
-ghost use Rattle.endings.specs.Streams.{held};
-ghost use Rattle.requests.specs.Attempt.{IsAttempted};
-
-use endings::{Status, Streams};
-use record_file::Locks;
-use serial_line::Devices;
-use std::alloc::Global;
-use std::io::{Print, Read, Write};
-use std::net::Net;
-use std::time::Clock;
-
-pub fn attempt<F: Locks + Devices + Net + Clock, R: Read, W: Write, E: Write, T: Print>(
-    _rt: &F,
-    _alloc: Global,
-    request: Request<'_>,
-    streams: &mut Streams<R, W, E>,
-    _terminal: Option<&T>,
-) -> Status
-    requires { FitsInMemory R.row }
-    ensures { IsAttempted request.entry
-        (held R.remaining W.contents E.contents streams.old)
-        (held R.remaining W.contents E.contents streams.new)
-        result }
-{
-    let _ = (request, &mut streams.out);
-    Status::Done
-}
+pub use handling::attempt;
+pub use request::{Console, Load, Request};

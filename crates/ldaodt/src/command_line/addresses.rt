@@ -2,8 +2,8 @@
 ghost use Rattle.std.specs.Prelude.{◌≤◌, ◌-◌, ◌++◌, length, replicate, IfSome, IfOk, codes};
 ghost use Rattle.octal.specs.Octal.{IsOct6};
 ghost use Rattle.clap.specs.Matches.{found_of, first_value};
-ghost use Rattle.ldaodt.specs.Addresses.{IsAddressText};
-ghost use Rattle.ldaodt.specs.Options.{IsSavedStart, IsStartOf};
+ghost use Rattle.ldaodt.specs.Addresses.{IsEvenText, IsWordText};
+ghost use Rattle.ldaodt.specs.Options.{IsRangeOf, IsSavedStart, IsStartOf};
 
 use super::no_request::NoRequest;
 use super::options::{FROM, NO_START, START, TO};
@@ -15,7 +15,10 @@ use octal::read_oct6;
 use std::alloc::Global;
 use tape_image::Start;
 
-/// Why a word is no address.
+/// Why a word is no start.
+const NO_START_ADDRESS: &str = "a start is octal, of one to six digits, and even";
+
+/// Why a word is no address of a word of memory.
 const NO_ADDRESS: &str = "an address is octal, of one to six digits, even, and below 160000";
 
 /// Why a last address is none.
@@ -35,7 +38,7 @@ pub(crate) fn start_of(alloc: Global, found: &ArgMatches<'_>) -> Result<Start, N
         return Ok(Start::Nowhere);
     }
     match found.get_str(START) {
-        Some(text) => Ok(Start::At(address_of(alloc, text, "--start <AAAAAA>")?)),
+        Some(text) => Ok(Start::At(given_start(alloc, text)?)),
         None => Ok(Start::OfTape),
     }
 }
@@ -45,38 +48,50 @@ pub(crate) fn saved_start_of(alloc: Global, found: &ArgMatches<'_>) -> Result<u1
     ensures { IfOk result (IsSavedStart (first_value (found_of found.now) (codes "start"))) }
 {
     match found.get_str(START) {
-        Some(text) => address_of(alloc, text, "--start <AAAAAA>"),
+        Some(text) => given_start(alloc, text),
         None => Ok(STARTS_NOTHING),
     }
 }
 
+/// The start address that a text is, or its refusal.
+fn given_start(alloc: Global, text: &str) -> Result<u16, NoRequest>
+    ensures { IfOk result (IsEvenText text.now) }
+{
+    match even(text) {
+        Some(start) => Ok(start),
+        None => Err(invalid_value(alloc, text, "--start <AAAAAA>", NO_START_ADDRESS)),
+    }
+}
+
 /// The range of words that are saved.
-pub(crate) fn range_of(alloc: Global, found: &ArgMatches<'_>) -> Result<AddressRange, NoRequest> {
+pub(crate) fn range_of(alloc: Global, found: &ArgMatches<'_>) -> Result<AddressRange, NoRequest>
+    ensures { IfOk result (IsRangeOf (found_of found.now)) }
+{
     let last = text_of(found, TO)?;
-    let from = address_of(alloc, text_of(found, FROM)?, "<FROM>")?;
-    let to = address_of(alloc, last, "<TO>")?;
+    let from = word_of(alloc, text_of(found, FROM)?, "<FROM>")?;
+    let to = word_of(alloc, last, "<TO>")?;
     match AddressRange::new(from, to) {
         Some(range) => Ok(range),
         None => Err(invalid_value(alloc, last, "<TO>", IS_BELOW)),
     }
 }
 
-/// The address that an argument's text is, or its refusal.
-fn address_of(alloc: Global, text: &str, argument: &str) -> Result<u16, NoRequest>
-    ensures { IfOk result (IsAddressText text.now) }
+/// The address of a word of memory that an argument's text is, or its refusal.
+fn word_of(alloc: Global, text: &str, argument: &str) -> Result<u16, NoRequest>
+    ensures { IfOk result (IsWordText text.now) }
 {
-    match address(text) {
-        Some(address) => Ok(address),
-        None => Err(invalid_value(alloc, text, argument, NO_ADDRESS)),
+    match even(text) {
+        Some(address) if address < TOP => Ok(address),
+        _ => Err(invalid_value(alloc, text, argument, NO_ADDRESS)),
     }
 }
 
-/// The address of a word of memory that a text is, in octal: even, and below 160000.
-fn address(text: &str) -> Option<u16>
-    ensures { IfSome result (IsAddressText text.now) }
+/// The even number that a text of one to six octal digits is.
+fn even(text: &str) -> Option<u16>
+    ensures { IfSome result (IsEvenText text.now) }
 {
     match octal(text) {
-        Some(address) if address % 2 == 0 && address < TOP => Some(address),
+        Some(number) if number % 2 == 0 => Some(number),
         _ => None,
     }
 }

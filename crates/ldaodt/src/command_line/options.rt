@@ -3,7 +3,7 @@
 //! Options have no default here: who reads one that is not given takes what is meant then.
 
 use clap::{Arg, ArgAction, value_parser};
-use odt_machine::{LARGEST_WORDS, Style};
+use odt_machine::{LARGEST_STYLE, LARGEST_WORDS};
 use std::alloc::{AllocError, Global};
 
 pub(crate) const TAPE: &str = "TAPE";
@@ -52,13 +52,6 @@ const SHORTEST_LISTENING: u16 = 1;
 
 const LONGEST_LISTENING: u16 = 65_535;
 
-/// The style of the largest number: the answers have all that a style may add.
-const LAVISH_STYLE: Style = Style {
-    space_before: true,
-    two_returns: true,
-    echo_illegal: true,
-};
-
 /// A required argument, and what it says.
 pub(crate) fn argument<'a>(alloc: Global, name: &'a str, help: &'a str) -> Arg<'a> {
     Arg::new(alloc, name).required(true).help(help)
@@ -94,7 +87,7 @@ fn style_option<'a>(alloc: Global) -> Arg<'a> {
     let help =
         "How the console answers, 0 to 7 [default: 0]: 1 for a\nspace before a word's digits, plus 2 for two CRs before\nan LF, plus 4 for an echo of illegal keys";
     option(alloc, STYLE, "N", help).value_parser(value_parser!(u8).range(
-        0..=i64::from(LAVISH_STYLE.number()),
+        0..=i64::from(LARGEST_STYLE),
     ))
 }
 
@@ -110,13 +103,13 @@ pub(crate) fn recheck_option<'a>(alloc: Global) -> Result<Arg<'a>, AllocError> {
 }
 
 pub(crate) fn start_option<'a>(alloc: Global) -> Arg<'a> {
-    let help = "Start the program at this address in place of the\ntapes': octal, even, below 160000";
+    let help = "Start the program at this address in place of the\ntapes': octal, even";
     option(alloc, START, "AAAAAA", help)
 }
 
 pub(crate) fn saved_start_option<'a>(alloc: Global) -> Arg<'a> {
     let help =
-        "The tape's start address: octal, even, below 160000\n[default: 000001, which starts nothing]";
+        "The tape's start address: octal, even [default: 000001,\nwhich starts nothing]";
     option(alloc, START, "AAAAAA", help)
 }
 

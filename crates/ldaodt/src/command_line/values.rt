@@ -1,7 +1,8 @@
 //! What the words of a command's arguments and options come to.
-ghost use Rattle.std.specs.Prelude.{◌≡◌, Some, IfOk, codes};
+ghost use Rattle.std.specs.Prelude.{◌≡◌, ◌++◌, Some, IfOk, codes, map};
+ghost use Rattle.odt_machine.specs.Style.{style_number};
 ghost use Rattle.clap.specs.Matches.{first_value, found_of};
-ghost use Rattle.ldaodt.specs.Options.{IsNumberGiven, IsNumberOf};
+ghost use Rattle.ldaodt.specs.Options.{AreTapes, IsConsoleOf, IsNumberGiven, IsNumberOf, more_in};
 
 use super::no_request::NoRequest;
 use super::options::{LINE, MORE, STYLE, TAPE, WORDS};
@@ -38,7 +39,9 @@ pub(crate) fn line_of<'a>(alloc: Global, found: &ArgMatches<'a>) -> Result<&'a s
 pub(crate) fn tapes_of<'a>(
     alloc: Global,
     found: &ArgMatches<'a>,
-) -> Result<Vec<&'a str>, NoRequest> {
+) -> Result<Vec<&'a str>, NoRequest>
+    ensures { IfOk result (λ names. AreTapes (found_of found.now) names.items) }
+{
     let first = text_of(found, TAPE)?;
     Ok(joined(alloc, &[first], found)?)
 }
@@ -47,7 +50,9 @@ pub(crate) fn tapes_of<'a>(
 pub(crate) fn further_tapes_of<'a>(
     alloc: Global,
     found: &ArgMatches<'a>,
-) -> Result<Vec<&'a str>, NoRequest> {
+) -> Result<Vec<&'a str>, NoRequest>
+    ensures { IfOk result (λ names. map (λ name. name.now) names.items ≡ more_in (found_of found.now)) }
+{
     Ok(joined(alloc, &[], found)?)
 }
 
@@ -56,7 +61,9 @@ fn joined<'a>(
     alloc: Global,
     first: &[&'a str],
     found: &ArgMatches<'a>,
-) -> Result<Vec<&'a str>, AllocError> {
+) -> Result<Vec<&'a str>, AllocError>
+    ensures { IfOk result (λ names. map (λ name. name.now) names.items ≡ map (λ name. name.now) first.now ++ more_in (found_of found.now)) }
+{
     let mut names = Vec::new(alloc);
     names.extend_from_slice(first)?;
     names.extend_from_slice(found.get_strs(MORE).unwrap_or(&[]))?;
@@ -64,7 +71,9 @@ fn joined<'a>(
 }
 
 /// The console of two options.
-pub(crate) fn console_of(found: &ArgMatches<'_>) -> Result<Console, NoRequest> {
+pub(crate) fn console_of(found: &ArgMatches<'_>) -> Result<Console, NoRequest>
+    ensures { IfOk result (IsConsoleOf (found_of found.now)) }
+{
     Ok(Console {
         words: number_of(found, WORDS, LARGEST_WORDS)?,
         style: style_of(found)?,
@@ -72,7 +81,9 @@ pub(crate) fn console_of(found: &ArgMatches<'_>) -> Result<Console, NoRequest> {
 }
 
 /// The style whose number is given, or the plain one.
-fn style_of(found: &ArgMatches<'_>) -> Result<Style, NoRequest> {
+fn style_of(found: &ArgMatches<'_>) -> Result<Style, NoRequest>
+    ensures { IfOk result (λ style. IsNumberOf (found_of found.now) (codes "style") 0 (style_number style)) }
+{
     match found.try_get_one::<u8>(STYLE) {
         Ok(Some(number)) => Style::from_number(number).ok_or(NoRequest::Meaningless),
         Ok(None) => Ok(PLAIN_STYLE),

@@ -1,0 +1,75 @@
+//! Opening the files that a request names.
+ghost use Rattle.std.specs.Prelude.{◌≡◌, ◌+◌, ◌∷◌, [], length, IfOk, IfErr, OnOk, Contains};
+ghost use Rattle.requests.specs.Attempt.{IsUnopened};
+
+use endings::Failure;
+use std::alloc::Global;
+use std::fs;
+use std::io::BufReader;
+use std::rt::Files;
+
+/// Opens a file. It is read ahead, which nobody sees: no one else reads what this program has opened.
+pub(crate) fn open<'a, F: Files>(
+    rt: &F,
+    alloc: Global,
+    name: &'a str,
+) -> Result<BufReader<F::File>, Failure<'a>>
+    ensures { IfErr result (IsUnopened (name.entry ∷ [])) }
+{
+    let Ok(file) = fs::open(rt, name) else {
+        return Err(Failure::CannotRead(name));
+    };
+    match BufReader::new(alloc, file) {
+        Ok(reader) => Ok(reader),
+        Err(_) => Err(Failure::NoMemory),
+    }
+}
+
+/// Opens files in the order of their names. The first that can't be opened decides.
+pub(crate) fn open_all<'a, F: Files>(
+    rt: &F,
+    alloc: Global,
+    names: &[&'a str],
+) -> Result<Vec<BufReader<F::File>>, Failure<'a>>
+    ensures ok { IfOk result (λ files. length files.items ≡ length names.now) }
+    ensures err { IfErr result (IsUnopened names.now) }
+{
+    let mut files = Vec::new(alloc);
+    open_more(rt, alloc, names, &mut files)?;
+    Ok(files)
+}
+
+/// Opens further files, in the order of their names.
+pub(crate) fn open_more<'a, F: Files>(
+    rt: &F,
+    alloc: Global,
+    names: &[&'a str],
+    files: &mut Vec<BufReader<F::File>>,
+) -> Result<(), Failure<'a>>
+    ensures ok { OnOk result (length files.new.items ≡ length files.old.items + length names.now) }
+    ensures err { IfErr result (IsUnopened names.now) }
+{
+    for name in names {
+        let file = open(rt, alloc, name)?;
+        if files.push(file).is_err() {
+            return Err(Failure::NoMemory);
+        }
+    }
+    Ok(())
+}
+
+/// The names of all tapes, in order.
+pub(crate) fn joined<'a>(
+    alloc: Global,
+    first: &'a str,
+    more: &[&'a str],
+) -> Result<Vec<&'a str>, Failure<'a>>
+    ensures ok { IfOk result (λ names. names.items ≡ first.entry ∷ more.now) }
+    ensures err { IfErr result (λ failure. failure ≡ Failure.NoMemory) }
+{
+    let mut names = Vec::new(alloc);
+    if names.push(first).is_err() || names.extend_from_slice(more).is_err() {
+        return Err(Failure::NoMemory);
+    }
+    Ok(names)
+}

@@ -19,7 +19,10 @@ pub fn show<R: Read, W: Write, E: Write>(
     text: &str,
     streams: &mut Streams<R, W, E>,
 ) -> Status
-    ensures { IsShown text.now (held R.remaining W.contents E.contents streams.old) (held R.remaining W.contents E.contents streams.new) result }
+    ensures { IsShown text.now
+        (held R.remaining W.contents E.contents streams.old)
+        (held R.remaining W.contents E.contents streams.new)
+        result }
 {
     match write_and_flush(&mut streams.out, text.as_bytes()) {
         Ok(()) => Status::Done,

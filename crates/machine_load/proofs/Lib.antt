@@ -1,2 +1,6 @@
+mod Begun
+mod Driving
 mod Faults
+mod Kept
+mod Lives
 mod Steps

@@ -3,6 +3,7 @@ use Rattle.std.specs.Prelude.{◌≡◌, ◌⊎◌, ℕ, Bool, true, false, ◌&
 use Rattle.std.specs.Io.KnownBytes.{Appends, Keeps}
 use Rattle.tape_image.specs.Plan.{PlanValue}
 use Rattle.host_core.specs.declared.phase.End.{End}
+use Rattle.host_core.specs.declared.phase.End.TheVariants.{Loaded, MaybeStarted}
 use Rattle.host_core.specs.declared.progress.Progress.{Progress}
 use Rattle.host_core.specs.Core.{Core, begun, ended}
 use Rattle.load_devices.specs.declared.item.Item.{Item}
@@ -17,9 +18,34 @@ use Rattle.load_record.specs.Reading.{Says}
 use Rattle.byte_io.specs.Output.{WritesAllBut}
 use Rattle.machine_load.specs.LoadReport.{load_report}
 use Rattle.record_file.specs.OldRecord.{HoldsNoRecord}
-use Rattle.machine_load.specs.Step.{Step, reading, Connect, BeginRecord}
+use Rattle.machine_load.specs.Step.{Step, reading, Connect, BeginRecord, EndRecord}
 use Rattle.machine_load.specs.declared.options.LoadOptions.{LoadOptions}
-use Rattle.machine_load.specs.declared.outcome.Outcome.{Outcome}
+
+-- what the surroundings of a load tell: what was asked of them, with what was answered, and what the record is
+pub record Around : Type 0 where
+  pub steps : Option (List Step)
+  pub record_text : Option (List ℕ)
+
+-- the same, and what the load's output holds
+pub record Setting : Type 0 where
+  pub around : Around
+  pub out : Option (List ℕ)
+
+-- what surroundings tell
+abbrev pub around_of : {S : Type 0} → (S → Option (List Step)) → (S → Option (List ℕ)) → S → Around
+around_of steps_of text_of surroundings = record { steps = steps_of surroundings; record_text = text_of surroundings }
+
+-- what surroundings tell, and what an output holds
+abbrev pub setting : {S W : Type 0} → (S → Option (List Step)) → (S → Option (List ℕ)) → (W → Option (List ℕ)) → S → W → Setting
+setting steps_of text_of contents surroundings out = record { around = around_of steps_of text_of surroundings; out = contents out }
+
+-- these steps were asked from then on
+abbrev pub Asks : Around → Around → List Step → Type 0
+Asks before after steps = Gains before.steps after.steps steps
+
+-- the record is as it was
+abbrev pub KeepsRecord : Around → Around → Type 0
+KeepsRecord before after = Keeps before.record_text after.record_text
 
 -- the record is this text, as far as it is told
 abbrev pub IsRecordText : Option (List ℕ) → List ℕ → Type 0
@@ -30,13 +56,17 @@ IsRecordText (Some told) text = text ≡ told
 abbrev pub words_taken : Bool → Progress → ℕ
 words_taken recheck said = if recheck && not said.going then 0 else said.verified
 
--- the life that begins with what the record says of the plan
-pub record IsOpening (record_told : Option (List ℕ)) (plan : PlanValue) (options : LoadOptions) (core : Core) : Type 0 where
+-- the record says this progress of the plan
+pub record IsOpened (record_told : Option (List ℕ)) (plan : PlanValue) (said : Progress) : Type 0 where
   pub text : List ℕ
   pub is_record : IsRecordText record_told text
   pub is_ours : HoldsNoRecord text → ⊥
-  pub said : Progress
   pub says : Says plan text (Ok said)
+
+-- the life that begins with what the record says of the plan
+pub record IsOpening (record_told : Option (List ℕ)) (plan : PlanValue) (options : LoadOptions) (core : Core) : Type 0 where
+  pub said : Progress
+  pub opened : IsOpened record_told plan said
   pub core_is : core ≡ begun plan (words_taken options.recheck said) said.going options.patience
 
 -- an engine that had 10,000,000 turns led the one core to the other, and stopped so
@@ -55,6 +85,10 @@ pub record IsOverAtOnce (old new : Core) (stop : Stop) : Type 0 where
   pub stop_is : stop ≡ Ended end
   pub same : new ≡ old
 
+-- so a life stops that is over before it has begun: nothing is left to load, or the start was typed before
+abbrev pub IsNeverBegun : Stop → Type 0
+IsNeverBegun stop = (stop ≡ Ended Loaded) ⊎ (stop ≡ Ended MaybeStarted)
+
 -- the life goes on, and the engine drives it
 pub record IsDrivenOn (old new : Core) (stop : Stop) : Type 0 where
   pub goes_on : ended old.phase ≡ None
@@ -66,46 +100,47 @@ IsBegun None plan k = ⊤
 IsBegun (Some text) plan k = text ≡ record_text Second plan k false
 
 -- the life ends as it began, with nobody asked and the record left alone
-pub record IsIdle (old new : Core) (stop : Stop) (steps steps_after : Option (List Step)) (record_told record_after : Option (List ℕ)) : Type 0 where
+pub record IsIdle (old new : Core) (stop : Stop) (before after : Around) : Type 0 where
   pub over : IsOverAtOnce old new stop
-  pub nothing_asked : Gains steps steps_after []
-  pub record_same : Keeps record_told record_after
+  pub nothing_asked : Asks before after []
+  pub record_same : KeepsRecord before after
 
--- the life goes on, over a record that may be written: a connection is made, then the record is begun anew, with the words that are
--- verified already
-pub record IsBusy (writable : Bool) (old new : Core) (stop : Stop) (steps steps_after : Option (List Step)) (record_after : Option (List ℕ)) : Type 0 where
+-- the life goes on, over a record that may be written: a connection is made, then the record is begun anew, and in the end its keeper
+-- is given back
+pub record IsBusy (writable : Bool) (old new : Core) (stop : Stop) (before after : Around) : Type 0 where
   pub may_write : writable ≡ true
   pub driven : IsDrivenOn old new stop
-  pub asked : Gains steps steps_after (Connect ∷ BeginRecord ∷ [])
-  pub begun : IsBegun record_after old.plan old.verified
+  pub asked : Asks before after (Connect ∷ BeginRecord ∷ EndRecord ∷ [])
 
 -- a life, once it has opened
-abbrev pub IsLife : Bool → Core → Core → Stop → Option (List Step) → Option (List Step) → Option (List ℕ) → Option (List ℕ) → Type 0
-IsLife writable old new stop steps steps' told told' =
-    IsIdle old new stop steps steps' told told' ⊎ IsBusy writable old new stop steps steps' told'
+abbrev pub IsLife : Bool → Core → Core → Stop → Around → Around → Type 0
+IsLife writable old new stop before after = IsIdle old new stop before after ⊎ IsBusy writable old new stop before after
 
--- a load: first the record is read, which says where the life begins; then the life
-pub record IsLoad (record_told : Option (List ℕ)) (plan : PlanValue) (options : LoadOptions) (steps steps_after : Option (List Step)) (record_after : Option (List ℕ)) (last : Core) (stop : Stop) : Type 0 where
+-- a load: first the record is read, which says whether it may be written and with which core the life begins; then the life, from there on
+pub record IsLoadOf (plan : PlanValue) (options : LoadOptions) (before : Around) (IsLifeFrom : Bool → Core → Around → Type 0) : Type 0 where
   pub first : Core
   pub writable : Bool
-  pub steps_between : Option (List Step)
-  pub record_between : Option (List ℕ)
-  pub read_first : Gains steps steps_between (reading writable ∷ [])
-  pub record_read : Keeps record_told record_between
-  pub opened : IsOpening record_told plan options first
-  pub life : IsLife writable first last stop steps_between steps_after record_between record_after
+  pub between : Around
+  pub read_first : Asks before between (reading writable ∷ [])
+  pub record_read : KeepsRecord before between
+  pub opened : IsOpening before.record_text plan options first
+  pub life : IsLifeFrom writable first between
+
+-- a load that came to this core, and stopped so
+abbrev pub IsLoad : PlanValue → LoadOptions → Around → Around → Core → Stop → Type 0
+IsLoad plan options before after last stop = IsLoadOf plan options before (λ writable first between. IsLife writable first last stop between after)
 
 -- a load and its report, which is of the core that the life ended with
-pub record IsReported (record_told : Option (List ℕ)) (plan : PlanValue) (options : LoadOptions) (steps steps_after : Option (List Step)) (record_after out out_after : Option (List ℕ)) (outcome : Outcome) : Type 0 where
+pub record IsReported (plan : PlanValue) (options : LoadOptions) (before after : Setting) (stop : Stop) (marked : Bool) : Type 0 where
   pub last : Core
-  pub load : IsLoad record_told plan options steps steps_after record_after last outcome.stop
-  pub marked : outcome.marked ≡ last.going
-  pub reported : Appends out out_after (load_report last outcome.stop)
+  pub load : IsLoad plan options before.around after.around last stop
+  pub marked_is : marked ≡ last.going
+  pub reported : Appends before.out after.out (load_report last stop)
 
 -- a load whose report may be cut short
-pub record IsCutShort (record_told : Option (List ℕ)) (plan : PlanValue) (options : LoadOptions) (steps steps_after : Option (List Step)) (record_after out out_after : Option (List ℕ)) : Type 0 where
+pub record IsCutShort (plan : PlanValue) (options : LoadOptions) (before after : Setting) : Type 0 where
   pub last : Core
   pub stop : Stop
-  pub load : IsLoad record_told plan options steps steps_after record_after last stop
+  pub load : IsLoad plan options before.around after.around last stop
   pub missing : List ℕ
-  pub reported : WritesAllBut out out_after (load_report last stop) missing
+  pub reported : WritesAllBut before.out after.out (load_report last stop) missing

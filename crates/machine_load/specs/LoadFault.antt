@@ -2,19 +2,19 @@
 use Rattle.std.specs.Prelude.{◌≡◌, ◌⊎◌, ℕ, Bool, true, false, List, [], ◌∷◌, Option, Err}
 use Rattle.std.specs.Io.KnownBytes.{Keeps as Untouched}
 use Rattle.tape_image.specs.Plan.{PlanValue}
-use Rattle.load_devices.specs.Told.{Gains}
 use Rattle.load_record.specs.declared.reader.RecordError.{RecordError}
 use Rattle.load_record.specs.Reading.{Says}
 use Rattle.load_record.specs.declared.reader.RecordError.TheVariants.{NotARecord}
 use Rattle.byte_io.specs.Output.{WritesAllBut}
 use Rattle.host_core.specs.Core.{Core}
 use Rattle.load_engine.specs.declared.stop.Stop.{Stop}
-use Rattle.machine_load.specs.Load.{IsRecordText, IsLoad, IsCutShort}
+use Rattle.machine_load.specs.Load.{Around, Setting, Asks, KeepsRecord, IsRecordText, IsLoad, IsCutShort}
 use Rattle.record_file.specs.OldRecord.{HoldsNoRecord}
 use Rattle.machine_load.specs.Step.{Step, reading, ReadProtected, Connect, InUse, NotRead, NotConnected, NotBegun, OutOfMemory}
 use Rattle.machine_load.specs.declared.options.LoadOptions.{LoadOptions}
 use Rattle.machine_load.specs.declared.fault.LoadFault.{LoadFault}
-use Rattle.machine_load.specs.declared.fault.LoadFault.TheVariants.{Record, RecordInUse, ReadRecord as RecordNotRead, Connect as LineNotConnected, WriteRecord, WriteOutput, Memory}
+use Rattle.machine_load.specs.declared.fault.LoadFault.TheVariants.{Record, RecordInUse, WriteRecord, WriteOutput, Memory}
+use Rattle.machine_load.specs.declared.fault.LoadFault.TheVariants.{ReadRecord as RecordNotRead, Connect as LineNotConnected}
 use Rattle.record_file.specs.declared.record_fault.RecordFault.{RecordFault}
 use Rattle.record_file.specs.declared.record_fault.RecordFault.TheVariants as record_fault
 
@@ -32,26 +32,27 @@ fault_of_record record_fault.Write = WriteRecord
 fault_of_record record_fault.Memory = Memory
 
 -- how a life fails to open: its record can't be read, or is another load's at the time, or is read and refused
-abbrev pub IsOpeningFault : Option (List Step) → Option (List Step) → Option (List ℕ) → PlanValue → LoadFault → Type 0
-IsOpeningFault steps steps' told plan RecordNotRead = Gains steps steps' (NotRead ∷ [])
-IsOpeningFault steps steps' told plan RecordInUse = Gains steps steps' (InUse ∷ [])
-IsOpeningFault steps steps' told plan (Record why) = ((writable : Bool) × Gains steps steps' (reading writable ∷ [])) × IsRefusedRecord told plan why
-IsOpeningFault steps steps' told plan Memory = Gains steps steps' (OutOfMemory ∷ [])
-IsOpeningFault steps steps' told plan other = ⊥
+abbrev pub IsOpeningFault : PlanValue → Around → Around → LoadFault → Type 0
+IsOpeningFault plan before after RecordNotRead = Asks before after (NotRead ∷ [])
+IsOpeningFault plan before after RecordInUse = Asks before after (InUse ∷ [])
+IsOpeningFault plan before after (Record why) =
+    ((writable : Bool) × Asks before after (reading writable ∷ [])) × IsRefusedRecord before.record_text plan why
+IsOpeningFault plan before after Memory = Asks before after (OutOfMemory ∷ [])
+IsOpeningFault plan before after other = ⊥
 
 -- nobody was asked, and the record is as it was
-pub record AsksNothing (steps steps_after : Option (List Step)) (record_told record_after : Option (List ℕ)) : Type 0 where
-  pub nothing_asked : Gains steps steps_after []
-  pub record_same : Untouched record_told record_after
+pub record AsksNothing (before after : Around) : Type 0 where
+  pub nothing_asked : Asks before after []
+  pub record_same : KeepsRecord before after
 
 -- how an opened life comes to no line or no record: one that may not be written fails before there is a connection; and without a
 -- connection the record is as it was
-abbrev pub IsDrivingFault : Bool → Option (List Step) → Option (List Step) → Option (List ℕ) → Option (List ℕ) → LoadFault → Type 0
-IsDrivingFault writable steps steps' told told' LineNotConnected = (writable ≡ true) × Gains steps steps' (NotConnected ∷ []) × Untouched told told'
-IsDrivingFault writable steps steps' told told' WriteRecord =
-    ((writable ≡ false) × AsksNothing steps steps' told told') ⊎ ((writable ≡ true) × Gains steps steps' (Connect ∷ NotBegun ∷ []))
-IsDrivingFault writable steps steps' told told' Memory = (writable ≡ true) × Gains steps steps' (Connect ∷ OutOfMemory ∷ [])
-IsDrivingFault writable steps steps' told told' other = ⊥
+abbrev pub IsDrivingFault : Bool → Around → Around → LoadFault → Type 0
+IsDrivingFault writable before after LineNotConnected = (writable ≡ true) × Asks before after (NotConnected ∷ []) × KeepsRecord before after
+IsDrivingFault writable before after WriteRecord =
+    ((writable ≡ false) × AsksNothing before after) ⊎ ((writable ≡ true) × Asks before after (Connect ∷ NotBegun ∷ []))
+IsDrivingFault writable before after Memory = (writable ≡ true) × Asks before after (Connect ∷ OutOfMemory ∷ [])
+IsDrivingFault writable before after other = ⊥
 
 -- how a report fails: something of it may be missing, or there was no memory for it, and nothing was written
 abbrev pub IsReportFault : Option (List ℕ) → Option (List ℕ) → List ℕ → LoadFault → Type 0
@@ -59,40 +60,43 @@ IsReportFault out out' report WriteOutput = (missing : List ℕ) × WritesAllBut
 IsReportFault out out' report Memory = Untouched out out'
 IsReportFault out out' report other = ⊥
 
--- so far was gone, with nothing reported, and with the record as it was
-pub record StopsAfter (steps steps_after : Option (List Step)) (record_told record_after : Option (List ℕ)) (out out_after : Option (List ℕ)) (done : List Step) : Type 0 where
-  pub steps_are : Gains steps steps_after done
-  pub record_same : Untouched record_told record_after
-  pub nothing_reported : Untouched out out_after
+-- so far was gone, with nothing reported
+pub record StopsSilently (before after : Setting) (done : List Step) : Type 0 where
+  pub steps_are : Asks before.around after.around done
+  pub nothing_reported : Untouched before.out after.out
 
--- the record was read, and nothing else came of the load, for this reason
-abbrev pub StopsAfterReading : Option (List Step) → Option (List Step) → Option (List ℕ) → Option (List ℕ) → Option (List ℕ) → Option (List ℕ) → Type 0
-StopsAfterReading steps steps' told told' out out' = (writable : Bool) × StopsAfter steps steps' told told' out out' (reading writable ∷ [])
+-- so far was gone, with nothing reported, and with the record as it was
+pub record StopsAfter (before after : Setting) (done : List Step) : Type 0 where
+  pub steps_are : Asks before.around after.around done
+  pub record_same : KeepsRecord before.around after.around
+  pub nothing_reported : Untouched before.out after.out
+
+-- the record was read, and nothing else came of the load
+abbrev pub StopsAfterReading : Setting → Setting → Type 0
+StopsAfterReading before after = (writable : Bool) × StopsAfter before after (reading writable ∷ [])
 
 -- a load whose report had no room, and was not begun
-pub record IsUnreported (record_told : Option (List ℕ)) (plan : PlanValue) (options : LoadOptions) (steps steps_after : Option (List Step)) (record_after out out_after : Option (List ℕ)) : Type 0 where
+pub record IsUnreported (plan : PlanValue) (options : LoadOptions) (before after : Setting) : Type 0 where
   pub last : Core
   pub stop : Stop
-  pub load : IsLoad record_told plan options steps steps_after record_after last stop
-  pub nothing_reported : Untouched out out_after
+  pub load : IsLoad plan options before.around after.around last stop
+  pub nothing_reported : Untouched before.out after.out
 
 -- where memory may be wanting, with nothing reported: for the record, for the report's room, for the record begun anew, for the report
-abbrev pub IsWantOfMemory : PlanValue → LoadOptions → Option (List Step) → Option (List Step) → Option (List ℕ) → Option (List ℕ) → Option (List ℕ) → Option (List ℕ) → Type 0
-IsWantOfMemory plan options steps steps' told told' out out' =
-    StopsAfter steps steps' told told' out out' (OutOfMemory ∷ [])
-    ⊎ StopsAfterReading steps steps' told told' out out'
-    ⊎ (Gains steps steps' (reading true ∷ Connect ∷ OutOfMemory ∷ []) × Untouched out out')
-    ⊎ IsUnreported told plan options steps steps' told' out out'
+abbrev pub IsWantOfMemory : PlanValue → LoadOptions → Setting → Setting → Type 0
+IsWantOfMemory plan options before after =
+    StopsAfter before after (OutOfMemory ∷ []) ⊎ StopsAfterReading before after ⊎ StopsSilently before after (reading true ∷ Connect ∷ OutOfMemory ∷ [])
+    ⊎ IsUnreported plan options before after
 
 -- how a load comes to nothing: a record that can't be read, is another load's at the time, is refused or is protected comes before the
 -- connection, a connection that can't be made before the record is touched, a record that can't be written before the first key, a report
 -- that can't be written last
-abbrev pub IsLoadFault : PlanValue → LoadOptions → Option (List Step) → Option (List Step) → Option (List ℕ) → Option (List ℕ) → Option (List ℕ) → Option (List ℕ) → LoadFault → Type 0
-IsLoadFault plan options steps steps' told told' out out' RecordNotRead = StopsAfter steps steps' told told' out out' (NotRead ∷ [])
-IsLoadFault plan options steps steps' told told' out out' RecordInUse = StopsAfter steps steps' told told' out out' (InUse ∷ [])
-IsLoadFault plan options steps steps' told told' out out' (Record why) = StopsAfterReading steps steps' told told' out out' × IsRefusedRecord told plan why
-IsLoadFault plan options steps steps' told told' out out' LineNotConnected = StopsAfter steps steps' told told' out out' (reading true ∷ NotConnected ∷ [])
-IsLoadFault plan options steps steps' told told' out out' WriteRecord =
-    StopsAfter steps steps' told told' out out' (ReadProtected ∷ []) ⊎ (Gains steps steps' (reading true ∷ Connect ∷ NotBegun ∷ []) × Untouched out out')
-IsLoadFault plan options steps steps' told told' out out' WriteOutput = IsCutShort told plan options steps steps' told' out out'
-IsLoadFault plan options steps steps' told told' out out' Memory = IsWantOfMemory plan options steps steps' told told' out out'
+abbrev pub IsLoadFault : PlanValue → LoadOptions → Setting → Setting → LoadFault → Type 0
+IsLoadFault plan options before after RecordNotRead = StopsAfter before after (NotRead ∷ [])
+IsLoadFault plan options before after RecordInUse = StopsAfter before after (InUse ∷ [])
+IsLoadFault plan options before after (Record why) = StopsAfterReading before after × IsRefusedRecord before.around.record_text plan why
+IsLoadFault plan options before after LineNotConnected = StopsAfter before after (reading true ∷ NotConnected ∷ [])
+IsLoadFault plan options before after WriteRecord =
+    StopsAfter before after (ReadProtected ∷ []) ⊎ StopsSilently before after (reading true ∷ Connect ∷ NotBegun ∷ [])
+IsLoadFault plan options before after WriteOutput = IsCutShort plan options before after
+IsLoadFault plan options before after Memory = IsWantOfMemory plan options before after

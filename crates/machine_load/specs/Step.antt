@@ -5,13 +5,14 @@ use Rattle.record_file.specs.declared.old_record.OldRecord.{OldRecord}
 use Rattle.record_file.specs.declared.record_fault.RecordFault.{RecordFault}
 use Rattle.record_file.specs.declared.record_fault.RecordFault.TheVariants as fault
 
--- the record of earlier lives is read, or a record that is protected, a connection is made, the record is begun anew; or one of these
--- fails, since another load holds the record, or for another reason, or memory is wanting
+-- the record of earlier lives is read, or a record that is protected, a connection is made, the record is begun anew, and its keeper is
+-- given back; or one of these fails, since another load holds the record, or for another reason, or memory is wanting
 pub data Step : Type 0 where
   ReadRecord : Step
   ReadProtected : Step
   Connect : Step
   BeginRecord : Step
+  EndRecord : Step
   InUse : Step
   NotRead : Step
   NotConnected : Step

@@ -2,24 +2,28 @@
 //!
 //! `load` asks its `Surroundings` for the record of earlier lives, for a line and for the record of
 //! the life that begins, in this order, and its report is that of the core that the engine gave back:
-//! that is its contract. `Recorded` and `Unrecorded` are the surroundings of a real machine, over the
-//! system's sockets, with the record's file (of the crate `record_file`) or none. An `Onlooker` (of the
-//! crate `load_progress`) sees how far the load is and decides nothing.
+//! that is its contract. `Around` joins the two parts of the surroundings of a real machine: a way to its
+//! console (of the crate `console_reach`), and where its record is, in a file (of the crate `record_file`)
+//! or in memory. An `Onlooker` (of the crate `load_progress`) sees how far the load is and decides nothing.
 //!
 //! The crate `requests` calls it, and its tests stand in `command_tests`.
 #![tactic(auto)]
 
+mod around;
 mod fault;
+mod law;
 mod loading;
-mod machine;
 mod options;
 mod outcome;
+mod records;
 mod report;
 mod surroundings;
 
+pub use around::Around;
 pub use fault::LoadFault;
+pub use law::loads_are_lives;
 pub use loading::load;
-pub use machine::{Address, Recorded, Unrecorded};
 pub use options::LoadOptions;
 pub use outcome::Outcome;
+pub use records::{InMemory, Records};
 pub use surroundings::Surroundings;

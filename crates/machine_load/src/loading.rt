@@ -1,15 +1,21 @@
 //! The load itself.
-ghost use Rattle.std.specs.Prelude.{◌≡◌, ◌⊎◌, true, [], ◌∷◌, None, Ok, Err, IfOk, IfErr, OnOk};
+ghost use Rattle.std.specs.Prelude.{◌≡◌, ◌≤◌, ◌⊎◌, true, length, [], ◌∷◌, None, Some, Ok, Err, IfOk, IfErr, IsSome, OnOk, option_map};
 ghost use Rattle.std.specs.Io.KnownBytes.{Appends, Keeps};
+ghost use Rattle.host_core.specs.Bound.{character_bound};
 ghost use Rattle.host_core.specs.Core.{ended};
-ghost use Rattle.load_devices.specs.Told.{Gains};
+ghost use Rattle.load_devices.specs.Dialogue.{news_between};
+ghost use Rattle.load_engine.specs.Belief.{IsBelievableOver, TellsStartOver};
+ghost use Rattle.load_engine.specs.Failing.{Counts, NamesFault};
+ghost use Rattle.load_engine.specs.Keeping.{KeptBy};
+ghost use Rattle.load_engine.specs.Session.{KeepsMarkFirst, Session, TellsEnd};
 ghost use Rattle.host_core.specs.Opening.{refusal_of};
 ghost use Rattle.load_record.specs.Reading.{Says};
-ghost use Rattle.machine_load.specs.Load.{IsBegun, IsDriven, IsLife, IsOpening, IsReported, words_taken};
+ghost use Rattle.machine_load.specs.Driving.{ending_of, finish_of, keeper_tells, line_told, IsDrivenLife, IsLived, IsLoadReported, IsLoadUntold};
+ghost use Rattle.machine_load.specs.Load.{around_of, setting, Asks, IsNeverBegun, IsOpening, IsReported, words_taken};
 ghost use Rattle.machine_load.specs.LoadFault.{IsLoadFault, IsOpeningFault, IsDrivingFault, IsReportFault};
 ghost use Rattle.machine_load.specs.LoadReport.{load_report};
 ghost use Rattle.record_file.specs.OldRecord.{HoldsNoRecord};
-ghost use Rattle.machine_load.specs.Step.{reading, Connect, BeginRecord};
+ghost use Rattle.machine_load.specs.Step.{reading, Connect, BeginRecord, EndRecord};
 
 use crate::fault::LoadFault;
 use crate::options::LoadOptions;
@@ -39,7 +45,8 @@ const REPORT_ROOM: usize = 128;
 /// one whose start was typed before, is reported with no connection, and its record stays as it is.
 /// Else a connection is made, the record is written anew with the words that count as verified, and
 /// the engine drives for 10,000,000 turns at most. The report is of the core that the engine gives
-/// back. Where each word is to be looked at again, no word counts as verified; a typed start does.
+/// back, and so is the line, without which only a life ends that was over before it began. Where each
+/// word is to be looked at again, no word counts as verified; a typed start does.
 ///
 /// `ReadRecord`, `RecordInUse`, `Record` and `Connect` come with nothing reported and the record as it
 /// was, `WriteRecord` before the first key, and before the connection where the record is protected.
@@ -52,16 +59,55 @@ pub fn load<S: Surroundings, W: Write, O: Onlooker>(
     around: &mut S,
     out: &mut W,
     onlooker: &O,
-) -> Result<Outcome, LoadFault>
-    ensures reported { IfOk result (IsReported (S.record_text around.old) plan options (S.steps around.old) (S.steps around.new) (S.record_text around.new) (W.contents out.old) (W.contents out.new)) }
-    ensures fault { IfErr result (IsLoadFault plan options (S.steps around.old) (S.steps around.new) (S.record_text around.old) (S.record_text around.new) (W.contents out.old) (W.contents out.new)) }
+) -> Result<Outcome<S::Line>, LoadFault>
+    ensures reported { IfOk result (λ outcome. IsReported plan options
+        (setting S.steps S.record_text W.contents around.old out.old)
+        (setting S.steps S.record_text W.contents around.new out.new)
+        outcome.stop outcome.marked) }
+    ensures lived { IfOk result (λ outcome. IsLoadReported
+        (keeper_tells S.Keeper.told S.Keeper.fault_count S.Keeper.last_fault S.Keeper.keeps S.Keeper.fails S.begins S.kept_text)
+        plan options
+        (setting S.steps S.record_text W.contents around.old out.old)
+        (setting S.steps S.record_text W.contents around.new out.new)
+        (ending_of outcome.stop outcome.marked (option_map (line_told S.Line.told S.Line.fault_count S.Line.last_fault) outcome.line))) }
+    ensures untold { IfErr result (λ fault. fault ≡ LoadFault.WriteOutput → IsLoadUntold
+        (keeper_tells S.Keeper.told S.Keeper.fault_count S.Keeper.last_fault S.Keeper.keeps S.Keeper.fails S.begins S.kept_text)
+        plan options
+        (setting S.steps S.record_text W.contents around.old out.old)
+        (setting S.steps S.record_text W.contents around.new out.new)) }
+    ensures line { IfOk result (λ outcome. IsSome outcome.line ⊎ IsNeverBegun outcome.stop) }
+    ensures fault { IfErr result (IsLoadFault plan options
+        (setting S.steps S.record_text W.contents around.old out.old)
+        (setting S.steps S.record_text W.contents around.new out.new)) }
 {
     let (core, writable) = open(alloc, plan, options, around)?;
     let report = Vec::with_capacity(alloc, REPORT_ROOM)?;
-    let (core, stop) = live(alloc, core, writable, around, onlooker)?;
-    tell(report, &core, stop, out)?;
-    let marked = core.progress().going;
-    Ok(Outcome { stop, marked })
+    let lived = live(alloc, core, writable, around, onlooker)?;
+    tell(report, &lived.core, lived.stop, out)?;
+    Ok(lived.outcome())
+}
+
+// A life that is over, and the line that it had.
+#[derive(Drop)]
+struct Lived<L> {
+    core: HostCore,
+    stop: Stop,
+    line: Option<L>,
+}
+
+impl<L> Lived<L> {
+    fn outcome(self) -> Outcome<L>
+        ensures stop { result.stop ≡ self.stop }
+        ensures marked { result.marked ≡ self.core.going }
+        ensures line { result.line ≡ self.line }
+    {
+        let Lived { core, stop, line } = self;
+        Outcome {
+            stop,
+            marked: core.progress().going,
+            line,
+        }
+    }
 }
 
 // The life that begins with what the record says, and whether the record may be written.
@@ -72,8 +118,13 @@ fn open<S: Surroundings>(
     around: &mut S,
 ) -> Result<(HostCore, bool), LoadFault>
     ensures opened { IfOk result (λ opened. IsOpening (S.record_text around.old) plan options opened.0) }
-    ensures step { IfOk result (λ opened. Gains (S.steps around.old) (S.steps around.new) (reading opened.1 ∷ [])) }
-    ensures fault { IfErr result (IsOpeningFault (S.steps around.old) (S.steps around.new) (S.record_text around.old) plan) }
+    ensures step { IfOk result (λ opened. Asks
+        (around_of S.steps S.record_text around.old)
+        (around_of S.steps S.record_text around.new)
+        (reading opened.1 ∷ [])) }
+    ensures fault { IfErr result (IsOpeningFault plan
+        (around_of S.steps S.record_text around.old)
+        (around_of S.steps S.record_text around.new)) }
     ensures same { Keeps (S.record_text around.old) (S.record_text around.new) }
 {
     let record = around.read_record(alloc)?;
@@ -119,15 +170,40 @@ fn live<S: Surroundings, O: Onlooker>(
     writable: bool,
     around: &mut S,
     onlooker: &O,
-) -> Result<(HostCore, Stop), LoadFault>
-    ensures life { IfOk result (λ lived. IsLife writable core lived.0 lived.1 (S.steps around.old) (S.steps around.new) (S.record_text around.old) (S.record_text around.new)) }
-    ensures fault { IfErr result (IsDrivingFault writable (S.steps around.old) (S.steps around.new) (S.record_text around.old) (S.record_text around.new)) }
+) -> Result<Lived<S::Line>, LoadFault>
+    ensures lived { IfOk result (λ lived. IsLived
+        (keeper_tells S.Keeper.told S.Keeper.fault_count S.Keeper.last_fault S.Keeper.keeps S.Keeper.fails S.begins S.kept_text)
+        writable core
+        (around_of S.steps S.record_text around.old)
+        (around_of S.steps S.record_text around.new)
+        (finish_of lived.core lived.stop (option_map (line_told S.Line.told S.Line.fault_count S.Line.last_fault) lived.line))) }
+    ensures fault { IfErr result (IsDrivingFault writable
+        (around_of S.steps S.record_text around.old)
+        (around_of S.steps S.record_text around.new)) }
 {
     match core.end() {
-        Some(end) => Ok((core, Stop::Ended(end))),
-        None if writable => drive_over(alloc, core, around, onlooker),
+        Some(end) => Ok(Lived {
+            core,
+            stop: Stop::Ended(end),
+            line: None,
+        }),
+        None if writable => {
+            let Driven { core, stop, line } = drive_over(alloc, core, around, onlooker)?;
+            Ok(Lived {
+                core,
+                stop,
+                line: Some(line),
+            })
+        }
         None => Err(LoadFault::WriteRecord),
     }
+}
+
+// A life that the engine drove, and its line.
+struct Driven<L> {
+    core: HostCore,
+    stop: Stop,
+    line: L,
 }
 
 // A life that goes on, over a new connection.
@@ -136,34 +212,53 @@ fn drive_over<S: Surroundings, O: Onlooker>(
     core: HostCore,
     around: &mut S,
     onlooker: &O,
-) -> Result<(HostCore, Stop), LoadFault>
-    ensures driven { IfOk result (λ driven. IsDriven core driven.0 driven.1) }
-    ensures steps { OnOk result (Gains (S.steps around.old) (S.steps around.new) (Connect ∷ BeginRecord ∷ [])) }
-    ensures begun { OnOk result (IsBegun (S.record_text around.new) core.plan core.verified) }
-    ensures fault { IfErr result (IsDrivingFault true (S.steps around.old) (S.steps around.new) (S.record_text around.old) (S.record_text around.new)) }
+) -> Result<Driven<S::Line>, LoadFault>
+    requires goes_on { ended core.phase ≡ None }
+    ensures driven { IfOk result (λ driven. IsDrivenLife
+        (keeper_tells S.Keeper.told S.Keeper.fault_count S.Keeper.last_fault S.Keeper.keeps S.Keeper.fails S.begins S.kept_text)
+        true core
+        (around_of S.steps S.record_text around.old)
+        (around_of S.steps S.record_text around.new)
+        (finish_of driven.core driven.stop (Some (line_told S.Line.told S.Line.fault_count S.Line.last_fault driven.line)))) }
+    ensures fault { IfErr result (IsDrivingFault true
+        (around_of S.steps S.record_text around.old)
+        (around_of S.steps S.record_text around.new)) }
 {
     let line = around.connect()?;
     let verified = core.progress().verified;
     let keeper = around.begin_record(alloc, core.plan(), verified)?;
-    Ok(drive_watched(core, line, keeper, onlooker))
+    let (driven, keeper) = drive_watched(core, line, keeper, onlooker);
+    around.end_record(keeper);
+    Ok(driven)
 }
 
-// Drives a life that an onlooker is told of.
+// Drives a life that an onlooker is told of. Line and keeper come back.
 fn drive_watched<L: Line + Drop, K: Keep + Drop, O: Onlooker>(
     core: HostCore,
     line: L,
     keeper: K,
     onlooker: &O,
-) -> (HostCore, Stop)
-    ensures { IsDriven core result.0 result.1 }
+) -> (Driven<L>, K)
+    ensures turns { Session 10000000 (Some result.0.stop) core result.0.core
+        (L.told line) (L.told result.0.line) (K.told keeper) (K.told result.1) }
+    ensures end { TellsEnd result.0.stop result.0.core }
+    ensures counted { Counts (Some result.0.stop)
+        (L.fault_count line) (L.fault_count result.0.line) (K.fault_count keeper) (K.fault_count result.1) }
+    ensures fault { NamesFault (Some result.0.stop) (L.last_fault result.0.line) (K.last_fault result.1) }
+    ensures kept_by { KeptBy K.keeps K.fails (Some result.0.stop) keeper (news_between core result.0.core) result.1 }
+    ensures mark_first { KeepsMarkFirst (L.told line) (L.told result.0.line) (K.told keeper) (K.told result.1) }
+    ensures honest { IsBelievableOver result.0.stop core result.0.core (L.told line) (L.told result.0.line) }
+    ensures start { TellsStartOver core result.0.core (L.told line) (L.told result.0.line) }
+    ensures bound { result.0.core.sent ≤ character_bound (length result.0.core.plan.words) result.0.core.patience }
 {
     let words = core.plan().words().len() as u32;
     onlooker.begins(core.progress().verified, words);
     let mut line = WatchedLine::new(line, onlooker);
     let mut keeper = WatchedKeeper::new(keeper, onlooker);
-    let driven = drive(core, &mut line, &mut keeper, TURNS);
+    let (core, stop) = drive(core, &mut line, &mut keeper, TURNS);
     onlooker.ends();
-    driven
+    let line = line.into_line();
+    (Driven { core, stop, line }, keeper.into_keeper())
 }
 
 // Reports a life, in a text that has the room.

@@ -1,9 +1,11 @@
-ghost use Rattle.std.specs.Prelude.{ℕ, List, [], ◌∷◌, Option, None, IfOk, IfErr, OnOk};
+ghost use Rattle.std.specs.Prelude.{◌≡◌, ℕ, List, [], ◌∷◌, Option, None, IfOk, IfErr, OnOk, ⊤};
 ghost use Rattle.std.specs.Io.KnownBytes.{Keeps};
 ghost use Rattle.load_devices.specs.Told.{Gains};
 ghost use Rattle.machine_load.specs.Load.{IsBegun, IsRecordText};
 ghost use Rattle.record_file.specs.RecordFault.{IsUnread, IsUnbegun};
-ghost use Rattle.machine_load.specs.Step.{Step, read_step, connect_step, begin_step};
+ghost use Rattle.console_reach.specs.Reached.{IsFresh};
+ghost use Rattle.tape_image.specs.Plan.{PlanValue};
+ghost use Rattle.machine_load.specs.Step.{Step, EndRecord, read_step, connect_step, begin_step};
 
 use load_devices::{Keep, Line, LineFault};
 use record_file::{OldRecord, RecordFault};
@@ -25,6 +27,12 @@ pub trait Surroundings {
     /// What the record is; None where the type doesn't tell.
     ghost record_text: { Self → Option (List ℕ) } = { λ _. None };
 
+    /// What the record is that a keeper keeps; None where the type doesn't tell.
+    ghost kept_text: { Self.Keeper → Option (List ℕ) } = { λ _. None };
+
+    /// What a keeper is that was begun with so many words of a plan, where the type says it.
+    ghost begins: { Self.Keeper → PlanValue → ℕ → Type 0 } = { λ _ _ _. ⊤ };
+
     /// The record of earlier lives, which from there on is held: no other load has it until this one is
     /// over. It is changed in nothing.
     fn read_record(&mut self, alloc: Global) -> Result<OldRecord, RecordFault>
@@ -33,9 +41,10 @@ pub trait Surroundings {
         ensures fault { IfErr result IsUnread }
         ensures same { Keeps (record_text self.old) (record_text self.new) };
 
-    /// A connection to the console.
+    /// A connection to the console, on which nothing was said.
     fn connect(&mut self) -> Result<Self::Line, LineFault>
         ensures step { Gains (steps self.old) (steps self.new) (connect_step result ∷ []) }
+        ensures fresh { IfOk result (λ line. IsFresh (Self.Line.told line) (Self.Line.fault_count line) (Self.Line.last_fault line)) }
         ensures same { Keeps (record_text self.old) (record_text self.new) };
 
     /// Writes the record anew, with the first verified words of the plan, and keeps it from there on.
@@ -47,5 +56,11 @@ pub trait Surroundings {
     ) -> Result<Self::Keeper, RecordFault>
         ensures step { Gains (steps self.old) (steps self.new) (begin_step result ∷ []) }
         ensures fault { IfErr result IsUnbegun }
-        ensures begun { OnOk result (IsBegun (record_text self.new) plan.now verified) };
+        ensures begun { OnOk result (IsBegun (record_text self.new) plan.now verified) }
+        ensures keeper { IfOk result (λ keeper. begins keeper plan.now verified) };
+
+    /// Takes back the keeper of a life that is over: the record is what it has kept.
+    fn end_record(&mut self, keeper: Self::Keeper)
+        ensures step { Gains (steps self.old) (steps self.new) (EndRecord ∷ []) }
+        ensures text { record_text self.new ≡ kept_text keeper };
 }

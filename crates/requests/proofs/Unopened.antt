@@ -4,7 +4,7 @@ use Rattle.std.proofs.lemmas.List.{length-map}
 use Rattle.std.proofs.lemmas.List.Elements.{Contains-append_left, Contains-append_right, Contains-get_or}
 use Rattle.endings.specs.declared.failure.Failure.{Failure}
 use Rattle.endings.specs.declared.failure.Failure.TheVariants.{CannotRead, NoMemory}
-use Rattle.requests.specs.Attempt.{Known, Name, OfFiles, IsUnopened}
+use Rattle.requests.specs.Files.{Known, Name, Inputs, OfFiles, IsUnopened, inputs_of}
 
 -- what can't be opened of some files can't of more
 pub unopened_within : (xs ys : List Name) → ((x : Name) → Contains xs x → Contains ys x) → (f : Failure) → IsUnopened xs f → IsUnopened ys f
@@ -35,5 +35,5 @@ script_unopened tape script more f is =
 pub more_unopened : (tape script : Name) (more : List Name) (f : Failure) → IsUnopened more f → IsUnopened (tape ∷ script ∷ more) f
 more_unopened tape script more f is = unopened_within more (tape ∷ script ∷ more) (λ x h. Contains-append_right (tape ∷ script ∷ []) more x h) f is
 
-pub of_files : {X : Type 0} (known : X → Known) (names : List Name) (files now : List X) (P : List Known → List Known → Type 0) → length files ≡ length names → P (map known files) (map known now) → OfFiles names P
+pub of_files : {X : Type 0} (known : X → Known) (names : List Name) (files now : List X) (P : Inputs → Type 0) → length files ≡ length names → P (inputs_of names known files now) → OfFiles names P
 of_files known names files now P count is = record { held = map known files; rests = map known now; one_each = length-map files known ∙ count; is_so = is }

@@ -1,1 +1,9 @@
 pub mod Attempt
+pub mod Checking
+pub mod Files
+pub mod Listening
+pub mod Loading
+pub mod Looking
+pub mod Rehearsing
+pub mod Showing
+pub mod Typing

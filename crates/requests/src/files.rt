@@ -1,12 +1,20 @@
-//! Opening the files that a request names.
-ghost use Rattle.std.specs.Prelude.{◌≡◌, ◌+◌, ◌∷◌, [], length, IfOk, IfErr, OnOk, Contains};
-ghost use Rattle.requests.specs.Attempt.{IsUnopened};
+//! Opening the files that a request names, and passing on what was written.
+ghost use Rattle.std.specs.Prelude.{◌≡◌, ◌+◌, ◌∷◌, [], length, IfOk, IfErr, OnOk};
+ghost use Rattle.std.specs.Io.KnownBytes.{Keeps};
+ghost use Rattle.requests.specs.Files.{IsUnopened, means_input};
 
-use endings::Failure;
+use endings::{Failure, Status};
 use std::alloc::Global;
 use std::fs;
-use std::io::BufReader;
+use std::io::{BufReader, Write};
 use std::rt::Files;
+
+/// Whether the names of tapes mean standard input: it has one, and that is `-`.
+pub(crate) fn is_input(names: &[&str]) -> bool
+    ensures { result ≡ means_input names.now }
+{
+    names.len() == 1 && *names[0] == *"-"
+}
 
 /// Opens a file. It is read ahead, which nobody sees: no one else reads what this program has opened.
 pub(crate) fn open<'a, F: Files>(
@@ -72,4 +80,16 @@ pub(crate) fn joined<'a>(
         return Err(Failure::NoMemory);
     }
     Ok(names)
+}
+
+/// Passes on what an output has taken, and answers the status; `CannotWrite` where that fails.
+pub(crate) fn flushed<W: Write>(out: &mut W, status: Status) -> Result<Status, Failure<'static>>
+    ensures ok { IfOk result (λ given. given ≡ status) }
+    ensures err { IfErr result (λ failure. failure ≡ Failure.CannotWrite) }
+    ensures bytes { Keeps (W.contents out.old) (W.contents out.new) }
+{
+    match out.flush() {
+        Ok(()) => Ok(status),
+        Err(_) => Err(Failure::CannotWrite),
+    }
 }

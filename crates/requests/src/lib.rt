@@ -3,15 +3,25 @@
 //! A `Request` names a command, its files and its options. `attempt` does it and answers the exit
 //! status; where it can't be done, one line on standard error says why, by the name of the file that
 //! was at fault. Each command's own contract stands in its crate: `tape_check`, `console_typing`,
-//! `rehearsals`, `machine_load`. Which status and which line an end or a fault becomes stands in `endings`.
+//! `rehearsals`, `machine_load`, `machine_look`. Which status and which line an end or a fault becomes
+//! stands in `endings`.
 //!
 //! The program `ldaodt` makes the request of the words of its command line.
 #![tactic(auto)]
 
+mod checking;
 mod files;
 mod handling;
+mod host;
+mod listening;
 mod loading;
+mod planning;
+mod rehearsing;
 mod request;
+mod saving;
+mod showing;
+mod typing;
+mod verifying;
 
 pub use handling::attempt;
-pub use request::{Console, Load, Request};
+pub use request::{Console, Load, Look, Request, Save};

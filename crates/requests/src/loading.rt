@@ -1,125 +1,165 @@
 //! Loading a real machine.
-ghost use Rattle.std.specs.Prelude.{◌≡◌, ◌⊎◌, List, map, codes, IfOk, IfErr};
-ghost use Rattle.tape_image.specs.Plan.{plan_of_all};
-ghost use Rattle.command_io.specs.Tapes.{TapeText, AreTaken, AreTapesFault, tapes_of};
-ghost use Rattle.requests.specs.Attempt.{OfFiles, HasFault, FailsUnopened, IsLoaded, IsLoadReported, IsLoadFailure, IsPlanFailure, ComesToNothing};
+ghost use Rattle.std.specs.Prelude.{◌≡◌, ◌⊎◌, IfOk, IfErr, IsSome};
+ghost use Rattle.std.specs.Mem.{FitsInMemory};
 ghost use Rattle.endings.specs.Failure.{IsStopFailure};
 ghost use Rattle.endings.specs.Status.{IsStopStatus};
+ghost use Rattle.endings.specs.Streams.{held};
+ghost use Rattle.machine_load.specs.Load.{IsNeverBegun};
+ghost use Rattle.requests.specs.Loading.{record_name, AreLoaded, AreUnloaded, IsEnded, IsEndFailure, IsPlanLoaded, IsPlanFailure};
 
-use crate::files::open_all;
+use crate::host::Host;
+use crate::listening::listen_behind;
+use crate::planning::plan_tapes;
 use crate::request::Load;
-use command_io::take_tapes;
-use endings::{Failure, STANDARD_INPUT, Status};
+use console_reach::{Port, Reach, Wire, is_path};
+use endings::{Failure, Status, Streams};
+use load_devices::Line;
 use load_engine::Stop;
 use load_progress::{Onlooker, ProgressLine, Unwatched};
-use machine_load::{Address, LoadFault, Outcome, Recorded, Unrecorded};
-use record_file::Locks;
+use machine_load::{Around, InMemory, Outcome, Surroundings, load};
+use record_file::{Locks, RecordFile};
+use serial_line::Devices;
 use std::alloc::Global;
 use std::io::{Print, Read, Write};
 use std::net::Net;
 use std::time::Clock;
 use tape_image::Plan;
 
-/// Loads tapes, as one, into the machine behind a port. A terminal shows how far that is.
-pub(crate) fn load_tapes<'a, F: Locks + Net + Clock, W: Write, T: Print>(
+/// Loads tapes, as one, into a real machine. A terminal shows how far that is.
+pub(crate) fn load_tapes<
+    'a,
+    F: Locks + Devices + Net + Clock,
+    R: Read,
+    W: Write,
+    E: Write,
+    T: Print,
+>(
     rt: &F,
     alloc: Global,
     names: &[&'a str],
     load: Load<'a>,
-    out: &mut W,
+    streams: &mut Streams<R, W, E>,
     terminal: Option<&T>,
 ) -> Result<Status, Failure<'a>>
-    ensures ok { IfOk result (λ status. OfFiles names.now (λ held rests. (outcome : Outcome) × IsLoaded held rests load.entry.options (W.contents out.old) (W.contents out.new) outcome × IsStopStatus outcome.stop status)) }
-    ensures err { IfErr result (λ failure. FailsUnopened names.now (W.contents out.old) (W.contents out.new) failure ⊎ OfFiles names.now (λ held rests. IsLoadFailure names.now load.entry held rests (W.contents out.old) (W.contents out.new) failure)) }
+    requires { FitsInMemory R.row }
+    ensures ok { IfOk result (AreLoaded names.now load.entry
+        (held R.remaining W.contents E.contents streams.old)
+        (held R.remaining W.contents E.contents streams.new)) }
+    ensures err { IfErr result (AreUnloaded names.now load.entry
+        (held R.remaining W.contents E.contents streams.old)
+        (held R.remaining W.contents E.contents streams.new)) }
+    ensures quiet { streams.new.err ≡ streams.old.err }
 {
-    let mut files = open_all(rt, alloc, names)?;
-    let plan = plan_of(alloc, names, &mut files)?;
+    let planned = plan_tapes(rt, alloc, names, streams)?;
+    let plan = planned.starting(load.start);
     match terminal {
         Some(terminal) => {
-            load_machine(rt, alloc, load, plan, out, &ProgressLine::new(rt, terminal))
-        }
-        None => load_machine(rt, alloc, load, plan, out, &Unwatched),
-    }
-}
-
-/// The plan of some tapes, as one.
-fn plan_of<'a, R: Read>(
-    alloc: Global,
-    names: &[&'a str],
-    tapes: &mut [R],
-) -> Result<Plan, Failure<'a>>
-    ensures ok { IfOk result (λ plan. (texts : List TapeText) × AreTaken (map R.remaining tapes.old) (map R.remaining tapes.new) texts × (plan ≡ plan_of_all (tapes_of texts))) }
-    ensures err { IfErr result (HasFault (AreTapesFault (map R.remaining tapes.old) (map R.remaining tapes.new)) names.now (codes "standard input")) }
-{
-    let taken = match take_tapes(alloc, tapes) {
-        Ok(taken) => taken,
-        Err(fault) => return Err(Failure::of(fault, names, STANDARD_INPUT)),
-    };
-    match Plan::of_all(alloc, &taken.tapes) {
-        Ok(plan) => Ok(plan),
-        Err(_) => Err(Failure::NoMemory),
-    }
-}
-
-/// Loads a plan into the machine behind a port.
-fn load_machine<'a, F: Locks + Net, W: Write, O: Onlooker>(
-    rt: &F,
-    alloc: Global,
-    load: Load<'a>,
-    plan: Plan,
-    out: &mut W,
-    onlooker: &O,
-) -> Result<Status, Failure<'a>>
-    ensures ok { IfOk result (λ status. (outcome : Outcome) × IsLoadReported plan load.entry.options (W.contents out.old) (W.contents out.new) outcome × IsStopStatus outcome.stop status) }
-    ensures err { IfErr result (IsPlanFailure plan load.entry (W.contents out.old) (W.contents out.new)) }
-{
-    // Without a record no fault names one.
-    let record = load.record.unwrap_or("");
-    match drive_machine(rt, alloc, load, plan, out, onlooker) {
-        Ok(outcome) => status_after(outcome, record),
-        Err(fault) => Err(Failure::of_load(fault, load.address, record)),
-    }
-}
-
-/// Loads a plan into the machine behind a port, with a record in a file or in memory alone.
-fn drive_machine<F: Locks + Net, W: Write, O: Onlooker>(
-    rt: &F,
-    alloc: Global,
-    load: Load<'_>,
-    plan: Plan,
-    out: &mut W,
-    onlooker: &O,
-) -> Result<Outcome, LoadFault>
-    ensures ok { IfOk result (IsLoadReported plan load.entry.options (W.contents out.old) (W.contents out.new)) }
-    ensures err { IfErr result (ComesToNothing plan load.entry.options (W.contents out.old) (W.contents out.new)) }
-{
-    let address = Address {
-        name: load.address,
-        quiet_ms: load.quiet_ms,
-    };
-    let options = load.options;
-    match load.record {
-        Some(record) => {
-            let mut around = Recorded::new(rt, address, record);
-            machine_load::load(alloc, plan, options, &mut around, out, onlooker)
+            let onlooker = &ProgressLine::new(rt, terminal);
+            load_plan(&Host { system: rt, alloc, onlooker }, plan, load, &mut streams.out)
         }
         None => {
-            let mut around = Unrecorded { rt, address };
-            machine_load::load(alloc, plan, options, &mut around, out, onlooker)
+            let onlooker = &Unwatched;
+            load_plan(&Host { system: rt, alloc, onlooker }, plan, load, &mut streams.out)
         }
     }
 }
 
-/// What the program ends with after a load that stopped so and was reported.
-fn status_after(outcome: Outcome, file: &str) -> Result<Status, Failure<'_>>
-    ensures status { IfOk result (IsStopStatus outcome.stop) }
-    ensures failure { IfErr result (IsStopFailure outcome.stop outcome.marked file.entry.now) }
+// Loads a plan through a device or a port, by what the line's name is.
+fn load_plan<'a, F: Locks + Devices + Net + Clock, O: Onlooker, W: Write>(
+    host: &Host<'_, F, O>,
+    plan: Plan,
+    load: Load<'a>,
+    out: &mut W,
+) -> Result<Status, Failure<'a>>
+    ensures ok { IfOk result (IsPlanLoaded plan load.entry (W.contents out.old) (W.contents out.new)) }
+    ensures err { IfErr result (IsPlanFailure plan load.entry (W.contents out.old) (W.contents out.new)) }
 {
-    match outcome.stop {
+    let quiet_ms = load.quiet_ms;
+    if is_path(load.line) {
+        let wire = Wire { system: host.system, path: load.line, quiet_ms };
+        load_through(host, plan, load, wire, out)
+    } else {
+        let port = Port { net: host.system, address: load.line, quiet_ms };
+        load_through(host, plan, load, port, out)
+    }
+}
+
+// Loads a plan through a console, with a record in a file or in memory alone.
+fn load_through<'a, F: Locks, O: Onlooker, C: Reach + Drop, W: Write>(
+    host: &Host<'_, F, O>,
+    plan: Plan,
+    load: Load<'a>,
+    console: C,
+    out: &mut W,
+) -> Result<Status, Failure<'a>>
+    ensures ok { IfOk result (IsPlanLoaded plan load.entry (W.contents out.old) (W.contents out.new)) }
+    ensures err { IfErr result (IsPlanFailure plan load.entry (W.contents out.old) (W.contents out.new)) }
+{
+    match load.record {
+        Some(name) => {
+            let records = RecordFile::new(host.system, name);
+            load_with(host, plan, load, &mut Around { console, records }, out)
+        }
+        None => {
+            let records = InMemory;
+            load_with(host, plan, load, &mut Around { console, records }, out)
+        }
+    }
+}
+
+// Loads a plan in these surroundings.
+fn load_with<'a, F, O: Onlooker, S: Surroundings, W: Write>(
+    host: &Host<'_, F, O>,
+    plan: Plan,
+    request: Load<'a>,
+    around: &mut S,
+    out: &mut W,
+) -> Result<Status, Failure<'a>>
+    ensures ok { IfOk result (IsPlanLoaded plan request.entry (W.contents out.old) (W.contents out.new)) }
+    ensures err { IfErr result (IsPlanFailure plan request.entry (W.contents out.old) (W.contents out.new)) }
+{
+    match load(host.alloc, plan, request.options, around, out, host.onlooker) {
+        Ok(outcome) => end(request, outcome, out),
+        Err(fault) => Err(Failure::of_load(fault, request.line, record_name(request.record))),
+    }
+}
+
+// What comes behind the report of a load: listening, where it is asked for, and then the status.
+fn end<'a, L: Line + Drop, W: Write>(
+    load: Load<'a>,
+    outcome: Outcome<L>,
+    out: &mut W,
+) -> Result<Status, Failure<'a>>
+    requires { IsSome outcome.line ⊎ IsNeverBegun outcome.stop }
+    ensures ok { IfOk result (IsEnded load.entry outcome.stop (W.contents out.old) (W.contents out.new)) }
+    ensures err { IfErr result (IsEndFailure load.entry outcome.stop outcome.marked (W.contents out.old) (W.contents out.new)) }
+{
+    let Outcome { stop, marked, line } = outcome;
+    let status = status_after(stop, marked, record_name(load.record))?;
+    listen_behind(load, stop, line, out)?;
+    Ok(status)
+}
+
+// What the program ends with after a load that stopped so and was reported.
+fn status_after(stop: Stop, marked: bool, file: &str) -> Result<Status, Failure<'_>>
+    ensures status { IfOk result (IsStopStatus stop) }
+    ensures failure { IfErr result (IsStopFailure stop marked file.entry.now) }
+{
+    match stop {
         Stop::Ended(end) => Ok(Status::of_end(end)),
-        Stop::LineFailed(_) if outcome.marked => Err(Failure::StartInDoubt),
+        Stop::LineFailed(_) if marked => Err(Failure::StartInDoubt),
         Stop::LineFailed(_) => Err(Failure::LineFailed),
         Stop::KeepFailed(_) => Err(Failure::CannotWriteFile(file)),
         Stop::TurnsOver => Ok(Status::NotLoaded),
+    }
+}
+
+// What faults call the record.
+fn record_name<'a>(file: Option<&'a str>) -> &'a str
+    ensures { result.now ≡ record_name file.entry }
+{
+    match file {
+        Some(name) => name,
+        None => "the record in memory",
     }
 }

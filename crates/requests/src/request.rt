@@ -1,23 +1,37 @@
 use machine_load::LoadOptions;
+use machine_look::AddressRange;
 use odt_machine::Style;
+use tape_image::Start;
 
 /// What the words after the program's name ask for.
 ///
-/// Tapes are named in the order in which they are joined, the first before all others.
+/// Tapes are named in the order in which they are joined, the first before all others; the name `-` is
+/// standard input.
 #[derive(Drop)]
 pub enum Request<'a> {
     /// Check the tape on standard input: there were no words.
     CheckInput,
+
     /// Check the tapes in some files.
     Check(Vec<&'a str>),
-    /// Show the load of tapes, as one, into a simulated console.
-    Dialogue(Vec<&'a str>, Console),
+
+    /// Show the load of tapes, as one, into a simulated console, with this start.
+    Dialogue(Vec<&'a str>, Console, Start),
+
     /// Rehearse, with the tape in the first file, the script in the second, and further tapes.
     Rehearse(&'a str, &'a str, Vec<&'a str>),
+
     /// Type standard input into a simulated console.
     Type(Console),
-    /// Load tapes, as one, into the machine behind a port.
+
+    /// Load tapes, as one, into a real machine.
     Load(Vec<&'a str>, Load<'a>),
+
+    /// Look whether a real machine holds what tapes, as one, say.
+    Verify(Vec<&'a str>, Look<'a>),
+
+    /// Save words of a real machine as a tape, in a file of this name, which is not there yet.
+    Save(&'a str, Save<'a>),
 }
 
 /// A simulated console: how many words its machine has, and how it answers.
@@ -25,6 +39,7 @@ pub enum Request<'a> {
 pub struct Console {
     /// The words of the machine, 0 to 28,672.
     pub words: u16,
+
     /// What its answers look like.
     pub style: Style,
 }
@@ -32,12 +47,47 @@ pub struct Console {
 /// A load into a real machine.
 #[derive(Clone, Copy, Debug, PartialEq, Eq)]
 pub struct Load<'a> {
-    /// The console's HOST:PORT.
-    pub address: &'a str,
+    /// The line to the console: the path of a device, which has a slash, or HOST:PORT.
+    pub line: &'a str,
+
     /// The record's file, where there is to be one.
     pub record: Option<&'a str>,
+
     /// How the load is to go about it.
     pub options: LoadOptions,
+
+    /// The start in place of the tape's.
+    pub start: Start,
+
+    /// How many seconds of silence end the listening behind the load, where there is to be any.
+    pub listen: Option<u16>,
+
     /// The quiet time in milliseconds.
     pub quiet_ms: u32,
+}
+
+/// A look at a real machine.
+#[derive(Clone, Copy, Debug, PartialEq, Eq)]
+pub struct Look<'a> {
+    /// The line to the console: the path of a device, which has a slash, or HOST:PORT.
+    pub line: &'a str,
+
+    /// How many mishaps the host survives.
+    pub patience: u32,
+
+    /// The quiet time in milliseconds.
+    pub quiet_ms: u32,
+}
+
+/// A save of what a real machine holds.
+#[derive(Clone, Copy, Debug, PartialEq, Eq)]
+pub struct Save<'a> {
+    /// The words that are read.
+    pub range: AddressRange,
+
+    /// The start address of the tape; an odd one starts nothing.
+    pub start: u16,
+
+    /// How the machine is looked at.
+    pub look: Look<'a>,
 }

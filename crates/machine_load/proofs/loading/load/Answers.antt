@@ -1,7 +1,11 @@
-use Rattle.std.proofs.Common.{inl, inr}
+use Rattle.std.proofs.Common.{inl, inr, sym, subst, option_map}
 use Rattle.std.proofs.KnownBytes.{Keeps-refl}
 use Rattle.machine_load.specs.declared.fault.LoadFault.TheVariants.{Memory}
+use Rattle.machine_load.specs.Driving.{finish_of, keeper_tells, line_told}
+use Rattle.machine_load.specs.Load.{around_of, setting, IsReported}
 use Rattle.machine_load.specs.LoadFault.{IsLoadFault}
+use Rattle.machine_load.proofs.Begun.{line_or_never, line_or_over, never_begun}
+use Rattle.machine_load.proofs.Driving.{is_life, load_reported, load_untold, undriven_told, unopened_told}
 use Rattle.machine_load.proofs.Faults.{of_opening, of_driving, of_report, error_is, no_value}
 use Rattle.machine_load.proofs.loading.load.Goals as goal
 
@@ -11,10 +15,11 @@ returns-in_err-core-clause-reported g c = no_value c.from_residual.result _ _ c.
 pub returns-in_err-core-clause-fault : goal.returns-in_err-core-clause-fault
 returns-in_err-core-clause-fault g c =
     error_is c.from_residual.result c.in_err-core.field-0.0
-    (IsLoadFault c.args.plan c.args.options (g.S.Surroundings.steps c.args.around.now) (g.S.Surroundings.steps c.open.new.around)
-    (g.S.Surroundings.record_text c.args.around.now) (g.S.Surroundings.record_text c.open.new.around) (g.W.Write.contents c.args.out.now) (g.W.Write.contents c.args.out.now))
+    (IsLoadFault c.args.plan c.args.options
+    (setting g.S.Surroundings.steps g.S.Surroundings.record_text g.W.Write.contents c.args.around.now c.args.out.now)
+    (setting g.S.Surroundings.steps g.S.Surroundings.record_text g.W.Write.contents c.open.new.around c.args.out.now))
     c.from_residual.ensures.1
-    (of_opening _ _ _ _ _ _ _ c.in_err-core.field-0.0 c.in_err-core.ensures.fault c.open.ensures.same)
+    (of_opening _ _ _ _ _ c.in_err-core.field-0.0 c.in_err-core.ensures.fault c.open.ensures.same)
 
 pub returns-in_err-report-clause-reported : goal.returns-in_err-report-clause-reported
 returns-in_err-report-clause-reported g c = no_value c.from_residual-in_err-report.result _ _ c.from_residual-in_err-report.ensures.1
@@ -22,21 +27,23 @@ returns-in_err-report-clause-reported g c = no_value c.from_residual-in_err-repo
 pub returns-in_err-report-clause-fault : goal.returns-in_err-report-clause-fault
 returns-in_err-report-clause-fault g c =
     error_is c.from_residual-in_err-report.result Memory
-    (IsLoadFault c.args.plan c.args.options (g.S.Surroundings.steps c.args.around.now) (g.S.Surroundings.steps c.open.new.around)
-    (g.S.Surroundings.record_text c.args.around.now) (g.S.Surroundings.record_text c.open.new.around) (g.W.Write.contents c.args.out.now) (g.W.Write.contents c.args.out.now))
+    (IsLoadFault c.args.plan c.args.options
+    (setting g.S.Surroundings.steps g.S.Surroundings.record_text g.W.Write.contents c.args.around.now c.args.out.now)
+    (setting g.S.Surroundings.steps g.S.Surroundings.record_text g.W.Write.contents c.open.new.around c.args.out.now))
     c.from_residual-in_err-report.ensures.1
     (inr (inl (c.in_ok-core.writable, record { steps_are = c.in_ok-core.ensures.step; record_same = c.open.ensures.same; nothing_reported = Keeps-refl (g.W.Write.contents c.args.out.now) })))
 
-pub returns-in_err-core-2-clause-reported : goal.returns-in_err-core-2-clause-reported
-returns-in_err-core-2-clause-reported g c = no_value c.from_residual-in_err-core-2.result _ _ c.from_residual-in_err-core-2.ensures.1
+pub returns-in_err-lived-clause-reported : goal.returns-in_err-lived-clause-reported
+returns-in_err-lived-clause-reported g c = no_value c.from_residual-in_err-lived.result _ _ c.from_residual-in_err-lived.ensures.1
 
-pub returns-in_err-core-2-clause-fault : goal.returns-in_err-core-2-clause-fault
-returns-in_err-core-2-clause-fault g c =
-    error_is c.from_residual-in_err-core-2.result c.in_err-core-2.field-0.0
-    (IsLoadFault c.args.plan c.args.options (g.S.Surroundings.steps c.args.around.now) (g.S.Surroundings.steps c.live.new.around)
-    (g.S.Surroundings.record_text c.args.around.now) (g.S.Surroundings.record_text c.live.new.around) (g.W.Write.contents c.args.out.now) (g.W.Write.contents c.args.out.now))
-    c.from_residual-in_err-core-2.ensures.1
-    (of_driving _ _ _ _ _ _ _ _ _ _ c.in_err-core-2.field-0.0 c.in_ok-core.ensures.step c.open.ensures.same c.in_err-core-2.ensures.fault)
+pub returns-in_err-lived-clause-fault : goal.returns-in_err-lived-clause-fault
+returns-in_err-lived-clause-fault g c =
+    error_is c.from_residual-in_err-lived.result c.in_err-lived.field-0.0
+    (IsLoadFault c.args.plan c.args.options
+    (setting g.S.Surroundings.steps g.S.Surroundings.record_text g.W.Write.contents c.args.around.now c.args.out.now)
+    (setting g.S.Surroundings.steps g.S.Surroundings.record_text g.W.Write.contents c.live.new.around c.args.out.now))
+    c.from_residual-in_err-lived.ensures.1
+    (of_driving _ _ _ _ (around_of g.S.Surroundings.steps g.S.Surroundings.record_text c.open.new.around) _ _ c.in_err-lived.field-0.0 c.in_ok-core.ensures.step c.open.ensures.same c.in_err-lived.ensures.fault)
 
 pub returns-in_err-tell-clause-reported : goal.returns-in_err-tell-clause-reported
 returns-in_err-tell-clause-reported g c = no_value c.from_residual-in_err-tell.result _ _ c.from_residual-in_err-tell.ensures.1
@@ -44,36 +51,101 @@ returns-in_err-tell-clause-reported g c = no_value c.from_residual-in_err-tell.r
 pub returns-in_err-tell-clause-fault : goal.returns-in_err-tell-clause-fault
 returns-in_err-tell-clause-fault g c =
     error_is c.from_residual-in_err-tell.result c.in_err-tell.field-0.0
-    (IsLoadFault c.args.plan c.args.options (g.S.Surroundings.steps c.args.around.now) (g.S.Surroundings.steps c.live.new.around)
-    (g.S.Surroundings.record_text c.args.around.now) (g.S.Surroundings.record_text c.live.new.around) (g.W.Write.contents c.args.out.now) (g.W.Write.contents c.tell.new.out))
+    (IsLoadFault c.args.plan c.args.options
+    (setting g.S.Surroundings.steps g.S.Surroundings.record_text g.W.Write.contents c.args.around.now c.args.out.now)
+    (setting g.S.Surroundings.steps g.S.Surroundings.record_text g.W.Write.contents c.live.new.around c.tell.new.out))
     c.from_residual-in_err-tell.ensures.1
-    (of_report _ _ _ _ _ _ _ _ c.in_ok-core-2.core c.in_ok-core-2.stop c.in_err-tell.field-0.0 (record {
+    (of_report _ _
+    (setting g.S.Surroundings.steps g.S.Surroundings.record_text g.W.Write.contents c.args.around.now c.args.out.now)
+    (setting g.S.Surroundings.steps g.S.Surroundings.record_text g.W.Write.contents c.live.new.around c.tell.new.out)
+    c.in_ok-lived.lived.core c.in_ok-lived.lived.stop c.in_err-tell.field-0.0 (record {
       first = c.in_ok-core.core;
       writable = c.in_ok-core.writable;
-      steps_between = _;
-      record_between = _;
+      between = around_of g.S.Surroundings.steps g.S.Surroundings.record_text c.open.new.around;
       read_first = c.in_ok-core.ensures.step;
       record_read = c.open.ensures.same;
       opened = c.in_ok-core.ensures.opened;
-      life = c.in_ok-core-2.ensures.life;
+      life = is_life _ _ _ _ _ (finish_of c.in_ok-lived.lived.core c.in_ok-lived.lived.stop _) c.in_ok-lived.ensures.lived;
     }) c.in_err-tell.ensures.err)
 
 pub returns-clause-reported : goal.returns-clause-reported
-returns-clause-reported g c = record {
-  last = c.in_ok-core-2.core;
-  load = record {
-    first = c.in_ok-core.core;
-    writable = c.in_ok-core.writable;
-    steps_between = _;
-    record_between = _;
-    read_first = c.in_ok-core.ensures.step;
-    record_read = c.open.ensures.same;
-    opened = c.in_ok-core.ensures.opened;
-    life = c.in_ok-core-2.ensures.life;
-  };
-  marked = c.progress-marked.ensures.going;
-  reported = c.in_ok-tell.ensures.ok;
-}
+returns-clause-reported g c =
+    subst (λ stop. IsReported c.args.plan c.args.options
+    (setting g.S.Surroundings.steps g.S.Surroundings.record_text g.W.Write.contents c.args.around.now c.args.out.now)
+    (setting g.S.Surroundings.steps g.S.Surroundings.record_text g.W.Write.contents c.live.new.around c.tell.new.out)
+    stop c.outcome.result.marked)
+    (sym c.outcome.ensures.stop) (record {
+      last = c.in_ok-lived.lived.core;
+      load = record {
+        first = c.in_ok-core.core;
+        writable = c.in_ok-core.writable;
+        between = around_of g.S.Surroundings.steps g.S.Surroundings.record_text c.open.new.around;
+        read_first = c.in_ok-core.ensures.step;
+        record_read = c.open.ensures.same;
+        opened = c.in_ok-core.ensures.opened;
+        life = is_life _ _ _ _ _ (finish_of c.in_ok-lived.lived.core c.in_ok-lived.lived.stop _) c.in_ok-lived.ensures.lived;
+      };
+      marked_is = c.outcome.ensures.marked;
+      reported = c.in_ok-tell.ensures.ok;
+    })
 
 pub returns-clause-fault : goal.returns-clause-fault
 returns-clause-fault g c = tt
+
+pub returns-clause-lived : goal.returns-clause-lived
+returns-clause-lived g c =
+    rw (sym c.outcome.ensures.stop, sym c.outcome.ensures.marked, sym c.outcome.ensures.line) at
+    (load_reported
+    (keeper_tells g.S.Keeper.Keep.told g.S.Keeper.Keep.fault_count g.S.Keeper.Keep.last_fault g.S.Keeper.Keep.keeps g.S.Keeper.Keep.fails g.S.Surroundings.begins g.S.Surroundings.kept_text)
+    (line_told g.S.Line.Line.told g.S.Line.Line.fault_count g.S.Line.Line.last_fault)
+    c.args.plan c.args.options
+    (setting g.S.Surroundings.steps g.S.Surroundings.record_text g.W.Write.contents c.args.around.now c.args.out.now)
+    (setting g.S.Surroundings.steps g.S.Surroundings.record_text g.W.Write.contents c.live.new.around c.tell.new.out)
+    (around_of g.S.Surroundings.steps g.S.Surroundings.record_text c.open.new.around)
+    c.in_ok-core.core c.in_ok-lived.lived.core c.in_ok-core.writable c.in_ok-lived.lived.stop c.in_ok-lived.lived.line
+    c.in_ok-core.ensures.step c.open.ensures.same c.in_ok-core.ensures.opened c.in_ok-lived.ensures.lived c.in_ok-tell.ensures.ok)
+
+pub returns-in_err-core-clause-untold : goal.returns-in_err-core-clause-untold
+returns-in_err-core-clause-untold g c =
+    error_is c.from_residual.result c.in_err-core.field-0.0 _ c.from_residual.ensures.1
+    (unopened_told c.args.plan
+    (around_of g.S.Surroundings.steps g.S.Surroundings.record_text c.args.around.now)
+    (around_of g.S.Surroundings.steps g.S.Surroundings.record_text c.open.new.around)
+    c.in_err-core.field-0.0 c.in_err-core.ensures.fault)
+
+pub returns-in_err-report-clause-untold : goal.returns-in_err-report-clause-untold
+returns-in_err-report-clause-untold g c =
+    error_is c.from_residual-in_err-report.result Memory _ c.from_residual-in_err-report.ensures.1 (λ is. absurd (cc is))
+
+pub returns-in_err-lived-clause-untold : goal.returns-in_err-lived-clause-untold
+returns-in_err-lived-clause-untold g c =
+    error_is c.from_residual-in_err-lived.result c.in_err-lived.field-0.0 _ c.from_residual-in_err-lived.ensures.1
+    (undriven_told c.in_ok-core.writable
+    (around_of g.S.Surroundings.steps g.S.Surroundings.record_text c.open.new.around)
+    (around_of g.S.Surroundings.steps g.S.Surroundings.record_text c.live.new.around)
+    c.in_err-lived.field-0.0 c.in_err-lived.ensures.fault)
+
+pub returns-in_err-tell-clause-untold : goal.returns-in_err-tell-clause-untold
+returns-in_err-tell-clause-untold g c =
+    error_is c.from_residual-in_err-tell.result c.in_err-tell.field-0.0 _ c.from_residual-in_err-tell.ensures.1
+    (load_untold
+    (keeper_tells g.S.Keeper.Keep.told g.S.Keeper.Keep.fault_count g.S.Keeper.Keep.last_fault g.S.Keeper.Keep.keeps g.S.Keeper.Keep.fails g.S.Surroundings.begins g.S.Surroundings.kept_text)
+    c.args.plan c.args.options
+    (setting g.S.Surroundings.steps g.S.Surroundings.record_text g.W.Write.contents c.args.around.now c.args.out.now)
+    (setting g.S.Surroundings.steps g.S.Surroundings.record_text g.W.Write.contents c.live.new.around c.tell.new.out)
+    (around_of g.S.Surroundings.steps g.S.Surroundings.record_text c.open.new.around)
+    c.in_ok-core.core c.in_ok-core.writable
+    (finish_of c.in_ok-lived.lived.core c.in_ok-lived.lived.stop (option_map (line_told g.S.Line.Line.told g.S.Line.Line.fault_count g.S.Line.Line.last_fault) c.in_ok-lived.lived.line))
+    c.in_err-tell.field-0.0
+    c.in_ok-core.ensures.step c.open.ensures.same c.in_ok-core.ensures.opened c.in_ok-lived.ensures.lived c.in_err-tell.ensures.err)
+
+pub returns-clause-line : goal.returns-clause-line
+returns-clause-line g c = rw (sym c.outcome.ensures.stop, sym c.outcome.ensures.line) at
+    (line_or_never c.in_ok-lived.lived.line (never_begun _ _ _ _ _ _ c.in_ok-core.ensures.opened)
+    (line_or_over
+    (keeper_tells g.S.Keeper.Keep.told g.S.Keeper.Keep.fault_count g.S.Keeper.Keep.last_fault g.S.Keeper.Keep.keeps g.S.Keeper.Keep.fails g.S.Surroundings.begins g.S.Surroundings.kept_text)
+    (line_told g.S.Line.Line.told g.S.Line.Line.fault_count g.S.Line.Line.last_fault)
+    c.in_ok-core.writable c.in_ok-core.core c.in_ok-lived.lived.core
+    (around_of g.S.Surroundings.steps g.S.Surroundings.record_text c.open.new.around)
+    (around_of g.S.Surroundings.steps g.S.Surroundings.record_text c.live.new.around)
+    c.in_ok-lived.lived.stop c.in_ok-lived.lived.line c.in_ok-lived.ensures.lived))

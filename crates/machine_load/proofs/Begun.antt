@@ -1,0 +1,44 @@
+-- Lives that are over before they have begun.
+use Rattle.std.proofs.Common.{◌≡◌, ◌⊎◌, ℕ, Bool, true, false, ◌==◌, ◌&&◌, if◌then◌else◌, List, Option, Some, None, IsSome, option_map, length, refl, sym, subst, ap, ◌∙◌, inl, inr}
+use Rattle.std.specs.Option.{is_none}
+use Rattle.tape_image.specs.Plan.{PlanValue}
+use Rattle.host_core.specs.declared.phase.End.{End}
+use Rattle.host_core.specs.declared.phase.End.TheVariants.{Loaded, MaybeStarted}
+use Rattle.host_core.specs.declared.phase.Phase.TheVariants.{Settle, Ended as HasEnded}
+use Rattle.host_core.specs.Core.{Core, ended}
+use Rattle.load_engine.specs.declared.stop.Stop.{Stop}
+use Rattle.load_engine.specs.declared.stop.Stop.TheVariants.{Ended}
+use Rattle.machine_load.specs.Driving.{KeeperTells, LineTold, IsLived, finish_of}
+use Rattle.machine_load.specs.Load.{Around, IsOpening, IsOverAtOnce, IsNeverBegun, words_taken}
+use Rattle.machine_load.specs.declared.options.LoadOptions.{LoadOptions}
+
+abbrev end_of : (otherwise : End) → Option End → End
+end_of otherwise (Some end) = end
+end_of otherwise None = otherwise
+
+-- the end with which a life begins
+first_end : (going all : Bool) (end : End) → ended (if going then HasEnded MaybeStarted else (if all then HasEnded Loaded else Settle)) ≡ Some end → (end ≡ Loaded) ⊎ (end ≡ MaybeStarted)
+first_end true all end is = inr (sym (ap (end_of end) is))
+first_end false true end is = inl (sym (ap (end_of end) is))
+first_end false false end is = absurd (cc is)
+
+stops_so : (stop : Stop) (end : End) → stop ≡ Ended end → (end ≡ Loaded) ⊎ (end ≡ MaybeStarted) → IsNeverBegun stop
+stops_so stop end is (inl loaded) = inl (is ∙ ap Ended loaded)
+stops_so stop end is (inr started) = inr (is ∙ ap Ended started)
+
+pub never_begun : (told : Option (List ℕ)) (plan : PlanValue) (options : LoadOptions) (core last : Core) (stop : Stop) → IsOpening told plan options core → IsOverAtOnce core last stop → IsNeverBegun stop
+never_begun told plan options core last stop opening over =
+    stops_so stop over.end over.stop_is
+    (first_end opening.said.going ((words_taken options.recheck opening.said == length plan.words) && is_none plan.start) over.end (subst (λ (c : Core). ended c.phase ≡ Some over.end) opening.core_is over.over))
+
+-- there is a line, or what follows from there being none
+pub line_or_never : {L A B : Type 0} (line : Option L) → (A → B) → (IsSome line ⊎ A) → (IsSome line ⊎ B)
+line_or_never line so (inl is) = inl is
+line_or_never line so (inr over) = inr (so over)
+
+-- a life has a line, or it was over at once
+pub line_or_over : {K L : Type 0} (tells : KeeperTells K) (told_of : L → LineTold) (writable : Bool) (first last : Core) (before after : Around) (stop : Stop) (line : Option L)
+    → IsLived tells writable first before after (finish_of last stop (option_map told_of line)) → IsSome line ⊎ IsOverAtOnce first last stop
+line_or_over tells told_of writable first last before after stop line (inl idle) = inr idle.idle.over
+line_or_over tells told_of writable first last before after stop (Some l) (inr life) = inl refl
+line_or_over tells told_of writable first last before after stop None (inr life) = absurd (cc life.has_line)

@@ -1,0 +1,137 @@
+-- A life that the engine drives, over the line that was reached for it and the keeper that was begun for it.
+use Rattle.std.specs.Prelude.{◌≡◌, ◌⊎◌, ℕ, ◌≤◌, List, [], ◌∷◌, length, Bool, true, Option, Some, None}
+use Rattle.std.specs.Io.KnownBytes.{Appends}
+use Rattle.tape_image.specs.Plan.{PlanValue}
+use Rattle.host_core.specs.Bound.{character_bound}
+use Rattle.host_core.specs.Core.{Core, ended}
+use Rattle.load_devices.specs.declared.fault.KeepFault.{KeepFault}
+use Rattle.load_devices.specs.declared.fault.LineFault.{LineFault}
+use Rattle.load_devices.specs.declared.item.Item.{Item}
+use Rattle.load_devices.specs.declared.item.Kept.{Kept}
+use Rattle.load_devices.specs.Dialogue.{news_between}
+use Rattle.load_engine.specs.Belief.{IsBelievableOver, TellsStartOver}
+use Rattle.load_engine.specs.Failing.{Counts, NamesFault}
+use Rattle.load_engine.specs.Keeping.{KeptBy}
+use Rattle.load_engine.specs.Session.{Session, KeepsMarkFirst, TellsEnd}
+use Rattle.load_engine.specs.declared.stop.Stop.{Stop}
+use Rattle.console_reach.specs.Reached.{IsFresh}
+use Rattle.byte_io.specs.Output.{WritesAllBut}
+use Rattle.machine_load.specs.Load.{Around, Setting, Asks, IsIdle, IsLoadOf}
+use Rattle.machine_load.specs.LoadReport.{load_report}
+use Rattle.machine_load.specs.Step.{Connect, BeginRecord, EndRecord}
+use Rattle.machine_load.specs.declared.options.LoadOptions.{LoadOptions}
+
+-- what a line tells at a moment: what was said on it, how many calls of it failed, and the fault of the last one
+pub record LineTold : Type 0 where
+  pub said : Option (List Item)
+  pub failures : ℕ
+  pub fault : Option LineFault
+
+-- what a line tells
+abbrev pub line_told : {L : Type 0} → (L → Option (List Item)) → (L → ℕ) → (L → Option LineFault) → L → LineTold
+line_told said failures fault line = record { said = said line; failures = failures line; fault = fault line }
+
+-- what keepers of a type tell at a moment, and what their calls make of them
+pub record KeeperTells (K : Type 0) : Type 1 where
+  pub kept : K → Option (List Kept)
+  pub failures : K → ℕ
+  pub fault : K → Option KeepFault
+  pub keeps : K → Kept → K → Type 0
+  pub fails : K → Kept → K → Type 0
+  pub begins : K → PlanValue → ℕ → Type 0
+  pub text : K → Option (List ℕ)
+
+-- what keepers of a type tell
+abbrev pub keeper_tells : {K : Type 0} → (K → Option (List Kept)) → (K → ℕ) → (K → Option KeepFault) → (K → Kept → K → Type 0) → (K → Kept → K → Type 0)
+    → (K → PlanValue → ℕ → Type 0) → (K → Option (List ℕ)) → KeeperTells K
+keeper_tells kept failures fault keeps fails begins text = record {
+  kept = kept;
+  failures = failures;
+  fault = fault;
+  keeps = keeps;
+  fails = fails;
+  begins = begins;
+  text = text;
+}
+
+-- from one core to another the engine had 10,000,000 turns, over a fresh line and a keeper that was begun with the words that were
+-- verified already, and it stopped so; then line and keeper tell this
+pub record IsDrivenOver {K : Type 0} (tells : KeeperTells K) (first last : Core) (stop : Stop) (line' : LineTold) (keeper' : K) : Type 0 where
+  pub goes_on : ended first.phase ≡ None
+  pub line : LineTold
+  pub fresh : IsFresh line.said line.failures line.fault
+  pub keeper : K
+  pub begun_so : tells.begins keeper first.plan first.verified
+  -- what was heard, said and kept, in its order
+  pub session : Session 10000000 (Some stop) first last line.said line'.said (tells.kept keeper) (tells.kept keeper')
+  pub end : TellsEnd stop last
+  -- which device failed
+  pub counted : Counts (Some stop) line.failures line'.failures (tells.failures keeper) (tells.failures keeper')
+  pub named : NamesFault (Some stop) line'.fault (tells.fault keeper')
+  -- what the keeper was made of, and that the mark came before `G`
+  pub kept_by : KeptBy tells.keeps tells.fails (Some stop) keeper (news_between first last) keeper'
+  pub mark_first : KeepsMarkFirst line.said line'.said (tells.kept keeper) (tells.kept keeper')
+  -- what may be believed where the line was honest
+  pub honest : IsBelievableOver stop first last line.said line'.said
+  pub start : TellsStartOver first last line.said line'.said
+  pub bound : last.sent ≤ character_bound (length last.plan.words) last.patience
+
+-- how a life ended: the core that it came to, why it stopped, and what its line tells then, where it had one
+pub record Finish : Type 0 where
+  pub last : Core
+  pub stop : Stop
+  pub line : Option LineTold
+
+-- how it ended
+abbrev pub finish_of : Core → Stop → Option LineTold → Finish
+finish_of last stop line = record { last = last; stop = stop; line = line }
+
+-- a life that was over at once has no line; nobody was asked, and the record is as it was
+pub record IsIdleLife (first : Core) (before after : Around) (finish : Finish) : Type 0 where
+  pub idle : IsIdle first finish.last finish.stop before after
+  pub no_line : finish.line ≡ None
+
+-- a life that goes on has a line: a connection is made, the record is begun anew, the engine drives the life, and in the end the record is
+-- what its keeper has kept
+pub record IsDrivenLife {K : Type 0} (tells : KeeperTells K) (writable : Bool) (first : Core) (before after : Around) (finish : Finish) : Type 0 where
+  pub may_write : writable ≡ true
+  pub asked : Asks before after (Connect ∷ BeginRecord ∷ EndRecord ∷ [])
+  pub line' : LineTold
+  pub has_line : finish.line ≡ Some line'
+  pub keeper' : K
+  pub driven : IsDrivenOver tells first finish.last finish.stop line' keeper'
+  pub left : after.record_text ≡ tells.text keeper'
+
+-- a life, over its line where it has one
+abbrev pub IsLived : {K : Type 0} → KeeperTells K → Bool → Core → Around → Around → Finish → Type 0
+IsLived tells writable first before after finish = IsIdleLife first before after finish ⊎ IsDrivenLife tells writable first before after finish
+
+-- a load that ended so: the record says where its life begins
+abbrev pub IsLoadLived : {K : Type 0} → KeeperTells K → PlanValue → LoadOptions → Around → Around → Finish → Type 0
+IsLoadLived tells plan options before after finish =
+    IsLoadOf plan options before (λ writable first between. IsLived tells writable first between after finish)
+
+-- what a load gives back that was reported: why it stopped, whether the host had come to the start, and what the line tells, where there is one
+pub record Ending : Type 0 where
+  pub stop : Stop
+  pub marked : Bool
+  pub line : Option LineTold
+
+-- what it gives back
+abbrev pub ending_of : Stop → Bool → Option LineTold → Ending
+ending_of stop marked line = record { stop = stop; marked = marked; line = line }
+
+-- a load that was reported: the report is of the core that the life came to which was over this line
+pub record IsLoadReported {K : Type 0} (tells : KeeperTells K) (plan : PlanValue) (options : LoadOptions) (before after : Setting)
+    (ending : Ending) : Type 0 where
+  pub last : Core
+  pub lived : IsLoadLived tells plan options before.around after.around (finish_of last ending.stop ending.line)
+  pub marked_is : ending.marked ≡ last.going
+  pub reported : Appends before.out after.out (load_report last ending.stop)
+
+-- a load whose report could not be written whole: its life was lived all the same
+pub record IsLoadUntold {K : Type 0} (tells : KeeperTells K) (plan : PlanValue) (options : LoadOptions) (before after : Setting) : Type 0 where
+  pub finish : Finish
+  pub lived : IsLoadLived tells plan options before.around after.around finish
+  pub missing : List ℕ
+  pub reported : WritesAllBut before.out after.out (load_report finish.last finish.stop) missing

@@ -1,0 +1,47 @@
+//! A way to the console and a record, as the surroundings of a load.
+
+use crate::records::Records;
+use crate::surroundings::Surroundings;
+use console_reach::Reach;
+use load_devices::LineFault;
+use record_file::{OldRecord, RecordFault};
+use std::alloc::Global;
+use tape_image::Plan;
+
+/// What a load needs of the world around it, in two parts that know nothing of each other.
+#[derive(Drop)]
+pub struct Around<C: Reach, R: Records> {
+    /// The way to the console.
+    pub console: C,
+
+    /// Where the record is.
+    pub records: R,
+}
+
+impl<C: Reach, R: Records> Surroundings for Around<C, R> {
+    type Line = C::Line;
+
+    type Keeper = R::Keeper;
+
+    ghost begins = { λ keeper plan count. R.begins keeper plan count };
+
+    fn read_record(&mut self, alloc: Global) -> Result<OldRecord, RecordFault> {
+        self.records.read(alloc)
+    }
+
+    fn connect(&mut self) -> Result<C::Line, LineFault> {
+        self.console.reach()
+    }
+
+    fn begin_record(
+        &mut self,
+        alloc: Global,
+        plan: &Plan,
+        verified: u32,
+    ) -> Result<R::Keeper, RecordFault> {
+        self.records.begin(alloc, plan, verified)
+    }
+
+    // Its file is closed with the keeper, and held on by the records.
+    fn end_record(&mut self, _keeper: R::Keeper) {}
+}

@@ -1,0 +1,81 @@
+//! Where the record of a load is: in a file, or in memory alone.
+ghost use Rattle.std.specs.Prelude.{ℕ, IfErr, IfOk, ⊤};
+ghost use Rattle.record_file.specs.DiskRecord.{HasBegun};
+ghost use Rattle.record_file.specs.RecordFault.{IsUnbegun, IsUnread};
+ghost use Rattle.tape_image.specs.Plan.{PlanValue};
+
+use load_devices::{Keep, MemoryKeep};
+use record_file::{DiskRecord, Locks, OldRecord, RecordFault, RecordFile};
+use std::alloc::Global;
+use tape_image::Plan;
+
+/// The record of a load, which is read once and then begun anew.
+pub trait Records {
+    /// Who keeps the progress of the life that begins.
+    type Keeper: Keep + Drop;
+
+    /// What a keeper is that was begun with so many words of a plan, where the type says it.
+    ghost begins: { Self.Keeper → PlanValue → ℕ → Type 0 } = { λ _ _ _. ⊤ };
+
+    /// The record of earlier lives, which from there on is held. It is changed in nothing.
+    fn read(&mut self, alloc: Global) -> Result<OldRecord, RecordFault>
+        ensures fault { IfErr result IsUnread };
+
+    /// Writes the record anew, with the first verified words of the plan, and keeps it from there on.
+    fn begin(
+        &mut self,
+        alloc: Global,
+        plan: &Plan,
+        verified: u32,
+    ) -> Result<Self::Keeper, RecordFault>
+        ensures keeper { IfOk result (λ keeper. begins keeper plan.now verified) }
+        ensures fault { IfErr result IsUnbegun };
+}
+
+impl<F: Locks> Records for RecordFile<'_, F> {
+    type Keeper = DiskRecord<F::File>;
+
+    ghost begins = { λ keeper plan count. HasBegun plan count keeper };
+
+    fn read(&mut self, alloc: Global) -> Result<OldRecord, RecordFault> {
+        RecordFile::read(self, alloc)
+    }
+
+    fn begin(
+        &mut self,
+        alloc: Global,
+        plan: &Plan,
+        verified: u32,
+    ) -> Result<DiskRecord<F::File>, RecordFault> {
+        RecordFile::begin(self, alloc, plan, verified)
+    }
+}
+
+/// A record in memory alone, so that a later life begins at the first word.
+#[derive(Clone, Copy, Debug)]
+pub struct InMemory;
+
+impl Records for InMemory {
+    type Keeper = MemoryKeep;
+
+    fn read(&mut self, alloc: Global) -> Result<OldRecord, RecordFault> {
+        Ok(OldRecord {
+            text: Vec::new(alloc),
+            writable: true,
+        })
+    }
+
+    // Room for every word and the mark.
+    fn begin(
+        &mut self,
+        alloc: Global,
+        plan: &Plan,
+        _verified: u32,
+    ) -> Result<MemoryKeep, RecordFault> {
+        let room = plan.words().len() as u32 + 1;
+        match MemoryKeep::new(alloc, room, None) {
+            Ok(keeper) => Ok(keeper),
+            Err(_) => Err(RecordFault::Memory),
+        }
+    }
+}

@@ -1,0 +1,33 @@
+-- What becomes of a request to check tapes.
+use Rattle.std.specs.Prelude.{◌≡◌, ◌⊎◌, List}
+use Rattle.tape_check.specs.CheckText.{IsChecked}
+use Rattle.tape_check.specs.CheckFault.{IsCheckFault}
+use Rattle.endings.specs.declared.failure.Failure.{Failure}
+use Rattle.endings.specs.declared.status.Status.{Status}
+use Rattle.endings.specs.declared.status.Status.TheVariants.{Done}
+use Rattle.endings.specs.Streams.{Held}
+use Rattle.requests.specs.Files.{Known, Name, Inputs, OfTapes, FailsUnopened, FailsOver, only_input}
+
+-- the tapes of some inputs were checked
+abbrev pub IsCheckedTo : Inputs → Known → Known → Status → Type 0
+IsCheckedTo inputs out out' status = IsChecked inputs.held inputs.rests out out' × (status ≡ Done)
+
+-- the tapes of some inputs were not checked, or the text was not passed on
+abbrev pub IsCheckFailure : Inputs → Known → Known → Failure → Type 0
+IsCheckFailure inputs out out' failure =
+    FailsOver inputs (IsCheckFault inputs.held inputs.rests out out') (IsChecked inputs.held inputs.rests out out') failure
+
+-- the tape on standard input was checked, or not
+abbrev pub IsInputChecked : Held → Held → Status → Type 0
+IsInputChecked before after status = IsCheckedTo (only_input before.input after.input) before.out after.out status
+
+abbrev pub IsInputUnchecked : Held → Held → Failure → Type 0
+IsInputUnchecked before after failure = IsCheckFailure (only_input before.input after.input) before.out after.out failure
+
+-- the tapes of these names were checked, or not
+abbrev pub AreChecked : List Name → Held → Held → Status → Type 0
+AreChecked names before after status = OfTapes names before after (λ inputs. IsCheckedTo inputs before.out after.out status)
+
+abbrev pub AreUnchecked : List Name → Held → Held → Failure → Type 0
+AreUnchecked names before after failure =
+    FailsUnopened names before after failure ⊎ OfTapes names before after (λ inputs. IsCheckFailure inputs before.out after.out failure)

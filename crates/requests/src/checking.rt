@@ -1,0 +1,92 @@
+//! Checking tapes.
+ghost use Rattle.std.specs.Prelude.{◌≡◌, ◌⊎◌, IfOk, IfErr};
+ghost use Rattle.std.specs.Mem.{FitsInMemory};
+ghost use Rattle.endings.specs.Streams.{held};
+ghost use Rattle.requests.specs.Checking.{AreChecked, AreUnchecked, IsCheckedTo, IsCheckFailure, IsInputChecked, IsInputUnchecked};
+ghost use Rattle.requests.specs.Files.{inputs_of, IsUnopened, OfFiles};
+
+use crate::files::{flushed, is_input, open_all};
+use endings::{Failure, STANDARD_INPUT, Status, Streams};
+use std::alloc::Global;
+use std::io::{Read, Write};
+use std::rt::Files;
+use std::slice;
+use tape_check::check_to;
+
+/// Checks tapes: standard input's, where `-` is their only name, else those in the files.
+pub(crate) fn check_tapes<'a, F: Files, R: Read, W: Write, E: Write>(
+    rt: &F,
+    alloc: Global,
+    names: &[&'a str],
+    streams: &mut Streams<R, W, E>,
+) -> Result<Status, Failure<'a>>
+    requires { FitsInMemory R.row }
+    ensures ok { IfOk result (AreChecked names.now
+        (held R.remaining W.contents E.contents streams.old)
+        (held R.remaining W.contents E.contents streams.new)) }
+    ensures err { IfErr result (AreUnchecked names.now
+        (held R.remaining W.contents E.contents streams.old)
+        (held R.remaining W.contents E.contents streams.new)) }
+    ensures quiet { streams.new.err ≡ streams.old.err }
+{
+    if is_input(names) {
+        check_input(alloc, streams)
+    } else {
+        check_files(rt, alloc, names, &mut streams.out)
+    }
+}
+
+/// Checks the tape on standard input.
+pub(crate) fn check_input<R: Read, W: Write, E: Write>(
+    alloc: Global,
+    streams: &mut Streams<R, W, E>,
+) -> Result<Status, Failure<'static>>
+    requires { FitsInMemory R.row }
+    ensures ok { IfOk result (IsInputChecked
+        (held R.remaining W.contents E.contents streams.old)
+        (held R.remaining W.contents E.contents streams.new)) }
+    ensures err { IfErr result (IsInputUnchecked
+        (held R.remaining W.contents E.contents streams.old)
+        (held R.remaining W.contents E.contents streams.new)) }
+    ensures quiet { streams.new.err ≡ streams.old.err }
+{
+    let tape = slice::from_mut(&mut streams.input);
+    check(alloc, &[], tape, &mut streams.out)
+}
+
+// Opens files and checks the tapes in them.
+fn check_files<'a, F: Files, W: Write>(
+    rt: &F,
+    alloc: Global,
+    names: &[&'a str],
+    out: &mut W,
+) -> Result<Status, Failure<'a>>
+    ensures ok { IfOk result (λ status. OfFiles names.now (λ inputs. IsCheckedTo inputs (W.contents out.old) (W.contents out.new) status)) }
+    ensures err { IfErr result (λ failure. (IsUnopened names.now failure × (W.contents out.new ≡ W.contents out.old))
+        ⊎ OfFiles names.now (λ inputs. IsCheckFailure inputs (W.contents out.old) (W.contents out.new) failure)) }
+{
+    let mut files = open_all(rt, alloc, names)?;
+    check(alloc, names, &mut files, out)
+}
+
+// Checks tapes that faults call by these names.
+fn check<'a, R: Read, W: Write>(
+    alloc: Global,
+    names: &[&'a str],
+    tapes: &mut [R],
+    out: &mut W,
+) -> Result<Status, Failure<'a>>
+    ensures ok { IfOk result (IsCheckedTo
+        (inputs_of names.now R.remaining tapes.old tapes.new)
+        (W.contents out.old)
+        (W.contents out.new)) }
+    ensures err { IfErr result (IsCheckFailure
+        (inputs_of names.now R.remaining tapes.old tapes.new)
+        (W.contents out.old)
+        (W.contents out.new)) }
+{
+    match check_to(alloc, tapes, out) {
+        Ok(()) => flushed(out, Status::Done),
+        Err(fault) => Err(Failure::of(fault, names, STANDARD_INPUT)),
+    }
+}

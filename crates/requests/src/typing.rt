@@ -1,0 +1,38 @@
+//! Typing standard input into a simulated console.
+ghost use Rattle.std.specs.Prelude.{◌≡◌, IfOk, IfErr};
+ghost use Rattle.endings.specs.Streams.{held};
+ghost use Rattle.requests.specs.Typing.{IsTypedThrough, IsTypingFailure};
+
+use crate::files::flushed;
+use crate::request::Console;
+use console_typing::type_to;
+use endings::{Failure, STANDARD_INPUT, Status, Streams};
+use odt_machine::{Odt, OdtError};
+use std::alloc::Global;
+use std::io::{Read, Write};
+
+/// Types standard input into a simulated console.
+pub(crate) fn type_input<R: Read, W: Write, E: Write>(
+    alloc: Global,
+    console: Console,
+    streams: &mut Streams<R, W, E>,
+) -> Result<Status, Failure<'static>>
+    ensures ok { IfOk result (λ status. IsTypedThrough console
+        (held R.remaining W.contents E.contents streams.old)
+        (held R.remaining W.contents E.contents streams.new)
+        × (status ≡ Status.Done)) }
+    ensures err { IfErr result (IsTypingFailure console
+        (held R.remaining W.contents E.contents streams.old)
+        (held R.remaining W.contents E.contents streams.new)) }
+    ensures quiet { streams.new.err ≡ streams.old.err }
+{
+    let mut odt = match Odt::new(alloc, console.words, console.style) {
+        Ok(odt) => odt,
+        Err(OdtError::TooLarge) => return Err(Failure::TooLarge),
+        Err(OdtError::Memory) => return Err(Failure::NoMemory),
+    };
+    match type_to(&mut odt, &mut streams.input, &mut streams.out) {
+        Ok(_) => flushed(&mut streams.out, Status::Done),
+        Err(fault) => Err(Failure::of(fault, &[], STANDARD_INPUT)),
+    }
+}

@@ -15,7 +15,7 @@ use Rattle.requests.specs.declared.request.Look.{Look}
 use Rattle.requests.specs.declared.request.Request.{Request}
 use Rattle.requests.specs.declared.request.Request.TheVariants.{CheckInput, Check, Dialogue, Rehearse, «Type» as TypeKeys, Load as Loads, Verify, Save as Saves}
 use Rattle.requests.specs.declared.request.Save.{Save}
-use Rattle.ldaodt.specs.Addresses.{IsEvenText, IsWordText}
+use Rattle.ldaodt.specs.Addresses.{IsEvenText, IsOctalText, IsWordText}
 
 -- the decimal number that a text is
 abbrev pub number_in : List ℕ → ℕ
@@ -53,7 +53,7 @@ pub record IsStartOf (found : Found) (start : Start) : Type 0 where
 -- the start address of a saved tape: the one that is given, or that which starts nothing
 abbrev pub IsSavedStart : Option (List ℕ) → ℕ → Type 0
 IsSavedStart None start = start ≡ 1
-IsSavedStart (Some text) start = IsEvenText text start
+IsSavedStart (Some text) start = IsOctalText text start
 
 -- the names of further tapes, in order
 abbrev pub more_in : Found → List (List ℕ)

@@ -2,7 +2,7 @@
 ghost use Rattle.std.specs.Prelude.{◌≤◌, ◌-◌, ◌++◌, length, replicate, IfSome, IfOk, codes};
 ghost use Rattle.octal.specs.Octal.{IsOct6};
 ghost use Rattle.clap.specs.Matches.{found_of, first_value};
-ghost use Rattle.ldaodt.specs.Addresses.{IsEvenText, IsWordText};
+ghost use Rattle.ldaodt.specs.Addresses.{IsEvenText, IsOctalText, IsWordText};
 ghost use Rattle.ldaodt.specs.Options.{IsRangeOf, IsSavedStart, IsStartOf};
 
 use super::no_request::NoRequest;
@@ -15,8 +15,10 @@ use octal::read_oct6;
 use std::alloc::Global;
 use tape_image::Start;
 
-/// Why a word is no start.
+/// Why a word is no start of a load, and none of a saved tape.
 const NO_START_ADDRESS: &str = "a start is octal, of one to six digits, and even";
+
+const NO_SAVED_START: &str = "a start is octal, of one to six digits";
 
 /// Why a word is no address of a word of memory.
 const NO_ADDRESS: &str = "an address is octal, of one to six digits, even, and below 160000";
@@ -48,12 +50,22 @@ pub(crate) fn saved_start_of(alloc: Global, found: &ArgMatches<'_>) -> Result<u1
     ensures { IfOk result (IsSavedStart (first_value (found_of found.now) (codes "start"))) }
 {
     match found.get_str(START) {
-        Some(text) => given_start(alloc, text),
+        Some(text) => any_start(alloc, text),
         None => Ok(STARTS_NOTHING),
     }
 }
 
-/// The start address that a text is, or its refusal.
+/// The start address of a tape that a text is, or its refusal.
+fn any_start(alloc: Global, text: &str) -> Result<u16, NoRequest>
+    ensures { IfOk result (IsOctalText text.now) }
+{
+    match octal(text) {
+        Some(start) => Ok(start),
+        None => Err(invalid_value(alloc, text, "--start <AAAAAA>", NO_SAVED_START)),
+    }
+}
+
+/// The start address of a program that a text is, or its refusal.
 fn given_start(alloc: Global, text: &str) -> Result<u16, NoRequest>
     ensures { IfOk result (IsEvenText text.now) }
 {

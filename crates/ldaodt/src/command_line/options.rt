@@ -109,7 +109,7 @@ pub(crate) fn start_option<'a>(alloc: Global) -> Arg<'a> {
 
 pub(crate) fn saved_start_option<'a>(alloc: Global) -> Arg<'a> {
     let help =
-        "The tape's start address: octal, even [default: 000001,\nwhich starts nothing]";
+        "The tape's start address, octal; an odd one starts\nnothing [default: 000001]";
     option(alloc, START, "AAAAAA", help)
 }
 

@@ -171,8 +171,8 @@ class Starts(Loads):
         self.was_typed(peer, "", connections=0)
 
     def test_another_start(self):
-        """Written with one digit or six, as the tape's it is typed with six."""
-        for start, typed in (("2", "000002"), ("001002", "001002"), ("157776", "157776")):
+        """Written with one digit or six, as the tape's it is typed with six; it may lie above memory, as a boot ROM does."""
+        for start, typed in (("2", "000002"), ("001002", "001002"), ("173000", "173000")):
             with self.subTest(start):
                 peer = self.console_at(Console())
                 self.ends(self.load(peer, f"first.lda --start {start}"), 0, STARTED)

@@ -249,6 +249,8 @@ class Save(Looks):
         line = self.console_at(Console())
         self.ends(self.look(line, "save a.lda LINE 1000 1000 --start 1002"), 0, "sent 9 spent 0 read 1 of 1\nend Saved\n")
         self.is_so(bytes_of(self.path("a.lda")), as_tape(0o1000, [0], start=0o1002))
+        self.ends(self.look(line, "save b.lda LINE 1000 1000 --start 173001"), 0, "sent 9 spent 0 read 1 of 1\nend Saved\n")
+        self.is_so(bytes_of(self.path("b.lda")), as_tape(0o1000, [0], start=0o173001))
 
     def test_memory_comes_back_as_it_was(self):
         """Saved, changed, loaded from what was saved, looked at."""

@@ -12,8 +12,6 @@ unopened_within xs ys within (CannotRead name) is = within name is
 unopened_within xs ys within NoMemory is = tt
 unopened_within xs ys within other is = absurd is
 
-pub unopened_no_memory : (names : List Name) (f : Failure) → f ≡ NoMemory → IsUnopened names f
-unopened_no_memory names f is = subst (IsUnopened names) (sym is) tt
 
 only_name : (x y : Name) → Contains (x ∷ []) y → x ≡ y
 only_name x y (zero, within, is) = is
@@ -24,13 +22,7 @@ pub at_unopened : (names : List Name) (i : ℕ) (d : Name) (f : Failure) → i <
 at_unopened names i d f within is =
     unopened_within (get_or names i d ∷ []) names (λ x h. subst (Contains names) (only_name (get_or names i d) x h) (Contains-get_or names i d within)) f is
 
-pub tape_unopened : (tape script : Name) (more : List Name) (f : Failure) → IsUnopened (tape ∷ []) f → IsUnopened (tape ∷ script ∷ more) f
-tape_unopened tape script more f is = unopened_within (tape ∷ []) (tape ∷ script ∷ more) (λ x h. Contains-append_left (tape ∷ []) (script ∷ more) x h) f is
 
-pub script_unopened : (tape script : Name) (more : List Name) (f : Failure) → IsUnopened (script ∷ []) f → IsUnopened (tape ∷ script ∷ more) f
-script_unopened tape script more f is =
-    unopened_within (script ∷ []) (tape ∷ script ∷ more)
-    (λ x h. Contains-append_right (tape ∷ []) (script ∷ more) x (Contains-append_left (script ∷ []) more x h)) f is
 
 pub more_unopened : (tape script : Name) (more : List Name) (f : Failure) → IsUnopened more f → IsUnopened (tape ∷ script ∷ more) f
 more_unopened tape script more f is = unopened_within more (tape ∷ script ∷ more) (λ x h. Contains-append_right (tape ∷ script ∷ []) more x h) f is

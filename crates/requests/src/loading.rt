@@ -55,11 +55,29 @@ pub(crate) fn load_tapes<
     match terminal {
         Some(terminal) => {
             let onlooker = &ProgressLine::new(rt, terminal);
-            load_plan(&Host { system: rt, alloc, onlooker }, plan, load, &mut streams.out)
+            load_plan(
+                &Host {
+                    system: rt,
+                    alloc,
+                    onlooker,
+                },
+                plan,
+                load,
+                &mut streams.out,
+            )
         }
         None => {
             let onlooker = &Unwatched;
-            load_plan(&Host { system: rt, alloc, onlooker }, plan, load, &mut streams.out)
+            load_plan(
+                &Host {
+                    system: rt,
+                    alloc,
+                    onlooker,
+                },
+                plan,
+                load,
+                &mut streams.out,
+            )
         }
     }
 }
@@ -76,10 +94,18 @@ fn load_plan<'a, F: Locks + Devices + Net + Clock, O: Onlooker, W: Write>(
 {
     let quiet_ms = load.quiet_ms;
     if is_path(load.line) {
-        let wire = Wire { system: host.system, path: load.line, quiet_ms };
+        let wire = Wire {
+            system: host.system,
+            path: load.line,
+            quiet_ms,
+        };
         load_through(host, plan, load, wire, out)
     } else {
-        let port = Port { net: host.system, address: load.line, quiet_ms };
+        let port = Port {
+            net: host.system,
+            address: load.line,
+            quiet_ms,
+        };
         load_through(host, plan, load, port, out)
     }
 }
@@ -118,7 +144,14 @@ fn load_with<'a, F, O: Onlooker, S: Surroundings, W: Write>(
     ensures ok { IfOk result (IsPlanLoaded plan request.entry (W.contents out.old) (W.contents out.new)) }
     ensures err { IfErr result (IsPlanFailure plan request.entry (W.contents out.old) (W.contents out.new)) }
 {
-    match load(host.alloc, plan, request.options, around, out, host.onlooker) {
+    match load(
+        host.alloc,
+        plan,
+        request.options,
+        around,
+        out,
+        host.onlooker,
+    ) {
         Ok(outcome) => end(request, outcome, out),
         Err(fault) => Err(Failure::of_load(fault, request.line, record_name(request.record))),
     }

@@ -5,7 +5,7 @@ use Rattle.endings.specs.Failure.{IsFailureOf}
 use Rattle.requests.specs.Rehearsing.{IsRehearsedInto, IsRehearsalFailure}
 use Rattle.requests.proofs.Errors.{error_is}
 use Rattle.requests.proofs.Unopened.{more_unopened, of_files}
-use Rattle.requests.proofs.rehearsing.rehearse.Goals as goal
+use Rattle.requests.proofs.rehearsing.rehearse_files.Goals as goal
 
 pub returns-in_err-open_more-clause-err : goal.returns-in_err-open_more-clause-err
 returns-in_err-open_more-clause-err g c =
@@ -35,12 +35,15 @@ returns-in-Ok-clause-err g c =
     (λ failure is. inr (of_files _ (c.args.tape ∷ c.args.more.now) c.deref_mut.result.now c.rehearse_to.new.tapes
     (λ inputs. IsRehearsalFailure c.args.script.now inputs (g.W.Write.contents c.args.out.now) (g.W.Write.contents c.flushed.new.out) failure)
     (let same = ap length c.deref_mut.ensures.value in let more = c.in_ok-open_more.ensures.ok in let one = c.in_ok-tapes.ensures.ok in omega arith)
-    (inr (is, record {
-      script_held = _;
-      text = c.in-Ok.ensures.ok.0;
-      rehearsed = c.in-Ok.ensures.ok.1;
-      written = Appends-kept (g.W.Write.contents c.args.out.now) (g.W.Write.contents c.rehearse_to.new.out) (g.W.Write.contents c.flushed.new.out) c.in-Ok.ensures.ok.0 c.in-Ok.ensures.ok.2 c.flushed.ensures.bytes;
-    }))))
+    (inr (
+      is,
+      record {
+        script_held = _;
+        text = c.in-Ok.ensures.ok.0;
+        rehearsed = c.in-Ok.ensures.ok.1;
+        written = Appends-kept (g.W.Write.contents c.args.out.now) (g.W.Write.contents c.rehearse_to.new.out) (g.W.Write.contents c.flushed.new.out) c.in-Ok.ensures.ok.0 c.in-Ok.ensures.ok.2 c.flushed.ensures.bytes;
+      },
+    ))))
     c.flushed.ensures.err
 
 pub returns-clause-err : goal.returns-clause-err

@@ -4,7 +4,7 @@ use super::options::{
     argument, console_options, listen_option, look_options, more_argument, no_start_option,
     record_option, recheck_option, saved_start_option, start_option, tape_argument,
 };
-use super::options::{FILE, FROM, LINE, SCRIPT, TAPE, TO};
+use super::options::{FILE, FROM, LINE, SCRIPT, TO};
 use super::texts;
 use clap::{Arg, Command};
 use std::alloc::{AllocError, Global};
@@ -95,7 +95,7 @@ fn dialogue_command<'a>(alloc: Global) -> Result<Command<'a>, AllocError> {
 fn rehearse_command<'a>(alloc: Global) -> Result<Command<'a>, AllocError> {
     let about = "Loads a simulated machine over a line that loses characters";
     command(alloc, "rehearse", about, texts::REHEARSE).args(vec![in alloc;
-        argument(alloc, TAPE, "The tape's file"),
+        tape_argument(alloc),
         argument(alloc, SCRIPT, "The script's file"),
         more_argument(alloc),
     ]?)

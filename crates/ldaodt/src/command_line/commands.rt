@@ -1,10 +1,10 @@
 //! The commands, as the parser is told of them.
 
 use super::options::{
-    argument, console_options, listen_option, look_options, more_argument, no_start_option,
-    record_option, recheck_option, saved_start_option, start_option, tape_argument,
+    FILE, FROM, LINE, SCRIPT, TO, argument, console_options, listen_option, look_options,
+    more_argument, no_start_option, recheck_option, record_option, saved_start_option,
+    start_option, tape_argument,
 };
-use super::options::{FILE, FROM, LINE, SCRIPT, TO};
 use super::texts;
 use clap::{Arg, Command};
 use std::alloc::{AllocError, Global};
@@ -65,7 +65,11 @@ fn save_command<'a>(alloc: Global) -> Result<Command<'a>, AllocError> {
         .args(vec![in alloc;
             argument(alloc, FILE, "The new tape's file, which is not there yet"),
             argument(alloc, LINE, LINE_HELP),
-            argument(alloc, FROM, "The first word's address: octal, even, below 160000"),
+            argument(
+                alloc,
+                FROM,
+                "The first word's address: octal, even, below 160000"
+            ),
             argument(alloc, TO, "The last word's address, not below the first"),
             saved_start_option(alloc),
         ]?)?

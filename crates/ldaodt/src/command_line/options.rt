@@ -70,10 +70,7 @@ pub(crate) fn more_argument<'a>(alloc: Global) -> Arg<'a> {
 
 /// The options that say what a simulated console is.
 pub(crate) fn console_options<'a>(alloc: Global) -> Result<Vec<Arg<'a>>, AllocError> {
-    Ok(vec![in alloc;
-        words_option(alloc),
-        style_option(alloc),
-    ]?)
+    Ok(vec![in alloc; words_option(alloc), style_option(alloc)]?)
 }
 
 fn words_option<'a>(alloc: Global) -> Arg<'a> {
@@ -84,8 +81,10 @@ fn words_option<'a>(alloc: Global) -> Arg<'a> {
 }
 
 fn style_option<'a>(alloc: Global) -> Arg<'a> {
-    let help =
-        "How the console answers, 0 to 7 [default: 0]: 1 for a\nspace before a word's digits, plus 2 for two CRs before\nan LF, plus 4 for an echo of illegal keys";
+    let help = "\
+How the console answers, 0 to 7 [default: 0]: 1 for a
+space before a word's digits, plus 2 for two CRs before
+an LF, plus 4 for an echo of illegal keys";
     option(alloc, STYLE, "N", help).value_parser(value_parser!(u8).range(
         0..=i64::from(LARGEST_STYLE),
     ))
@@ -108,8 +107,7 @@ pub(crate) fn start_option<'a>(alloc: Global) -> Arg<'a> {
 }
 
 pub(crate) fn saved_start_option<'a>(alloc: Global) -> Arg<'a> {
-    let help =
-        "The tape's start address, octal; an odd one starts\nnothing [default: 000001]";
+    let help = "The tape's start address, octal; an odd one starts\nnothing [default: 000001]";
     option(alloc, START, "AAAAAA", help)
 }
 
@@ -127,10 +125,7 @@ pub(crate) fn listen_option<'a>(alloc: Global) -> Arg<'a> {
 
 /// The options of whatever meets a machine.
 pub(crate) fn look_options<'a>(alloc: Global) -> Result<Vec<Arg<'a>>, AllocError> {
-    Ok(vec![in alloc;
-        patience_option(alloc),
-        quiet_option(alloc),
-    ]?)
+    Ok(vec![in alloc; patience_option(alloc), quiet_option(alloc)]?)
 }
 
 fn patience_option<'a>(alloc: Global) -> Arg<'a> {

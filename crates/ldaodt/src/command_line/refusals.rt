@@ -22,8 +22,7 @@ pub(crate) fn text_of(alloc: Global, first: &str, error: &Error) -> Result<Strin
 pub(crate) fn invalid_value(alloc: Global, value: &str, argument: &str, why: &str) -> NoRequest
     ensures { IsRefusal result }
 {
-    NoRequest::refusing(format!(
-        in alloc;
+    NoRequest::refusing(format!(in alloc;
         "error: invalid value '{value}' for '{argument}': {why}\n\nFor more information, try '--help'.\n"
     ))
 }
@@ -35,8 +34,7 @@ fn is_like_a_file(word: &str) -> bool {
 
 /// What is said of a tape where a command has to stand.
 fn no_command(alloc: Global, tape: &str) -> Result<String, AllocError> {
-    format!(
-        in alloc;
+    format!(in alloc;
         "error: unrecognized subcommand '{tape}'\n
   tip: to check a tape, use 'ldaodt check {tape}'
   tip: to load a tape, use 'ldaodt load {tape} LINE'

@@ -36,10 +36,7 @@ pub(crate) fn line_of<'a>(alloc: Global, found: &ArgMatches<'a>) -> Result<&'a s
 }
 
 /// The names of the tapes, in order.
-pub(crate) fn tapes_of<'a>(
-    alloc: Global,
-    found: &ArgMatches<'a>,
-) -> Result<Vec<&'a str>, NoRequest>
+pub(crate) fn tapes_of<'a>(alloc: Global, found: &ArgMatches<'a>) -> Result<Vec<&'a str>, NoRequest>
     ensures { IfOk result (λ names. AreTapes (found_of found.now) names.items) }
 {
     let first = text_of(found, TAPE)?;

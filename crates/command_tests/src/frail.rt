@@ -8,7 +8,7 @@ use load_devices::LineFault;
 use load_engine::Stop;
 use load_progress::Unwatched;
 use load_record::{FileKeep, RECORD_LIMIT};
-use machine_load::{LoadFault, LoadOptions, Outcome, Surroundings, load};
+use machine_load::{LoadFault, LoadOptions, Surroundings, load};
 use odt_machine::{LARGEST_WORDS, Odt, PLAIN_STYLE};
 use record_file::{OldRecord, RecordFault};
 use std::alloc::Global;
@@ -113,29 +113,19 @@ pub struct Stopped {
     pub marked: bool,
 }
 
-/// Loads the smallest tape, and answers what comes back, or None where there is no memory for the tape.
-pub(crate) fn live(
-    alloc: Global,
-    recheck: bool,
-    around: &mut Frail<'_>,
-    out: &mut Vec<u8>,
-) -> Option<Result<Outcome<MemoryLine>, LoadFault>> {
-    let plan = plan_of_one_word(alloc)?;
-    let options = LoadOptions {
-        patience: 8,
-        recheck,
-    };
-    Some(load(alloc, plan, options, around, out, &Unwatched))
-}
-
-/// The same, and answers how that ends.
+/// Loads the smallest tape, and answers how that ends, or None where there is no memory for the tape.
 pub(crate) fn load_one_word(
     alloc: Global,
     recheck: bool,
     around: &mut Frail<'_>,
     out: &mut Vec<u8>,
 ) -> Option<Result<Stopped, LoadFault>> {
-    Some(match live(alloc, recheck, around, out)? {
+    let plan = plan_of_one_word(alloc)?;
+    let options = LoadOptions {
+        patience: 8,
+        recheck,
+    };
+    Some(match load(alloc, plan, options, around, out, &Unwatched) {
         Ok(outcome) => Ok(Stopped {
             stop: outcome.stop,
             marked: outcome.marked,

@@ -35,8 +35,6 @@ mod full_disks;
 #[cfg(test)]
 mod limits;
 #[cfg(test)]
-mod loads_in_a_row;
-#[cfg(test)]
 mod machines;
 #[cfg(test)]
 mod old_records;

@@ -9,14 +9,12 @@
 mod explaining;
 mod failure;
 mod line_words;
-mod process_words;
 mod status;
 mod streams;
 mod telling;
 
 pub use explaining::{refuse, show};
 pub use failure::{Failure, OneTape, STANDARD_INPUT};
-pub use process_words::words_of;
 pub use status::Status;
 pub use streams::Streams;
 pub use telling::tell;

@@ -1,60 +1,72 @@
 //! The command line: which words ask for what.
 ghost use Rattle.std.specs.Prelude.{◌≡◌, ◌≢◌, [], IfOk};
-ghost use Rattle.ldaodt.specs.Answer.{IsOutOfMemory};
+ghost use Rattle.clap.specs.Matches.{found_of};
+ghost use Rattle.ldaodt.specs.Options.{IsLoadOf, IsLookOf, IsRequestOf};
 
+mod addresses;
 mod commands;
+mod no_request;
+mod options;
+mod refusals;
+mod shown_words;
 mod texts;
+mod values;
 
-use clap::{ArgMatches, Error};
-use commands::{ADDRESS, MORE, PATIENCE, QUIET, RECHECK, RECORD, SCRIPT, STYLE, TAPE, WORDS};
+use addresses::{range_of, saved_start_of, start_of};
+use clap::ArgMatches;
 use machine_load::LoadOptions;
-use odt_machine::{LARGEST_WORDS, PLAIN_STYLE, Style};
-use requests::{Console, Load, Request};
-use std::alloc::{AllocError, Global};
+pub(crate) use no_request::NoRequest;
+use options::{FILE, LISTEN, PATIENCE, QUIET, RECHECK, RECORD, SCRIPT, TAPE};
+use requests::{Load, Look, Request, Save};
+use shown_words::{have_control, shown_words};
+use std::alloc::Global;
+use values::{console_of, further_tapes_of, line_of, number_given, number_of, tapes_of, text_of};
 
-/// How many mishaps a load survives where nothing else is said.
+/// How many mishaps a load or a look survives where nothing else is said.
 const PLAIN_PATIENCE: u16 = 8;
 
 /// How many milliseconds of silence mean that nothing more is coming, where nothing else is said.
 const PLAIN_QUIET: u16 = 2000;
-
-/// Why words ask for nothing that could be done.
-#[derive(Debug, Drop)]
-pub enum NoRequest {
-    /// Help or the version was asked for, the words are refused, or a growth of memory was.
-    Answered(Error),
-    /// The parser let words pass that mean nothing here. No such words are known.
-    Meaningless,
-}
-
-impl From<Error> for NoRequest {
-    ghost use Rattle.ldaodt.specs.declared.command_line.NoRequest.TheVariants.{Answered};
-
-    ghost from_gives = { λ error answer. answer ≡ Answered error };
-
-    fn from(error: Error) -> NoRequest {
-        NoRequest::Answered(error)
-    }
-}
-
-impl From<AllocError> for NoRequest {
-    ghost from_gives = { λ _ answer. IsOutOfMemory answer };
-
-    fn from(refused: AllocError) -> NoRequest {
-        NoRequest::Answered(Error::from(refused))
-    }
-}
 
 /// Reads the words after the program's name. Without any the tape on standard input is to be checked.
 pub(crate) fn parse<'a>(alloc: Global, words: &'a [String]) -> Result<Request<'a>, NoRequest>
     ensures none { words.now ≡ [] → result ≡ Ok Request.CheckInput }
     ensures some { IfOk result (λ request. request ≡ Request.CheckInput → words.now ≡ []) }
 {
-    if words.is_empty() {
+    let Some(first) = words.first() else {
         return Ok(Request::CheckInput);
+    };
+    match read(alloc, first, words) {
+        Err(NoRequest::Refused(text)) => Err(shown_refusal(alloc, words, text)),
+        answer => answer,
     }
-    let matches = commands::ldaodt(alloc)?.try_get_matches_from(words)?;
-    request_of(alloc, &matches)
+}
+
+/// The refusal of words that are refused by this text, with their control characters shown: words as they
+/// are shown are refused as they are.
+fn shown_refusal(alloc: Global, words: &[String], text: String) -> NoRequest {
+    if !have_control(words) {
+        return NoRequest::Refused(text);
+    }
+    match shown_words(alloc, words) {
+        Ok(shown) => refusal_of(alloc, &shown).unwrap_or(NoRequest::Refused(text)),
+        Err(_) => NoRequest::NoMemory,
+    }
+}
+
+/// Why words ask for nothing that could be done, where they do.
+fn refusal_of(alloc: Global, words: &[String]) -> Option<NoRequest> {
+    read(alloc, words.first()?, words).err()
+}
+
+/// What words ask for, of which this is the first.
+fn read<'a>(alloc: Global, first: &str, words: &'a [String]) -> Result<Request<'a>, NoRequest>
+    ensures { IfOk result (λ request. request ≢ Request.CheckInput) }
+{
+    match commands::ldaodt(alloc)?.try_get_matches_from(words) {
+        Ok(matches) => request_of(alloc, &matches),
+        Err(error) => Err(NoRequest::of(alloc, first, &error)),
+    }
 }
 
 /// What the parsed words ask for, where there were any.
@@ -63,6 +75,8 @@ fn request_of<'a>(alloc: Global, matches: &ArgMatches<'a>) -> Result<Request<'a>
 {
     match matches.subcommand() {
         Some(("load", found)) => loading_of(alloc, found),
+        Some(("verify", found)) => verifying_of(alloc, found),
+        Some(("save", found)) => saving_of(alloc, found),
         Some(("check", found)) => Ok(Request::Check(tapes_of(alloc, found)?)),
         Some(("dialogue", found)) => dialogue_of(alloc, found),
         Some(("rehearse", found)) => rehearsal_of(alloc, found),
@@ -73,87 +87,78 @@ fn request_of<'a>(alloc: Global, matches: &ArgMatches<'a>) -> Result<Request<'a>
 
 /// The load of tapes into a machine.
 fn loading_of<'a>(alloc: Global, found: &ArgMatches<'a>) -> Result<Request<'a>, NoRequest>
-    ensures { IfOk result (λ request. request ≢ Request.CheckInput) }
+    ensures value { IfOk result (IsRequestOf (found_of found.now)) }
+    ensures some { IfOk result (λ request. request ≢ Request.CheckInput) }
 {
-    let load = load_of(found)?;
+    let load = load_of(alloc, found)?;
     Ok(Request::Load(tapes_of(alloc, found)?, load))
 }
 
-/// The dialogue of tapes with a console.
-fn dialogue_of<'a>(alloc: Global, found: &ArgMatches<'a>) -> Result<Request<'a>, NoRequest>
-    ensures { IfOk result (λ request. request ≢ Request.CheckInput) }
+/// A load, but for its tapes.
+fn load_of<'a>(alloc: Global, found: &ArgMatches<'a>) -> Result<Load<'a>, NoRequest>
+    ensures { IfOk result (IsLoadOf (found_of found.now)) }
 {
-    let console = console_of(found)?;
-    Ok(Request::Dialogue(tapes_of(alloc, found)?, console))
-}
-
-/// The rehearsal of a tape, its script and further tapes.
-fn rehearsal_of<'a>(alloc: Global, found: &ArgMatches<'a>) -> Result<Request<'a>, NoRequest>
-    ensures { IfOk result (λ request. request ≢ Request.CheckInput) }
-{
-    let tape = text_of(found, TAPE)?;
-    let script = text_of(found, SCRIPT)?;
-    Ok(Request::Rehearse(tape, script, joined(alloc, &[], found)?))
-}
-
-/// The text of a required argument.
-fn text_of<'a>(found: &ArgMatches<'a>, name: &str) -> Result<&'a str, NoRequest> {
-    found.get_str(name).ok_or(NoRequest::Meaningless)
-}
-
-/// The names of the tapes, in order.
-fn tapes_of<'a>(alloc: Global, found: &ArgMatches<'a>) -> Result<Vec<&'a str>, NoRequest> {
-    let first = text_of(found, TAPE)?;
-    Ok(joined(alloc, &[first], found)?)
-}
-
-/// These names, and behind them those of further tapes. Without any of those there is no entry.
-fn joined<'a>(
-    alloc: Global,
-    first: &[&'a str],
-    found: &ArgMatches<'a>,
-) -> Result<Vec<&'a str>, AllocError> {
-    let mut names = Vec::new(alloc);
-    names.extend_from_slice(first)?;
-    names.extend_from_slice(found.get_strs(MORE).unwrap_or(&[]))?;
-    Ok(names)
-}
-
-/// The console of two options.
-fn console_of(found: &ArgMatches<'_>) -> Result<Console, NoRequest> {
-    Ok(Console {
-        words: number_of(found, WORDS, LARGEST_WORDS)?,
-        style: style_of(found)?,
-    })
-}
-
-/// The style whose number is given, or the plain one.
-fn style_of(found: &ArgMatches<'_>) -> Result<Style, NoRequest> {
-    match found.try_get_one::<u8>(STYLE) {
-        Ok(Some(number)) => Style::from_number(number).ok_or(NoRequest::Meaningless),
-        Ok(None) => Ok(PLAIN_STYLE),
-        Err(_) => Err(NoRequest::Meaningless),
-    }
-}
-
-/// The number that an option gives, or the one that is meant without it.
-fn number_of(found: &ArgMatches<'_>, name: &str, otherwise: u16) -> Result<u16, NoRequest> {
-    match found.try_get_one::<u16>(name) {
-        Ok(Some(number)) => Ok(number),
-        Ok(None) => Ok(otherwise),
-        Err(_) => Err(NoRequest::Meaningless),
-    }
-}
-
-/// The load of an address and its options.
-fn load_of<'a>(found: &ArgMatches<'a>) -> Result<Load<'a>, NoRequest> {
     Ok(Load {
-        address: text_of(found, ADDRESS)?,
+        line: line_of(alloc, found)?,
         record: found.get_str(RECORD),
         options: LoadOptions {
             patience: u32::from(number_of(found, PATIENCE, PLAIN_PATIENCE)?),
             recheck: found.get_flag(RECHECK),
         },
+        start: start_of(alloc, found)?,
+        listen: number_given(found, LISTEN)?,
         quiet_ms: u32::from(number_of(found, QUIET, PLAIN_QUIET)?),
     })
+}
+
+/// The look whether a machine holds what tapes say.
+fn verifying_of<'a>(alloc: Global, found: &ArgMatches<'a>) -> Result<Request<'a>, NoRequest>
+    ensures value { IfOk result (IsRequestOf (found_of found.now)) }
+    ensures some { IfOk result (λ request. request ≢ Request.CheckInput) }
+{
+    let look = look_of(alloc, found)?;
+    Ok(Request::Verify(tapes_of(alloc, found)?, look))
+}
+
+/// The save of words of a machine.
+fn saving_of<'a>(alloc: Global, found: &ArgMatches<'a>) -> Result<Request<'a>, NoRequest>
+    ensures value { IfOk result (IsRequestOf (found_of found.now)) }
+    ensures some { IfOk result (λ request. request ≢ Request.CheckInput) }
+{
+    let file = text_of(found, FILE)?;
+    let look = look_of(alloc, found)?;
+    let range = range_of(alloc, found)?;
+    let start = saved_start_of(alloc, found)?;
+    Ok(Request::Save(file, Save { range, start, look }))
+}
+
+/// A look at a machine.
+fn look_of<'a>(alloc: Global, found: &ArgMatches<'a>) -> Result<Look<'a>, NoRequest>
+    ensures { IfOk result (IsLookOf (found_of found.now)) }
+{
+    Ok(Look {
+        line: line_of(alloc, found)?,
+        patience: u32::from(number_of(found, PATIENCE, PLAIN_PATIENCE)?),
+        quiet_ms: u32::from(number_of(found, QUIET, PLAIN_QUIET)?),
+    })
+}
+
+/// The dialogue of tapes with a console.
+fn dialogue_of<'a>(alloc: Global, found: &ArgMatches<'a>) -> Result<Request<'a>, NoRequest>
+    ensures value { IfOk result (IsRequestOf (found_of found.now)) }
+    ensures some { IfOk result (λ request. request ≢ Request.CheckInput) }
+{
+    let console = console_of(found)?;
+    let start = start_of(alloc, found)?;
+    Ok(Request::Dialogue(tapes_of(alloc, found)?, console, start))
+}
+
+/// The rehearsal of a tape, its script and further tapes.
+fn rehearsal_of<'a>(alloc: Global, found: &ArgMatches<'a>) -> Result<Request<'a>, NoRequest>
+    ensures value { IfOk result (IsRequestOf (found_of found.now)) }
+    ensures some { IfOk result (λ request. request ≢ Request.CheckInput) }
+{
+    let tape = text_of(found, TAPE)?;
+    let script = text_of(found, SCRIPT)?;
+    Ok(Request::Rehearse(tape, script, further_tapes_of(alloc, found)?))
 }

@@ -4,29 +4,41 @@
 #![tactic(auto)]
 
 mod command_line;
+mod process_words;
 mod program;
 
-use endings::{tell, words_of};
+use endings::{Streams, tell};
+use process_words::words_of;
 use std::fs;
 use std::fs::File;
-use std::io::IsTerminal;
+use std::io::{Eprint, IsTerminal};
 use std::os::fd::{AsRawFd, IntoRawFd, RawFd};
 use std::process::ExitCode;
 
 fn main(rt: HostRuntime) -> ExitCode {
     fill_standard_descriptors(&rt);
     let alloc = rt.alloc();
-    let mut input = rt.stdin();
-    let mut out = rt.stdout();
-    let mut err = rt.stderr();
+    let mut streams = Streams {
+        input: rt.stdin(),
+        out: rt.stdout(),
+        err: rt.stderr(),
+    };
     let words = match words_of(&rt) {
         Ok(words) => words,
-        Err(failure) => return ExitCode::from(tell(alloc, failure, &mut err).code()),
+        Err(failure) => return ExitCode::from(tell(alloc, failure, &mut streams.err).code()),
     };
+    if words.is_empty() && streams.input.is_terminal() {
+        say_what_is_read(&rt);
+    }
     let screen = rt.stderr();
     let terminal = screen.is_terminal().then_some(&screen);
-    let code = program::program(&rt, alloc, &words, &mut input, &mut out, &mut err, terminal);
+    let code = program::program(&rt, alloc, &words, &mut streams, terminal);
     ExitCode::from(code)
+}
+
+/// Says to whoever typed the program's name alone what it waits for. What can't be said is not told.
+fn say_what_is_read<R: Eprint>(rt: &R) {
+    let _ = rt.eprint(&"ldaodt: reading a tape from standard input ('ldaodt --help' says more)\n");
 }
 
 /// Fills the descriptors 0 to 2 where the program was started without them, so that no file that it

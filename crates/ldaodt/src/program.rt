@@ -1,19 +1,18 @@
-//! The body of `main`, over any files, input and outputs.
-ghost use Rattle.std.specs.Prelude.{◌≡◌, ◌≢◌, ◌⊎◌, []};
+//! The body of `main`, over any files, lines and streams.
+ghost use Rattle.std.specs.Prelude.{◌≡◌, []};
 ghost use Rattle.std.specs.Mem.{FitsInMemory};
 ghost use Rattle.requests.specs.declared.request.Request.{Request};
 ghost use Rattle.endings.specs.declared.status.Status.{Status};
-ghost use Rattle.requests.specs.Attempt.{IsAttempted};
 ghost use Rattle.endings.specs.Status.{status_code};
-ghost use Rattle.clap.specs.Values.{kind_of};
-ghost use Rattle.ldaodt.specs.Answer.{IsAnswered, IsExplained, IsHelp, IsSomeShown, IsRefused, IsWanting};
+ghost use Rattle.endings.specs.Streams.{held};
+ghost use Rattle.requests.specs.Attempt.{IsAttempted};
+ghost use Rattle.ldaodt.specs.Answer.{IsAnswered, IsExplained};
 
 use crate::command_line::{NoRequest, parse};
-use clap::Error;
-use clap::error::ErrorKind;
-use endings::{Failure, Status, refuse, show, tell};
+use endings::{Failure, Status, Streams, refuse, show, tell};
 use record_file::Locks;
 use requests::attempt;
+use serial_line::Devices;
 use std::alloc::Global;
 use std::io::{Print, Read, Write};
 use std::net::Net;
@@ -24,62 +23,71 @@ const MEANINGLESS: &str = "ldaodt: the command line is not understood\n";
 
 /// Does what the words after the program's name ask for, and answers the exit status.
 ///
-/// Reports and help go to `out`, which is flushed; refused command lines and faults go to `err`,
-/// a fault as one line. What can't be written to `err` is not told. A load shows on the terminal, where
-/// there is one, how far it is.
-pub(crate) fn program<F: Locks + Net + Clock, R: Read, W: Write, E: Write, T: Print>(
+/// Reports and help go to standard output, which is flushed; refused command lines and faults go to
+/// standard error, a fault as one line. What can't be written there is not told. A load shows on the
+/// terminal, where there is one, how far it is.
+pub(crate) fn program<F: Locks + Devices + Net + Clock, R: Read, W: Write, E: Write, T: Print>(
     rt: &F,
     alloc: Global,
     words: &[String],
-    input: &mut R,
-    out: &mut W,
-    err: &mut E,
+    streams: &mut Streams<R, W, E>,
     terminal: Option<&T>,
 ) -> u8
     requires { FitsInMemory R.row }
     // With no words, the tape on the input is checked.
-    ensures checked { words.now ≡ [] → (status : Status) × IsAttempted Request.CheckInput (R.remaining input.old) (R.remaining input.new) (W.contents out.old) (W.contents out.new) (E.contents err.old) (E.contents err.new) status × (result ≡ status_code status) }
+    ensures checked { words.now ≡ [] → (status : Status) × IsAttempted Request.CheckInput
+        (held R.remaining W.contents E.contents streams.old)
+        (held R.remaining W.contents E.contents streams.new)
+        status × (result ≡ status_code status) }
     // Whatever the words are, they ask for something that is then attempted, or they are explained. Only where
     // there are none, the input is checked.
-    ensures answered { (status : Status) × IsAnswered (words.now ≡ []) (R.remaining input.old) (R.remaining input.new) (W.contents out.old) (W.contents out.new) (E.contents err.old) (E.contents err.new) status × (result ≡ status_code status) }
+    ensures answered { (status : Status) × IsAnswered (words.now ≡ [])
+        (held R.remaining W.contents E.contents streams.old)
+        (held R.remaining W.contents E.contents streams.new)
+        status × (result ≡ status_code status) }
 {
-    answer(rt, alloc, words, input, out, err, terminal).code()
+    answer(rt, alloc, words, streams, terminal).code()
 }
 
 /// Does what the words ask for, or explains them.
-fn answer<F: Locks + Net + Clock, R: Read, W: Write, E: Write, T: Print>(
+fn answer<F: Locks + Devices + Net + Clock, R: Read, W: Write, E: Write, T: Print>(
     rt: &F,
     alloc: Global,
     words: &[String],
-    input: &mut R,
-    out: &mut W,
-    err: &mut E,
+    streams: &mut Streams<R, W, E>,
     terminal: Option<&T>,
 ) -> Status
     requires { FitsInMemory R.row }
-    ensures checked { words.now ≡ [] → IsAttempted Request.CheckInput (R.remaining input.old) (R.remaining input.new) (W.contents out.old) (W.contents out.new) (E.contents err.old) (E.contents err.new) result }
-    ensures answered { IsAnswered (words.now ≡ []) (R.remaining input.old) (R.remaining input.new) (W.contents out.old) (W.contents out.new) (E.contents err.old) (E.contents err.new) result }
+    ensures checked { words.now ≡ [] → IsAttempted Request.CheckInput
+        (held R.remaining W.contents E.contents streams.old)
+        (held R.remaining W.contents E.contents streams.new)
+        result }
+    ensures answered { IsAnswered (words.now ≡ [])
+        (held R.remaining W.contents E.contents streams.old)
+        (held R.remaining W.contents E.contents streams.new)
+        result }
 {
     match parse(alloc, words) {
-        Ok(request) => attempt(rt, alloc, request, input, out, err, terminal),
-        Err(NoRequest::Answered(error)) => explain(alloc, error, out, err),
-        Err(NoRequest::Meaningless) => refuse(MEANINGLESS, err),
+        Ok(request) => attempt(rt, alloc, request, streams, terminal),
+        Err(answer) => explain(alloc, answer, streams),
     }
 }
 
 /// Says why there was nothing to do: help, the version, or what is wrong with the words.
-fn explain<W: Write, E: Write>(alloc: Global, error: Error, out: &mut W, err: &mut E) -> Status
-    ensures explained { IsExplained (W.contents out.old) (W.contents out.new) (E.contents err.old) (E.contents err.new) result }
-    ensures help { IsHelp (kind_of error) → IsSomeShown (W.contents out.old) (W.contents out.new) (E.contents err.old) (E.contents err.new) result ⊎ IsWanting (W.contents out.old) (W.contents out.new) (E.contents err.old) (E.contents err.new) result }
-    ensures memory { kind_of error ≡ ErrorKind.OutOfMemory → IsWanting (W.contents out.old) (W.contents out.new) (E.contents err.old) (E.contents err.new) result }
-    ensures other { (kind_of error ≢ ErrorKind.DisplayHelp) → (kind_of error ≢ ErrorKind.DisplayVersion) → (kind_of error ≢ ErrorKind.OutOfMemory) → IsRefused (W.contents out.old) (W.contents out.new) (E.contents err.old) (E.contents err.new) result ⊎ IsWanting (W.contents out.old) (W.contents out.new) (E.contents err.old) (E.contents err.new) result }
+fn explain<R: Read, W: Write, E: Write>(
+    alloc: Global,
+    answer: NoRequest,
+    streams: &mut Streams<R, W, E>,
+) -> Status
+    ensures { IsExplained answer
+        (held R.remaining W.contents E.contents streams.old)
+        (held R.remaining W.contents E.contents streams.new)
+        result }
 {
-    let Ok(text) = format!(in alloc; "{error}") else {
-        return tell(alloc, Failure::NoMemory, err);
-    };
-    match error.kind() {
-        ErrorKind::OutOfMemory => tell(alloc, Failure::NoMemory, err),
-        ErrorKind::DisplayHelp | ErrorKind::DisplayVersion => show(alloc, &text, out, err),
-        _ => refuse(&text, err),
+    match answer {
+        NoRequest::Help(text) => show(alloc, &text, streams),
+        NoRequest::Refused(text) => refuse(&text, &mut streams.err),
+        NoRequest::Meaningless => refuse(MEANINGLESS, &mut streams.err),
+        NoRequest::NoMemory => tell(alloc, Failure::NoMemory, &mut streams.err),
     }
 }

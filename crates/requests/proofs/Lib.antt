@@ -1,6 +1,5 @@
 pub mod Errors
-pub mod Kept
-pub mod Loads
+pub mod Machines
 pub mod OneInput
-pub mod RecordNames
 pub mod Unopened
+pub mod Whatever

@@ -4,7 +4,7 @@ use Rattle.std.proofs.lemmas.List.{length-map}
 use Rattle.std.proofs.lemmas.List.Elements.{Contains-append_left, Contains-append_right, Contains-get_or}
 use Rattle.endings.specs.declared.failure.Failure.{Failure}
 use Rattle.endings.specs.declared.failure.Failure.TheVariants.{CannotRead, NoMemory}
-use Rattle.requests.specs.Attempt.{Known, Name, OfFiles, IsUnopened}
+use Rattle.requests.specs.Files.{Known, Name, Inputs, OfFiles, IsUnopened, inputs_of}
 
 -- what can't be opened of some files can't of more
 pub unopened_within : (xs ys : List Name) → ((x : Name) → Contains xs x → Contains ys x) → (f : Failure) → IsUnopened xs f → IsUnopened ys f
@@ -12,8 +12,6 @@ unopened_within xs ys within (CannotRead name) is = within name is
 unopened_within xs ys within NoMemory is = tt
 unopened_within xs ys within other is = absurd is
 
-pub unopened_no_memory : (names : List Name) (f : Failure) → f ≡ NoMemory → IsUnopened names f
-unopened_no_memory names f is = subst (IsUnopened names) (sym is) tt
 
 only_name : (x y : Name) → Contains (x ∷ []) y → x ≡ y
 only_name x y (zero, within, is) = is
@@ -24,16 +22,10 @@ pub at_unopened : (names : List Name) (i : ℕ) (d : Name) (f : Failure) → i <
 at_unopened names i d f within is =
     unopened_within (get_or names i d ∷ []) names (λ x h. subst (Contains names) (only_name (get_or names i d) x h) (Contains-get_or names i d within)) f is
 
-pub tape_unopened : (tape script : Name) (more : List Name) (f : Failure) → IsUnopened (tape ∷ []) f → IsUnopened (tape ∷ script ∷ more) f
-tape_unopened tape script more f is = unopened_within (tape ∷ []) (tape ∷ script ∷ more) (λ x h. Contains-append_left (tape ∷ []) (script ∷ more) x h) f is
 
-pub script_unopened : (tape script : Name) (more : List Name) (f : Failure) → IsUnopened (script ∷ []) f → IsUnopened (tape ∷ script ∷ more) f
-script_unopened tape script more f is =
-    unopened_within (script ∷ []) (tape ∷ script ∷ more)
-    (λ x h. Contains-append_right (tape ∷ []) (script ∷ more) x (Contains-append_left (script ∷ []) more x h)) f is
 
 pub more_unopened : (tape script : Name) (more : List Name) (f : Failure) → IsUnopened more f → IsUnopened (tape ∷ script ∷ more) f
 more_unopened tape script more f is = unopened_within more (tape ∷ script ∷ more) (λ x h. Contains-append_right (tape ∷ script ∷ []) more x h) f is
 
-pub of_files : {X : Type 0} (known : X → Known) (names : List Name) (files now : List X) (P : List Known → List Known → Type 0) → length files ≡ length names → P (map known files) (map known now) → OfFiles names P
+pub of_files : {X : Type 0} (known : X → Known) (names : List Name) (files now : List X) (P : Inputs → Type 0) → length files ≡ length names → P (inputs_of names known files now) → OfFiles names P
 of_files known names files now P count is = record { held = map known files; rests = map known now; one_each = length-map files known ∙ count; is_so = is }

@@ -9,10 +9,9 @@ use Rattle.endings.specs.Streams.{Held}
 use Rattle.requests.specs.declared.request.Request.{Request}
 use Rattle.requests.specs.declared.request.Request.TheVariants.{CheckInput, Check, Dialogue, Rehearse, «Type» as TypeKeys, Load, Verify, Save}
 use Rattle.requests.specs.Checking.{AreChecked, AreUnchecked, IsInputChecked, IsInputUnchecked}
-use Rattle.requests.specs.Files.{FailsUnopened, OfFiles}
 use Rattle.requests.specs.Loading.{AreLoaded, AreUnloaded}
 use Rattle.requests.specs.Looking.{AreVerified, AreUnverified, IsSaved, IsSaveFailure}
-use Rattle.requests.specs.Rehearsing.{IsRehearsedInto, IsRehearsalFailure}
+use Rattle.requests.specs.Rehearsing.{AreRehearsed, AreUnrehearsed}
 use Rattle.requests.specs.Showing.{AreShown, AreUnshown}
 use Rattle.requests.specs.Typing.{IsTypedThrough, IsTypingFailure}
 
@@ -21,8 +20,7 @@ abbrev pub IsDone : Request → Held → Held → Status → Type 0
 IsDone CheckInput before after status = IsInputChecked before after status
 IsDone (Check names) before after status = AreChecked names.items before after status
 IsDone (Dialogue names console start) before after status = AreShown names.items (console, start) before after status
-IsDone (Rehearse tape script more) before after status =
-    OfFiles (tape ∷ more.items) (λ inputs. IsRehearsedInto inputs before.out after.out) × (after.input ≡ before.input) × (status ≡ Done)
+IsDone (Rehearse tape script more) before after status = AreRehearsed (tape ∷ more.items) before after status
 IsDone (TypeKeys console) before after status = IsTypedThrough console before after × (status ≡ Done)
 IsDone (Load names load) before after status = AreLoaded names.items load before after status
 IsDone (Verify names look) before after status = AreVerified names.items look before after status
@@ -33,9 +31,7 @@ abbrev pub IsFailed : Request → Held → Held → Failure → Type 0
 IsFailed CheckInput before after failure = IsInputUnchecked before after failure
 IsFailed (Check names) before after failure = AreUnchecked names.items before after failure
 IsFailed (Dialogue names console start) before after failure = AreUnshown names.items (console, start) before after failure
-IsFailed (Rehearse tape script more) before after failure =
-    FailsUnopened (tape ∷ script ∷ more.items) before after failure
-    ⊎ (OfFiles (tape ∷ more.items) (λ inputs. IsRehearsalFailure script.now inputs before.out after.out failure) × (after.input ≡ before.input))
+IsFailed (Rehearse tape script more) before after failure = AreUnrehearsed tape script more.items before after failure
 IsFailed (TypeKeys console) before after failure = IsTypingFailure console before after failure
 IsFailed (Load names load) before after failure = AreUnloaded names.items load before after failure
 IsFailed (Verify names look) before after failure = AreUnverified names.items look before after failure

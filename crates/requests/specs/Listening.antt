@@ -1,5 +1,5 @@
 -- What is heard of a machine once a load is over.
-use Rattle.std.specs.Prelude.{◌≡◌, ◌⊎◌, ℕ, ◌+◌, ◌*◌, ◌<◌, ◌≤◌, ◌==◌, if◌then◌else◌, List, Option, Some, None}
+use Rattle.std.specs.Prelude.{◌≡◌, ℕ, ◌+◌, ◌*◌, ◌<◌, ◌≤◌, ◌==◌, if◌then◌else◌, List, Option, Some, None}
 use Rattle.host_core.specs.declared.phase.End.{End}
 use Rattle.host_core.specs.declared.phase.End.TheVariants as end
 use Rattle.load_devices.specs.declared.fault.LineFault.{LineFault}
@@ -40,7 +40,7 @@ pub record IsHeardInPart (out out' : Known) : Type 0 where
   pub told' : Option (List Item)
   pub cut : IsCopiedInPart told told' out out'
 
--- what there was to listen to was heard out; without a line there is nothing
+-- what there was to listen to was heard out
 abbrev pub IsListenedTo : Option ℕ → ℕ → Known → Known → Type 0
 IsListenedTo None quiet out out' = out' ≡ out
-IsListenedTo (Some seconds) quiet out out' = IsHeardOut seconds quiet out out' ⊎ (out' ≡ out)
+IsListenedTo (Some seconds) quiet out out' = IsHeardOut seconds quiet out out'

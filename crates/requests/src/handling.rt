@@ -68,7 +68,7 @@ fn perform<'a, F: Locks + Devices + Net + Clock, R: Read, W: Write, E: Write, T:
             show_dialogue(rt, alloc, &names, (console, start), streams)
         }
         Request::Rehearse(tape, script, more) => {
-            rehearse(rt, alloc, tape, script, &more, &mut streams.out)
+            rehearse(rt, alloc, tape, script, &more, streams)
         }
         Request::Type(console) => type_input(alloc, console, streams),
         Request::Load(names, load) => load_tapes(rt, alloc, &names, load, streams, terminal),

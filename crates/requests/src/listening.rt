@@ -1,5 +1,6 @@
 //! Listening to a machine behind a load.
-ghost use Rattle.std.specs.Prelude.{◌≡◌, ◌<◌, OnOk, IfErr};
+ghost use Rattle.std.specs.Prelude.{◌≡◌, ◌⊎◌, ◌<◌, OnOk, IfErr, IsSome};
+ghost use Rattle.machine_load.specs.Load.{IsNeverBegun};
 ghost use Rattle.requests.specs.Listening.{quiet_time, seconds_of, IsHeardInPart, IsHeardOut, IsListenedTo};
 ghost use Rattle.requests.specs.Loading.{IsListeningCut};
 
@@ -11,12 +12,34 @@ use load_devices::Line;
 use load_engine::Stop;
 use std::io::Write;
 
-/// Listens behind a load that stopped so, where that is asked for, where the program was started or may
-/// have been, and where there is a line. `CannotWrite` where what is heard can't be written.
+/// Listens behind a load that stopped so, where that is asked for and the program was started or may have
+/// been; a load that was over before it began has no line. `CannotWrite` where what is heard can't be
+/// written.
 pub(crate) fn listen_behind<L: Line + Drop, W: Write>(
     load: Load<'_>,
     stop: Stop,
     line: Option<L>,
+    out: &mut W,
+) -> Result<(), Failure<'static>>
+    requires { IsSome line ⊎ IsNeverBegun stop }
+    ensures ok { OnOk result (IsListenedTo
+        (seconds_of load.entry.listen stop)
+        (quiet_time load.entry.quiet_ms)
+        (W.contents out.old)
+        (W.contents out.new)) }
+    ensures err { IfErr result (IsListeningCut load.entry stop (W.contents out.old) (W.contents out.new)) }
+{
+    match line {
+        Some(mut line) => listen_to(load, stop, &mut line, out),
+        None => Ok(()),
+    }
+}
+
+// Listens to a line, where somebody does behind a load that stopped so.
+fn listen_to<L: Line, W: Write>(
+    load: Load<'_>,
+    stop: Stop,
+    line: &mut L,
     out: &mut W,
 ) -> Result<(), Failure<'static>>
     ensures ok { OnOk result (IsListenedTo
@@ -26,11 +49,8 @@ pub(crate) fn listen_behind<L: Line + Drop, W: Write>(
         (W.contents out.new)) }
     ensures err { IfErr result (IsListeningCut load.entry stop (W.contents out.old) (W.contents out.new)) }
 {
-    let Some(seconds) = seconds_of(load.listen, stop) else {
-        return Ok(());
-    };
-    match line {
-        Some(mut line) => listen_for(seconds, load.quiet_ms, &mut line, out),
+    match seconds_of(load.listen, stop) {
+        Some(seconds) => listen_for(seconds, load.quiet_ms, line, out),
         None => Ok(()),
     }
 }

@@ -1,9 +1,10 @@
 //! Loading a real machine.
-ghost use Rattle.std.specs.Prelude.{◌≡◌, IfOk, IfErr};
+ghost use Rattle.std.specs.Prelude.{◌≡◌, ◌⊎◌, IfOk, IfErr, IsSome};
 ghost use Rattle.std.specs.Mem.{FitsInMemory};
 ghost use Rattle.endings.specs.Failure.{IsStopFailure};
 ghost use Rattle.endings.specs.Status.{IsStopStatus};
 ghost use Rattle.endings.specs.Streams.{held};
+ghost use Rattle.machine_load.specs.Load.{IsNeverBegun};
 ghost use Rattle.requests.specs.Loading.{record_name, AreLoaded, AreUnloaded, IsEnded, IsEndFailure, IsPlanLoaded, IsPlanFailure};
 
 use crate::host::Host;
@@ -49,15 +50,34 @@ pub(crate) fn load_tapes<
         (held R.remaining W.contents E.contents streams.new)) }
     ensures quiet { streams.new.err ≡ streams.old.err }
 {
-    let plan = plan_tapes(rt, alloc, names, streams)?.starting(load.start);
+    let planned = plan_tapes(rt, alloc, names, streams)?;
+    let plan = planned.starting(load.start);
     match terminal {
         Some(terminal) => {
             let onlooker = &ProgressLine::new(rt, terminal);
-            load_plan(&Host { system: rt, alloc, onlooker }, plan, load, &mut streams.out)
+            load_plan(
+                &Host {
+                    system: rt,
+                    alloc,
+                    onlooker,
+                },
+                plan,
+                load,
+                &mut streams.out,
+            )
         }
         None => {
             let onlooker = &Unwatched;
-            load_plan(&Host { system: rt, alloc, onlooker }, plan, load, &mut streams.out)
+            load_plan(
+                &Host {
+                    system: rt,
+                    alloc,
+                    onlooker,
+                },
+                plan,
+                load,
+                &mut streams.out,
+            )
         }
     }
 }
@@ -74,10 +94,18 @@ fn load_plan<'a, F: Locks + Devices + Net + Clock, O: Onlooker, W: Write>(
 {
     let quiet_ms = load.quiet_ms;
     if is_path(load.line) {
-        let wire = Wire { system: host.system, path: load.line, quiet_ms };
+        let wire = Wire {
+            system: host.system,
+            path: load.line,
+            quiet_ms,
+        };
         load_through(host, plan, load, wire, out)
     } else {
-        let port = Port { net: host.system, address: load.line, quiet_ms };
+        let port = Port {
+            net: host.system,
+            address: load.line,
+            quiet_ms,
+        };
         load_through(host, plan, load, port, out)
     }
 }
@@ -116,7 +144,14 @@ fn load_with<'a, F, O: Onlooker, S: Surroundings, W: Write>(
     ensures ok { IfOk result (IsPlanLoaded plan request.entry (W.contents out.old) (W.contents out.new)) }
     ensures err { IfErr result (IsPlanFailure plan request.entry (W.contents out.old) (W.contents out.new)) }
 {
-    match load(host.alloc, plan, request.options, around, out, host.onlooker) {
+    match load(
+        host.alloc,
+        plan,
+        request.options,
+        around,
+        out,
+        host.onlooker,
+    ) {
         Ok(outcome) => end(request, outcome, out),
         Err(fault) => Err(Failure::of_load(fault, request.line, record_name(request.record))),
     }
@@ -128,6 +163,7 @@ fn end<'a, L: Line + Drop, W: Write>(
     outcome: Outcome<L>,
     out: &mut W,
 ) -> Result<Status, Failure<'a>>
+    requires { IsSome outcome.line ⊎ IsNeverBegun outcome.stop }
     ensures ok { IfOk result (IsEnded load.entry outcome.stop (W.contents out.old) (W.contents out.new)) }
     ensures err { IfErr result (IsEndFailure load.entry outcome.stop outcome.marked (W.contents out.old) (W.contents out.new)) }
 {
@@ -153,7 +189,7 @@ fn status_after(stop: Stop, marked: bool, file: &str) -> Result<Status, Failure<
 
 // What faults call the record.
 fn record_name<'a>(file: Option<&'a str>) -> &'a str
-    ensures { result.entry.now ≡ record_name file.entry }
+    ensures { result.now ≡ record_name file.entry }
 {
     match file {
         Some(name) => name,

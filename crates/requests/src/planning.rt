@@ -48,11 +48,7 @@ fn plan_input<R: Read>(alloc: Global, input: &mut R) -> Result<Plan, Failure<'st
 }
 
 // Opens files, and answers the plan of the tapes in them.
-fn plan_files<'a, F: Files>(
-    rt: &F,
-    alloc: Global,
-    names: &[&'a str],
-) -> Result<Plan, Failure<'a>>
+fn plan_files<'a, F: Files>(rt: &F, alloc: Global, names: &[&'a str]) -> Result<Plan, Failure<'a>>
     ensures ok { IfOk result (λ plan. OfFiles names.now (λ inputs. IsPlanOf inputs plan)) }
     ensures err { IfErr result (λ failure. IsUnopened names.now failure ⊎ OfFiles names.now (λ inputs. FailsToPlan inputs failure)) }
 {
@@ -61,11 +57,7 @@ fn plan_files<'a, F: Files>(
 }
 
 // The plan of tapes that faults call by these names.
-fn plan<'a, R: Read>(
-    alloc: Global,
-    names: &[&'a str],
-    tapes: &mut [R],
-) -> Result<Plan, Failure<'a>>
+fn plan<'a, R: Read>(alloc: Global, names: &[&'a str], tapes: &mut [R]) -> Result<Plan, Failure<'a>>
     ensures ok { IfOk result (IsPlanOf (inputs_of names.now R.remaining tapes.old tapes.new)) }
     ensures err { IfErr result (FailsToPlan (inputs_of names.now R.remaining tapes.old tapes.new)) }
 {

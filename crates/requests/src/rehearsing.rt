@@ -1,17 +1,77 @@
 //! Rehearsing a load.
 ghost use Rattle.std.specs.Prelude.{◌≡◌, ◌⊎◌, ◌∷◌, IfOk, IfErr};
-ghost use Rattle.requests.specs.Files.{inputs_of, IsUnopened, OfFiles};
-ghost use Rattle.requests.specs.Rehearsing.{IsRehearsalFailure, IsRehearsedInto};
+ghost use Rattle.std.specs.Mem.{FitsInMemory};
+ghost use Rattle.endings.specs.Streams.{held};
+ghost use Rattle.requests.specs.Files.{means_input, IsUnopened, OfFiles};
+ghost use Rattle.requests.specs.Rehearsing.{AreRehearsed, AreUnrehearsed, IsInputRehearsed, IsInputUnrehearsed, IsRehearsalFailure, IsRehearsedInto};
 
 use crate::files::{flushed, joined, open, open_all, open_more};
-use endings::{Failure, Status};
+use endings::{Failure, Status, Streams};
 use rehearsals::rehearse_to;
 use std::alloc::Global;
 use std::io::{Read, Write};
 use std::rt::Files;
+use std::slice;
 
-/// Opens the tape, the script and the further tapes, in this order, and rehearses.
-pub(crate) fn rehearse<'a, F: Files, W: Write>(
+/// Rehearses the load of tapes by a script: of standard input's tape, where `-` is their only name, else
+/// of those in the files.
+pub(crate) fn rehearse<'a, F: Files, R: Read, W: Write, E: Write>(
+    rt: &F,
+    alloc: Global,
+    tape: &'a str,
+    script: &'a str,
+    more: &[&'a str],
+    streams: &mut Streams<R, W, E>,
+) -> Result<Status, Failure<'a>>
+    requires { FitsInMemory R.row }
+    ensures ok { IfOk result (AreRehearsed (tape.entry ∷ more.now)
+        (held R.remaining W.contents E.contents streams.old)
+        (held R.remaining W.contents E.contents streams.new)) }
+    ensures err { IfErr result (AreUnrehearsed tape.entry script.entry more.now
+        (held R.remaining W.contents E.contents streams.old)
+        (held R.remaining W.contents E.contents streams.new)) }
+    ensures quiet { streams.new.err ≡ streams.old.err }
+{
+    if is_only_input(tape, more) {
+        rehearse_input(rt, alloc, script, streams)
+    } else {
+        rehearse_files(rt, alloc, tape, script, more, &mut streams.out)
+    }
+}
+
+// Whether a tape and the further ones mean standard input.
+fn is_only_input(tape: &str, more: &[&str]) -> bool
+    ensures { result ≡ means_input (tape.entry ∷ more.now) }
+{
+    more.is_empty() && *tape == *"-"
+}
+
+// Opens the script and rehearses with the tape on standard input.
+fn rehearse_input<'a, F: Files, R: Read, W: Write, E: Write>(
+    rt: &F,
+    alloc: Global,
+    script: &'a str,
+    streams: &mut Streams<R, W, E>,
+) -> Result<Status, Failure<'a>>
+    requires { FitsInMemory R.row }
+    ensures ok { IfOk result (IsInputRehearsed
+        (held R.remaining W.contents E.contents streams.old)
+        (held R.remaining W.contents E.contents streams.new)) }
+    ensures err { IfErr result (IsInputUnrehearsed script.entry
+        (held R.remaining W.contents E.contents streams.old)
+        (held R.remaining W.contents E.contents streams.new)) }
+    ensures quiet { streams.new.err ≡ streams.old.err }
+{
+    let mut script_file = open(rt, alloc, script)?;
+    let tape = slice::from_mut(&mut streams.input);
+    match rehearse_to(alloc, tape, &mut script_file, &mut streams.out) {
+        Ok(()) => flushed(&mut streams.out, Status::Done),
+        Err(fault) => Err(Failure::of(fault, &[], script)),
+    }
+}
+
+// Opens the tape, the script and the further tapes, in this order, and rehearses.
+fn rehearse_files<'a, F: Files, W: Write>(
     rt: &F,
     alloc: Global,
     tape: &'a str,
@@ -23,7 +83,7 @@ pub(crate) fn rehearse<'a, F: Files, W: Write>(
         × (status ≡ Status.Done)) }
     ensures err { IfErr result (λ failure. (IsUnopened (tape.entry ∷ script.entry ∷ more.now) failure × (W.contents out.new ≡ W.contents out.old))
         ⊎ OfFiles (tape.entry ∷ more.now)
-            (λ inputs. IsRehearsalFailure script.entry.now inputs (W.contents out.old) (W.contents out.new) failure)) }
+        (λ inputs. IsRehearsalFailure script.entry.now inputs (W.contents out.old) (W.contents out.new) failure)) }
 {
     let mut tapes = open_all(rt, alloc, &[tape])?;
     let mut script_file = open(rt, alloc, script)?;

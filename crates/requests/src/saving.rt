@@ -30,11 +30,29 @@ pub(crate) fn save_words<'a, F: Locks + Devices + Net + Clock, W: Write, T: Prin
     match terminal {
         Some(terminal) => {
             let onlooker = &ProgressLine::new(rt, terminal);
-            save_from(&Host { system: rt, alloc, onlooker }, name, save, out)
+            save_from(
+                &Host {
+                    system: rt,
+                    alloc,
+                    onlooker,
+                },
+                name,
+                save,
+                out,
+            )
         }
         None => {
             let onlooker = &Unwatched;
-            save_from(&Host { system: rt, alloc, onlooker }, name, save, out)
+            save_from(
+                &Host {
+                    system: rt,
+                    alloc,
+                    onlooker,
+                },
+                name,
+                save,
+                out,
+            )
         }
     }
 }
@@ -51,10 +69,18 @@ fn save_from<'a, F: Locks + Devices + Net + Clock, O: Onlooker, W: Write>(
 {
     let quiet_ms = save.look.quiet_ms;
     if is_path(save.look.line) {
-        let mut wire = Wire { system: host.system, path: save.look.line, quiet_ms };
+        let mut wire = Wire {
+            system: host.system,
+            path: save.look.line,
+            quiet_ms,
+        };
         save_through(host, name, save, &mut wire, out)
     } else {
-        let mut port = Port { net: host.system, address: save.look.line, quiet_ms };
+        let mut port = Port {
+            net: host.system,
+            address: save.look.line,
+            quiet_ms,
+        };
         save_through(host, name, save, &mut port, out)
     }
 }

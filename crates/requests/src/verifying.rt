@@ -48,11 +48,29 @@ pub(crate) fn verify_tapes<
     match terminal {
         Some(terminal) => {
             let onlooker = &ProgressLine::new(rt, terminal);
-            verify_plan(&Host { system: rt, alloc, onlooker }, &plan, look, &mut streams.out)
+            verify_plan(
+                &Host {
+                    system: rt,
+                    alloc,
+                    onlooker,
+                },
+                &plan,
+                look,
+                &mut streams.out,
+            )
         }
         None => {
             let onlooker = &Unwatched;
-            verify_plan(&Host { system: rt, alloc, onlooker }, &plan, look, &mut streams.out)
+            verify_plan(
+                &Host {
+                    system: rt,
+                    alloc,
+                    onlooker,
+                },
+                &plan,
+                look,
+                &mut streams.out,
+            )
         }
     }
 }
@@ -69,10 +87,18 @@ fn verify_plan<'a, F: Devices + Net + Clock, O: Onlooker, W: Write>(
 {
     let quiet_ms = look.quiet_ms;
     if is_path(look.line) {
-        let mut wire = Wire { system: host.system, path: look.line, quiet_ms };
+        let mut wire = Wire {
+            system: host.system,
+            path: look.line,
+            quiet_ms,
+        };
         verify_through(host, plan, look, &mut wire, out)
     } else {
-        let mut port = Port { net: host.system, address: look.line, quiet_ms };
+        let mut port = Port {
+            net: host.system,
+            address: look.line,
+            quiet_ms,
+        };
         verify_through(host, plan, look, &mut port, out)
     }
 }

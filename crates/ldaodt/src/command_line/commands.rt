@@ -1,47 +1,17 @@
-//! The commands, their arguments and their options, as the parser is told of them.
-//!
-//! Options have no default here: who reads one that is not given takes what is meant then.
+//! The commands, as the parser is told of them.
 
+use super::options::{
+    FILE, FROM, LINE, SCRIPT, TO, argument, console_options, listen_option, look_options,
+    more_argument, no_start_option, recheck_option, record_option, saved_start_option,
+    start_option, tape_argument,
+};
 use super::texts;
-use clap::{Arg, ArgAction, Command, value_parser};
-use odt_machine::{LARGEST_WORDS, Style};
+use clap::{Arg, Command};
 use std::alloc::{AllocError, Global};
 
-pub(crate) const TAPE: &str = "TAPE";
-
-pub(crate) const SCRIPT: &str = "SCRIPT";
-
-pub(crate) const MORE: &str = "MORE";
-
-pub(crate) const WORDS: &str = "words";
-
-pub(crate) const STYLE: &str = "style";
-
-pub(crate) const ADDRESS: &str = "HOST:PORT";
-
-pub(crate) const RECORD: &str = "record";
-
-pub(crate) const RECHECK: &str = "recheck";
-
-pub(crate) const PATIENCE: &str = "patience";
-
-pub(crate) const QUIET: &str = "quiet";
-
-/// The most mishaps that a load may be asked to survive.
-const LARGEST_PATIENCE: u16 = 1000;
-
-/// The shortest and the longest silence, in milliseconds, that may be taken to mean that nothing more is
-/// coming.
-const SHORTEST_QUIET: u16 = 1;
-
-const LONGEST_QUIET: u16 = 60_000;
-
-/// The style of the largest number: the answers have all that a style may add.
-const LAVISH_STYLE: Style = Style {
-    space_before: true,
-    two_returns: true,
-    echo_illegal: true,
-};
+/// Where the console is.
+const LINE_HELP: &str =
+    "Where the console is: HOST:PORT, or the path of a serial\ndevice, which has a '/'";
 
 /// All words that the program knows.
 pub(crate) fn ldaodt<'a>(alloc: Global) -> Result<Command<'a>, AllocError> {
@@ -59,6 +29,8 @@ pub(crate) fn ldaodt<'a>(alloc: Global) -> Result<Command<'a>, AllocError> {
 fn subcommands<'a>(alloc: Global) -> Result<Vec<Command<'a>>, AllocError> {
     let mut commands = Vec::new(alloc);
     commands.push(load_command(alloc)?)?;
+    commands.push(verify_command(alloc)?)?;
+    commands.push(save_command(alloc)?)?;
     commands.push(check_command(alloc)?)?;
     commands.push(dialogue_command(alloc)?)?;
     commands.push(rehearse_command(alloc)?)?;
@@ -67,16 +39,41 @@ fn subcommands<'a>(alloc: Global) -> Result<Vec<Command<'a>>, AllocError> {
 }
 
 fn load_command<'a>(alloc: Global) -> Result<Command<'a>, AllocError> {
-    let about = "Loads a machine whose console is reached over TCP";
-    command(alloc, "load", about, texts::LOAD).args(vec![in alloc;
-        tape_argument(alloc),
-        address_argument(alloc),
-        more_argument(alloc),
-        record_option(alloc),
-        recheck_option(alloc)?,
-        patience_option(alloc),
-        quiet_option(alloc),
-    ]?)
+    let about = "Loads a machine at a serial device or behind a port";
+    command(alloc, "load", about, texts::LOAD)
+        .args(tapes_and_line(alloc)?)?
+        .args(vec![in alloc;
+            record_option(alloc),
+            recheck_option(alloc)?,
+            start_option(alloc),
+            no_start_option(alloc)?,
+            listen_option(alloc),
+        ]?)?
+        .args(look_options(alloc)?)
+}
+
+fn verify_command<'a>(alloc: Global) -> Result<Command<'a>, AllocError> {
+    let about = "Looks whether a machine holds what tapes say, and changes nothing";
+    command(alloc, "verify", about, texts::VERIFY)
+        .args(tapes_and_line(alloc)?)?
+        .args(look_options(alloc)?)
+}
+
+fn save_command<'a>(alloc: Global) -> Result<Command<'a>, AllocError> {
+    let about = "Saves words of a machine as a tape, and changes nothing";
+    command(alloc, "save", about, texts::SAVE)
+        .args(vec![in alloc;
+            argument(alloc, FILE, "The new tape's file, which is not there yet"),
+            argument(alloc, LINE, LINE_HELP),
+            argument(
+                alloc,
+                FROM,
+                "The first word's address: octal, even, below 160000"
+            ),
+            argument(alloc, TO, "The last word's address, not below the first"),
+            saved_start_option(alloc),
+        ]?)?
+        .args(look_options(alloc)?)
 }
 
 fn check_command<'a>(alloc: Global) -> Result<Command<'a>, AllocError> {
@@ -89,29 +86,28 @@ fn check_command<'a>(alloc: Global) -> Result<Command<'a>, AllocError> {
 
 fn dialogue_command<'a>(alloc: Global) -> Result<Command<'a>, AllocError> {
     let about = "Loads a simulated machine and shows all that passes";
-    command(alloc, "dialogue", about, texts::DIALOGUE).args(vec![in alloc;
-        tape_argument(alloc),
-        more_argument(alloc),
-        words_option(alloc),
-        style_option(alloc),
-    ]?)
+    command(alloc, "dialogue", about, texts::DIALOGUE)
+        .args(vec![in alloc;
+            tape_argument(alloc),
+            more_argument(alloc),
+            start_option(alloc),
+            no_start_option(alloc)?,
+        ]?)?
+        .args(console_options(alloc)?)
 }
 
 fn rehearse_command<'a>(alloc: Global) -> Result<Command<'a>, AllocError> {
     let about = "Loads a simulated machine over a line that loses characters";
     command(alloc, "rehearse", about, texts::REHEARSE).args(vec![in alloc;
         tape_argument(alloc),
-        script_argument(alloc),
+        argument(alloc, SCRIPT, "The script's file"),
         more_argument(alloc),
     ]?)
 }
 
 fn type_command<'a>(alloc: Global) -> Result<Command<'a>, AllocError> {
     let about = "Types standard input into a simulated console, which answers";
-    command(alloc, "type", about, texts::TYPE).args(vec![in alloc;
-        words_option(alloc),
-        style_option(alloc),
-    ]?)
+    command(alloc, "type", about, texts::TYPE).args(console_options(alloc)?)
 }
 
 /// A command of this name, with what it is about and what stands below its options.
@@ -119,78 +115,11 @@ fn command<'a>(alloc: Global, name: &'a str, about: &'a str, below: &'a str) -> 
     Command::new(alloc, name).about(about).after_help(below)
 }
 
-fn tape_argument<'a>(alloc: Global) -> Arg<'a> {
-    Arg::new(alloc, TAPE).required(true).help("The tape's file")
-}
-
-fn script_argument<'a>(alloc: Global) -> Arg<'a> {
-    Arg::new(alloc, SCRIPT)
-        .required(true)
-        .help("The script's file")
-}
-
-fn more_argument<'a>(alloc: Global) -> Arg<'a> {
-    Arg::new(alloc, MORE)
-        .num_args(0..)
-        .action(ArgAction::Append)
-        .help("Further tapes, loaded as one with the first")
-}
-
-fn words_option<'a>(alloc: Global) -> Arg<'a> {
-    let help = "Words of the machine's memory, 0 to 28672 [default: 28672]";
-    option(alloc, WORDS, "N", help).value_parser(value_parser!(u16).range(
-        0..=i64::from(LARGEST_WORDS),
-    ))
-}
-
-fn style_option<'a>(alloc: Global) -> Arg<'a> {
-    let help =
-        "How the console answers, 0 to 7 [default: 0]: 1 for a space\nbefore a word's digits, plus 2 for two CRs before an LF,\nplus 4 for an echo of illegal keys";
-    option(alloc, STYLE, "N", help).value_parser(value_parser!(u8).range(
-        0..=i64::from(LAVISH_STYLE.number()),
-    ))
-}
-
-fn address_argument<'a>(alloc: Global) -> Arg<'a> {
-    Arg::new(alloc, ADDRESS)
-        .required(true)
-        .help("Where the console is: a name or an address, and a port")
-}
-
-fn record_option<'a>(alloc: Global) -> Arg<'a> {
-    let help =
-        "Where the verified words are kept, for a later load to\ngo on from them; a file that is not there is an empty\nrecord [default: kept in memory alone]";
-    option(alloc, RECORD, "FILE", help)
-}
-
-fn recheck_option<'a>(alloc: Global) -> Result<Arg<'a>, AllocError> {
-    let help = "Look at every word again: of the record only a typed\nstart counts";
-    Arg::new(alloc, RECHECK)
-        .long(RECHECK)
-        .action(ArgAction::SetTrue)
-        .help(help)
-        .requires_arg(RECORD)
-}
-
-fn patience_option<'a>(alloc: Global) -> Arg<'a> {
-    let help = "Mishaps that the load survives, 0 to 1000 [default: 8]";
-    option(alloc, PATIENCE, "N", help).value_parser(value_parser!(u16).range(
-        0..=i64::from(LARGEST_PATIENCE),
-    ))
-}
-
-fn quiet_option<'a>(alloc: Global) -> Arg<'a> {
-    let help =
-        "How many milliseconds of silence mean that nothing more\nis coming, 1 to 60000 [default: 2000]";
-    option(alloc, QUIET, "MS", help).value_parser(value_parser!(u16).range(
-        i64::from(SHORTEST_QUIET)..=i64::from(LONGEST_QUIET),
-    ))
-}
-
-/// An option of this name, with what its value is called and what it says.
-fn option<'a>(alloc: Global, name: &'a str, value: &'a str, help: &'a str) -> Arg<'a> {
-    Arg::new(alloc, name)
-        .long(name)
-        .value_name(value)
-        .help(help)
+/// The arguments of a command that meets a machine with tapes.
+fn tapes_and_line<'a>(alloc: Global) -> Result<Vec<Arg<'a>>, AllocError> {
+    Ok(vec![in alloc;
+        tape_argument(alloc),
+        argument(alloc, LINE, LINE_HELP),
+        more_argument(alloc),
+    ]?)
 }

@@ -2,17 +2,20 @@
 
 /// Of the program.
 pub(crate) const PROGRAM: &str = "\
-With no command the tape on standard input is checked. Several tapes are loaded
-as one, in their order: where two have a byte for one address the later tape's
-counts, and the start is that of the last tape alone.
+With no command the tape on standard input is checked. A tape that is alone may
+be named -, which is standard input. Several tapes are taken as one, in their
+order: where two have a byte for one address the later tape's counts, and the
+start is that of the last tape alone.
 
 Exit status:
   0  done; help was asked for
+  1  verify found words that differ
   2  the command line was refused
   3  a tape, a script or a record was refused
-  4  a file could not be read or something not be written, a record is another
-     load's at the time, there was no connection, or the line failed
-  5  a load ended GaveUp, NoWord, WontHold or TurnsOver
+  4  a file could not be read or something not be written, the file of a new
+     tape is there already, a record is another load's at the time, there was
+     no connection, or the line failed
+  5  a load, verify or save ended GaveUp, NoWord, WontHold or TurnsOver
   6  a load ended Uncertain or MaybeStarted: the program may be running
   7  out of memory
 Each fault but a refused command line is one line on standard error; a line
@@ -31,6 +34,8 @@ the end the program is started, once at most. Without --record a later load
 knows nothing of that, and may start it again. A record is good while the
 machine keeps its power and nobody resets it; else load with --recheck, too.
 
+A device in the working folder is ./ttyUSB0. It is used as stty has set it.
+
 Exit status:
   0  the load ended Loaded or Started
   3  a tape or the record was refused
@@ -40,10 +45,44 @@ Exit status:
   5  the load ended GaveUp, NoWord, WontHold or TurnsOver
   6  it ended Uncertain or MaybeStarted: look at the machine before all else
 
-Example, a machine on a serial adapter:
-  socat TCP-LISTEN:2323,bind=127.0.0.1,reuseaddr,nodelay \\
-    /dev/ttyUSB0,b9600,raw,echo=0,crtscts=0,clocal=1 &
-  ldaodt load first.lda 127.0.0.1:2323 --record first.record";
+Example, a machine on a serial adapter, which prints when it runs:
+  stty -F /dev/ttyUSB0 9600 raw -echo cs8 -parenb -cstopb -crtscts \\
+    clocal -hupcl
+  ldaodt load first.lda /dev/ttyUSB0 --record first.record --listen 10";
+
+/// Of `verify`.
+pub(crate) const VERIFY: &str = "\
+Each word of the tapes is looked at, in the order of the addresses. One that
+differs is a line: its address, mask and value, 'differs', and the word that is
+there. Nothing is typed that changes memory or starts anything.
+
+Exit status:
+  0  the look ended Same: memory holds each byte of the tapes
+  1  it ended Differs
+  3  a tape was refused
+  4  a file could not be read, or the output not be written, there was no
+     connection, or the line failed
+  5  the look ended GaveUp, NoWord or TurnsOver
+
+Example, the morning after a load:
+  ldaodt verify first.lda /dev/ttyUSB0";
+
+/// Of `save`.
+pub(crate) const SAVE: &str = "\
+The words from FROM to TO, both included, are looked at and written as one
+tape. A file that is there is never overwritten. Where the machine has no such
+word, the line fails or patience ends, the tape has the words that were read,
+and without any there is no file. Nothing is typed that changes memory or
+starts anything.
+
+Exit status:
+  0  the look ended Saved
+  4  the file is there already or could not be written, the output could not
+     be written, there was no connection, or the line failed
+  5  the look ended GaveUp, NoWord or TurnsOver
+
+Example, what is at the bottom of memory, before anything is loaded:
+  ldaodt save before.lda /dev/ttyUSB0 0 7776";
 
 /// Of `check`.
 pub(crate) const CHECK: &str = "\

@@ -1,4 +1,4 @@
-use Rattle.requests.specs.Attempt.{IsUnopened}
+use Rattle.requests.specs.Files.{IsUnopened}
 use Rattle.requests.proofs.Errors.{error_is}
 use Rattle.requests.proofs.Unopened.{at_unopened}
 use Rattle.requests.proofs.files.open_more.Goals as goal

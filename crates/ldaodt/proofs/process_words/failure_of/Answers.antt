@@ -1,5 +1,5 @@
 use Rattle.std.proofs.Common.{rules}
-use Rattle.endings.proofs.process_words.failure_of.Goals as goal
+use Rattle.ldaodt.proofs.process_words.failure_of.Goals as goal
 
 pub returns-in-InvalidData-clause-word : goal.returns-in-InvalidData-clause-word
 returns-in-InvalidData-clause-word c = search rules

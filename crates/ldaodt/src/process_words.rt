@@ -2,7 +2,7 @@
 ghost use Rattle.std.specs.Prelude.{◌≡◌, ◌≢◌};
 ghost use Rattle.std.specs.IoError.{error_kind};
 
-use crate::failure::Failure;
+use endings::Failure;
 use std::alloc::AllocGlobal;
 use std::io::ErrorKind;
 use std::rt::Env;
@@ -10,7 +10,7 @@ use std::{env, io};
 
 /// The words after the program's name, or why they can't be had: `BadWord` where one of them is not
 /// UTF-8, `NoMemory` where a growth was refused.
-pub fn words_of<R: Env + AllocGlobal>(rt: &R) -> Result<Vec<String>, Failure<'static>> {
+pub(crate) fn words_of<R: Env + AllocGlobal>(rt: &R) -> Result<Vec<String>, Failure<'static>> {
     let all = match env::args(rt) {
         Ok(all) => all,
         Err(error) => return Err(failure_of(&error)),

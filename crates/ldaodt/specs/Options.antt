@@ -1,0 +1,109 @@
+-- What the arguments and options of a command come to (this project's own).
+use Rattle.std.specs.Prelude.{◌≡◌, ⊤, ℕ, Bool, true, false, List, [], ◌∷◌, Option, Some, None, map, option_map, codes}
+use Rattle.std.specs.Option.{option_map_or}
+use Rattle.std.specs.Borrow.{Bor}
+use Rattle.std.specs.Str.Parse.{digits_value, without_leading_plus}
+use Rattle.clap.specs.Matches.{first_value, matched_of, one_text, raw_values}
+use Rattle.clap.specs.declared.parser.matches.Found.{Found}
+use Rattle.tape_image.specs.declared.start.Start.{Start}
+use Rattle.tape_image.specs.declared.start.Start.TheVariants.{OfTape, At, Nowhere}
+use Rattle.machine_look.specs.declared.range.AddressRange.{AddressRange}
+use Rattle.odt_machine.specs.Style.{style_number}
+use Rattle.requests.specs.declared.request.Console.{Console}
+use Rattle.requests.specs.declared.request.Load.{Load}
+use Rattle.requests.specs.declared.request.Look.{Look}
+use Rattle.requests.specs.declared.request.Request.{Request}
+use Rattle.requests.specs.declared.request.Request.TheVariants.{CheckInput, Check, Dialogue, Rehearse, «Type» as TypeKeys, Load as Loads, Verify, Save as Saves}
+use Rattle.requests.specs.declared.request.Save.{Save}
+use Rattle.ldaodt.specs.Addresses.{IsEvenText, IsOctalText, IsWordText}
+
+-- the decimal number that a text is
+abbrev pub number_in : List ℕ → ℕ
+number_in text = digits_value 10 (without_leading_plus text)
+
+-- the number that an option gives, where it is given
+pub record IsNumberGiven (found : Found) (name : List ℕ) (number : Option ℕ) : Type 0 where
+  pub none : one_text found name ≡ None → number ≡ None
+  pub some : (text : List ℕ) → one_text found name ≡ Some text → number ≡ Some (number_in text)
+
+-- the number that an option gives, or the one that is meant without it
+pub record IsNumberOf (found : Found) (name : List ℕ) (otherwise number : ℕ) : Type 0 where
+  pub none : one_text found name ≡ None → number ≡ otherwise
+  pub some : (text : List ℕ) → one_text found name ≡ Some text → number ≡ number_in text
+
+-- whether an option without a value is given
+pub record IsFlag (found : Found) (name : List ℕ) (is_set : Bool) : Type 0 where
+  pub none : one_text found name ≡ None → is_set ≡ false
+  pub yes : one_text found name ≡ Some (codes "true") → is_set ≡ true
+  pub no : one_text found name ≡ Some (codes "false") → is_set ≡ false
+
+-- the start in place of the tapes', where the address of one is given: no start, that address, or that of the tapes
+abbrev pub IsStartAt : Bool → Option (List ℕ) → Start → Type 0
+IsStartAt true given start = start ≡ Nowhere
+IsStartAt false None start = start ≡ OfTape
+IsStartAt false (Some text) (At address) = IsEvenText text address
+IsStartAt false (Some text) other = ⊥
+
+-- the start in place of the tapes', by two options
+pub record IsStartOf (found : Found) (start : Start) : Type 0 where
+  pub is_nowhere : Bool
+  pub flag : IsFlag found (codes "no-start") is_nowhere
+  pub start_is : IsStartAt is_nowhere (first_value found (codes "start")) start
+
+-- the start address of a saved tape: the one that is given, or that which starts nothing
+abbrev pub IsSavedStart : Option (List ℕ) → ℕ → Type 0
+IsSavedStart None start = start ≡ 1
+IsSavedStart (Some text) start = IsOctalText text start
+
+-- the names of further tapes, in order
+abbrev pub more_in : Found → List (List ℕ)
+more_in found = option_map_or raw_values (matched_of found (codes "MORE")) []
+
+-- the names of the tapes are these, the first before all others
+abbrev pub AreTapes : Found → List (Bor (List ℕ)) → Type 0
+AreTapes found names = (first : List ℕ) × ((first_value found (codes "TAPE") ≡ Some first) × (map (λ name. name.now) names ≡ first ∷ more_in found))
+
+-- a simulated console is what its two options say: all memory and the plain style where nothing else is said
+pub record IsConsoleOf (found : Found) (console : Console) : Type 0 where
+  pub words : IsNumberOf found (codes "words") 28672 console.words
+  pub style : IsNumberOf found (codes "style") 0 (style_number console.style)
+
+-- a load, but for its tapes, is what the arguments and options of `load` say
+pub record IsLoadOf (found : Found) (load : Load) : Type 0 where
+  pub line : first_value found (codes "LINE") ≡ Some load.line.now
+  pub record_file : option_map (λ name. name.now) load.«record» ≡ first_value found (codes "record")
+  pub recheck : IsFlag found (codes "recheck") load.options.recheck
+  pub patience : IsNumberOf found (codes "patience") 8 load.options.patience
+  pub quiet : IsNumberOf found (codes "quiet") 2000 load.quiet_ms
+  pub listen : IsNumberGiven found (codes "listen") load.listen
+  pub start : IsStartOf found load.start
+
+-- a look is what the arguments and options of `verify` and `save` say
+pub record IsLookOf (found : Found) (look : Look) : Type 0 where
+  pub line : first_value found (codes "LINE") ≡ Some look.line.now
+  pub patience : IsNumberOf found (codes "patience") 8 look.patience
+  pub quiet : IsNumberOf found (codes "quiet") 2000 look.quiet_ms
+
+-- a range is that of two addresses
+pub record IsRangeOf (found : Found) (range : AddressRange) : Type 0 where
+  pub from : (text : List ℕ) × ((first_value found (codes "FROM") ≡ Some text) × IsWordText text range.from)
+  pub to : (text : List ℕ) × ((first_value found (codes "TO") ≡ Some text) × IsWordText text range.to)
+
+-- a save is what the arguments and options of `save` say
+pub record IsSaveOf (found : Found) (save : Save) : Type 0 where
+  pub range : IsRangeOf found save.range
+  pub start : IsSavedStart (first_value found (codes "start")) save.start
+  pub look : IsLookOf found save.look
+
+-- a request is what the arguments and options of its command say
+abbrev pub IsRequestOf : Found → Request → Type 0
+IsRequestOf found (Check names) = AreTapes found names.items
+IsRequestOf found (Dialogue names console start) = AreTapes found names.items × IsConsoleOf found console × IsStartOf found start
+IsRequestOf found (Rehearse tape script more) =
+    (first_value found (codes "TAPE") ≡ Some tape.now) × (first_value found (codes "SCRIPT") ≡ Some script.now)
+    × (map (λ name. name.now) more.items ≡ more_in found)
+IsRequestOf found (TypeKeys console) = IsConsoleOf found console
+IsRequestOf found (Loads names load) = AreTapes found names.items × IsLoadOf found load
+IsRequestOf found (Verify names look) = AreTapes found names.items × IsLookOf found look
+IsRequestOf found (Saves file save) = (first_value found (codes "FILE") ≡ Some file.now) × IsSaveOf found save
+IsRequestOf found CheckInput = ⊥

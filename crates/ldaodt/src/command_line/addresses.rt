@@ -1,0 +1,124 @@
+//! Addresses on the command line.
+ghost use Rattle.std.specs.Prelude.{◌≤◌, ◌-◌, ◌++◌, length, replicate, IfSome, IfOk, codes};
+ghost use Rattle.octal.specs.Octal.{IsOct6};
+ghost use Rattle.clap.specs.Matches.{found_of, first_value};
+ghost use Rattle.ldaodt.specs.Addresses.{IsEvenText, IsOctalText, IsWordText};
+ghost use Rattle.ldaodt.specs.Options.{IsRangeOf, IsSavedStart, IsStartOf};
+
+use super::no_request::NoRequest;
+use super::options::{FROM, NO_START, START, TO};
+use super::refusals::invalid_value;
+use super::values::text_of;
+use clap::ArgMatches;
+use machine_look::AddressRange;
+use octal::read_oct6;
+use std::alloc::Global;
+use tape_image::Start;
+
+/// Why a word is no start of a load, and none of a saved tape.
+const NO_START_ADDRESS: &str = "a start is octal, of one to six digits, and even";
+
+const NO_SAVED_START: &str = "a start is octal, of one to six digits";
+
+/// Why a word is no address of a word of memory.
+const NO_ADDRESS: &str = "an address is octal, of one to six digits, even, and below 160000";
+
+/// Why a last address is none.
+const IS_BELOW: &str = "the last address is below the first";
+
+/// The start address of a tape that starts nothing.
+const STARTS_NOTHING: u16 = 0o000001;
+
+/// The first address that no word of memory has.
+const TOP: u16 = 0o160000;
+
+/// The start in place of the tapes', by two options of which one is given at most.
+pub(crate) fn start_of(alloc: Global, found: &ArgMatches<'_>) -> Result<Start, NoRequest>
+    ensures { IfOk result (IsStartOf (found_of found.now)) }
+{
+    if found.get_flag(NO_START) {
+        return Ok(Start::Nowhere);
+    }
+    match found.get_str(START) {
+        Some(text) => Ok(Start::At(given_start(alloc, text)?)),
+        None => Ok(Start::OfTape),
+    }
+}
+
+/// The start address of a saved tape.
+pub(crate) fn saved_start_of(alloc: Global, found: &ArgMatches<'_>) -> Result<u16, NoRequest>
+    ensures { IfOk result (IsSavedStart (first_value (found_of found.now) (codes "start"))) }
+{
+    match found.get_str(START) {
+        Some(text) => any_start(alloc, text),
+        None => Ok(STARTS_NOTHING),
+    }
+}
+
+/// The start address of a tape that a text is, or its refusal.
+fn any_start(alloc: Global, text: &str) -> Result<u16, NoRequest>
+    ensures { IfOk result (IsOctalText text.now) }
+{
+    match octal(text) {
+        Some(start) => Ok(start),
+        None => Err(invalid_value(alloc, text, "--start <AAAAAA>", NO_SAVED_START)),
+    }
+}
+
+/// The start address of a program that a text is, or its refusal.
+fn given_start(alloc: Global, text: &str) -> Result<u16, NoRequest>
+    ensures { IfOk result (IsEvenText text.now) }
+{
+    match even(text) {
+        Some(start) => Ok(start),
+        None => Err(invalid_value(alloc, text, "--start <AAAAAA>", NO_START_ADDRESS)),
+    }
+}
+
+/// The range of words that are saved.
+pub(crate) fn range_of(alloc: Global, found: &ArgMatches<'_>) -> Result<AddressRange, NoRequest>
+    ensures { IfOk result (IsRangeOf (found_of found.now)) }
+{
+    let last = text_of(found, TO)?;
+    let from = word_of(alloc, text_of(found, FROM)?, "<FROM>")?;
+    let to = word_of(alloc, last, "<TO>")?;
+    match AddressRange::new(from, to) {
+        Some(range) => Ok(range),
+        None => Err(invalid_value(alloc, last, "<TO>", IS_BELOW)),
+    }
+}
+
+/// The address of a word of memory that an argument's text is, or its refusal.
+fn word_of(alloc: Global, text: &str, argument: &str) -> Result<u16, NoRequest>
+    ensures { IfOk result (IsWordText text.now) }
+{
+    match even(text) {
+        Some(address) if address < TOP => Ok(address),
+        _ => Err(invalid_value(alloc, text, argument, NO_ADDRESS)),
+    }
+}
+
+/// The even number that a text of one to six octal digits is.
+fn even(text: &str) -> Option<u16>
+    ensures { IfSome result (IsEvenText text.now) }
+{
+    match octal(text) {
+        Some(number) if number % 2 == 0 => Some(number),
+        _ => None,
+    }
+}
+
+/// The number that a text of one to six octal digits is.
+fn octal(text: &str) -> Option<u16>
+    ensures some { IfSome result (λ number. 1 ≤ length text.now) }
+    ensures value { IfSome result (λ number. IsOct6 number (replicate (6 - length text.now) 48 ++ text.now)) }
+{
+    let digits = text.as_bytes();
+    let missing = 6usize.checked_sub(digits.len())?;
+    if missing == 6 {
+        return None;
+    }
+    let mut filled = *b"000000";
+    filled[missing..].copy_from_slice(digits);
+    read_oct6(&filled)
+}

@@ -1,0 +1,133 @@
+//! Surroundings of a load that tell what they are.
+ghost use Rattle.std.specs.Prelude.{IfErr, IfOk, None, Some, option_map};
+ghost use Rattle.load_record.specs.Keeper.{HoldsRecord};
+ghost use Rattle.machine_load.specs.Driving.{ending_of, line_told, IsLoadReported};
+ghost use Rattle.machine_load.specs.Lives.{of_file};
+ghost use Rattle.record_file.specs.RecordFault.{IsUnbegun};
+
+use honest_line::MemoryLine;
+use load_devices::LineFault;
+use load_progress::Unwatched;
+use load_record::FileKeep;
+use machine_load::{LoadFault, LoadOptions, Outcome, Surroundings, load};
+use odt_machine::Odt;
+use record_file::{OldRecord, RecordFault};
+use std::alloc::Global;
+use tape_image::Plan;
+
+/// How much may be said on a line.
+const ROOM: u32 = 1000;
+
+/// A machine, and the record of its loads, in memory.
+#[derive(Drop)]
+pub struct Bench {
+    alloc: Global,
+
+    /// The machine, while no line to it is open.
+    odt: Option<Odt>,
+
+    /// The number of the call from which on a line fails, where there is one.
+    fail_at: Option<u64>,
+
+    /// The record, with the keeper that has written it.
+    keeper: FileKeep<Vec<u8>>,
+}
+
+impl Bench {
+    /// A machine, and an empty record.
+    pub fn new(alloc: Global, odt: Odt) -> Bench {
+        Bench {
+            alloc,
+            odt: Some(odt),
+            fail_at: None,
+            keeper: FileKeep::new(Vec::new(alloc)),
+        }
+    }
+
+    /// Another machine, or none, with the same record.
+    pub fn put_machine(&mut self, odt: Option<Odt>) {
+        self.odt = odt;
+    }
+
+    /// From now on each line fails at the call of this number and at those behind it; or none does.
+    pub fn fail_lines_at(&mut self, call: Option<u64>) {
+        self.fail_at = call;
+    }
+
+    /// What the record is.
+    pub fn record(&self) -> &[u8] {
+        self.keeper.writer()
+    }
+}
+
+impl Surroundings for Bench {
+    type Line = MemoryLine;
+
+    type Keeper = FileKeep<Vec<u8>>;
+
+    ghost record_text = { λ bench. bench.keeper.text };
+
+    ghost kept_text = { λ keeper. keeper.text };
+
+    ghost begins = { λ keeper plan count. HoldsRecord keeper plan count };
+
+    fn read_record(&mut self, alloc: Global) -> Result<OldRecord, RecordFault> {
+        let text = Vec::from_slice(alloc, self.keeper.writer())?;
+        Ok(OldRecord {
+            text,
+            writable: true,
+        })
+    }
+
+    fn connect(&mut self) -> Result<MemoryLine, LineFault> {
+        let Some(odt) = self.odt.take() else {
+            return Err(LineFault::Connect);
+        };
+        match MemoryLine::new(self.alloc, odt, Vec::new(self.alloc), ROOM, self.fail_at) {
+            Ok(line) => Ok(line),
+            Err(_) => Err(LineFault::Connect),
+        }
+    }
+
+    fn begin_record(
+        &mut self,
+        alloc: Global,
+        plan: &Plan,
+        verified: u32,
+    ) -> Result<FileKeep<Vec<u8>>, RecordFault> {
+        self.keeper = begun(alloc, plan, verified)?;
+        begun(alloc, plan, verified)
+    }
+
+    fn end_record(&mut self, keeper: FileKeep<Vec<u8>>) {
+        self.keeper = keeper;
+    }
+}
+
+// A new record of the first verified words of a plan.
+fn begun(alloc: Global, plan: &Plan, verified: u32) -> Result<FileKeep<Vec<u8>>, RecordFault>
+    ensures begun { IfOk result (λ keeper. HoldsRecord keeper plan.now verified) }
+    ensures fault { IfErr result IsUnbegun }
+{
+    let mut keeper = FileKeep::new(Vec::new(alloc));
+    keeper.begin(plan, verified)?;
+    Ok(keeper)
+}
+
+/// Loads a plan into the machine of a bench. What `load` promises of its devices is so of these, which
+/// tell: of the line that comes back, and of the record as its keeper left it.
+pub fn load_once(
+    alloc: Global,
+    plan: Plan,
+    options: LoadOptions,
+    bench: &mut Bench,
+    report: &mut Vec<u8>,
+) -> Result<Outcome<MemoryLine>, LoadFault>
+    ensures lived { IfOk result (λ outcome. IsLoadReported of_file plan options
+        (record { around = record { steps = None; record_text = bench.old.keeper.text }; out = Some report.old.items })
+        (record { around = record { steps = None; record_text = bench.new.keeper.text }; out = Some report.new.items })
+        (ending_of outcome.stop outcome.marked
+        (option_map (line_told (λ line. Some line.items) (λ line. line.failures) (λ line. line.fault)) outcome.line))) }
+{
+    load(alloc, plan, options, bench, report, &Unwatched)
+}

@@ -1,0 +1,157 @@
+//! Loads one after another, each of which the line may stop at any of its calls.
+
+use crate::bench::{Bench, load_once};
+use honest_line::MemoryLine;
+use host_core::End;
+use load_devices::Item;
+use load_engine::Stop;
+use machine_load::LoadOptions;
+use odt_machine::{LARGEST_WORDS, Odt, PLAIN_STYLE};
+use std::alloc::Global;
+use tape_blocks::read_tape;
+use tape_image::Plan;
+
+/// The smallest tape with a word: 011064 at 001000, where it starts.
+const ONE_WORD: [u8; 16] = [
+    0x01, 0x00, 0x08, 0x00, 0x00, 0x02, 0x34, 0x12, 0xAF, 0x01, 0x00, 0x06, 0x00, 0x00, 0x02, 0xF7,
+];
+
+/// Where its word is, and which it is.
+const ADDRESS: u16 = 0o001000;
+
+const WORD: u16 = 0o011064;
+
+/// The whole record of its load.
+const RECORD: &[u8] = b"LDAODT 2\n001000 011064\nG\n";
+
+/// Eight mishaps are survived, and what the record says is believed.
+const OPTIONS: LoadOptions = LoadOptions {
+    patience: 8,
+    recheck: false,
+};
+
+/// A bench, and what came of the loads on it so far.
+#[derive(Drop)]
+struct Row {
+    bench: Bench,
+
+    /// How often the start was typed.
+    starts: usize,
+
+    /// Why the last load stopped, and whether it had a line.
+    stop: Option<Stop>,
+    had_line: bool,
+
+    /// The word in memory after the last load that had a line.
+    word: Option<u16>,
+}
+
+/// How often the start was typed on a line.
+fn starts_on(line: &MemoryLine) -> usize {
+    let mut count: usize = 0;
+    for item in line.items() {
+        if *item == Item::Sent(b'G') {
+            count = count.saturating_add(1);
+        }
+    }
+    count
+}
+
+/// The machine at the end of a line, with its word and in its mode; none for want of memory.
+fn machine_of(alloc: Global, line: &MemoryLine) -> Option<Odt> {
+    let left = line.odt();
+    let mut odt = Odt::new(alloc, LARGEST_WORDS, PLAIN_STYLE).ok()?;
+    odt.put(ADDRESS, left.peek(ADDRESS)?);
+    odt.with_mode(left.mode()).ok()
+}
+
+/// A machine that was not typed into, with an empty record; none for want of memory.
+fn new_row(alloc: Global) -> Option<Row> {
+    let odt = Odt::new(alloc, LARGEST_WORDS, PLAIN_STYLE).ok()?;
+    Some(Row {
+        bench: Bench::new(alloc, odt),
+        starts: 0,
+        stop: None,
+        had_line: false,
+        word: None,
+    })
+}
+
+impl Row {
+    /// One more load, on the machine as the last one left it; none where it is not reported.
+    fn load_more(&mut self, alloc: Global) -> Option<()> {
+        let (tape, _) = read_tape(alloc, &ONE_WORD).ok()?;
+        let plan = Plan::of(alloc, &tape).ok()?;
+        let mut report = Vec::new(alloc);
+        let outcome = load_once(alloc, plan, OPTIONS, &mut self.bench, &mut report).ok()?;
+        self.stop = Some(outcome.stop);
+        self.had_line = outcome.line.is_some();
+        if let Some(line) = &outcome.line {
+            self.starts = self.starts.saturating_add(starts_on(line));
+            self.word = line.odt().peek(ADDRESS);
+            self.bench.put_machine(machine_of(alloc, line));
+        }
+        Some(())
+    }
+
+    /// Whether the last load is over as it should be: it has started the program, and the start was typed
+    /// just once, or it had no line, since the start was typed before or may have been.
+    fn is_over(&self) -> bool {
+        match self.stop {
+            Some(Stop::Ended(End::Started)) => self.had_line && self.starts == 1,
+            Some(Stop::Ended(End::MaybeStarted)) => !self.had_line && self.starts <= 1,
+            _ => false,
+        }
+    }
+
+    /// Whether the word stands, and the record is whole.
+    fn is_whole(&self) -> bool {
+        self.word == Some(WORD) && self.bench.record() == RECORD
+    }
+}
+
+/// So many loads in a row, each of whose lines fails at a call, and then one whose line does not fail.
+fn loads_in_a_row(alloc: Global, stopped: u32, call: u64) -> Option<Row> {
+    let mut row = new_row(alloc)?;
+    row.bench.fail_lines_at(Some(call));
+    for _ in 0..stopped {
+        row.load_more(alloc)?;
+    }
+    row.bench.fail_lines_at(None);
+    row.load_more(alloc)?;
+    Some(row)
+}
+
+/// Whether all is as it should be after these loads.
+fn ends_well(alloc: Global, stopped: u32, call: u64) -> bool {
+    match loads_in_a_row(alloc, stopped, call) {
+        Some(row) => row.is_over() && row.is_whole(),
+        None => false,
+    }
+}
+
+/// Whether a load whose line fails at a call starts the program before: the next one asks for no line.
+fn starts_before(alloc: Global, call: u64) -> bool {
+    match loads_in_a_row(alloc, 1, call) {
+        Some(row) => row.starts == 1 && !row.had_line,
+        None => false,
+    }
+}
+
+/// More calls than a load of one word makes of its line.
+const CALLS: u64 = 200;
+
+#[test]
+fn a_load_that_was_stopped_anywhere_is_gone_on_with(rt: HostRuntime) {
+    assert!(rt; !starts_before(rt.alloc(), 0) && starts_before(rt.alloc(), CALLS));
+    for call in 0..=CALLS {
+        assert!(rt; ends_well(rt.alloc(), 1, call), "call {call}");
+    }
+}
+
+#[test]
+fn so_are_three_in_a_row(rt: HostRuntime) {
+    for call in 0..=CALLS {
+        assert!(rt; ends_well(rt.alloc(), 3, call), "call {call}");
+    }
+}

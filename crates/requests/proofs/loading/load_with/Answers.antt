@@ -1,0 +1,50 @@
+use Rattle.std.proofs.Common.{inl, inr, subst}
+use Rattle.std.proofs.lemmas.Result.{IfOk-weaker, IfErr-weaker}
+use Rattle.endings.specs.Failure.{IsLoadFailureOf}
+use Rattle.machine_load.specs.Load.{around_of}
+use Rattle.requests.specs.Loading.{IsEnded, IsEndFailure, IsPlanLoaded, IsPlanFailure}
+use Rattle.requests.proofs.loading.load_with.Goals as goal
+
+pub returns-in-Ok-clause-ok : goal.returns-in-Ok-clause-ok
+returns-in-Ok-clause-ok g c =
+    IfOk-weaker c.end.result (IsEnded c.args.request c.in-Ok.outcome.stop (g.W.Write.contents c.load.new.out) (g.W.Write.contents c.end.new.out))
+    (IsPlanLoaded c.args.plan c.args.request (g.W.Write.contents c.args.out.now) (g.W.Write.contents c.end.new.out))
+    (λ status is. record {
+      stop = c.in-Ok.outcome.stop;
+      marked = c.in-Ok.outcome.marked;
+      between = g.W.Write.contents c.load.new.out;
+      reported = record {
+        around = around_of g.S.Surroundings.steps g.S.Surroundings.record_text c.args.around.now;
+        around' = around_of g.S.Surroundings.steps g.S.Surroundings.record_text c.load.new.around;
+        reported = c.in-Ok.ensures.reported;
+      };
+      ended = is;
+    })
+    c.end.ensures.ok
+
+pub returns-in-Ok-clause-err : goal.returns-in-Ok-clause-err
+returns-in-Ok-clause-err g c =
+    IfErr-weaker c.end.result (IsEndFailure c.args.request c.in-Ok.outcome.stop c.in-Ok.outcome.marked (g.W.Write.contents c.load.new.out) (g.W.Write.contents c.end.new.out))
+    (IsPlanFailure c.args.plan c.args.request (g.W.Write.contents c.args.out.now) (g.W.Write.contents c.end.new.out))
+    (λ failure is. inr (record {
+      stop = c.in-Ok.outcome.stop;
+      marked = c.in-Ok.outcome.marked;
+      between = g.W.Write.contents c.load.new.out;
+      reported = record {
+        around = around_of g.S.Surroundings.steps g.S.Surroundings.record_text c.args.around.now;
+        around' = around_of g.S.Surroundings.steps g.S.Surroundings.record_text c.load.new.around;
+        reported = c.in-Ok.ensures.reported;
+      };
+      is_so = is;
+    }))
+    c.end.ensures.err
+
+pub returns-in-Err-clause-err : goal.returns-in-Err-clause-err
+returns-in-Err-clause-err g c =
+    inl (record {
+      fault = c.in-Err.fault;
+      around = around_of g.S.Surroundings.steps g.S.Surroundings.record_text c.args.around.now;
+      around' = around_of g.S.Surroundings.steps g.S.Surroundings.record_text c.load.new.around;
+      is_so = c.in-Err.ensures.fault;
+      is_called = subst (λ file. IsLoadFailureOf c.in-Err.fault c.args.request.line.now file c.of_load.result) c.record_name.ensures c.of_load.ensures;
+    })

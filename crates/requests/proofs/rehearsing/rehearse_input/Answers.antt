@@ -1,0 +1,29 @@
+use Rattle.std.proofs.Common.{◌≡◌, ◌∷◌, [], ◌∙◌, map, inl, inr, ap}
+use Rattle.std.proofs.KnownBytes.{Appends-kept}
+use Rattle.std.proofs.lemmas.Result.{IfOk-weaker, IfErr-weaker}
+use Rattle.requests.proofs.OneInput.{only_input}
+use Rattle.requests.proofs.rehearsing.rehearse_input.Goals as goal
+
+pub returns-in-Ok-clause-ok : goal.returns-in-Ok-clause-ok
+returns-in-Ok-clause-ok g c =
+    let before : map g.R.Read.remaining c.from_mut-tape.result.now ≡ g.R.Read.remaining c.args.streams.now.input ∷ [] = ap (map g.R.Read.remaining) c.from_mut-tape.ensures.value in
+    let after = only_input g.R.Read.remaining c.rehearse_to.new.tapes c.args.streams.now.input (c.rehearse_to.auto.tapes ∙ c.from_mut-tape.ensures.len) in
+    let rehearsed = rw (before, after) at c.in-Ok.ensures.ok in
+    IfOk-weaker c.flushed.result _ _
+    (λ status is. (record { script_held = _; text = rehearsed.0; rehearsed = rehearsed.1; written = Appends-kept (g.W.Write.contents c.args.streams.now.out) (g.W.Write.contents c.rehearse_to.new.out) (g.W.Write.contents c.flushed.new.out) rehearsed.0 rehearsed.2 c.flushed.ensures.bytes }, is))
+    c.flushed.ensures.ok
+
+pub returns-in-Ok-clause-err : goal.returns-in-Ok-clause-err
+returns-in-Ok-clause-err g c =
+    let before : map g.R.Read.remaining c.from_mut-tape.result.now ≡ g.R.Read.remaining c.args.streams.now.input ∷ [] = ap (map g.R.Read.remaining) c.from_mut-tape.ensures.value in
+    let after = only_input g.R.Read.remaining c.rehearse_to.new.tapes c.args.streams.now.input (c.rehearse_to.auto.tapes ∙ c.from_mut-tape.ensures.len) in
+    let rehearsed = rw (before, after) at c.in-Ok.ensures.ok in
+    IfErr-weaker c.flushed.result _ _
+    (λ failure is. inr (inr (is, record { script_held = _; text = rehearsed.0; rehearsed = rehearsed.1; written = Appends-kept (g.W.Write.contents c.args.streams.now.out) (g.W.Write.contents c.rehearse_to.new.out) (g.W.Write.contents c.flushed.new.out) rehearsed.0 rehearsed.2 c.flushed.ensures.bytes })))
+    c.flushed.ensures.err
+
+pub returns-clause-err : goal.returns-clause-err
+returns-clause-err g c =
+    let before : map g.R.Read.remaining c.from_mut-tape.result.now ≡ g.R.Read.remaining c.args.streams.now.input ∷ [] = ap (map g.R.Read.remaining) c.from_mut-tape.ensures.value in
+    let after = only_input g.R.Read.remaining c.rehearse_to.new.tapes c.args.streams.now.input (c.rehearse_to.auto.tapes ∙ c.from_mut-tape.ensures.len) in
+    inr (inl (_, record { fault = c.in-Err.fault; is_so = rw (before, after) at c.in-Err.ensures.err; is_called = c.of.ensures }))

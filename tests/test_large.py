@@ -99,11 +99,11 @@ class BabblingPeer(Peer):
 
     def __init__(self, machine, count):
         super().__init__(machine)
-        self.count = count
+        self.babble = count
 
-    def talk(self, connection):
-        connection.sendall(b"@" * self.count)
-        super().talk(connection)
+    def talk(self, receive, send):
+        send(b"@" * self.babble)
+        return super().talk(receive, send)
 
 
 class Turns(Case):

@@ -22,12 +22,13 @@ FILES = {
     "small.record": b"LDAODT 2\n001000 011064\nG\n",
     "large.lda": block(0o1000, b"".join(value.to_bytes(2, "little") for _, value in LARGE)) + block(0o1000, b""),
     "full.lda": block(0, b"\x55" * 57344) + block(0, b""),
+    "wordless.lda": block(1, b""),
     "large.script": b"# nothing\n" * 20000 + b"clean",
     "large.record": "".join(["LDAODT 1\n", *(f"{address:06o} 177777 {value:06o}\n" for address, value in LARGE), "G\n"]).encode(),
 }
 
 # Words for each command, for help and for a refusal, what stands on standard input, and the status with ample memory.
-# Nothing is connected to: one load has its end already, to the other nobody answers.
+# Nothing is connected to: a load or a look has its end already, or nobody answers.
 LINES = (
     ("", FILES["small.lda"], 0),
     ("", FILES["large.lda"], 0),
@@ -43,6 +44,9 @@ LINES = (
     ("load --record large.record large.lda [::1]:1", b"", 6),
     ("load small.lda 127.0.0.1:1", b"", 4),
     ("load full.lda 127.0.0.1:1 --record none.record", b"", 4),
+    ("verify wordless.lda [::1]:1", b"", 0),
+    ("verify full.lda ./nothing", b"", 4),
+    ("save new.lda 127.0.0.1:1 0 157776", b"", 4),
     ("help load", b"", 0),
     ("load small.lda", b"", 2),
     ("x" * 100000, b"", 2),

@@ -5,6 +5,7 @@ from common import Case, Console
 from outside import FIRST, LOST_DIGIT, bytes_of
 
 NO_TEXT = "ldaodt: a word of the command line is not UTF-8\n"
+NO_LINE = "a line is HOST:PORT, or the path of a serial device, which has a '/'"
 CHECKED = "blocks 1 data 2 read 16\nstart 001000\ncanonical yes\nwords 1\n001000 177777 011064\n"
 
 # Names of files that are not there, and how a fault shows them.
@@ -40,9 +41,23 @@ class Words(Case):
 
     def test_so_does_an_address(self):
         self.put_tapes("first.lda")
-        for name, shown in SHOWN[:-1]:
+        for name, shown in SHOWN[1:-1]:
             with self.subTest(shown):
-                self.ends(self.ldaodt(["load", "first.lda", "--", name]), 4, "", f"ldaodt: cannot connect to {shown}\n")
+                self.ends(self.ldaodt(["load", "first.lda", "--", f"{name}:"]), 4, "", f"ldaodt: cannot connect to {shown}:\n")
+
+    def test_so_does_a_device(self):
+        self.put_tapes("first.lda")
+        for name, shown in SHOWN[1:-1]:
+            with self.subTest(shown):
+                self.ends(self.ldaodt(["load", "first.lda", f"./{name}"]), 4, "", f"ldaodt: cannot connect to ./{shown}\n")
+
+    def test_a_word_that_is_refused_breaks_no_line(self):
+        """Here the empty word is shown as it is, between quotes."""
+        for name, shown in (("", ""), *SHOWN[1:-1]):
+            with self.subTest(shown):
+                given = self.ldaodt(["load", "first.lda", "--", name])
+                self.is_so((given.status, given.out), (2, ""))
+                self.is_so(given.err.split("\n")[0], f"error: invalid value '{shown}' for '<LINE>': {NO_LINE}")
 
     def test_so_does_a_record(self):
         """In a folder that is not there: it is seen before there is a connection."""
@@ -56,7 +71,7 @@ class Words(Case):
         self.is_so((peer.connections, peer.machine.typed), (0, ""))
 
     def test_odd_names_of_files_that_are_there(self):
-        for name in ("a b.lda", "two\nlines", "k\xe4se.lda", "--help", "-", "'"):
+        for name in ("a b.lda", "two\nlines", "k\xe4se.lda", "--help", "./-", "'"):
             with self.subTest(name):
                 self.put(name, bytes_of(FIRST))
                 self.ends(self.ldaodt(["check", "--", name]), 0, CHECKED)

@@ -1,8 +1,13 @@
-"""Standard error on a terminal: one line says how far a load is, and nothing of it is left."""
+"""Standard error on a terminal: one line says how far a load is, and nothing of it is left. Standard input at one: it is
+said what is read."""
+import os
+import pty
+import subprocess
 import time
 import unittest
 
 from common import Case, Console, DeafConsole
+from outside import PROGRAM
 
 # Each line that is shown: the terminal is asked to cut what it has no column for, and behind the text to take away what
 # is left of the line before it and to wrap again.
@@ -76,6 +81,30 @@ class Terminal(Case):
         self.is_so((given.status, given.out), (4, "sent 23 spent 0 verified 1 of 1\nend KeepFailed\n"))
         self.assertTrue(shown.endswith(f"{CLEARED}ldaodt: cannot write a.record\r\n"), repr(shown))
         self.is_so(set(shown[:shown.index(CLEARED)].split("\r")), {"", LISTENING[1:], NO_WORD[1:]})
+
+
+class Input(Case):
+    """A tape on standard input, where that is a terminal."""
+
+    def type_at(self, words, keys):
+        """Runs a command and types at its standard input."""
+        ours, theirs = pty.openpty()
+        try:
+            os.write(ours, keys)
+            return subprocess.run([PROGRAM, *words], cwd=self.room, stdin=theirs, capture_output=True, text=True, timeout=20, check=False)
+        finally:
+            os.close(ours)
+            os.close(theirs)
+
+    def test_the_name_alone_says_what_it_reads(self):
+        """Ctrl-D is the end of the input."""
+        given = self.type_at([], b"\x04")
+        said = "ldaodt: reading a tape from standard input ('ldaodt --help' says more)\n"
+        self.is_so((given.returncode, given.stdout, given.stderr), (3, "", f"{said}ldaodt: tape refused at 0: NoTransfer\n"))
+
+    def test_nothing_is_said_where_the_input_was_asked_for(self):
+        given = self.type_at(["check", "-"], b"\x04")
+        self.is_so((given.returncode, given.stdout, given.stderr), (3, "", "ldaodt: tape refused at 0: NoTransfer\n"))
 
 
 if __name__ == "__main__":

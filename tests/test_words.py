@@ -5,6 +5,7 @@ from common import Case, Console
 from outside import FIRST, LOST_DIGIT, bytes_of
 
 NO_TEXT = "ldaodt: a word of the command line is not UTF-8\n"
+NO_LINE = "a line is HOST:PORT, or the path of a serial device, which has a '/'"
 CHECKED = "blocks 1 data 2 read 16\nstart 001000\ncanonical yes\nwords 1\n001000 177777 011064\n"
 
 # Names of files that are not there, and how a fault shows them.
@@ -38,19 +39,25 @@ class Words(Case):
             with self.subTest(shown):
                 self.ends(self.ldaodt(["check", "--", name]), 4, "", f"ldaodt: cannot read {shown}\n")
 
-    def test_so_does_a_line(self):
-        """The name of a host without a port, and that of a device in a folder that is not there."""
+    def test_so_does_an_address(self):
         self.put_tapes("first.lda")
         for name, shown in SHOWN[1:-1]:
             with self.subTest(shown):
                 self.ends(self.ldaodt(["load", "first.lda", "--", f"{name}:"]), 4, "", f"ldaodt: cannot connect to {shown}:\n")
-                self.ends(self.ldaodt(["load", "first.lda", f"no-such/{name}"]), 4, "", f"ldaodt: cannot connect to no-such/{shown}\n")
 
-    def test_what_is_no_line_is_refused_in_the_same_form(self):
-        for name, shown in SHOWN[1:-2]:
+    def test_so_does_a_device(self):
+        self.put_tapes("first.lda")
+        for name, shown in SHOWN[1:-1]:
             with self.subTest(shown):
-                given = self.ldaodt(["load", "first.lda", name])
-                self.is_so((given.status, given.out, given.err.split("\n")[0].split("'" + shown + "'")[0]), (2, "", "error: invalid value "))
+                self.ends(self.ldaodt(["load", "first.lda", f"./{name}"]), 4, "", f"ldaodt: cannot connect to ./{shown}\n")
+
+    def test_a_word_that_is_refused_breaks_no_line(self):
+        """Here the empty word is shown as it is, between quotes."""
+        for name, shown in (("", ""), *SHOWN[1:-1]):
+            with self.subTest(shown):
+                given = self.ldaodt(["load", "first.lda", "--", name])
+                self.is_so((given.status, given.out), (2, ""))
+                self.is_so(given.err.split("\n")[0], f"error: invalid value '{shown}' for '<LINE>': {NO_LINE}")
 
     def test_so_does_a_record(self):
         """In a folder that is not there: it is seen before there is a connection."""

@@ -12,7 +12,6 @@ unopened_within xs ys within (CannotRead name) is = within name is
 unopened_within xs ys within NoMemory is = tt
 unopened_within xs ys within other is = absurd is
 
-
 only_name : (x y : Name) → Contains (x ∷ []) y → x ≡ y
 only_name x y (zero, within, is) = is
 only_name x y (suc k, within, is) = absurd (omega (arith, within))
@@ -21,8 +20,6 @@ only_name x y (suc k, within, is) = absurd (omega (arith, within))
 pub at_unopened : (names : List Name) (i : ℕ) (d : Name) (f : Failure) → i < length names → IsUnopened (get_or names i d ∷ []) f → IsUnopened names f
 at_unopened names i d f within is =
     unopened_within (get_or names i d ∷ []) names (λ x h. subst (Contains names) (only_name (get_or names i d) x h) (Contains-get_or names i d within)) f is
-
-
 
 pub more_unopened : (tape script : Name) (more : List Name) (f : Failure) → IsUnopened more f → IsUnopened (tape ∷ script ∷ more) f
 more_unopened tape script more f is = unopened_within more (tape ∷ script ∷ more) (λ x h. Contains-append_right (tape ∷ script ∷ []) more x h) f is

@@ -5,8 +5,8 @@ use tape_image::Start;
 
 /// What the words after the program's name ask for.
 ///
-/// Tapes are named in the order in which they are joined, the first before all others; the name `-` is
-/// standard input.
+/// Tapes are named in the order in which they are joined, the first before all others; the name `-`, alone,
+/// is standard input.
 #[derive(Drop)]
 pub enum Request<'a> {
     /// Check the tape on standard input: there were no words.

@@ -2,7 +2,7 @@
 //! written.
 
 use crate::failing_devices::{BrokenInput, BrokenOutput, NOWHERE};
-use crate::frail::{Frail, RECORD, Stopped, VERIFIED, line, load_one_word};
+use crate::frail::{Frail, RECORD, Stopped, VERIFIED, load_one_word, machine};
 use host_core::End;
 use load_devices::KeepFault;
 use load_engine::Stop;
@@ -20,19 +20,21 @@ fn frail_with<'a>(
     word: u16,
     output: &'a RefCell<BrokenOutput>,
 ) -> Option<Frail<'a>> {
-    let line = line(alloc, word, None)?;
+    let odt = machine(alloc, word)?;
     Some(Frail {
         input,
         writable: true,
         refusal: None,
-        line: Some(line),
+        alloc,
+        odt: Some(odt),
+        fail_at: None,
         output,
     })
 }
 
 /// Whether a record's input failed once and was not asked again, and nobody connected.
 fn is_unconnected(around: &Frail<'_>) -> bool {
-    around.input.failed_once() && around.line.is_some()
+    around.input.failed_once() && around.odt.is_some()
 }
 
 /// How a load whose record fails before a byte ends, where nobody connects; or None.

@@ -53,8 +53,13 @@ pub struct Frail<'a> {
     /// Why the record is not even tried, where that is so.
     pub refusal: Option<RecordFault>,
 
-    /// The line, until somebody is connected to it.
-    pub line: Option<MemoryLine>,
+    pub alloc: Global,
+
+    /// The machine, until somebody is connected to it.
+    pub odt: Option<Odt>,
+
+    /// At which call the line to it fails, and from there on, where there is one.
+    pub fail_at: Option<u64>,
 
     pub output: &'a RefCell<BrokenOutput>,
 }
@@ -77,9 +82,12 @@ impl<'a> Surroundings for Frail<'a> {
     }
 
     fn connect(&mut self) -> Result<MemoryLine, LineFault> {
-        match self.line.take() {
-            Some(line) => Ok(line),
-            None => Err(LineFault::Connect),
+        let Some(odt) = self.odt.take() else {
+            return Err(LineFault::Connect);
+        };
+        match MemoryLine::new(self.alloc, odt, Vec::new(self.alloc), 1000, self.fail_at) {
+            Ok(line) => Ok(line),
+            Err(_) => Err(LineFault::Connect),
         }
     }
 
@@ -98,12 +106,11 @@ impl<'a> Surroundings for Frail<'a> {
     fn end_record(&mut self, _keeper: FileKeep<SharedOutput<'a>>) {}
 }
 
-/// A line to a machine that holds this at 001000, which fails at the call of this number and from there on,
-/// where there is one.
-pub(crate) fn line(alloc: Global, word: u16, fail_at: Option<u64>) -> Option<MemoryLine> {
+/// A machine that holds this at 001000.
+pub(crate) fn machine(alloc: Global, word: u16) -> Option<Odt> {
     let mut odt = Odt::new(alloc, LARGEST_WORDS, PLAIN_STYLE).ok()?;
     odt.put(0o001000, word);
-    MemoryLine::new(alloc, odt, Vec::new(alloc), 1000, fail_at).ok()
+    Some(odt)
 }
 
 /// How a load stopped that was reported, and whether the host had come to the start.

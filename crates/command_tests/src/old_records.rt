@@ -2,7 +2,7 @@
 //! are to be looked at again; and what it says of a line that fails before and behind the start.
 
 use crate::failing_devices::{BrokenInput, BrokenOutput, NOWHERE};
-use crate::frail::{Frail, RECORD, Stopped, VERIFIED, line, load_one_word};
+use crate::frail::{Frail, RECORD, Stopped, VERIFIED, load_one_word, machine};
 use crate::tapes::ONE_WORD;
 use host_core::End;
 use load_engine::Stop;
@@ -100,16 +100,18 @@ fn load_over(
     output: &RefCell<BrokenOutput>,
     out: &mut Vec<u8>,
 ) -> Option<(Ending, bool)> {
-    let line = line(alloc, found.word, found.fail_at)?;
+    let odt = machine(alloc, found.word)?;
     let mut around = Frail {
         input: BrokenInput::new(found.record, NOWHERE),
         writable: found.writable,
         refusal: found.refusal,
-        line: Some(line),
+        alloc,
+        odt: Some(odt),
+        fail_at: found.fail_at,
         output,
     };
     let ended = load_one_word(alloc, recheck, &mut around, out)?;
-    Some((ended, around.line.is_none()))
+    Some((ended, around.odt.is_none()))
 }
 
 /// What such a load leaves.

@@ -77,35 +77,55 @@ fn is_orderly(rt: &HostRuntime, ended: &Ended) -> bool {
     ended.is(Status::NoMemory, "", OUT_OF_MEMORY) && fs::metadata(rt, RECORD).is_err()
 }
 
-/// Loads in the room that is left, and answers how often memory was wanting behind the connection, or None where the
-/// load did not end for want of memory as it has to.
+/// How often memory was wanting, and how often of these behind the connection.
+#[derive(Clone, Copy)]
+struct Refusals {
+    all: u32,
+    behind: u32,
+}
+
+impl Refusals {
+    /// Memory was not wanting yet.
+    const NONE: Refusals = Refusals { all: 0, behind: 0 };
+
+    fn and(self, more: Refusals) -> Refusals {
+        Refusals {
+            all: self.all.saturating_add(more.all),
+            behind: self.behind.saturating_add(more.behind),
+        }
+    }
+}
+
+/// Loads in the room that is left, and answers how often memory was wanting, or None where the load did not end for
+/// want of memory as it has to.
 fn refusals_of(
     system: &System<'_>,
     rt: &HostRuntime,
     record: Option<&str>,
     ended: &mut Ended,
-) -> Option<u32> {
+) -> Option<Refusals> {
     if load(system, rt.alloc(), record, ended).is_err() {
-        return Some(0);
+        return Some(Refusals::NONE);
     }
-    is_orderly(rt, ended).then_some(system.connections.get())
+    let behind = system.connections.get();
+    is_orderly(rt, ended).then_some(Refusals { all: 1, behind })
 }
 
-/// Loads in rooms that grow until memory is not wanting, and answers how often it was behind the connection.
+/// Loads in rooms that grow until memory is not wanting, and answers how often it was.
 fn load_scarcely(
     rt: &HostRuntime,
     record: Option<&str>,
     systems: &[System<'_>],
     famine: &mut Famine,
     ended: &mut Ended,
-) -> u32 {
-    let mut refusals = 0u32;
+) -> Refusals {
+    let mut refusals = Refusals::NONE;
     for system in systems {
         if famine.leave_more(rt.alloc()).is_err() {
             break;
         }
         match refusals_of(system, rt, record, ended) {
-            Some(count) => refusals = refusals.saturating_add(count),
+            Some(more) => refusals = refusals.and(more),
             None => break,
         }
     }
@@ -121,40 +141,41 @@ fn add_systems<'a>(rt: &'a HostRuntime, systems: &mut Vec<System<'a>>) -> Result
 }
 
 /// Loads so with a system for each room, or answers None where these have no memory beforehand.
-fn load_at_last(rt: &HostRuntime, record: Option<&str>, ended: &mut Ended) -> Option<u32> {
+fn load_at_last(rt: &HostRuntime, record: Option<&str>, ended: &mut Ended) -> Option<Refusals> {
     let mut systems = Vec::new(rt.alloc());
     add_systems(rt, &mut systems).ok()?;
     let mut famine = Famine::begin(rt.alloc()).ok()?;
     Some(load_scarcely(rt, record, &systems, &mut famine, ended))
 }
 
-/// Whether a load is refused behind the connection, and reports this at last: one that was always refused, or once in
-/// another way than it has to be, does not.
-fn is_loaded_at_last(rt: &HostRuntime, record: Option<&str>, report: &str) -> bool {
-    let Ok(mut ended) = Ended::with_room(rt.alloc()) else {
-        return false;
-    };
-    let refusals = load_at_last(rt, record, &mut ended);
-    refusals.is_some_and(|count| count > 0) && ended.is(Status::Done, report, "")
+/// How often memory was wanting for a load that reports this at last: one that was always refused, or once in another
+/// way than it has to be, does not.
+fn loaded_at_last(rt: &HostRuntime, record: Option<&str>, report: &str) -> Option<Refusals> {
+    let mut ended = Ended::with_room(rt.alloc()).ok()?;
+    let refusals = load_at_last(rt, record, &mut ended)?;
+    ended.is(Status::Done, report, "").then_some(refusals)
 }
 
 #[test]
 fn each_growth_of_a_load_is_refused_in_turn(rt: HostRuntime) -> Result<(), Fail> {
     assert!(rt; put_zeroes(&rt), "no tape");
-    assert!(rt; is_loaded_at_last(&rt, None, ZEROES_LOADED));
+    let refusals = loaded_at_last(&rt, None, ZEROES_LOADED);
+    assert!(rt; refusals.is_some_and(|refusals| refusals.behind > 0));
     Ok(fs::remove_file(&rt, TAPE)?)
 }
 
-/// Whether the smallest tape is loaded so, with a record of a long name.
-fn is_recorded_at_last(rt: &HostRuntime) -> bool {
+/// How often memory was wanting for a load of the smallest tape, with a record of a long name. Behind the connection
+/// that name is what needs memory, and less of it than the tape's reading before.
+fn recorded_at_last(rt: &HostRuntime) -> Option<Refusals> {
     let mut name = String::new(rt.alloc());
-    add_long_name(&mut name).is_ok() && is_loaded_at_last(rt, Some(name.as_str()), STARTED)
+    add_long_name(&mut name).ok()?;
+    loaded_at_last(rt, Some(name.as_str()), STARTED)
 }
 
 #[test]
 fn each_growth_of_a_load_with_a_record_is_refused_in_turn(rt: HostRuntime) -> Result<(), Fail> {
     fs::write(&rt, TAPE, ONE_WORD)?;
-    assert!(rt; is_recorded_at_last(&rt));
+    assert!(rt; recorded_at_last(&rt).is_some_and(|refusals| refusals.all > 0));
     fs::remove_file(&rt, RECORD)?;
     Ok(fs::remove_file(&rt, TAPE)?)
 }

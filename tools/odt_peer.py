@@ -146,12 +146,13 @@ class Line:
 class Peer(Line):
     """A machine behind a port of this computer."""
 
-    def __init__(self, machine, port=0, **named):
+    def __init__(self, machine, port=0, host="127.0.0.1", **named):
         super().__init__(machine, **named)
         self.connections = 0
-        self.listener = socket.create_server(("127.0.0.1", port))
-        self.port = self.listener.getsockname()[1]
-        self.name = f"127.0.0.1:{self.port}"
+        family = socket.AF_INET6 if ":" in host else socket.AF_INET
+        self.listener = socket.create_server((host, port), family=family)
+        self.host, self.port = self.listener.getsockname()[:2]
+        self.name = f"{host}:{self.port}"
         threading.Thread(target=self.serve, daemon=True).start()
 
     def serve(self):
@@ -173,7 +174,7 @@ class Peer(Line):
     def settle(self, seconds=10):
         """Waits until all earlier callers are served, and what they sent is taken: connections are served in turn,
         so one of our own, which asks for nothing and isn't counted, ends after theirs."""
-        with socket.create_connection(("127.0.0.1", self.port), seconds) as ours:
+        with socket.create_connection((self.host, self.port), seconds) as ours:
             ours.shutdown(socket.SHUT_WR)
             while ours.recv(64):
                 pass

@@ -1,5 +1,6 @@
 -- How the program's failures are named, told and ended with (this project's own).
-use Rattle.std.specs.Prelude.{◌≡◌, ◌⊎◌, ℕ, Bool, ◌-◌, nat_lt, if◌then◌else◌, List, [], ◌∷◌, ◌++◌, length, slice_get, Option, Some, None, codes, decimal, encode_utf8}
+use Rattle.std.specs.Prelude.{◌≡◌, ◌⊎◌, ℕ, Bool, ◌-◌, nat_lt, if◌then◌else◌, List, [], ◌∷◌, ◌++◌, length, slice_get}
+use Rattle.std.specs.Prelude.{Option, Some, None, codes, decimal, encode_utf8}
 use Rattle.std.specs.Borrow.{Bor}
 use Rattle.std.specs.Char.{is_control}
 use Rattle.std.specs.Char.Escape.{escape_default}
@@ -11,7 +12,9 @@ use Rattle.tape_blocks.specs.declared.fault.ReadError.TheVariants as reading
 use Rattle.byte_io.specs.Output.{WritesProperPrefix}
 use Rattle.endings.specs.declared.failure.Failure.{Failure}
 use Rattle.endings.specs.declared.failure.OneTape.{OneTape}
-use Rattle.endings.specs.declared.failure.Failure.TheVariants.{CannotRead, CannotWrite, CannotWriteFile, FileIsThere, RecordInUse, CannotConnect, LineFailed, StartInDoubt, TapeRefused, OneTapeRefused, ScriptRefused, RecordRefused, TooLarge, BadWord, NoMemory}
+use Rattle.endings.specs.declared.failure.Failure.TheVariants.{CannotRead, CannotWrite, CannotWriteFile, FileIsThere, RecordInUse, CannotConnect}
+use Rattle.endings.specs.declared.failure.Failure.TheVariants.{LineFailed, StartInDoubt, TapeRefused, OneTapeRefused, ScriptRefused, RecordRefused}
+use Rattle.endings.specs.declared.failure.Failure.TheVariants.{TooLarge, BadWord, NoMemory}
 use Rattle.command_io.specs.declared.fault.CommandFault.{CommandFault}
 use Rattle.command_io.specs.declared.fault.CommandFault.TheVariants as fault
 use Rattle.load_engine.specs.declared.stop.Stop.{Stop}
@@ -156,7 +159,8 @@ IsStopFailure other marked file failure = ⊥
 
 -- the failure that a command's fault is, where its tapes and its script have these names: of several tapes the number is told
 abbrev pub IsFailureOf : CommandFault → List (Bor (List ℕ)) → List ℕ → Failure → Type 0
-IsFailureOf (fault.Tape number refusal) tapes script failure = failure ≡ (if nat_lt 1 (length tapes) then OneTapeRefused (record { number = number; fault = refusal }) else TapeRefused refusal)
+IsFailureOf (fault.Tape number refusal) tapes script failure =
+    failure ≡ (if nat_lt 1 (length tapes) then OneTapeRefused (record { number = number; fault = refusal }) else TapeRefused refusal)
 IsFailureOf (fault.Script number) tapes script failure = failure ≡ ScriptRefused number
 IsFailureOf fault.TooLarge tapes script failure = failure ≡ TooLarge
 IsFailureOf (fault.ReadTape number) tapes script failure = NamesTape (slice_get tapes (number - 1)) failure

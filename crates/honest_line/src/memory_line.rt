@@ -62,7 +62,8 @@ impl Model for MemoryLine {
       fault = l.fault;
     } };
 
-    ghost invariant = { λ l. (l.room ≤ vec_capacity l.items) × (length l.items.items ≤ l.room) × (l.keys ≤ length l.items.items) × (l.answers ≤ longest_answer * l.keys) };
+    ghost invariant = { λ l. (l.room ≤ vec_capacity l.items) × (length l.items.items ≤ l.room)
+        × (l.keys ≤ length l.items.items) × (l.answers ≤ longest_answer * l.keys) };
 }
 
 impl MemoryLine {

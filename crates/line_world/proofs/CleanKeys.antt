@@ -28,7 +28,7 @@ use Rattle.line_world.specs.World.{answered, stepped, happens, typed_in, typed, 
 use Rattle.line_world.specs.Pending.{Live, BrokenIsPaid, rest_of}
 use Rattle.line_world.specs.Invariant.{IsKept}
 use Rattle.line_world.specs.CleanLine.{LiesIn, IsAtOpening}
-use Rattle.line_world.specs.Site.{Site, site, held, wanted, Lies}
+use Rattle.line_world.specs.Site.{Site, site, held_number, wanted, Lies}
 use Rattle.line_world.specs.CleanText.{words_keys, start_keys, clean_text}
 use Rattle.line_world.proofs.Frame.{scene, PhaseHolds, TurnFits}
 use Rattle.line_world.proofs.Silence.{fits_silence, past_mark}
@@ -176,7 +176,7 @@ WordUnderWayLies m core = core.verified < length core.plan.words → Lies (site 
 
 -- in a phase that waits for an answer, the character heard is the next of it
 live_leads : (phase : Phase) (m : Machine) (core : Core) (c : ℕ) (u : List ℕ) (lost : ℕ) (here later : List ℕ) → lost ≡ 0 → PhaseFits phase (basis_of core) →
-    held (site (scene m core [] (c ∷ u) lost)) < 65536 → WordUnderWayLies m core → Live phase (site (scene m core [] (c ∷ u) lost)) m.mode [] (c ∷ u) core.spent lost →
+    held_number (site (scene m core [] (c ∷ u) lost)) < 65536 → WordUnderWayLies m core → Live phase (site (scene m core [] (c ∷ u) lost)) m.mode [] (c ∷ u) core.spent lost →
     Leads (site (scene m core [] (c ∷ u) lost)) here later (hears (word_under_way core) (start_of core) phase c) (left phase (site (scene m core [] (c ∷ u) lost)) here later)
 live_leads phase m core c u lost here later none fits wide lies h =
     let t = site (scene m core [] (c ∷ u) lost) in
@@ -184,7 +184,7 @@ live_leads phase m core c u lost here later none fits wide lies h =
     (paid_whole (rest_of phase t) (c ∷ u) core.spent (subst (BrokenIsPaid (rest_of phase t) [] (c ∷ u) core.spent) none h.paid))
 
 phase_leads : (phase : Phase) (m : Machine) (core : Core) (c : ℕ) (u : List ℕ) (lost : ℕ) (here later : List ℕ) → lost ≡ 0 → PhaseFits phase (basis_of core) →
-    held (site (scene m core [] (c ∷ u) lost)) < 65536 → WordUnderWayLies m core → PhaseHolds phase m core [] (c ∷ u) lost → ended phase ≡ None →
+    held_number (site (scene m core [] (c ∷ u) lost)) < 65536 → WordUnderWayLies m core → PhaseHolds phase m core [] (c ∷ u) lost → ended phase ≡ None →
     Leads (site (scene m core [] (c ∷ u) lost)) here later (hears (word_under_way core) (start_of core) phase c) (left phase (site (scene m core [] (c ∷ u) lost)) here later)
 phase_leads Settle m core c u lost here later none fits wide lies h goes = refl
 phase_leads (Ended end) m core c u lost here later none fits wide lies h goes = absurd (cc)

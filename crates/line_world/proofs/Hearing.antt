@@ -21,8 +21,8 @@ use Rattle.host_core.specs.Core.{Core, word_under_way, start_of}
 use Rattle.host_core.specs.Host.{IsHost, PhaseFits, IsPlace, basis_of}
 use Rattle.host_core.specs.PhaseTable.{move, hears, sync_hears, address_hears, slash_hears, first_digit_hears, before_hears, differs, read, value_hears, deposit_hears, returned, return_hears, start_hears, go_hears}
 use Rattle.line_world.specs.World.{stepped}
-use Rattle.line_world.specs.Site.{Site, site, held, Lies, number_mode, typing_mode, opened_mode, prompt_from, last_digits, reading}
-use Rattle.line_world.specs.Pending.{Live, Fits as MeetsKey, IsPart, IsOpened, Checked, Facts, after_of, rest_of}
+use Rattle.line_world.specs.Site.{Site, site, held_number, Lies, number_mode, typing_mode, opened_mode, prompt_from, last_digits, reading}
+use Rattle.line_world.specs.Pending.{Live, Fits as MeetsKey, IsRemnant, IsOpened, Checked, Facts, after_of, rest_of}
 use Rattle.line_world.specs.Invariant.{IsKept}
 use Rattle.line_world.proofs.Parts.{Follows, follows_next, follows_skip, follows_stay, follows_at, Misses, misses, IsAbsent, part_absent, part_past, part_one, part_next, differ}
 use Rattle.line_world.proofs.Digits.{below_six, head_step, last_step, not_first}
@@ -34,7 +34,7 @@ use Rattle.line_world.proofs.Sites.{plan_site}
 -- what is known when a character is heard in a phase that waits for an answer
 record Hears (new : Mode) (rest : List ℕ) (mode : Mode) (c : ℕ) (u : List ℕ) (spent lost : ℕ) : Type 0 where
   pub after : mode ≡ new
-  pub part : IsPart (c ∷ u) rest
+  pub part : IsRemnant (c ∷ u) rest
   pub paid : (c ∷ u ≡ rest) ⊎ (spent < lost)
 
 hears_in : (phase : Phase) (t : Site) (mode : Mode) (c : ℕ) (u : List ℕ) (spent lost : ℕ) → Live phase t mode [] (c ∷ u) spent lost → Hears (after_of phase t) (rest_of phase t) mode c u spent lost
@@ -135,7 +135,7 @@ digit_reading : (space : Bool) (w c : ℕ) → c ≢ 32 → Follows c (if space 
 digit_reading true w c other = follows_skip c 32 _ _ other (follows_next c (digit_of w 1) _)
 digit_reading false w c other = follows_next c (digit_of w 1) _
 
-part_reading : (space : Bool) (w c : ℕ) (u : List ℕ) → c ≢ 32 → IsPart (c ∷ u) (if space then 32 ∷ last_digits w 6 else last_digits w 6) → IsPart (c ∷ u) (last_digits w 6)
+part_reading : (space : Bool) (w c : ℕ) (u : List ℕ) → c ≢ 32 → IsRemnant (c ∷ u) (if space then 32 ∷ last_digits w 6 else last_digits w 6) → IsRemnant (c ∷ u) (last_digits w 6)
 part_reading true w c u other h = part_past c 32 u (last_digits w 6) other h
 part_reading false w c u other h = h
 
@@ -300,20 +300,20 @@ module _ (m : Machine) (core : Core) (c : ℕ) (u : List ℕ) (lost : ℕ) where
       below_four P a b d e (suc (suc (suc (suc k)))) h = absurd (omega arith)
 
   -- the first digit of a reading
-  first_fits : (visit : Visit) (rest : List ℕ) → Hears (opened_mode here) rest m.mode c u core.spent lost → Checked visit here → Lies here → held here < 65536 →
-      (c ≢ 32 → Follows c rest (last_digits (held here) 5)) → (c ≢ 32 → IsPart (c ∷ u) rest → IsPart (c ∷ u) (last_digits (held here) 6)) → (c ≢ digit_of (held here) 1 → Misses c rest) →
+  first_fits : (visit : Visit) (rest : List ℕ) → Hears (opened_mode here) rest m.mode c u core.spent lost → Checked visit here → Lies here → held_number here < 65536 →
+      (c ≢ 32 → Follows c rest (last_digits (held_number here) 5)) → (c ≢ 32 → IsRemnant (c ∷ u) rest → IsRemnant (c ∷ u) (last_digits (held_number here) 6)) → (c ≢ digit_of (held_number here) 1 → Misses c rest) →
       Fits (first_digit_hears visit c)
   first_fits visit rest x checked lies wide follows part other =
       fits_if m core u lost (eqb c 48 || eqb c 49) _ _
       (λ e.
       let no_space = early_other c 32 e (differ 32 48 refl) (differ 32 49 refl) in
       step_on (Value visit (c - 48) 1) here rest m.mode c u core.spent lost x (follows no_space)
-      (checked, lies, λ whole. first_value (held here) c wide (part_next c (digit_of (held here) 1) u (subst (λ y. IsPart (c ∷ u) (digit_of (held here) 1 ∷ y)) (sym whole) (part no_space x.part)))))
-      (λ e. missed _ rest m.mode c u core.spent lost x (other (not_first (held here) c wide e)))
+      (checked, lies, λ whole. first_value (held_number here) c wide (part_next c (digit_of (held_number here) 1) u (subst (λ y. IsRemnant (c ∷ u) (digit_of (held_number here) 1 ∷ y)) (sym whole) (part no_space x.part)))))
+      (λ e. missed _ rest m.mode c u core.spent lost x (other (not_first (held_number here) c wide e)))
 
-  before_lies : (visit : Visit) → Lies here → held here < 65536 → Holds (Before visit) → Fits (before_hears here.word.address visit c)
+  before_lies : (visit : Visit) → Lies here → held_number here < 65536 → Holds (Before visit) → Fits (before_hears here.word.address visit c)
   before_lies visit lies wide h =
-      let w = held here in
+      let w = held_number here in
       let space = m.style.space_before in
       let is : reading here ≡ (if space then 32 ∷ last_digits w 6 else last_digits w 6) = ap (λ b. if b then (if space then 32 ∷ last_digits w 6 else last_digits w 6) else 63 ∷ prompt_from m.style.two_returns 0) lies in
       let x : Hears (opened_mode here) (if space then 32 ∷ last_digits w 6 else last_digits w 6) m.mode c u core.spent lost =
@@ -321,13 +321,13 @@ module _ (m : Machine) (core : Core) (c : ℕ) (u : List ℕ) (lost : ℕ) where
       fits_if m core u lost (eqb c 32) _ _
       (λ e. step_on (Value visit 0 0) here _ m.mode c u core.spent lost x (follows_at c 32 _ _ (equal c 32 e) (space_reading space w)) (h.facts, lies, λ whole. refl))
       (λ no_space. fits_if m core u lost (eqb c 63) _ _
-      (λ e. absurd (part_absent 63 u _ (absent_reading space w) (subst (λ d. IsPart (d ∷ u) (if space then 32 ∷ last_digits w 6 else last_digits w 6)) (equal c 63 e) x.part)))
+      (λ e. absurd (part_absent 63 u _ (absent_reading space w) (subst (λ d. IsRemnant (d ∷ u) (if space then 32 ∷ last_digits w 6 else last_digits w 6)) (equal c 63 e) x.part)))
       (λ q. first_fits visit _ x h.facts lies wide (λ other. digit_reading space w c other) (λ other part. part_reading space w c u other part) (λ other. miss_reading space w c (differ c 32 no_space) other)))
 
   before_past : (visit : Visit) → is_word m.memory here.word.address ≡ false → here.word.address % 2 ≡ 0 → Holds (Before visit) → Fits (before_hears here.word.address visit c)
   before_past visit past even h =
       let two = m.style.two_returns in
-      let w = held here in
+      let w = held_number here in
       let is : reading here ≡ 63 ∷ prompt_from two 0 = ap (λ b. if b then (if m.style.space_before then 32 ∷ last_digits w 6 else last_digits w 6) else 63 ∷ prompt_from two 0) past in
       let x : Hears (opened_mode here) (63 ∷ prompt_from two 0) m.mode c u core.spent lost =
       subst (λ r. Hears (opened_mode here) r m.mode c u core.spent lost) is (hears_in (Before visit) here m.mode c u core.spent lost h) in
@@ -342,7 +342,7 @@ module _ (m : Machine) (core : Core) (c : ℕ) (u : List ℕ) (lost : ℕ) where
       elsewhere : (c d e : ℕ) → eqb c d ≡ true → eqb d e ≡ false → c ≢ e
       elsewhere c d e same other is = differ d e other (sym (equal c d same) ∙ is)
 
-  before_fits : (visit : Visit) → here.word.address % 2 ≡ 0 → held here < 65536 → Holds (Before visit) → Fits (before_hears here.word.address visit c)
+  before_fits : (visit : Visit) → here.word.address % 2 ≡ 0 → held_number here < 65536 → Holds (Before visit) → Fits (before_hears here.word.address visit c)
   before_fits visit even wide h =
       elim (is_word m.memory here.word.address) as (λ b. is_word m.memory here.word.address ≡ b → Fits (before_hears here.word.address visit c)) [
         | true ↦ λ lies. before_lies visit lies wide h
@@ -350,19 +350,19 @@ module _ (m : Machine) (core : Core) (c : ℕ) (u : List ℕ) (lost : ℕ) where
       ] refl
 
   -- a whole reading that differs
-  differs_fits : (visit : Visit) (v : ℕ) → Checked visit here → Lies here → v ≡ held here → u ≡ [] → m.mode ≡ Opened here.word.address → eqb (merged here.word v) v ≡ false → Fits (differs here.word visit v)
+  differs_fits : (visit : Visit) (v : ℕ) → Checked visit here → Lies here → v ≡ held_number here → u ≡ [] → m.mode ≡ Opened here.word.address → eqb (merged here.word v) v ≡ false → Fits (differs here.word visit v)
   differs_fits Look v checked lies is none opened other =
       let x = merged here.word v in
       (none, key_down (Deposit x 1) (digit_of x 1) (lies, ap (merged here.word) is) (refl, opened))
   differs_fits Check v checked lies is none opened other = absurd (differ (merged here.word v) v other (ap (merged here.word) is ∙ checked.1 ∙ sym is))
 
   -- the space after a whole reading
-  read_fits : (visit : Visit) (v : ℕ) → Hears (opened_mode here) (32 ∷ []) m.mode c u core.spent lost → Checked visit here → Lies here → (c ∷ u ≡ 32 ∷ [] → v ≡ held here) → Fits (if eqb c 32 then read here.word visit v else Stray)
+  read_fits : (visit : Visit) (v : ℕ) → Hears (opened_mode here) (32 ∷ []) m.mode c u core.spent lost → Checked visit here → Lies here → (c ∷ u ≡ 32 ∷ [] → v ≡ held_number here) → Fits (if eqb c 32 then read here.word visit v else Stray)
   read_fits visit v x checked lies value =
       fits_if m core u lost (eqb c 32) _ _
       (λ e.
       let none : u ≡ [] = (part_one c 32 u x.part).1 in
-      let is : v ≡ held here = value (whole c u (equal c 32 e) none) in
+      let is : v ≡ held_number here = value (whole c u (equal c 32 e) none) in
       let opened : m.mode ≡ Opened here.word.address = x.after ∙ ap (λ b. if b then Opened here.word.address else Prompt) lies in
       fits_if m core u lost (eqb (merged here.word v) v) _ _
       (λ same. (none, (lies, ap (merged here.word) (sym is) ∙ equal (merged here.word v) v same ∙ is), opened_is m.mode here.word.address opened))
@@ -372,9 +372,9 @@ module _ (m : Machine) (core : Core) (c : ℕ) (u : List ℕ) (lost : ℕ) where
       whole : (c : ℕ) (u : List ℕ) → c ≡ 32 → u ≡ [] → c ∷ u ≡ 32 ∷ []
       whole c u e none = cc
 
-  value_fits : (visit : Visit) (v j : ℕ) → j ≤ 6 → held here < 65536 → Holds (Value visit v j) → Fits (value_hears here.word visit v j c)
+  value_fits : (visit : Visit) (v j : ℕ) → j ≤ 6 → held_number here < 65536 → Holds (Value visit v j) → Fits (value_hears here.word visit v j c)
   value_fits visit v j within wide h =
-      let w = held here in
+      let w = held_number here in
       let checked = h.facts.0 in
       let lies = h.facts.1 in
       let x : Hears (opened_mode here) (last_digits w (6 - j)) m.mode c u core.spent lost = hears_in (Value visit v j) here m.mode c u core.spent lost h in
@@ -390,7 +390,7 @@ module _ (m : Machine) (core : Core) (c : ℕ) (u : List ℕ) (lost : ℕ) where
         checked,
         lies,
         λ whole.
-            let now : c ≡ digit_of w (j + 1) = part_next c (digit_of w (j + 1)) u (subst (λ r. IsPart (c ∷ u) (digit_of w (j + 1) ∷ r)) (sym whole) y.part) in
+            let now : c ≡ digit_of w (j + 1) = part_next c (digit_of w (j + 1)) u (subst (λ r. IsRemnant (c ∷ u) (digit_of w (j + 1) ∷ r)) (sym whole) y.part) in
             next_value w v c j wide below (h.facts.2 (joined c (digit_of w (j + 1)) u (last_digits w (6 - (j + 1))) now whole ∙ sym (last_step w j below))) now,
       ))
       (λ e. missed _ _ m.mode c u core.spent lost y (misses c (digit_of w (j + 1)) _ (not_next w c (j + 1) e))))
@@ -408,7 +408,7 @@ module _ (m : Machine) (core : Core) (c : ℕ) (u : List ℕ) (lost : ℕ) where
       joined : (c d : ℕ) (u r : List ℕ) → c ≡ d → u ≡ r → c ∷ u ≡ d ∷ r
       joined c d u r e f = cc
 
-  hears_fits : (phase : Phase) → IsSite here → PhaseFits phase (basis_of core) → held here < 65536 → PhaseHolds phase m core [] (c ∷ u) lost → Fits (hears here.word here.start phase c)
+  hears_fits : (phase : Phase) → IsSite here → PhaseFits phase (basis_of core) → held_number here < 65536 → PhaseHolds phase m core [] (c ∷ u) lost → Fits (hears here.word here.start phase c)
   hears_fits Settle numbers fits wide h = tt
   hears_fits (Sync k) numbers fits wide h = sync_fits k (omega arith) h
   hears_fits (Address visit k) numbers fits wide h = address_fits visit k fits.1 h

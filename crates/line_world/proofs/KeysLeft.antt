@@ -14,7 +14,7 @@ use Rattle.host_core.specs.declared.turn.Turn.{Turn}
 use Rattle.host_core.specs.declared.turn.Turn.TheVariants.{Listen, Key, Verified, ReadBack, Next, Mark, Stop, Stray, Timeout}
 use Rattle.host_core.specs.Host.{IsPlace, PhaseFits, HasWord, Basis}
 use Rattle.host_core.specs.PhaseTable.{hears, sync_hears, address_hears, slash_hears, first_digit_hears, before_hears, differs, read, value_hears, deposit_hears, return_hears, start_hears, go_hears}
-use Rattle.line_world.specs.Site.{Site, held, Lies, prompt_from, last_digits, reading, refusal_from}
+use Rattle.line_world.specs.Site.{Site, held_number, Lies, prompt_from, last_digits, reading, refusal_from}
 use Rattle.line_world.specs.Pending.{Checked, Facts, rest_of}
 use Rattle.line_world.proofs.Parts.{differ}
 use Rattle.line_world.proofs.Digits.{below_six, at_place, digit_is, not_first}
@@ -42,10 +42,10 @@ visit_keys Check w old more = 13 ∷ more
 abbrev pub left : Phase → Site → (here later : List ℕ) → List ℕ
 left Settle t here later = 90 ∷ here
 left (Sync k) t here later = here
-left (Address visit k) t here later = digits_behind t.word.address k (47 ∷ visit_keys visit t.word (held t) later)
-left (Slash visit) t here later = visit_keys visit t.word (held t) later
-left (Before visit) t here later = visit_keys visit t.word (held t) later
-left (Value visit v j) t here later = visit_keys visit t.word (held t) later
+left (Address visit k) t here later = digits_behind t.word.address k (47 ∷ visit_keys visit t.word (held_number t) later)
+left (Slash visit) t here later = visit_keys visit t.word (held_number t) later
+left (Before visit) t here later = visit_keys visit t.word (held_number t) later
+left (Value visit v j) t here later = visit_keys visit t.word (held_number t) later
 left (Deposit x k) t here later = digits_behind x k (13 ∷ check_keys t.word.address later)
 left (Return Store k) t here later = check_keys t.word.address later
 left (Return Close k) t here later = here
@@ -148,14 +148,14 @@ module _ (t : Site) (here later : List ℕ) (c : ℕ) (u : List ℕ) where
   return_leads why keys stay last (suc (suc (suc zero))) below e = at_first 64 _ keys (λ x. return_hears why 3 x) e last
   return_leads why keys stay last (suc (suc (suc (suc k)))) below e = absurd (omega arith)
 
-  slash_leads : (visit : Visit) (more : List ℕ) → c ∷ u ≡ 47 ∷ more → Goes (slash_hears visit c) (visit_keys visit t.word (held t) later)
-  slash_leads visit more e = at_first 47 more (visit_keys visit t.word (held t) later) (λ x. slash_hears visit x) e refl
+  slash_leads : (visit : Visit) (more : List ℕ) → c ∷ u ≡ 47 ∷ more → Goes (slash_hears visit c) (visit_keys visit t.word (held_number t) later)
+  slash_leads visit more e = at_first 47 more (visit_keys visit t.word (held_number t) later) (λ x. slash_hears visit x) e refl
 
   -- the first digit of a word is 0 or 1
-  first_leads : (visit : Visit) (more : List ℕ) → held t < 65536 → c ∷ u ≡ digit_of (held t) 1 ∷ more → Goes (first_digit_hears visit c) (visit_keys visit t.word (held t) later)
+  first_leads : (visit : Visit) (more : List ℕ) → held_number t < 65536 → c ∷ u ≡ digit_of (held_number t) 1 ∷ more → Goes (first_digit_hears visit c) (visit_keys visit t.word (held_number t) later)
   first_leads visit more wide e =
       leads_if t here later (eqb c 48 || eqb c 49) _ _ _ (λ yes. refl)
-      (λ other. absurd (not_first (held t) c wide other (first_of e)))
+      (λ other. absurd (not_first (held_number t) c wide other (first_of e)))
 
   -- a digit is neither a space nor `?`
   digit_other : (h d c : ℕ) → (d ≡ 32) ⊎ (d ≡ 63) → c ≡ 48 + h % 8 → eqb c d ≡ true → ⊥
@@ -168,17 +168,17 @@ module _ (t : Site) (here later : List ℕ) (c : ℕ) (u : List ℕ) where
       question : (c n : ℕ) → n < 8 → eqb c 63 ≡ true → c ≡ 48 + n → ⊥
       question c n small e same = grind (arith, nat_tests)
 
-  before_leads : (visit : Visit) (space : Bool) → held t < 65536 → c ∷ u ≡ (if space then 32 ∷ last_digits (held t) 6 else last_digits (held t) 6) → Goes (before_hears t.word.address visit c) (visit_keys visit t.word (held t) later)
-  before_leads visit true wide e = at_first 32 _ (visit_keys visit t.word (held t) later) (λ x. before_hears t.word.address visit x) e refl
+  before_leads : (visit : Visit) (space : Bool) → held_number t < 65536 → c ∷ u ≡ (if space then 32 ∷ last_digits (held_number t) 6 else last_digits (held_number t) 6) → Goes (before_hears t.word.address visit c) (visit_keys visit t.word (held_number t) later)
+  before_leads visit true wide e = at_first 32 _ (visit_keys visit t.word (held_number t) later) (λ x. before_hears t.word.address visit x) e refl
   before_leads visit false wide e =
       leads_if t here later (eqb c 32) _ _ _ (λ yes. refl)
       (λ other. leads_if t here later (eqb c 63) _ _ _
-      (λ question. absurd (digit_other (head (held t) 1) 63 c (inr refl) (first_of e) question))
+      (λ question. absurd (digit_other (head (held_number t) 1) 63 c (inr refl) (first_of e) question))
       (λ no_question. first_leads visit _ wide e))
 
   -- a whole reading
-  read_leads : (visit : Visit) (v : ℕ) → Checked visit t → v ≡ held t → Goes (read t.word visit v) (visit_keys visit t.word (held t) later)
-  read_leads Look v checked is = subst (λ x. Goes (read t.word Look x) (visit_keys Look t.word (held t) later)) (sym is) (look t.word (held t) (eqb (merged t.word (held t)) (held t)))
+  read_leads : (visit : Visit) (v : ℕ) → Checked visit t → v ≡ held_number t → Goes (read t.word visit v) (visit_keys visit t.word (held_number t) later)
+  read_leads Look v checked is = subst (λ x. Goes (read t.word Look x) (visit_keys Look t.word (held_number t) later)) (sym is) (look t.word (held_number t) (eqb (merged t.word (held_number t)) (held_number t)))
     where
       look : (w : _) (old : ℕ) (test : Bool) → Goes (if test then Verified else differs w Look old) (if test then 13 ∷ later else octal_text (merged w old) ++ 13 ∷ check_keys t.word.address later)
       look w old true = refl
@@ -188,7 +188,7 @@ module _ (t : Site) (here later : List ℕ) (c : ℕ) (u : List ℕ) where
       (λ other. absurd (differ (merged t.word v) v other (ap (merged t.word) is ∙ checked.1 ∙ sym is)))
 
   -- a further digit
-  digit_leads : (visit : Visit) (v j h : ℕ) (more : List ℕ) → c ∷ u ≡ (48 + h % 8) ∷ more → Goes (if is_digit c then Listen (Value visit (8 * v + (c - 48)) (j + 1)) else Stray) (visit_keys visit t.word (held t) later)
+  digit_leads : (visit : Visit) (v j h : ℕ) (more : List ℕ) → c ∷ u ≡ (48 + h % 8) ∷ more → Goes (if is_digit c then Listen (Value visit (8 * v + (c - 48)) (j + 1)) else Stray) (visit_keys visit t.word (held_number t) later)
   digit_leads visit v j h more e =
       leads_if t here later (is_digit c) _ _ _ (λ yes. refl)
       (λ other. absurd (not_digit (sym (ap is_digit (first_of e)) ∙ other) (digit_is h)))
@@ -196,22 +196,22 @@ module _ (t : Site) (here later : List ℕ) (c : ℕ) (u : List ℕ) where
       not_digit : {b : Bool} → b ≡ false → b ≡ true → ⊥
       not_digit e f = cc
 
-  value_leads : (visit : Visit) (v j : ℕ) → j ≤ 6 → held t < 65536 → Facts (Value visit v j) t (c ∷ u) → c ∷ u ≡ last_digits (held t) (6 - j) → Goes (value_hears t.word visit v j c) (visit_keys visit t.word (held t) later)
+  value_leads : (visit : Visit) (v j : ℕ) → j ≤ 6 → held_number t < 65536 → Facts (Value visit v j) t (c ∷ u) → c ∷ u ≡ last_digits (held_number t) (6 - j) → Goes (value_hears t.word visit v j c) (visit_keys visit t.word (held_number t) later)
   value_leads visit v zero small wide facts e = first_leads visit _ wide e
-  value_leads visit v (suc zero) small wide facts e = digit_leads visit v 1 (head (held t) 2) _ e
-  value_leads visit v (suc (suc zero)) small wide facts e = digit_leads visit v 2 (head (held t) 3) _ e
-  value_leads visit v (suc (suc (suc zero))) small wide facts e = digit_leads visit v 3 (head (held t) 4) _ e
-  value_leads visit v (suc (suc (suc (suc zero)))) small wide facts e = digit_leads visit v 4 (head (held t) 5) _ e
-  value_leads visit v (suc (suc (suc (suc (suc zero))))) small wide facts e = digit_leads visit v 5 (head (held t) 6) _ e
+  value_leads visit v (suc zero) small wide facts e = digit_leads visit v 1 (head (held_number t) 2) _ e
+  value_leads visit v (suc (suc zero)) small wide facts e = digit_leads visit v 2 (head (held_number t) 3) _ e
+  value_leads visit v (suc (suc (suc zero))) small wide facts e = digit_leads visit v 3 (head (held_number t) 4) _ e
+  value_leads visit v (suc (suc (suc (suc zero)))) small wide facts e = digit_leads visit v 4 (head (held_number t) 5) _ e
+  value_leads visit v (suc (suc (suc (suc (suc zero))))) small wide facts e = digit_leads visit v 5 (head (held_number t) 6) _ e
   value_leads visit v (suc (suc (suc (suc (suc (suc zero)))))) small wide facts e =
-      at_first 32 _ (visit_keys visit t.word (held t) later) (λ x. value_hears t.word visit v 6 x) e (read_leads visit v facts.0 (facts.2 e))
+      at_first 32 _ (visit_keys visit t.word (held_number t) later) (λ x. value_hears t.word visit v 6 x) e (read_leads visit v facts.0 (facts.2 e))
   value_leads visit v (suc (suc (suc (suc (suc (suc (suc j))))))) small wide facts e = absurd (omega arith)
 
-  reading_is : Lies t → reading t ≡ (if t.style.space_before then 32 ∷ last_digits (held t) 6 else last_digits (held t) 6)
-  reading_is lies = ap (λ b. if b then (if t.style.space_before then 32 ∷ last_digits (held t) 6 else last_digits (held t) 6) else 63 ∷ prompt_from t.style.two_returns 0) lies
+  reading_is : Lies t → reading t ≡ (if t.style.space_before then 32 ∷ last_digits (held_number t) 6 else last_digits (held_number t) 6)
+  reading_is lies = ap (λ b. if b then (if t.style.space_before then 32 ∷ last_digits (held_number t) 6 else last_digits (held_number t) 6) else 63 ∷ prompt_from t.style.two_returns 0) lies
 
   -- a character of the exact answer leads on, in every phase
-  pub hears_leads : (phase : Phase) (b : Basis) → PhaseFits phase b → held t < 65536 → (HasWord b → Lies t) → Facts phase t (c ∷ u) → c ∷ u ≡ rest_of phase t → Goes (hears t.word t.start phase c) (left phase t here later)
+  pub hears_leads : (phase : Phase) (b : Basis) → PhaseFits phase b → held_number t < 65536 → (HasWord b → Lies t) → Facts phase t (c ∷ u) → c ∷ u ≡ rest_of phase t → Goes (hears t.word t.start phase c) (left phase t here later)
   hears_leads Settle b fits wide lies facts e = refl
   hears_leads (Sync k) b fits wide lies facts e = sync_leads k (omega arith) e
   hears_leads (Address visit k) b fits wide lies facts e = address_leads visit k fits.1 e

@@ -11,7 +11,7 @@ use Rattle.host_core.specs.declared.phase.Phase.{Phase}
 use Rattle.host_core.specs.declared.phase.Phase.TheVariants.{Settle, Sync, Address, Slash, Before, Value, Deposit, Return, Start, Go, Ended}
 use Rattle.host_core.specs.Core.{Core}
 use Rattle.line_world.specs.Site.{Site, IsThere, Ground}
-use Rattle.line_world.specs.Pending.{Live, IsPart, RestFits, Facts, StandsWhere, after_of, rest_of}
+use Rattle.line_world.specs.Pending.{Live, IsRemnant, RestFits, Facts, StandsWhere, after_of, rest_of}
 use Rattle.line_world.specs.Invariant.{IsKept, InPhase, EndIsPaid}
 use Rattle.line_world.proofs.Parts.{part_remove, part_length}
 use Rattle.line_world.proofs.Frame.{scene}
@@ -53,7 +53,7 @@ kept_lose_down m core (c ∷ []) [] lost zero below h = record {
 }
 
 -- characters of the exact answer are left, or none
-pub rest_made : (new : Mode) (rest : List ℕ) (mode : Mode) (up : List ℕ) → mode ≡ new → IsPart up rest → RestFits new rest mode up
+pub rest_made : (new : Mode) (rest : List ℕ) (mode : Mode) (up : List ℕ) → mode ≡ new → IsRemnant up rest → RestFits new rest mode up
 rest_made new rest mode [] is part = tt
 rest_made new rest mode (c ∷ up) is part = (is, part)
 

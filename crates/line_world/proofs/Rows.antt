@@ -15,7 +15,7 @@ use Rattle.host_core.specs.declared.phase.Phase.{Phase}
 use Rattle.host_core.specs.declared.phase.Phase.TheVariants.{Settle, Sync, Address, Slash, Before, Value, Deposit, Return, Start, Go, Ended}
 use Rattle.host_core.specs.Core.{Core}
 use Rattle.host_core.specs.Host.{PhaseFits, IsPlace, basis_of}
-use Rattle.line_world.specs.Site.{Site, held, wanted, number_mode, typing_mode, opened_mode, reading, refusal_from, prompt_from}
+use Rattle.line_world.specs.Site.{Site, held_number, wanted, number_mode, typing_mode, opened_mode, reading, refusal_from, prompt_from}
 use Rattle.line_world.specs.Pending.{Fits, IsStopped, IsOpened, after_of, rest_of}
 use Rattle.line_world.proofs.Digits.{digit_key, pushed_head, at_place}
 
@@ -68,7 +68,7 @@ slash_row s memory v false text = refl
 
 -- `/` after a whole address
 pub row_slash : (t : Site) → row t.style t.memory (number_mode t.word.address 6) (key_of 47) 47 ≡ record { mode = opened_mode t; memory = t.memory; answer = 47 ∷ reading t }
-row_slash t = slash_row t.style t.memory t.word.address (is_word t.memory t.word.address) (word_text t.style (held t))
+row_slash t = slash_row t.style t.memory t.word.address (is_word t.memory t.word.address) (word_text t.style (held_number t))
 
 -- `Z` in any mode but Running
 pub row_resync : (s : Style) (memory : List ℕ) (mode : Mode) → IsStopped mode → row s memory mode (key_of 90) 90 ≡ record { mode = Prompt; memory = memory; answer = refusal_from s 0 }

@@ -12,7 +12,7 @@ use Rattle.host_core.specs.Core.{Core}
 use Rattle.host_core.specs.Host.{IsHost, MarkFits, IsPastMark}
 use Rattle.host_core.specs.PhaseTable.{move, waits}
 use Rattle.line_world.specs.World.{stepped}
-use Rattle.line_world.specs.Site.{Site, site, held, reading, refusal_from, prompt_from, last_digits}
+use Rattle.line_world.specs.Site.{Site, site, held_number, reading, refusal_from, prompt_from, last_digits}
 use Rattle.line_world.specs.Pending.{IsStopped, BrokenIsPaid}
 use Rattle.line_world.specs.Invariant.{IsKept, RunsWith}
 use Rattle.line_world.proofs.Frame.{scene, TurnFits, PhaseHolds, kept_turn}
@@ -37,7 +37,7 @@ filled_digits w zero = tt
 filled_digits w (suc n) = tt
 
 pub filled_reading : (t : Site) → IsFilled (reading t)
-filled_reading t = filled_if (is_word t.memory t.word.address) _ _ (filled_if t.style.space_before _ _ tt (filled_digits (held t) 6)) tt
+filled_reading t = filled_if (is_word t.memory t.word.address) _ _ (filled_if t.style.space_before _ _ tt (filled_digits (held_number t) 6)) tt
 
 -- where nothing is under way, a loss was there that no mishap has paid for
 broken : (rest : List ℕ) (spent lost : ℕ) → IsFilled rest → BrokenIsPaid rest [] [] spent lost → spent < lost

@@ -8,7 +8,7 @@ use Rattle.tape_image.proofs.Halves.{Stands-merged, merged-Stands}
 use Rattle.tape_image.proofs.Standing.{places_apart, byte_of-with_word_cases}
 use Rattle.odt_machine.specs.Machine.{is_word, stored}
 use Rattle.host_core.specs.Core.{word_nr, no_word}
-use Rattle.line_world.specs.Site.{Site, held, wanted, Lies, IsThere, Ground, site_in}
+use Rattle.line_world.specs.Site.{Site, held_number, wanted, Lies, IsThere, Ground, site_in}
 use Rattle.line_world.specs.Safe.{OnlyImage}
 use Rattle.line_world.proofs.Keys.{Stores}
 
@@ -29,13 +29,13 @@ stored_stands t lies =
     let k = t.word.address / 2 in
     let now : slice_index (slice_set t.memory k (wanted t)) k ≡ wanted t = get_or-set_same t.memory k (wanted t) 0 (lies_below t.memory t.word.address lies) in (
       lies_same t.memory _ t.word.address (length-set t.memory k (wanted t)) lies,
-      rw now (merged-Stands t.word (wanted t) (Stands-merged t.word (held t))),
+      rw now (merged-Stands t.word (wanted t) (Stands-merged t.word (held_number t))),
     )
 
 -- a word elsewhere stays as it was
 stored_other : (t : Site) (a v : ℕ) → t.word.address / 2 ≢ a / 2 → IsThere t → IsThere (with_memory t (stored t.memory a v))
 stored_other t a v apart there =
-    let now : slice_index (slice_set t.memory (a / 2) v) (t.word.address / 2) ≡ held t = get_or-set_other t.memory (a / 2) (t.word.address / 2) v 0 apart in
+    let now : slice_index (slice_set t.memory (a / 2) v) (t.word.address / 2) ≡ held_number t = get_or-set_other t.memory (a / 2) (t.word.address / 2) v 0 apart in
     (lies_same t.memory _ t.word.address (length-set t.memory (a / 2) v) there.0, rw now there.1)
 
 pub same_or : (i j : ℕ) → (i ≡ j) ⊎ (i ≢ j)

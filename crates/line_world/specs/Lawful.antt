@@ -32,7 +32,8 @@ TakesReturn g mode = ⊥
 abbrev pub LawfulBefore : Ground → ℕ → Type 0
 LawfulBefore g c =
     ((is_digit c ≡ true) × TakesDigit g.machine.mode)
-    ⊎ (((c ≡ slash) × TakesSlash g g.machine.mode) ⊎ (((c ≡ carriage_return) × TakesReturn g g.machine.mode) ⊎ ((c ≡ resynchronise) × IsStopped g.machine.mode)))
+    ⊎ (((c ≡ slash) × TakesSlash g g.machine.mode)
+    ⊎ (((c ≡ carriage_return) × TakesReturn g g.machine.mode) ⊎ ((c ≡ resynchronise) × IsStopped g.machine.mode)))
 
 -- a lawful key: under the mark `G` alone, after the whole start
 abbrev pub LawfulKey : Bool → Ground → ℕ → Type 0

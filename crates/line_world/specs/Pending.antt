@@ -10,7 +10,8 @@ use Rattle.host_core.specs.declared.phase.Visit.TheVariants.{Look, Check}
 use Rattle.host_core.specs.declared.phase.Reason.TheVariants.{Store, Close}
 use Rattle.host_core.specs.declared.phase.Phase.{Phase}
 use Rattle.host_core.specs.declared.phase.Phase.TheVariants.{Sync, Address, Slash, Before, Value, Deposit, Return, Start, Go}
-use Rattle.line_world.specs.Site.{Site, held, Lies, wanted, IsThere, number_mode, typing_mode, opened_mode, prompt_from, last_digits, reading, refusal_from}
+use Rattle.line_world.specs.Site.{Site, held_number, Lies, wanted, IsThere, number_mode}
+use Rattle.line_world.specs.Site.{typing_mode, opened_mode, prompt_from, last_digits, reading, refusal_from}
 
 -- no program runs
 abbrev pub IsStopped : Mode → Type 0
@@ -51,7 +52,7 @@ rest_of (Sync k) t = refusal_from t.style k
 rest_of (Address visit k) t = digit_of t.word.address k ∷ []
 rest_of (Slash visit) t = slash ∷ reading t
 rest_of (Before visit) t = reading t
-rest_of (Value visit v j) t = last_digits (held t) (6 - j)
+rest_of (Value visit v j) t = last_digits (held_number t) (6 - j)
 rest_of (Deposit x k) t = digit_of x k ∷ []
 rest_of (Return why k) t = prompt_from t.style.two_returns k
 rest_of (Start k) t = digit_of t.start k ∷ []
@@ -73,16 +74,16 @@ abbrev pub Facts : Phase → Site → List ℕ → Type 0
 Facts (Address visit k) t up = Checked visit t
 Facts (Slash visit) t up = Checked visit t
 Facts (Before visit) t up = Checked visit t
-Facts (Value visit v j) t up = Checked visit t × Lies t × (up ≡ last_digits (held t) (6 - j) → v ≡ head (held t) j)
+Facts (Value visit v j) t up = Checked visit t × Lies t × (up ≡ last_digits (held_number t) (6 - j) → v ≡ head (held_number t) j)
 Facts (Deposit x k) t up = Lies t × (x ≡ wanted t)
 Facts (Return Store k) t up = StandsWhere up t
 Facts phase t up = ⊤
 
 -- the first list is the second with any characters lost
-abbrev pub IsPart : List ℕ → List ℕ → Type 0
-IsPart [] ys = ⊤
-IsPart (x ∷ xs) [] = ⊥
-IsPart (x ∷ xs) (y ∷ ys) = ((x ≡ y) × IsPart xs ys) ⊎ IsPart (x ∷ xs) ys
+abbrev pub IsRemnant : List ℕ → List ℕ → Type 0
+IsRemnant [] ys = ⊤
+IsRemnant (x ∷ xs) [] = ⊥
+IsRemnant (x ∷ xs) (y ∷ ys) = ((x ≡ y) × IsRemnant xs ys) ⊎ IsRemnant (x ∷ xs) ys
 
 -- a key under way is the one that the phase waits for
 abbrev pub KeyFits : Phase → Site → Mode → List ℕ → Type 0
@@ -92,7 +93,7 @@ KeyFits phase t mode (c ∷ down) = Fits phase t mode c
 -- characters under way are of the exact answer, and the mode is the one after the key
 abbrev pub RestFits : Mode → List ℕ → Mode → List ℕ → Type 0
 RestFits new rest mode [] = ⊤
-RestFits new rest mode (c ∷ up) = (mode ≡ new) × IsPart (c ∷ up) rest
+RestFits new rest mode (c ∷ up) = (mode ≡ new) × IsRemnant (c ∷ up) rest
 
 -- where neither the key is under way nor the whole rest of its answer, a loss has not been paid for yet
 abbrev pub BrokenIsPaid : List ℕ → List ℕ → List ℕ → ℕ → ℕ → Type 0

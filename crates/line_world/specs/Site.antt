@@ -41,8 +41,8 @@ abbrev pub site : Scene → Site
 site w = site_of w w.core.verified
 
 -- what memory holds at the word's address
-abbrev pub held : Site → ℕ
-held t = memory_word t.memory t.word.address
+abbrev pub held_number : Site → ℕ
+held_number t = memory_word t.memory t.word.address
 
 -- the word's address lies in memory
 abbrev pub Lies : Site → Type 0
@@ -50,11 +50,11 @@ Lies t = is_word t.memory t.word.address ≡ true
 
 -- what has to be stored at the word's address
 abbrev pub wanted : Site → ℕ
-wanted t = merged t.word (held t)
+wanted t = merged t.word (held_number t)
 
 -- memory has the word's address, and holds there what is wanted
 abbrev pub IsThere : Site → Type 0
-IsThere t = Lies t × (wanted t ≡ held t)
+IsThere t = Lies t × (wanted t ≡ held_number t)
 
 -- the mode after the first k digits of a number at the prompt
 abbrev pub number_mode : ℕ → ℕ → Mode
@@ -83,7 +83,7 @@ last_digits w (suc left) = digit_of w (6 - left) ∷ last_digits w left
 -- what follows the echo of `/`
 abbrev pub reading : Site → List ℕ
 reading t =
-    if is_word t.memory t.word.address then (if t.style.space_before then space ∷ last_digits (held t) 6 else last_digits (held t) 6)
+    if is_word t.memory t.word.address then (if t.style.space_before then space ∷ last_digits (held_number t) 6 else last_digits (held_number t) 6)
     else question_mark ∷ prompt_from t.style.two_returns 0
 
 -- what is left of the answer to `Z`

@@ -18,7 +18,7 @@ use Rattle.load_devices.specs.Dialogue.{said, dialogue, keys_of, news_between}
 use Rattle.load_devices.specs.Told.{Gains, Keeps}
 use Rattle.load_engine.specs.declared.stop.Stop.{Stop}
 use Rattle.load_engine.specs.declared.stop.Stop.TheVariants.{Ended, LineFailed, KeepFailed, TurnsOver}
-use Rattle.load_engine.specs.Session.{GoesOn, IsSaid, IsKept, Session, HasGained, KeepsMarkFirst, IsFailure}
+use Rattle.load_engine.specs.Session.{GoesOn, IsSaid, IsKeptNews, Session, HasGained, KeepsMarkFirst, IsFailure}
 use Rattle.load_engine.proofs.News.{IsForward, news_none, news_join, led_forward}
 
 -- ---- told lists
@@ -74,7 +74,7 @@ said_join (Some (LineFailed fault)) left first all now (inl s) = inl (ap (λ res
 said_join (Some (LineFailed fault)) left first all now (inr s) = inr (s.0, ap (λ rest. first ++ rest) s.1 ∙ sym (append_assoc first now (Sent s.0 ∷ [])))
 said_join (Some (KeepFailed fault)) left first all now s = (s.0, ap (λ rest. first ++ rest) s.1 ∙ sym (append_assoc first now (Sent s.0 ∷ [])))
 
-kept_join : (stop : Option Stop) (first all now : List Kept) → IsKept stop all now → IsKept stop (first ++ all) (first ++ now)
+kept_join : (stop : Option Stop) (first all now : List Kept) → IsKeptNews stop all now → IsKeptNews stop (first ++ all) (first ++ now)
 kept_join None first all now s = ap (λ rest. first ++ rest) s
 kept_join (Some (Ended end)) first all now s = ap (λ rest. first ++ rest) s
 kept_join (Some TurnsOver) first all now s = ap (λ rest. first ++ rest) s
@@ -105,10 +105,10 @@ items_join stop turns more a b heard later first second is all whole s =
     (subst (λ items. IsSaid stop (more - length later) items (first ++ second)) dialogues (said_join stop (more - length later) first (dialogue b later) second s))
 
 news_follow : (stop : Option Stop) (a b c : Core) (first second : List Kept) → IsForward a b → IsForward b c → first ≡ news_between a b →
-    IsKept stop (news_between b c) second → IsKept stop (news_between a c) (first ++ second)
+    IsKeptNews stop (news_between b c) second → IsKeptNews stop (news_between a c) (first ++ second)
 news_follow stop a b c first second one two whole k =
     let all : first ++ news_between b c ≡ news_between a c = ap (λ front. front ++ news_between b c) whole ∙ sym (news_join a b c one two) in
-    subst (λ news. IsKept stop news (first ++ second)) all (kept_join stop first (news_between b c) second k)
+    subst (λ news. IsKeptNews stop news (first ++ second)) all (kept_join stop first (news_between b c) second k)
 
 -- a session that may go on heard as many things as it had turns
 whole : (turns : ℕ) (a b : Core) (line line' : Option (List Item)) (keep keep' : Option (List Kept)) (s : Session turns None a b line line' keep keep') → length s.heard ≡ turns

@@ -1,5 +1,5 @@
 -- Which device's failure stopped the engine.
-use Rattle.std.specs.Prelude.{◌≡◌, ℕ, Option, Some, None}
+use Rattle.std.specs.Prelude.{◌≡◌, ℕ, Option, Some, None, ⊤}
 use Rattle.load_devices.specs.declared.fault.LineFault.{LineFault}
 use Rattle.load_devices.specs.declared.fault.KeepFault.{KeepFault}
 use Rattle.load_devices.specs.Failures.{one_more}
@@ -18,6 +18,6 @@ Counts None line line' keep keep' = (line' ≡ line) × (keep' ≡ keep)
 abbrev pub NamesFault : Option Stop → Option LineFault → Option KeepFault → Type 0
 NamesFault (Some (LineFailed fault)) line keep = line ≡ Some fault
 NamesFault (Some (KeepFailed fault)) line keep = keep ≡ Some fault
-NamesFault (Some TurnsOver) line keep = Unit {0}
-NamesFault (Some (Ended end)) line keep = Unit {0}
-NamesFault None line keep = Unit {0}
+NamesFault (Some TurnsOver) line keep = ⊤
+NamesFault (Some (Ended end)) line keep = ⊤
+NamesFault None line keep = ⊤

@@ -1,5 +1,5 @@
 -- What the engine's turns do to the core, on the line and at the keeper.
-use Rattle.std.specs.Prelude.{◌≡◌, ℕ, ◌-◌, ◌<◌, ◌≤◌, ◌⊎◌, List, [], ◌∷◌, ◌++◌, length, Option, Some, None, Contains}
+use Rattle.std.specs.Prelude.{◌≡◌, ℕ, ◌-◌, ◌<◌, ◌≤◌, ◌⊎◌, List, [], ◌∷◌, ◌++◌, length, Option, Some, None, Contains, ⊤}
 use Rattle.host_core.specs.declared.heard.Heard.{Heard}
 use Rattle.host_core.specs.Console.{go}
 use Rattle.host_core.specs.Core.{Core, ended}
@@ -16,7 +16,7 @@ use Rattle.load_engine.specs.declared.stop.Stop.TheVariants.{Ended, LineFailed, 
 
 -- the core has no end before the last of these is heard
 abbrev pub GoesOn : Core → List Heard → Type 0
-GoesOn core [] = Unit {0}
+GoesOn core [] = ⊤
 GoesOn core (heard ∷ more) = (ended core.phase ≡ None) × GoesOn (move core heard).next more
 
 -- all but the last
@@ -37,12 +37,12 @@ IsSaid (Some (Ended end)) left all said = said ≡ all
 IsSaid None left all said = (said ≡ all) × (left ≡ 0)
 
 -- what was kept of the news: all of it, but for the last where the keeper failed
-abbrev pub IsKept : Option Stop → List Kept → List Kept → Type 0
-IsKept (Some (KeepFailed fault)) all kept = LacksLast all kept
-IsKept (Some (LineFailed fault)) all kept = kept ≡ all
-IsKept (Some TurnsOver) all kept = kept ≡ all
-IsKept (Some (Ended end)) all kept = kept ≡ all
-IsKept None all kept = kept ≡ all
+abbrev pub IsKeptNews : Option Stop → List Kept → List Kept → Type 0
+IsKeptNews (Some (KeepFailed fault)) all kept = LacksLast all kept
+IsKeptNews (Some (LineFailed fault)) all kept = kept ≡ all
+IsKeptNews (Some TurnsOver) all kept = kept ≡ all
+IsKeptNews (Some (Ended end)) all kept = kept ≡ all
+IsKeptNews None all kept = kept ≡ all
 
 -- at most so many turns from one core to another, which stopped so: what was heard, what was said on the line and what was
 -- kept, with what line and keeper told before and tell after
@@ -57,7 +57,7 @@ pub record Session (turns : ℕ) (stop : Option Stop) (old new : Core) (line lin
   -- each character right after the heard thing that makes the core send it
   pub items : IsSaid stop (turns - length heard) (dialogue old heard) said
   -- the words that became verified, then the mark
-  pub news : IsKept stop (news_between old new) kept
+  pub news : IsKeptNews stop (news_between old new) kept
   pub mark_first : Contains (keys_of said) go → Contains kept Go
   pub on_line : Gains line line' said
   pub at_keeper : Gains keep keep' kept
@@ -76,10 +76,10 @@ KeepsMarkFirst line line' keep keep' =
 abbrev pub TellsEnd : Stop → Core → Type 0
 TellsEnd (Ended end) core = ended core.phase ≡ Some end
 TellsEnd TurnsOver core = ended core.phase ≡ None
-TellsEnd _ core = Unit {0}
+TellsEnd _ core = ⊤
 
 -- a stop that a device's failure made
 abbrev pub IsFailure : Stop → Type 0
-IsFailure (LineFailed fault) = Unit {0}
-IsFailure (KeepFailed fault) = Unit {0}
+IsFailure (LineFailed fault) = ⊤
+IsFailure (KeepFailed fault) = ⊤
 IsFailure _ = ⊥

@@ -26,14 +26,14 @@ use Rattle.honest_line.proofs.Trusted.{keys_of-dialogue}
 use Rattle.load_engine.specs.declared.stop.Stop.{Stop}
 use Rattle.load_engine.specs.declared.stop.Stop.TheVariants.{Ended, LineFailed, KeepFailed, TurnsOver}
 use Rattle.load_engine.specs.Keeping.{KeepsEach, KeptBy}
-use Rattle.load_engine.specs.Session.{IsKept}
+use Rattle.load_engine.specs.Session.{IsKeptNews}
 use Rattle.load_engine.proofs.News.{led_forward}
 use Rattle.load_engine.proofs.Sessions.{keys_join}
 use Rattle.load_record.specs.declared.version.Version.TheVariants.{Second}
 use Rattle.load_record.specs.Keeper.{Keeper, HasKept, HasCutShort, HoldsRecord}
 use Rattle.load_record.specs.RecordText.{mark_text, record_text, second_piece, words_text}
 use Rattle.load_record.proofs.Keeping.{known_text, wrote_adds}
-use Rattle.load_lives.specs.Stops.{WentOut, IsFront}
+use Rattle.load_lives.specs.Stops.{WentOut, IsBeginning}
 use Rattle.load_lives.specs.Keepers.{WentOutAt, HasLeft, KeepersLeave}
 use Rattle.load_lives.proofs.Records.{says_sound}
 use Rattle.load_lives.proofs.Stopping.{unsent_out, records_are_fronts}
@@ -116,24 +116,24 @@ kept_no_mark words set kept last (at_word front w is unset before missing) has =
 kept_no_mark words set kept last (at_mark is before missing) has = no_mark words (subst (λ (l : List Kept). Contains l Go) before has)
 
 -- a front of a text was written behind a text that is known
-part_text : (old new : Option (List ℕ)) (text more : List ℕ) → old ≡ Some text → WritesPrefix old new more → (front : List ℕ) × IsFront front more × (new ≡ Some (text ++ front))
+part_text : (old new : Option (List ℕ)) (text more : List ℕ) → old ≡ Some text → WritesPrefix old new more → (front : List ℕ) × IsBeginning front more × (new ≡ Some (text ++ front))
 part_text old new text more e (left, part) = (part.written, (left, sym part.whole), known_text old new text part.written e part.appended)
 
 -- ---- where the keeper failed
 
 -- the writer holds a front of the record of some words and of the mark, where it is set
 abbrev HoldsFront : PlanValue → ℕ → Bool → Keeper → Type 0
-HoldsFront plan k set keep = (text : List ℕ) × (keep.text ≡ Some text) × IsFront text (record_text Second plan k set)
+HoldsFront plan k set keep = (text : List ℕ) × (keep.text ≡ Some text) × IsBeginning text (record_text Second plan k set)
 
 word_missing : (plan : PlanValue) (k : ℕ) (w : WordValue) (keep keep' : Keeper) → HoldsRecord keep plan k → slice_get plan.words k ≡ Some w → HasCutShort keep (Word w) keep' → HoldsFront plan (k + 1) false keep'
 word_missing plan k w keep keep' holds next cut =
     let part = part_text keep.text keep'.text (record_text Second plan k false) (second_piece keep.run w) holds.written cut.part in
-    (record_text Second plan k false ++ part.0, part.2, records_are_fronts.word plan k w part.0 next (subst (λ run. IsFront part.0 (second_piece run w)) holds.knows part.1))
+    (record_text Second plan k false ++ part.0, part.2, records_are_fronts.word plan k w part.0 next (subst (λ run. IsBeginning part.0 (second_piece run w)) holds.knows part.1))
 
 mark_missing : (plan : PlanValue) (k : ℕ) (keep keep' : Keeper) → HoldsRecord keep plan k → HasCutShort keep Go keep' → HoldsFront plan k true keep'
 mark_missing plan k keep keep' holds cut =
     let part = part_text keep.text keep'.text (record_text Second plan k false) (mark_text keep.run) holds.written cut.part in
-    (record_text Second plan k false ++ part.0, part.2, records_are_fronts.mark plan k part.0 (subst (λ run. IsFront part.0 (mark_text run)) holds.knows part.1))
+    (record_text Second plan k false ++ part.0, part.2, records_are_fronts.mark plan k part.0 (subst (λ run. IsBeginning part.0 (mark_text run)) holds.knows part.1))
 
 -- the words that were kept, where the next one was not
 front_held : (plan : PlanValue) (k : ℕ) (front : List WordValue) (w : WordValue) (later : List WordValue) (kept : List Kept) (keep next : Keeper) → HoldsRecord keep plan k → drop k plan.words ≡ (front ++ w ∷ []) ++ later → kept ≡ map Word front →
@@ -227,7 +227,7 @@ abbrev NoMark : Stop → List Kept → Type 0
 NoMark (KeepFailed fault) kept = Contains kept Go → ⊥
 NoMark stop kept = Unit {0}
 
-no_mark_kept : (stop : Stop) (words : List WordValue) (set : Bool) (news kept : List Kept) → news ≡ map Word words ++ mark_between false set → IsKept (Some stop) news kept → NoMark stop kept
+no_mark_kept : (stop : Stop) (words : List WordValue) (set : Bool) (news kept : List Kept) → news ≡ map Word words ++ mark_between false set → IsKeptNews (Some stop) news kept → NoMark stop kept
 no_mark_kept (KeepFailed fault) words set news kept are (last, is) = kept_no_mark words set kept last (cut_at words set kept last (sym are ∙ is))
 no_mark_kept (LineFailed fault) words set news kept are is = tt
 no_mark_kept TurnsOver words set news kept are is = tt

@@ -17,7 +17,7 @@ use Rattle.load_record.specs.Lines.{header}
 use Rattle.load_record.specs.RecordText.{mark_text, open_run, pieces, record_text, run_over, second_piece, words_text}
 use Rattle.load_record.proofs.Pieces.{pieces-append, words_text-more, words_text-of}
 use Rattle.load_lives.specs.Lives.{Life, IsLeft}
-use Rattle.load_lives.specs.Stops.{WentOut, SessionsAreLives, FrontsAreStopped, IsFront, RecordsAreFronts}
+use Rattle.load_lives.specs.Stops.{WentOut, SessionsAreLives, FrontsAreStopped, IsBeginning, RecordsAreFronts}
 use Rattle.load_lives.proofs.LastTurns.{Broken, broken}
 use Rattle.load_lives.proofs.LastTurns.Broken.{between_turns, in_turn}
 
@@ -79,7 +79,7 @@ fronts_are_stopped core things front rest is = stopped (broken core things front
 
 -- ---- what the file holds
 
-words_front : (plan : PlanValue) (k more : ℕ) → k ≤ more → IsFront (words_text Second plan k) (words_text Second plan more)
+words_front : (plan : PlanValue) (k more : ℕ) → k ≤ more → IsBeginning (words_text Second plan k) (words_text Second plan more)
 words_front plan k more le =
     let head : List ℕ = header Second ++ 10 ∷ [] in
     let next : List WordValue = take (more - k) (drop k plan.words) in
@@ -91,13 +91,13 @@ words_front plan k more le =
           ∙ (ap (λ text. head ++ text) (sym (ap (pieces Second None) split ∙ pieces-append Second None (take k plan.words) next)) ∙ sym (words_text-of plan more))),
     )
 
-front_then : (front text more : List ℕ) → IsFront front text → IsFront front (text ++ more)
+front_then : (front text more : List ℕ) → IsBeginning front text → IsBeginning front (text ++ more)
 front_then front text more f = (f.0 ++ more, sym (append_assoc front f.0 more) ∙ ap (λ list. list ++ more) f.1)
 
-front_behind : (text front more all : List ℕ) → IsFront front more → text ++ more ≡ all → IsFront (text ++ front) all
+front_behind : (text front more all : List ℕ) → IsBeginning front more → text ++ more ≡ all → IsBeginning (text ++ front) all
 front_behind text front more all f is = (f.0, append_assoc text front f.0 ∙ (ap (λ list. text ++ list) f.1 ∙ is))
 
-fewer_front : (plan : PlanValue) (k more : ℕ) (mark : Bool) → k ≤ more → IsFront (record_text Second plan k false) (record_text Second plan more mark)
+fewer_front : (plan : PlanValue) (k more : ℕ) (mark : Bool) → k ≤ more → IsBeginning (record_text Second plan k false) (record_text Second plan more mark)
 fewer_front plan k more false le = words_front plan k more le
 fewer_front plan k more true le = front_then (words_text Second plan k) (words_text Second plan more) (mark_text (open_run Second plan more)) (words_front plan k more le)
 

@@ -28,7 +28,8 @@ HasLeft plan progress core items old keep = (text : List ℕ) × (keep.text ≡ 
 -- wherever the engine stopped, a keeper that held the record of the life's first words, and no mark, holds the record that the life leaves
 abbrev pub KeepersLeave : Type 0
 KeepersLeave =
-    (plan : PlanValue) (progress : Progress) (patience : ℕ) (turns : ℕ) (stop : Stop) (core : Core) (line line' : Option (List Item)) (told told' : Option (List Kept)) (keep keep' : Keeper) (items : List Item) (old : List ℕ) →
+    (plan : PlanValue) (progress : Progress) (patience : ℕ) (turns : ℕ) (stop : Stop) (core : Core)
+    (line line' : Option (List Item)) (told told' : Option (List Kept)) (keep keep' : Keeper) (items : List Item) (old : List ℕ) →
     IsPlan plan → patience < 2 ^ 32 → GoesOnFrom plan old progress → progress.going ≡ false → HoldsRecord keep plan progress.verified →
     (session : Session turns (Some stop) (begun plan progress.verified progress.going patience) core line line' told told') →
     WentOutAt stop (dialogue (begun plan progress.verified progress.going patience) session.heard) session.said items →

@@ -1,5 +1,5 @@
 -- Lives of the host one after another, on one machine and with one record, and what may be trusted after them.
-use Rattle.std.specs.Prelude.{◌≡◌, ℕ, ◌+◌, ◌^◌, ◌<◌, ◌≤◌, ◌⊎◌, true, false, List, [], ◌∷◌, ◌++◌, length, Option, Contains, Ok, option_to_list}
+use Rattle.std.specs.Prelude.{◌≡◌, ℕ, ◌+◌, ◌^◌, ◌<◌, ◌≤◌, ◌⊎◌, true, false, List, [], ◌∷◌, ◌++◌, length, Option, Contains, Ok, option_to_list, ⊤}
 use Rattle.tape_image.specs.Plan.{PlanValue, IsPlan}
 use Rattle.host_core.specs.declared.heard.Heard.{Heard}
 use Rattle.host_core.specs.declared.progress.Progress.{Progress}
@@ -97,7 +97,7 @@ pub record MayOpen (plan : PlanValue) (old : Setting) : Type 0 where
 -- what the latest life, where there was one, may be trusted with: memory is safe against the one before the first life, and an end
 -- and each mishap have their losses
 abbrev pub IsLatestTrusted : PlanValue → List ℕ → List Life → Setting → Type 0
-IsLatestTrusted plan before [] now = Unit {0}
+IsLatestTrusted plan before [] now = ⊤
 IsLatestTrusted plan before (life ∷ earlier) now =
     IsTrusted before (last_core plan life) now.wire.machine.memory (typed (life ∷ earlier)) (length (option_to_list life.unsent) + now.wire.lost)
 

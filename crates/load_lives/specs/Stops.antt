@@ -24,7 +24,8 @@ WentOut all told items = (items ≡ told) ⊎ (items ≡ all)
 -- the engine's turns, however they stopped, are a life, where what went out passed over the line and the record was left as a life leaves it
 abbrev pub SessionsAreLives : Type 0
 SessionsAreLives =
-    (plan : PlanValue) (progress : Progress) (patience : ℕ) (turns : ℕ) (stop : Option Stop) (core : Core) (line line' : Option (List Item)) (keep keep' : Option (List Kept)) (items : List Item) (found : Wire) (old new : Setting) →
+    (plan : PlanValue) (progress : Progress) (patience : ℕ) (turns : ℕ) (stop : Option Stop) (core : Core)
+    (line line' : Option (List Item)) (keep keep' : Option (List Kept)) (items : List Item) (found : Wire) (old new : Setting) →
     patience < 2 ^ 32 → GoesOnFrom plan old.text progress →
     (session : Session turns stop (begun plan progress.verified progress.going patience) core line line' keep keep') →
     WentOut (dialogue (begun plan progress.verified progress.going patience) session.heard) session.said items →
@@ -39,15 +40,17 @@ FrontsAreStopped =
     (fewer : List Heard) × (more : List Heard) × (unsent : Option ℕ) × (things ≡ fewer ++ more) × (dialogue core fewer ≡ front ++ said unsent)
 
 -- a text begins another
-abbrev pub IsFront : List ℕ → List ℕ → Type 0
-IsFront front text = (missing : List ℕ) × (front ++ missing ≡ text)
+abbrev pub IsBeginning : List ℕ → List ℕ → Type 0
+IsBeginning front text = (missing : List ℕ) × (front ++ missing ≡ text)
 
 -- what a record's file holds at any moment of a life begins the record that the life leaves
 pub record RecordsAreFronts : Type 0 where
   -- a record of fewer words
-  pub fewer : (plan : PlanValue) (k more : ℕ) (mark : Bool) → k ≤ more → IsFront (record_text Second plan k false) (record_text Second plan more mark)
+  pub fewer : (plan : PlanValue) (k more : ℕ) (mark : Bool) → k ≤ more → IsBeginning (record_text Second plan k false) (record_text Second plan more mark)
   -- a record whose next word was cut off anywhere while it was written
-  pub word : (plan : PlanValue) (k : ℕ) (word : WordValue) (front : List ℕ) → slice_get plan.words k ≡ Some word → IsFront front (second_piece (open_run Second plan k) word) →
-      IsFront (record_text Second plan k false ++ front) (record_text Second plan (k + 1) false)
+  pub word : (plan : PlanValue) (k : ℕ) (word : WordValue) (front : List ℕ) → slice_get plan.words k ≡ Some word →
+      IsBeginning front (second_piece (open_run Second plan k) word) →
+      IsBeginning (record_text Second plan k false ++ front) (record_text Second plan (k + 1) false)
   -- a record whose mark was
-  pub mark : (plan : PlanValue) (k : ℕ) (front : List ℕ) → IsFront front (mark_text (open_run Second plan k)) → IsFront (record_text Second plan k false ++ front) (record_text Second plan k true)
+  pub mark : (plan : PlanValue) (k : ℕ) (front : List ℕ) → IsBeginning front (mark_text (open_run Second plan k)) →
+      IsBeginning (record_text Second plan k false ++ front) (record_text Second plan k true)

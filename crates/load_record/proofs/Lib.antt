@@ -13,3 +13,4 @@ pub mod FirstLines
 pub mod Writing
 pub mod Pieces
 pub mod Keeping
+pub mod LongestRuns

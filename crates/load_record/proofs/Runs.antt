@@ -9,7 +9,7 @@ use Rattle.tape_image.specs.Word.{WordValue}
 use Rattle.load_record.specs.declared.run.OpenRun.{OpenRun}
 use Rattle.load_record.specs.declared.version.Version.TheVariants.{Second}
 use Rattle.load_record.specs.Lines.{value_text, values_text, run_text, run_at, longer, goes_on, is_full, GoOn, IsRun}
-use Rattle.load_record.specs.Reading.{held, torn_words}
+use Rattle.load_record.specs.Reading.{values_held, torn_words}
 
 -- both sides of a test that passed
 both : (a b : Bool) → (a && b) ≡ true → (a ≡ true) × (b ≡ true)
@@ -31,9 +31,9 @@ pub record Counted (run : OpenRun) (next : List WordValue) (text : List ℕ) : T
   pub next_is : next ≡ words ++ later
   pub go_on : GoOn run words
   pub text_is : text ≡ values_text words ++ left
-  pub count_is : held run next text ≡ run.count + length words
+  pub count_is : values_held run next text ≡ run.count + length words
 
-none_counted : (run : OpenRun) (next : List WordValue) (text : List ℕ) → held run next text ≡ run.count → Counted run next text
+none_counted : (run : OpenRun) (next : List WordValue) (text : List ℕ) → values_held run next text ≡ run.count → Counted run next text
 none_counted run next text e = record {
   words = [];
   later = next;
@@ -48,7 +48,7 @@ one_counted : (run : OpenRun) (w : WordValue) (ws : List WordValue) (text : List
     → (goes_on run w && starts_with nat_eq text (value_text w)) ≡ true → Counted (longer run) ws (drop 7 text) → Counted run (w ∷ ws) text
 one_counted run w ws text on rest =
     let passed = both (goes_on run w) (starts_with nat_eq text (value_text w)) on in
-    let here : held run (w ∷ ws) text ≡ held (longer run) ws (drop 7 text) = ap (λ t. cond t (held (longer run) ws (drop 7 text)) run.count) on in
+    let here : values_held run (w ∷ ws) text ≡ values_held (longer run) ws (drop 7 text) = ap (λ t. cond t (values_held (longer run) ws (drop 7 text)) run.count) on in
     record {
       words = w ∷ rest.words;
       later = rest.later;
@@ -65,11 +65,11 @@ counted run (w ∷ ws) text =
     elim (goes_on run w && starts_with nat_eq text (value_text w))
     as (λ t. (goes_on run w && starts_with nat_eq text (value_text w)) ≡ t → Counted run (w ∷ ws) text) [
       | true ↦ (λ on. one_counted run w ws text on (counted (longer run) ws (drop 7 text)))
-      | false ↦ (λ off. none_counted run (w ∷ ws) text (ap (λ t. cond t (held (longer run) ws (drop 7 text)) run.count) off))
+      | false ↦ (λ off. none_counted run (w ∷ ws) text (ap (λ t. cond t (values_held (longer run) ws (drop 7 text)) run.count) off))
     ] refl
 
 -- no more are counted than come next
-held_few : (run : OpenRun) (next : List WordValue) (text : List ℕ) → held run next text ≤ run.count + length next
+held_few : (run : OpenRun) (next : List WordValue) (text : List ℕ) → values_held run next text ≤ run.count + length next
 held_few run next text =
     let c = counted run next text in
     let n = c.count_is in let e = ap length c.next_is ∙ length-append c.words c.later in omega arith
@@ -85,33 +85,33 @@ begun_elsewhere [] text address w e a off = absurd (cc e)
 begun_elsewhere (v ∷ next) text address w e a off =
     let same : w ≡ v = cc in
     let here = ap (λ (x : WordValue). octal_text x.address) (sym same) ∙ sym a in
-    sym (ap (λ t. cond t (held (run_at v.address) (v ∷ next) (drop 6 text)) 0) (ap (starts_with nat_eq text) here ∙ off))
+    sym (ap (λ t. cond t (values_held (run_at v.address) (v ∷ next) (drop 6 text)) 0) (ap (starts_with nat_eq text) here ∙ off))
 
 pub begun_here : (next : List WordValue) (text address left : List ℕ) (w : WordValue) (run : OpenRun) (count : ℕ) → Some w ≡ slice_get next 0 → address ≡ octal_text w.address
-    → starts_with nat_eq text address ≡ true → run ≡ run_at w.address → left ≡ drop 6 text → count ≡ held run next left → count ≡ torn_words Second next text
+    → starts_with nat_eq text address ≡ true → run ≡ run_at w.address → left ≡ drop 6 text → count ≡ values_held run next left → count ≡ torn_words Second next text
 begun_here [] text address left w run count e a on r l c = absurd (cc e)
 begun_here (v ∷ next) text address left w run count e a on r l c =
     let same : w ≡ v = cc in
     let here = ap (λ (x : WordValue). octal_text x.address) (sym same) ∙ sym a in
-    c ∙ ap (held run (v ∷ next)) l ∙ ap (λ x. held x (v ∷ next) (drop 6 text)) (r ∙ ap (λ (x : WordValue). run_at x.address) same)
-    ∙ sym (ap (λ t. cond t (held (run_at v.address) (v ∷ next) (drop 6 text)) 0) (ap (starts_with nat_eq text) here ∙ on))
+    c ∙ ap (values_held run (v ∷ next)) l ∙ ap (λ x. values_held x (v ∷ next) (drop 6 text)) (r ∙ ap (λ (x : WordValue). run_at x.address) same)
+    ∙ sym (ap (λ t. cond t (values_held (run_at v.address) (v ∷ next) (drop 6 text)) 0) (ap (starts_with nat_eq text) here ∙ on))
 
 pub held_fits : (run : OpenRun) (address : ℕ) (next : List WordValue) (text : List ℕ) (count result : ℕ)
-    → run ≡ run_at address → count ≡ held run next text → result ≡ count → result ≤ length next
+    → run ≡ run_at address → count ≡ values_held run next text → result ≡ count → result ≤ length next
 held_fits run address next text count result r c e =
     let few = held_few run next text in let none = ap (λ (x : OpenRun). x.count) r in omega arith
 
 -- values that go on a run are counted, whatever follows where no value does
-pub values_counted : (run : OpenRun) (words later : List WordValue) → GoOn run words → held run (words ++ later) (values_text words) ≡ run.count + length words
+pub values_counted : (run : OpenRun) (words later : List WordValue) → GoOn run words → values_held run (words ++ later) (values_text words) ≡ run.count + length words
 values_counted run [] [] go = sym (search arith)
 values_counted run [] (w ∷ later) go =
     let none : (goes_on run w && starts_with nat_eq [] (value_text w)) ≡ false = search rules in
-    ap (λ t. cond t (held (longer run) later []) run.count) none ∙ sym (search arith)
+    ap (λ t. cond t (values_held (longer run) later []) run.count) none ∙ sym (search arith)
 values_counted run (w ∷ words) later go =
     let on : (goes_on run w && starts_with nat_eq (value_text w ++ values_text words) (value_text w)) ≡ true =
     ap (λ t. t && starts_with nat_eq (value_text w ++ values_text words) (value_text w)) go.0 ∙ begins_with (value_text w) (values_text words) in
     let more = values_counted (longer run) words later go.1 in
-    ap (λ t. cond t (held (longer run) (words ++ later) (values_text words)) run.count) on ∙ more ∙ (omega arith)
+    ap (λ t. cond t (values_held (longer run) (words ++ later) (values_text words)) run.count) on ∙ more ∙ (omega arith)
 
 pub length-values_text : (words : List WordValue) → length (values_text words) ≡ 7 * length words
 length-values_text [] = refl
@@ -158,9 +158,9 @@ pub torn : (next : List WordValue) (torn : List ℕ) → (torn_words Second next
 torn [] text = inl refl
 torn (w ∷ ws) text =
     elim (starts_with nat_eq text (octal_text w.address))
-    as (λ t. starts_with nat_eq text (octal_text w.address) ≡ t → (cond t (held (run_at w.address) (w ∷ ws) (drop 6 text)) 0 ≡ 0) ⊎ Torn (w ∷ ws) text (cond t (held (run_at w.address) (w ∷ ws) (drop 6 text)) 0)) [
+    as (λ t. starts_with nat_eq text (octal_text w.address) ≡ t → (cond t (values_held (run_at w.address) (w ∷ ws) (drop 6 text)) 0 ≡ 0) ⊎ Torn (w ∷ ws) text (cond t (values_held (run_at w.address) (w ∷ ws) (drop 6 text)) 0)) [
       | true ↦ (λ on. let c = counted (run_at w.address) (w ∷ ws) (drop 6 text) in
-          torn_values w ws text (held (run_at w.address) (w ∷ ws) (drop 6 text)) c.words c.later c.left (begins text (octal_text w.address) on) c.next_is c.go_on c.text_is (c.count_is ∙ zero-add _))
+          torn_values w ws text (values_held (run_at w.address) (w ∷ ws) (drop 6 text)) c.words c.later c.left (begins text (octal_text w.address) on) c.next_is c.go_on c.text_is (c.count_is ∙ zero-add _))
       | false ↦ (λ off. inl refl)
     ] refl
 
@@ -168,7 +168,7 @@ torn (w ∷ ws) text =
 pub run_counted : (words later : List WordValue) → IsRun words → torn_words Second (words ++ later) (run_text words) ≡ length words
 run_counted [] later run = absurd run
 run_counted (w ∷ words) later run =
-    ap (λ t. cond t (held (run_at w.address) (w ∷ (words ++ later)) (values_text (w ∷ words))) 0) (begins_with (octal_text w.address) (values_text (w ∷ words)))
+    ap (λ t. cond t (values_held (run_at w.address) (w ∷ (words ++ later)) (values_text (w ∷ words))) 0) (begins_with (octal_text w.address) (values_text (w ∷ words)))
     ∙ values_counted (run_at w.address) (w ∷ words) later run ∙ zero-add _
 
 -- a torn piece holds no more words than are left

@@ -3,3 +3,4 @@ pub mod RecordText
 pub mod Reading
 pub mod Law
 pub mod Keeper
+pub mod Runs

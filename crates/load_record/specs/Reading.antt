@@ -22,10 +22,10 @@ pub record IsCut (text : List ℕ) (lines : List (List ℕ)) (torn : List ℕ) :
   pub pieces : slice_split is_line_end text ≡ lines ++ torn ∷ []
 
 -- how many words a run line has once each of the next words is added whose value stands next in the text
-abbrev pub held : OpenRun → List WordValue → List ℕ → ℕ
-held run [] text = run.count
-held run (w ∷ ws) text =
-    if goes_on run w && starts_with nat_eq text (value_text w) then held (longer run) ws (drop 7 text) else run.count
+abbrev pub values_held : OpenRun → List WordValue → List ℕ → ℕ
+values_held run [] text = run.count
+values_held run (w ∷ ws) text =
+    if goes_on run w && starts_with nat_eq text (value_text w) then values_held (longer run) ws (drop 7 text) else run.count
 
 -- how many of the next words a torn piece holds. In version 2 it may be the beginning of a run line: each whole
 -- value behind the first word's address counts, whatever follows it
@@ -33,7 +33,7 @@ abbrev pub torn_words : Version → List WordValue → List ℕ → ℕ
 torn_words First next torn = 0
 torn_words Second [] torn = 0
 torn_words Second (w ∷ ws) torn =
-    if starts_with nat_eq torn (octal_text w.address) then held (run_at w.address) (w ∷ ws) (drop 6 torn) else 0
+    if starts_with nat_eq torn (octal_text w.address) then values_held (run_at w.address) (w ∷ ws) (drop 6 torn) else 0
 
 -- how many of the next words a whole run line holds: it is as long as their text
 abbrev pub run_words : List WordValue → List ℕ → ℕ

@@ -1,4 +1,5 @@
 ghost use Rattle.load_record.specs.Law.{CutsAreRecords, FirstLinesAreThese, WholeIsRead};
+ghost use Rattle.load_record.specs.Runs.{RunsAreLongest};
 
 /// Each cut of a record is a record: the text of the first `k` words of a plan, in either version,
 /// with the mark or without, cut at any byte, is read as at most `k` words, and with the mark only
@@ -17,4 +18,10 @@ pub fn whole_record()
 /// This function does nothing: its contract is the law.
 pub fn first_lines()
     ensures { FirstLinesAreThese }
+{}
+
+/// In version 2 each line of a record holds as many words as it may: none of them could have taken the
+/// first word of the line behind it. This function does nothing: its contract is the law.
+pub fn longest_runs()
+    ensures { RunsAreLongest }
 {}

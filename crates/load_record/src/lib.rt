@@ -18,6 +18,6 @@ mod run;
 mod version;
 
 pub use file_keep::FileKeep;
-pub use law::{cut_record, first_lines, whole_record};
+pub use law::{cut_record, first_lines, longest_runs, whole_record};
 pub use reader::{RECORD_LIMIT, RecordError, read_record};
 pub use version::Version;

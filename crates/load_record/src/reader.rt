@@ -5,7 +5,7 @@ ghost use Rattle.tape_image.specs.Plan.{IsPlan};
 ghost use Rattle.host_core.specs.declared.progress.Progress.{Progress};
 ghost use Rattle.host_core.specs.Opening.{refusal_of};
 ghost use Rattle.load_record.specs.declared.version.Version.TheVariants.{Second};
-ghost use Rattle.load_record.specs.Reading.{Adds, HoldsCount, IsMarkDue, Says, held, is_line_end, run_words, torn_words};
+ghost use Rattle.load_record.specs.Reading.{Adds, HoldsCount, IsMarkDue, Says, values_held, is_line_end, run_words, torn_words};
 
 use crate::line::{half_line, value_text, word_fields};
 use crate::run::{OpenRun, is_full};
@@ -178,13 +178,13 @@ fn words_begun(next: &[Word], begun: &[u8]) -> usize
     if !begun.starts_with(&oct6(word.address())) {
         return 0;
     }
-    usize::from(held(OpenRun::at(word.address()), next, &begun[RUN_HEAD..]))
+    usize::from(values_held(OpenRun::at(word.address()), next, &begun[RUN_HEAD..]))
 }
 
 // How many words a run line has once each of the next words is added whose value stands next in the
 // text.
-fn held(begun: OpenRun, next: &[Word], text: &[u8]) -> u8
-    ensures { result ≡ held begun next.now text.now }
+fn values_held(begun: OpenRun, next: &[Word], text: &[u8]) -> u8
+    ensures { result ≡ values_held begun next.now text.now }
 {
     let mut run = begun;
     let mut left = text;

@@ -5,7 +5,7 @@ use Rattle.tape_image.specs.Plan.{PlanValue}
 use Rattle.host_core.specs.Core.{Core}
 use Rattle.load_engine.specs.declared.stop.Stop.{Stop}
 use Rattle.machine_load.specs.Driving.{Finish, LineTold, KeeperTells, IsLived, IsLoadReported, IsLoadUntold, ending_of, finish_of}
-use Rattle.machine_load.specs.Load.{Around, Setting, Asks, KeepsRecord, IsLife, IsOpening}
+use Rattle.machine_load.specs.Load.{Around, Setting, Asks, KeepsRecord, IsLoadLife, IsOpening}
 use Rattle.machine_load.specs.LoadFault.{IsOpeningFault, IsDrivingFault, IsReportFault}
 use Rattle.machine_load.specs.LoadReport.{load_report}
 use Rattle.machine_load.specs.Step.{reading}
@@ -15,7 +15,7 @@ use Rattle.machine_load.specs.declared.options.LoadOptions.{LoadOptions}
 
 -- a life over its line is a life
 pub is_life : {K : Type 0} (tells : KeeperTells K) (writable : Bool) (first : Core) (before after : Around) (finish : Finish)
-    → IsLived tells writable first before after finish → IsLife writable first finish.last finish.stop before after
+    → IsLived tells writable first before after finish → IsLoadLife writable first finish.last finish.stop before after
 is_life tells writable first before after finish (inl idle) = inl idle.idle
 is_life tells writable first before after finish (inr life) = inr (record {
   may_write = life.may_write;

@@ -113,8 +113,8 @@ pub record IsBusy (writable : Bool) (old new : Core) (stop : Stop) (before after
   pub asked : Asks before after (Connect ∷ BeginRecord ∷ EndRecord ∷ [])
 
 -- a life, once it has opened
-abbrev pub IsLife : Bool → Core → Core → Stop → Around → Around → Type 0
-IsLife writable old new stop before after = IsIdle old new stop before after ⊎ IsBusy writable old new stop before after
+abbrev pub IsLoadLife : Bool → Core → Core → Stop → Around → Around → Type 0
+IsLoadLife writable old new stop before after = IsIdle old new stop before after ⊎ IsBusy writable old new stop before after
 
 -- a load: first the record is read, which says whether it may be written and with which core the life begins; then the life, from there on
 pub record IsLoadOf (plan : PlanValue) (options : LoadOptions) (before : Around) (IsLifeFrom : Bool → Core → Around → Type 0) : Type 0 where
@@ -128,7 +128,7 @@ pub record IsLoadOf (plan : PlanValue) (options : LoadOptions) (before : Around)
 
 -- a load that came to this core, and stopped so
 abbrev pub IsLoad : PlanValue → LoadOptions → Around → Around → Core → Stop → Type 0
-IsLoad plan options before after last stop = IsLoadOf plan options before (λ writable first between. IsLife writable first last stop between after)
+IsLoad plan options before after last stop = IsLoadOf plan options before (λ writable first between. IsLoadLife writable first last stop between after)
 
 -- a load and its report, which is of the core that the life ended with
 pub record IsReported (plan : PlanValue) (options : LoadOptions) (before after : Setting) (stop : Stop) (marked : Bool) : Type 0 where

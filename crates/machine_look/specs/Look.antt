@@ -8,7 +8,7 @@ use Rattle.reading_core.specs.Bound.{reading_bound}
 use Rattle.reading_core.specs.Invariant.{IsReader}
 use Rattle.reading_core.specs.Reader.{Reader}
 use Rattle.reading_core.specs.declared.phase.End.{End}
-use Rattle.reading_law.specs.Belief.{MayBegin}
+use Rattle.reading_law.specs.Belief.{MayLook}
 use Rattle.reading_engine.specs.Belief.{IsBelievableAt}
 use Rattle.reading_engine.specs.Inquired.{Inquired, TellsEnd}
 use Rattle.reading_engine.specs.declared.stop.Stop.{Stop}
@@ -28,7 +28,8 @@ pub record IsLook (first last : Reader) (stop : Stop) : Type 0 where
 
 -- what holds of memory wherever a look was over an honest line of a machine that runs no program
 abbrev pub OverHonestLine : {first last : Reader} {stop : Stop} → IsLook first last stop → (Machine → Machine → Type 0) → Type 0
-OverHonestLine {first} look holds = (machine now : Machine) (lost : ℕ) → MayBegin first machine → IsHonest machine look.inquired.said lost now → holds machine now
+OverHonestLine {first} look holds =
+    (machine now : Machine) (lost : ℕ) → MayLook first machine → IsHonest machine look.inquired.said lost now → holds machine now
 
 -- the console was tried to be reached once, where there is something to look at, and else not at all
 abbrev pub TriesOnce : Option End → Option ℕ → Option ℕ → Type 0

@@ -10,11 +10,11 @@ pub data Step : Type 0 where
   Put : List ℕ → Step
   NotPut : List ℕ → ShelfFault → Step
 
-abbrev pub reserve_step : Result (Unit {0}) ShelfFault → Step
+abbrev pub reserve_step : Result ⊤ ShelfFault → Step
 reserve_step (Ok done) = Reserve
 reserve_step (Err fault) = NotReserved fault
 
-abbrev pub put_step : List ℕ → Result (Unit {0}) ShelfFault → Step
+abbrev pub put_step : List ℕ → Result ⊤ ShelfFault → Step
 put_step text (Ok done) = Put text
 put_step text (Err fault) = NotPut text fault
 

@@ -18,7 +18,8 @@ pub fn tape_of(alloc: Global, from: u16, numbers: &[u16], start: u16) -> Result<
     ensures made { IfOk result (λ tape. tape ≡ saved_tape from numbers.now start) }
 
     // So a load of it gives memory back what was read, and changes nothing else.
-    ensures holds { (addresses : List ℕ) → StandFrom from addresses → length numbers.now ≤ length addresses → IfOk result (HoldsWhatWasRead addresses numbers.now) }
+    ensures holds { (addresses : List ℕ) → StandFrom from addresses → length numbers.now ≤ length addresses →
+        IfOk result (HoldsWhatWasRead addresses numbers.now) }
 {
     let count = numbers.len().div_ceil(BLOCK_WORDS);
     let mut blocks = Vec::with_capacity(alloc, count)?;

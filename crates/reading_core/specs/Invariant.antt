@@ -1,5 +1,5 @@
 -- What holds of every reading host, whatever it has heard.
-use Rattle.std.specs.Prelude.{◌≡◌, ℕ, ◌^◌, ◌<◌, ◌≤◌, All, List, length}
+use Rattle.std.specs.Prelude.{◌≡◌, ℕ, ◌^◌, ◌<◌, ◌≤◌, All, List, length, ⊤}
 use Rattle.host_core.specs.Host.{IsPlace, value_room}
 use Rattle.reading_core.specs.declared.phase.Phase.{Phase}
 use Rattle.reading_core.specs.declared.phase.Phase.TheVariants.{Settle, Sync, Address, Slash, Before, Value, Close, Ended}
@@ -32,7 +32,7 @@ EndFits (NoWord address) b = HasWord b × (address ≡ address_nr b.addresses (l
 
 -- what a phase says
 abbrev pub PhaseFits : Phase → Basis → Type 0
-PhaseFits Settle b = Unit {0}
+PhaseFits Settle b = ⊤
 PhaseFits (Sync place) b = place ≤ 5
 PhaseFits (Address place) b = HasWord b × IsPlace place
 PhaseFits Slash b = HasWord b

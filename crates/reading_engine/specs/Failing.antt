@@ -1,5 +1,5 @@
 -- Whether the line's failure stopped the engine.
-use Rattle.std.specs.Prelude.{◌≡◌, ℕ, Option, Some, None}
+use Rattle.std.specs.Prelude.{◌≡◌, ℕ, Option, Some, None, ⊤}
 use Rattle.load_devices.specs.declared.fault.LineFault.{LineFault}
 use Rattle.load_devices.specs.Failures.{one_more}
 use Rattle.reading_engine.specs.declared.stop.Stop.{Stop}
@@ -15,6 +15,6 @@ Counts None line line' = line' ≡ line
 -- the fault that is named is the one that the line's last call answered
 abbrev pub NamesFault : Option Stop → Option LineFault → Type 0
 NamesFault (Some (LineFailed fault)) line = line ≡ Some fault
-NamesFault (Some TurnsOver) line = Unit {0}
-NamesFault (Some (Ended end)) line = Unit {0}
-NamesFault None line = Unit {0}
+NamesFault (Some TurnsOver) line = ⊤
+NamesFault (Some (Ended end)) line = ⊤
+NamesFault None line = ⊤

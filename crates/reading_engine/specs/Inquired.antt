@@ -1,5 +1,5 @@
 -- What the engine's turns do to the reading core and on the line.
-use Rattle.std.specs.Prelude.{◌≡◌, ℕ, ◌-◌, ◌<◌, ◌≤◌, ◌⊎◌, List, [], ◌∷◌, length, Option, Some, None, Result, Ok, Err}
+use Rattle.std.specs.Prelude.{◌≡◌, ℕ, ◌-◌, ◌<◌, ◌≤◌, ◌⊎◌, List, [], ◌∷◌, length, Option, Some, None, Result, Ok, Err, ⊤}
 use Rattle.host_core.specs.declared.heard.Heard.{Heard}
 use Rattle.load_devices.specs.declared.fault.LineFault.{LineFault}
 use Rattle.load_devices.specs.declared.item.Item.{Item}
@@ -14,7 +14,7 @@ use Rattle.reading_engine.specs.declared.stop.Stop.TheVariants.{Ended, LineFaile
 
 -- the reader has no end before the last of these is heard
 abbrev pub GoesOn : Reader → List Heard → Type 0
-GoesOn r [] = Unit {0}
+GoesOn r [] = ⊤
 GoesOn r (heard ∷ more) = (ended r.phase ≡ None) × GoesOn (ask r heard).next more
 
 -- what was said of a dialogue, by how the turns stopped (None: they are over, and may go on) and how many turns were
@@ -47,4 +47,4 @@ failure_of (Err fault) = Some (LineFailed fault)
 abbrev pub TellsEnd : Stop → Reader → Type 0
 TellsEnd (Ended end) r = ended r.phase ≡ Some end
 TellsEnd TurnsOver r = ended r.phase ≡ None
-TellsEnd (LineFailed fault) r = Unit {0}
+TellsEnd (LineFailed fault) r = ⊤

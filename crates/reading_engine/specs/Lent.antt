@@ -5,7 +5,7 @@ use Rattle.load_devices.specs.Dialogue.{keys_of}
 use Rattle.honest_line.specs.LineTable.{LineValue}
 use Rattle.honest_line.specs.Lent.{Passed}
 use Rattle.reading_core.specs.Reader.{Reader}
-use Rattle.reading_law.specs.Belief.{MayBegin, IsTrue}
+use Rattle.reading_law.specs.Belief.{MayLook, IsTrue}
 use Rattle.reading_engine.specs.declared.stop.Stop.{Stop}
 use Rattle.reading_engine.specs.declared.stop.Stop.TheVariants.{LineFailed}
 
@@ -18,5 +18,5 @@ unpaid stop = 0
 -- was changed, with the losses of what passed meanwhile
 abbrev pub ReadsTrue : Stop → Reader → Reader → LineValue → LineValue → Type 0
 ReadsTrue stop r next old new =
-    (said : List Item) (lost : ℕ) → Passed old new said lost → MayBegin r old.machine → length old.waiting ≤ 32 →
+    (said : List Item) (lost : ℕ) → Passed old new said lost → MayLook r old.machine → length old.waiting ≤ 32 →
     IsTrue old.machine.memory next new.machine.memory (keys_of said) (lost + unpaid stop)

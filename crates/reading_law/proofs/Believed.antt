@@ -16,7 +16,7 @@ use Rattle.reading_core.specs.Laws.{led, replay}
 use Rattle.reading_core.specs.ReadingTable.{ask}
 use Rattle.reading_law.specs.Inquiry.{Inquiry, over, after}
 use Rattle.reading_law.specs.Law.{HoldsRead, HasCause, IsHarmless, OnlyLook}
-use Rattle.reading_law.specs.Belief.{dialogue, MayBegin, IsTrue, HonestReadingsAreTrue, UnsaidReadingsAreTrue}
+use Rattle.reading_law.specs.Belief.{dialogue, MayLook, IsTrue, HonestReadingsAreTrue, UnsaidReadingsAreTrue}
 use Rattle.reading_law.proofs.Harmless.{mirrored_events, harmless}
 use Rattle.reading_law.proofs.Looks.{events_look}
 use Rattle.reading_law.proofs.Mirrors.{IsMirrored, opened_mirrored}
@@ -24,7 +24,7 @@ use Rattle.reading_law.proofs.Runs.{Leads, dialogue_leads}
 
 -- ---- the beginning
 
-begin_mirrored : (r : Reader) (machine : Machine) (waiting : List ℕ) → IsReader r → MayBegin r machine → length waiting ≤ 32 → IsMirrored machine.memory (over r (resting machine waiting 0))
+begin_mirrored : (r : Reader) (machine : Machine) (waiting : List ℕ) → IsReader r → MayLook r machine → length waiting ≤ 32 → IsMirrored machine.memory (over r (resting machine waiting 0))
 begin_mirrored r machine waiting is may few =
     subst (λ q. IsMirrored machine.memory (over q (resting machine waiting 0))) (sym may.begun)
     (opened_mirrored machine r.addresses r.values waiting r.patience may.console may.stopped is.asked is.within few is.long (record { lies = may.read.lies; holds = may.read.holds }))
@@ -60,7 +60,7 @@ keys_of_more (Came what ∷ items) key = keys_of_more items key
 
 -- ---- the whole dialogue
 
-dialogue_true : (r : Reader) (things : List Heard) (machine : Machine) (waiting : List ℕ) (end : Wire) → IsReader r → MayBegin r machine → length waiting ≤ 32 → Passes (resting machine waiting 0) (dialogue r things) end →
+dialogue_true : (r : Reader) (things : List Heard) (machine : Machine) (waiting : List ℕ) (end : Wire) → IsReader r → MayLook r machine → length waiting ≤ 32 → Passes (resting machine waiting 0) (dialogue r things) end →
     IsTrue machine.memory (led r things) end.machine.memory (keys_of (dialogue r things)) end.lost
 dialogue_true r things machine waiting end is may few passes =
     subst (λ keys. IsTrue machine.memory (led r things) end.machine.memory keys end.lost) (sym (keys_of-dialogue things r))

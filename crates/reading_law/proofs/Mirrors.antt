@@ -18,8 +18,8 @@ use Rattle.line_world.specs.Scene.{Scene, over as load_over}
 use Rattle.line_world.specs.Wire.{without_down, without_up, forgiven}
 use Rattle.line_world.specs.World.{stepped as load_stepped, takes as load_takes, hears as load_hears, times_out as load_times_out, happens as load_happens}
 use Rattle.line_world.specs.Opening.{opened as load_opened}
-use Rattle.line_world.specs.Site.{Site, site, site_of, held, IsThere, last_digits, ground}
-use Rattle.line_world.specs.Pending.{IsPart, RestFits}
+use Rattle.line_world.specs.Site.{Site, site, site_of, held_number, IsThere, last_digits, ground}
+use Rattle.line_world.specs.Pending.{IsRemnant, RestFits}
 use Rattle.line_world.specs.Invariant.{IsKept, InPhase}
 use Rattle.line_world.specs.Safe.{OnlyImage}
 use Rattle.line_world.proofs.Opening.{opening_kept}
@@ -57,22 +57,22 @@ pub record IsMirrored (memory : List ℕ) (w : Inquiry) : Type 0 where
 -- ---- a number that is about to be read is the word's
 
 -- the last character of a reading comes with nothing behind it
-last_of : (c : ℕ) (up : List ℕ) (rest : List ℕ) → rest ≡ 32 ∷ [] → IsPart (c ∷ up) rest → c ∷ up ≡ rest
-last_of c [] rest e part = elim (subst (λ xs. IsPart (c ∷ []) xs) e part) [
+last_of : (c : ℕ) (up : List ℕ) (rest : List ℕ) → rest ≡ 32 ∷ [] → IsRemnant (c ∷ up) rest → c ∷ up ≡ rest
+last_of c [] rest e part = elim (subst (λ xs. IsRemnant (c ∷ []) xs) e part) [
   | inl here ↦ ap (λ x. x ∷ []) here.0 ∙ sym e
   | inr there ↦ absurd there
 ]
-last_of c (d ∷ up) rest e part = elim (subst (λ xs. IsPart (c ∷ d ∷ up) xs) e part) [
+last_of c (d ∷ up) rest e part = elim (subst (λ xs. IsRemnant (c ∷ d ∷ up) xs) e part) [
   | inl here ↦ absurd here.1
   | inr there ↦ absurd there
 ]
 
 -- a reading with its six digits
-whole_value : (t : Site) (v p : ℕ) (mode new : Mode) (c : ℕ) (up : List ℕ) → p ≡ 6 → RestFits new (last_digits (held t) (6 - p)) mode (c ∷ up) →
-    (c ∷ up ≡ last_digits (held t) (6 - p) → v ≡ head (held t) p) → v ≡ held t
+whole_value : (t : Site) (v p : ℕ) (mode new : Mode) (c : ℕ) (up : List ℕ) → p ≡ 6 → RestFits new (last_digits (held_number t) (6 - p)) mode (c ∷ up) →
+    (c ∷ up ≡ last_digits (held_number t) (6 - p) → v ≡ head (held_number t) p) → v ≡ held_number t
 whole_value t v p mode new c up six fits value =
     let none : 6 - p ≡ 0 = omega (arith, six) in
-    value (last_of c up (last_digits (held t) (6 - p)) (ap (last_digits (held t)) none) fits.1) ∙ ap (head (held t)) six
+    value (last_of c up (last_digits (held_number t) (6 - p)) (ap (last_digits (held_number t)) none) fits.1) ∙ ap (head (held_number t)) six
 
 reads_word : (memory : List ℕ) (w : Inquiry) (phase : Phase) (c : ℕ) (up : List ℕ) → w.machine.memory ≡ memory →
     PhaseFits (phase_for phase) (basis_of (core_for memory w.reader)) → InPhase (phase_for phase) (ground (as_load memory w)) (site (as_load memory w)) w.down (c ∷ up) w.reader.patience w.reader.spent w.lost →
@@ -81,7 +81,7 @@ reads_word memory w (Value v p) c up same fits live = λ six blank.
     let below : length w.reader.values < length w.reader.addresses = subst (λ n. length w.reader.values < n) (length_for memory w.reader.addresses) fits.0 in
     let word : WordValue = word_for memory (address_under_way w.reader) in
     let is : word_nr (words_for memory w.reader.addresses) (length w.reader.values) ≡ word = nr_for memory w.reader.addresses (length w.reader.values) below in
-    let number : v ≡ held (site (as_load memory w)) = whole_value (site (as_load memory w)) v p w.machine.mode _ c up (omega (arith, six, fits.1)) live.rest live.facts.2 in
+    let number : v ≡ held_number (site (as_load memory w)) = whole_value (site (as_load memory w)) v p w.machine.mode _ c up (omega (arith, six, fits.1)) live.rest live.facts.2 in
     ap (λ (x : WordValue). merged x v) is
     ∙ (merged_for memory (address_under_way w.reader) v
     ∙ sym (number ∙ (ap (λ (x : WordValue). word_at w.machine.memory x.address) is ∙ ap (λ m. word_at m (address_under_way w.reader)) same)))

@@ -20,7 +20,7 @@ dialogue r (heard ∷ more) = Came heard ∷ (said (ask r heard).key ++ dialogue
 
 -- a reading may begin over this machine: the host is at the beginning of a life, no program runs, and the numbers that
 -- count as read are what memory holds
-pub record MayBegin (r : Reader) (machine : Machine) : Type 0 where
+pub record MayLook (r : Reader) (machine : Machine) : Type 0 where
   pub begun : r ≡ begun r.addresses r.values r.patience
   pub console : IsMachine machine
   pub stopped : is_running machine.mode ≡ false
@@ -39,7 +39,8 @@ pub record IsTrue (before : List ℕ) (r : Reader) (now : List ℕ) (typed : Lis
 -- and honest line, and so many losses more than the line had pay for its mishaps
 abbrev pub IsBelievable : Reader → Reader → List Item → ℕ → Type 0
 IsBelievable r next items more =
-    (machine now : Machine) (lost : ℕ) → MayBegin r machine → IsHonest machine items lost now → IsTrue machine.memory next now.memory (keys_of items) (lost + more)
+    (machine now : Machine) (lost : ℕ) → MayLook r machine → IsHonest machine items lost now →
+    IsTrue machine.memory next now.memory (keys_of items) (lost + more)
 
 -- a reading host that heard an honest line may be believed
 abbrev pub HonestReadingsAreTrue : Type 0
@@ -48,4 +49,5 @@ HonestReadingsAreTrue = (r : Reader) (things : List Heard) → IsReader r → Is
 -- one whose last key was never sent may be believed as one over a line that lost this key
 abbrev pub UnsaidReadingsAreTrue : Type 0
 UnsaidReadingsAreTrue =
-    (r : Reader) (things : List Heard) (items : List Item) (key : ℕ) → IsReader r → dialogue r things ≡ items ++ Sent key ∷ [] → IsBelievable r (led r things) items 1
+    (r : Reader) (things : List Heard) (items : List Item) (key : ℕ) → IsReader r → dialogue r things ≡ items ++ Sent key ∷ [] →
+    IsBelievable r (led r things) items 1

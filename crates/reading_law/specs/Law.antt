@@ -1,5 +1,5 @@
 -- A host that only looks does no harm, and what it reads is true.
-use Rattle.std.specs.Prelude.{◌≡◌, ℕ, ◌^◌, ◌<◌, ◌≤◌, ◌⊎◌, Bool, true, false, ◌==◌, List, [], ◌∷◌, length, get_or}
+use Rattle.std.specs.Prelude.{◌≡◌, ℕ, ◌^◌, ◌<◌, ◌≤◌, ◌⊎◌, Bool, true, false, ◌==◌, List, [], ◌∷◌, length, get_or, ⊤}
 use Rattle.octal.specs.Octal.{is_digit}
 use Rattle.tape_image.specs.Memory.{top_of}
 use Rattle.odt_machine.specs.Machine.{Machine, IsMachine, is_word, word_at}
@@ -22,12 +22,12 @@ pub record HoldsRead (memory : List ℕ) (r : Reader) : Type 0 where
 abbrev pub EndIsPaid : End → List ℕ → (patience lost : ℕ) → Type 0
 EndIsPaid GaveUp memory patience lost = patience < lost
 EndIsPaid (NoWord a) memory patience lost = top_of memory ≤ a
-EndIsPaid end memory patience lost = Unit {0}
+EndIsPaid end memory patience lost = ⊤
 
 -- a phase has its cause, where it is an end
 abbrev pub HasCause : Phase → List ℕ → (patience lost : ℕ) → Type 0
 HasCause (Ended end) memory patience lost = EndIsPaid end memory patience lost
-HasCause phase memory patience lost = Unit {0}
+HasCause phase memory patience lost = ⊤
 
 -- a key of a host that only looks. Right after `/`, where a digit would change the word, it is CR, which closes the
 -- word as it was, or `Z`; else it is a digit, `/`, CR or `Z`
@@ -37,7 +37,7 @@ IsLooking false c = (is_digit c ≡ true) ⊎ ((c ≡ 47) ⊎ ((c ≡ 13) ⊎ (c
 
 -- all these keys are so, where the key before them was `/` or not: no digit comes right after `/`, and `G` never
 abbrev pub OnlyLook : Bool → List ℕ → Type 0
-OnlyLook slash [] = Unit {0}
+OnlyLook slash [] = ⊤
 OnlyLook slash (c ∷ keys) = IsLooking slash c × OnlyLook (c == 47) keys
 
 -- what holds against the memory before: it is what it was, what was read is what it holds, and no mishap and no end is

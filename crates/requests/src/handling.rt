@@ -25,6 +25,10 @@ use std::time::Clock;
 /// Reports go to standard output, which is flushed; a fault goes to standard error as one line, in one
 /// write. What can't be written there is not told. A host at a machine shows on the terminal how far it
 /// is, where there is one.
+///
+/// What is asked of the caller is only that a value of the input's type fits into memory, as each type
+/// of a program does. It has to be said where the type is not known, since the input is lent as a slice of
+/// one.
 pub fn attempt<F: Locks + Devices + Net + Clock, R: Read, W: Write, E: Write, T: Print>(
     rt: &F,
     alloc: Global,

@@ -14,7 +14,8 @@ pub record LineValue : Type 0 where
 
 -- a line on which nothing has been said
 abbrev pub fresh_line : Option (List ℕ) → Option (List ℕ) → Option ℕ → Bool → LineValue
-fresh_line to_come gone_out silences is_over = record { to_come = to_come; gone_out = gone_out; silences = silences; is_over = is_over; failures = 0; fault = None }
+fresh_line to_come gone_out silences is_over =
+    record { to_come = to_come; gone_out = gone_out; silences = silences; is_over = is_over; failures = 0; fault = None }
 
 -- no call of the line has failed
 pub record IsFreshLine (line : LineValue) : Type 0 where

@@ -27,7 +27,14 @@ impl<S: TimedStream> Model for StreamLine<S> {
 
     ghost Value = { LineValue };
 
-    ghost view = { λ l. record { to_come = S.to_come l.stream; gone_out = S.contents l.stream; silences = S.silences l.stream; is_over = S.is_over l.stream; failures = l.failures; fault = l.fault } };
+    ghost view = { λ l. record {
+      to_come = S.to_come l.stream;
+      gone_out = S.contents l.stream;
+      silences = S.silences l.stream;
+      is_over = S.is_over l.stream;
+      failures = l.failures;
+      fault = l.fault;
+    } };
 }
 
 impl<S: TimedStream + Drop> StreamLine<S> {

@@ -28,7 +28,7 @@ IsLaid laid before after = (a : ℕ) → get after a ≡ option_or (laid a) (get
 
 -- words of any image that has the page's bytes in the page of this number: those below the page before, those below
 -- the next page after
-abbrev pub AddsWords : ℕ → Image → List WordValue → List WordValue → Type 0
-AddsWords number page before after =
+abbrev pub AddsPageWords : ℕ → Image → List WordValue → List WordValue → Type 0
+AddsPageWords number page before after =
     (image : Image) → ((offset : ℕ) → offset < 512 → get image (512 * number + offset) ≡ get page offset)
     → before ≡ words_below image (256 * number) → after ≡ words_below image (256 * (number + 1))

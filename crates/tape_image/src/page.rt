@@ -2,7 +2,7 @@ ghost use Rattle.std.specs.Prelude.{◌≡◌, ◌+◌, ◌<◌, ◌≤◌, leng
 ghost use Rattle.std.specs.FinMap.{empty, get};
 ghost use Rattle.tape_blocks.specs.Block.{block_at};
 ghost use Rattle.tape_image.specs.Image.{byte_in};
-ghost use Rattle.tape_image.specs.Pages.{AddsWords, IsLaid};
+ghost use Rattle.tape_image.specs.Pages.{AddsPageWords, IsLaid};
 
 use crate::word::Word;
 use std::marker::Model;
@@ -59,7 +59,7 @@ impl Page {
     /// for them.
     pub fn push_words(&self, number: usize, words: &mut Vec<Word>) -> Result<(), Memory>
         requires { number < 112 }
-        ensures { IfOk result (λ _. AddsWords number self.now words.old.items words.new.items) }
+        ensures { IfOk result (λ _. AddsPageWords number self.now words.old.items words.new.items) }
     {
         for place in 0..PAGE / 2 {
             let offset = 2 * place;

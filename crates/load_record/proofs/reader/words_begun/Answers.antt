@@ -15,7 +15,7 @@ returns-then-not-starts_with-clause-count c =
 pub returns-clause-count : goal.returns-clause-count
 returns-clause-count c =
     begun_here _ _ c.oct6.result _ c.in-Some.word.now c.at.result _ c.in-Some.ensures.value (c.oct6.ensures.text ∙ ap octal_text c.address.ensures.value) (sym c.starts_with.ensures.value ∙ c.if-not-starts_with.false)
-    (c.at.ensures ∙ ap run_at c.address-2.ensures.value) (take_rest c.args.begun.now 6) (c.from.ensures ∙ c.held.ensures)
+    (c.at.ensures ∙ ap run_at c.address-2.ensures.value) (take_rest c.args.begun.now 6) (c.from.ensures ∙ c.values_held.ensures)
 
 pub returns-clause-few : goal.returns-clause-few
-returns-clause-few c = held_fits _ _ _ _ _ _ c.at.ensures c.held.ensures c.from.ensures
+returns-clause-few c = held_fits _ _ _ _ _ _ c.at.ensures c.values_held.ensures c.from.ensures

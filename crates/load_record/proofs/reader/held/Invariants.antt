@@ -1,7 +1,0 @@
--- What is left gives the count that the whole gives.
-use Rattle.std.proofs.Common.{◌≡◌, drop}
-use Rattle.load_record.specs.Reading.{held}
-use Rattle.load_record.proofs.reader.held.Given as goal
-
-abbrev pub invariant-loop-word : goal.invariant-loop-word
-invariant-loop-word l = held l.run (drop l.word-index l.next) l.left ≡ held l.fn.begun l.next l.text

@@ -453,7 +453,7 @@ class Stories(unittest.TestCase):
             Story(Setting(load, style, patience), way, number)
             for load in range(len(LOADS))
             for style in STYLES
-            for patience, first, step in ((8, 0, 1), (0, style % 2, 2), (1, style % 3, 3))
+            for patience, first, step in ((8, 0, 1), (0, style % 4, 4), (1, style % 6, 6))
             for way in ("down", "up")
             for number in range(first, Setting(load, style, patience).length(way) + 1, step)
         )
@@ -470,11 +470,12 @@ class Stories(unittest.TestCase):
         )
 
     def test_each_moment_of_a_clean_load(self):
+        """In every other style."""
         self.are_right(
             Story(Setting(load, style, 8), stop=stop)
             for load in range(len(LOADS))
             for style in STYLES
-            for stop in range(Setting(load, style, 8).events() + 1)
+            for stop in range(style % 2, Setting(load, style, 8).events() + 1, 2)
         )
 
     def test_moments_after_a_loss(self):
@@ -494,7 +495,7 @@ class Stories(unittest.TestCase):
             Story(setting, way, number, place, (place + number) % 3)
             for way in ("down", "up")
             for number in range(setting.length(way))
-            for place in range(number % 2, setting.events() + 1, 2)
+            for place in range(number % 4, setting.events() + 1, 4)
         )
 
     def test_restarts_in_the_other_styles(self):

@@ -5,12 +5,14 @@ by a signal, and never in another way.
 """
 import multiprocessing
 import os
+import resource
+import subprocess
 import tempfile
 import unittest
-from concurrent.futures import ProcessPoolExecutor
+from concurrent.futures import ProcessPoolExecutor, ThreadPoolExecutor
 
-from common import Case
-from outside import FIRST, block, bytes_of, run, sweep
+from common import Case, Console
+from outside import FIRST, PAGE, PROGRAM, Answer, block, bytes_of, is_want, run, sweep
 
 # Words of a large tape, which is loaded at 001000 and starts there: more than what the program has room for at once.
 LARGE = [(0o1000 + 2 * place, 0o12345 + place) for place in range(5000)]
@@ -79,6 +81,72 @@ class Memory(Case):
                 with self.subTest(line[0][:40]):
                     self.assertIsNone(wrong)
                     self.assertGreaterEqual(wanting, FEWEST)
+
+
+class Starving(Console):
+    """At one key it takes from the process at the other end all memory but what that has and so many bytes more."""
+
+    def __init__(self, spare, at_key, **named):
+        super().__init__(**named)
+        self.spare, self.at_key, self.process = spare, at_key, None
+
+    def take(self, key):
+        if len(self.typed) == self.at_key:
+            limit = self.size() + self.spare
+            resource.prlimit(self.process.pid, resource.RLIMIT_AS, (limit, limit))
+        return super().take(key)
+
+    def size(self):
+        with open(f"/proc/{self.process.pid}/statm", encoding="ascii") as told:
+            return int(told.read().split()[0]) * PAGE
+
+
+class BehindTheConnection(Case):
+    """Looks that get no more memory once they have begun to type: a whole answer, or the line that memory is wanting, and
+    a tape that is whole or not there. The machine's memory is what it was."""
+
+    WORDS = 1024
+
+    def setUp(self):
+        super().setUp()
+        words = [0o12345 + it for it in range(self.WORDS)]
+        self.tape = block(0, b"".join(it.to_bytes(2, "little") for it in words)) + block(1, b"")
+        self.memory = {2 * number: it ^ 1 for number, it in enumerate(words)}
+        self.put("a.lda", self.tape)
+
+    def look(self, words, spare=1 << 30, at_key=0):
+        """Looks, with so much memory more from one key on."""
+        machine = Starving(spare, at_key, words=self.WORDS, memory=self.memory)
+        before, line = list(machine.words), self.console_at(machine)
+        command = [PROGRAM, *(line.address if it == "LINE" else it for it in words), "--quiet", str(self.quiet)]
+        machine.process = subprocess.Popen(command, cwd=self.room, stdin=subprocess.DEVNULL, stdout=subprocess.PIPE, stderr=subprocess.PIPE, text=True)
+        out, err = machine.process.communicate(timeout=120)
+        line.settle()
+        self.is_so((machine.words == before, machine.starts), (True, []))
+        return Answer(machine.process.returncode, out, err)
+
+    def each(self, words):
+        """Such looks with nothing more from the first key on, from one in the middle, and from the last."""
+        rows = [(0, at_key) for at_key in (0, 4 * self.WORDS, 8 * self.WORDS)]
+        with ThreadPoolExecutor(len(rows)) as pool:
+            yield from zip(rows, pool.map(lambda row: self.look([it.format(*row) for it in words], *row), rows))
+
+    def test_verify(self):
+        ample = self.look(["verify", "a.lda", "LINE"])
+        self.is_so((ample.status, ample.out.count(" differs ")), (1, self.WORDS))
+        for row, given in self.each(["verify", "a.lda", "LINE"]):
+            with self.subTest(row):
+                self.assertTrue(given == ample or is_want(given, ample), f"{given!r:.2000}")
+
+    def test_save(self):
+        words = ["LINE", "0", f"{2 * self.WORDS - 2:o}"]
+        ample = self.look(["save", "ample.lda", *words])
+        tape = bytes_of(self.path("ample.lda"))
+        self.is_so((ample.status, ample.err), (0, ""))
+        for row, given in self.each(["save", "{}-{}.lda", *words]):
+            with self.subTest(row):
+                kept = bytes_of(self.path("{}-{}.lda".format(*row)))
+                self.assertTrue((given, kept) == (ample, tape) or is_want(given, ample) and kept in (b"", tape), f"{given!r:.2000}")
 
 
 if __name__ == "__main__":

@@ -65,7 +65,7 @@ pub(crate) fn run<F: Locks + Devices + Net + Clock>(
     ended.err = streams.err;
 }
 
-/// A load that survives three mishaps.
+// A load that survives three mishaps.
 const OPTIONS: LoadOptions = LoadOptions {
     patience: 3,
     recheck: false,

@@ -9,8 +9,8 @@ use load_record::FileKeep;
 use std::alloc::Global;
 use stream_line::SocketLine;
 
-/// A host that has verified nothing of the smallest tape, with a record that is begun so; or None where one of them
-/// can't be had.
+// A host that has verified nothing of the smallest tape, with a record that is begun so; or None where one of them
+// can't be had.
 fn begun_with(alloc: Global, keeper: &mut FileKeep<Vec<u8>>) -> Option<HostCore> {
     let plan = plan_of_one_word(alloc)?;
     keeper.begin(&plan, 0).ok()?;
@@ -21,7 +21,7 @@ fn begun_with(alloc: Global, keeper: &mut FileKeep<Vec<u8>>) -> Option<HostCore>
     HostCore::new(plan, nothing, 8).ok()
 }
 
-/// Loads the smallest tape over a line with a new record, and answers how that stops and how many keys are sent.
+// Loads the smallest tape over a line with a new record, and answers how that stops and how many keys are sent.
 fn load_over(
     alloc: Global,
     line: &mut SocketLine<Console>,
@@ -32,10 +32,11 @@ fn load_over(
     Some((stop, core.sent_count()))
 }
 
-/// The same over a line to the console of a system, or None where there is no connection.
+// The same over a line to the console of a system, or None where there is no connection.
 fn load_one_word(rt: &HostRuntime, keeper: &mut FileKeep<Vec<u8>>) -> Option<(Stop, u64)> {
     let system = System::new(rt, AMPLE);
-    let mut line = SocketLine::connect(&system, "127.0.0.1:2323", QUIET_MS).ok()?;
+    let mut network = &system;
+    let mut line = SocketLine::connect(&mut network, "127.0.0.1:2323", QUIET_MS).ok()?;
     load_over(rt.alloc(), &mut line, keeper)
 }
 

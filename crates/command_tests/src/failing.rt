@@ -10,15 +10,21 @@ use std::slice;
 use tape_check::check_to;
 use tape_image::Start;
 
-/// A script in which characters of an earlier session wait, and look like echoes.
+// A script in which characters of an earlier session wait, and look like echoes.
 const STALE: &str =
     "wait 78 3F 0D 0A 40 30 30 31\nhear\ndown 0\nhear 4\ndown 0\nhear\ndown 0\nhear\ndown 0\nhear\nclean\n";
 
-/// What is reported of it: the host ignored them all, so there was no key to lose.
-const STALE_REPORT: &str =
-    "line 3: not possible\nline 5: not possible\nline 7: not possible\nline 9: not possible\nsent 30 lost 0 spent 0 verified 1 of 1\nend Started\nodt Running 001000\n001000 011064 stands\n";
+// What is reported of it: the host ignored them all, so there was no key to lose.
+const STALE_REPORT: &str = "line 3: not possible\n\
+    line 5: not possible\n\
+    line 7: not possible\n\
+    line 9: not possible\n\
+    sent 30 lost 0 spent 0 verified 1 of 1\n\
+    end Started\n\
+    odt Running 001000\n\
+    001000 011064 stands\n";
 
-/// The command whose device fails.
+// The command whose device fails.
 #[derive(Clone, Copy)]
 enum Command {
     Check,
@@ -26,7 +32,7 @@ enum Command {
     Dialogue,
 }
 
-/// The device that fails: before a byte of its input, or at a write, by its number.
+// The device that fails: before a byte of its input, or at a write, by its number.
 #[derive(Clone, Copy)]
 enum Failing {
     Tape(usize),
@@ -34,10 +40,10 @@ enum Failing {
     Output(u32),
 }
 
-/// A write that no command comes to.
+// A write that no command comes to.
 const NEVER: u32 = u32::MAX;
 
-/// Where the tape, the script and the output fail, and the fault that it makes.
+// Where the tape, the script and the output fail, and the fault that it makes.
 fn places(failing: Failing) -> (usize, usize, u32, CommandFault) {
     match failing {
         Failing::Tape(place) => (place, NOWHERE, NEVER, CommandFault::ReadTape(1)),
@@ -46,7 +52,7 @@ fn places(failing: Failing) -> (usize, usize, u32, CommandFault) {
     }
 }
 
-/// The fault at which a command over the smallest tape stops. A rehearsal alone reads the script.
+// The fault at which a command over the smallest tape stops. A rehearsal alone reads the script.
 fn fault_of(
     alloc: Global,
     command: Command,
@@ -69,22 +75,22 @@ fn fault_of(
     }
 }
 
-/// Whether one of the devices failed, and none was asked a second time.
+// Whether one of the devices failed, and none was asked a second time.
 fn have_failed_once(tape: &BrokenInput<'_>, script: &BrokenInput<'_>, out: &BrokenOutput) -> bool {
     let failures = tape.failures.max(script.failures).max(out.failures);
     let later_reads = tape.later_reads.max(script.later_reads);
     failures == 1 && later_reads.max(out.later_writes) == 0
 }
 
-/// Whether an output has what a command that stopped may have written of its text: the beginning, or
-/// nothing where it was not the output that failed.
+// Whether an output has what a command that stopped may have written of its text: the beginning, or
+// nothing where it was not the output that failed.
 fn has_front(out: &BrokenOutput, text: &str) -> bool {
     let written = out.written.as_slice();
     written.is_empty() || out.failures == 1 && text.as_bytes().starts_with(written)
 }
 
-/// Whether the output has what the command may have written where it fails at the write of this number. Each write of
-/// a check takes seven bytes, as long as there are so many.
+// Whether the output has what the command may have written where it fails at the write of this number. Each write of
+// a check takes seven bytes, as long as there are so many.
 fn has_front_of(command: Command, out: &BrokenOutput, number: u32) -> bool {
     match command {
         Command::Check => {
@@ -96,7 +102,7 @@ fn has_front_of(command: Command, out: &BrokenOutput, number: u32) -> bool {
     }
 }
 
-/// Whether a command stops at a device that fails, and asks it no second time.
+// Whether a command stops at a device that fails, and asks it no second time.
 fn stops(alloc: Global, command: Command, failing: Failing) -> bool {
     let (tape_place, script_place, number, fault) = places(failing);
     let mut tape = BrokenInput::new(&ONE_WORD, tape_place);
@@ -108,7 +114,7 @@ fn stops(alloc: Global, command: Command, failing: Failing) -> bool {
         && has_front_of(command, &out, number)
 }
 
-/// Whether each command does.
+// Whether each command does.
 fn all_stop(alloc: Global, failing: Failing) -> bool {
     stops(alloc, Command::Check, failing)
         && stops(alloc, Command::Rehearsal, failing)

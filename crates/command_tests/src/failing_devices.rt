@@ -15,8 +15,10 @@ pub struct BrokenInput<'a> {
     bytes: &'a [u8],
     given: usize,
     fails_before: usize,
+
     /// How often it failed.
     pub failures: u32,
+
     /// How often it was asked after it had failed.
     pub later_reads: u32,
 }
@@ -69,13 +71,15 @@ pub struct BrokenOutput {
     pub written: Vec<u8>,
     writes: u32,
     fails_at: u32,
+
     /// How often it failed.
     pub failures: u32,
+
     /// How often it was asked after it had failed.
     pub later_writes: u32,
 }
 
-/// How many bytes a write takes.
+// How many bytes a write takes.
 const TAKEN: usize = 7;
 
 impl BrokenOutput {

@@ -7,13 +7,13 @@ use odt_machine::{Mode, Odt, PLAIN_STYLE};
 use std::alloc::Global;
 use std::io::{Read, Write};
 
-/// A deposit at 001000, a look at it, and an illegal key.
+// A deposit at 001000, a look at it, and an illegal key.
 const KEYS: &[u8] = b"001000/011064\n001000/\n9";
 
-/// What the console answers to them.
+// What the console answers to them.
 const ANSWERS: &[u8] = b"001000/000000 011064\r\n@001000/011064 \r\n@?\r\n@";
 
-/// The mode that the keys before each place leave, and at the end the mode after all of them.
+// The mode that the keys before each place leave, and at the end the mode after all of them.
 const MODES: [Mode; 24] = [
     Mode::Prompt,
     Mode::Number(0, 1),
@@ -41,7 +41,7 @@ const MODES: [Mode; 24] = [
     Mode::Prompt,
 ];
 
-/// How typing ends, and the mode that it leaves; or None where there is no room for a machine.
+// How typing ends, and the mode that it leaves; or None where there is no room for a machine.
 fn typed<R: Read, W: Write>(
     alloc: Global,
     keys: &mut R,
@@ -52,7 +52,7 @@ fn typed<R: Read, W: Write>(
     Some((ended, odt.mode()))
 }
 
-/// Whether typing whose keys fail once before this place ends there, in this mode.
+// Whether typing whose keys fail once before this place ends there, in this mode.
 fn keys_stop(alloc: Global, place: usize, mode: Mode) -> bool {
     let mut keys = BrokenInput::new(KEYS, place);
     let mut out = Vec::new(alloc);
@@ -81,7 +81,7 @@ fn nothing_fails(rt: HostRuntime) {
     assert!(rt; out.as_slice() == ANSWERS);
 }
 
-/// Whether typing whose answers fail once, at the write of this number, ends there.
+// Whether typing whose answers fail once, at the write of this number, ends there.
 fn answers_stop(alloc: Global, number: u32) -> bool {
     let mut keys = KEYS;
     let mut out = BrokenOutput::new(Vec::new(alloc), number);

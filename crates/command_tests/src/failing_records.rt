@@ -10,10 +10,10 @@ use machine_load::LoadFault;
 use std::alloc::Global;
 use std::cell::RefCell;
 
-/// How a load ends.
+// How a load ends.
 type Ending = Result<Stopped, LoadFault>;
 
-/// Surroundings with this input and output, and a machine that holds this at 001000.
+// Surroundings with this input and output, and a machine that holds this at 001000.
 fn frail_with<'a>(
     alloc: Global,
     input: BrokenInput<'a>,
@@ -32,12 +32,12 @@ fn frail_with<'a>(
     })
 }
 
-/// Whether a record's input failed once and was not asked again, and nobody connected.
+// Whether a record's input failed once and was not asked again, and nobody connected.
 fn is_unconnected(around: &Frail<'_>) -> bool {
     around.input.failed_once() && around.odt.is_some()
 }
 
-/// How a load whose record fails before a byte ends, where nobody connects; or None.
+// How a load whose record fails before a byte ends, where nobody connects; or None.
 fn load_unread(
     alloc: Global,
     place: usize,
@@ -49,8 +49,8 @@ fn load_unread(
     if is_unconnected(&around) { done } else { None }
 }
 
-/// Whether a load whose record fails before a byte ends there: nobody connects, nothing is begun, and
-/// nothing is reported.
+// Whether a load whose record fails before a byte ends there: nobody connects, nothing is begun, and
+// nothing is reported.
 fn reading_stops(alloc: Global, place: usize) -> bool {
     let output = RefCell::new(BrokenOutput::new(Vec::new(alloc), 1));
     let mut out = Vec::new(alloc);
@@ -66,32 +66,32 @@ fn the_record_that_is_read(rt: HostRuntime) {
     }
 }
 
-/// The record could not be begun.
+// The record could not be begun.
 const UNBEGUN: Ending = Err(LoadFault::WriteRecord);
 
-/// A word could not be kept.
+// A word could not be kept.
 const UNKEPT: Ending = Ok(Stopped {
     stop: Stop::KeepFailed(KeepFault::Write),
     marked: false,
 });
 
-/// The mark could not be kept: the start is not typed.
+// The mark could not be kept: the start is not typed.
 const UNMARKED: Ending = Ok(Stopped {
     stop: Stop::KeepFailed(KeepFault::Write),
     marked: true,
 });
 
-/// The program was started.
+// The program was started.
 const STARTED: Ending = Ok(Stopped {
     stop: Stop::Ended(End::Started),
     marked: true,
 });
 
-/// A load that was begun with a record, the word in the machine's memory, which write of its own record
-/// fails, and then how it ends, how many bytes of that record were written before, and what is reported.
+// A load that was begun with a record, the word in the machine's memory, which write of its own record
+// fails, and then how it ends, how many bytes of that record were written before, and what is reported.
 type Row = (&'static [u8], u16, u32, Ending, usize, &'static str);
 
-/// A write takes seven bytes at most: two for the header, two for the word, one for the mark.
+// A write takes seven bytes at most: two for the header, two for the word, one for the mark.
 const WRITES: [Row; 10] = [
     (b"", 0, 1, UNBEGUN, 0, ""),
     (b"", 0, 2, UNBEGUN, 7, ""),
@@ -147,13 +147,13 @@ const WRITES: [Row; 10] = [
     ),
 ];
 
-/// Whether an output has just so many bytes of the whole record, and was not asked again.
+// Whether an output has just so many bytes of the whole record, and was not asked again.
 fn has_front(output: &BrokenOutput, count: usize) -> bool {
     output.later_writes == 0 && output.written.len() == count && RECORD.starts_with(&output.written)
 }
 
-/// Loads the smallest tape, with a record on this output, where it was begun with another one, and the machine
-/// holds this word.
+// Loads the smallest tape, with a record on this output, where it was begun with another one, and the machine
+// holds this word.
 fn load_again(
     alloc: Global,
     record: &[u8],
@@ -165,8 +165,8 @@ fn load_again(
     load_one_word(alloc, false, &mut around, out)
 }
 
-/// Whether such a load ends so with this report, where this write of its own record fails, and so many bytes of
-/// that were written before.
+// Whether such a load ends so with this report, where this write of its own record fails, and so many bytes of
+// that were written before.
 fn writing_stops(
     alloc: Global,
     (record, word, number): (&[u8], u16, u32),

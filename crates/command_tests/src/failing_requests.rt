@@ -12,7 +12,7 @@ use std::fs;
 use std::io::Write;
 use std::test::Fail;
 
-/// What is asked for.
+// What is asked for.
 #[derive(Clone, Copy)]
 enum Asked {
     CheckInput,
@@ -20,10 +20,10 @@ enum Asked {
     Load,
 }
 
-/// The tape that is loaded.
+// The tape that is loaded.
 const TAPE: &str = "failing.lda";
 
-/// The request.
+// The request.
 fn request_of(alloc: Global, asked: Asked) -> Result<Request<'static>, AllocError> {
     match asked {
         Asked::CheckInput => Ok(Request::CheckInput),
@@ -35,17 +35,17 @@ fn request_of(alloc: Global, asked: Asked) -> Result<Request<'static>, AllocErro
     }
 }
 
-/// The keys that open a word.
+// The keys that open a word.
 const KEYS: &[u8] = b"001000/";
 
-/// What is said where the input fails.
+// What is said where the input fails.
 const INPUT_FAILED: &[u8] = b"ldaodt: cannot read standard input\n";
 
-/// What is said where the output fails.
+// What is said where the output fails.
 const OUTPUT_FAILED: &[u8] = b"ldaodt: cannot write output\n";
 
-/// Whether a request ends with a device that failed and says just this, where the console behind the port answers
-/// so many reads.
+// Whether a request ends with a device that failed and says just this, where the console behind the port answers
+// so many reads.
 fn is_told_alone<W: Write>(
     rt: &HostRuntime,
     (asked, reads): (Asked, u32),
@@ -60,8 +60,8 @@ fn is_told_alone<W: Write>(
     status == Status::DeviceFailed && streams.err.as_slice() == line
 }
 
-/// Whether a request whose input fails before the byte at this place says so and reads no more, where this is
-/// printed by then.
+// Whether a request whose input fails before the byte at this place says so and reads no more, where this is
+// printed by then.
 fn input_stops(rt: &HostRuntime, asked: Asked, bytes: &[u8], place: usize, printed: &[u8]) -> bool {
     let mut streams = Streams {
         input: BrokenInput::new(bytes, place),
@@ -83,10 +83,10 @@ fn standard_input_fails(rt: HostRuntime) {
     }
 }
 
-/// What is asked for, what stands on standard input, and how many reads the console behind the port answers.
+// What is asked for, what stands on standard input, and how many reads the console behind the port answers.
 type Row = (Asked, &'static [u8], u32);
 
-/// Requests that print. The last is a load whose line fails before its report does.
+// Requests that print. The last is a load whose line fails before its report does.
 const PRINTING: [Row; 4] = [
     (Asked::CheckInput, &ONE_WORD, 0),
     (Asked::Type, KEYS, 0),
@@ -94,7 +94,7 @@ const PRINTING: [Row; 4] = [
     (Asked::Load, &[], 3),
 ];
 
-/// A request's streams, with this output.
+// A request's streams, with this output.
 fn streams_with<W: Write>(
     rt: &HostRuntime,
     row: &Row,
@@ -107,7 +107,7 @@ fn streams_with<W: Write>(
     }
 }
 
-/// Whether a request says that its output fails, and nothing else.
+// Whether a request says that its output fails, and nothing else.
 fn output_stops<W: Write>(
     rt: &HostRuntime,
     row: &Row,
@@ -116,7 +116,7 @@ fn output_stops<W: Write>(
     is_told_alone(rt, (row.0, row.2), streams, OUTPUT_FAILED)
 }
 
-/// The same of an output that fails at its first write, and is not asked again.
+// The same of an output that fails at its first write, and is not asked again.
 fn writing_stops(rt: &HostRuntime, row: &Row) -> bool {
     let mut streams = streams_with(rt, row, BrokenOutput::new(Vec::new(rt.alloc()), 1));
     let is_told = output_stops(rt, row, &mut streams);

@@ -5,13 +5,13 @@ use endings::{Failure, Status, Streams, refuse, show, tell};
 use std::alloc::Global;
 use std::io::Write;
 
-/// A text that a failing output takes in two writes.
+// A text that a failing output takes in two writes.
 const TEXT: &str = "Usage: ldaodt\n";
 
-/// What is said where it can't be shown.
+// What is said where it can't be shown.
 const CANNOT_WRITE: &[u8] = b"ldaodt: cannot write output\n";
 
-/// Streams with this output and this standard error, and nothing on standard input.
+// Streams with this output and this standard error, and nothing on standard input.
 fn streams_of<W: Write, E: Write>(out: W, err: E) -> Streams<&'static [u8], W, E> {
     Streams {
         input: &[],
@@ -20,13 +20,13 @@ fn streams_of<W: Write, E: Write>(out: W, err: E) -> Streams<&'static [u8], W, E
     }
 }
 
-/// Whether a text that can't be shown on an output is told on standard error.
+// Whether a text that can't be shown on an output is told on standard error.
 fn is_told<W: Write>(alloc: Global, streams: &mut Streams<&[u8], W, Vec<u8>>) -> bool {
     let status = show(alloc, TEXT, streams);
     status == Status::DeviceFailed && streams.err.as_slice() == CANNOT_WRITE
 }
 
-/// Whether a text is told whose showing fails at the write of this number, where that is not asked again.
+// Whether a text is told whose showing fails at the write of this number, where that is not asked again.
 fn showing_stops(alloc: Global, number: u32) -> bool {
     let out = BrokenOutput::new(Vec::new(alloc), number);
     let mut streams = streams_of(out, Vec::new(alloc));
@@ -44,14 +44,14 @@ fn a_text_that_can_not_be_shown_is_told(rt: HostRuntime) {
     assert!(rt; is_told(rt.alloc(), &mut streams));
 }
 
-/// How a refusal ends whose telling fails at the write of this number: where that is not asked again.
+// How a refusal ends whose telling fails at the write of this number: where that is not asked again.
 fn refused(alloc: Global, number: u32) -> Option<Status> {
     let mut err = BrokenOutput::new(Vec::new(alloc), number);
     let status = refuse(TEXT, &mut err);
     err.failed_once().then_some(status)
 }
 
-/// The same of a text that can't be shown.
+// The same of a text that can't be shown.
 fn shown(alloc: Global, number: u32) -> Option<Status> {
     let err = BrokenOutput::new(Vec::new(alloc), number);
     let mut streams = streams_of(UnflushedOutput, err);
@@ -69,7 +69,7 @@ fn what_can_not_be_told_is_not(rt: HostRuntime) {
     }
 }
 
-/// Whether the line of a fault, which can't be told from the write of this number on, ends there.
+// Whether the line of a fault, which can't be told from the write of this number on, ends there.
 fn telling_stops(alloc: Global, number: u32) -> bool {
     let mut err = BrokenOutput::new(Vec::new(alloc), number);
     let status = tell(alloc, Failure::CannotRead("no-such-tape.lda"), &mut err);

@@ -7,7 +7,7 @@ use honest_line::MemoryLine;
 use load_devices::LineFault;
 use load_engine::Stop;
 use load_progress::Unwatched;
-use load_record::{FileKeep, RECORD_LIMIT};
+use load_record::{FileKeep, LastingWrite, RECORD_LIMIT};
 use machine_load::{LoadFault, LoadOptions, Surroundings, load};
 use odt_machine::{LARGEST_WORDS, Odt, PLAIN_STYLE};
 use record_file::{OldRecord, RecordFault};
@@ -39,6 +39,13 @@ impl Write for SharedOutput<'_> {
 
     fn flush(&mut self) -> io::Result<()> {
         Ok(())
+    }
+}
+
+// It lasts as long as the output does.
+impl LastingWrite for SharedOutput<'_> {
+    fn make_last(&mut self) -> io::Result<()> {
+        self.flush()
     }
 }
 

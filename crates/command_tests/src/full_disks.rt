@@ -10,7 +10,7 @@ use std::os::unix::fs::symlink;
 use std::test::Fail;
 use std::{fs, io};
 
-/// The tape, its record, what a link in the record's place leads to, and a file beside it.
+// The tape, its record, what a link in the record's place leads to, and a file beside it.
 const TAPE: &str = "full.lda";
 
 const RECORD: &str = "full.record";
@@ -19,14 +19,14 @@ const TARGET: &str = "full.target";
 
 const BESIDE: &str = "full.record.ldaodt-new";
 
-/// The whole record of a load of the smallest tape.
+// The whole record of a load of the smallest tape.
 const WHOLE: &str = "LDAODT 2\n001000 011064\nG\n";
 
-/// What the record holds beforehand, where it is there, whether it is a link to where that is, and how many bytes a
-/// record is begun with.
+// What the record holds beforehand, where it is there, whether it is a link to where that is, and how many bytes a
+// record is begun with.
 type Row = (Option<&'static str>, bool, usize);
 
-/// The word is in the machine's memory, so that a load may go on from each of these.
+// The word is in the machine's memory, so that a load may go on from each of these.
 const SETTING: Setting = Setting {
     memory: &[(0o001000, 0o011064)],
     ..AMPLE
@@ -41,7 +41,7 @@ const ROWS: [Row; 6] = [
     (Some("LDAODT 2\n001000 011064"), true, 22),
 ];
 
-/// Loads the tape over a system. The error is that the request itself has no room.
+// Loads the tape over a system. The error is that the request itself has no room.
 fn load(rt: &HostRuntime, setting: Setting, ended: &mut Ended) -> Result<(), AllocError> {
     let request = load_of(rt.alloc(), TAPE, Some(RECORD))?;
     let system = System::new(rt, setting);
@@ -49,20 +49,20 @@ fn load(rt: &HostRuntime, setting: Setting, ended: &mut Ended) -> Result<(), All
     Ok(())
 }
 
-/// What a load leaves over a system of this setting, where there is memory for the request.
+// What a load leaves over a system of this setting, where there is memory for the request.
 fn loaded(rt: &HostRuntime, setting: Setting) -> Option<Ended> {
     let mut ended = Ended::with_room(rt.alloc()).ok()?;
     load(rt, setting, &mut ended).ok()?;
     Some(ended)
 }
 
-/// Removes what an earlier load left.
+// Removes what an earlier load left.
 fn clear(rt: &HostRuntime) {
     let _ = fs::remove_file(rt, RECORD);
     let _ = fs::remove_file(rt, TARGET);
 }
 
-/// Puts the record there.
+// Puts the record there.
 fn put(rt: &HostRuntime, old: Option<&str>, is_link: bool) -> io::Result<()> {
     clear(rt);
     match old {
@@ -75,7 +75,7 @@ fn put(rt: &HostRuntime, old: Option<&str>, is_link: bool) -> io::Result<()> {
     }
 }
 
-/// Whether the record holds this, or is not there, and none is beside it.
+// Whether the record holds this, or is not there, and none is beside it.
 fn is_left_so(rt: &HostRuntime, text: Option<&str>) -> bool {
     let holds = match (fs::read(rt, RECORD), text) {
         (Ok(held), Some(text)) => held.as_slice() == text.as_bytes(),
@@ -85,8 +85,8 @@ fn is_left_so(rt: &HostRuntime, text: Option<&str>) -> bool {
     holds && fs::metadata(rt, BESIDE).is_err()
 }
 
-/// What the record holds where there was room for so many bytes: the old one where the new one could not be begun,
-/// else as much of the whole as there was room for.
+// What the record holds where there was room for so many bytes: the old one where the new one could not be begun,
+// else as much of the whole as there was room for.
 fn wanted(old: Option<&'static str>, begun: usize, room: usize) -> Option<&'static str> {
     if room < begun {
         old
@@ -95,7 +95,7 @@ fn wanted(old: Option<&'static str>, begun: usize, room: usize) -> Option<&'stat
     }
 }
 
-/// Whether a load with so much room leaves that, and says that its record can't be written where it can't.
+// Whether a load with so much room leaves that, and says that its record can't be written where it can't.
 fn is_full_so(rt: &HostRuntime, row: &Row, room: usize) -> bool {
     let (old, is_link, begun) = *row;
     if put(rt, old, is_link).is_err() {
@@ -113,7 +113,7 @@ fn is_full_so(rt: &HostRuntime, row: &Row, room: usize) -> bool {
     is_told && ended.out.is_empty() == (room < begun) && is_left_so(rt, wanted(old, begun, room))
 }
 
-/// Whether that is so for each number of bytes.
+// Whether that is so for each number of bytes.
 fn is_never_less(rt: &HostRuntime, row: &Row) -> bool {
     (0..=WHOLE.len()).all(|room| is_full_so(rt, row, room))
 }
@@ -128,14 +128,14 @@ fn a_full_disk_leaves_the_old_record_or_more(rt: HostRuntime) -> Result<(), Fail
     Ok(fs::remove_file(&rt, TAPE)?)
 }
 
-/// What is said of a line that failed before the start, and behind it.
+// What is said of a line that failed before the start, and behind it.
 const FAILED: &str = "ldaodt: line failed\n";
 
 const IN_DOUBT: &str =
     "ldaodt: line failed\nldaodt: the start may have gone out: look at the machine first\n";
 
-/// Whether a line failed behind the mark, as the record has it and the load says; None where one says otherwise, or
-/// the line did not fail.
+// Whether a line failed behind the mark, as the record has it and the load says; None where one says otherwise, or
+// the line did not fail.
 fn failed_behind_mark(rt: &HostRuntime, reads: u32) -> Option<bool> {
     clear(rt);
     let ended = loaded(rt, Setting { reads, ..AMPLE })?;
@@ -147,10 +147,10 @@ fn failed_behind_mark(rt: &HostRuntime, reads: u32) -> Option<bool> {
     is_told.then_some(has_mark)
 }
 
-/// More reads than a load of the smallest tape needs.
+// More reads than a load of the smallest tape needs.
 const READS: u32 = 200;
 
-/// How many reads end before the mark, and how many behind it; the next one is enough.
+// How many reads end before the mark, and how many behind it; the next one is enough.
 fn failures(rt: &HostRuntime) -> (u32, u32) {
     let (mut before, mut behind) = (0, 0);
     for reads in 1..READS {
@@ -163,12 +163,12 @@ fn failures(rt: &HostRuntime) -> (u32, u32) {
     (before, behind)
 }
 
-/// What is reported where the line failed behind `G`, and where it did not.
+// What is reported where the line failed behind `G`, and where it did not.
 const UNSURE: &str = "sent 30 spent 0 verified 1 of 1\nend LineFailed\n";
 
 const STARTED: &str = "sent 30 spent 0 verified 1 of 1\nend Started\n";
 
-/// Whether a load of which the console answers so many reads ends so.
+// Whether a load of which the console answers so many reads ends so.
 fn ends_so(rt: &HostRuntime, reads: u32, status: Status, out: &str, err: &str) -> bool {
     clear(rt);
     loaded(rt, Setting { reads, ..AMPLE }).is_some_and(|ended| ended.is(status, out, err))

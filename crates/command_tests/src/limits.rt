@@ -19,30 +19,30 @@ fn no_tape_has_no_word(rt: HostRuntime) {
     assert!(rt; out.as_slice() == b"words 0\n".as_slice());
 }
 
-/// The tapes that requests name here.
+// The tapes that requests name here.
 const GOOD: &str = "limits-one-word.lda";
 
 const BAD: &str = "limits-wrong-sum.lda";
 
-/// A console over more memory than there may be.
+// A console over more memory than there may be.
 const TOO_LARGE: Console = Console {
     words: 28_673,
     style: PLAIN_STYLE,
 };
 
-/// A dialogue with it.
+// A dialogue with it.
 fn dialogue(alloc: Global, tape: &str) -> Result<Request<'_>, AllocError> {
     let names = Vec::from_slice(alloc, &[tape])?;
     Ok(Request::Dialogue(names, TOO_LARGE, Start::OfTape))
 }
 
-/// The line that says that a machine is too large.
+// The line that says that a machine is too large.
 const REFUSED: &str = "ldaodt: machine too large\n";
 
-/// The tape is read before the machine is made.
+// The tape is read before the machine is made.
 const TAPE_REFUSED: &str = "ldaodt: tape refused at 9: BadSum\n";
 
-/// Whether a request writes no output, and ends so.
+// Whether a request writes no output, and ends so.
 fn is_refused(
     rt: &HostRuntime,
     request: Request<'_>,
@@ -57,7 +57,7 @@ fn is_refused(
     ended.is(status, "", line)
 }
 
-/// Whether a dialogue over a tape ends so.
+// Whether a dialogue over a tape ends so.
 fn is_dialogue_refused(rt: &HostRuntime, tape: &str, status: Status, line: &str) -> bool {
     match dialogue(rt.alloc(), tape) {
         Ok(request) => is_refused(rt, request, &[], status, line),
@@ -65,7 +65,7 @@ fn is_dialogue_refused(rt: &HostRuntime, tape: &str, status: Status, line: &str)
     }
 }
 
-/// Puts both tapes there.
+// Puts both tapes there.
 fn put_tapes(rt: &HostRuntime) -> io::Result<()> {
     fs::write(rt, GOOD, ONE_WORD)?;
     fs::write(rt, BAD, WRONG_SUM)

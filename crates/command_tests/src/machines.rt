@@ -13,15 +13,15 @@ use std::fs;
 use std::test::Fail;
 use tape_image::Start;
 
-/// The tape, and the file of a save.
+// The tape, and the file of a save.
 const TAPE: &str = "machines.lda";
 
 const SAVED: &str = "machines-saved.lda";
 
-/// The port at which the console is.
+// The port at which the console is.
 const PORT: &str = "127.0.0.1:2323";
 
-/// A load through the port.
+// A load through the port.
 const LOAD: Load<'static> = Load {
     line: PORT,
     record: None,
@@ -34,14 +34,14 @@ const LOAD: Load<'static> = Load {
     quiet_ms: QUIET_MS,
 };
 
-/// A look through it.
+// A look through it.
 const LOOK: Look<'static> = Look {
     line: PORT,
     patience: 0,
     quiet_ms: QUIET_MS,
 };
 
-/// What is asked for.
+// What is asked for.
 #[derive(Clone, Copy)]
 enum Asked {
     Load(Load<'static>),
@@ -49,7 +49,7 @@ enum Asked {
     Save(Look<'static>),
 }
 
-/// The request, with the smallest tape, or for its word.
+// The request, with the smallest tape, or for its word.
 fn request_of(alloc: Global, asked: Asked) -> Result<Request<'static>, AllocError> {
     let names = Vec::from_slice(alloc, &[TAPE])?;
     Ok(match asked {
@@ -69,34 +69,34 @@ fn request_of(alloc: Global, asked: Asked) -> Result<Request<'static>, AllocErro
     })
 }
 
-/// A machine of which the tape's word stands.
+// A machine of which the tape's word stands.
 const LOADED: Setting = Setting {
     memory: &[(0o001000, 0o011064)],
     ..AMPLE
 };
 
-/// A machine that has another word there.
+// A machine that has another word there.
 const OTHER: Setting = Setting {
     memory: &[(0o001000, 0o011065)],
     ..AMPLE
 };
 
-/// A machine without memory there.
+// A machine without memory there.
 const SMALL: Setting = Setting {
     words: 256,
     ..AMPLE
 };
 
-/// A machine whose program greets.
+// A machine whose program greets.
 const GREETING: Setting = Setting {
     greeting: b"HELLO\r\n",
     ..AMPLE
 };
 
-/// What is asked for, of which machine, and how it ends, with how many connections.
+// What is asked for, of which machine, and how it ends, with how many connections.
 type Row = (Asked, Setting, Status, &'static str, &'static str, u32);
 
-/// Loads with each start, and what is heard behind them.
+// Loads with each start, and what is heard behind them.
 static LOADS: [Row; 7] = [
     (
         Asked::Load(Load {
@@ -177,7 +177,7 @@ static LOADS: [Row; 7] = [
     ),
 ];
 
-/// Looks and saves.
+// Looks and saves.
 static LOOKS: [Row; 7] = [
     (
         Asked::Verify(LOOK),
@@ -243,7 +243,7 @@ static LOOKS: [Row; 7] = [
     ),
 ];
 
-/// Whether a request ends so.
+// Whether a request ends so.
 fn is_so(rt: &HostRuntime, row: &Row) -> bool {
     let (asked, setting, status, out, err, connections) = *row;
     let (Ok(request), Ok(mut ended)) = (request_of(rt.alloc(), asked), Ended::with_room(rt.alloc()))
@@ -264,7 +264,7 @@ fn a_machine_is_loaded_and_heard(rt: HostRuntime) -> Result<(), Fail> {
     Ok(fs::remove_file(&rt, TAPE)?)
 }
 
-/// The tape of the word 011064 at 001000, and no start: a block, its sum, and the end.
+// The tape of the word 011064 at 001000, and no start: a block, its sum, and the end.
 const ONE_WORD_SAVED: [u8; 16] = [1, 0, 8, 0, 0, 2, 0x34, 0x12, 0xaf, 1, 0, 6, 0, 1, 0, 0xf8];
 
 #[test]

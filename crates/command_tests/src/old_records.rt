@@ -12,40 +12,42 @@ use record_file::RecordFault;
 use std::alloc::Global;
 use std::cell::RefCell;
 
-/// How a load ends.
+// How a load ends.
 type Ending = Result<Stopped, LoadFault>;
 
-/// The program was started.
+// The program was started.
 const STARTED: Ending = Ok(Stopped {
     stop: Stop::Ended(End::Started),
     marked: true,
 });
 
-/// The start was typed in an earlier life.
+// The start was typed in an earlier life.
 const MAYBE_STARTED: Ending = Ok(Stopped {
     stop: Stop::Ended(End::MaybeStarted),
     marked: true,
 });
 
-/// The record may not be written.
+// The record may not be written.
 const PROTECTED: Ending = Err(LoadFault::WriteRecord);
 
-/// The file is no record.
+// The file is no record.
 const NO_RECORD: Ending = Err(LoadFault::Record(RecordError::NotARecord));
 
-/// What a load finds.
+// What a load finds.
 #[derive(Clone, Copy)]
 struct Found {
     record: &'static [u8],
     writable: bool,
     refusal: Option<RecordFault>,
+
     /// The word at 001000.
     word: u16,
+
     /// At which call the line fails.
     fail_at: Option<u64>,
 }
 
-/// A record that may be written, and a machine with nothing at 001000.
+// A record that may be written, and a machine with nothing at 001000.
 const EMPTY: Found = Found {
     record: b"",
     writable: true,
@@ -54,27 +56,27 @@ const EMPTY: Found = Found {
     fail_at: None,
 };
 
-/// A record that says that the word stands, where it does not.
+// A record that says that the word stands, where it does not.
 const LOST: Found = Found {
     record: VERIFIED,
     word: 0o000001,
     ..EMPTY
 };
 
-/// The same, where it does.
+// The same, where it does.
 const STANDS: Found = Found {
     word: 0o011064,
     ..LOST
 };
 
-/// The record of a load whose start was typed.
+// The record of a load whose start was typed.
 const MARKED: Found = Found {
     record: RECORD,
     ..EMPTY
 };
 
-/// A load that found something, and then what its record holds, what was reported, how it ended, and
-/// whether somebody connected.
+// A load that found something, and then what its record holds, what was reported, how it ended, and
+// whether somebody connected.
 #[derive(Drop)]
 struct Left {
     written: Vec<u8>,
@@ -84,7 +86,7 @@ struct Left {
 }
 
 impl Left {
-    /// Whether a load ended so, with this report and this record.
+    // Whether a load ended so, with this report and this record.
     fn is(&self, ended: Ending, report: &str, written: &[u8]) -> bool {
         self.ended == Some(ended)
             && self.out.as_slice() == report.as_bytes()
@@ -92,7 +94,7 @@ impl Left {
     }
 }
 
-/// Loads the smallest tape where this is found; None where there is no memory for it.
+// Loads the smallest tape where this is found; None where there is no memory for it.
 fn load_over(
     alloc: Global,
     found: Found,
@@ -114,7 +116,7 @@ fn load_over(
     Some((ended, around.odt.is_none()))
 }
 
-/// What such a load leaves.
+// What such a load leaves.
 fn left_by(alloc: Global, found: Found, recheck: bool) -> Left {
     let output = RefCell::new(BrokenOutput::new(Vec::new(alloc), u32::MAX));
     let mut out = Vec::new(alloc);
@@ -127,13 +129,13 @@ fn left_by(alloc: Global, found: Found, recheck: bool) -> Left {
     }
 }
 
-/// What is reported of a life that was over at once.
+// What is reported of a life that was over at once.
 const NOTHING_TYPED: &str = "sent 0 spent 0 verified 1 of 1\nend MaybeStarted\n";
 
-/// What is found, whether each word is looked at again, and how that ends with which report.
+// What is found, whether each word is looked at again, and how that ends with which report.
 type Row = (Found, bool, Ending, &'static str);
 
-/// Records that are left as they are, with no connection.
+// Records that are left as they are, with no connection.
 const LEFT_ALONE: [Row; 13] = [
     (MARKED, false, MAYBE_STARTED, NOTHING_TYPED),
     (MARKED, true, MAYBE_STARTED, NOTHING_TYPED),
@@ -239,7 +241,7 @@ const LEFT_ALONE: [Row; 13] = [
     ),
 ];
 
-/// Whether nobody connects where this is found, no record is begun, and it ends so.
+// Whether nobody connects where this is found, no record is begun, and it ends so.
 fn is_left_alone(alloc: Global, row: &Row) -> bool {
     let (found, recheck, ended, report) = *row;
     let left = left_by(alloc, found, recheck);
@@ -253,11 +255,11 @@ fn a_record_that_is_not_written_is_not_connected_for(rt: HostRuntime) {
     }
 }
 
-/// The word is looked at and typed and looked at again: 23 keys, and 7 to start it.
+// The word is looked at and typed and looked at again: 23 keys, and 7 to start it.
 const TYPED: &str = "sent 30 spent 0 verified 1 of 1\nend Started\n";
 
-/// Loads that go on to the start. Where the word counts as verified, only the start is typed; where it is
-/// looked at and stands, 8 keys more.
+// Loads that go on to the start. Where the word counts as verified, only the start is typed; where it is
+// looked at and stands, 8 keys more.
 const STARTS: [Row; 6] = [
     (EMPTY, false, STARTED, TYPED),
     (EMPTY, true, STARTED, TYPED),
@@ -282,7 +284,7 @@ const STARTS: [Row; 6] = [
     ),
 ];
 
-/// Whether a load ends so, with the whole record.
+// Whether a load ends so, with the whole record.
 fn is_started(alloc: Global, row: &Row) -> bool {
     let (found, recheck, ended, report) = *row;
     left_by(alloc, found, recheck).is(ended, report, RECORD)
@@ -295,7 +297,7 @@ fn words_that_are_to_be_looked_at_again_are(rt: HostRuntime) {
     }
 }
 
-/// What a load whose line fails at once has written by then.
+// What a load whose line fails at once has written by then.
 const BEGINNINGS: [(Found, bool, &[u8]); 4] = [
     (EMPTY, false, b"LDAODT 2\n"),
     (STANDS, false, b"LDAODT 2\n001000 011064"),
@@ -303,7 +305,7 @@ const BEGINNINGS: [(Found, bool, &[u8]); 4] = [
     (LOST, true, b"LDAODT 2\n"),
 ];
 
-/// Whether a load whose line fails at once has begun its record so.
+// Whether a load whose line fails at once has begun its record so.
 fn has_begun(alloc: Global, found: Found, recheck: bool, begun: &[u8]) -> bool {
     let found = Found {
         fail_at: Some(0),
@@ -320,7 +322,7 @@ fn a_record_is_begun_with_what_counts_as_verified(rt: HostRuntime) {
     }
 }
 
-/// Texts that no load ever wrote, a tape among them.
+// Texts that no load ever wrote, a tape among them.
 const NO_RECORDS: [&[u8]; 14] = [
     &ONE_WORD,
     b"x",
@@ -338,7 +340,7 @@ const NO_RECORDS: [&[u8]; 14] = [
     b"\n",
 ];
 
-/// Whether a text is refused as no record, with no connection.
+// Whether a text is refused as no record, with no connection.
 fn is_no_record(alloc: Global, record: &'static [u8], recheck: bool) -> bool {
     let found = Found { record, ..EMPTY };
     is_left_alone(alloc, &(found, recheck, NO_RECORD, ""))
@@ -355,17 +357,17 @@ fn what_was_never_a_record_is_refused(rt: HostRuntime) {
     }
 }
 
-/// The headers, each front of which is an empty record.
+// The headers, each front of which is an empty record.
 const HEADERS: [&[u8]; 2] = [b"LDAODT 1\n", b"LDAODT 2\n"];
 
-/// Whether the load of an empty record follows where the first bytes of a header are found, so many of them.
+// Whether the load of an empty record follows where the first bytes of a header are found, so many of them.
 fn is_empty_record(alloc: Global, header: &'static [u8], length: usize) -> bool {
     let record = header.get(..length).unwrap_or(b"x");
     let found = Found { record, ..EMPTY };
     is_started(alloc, &(found, false, STARTED, TYPED))
 }
 
-/// Whether that is so of each front of a header.
+// Whether that is so of each front of a header.
 fn are_empty_records(alloc: Global, header: &'static [u8]) -> bool {
     (0..=header.len()).all(|length| is_empty_record(alloc, header, length))
 }
@@ -377,7 +379,7 @@ fn each_front_of_a_header_is_an_empty_record(rt: HostRuntime) {
     }
 }
 
-/// Where a line failed.
+// Where a line failed.
 #[derive(Clone, Copy, PartialEq, Eq, PartialOrd, Ord)]
 enum Place {
     BeforeMark,
@@ -385,7 +387,7 @@ enum Place {
     Nowhere,
 }
 
-/// Where the line of a load failed, as its record tells; None where the outcome tells it otherwise.
+// Where the line of a load failed, as its record tells; None where the outcome tells it otherwise.
 fn place_of(left: &Left) -> Option<Place> {
     let outcome = left.ended?.ok()?;
     let has_mark = left.written.as_slice() == RECORD;
@@ -400,7 +402,7 @@ fn place_of(left: &Left) -> Option<Place> {
     }
 }
 
-/// Where the line of a load failed that fails at the call of this number.
+// Where the line of a load failed that fails at the call of this number.
 fn place_at(alloc: Global, number: u64) -> Option<Place> {
     let found = Found {
         fail_at: Some(number),
@@ -409,7 +411,7 @@ fn place_at(alloc: Global, number: u64) -> Option<Place> {
     place_of(&left_by(alloc, found, false))
 }
 
-/// More calls than a load of the smallest tape makes of its line.
+// More calls than a load of the smallest tape makes of its line.
 const CALLS: u64 = 200;
 
 #[test]

@@ -10,25 +10,25 @@ use std::os::unix::fs::symlink;
 use std::test::Fail;
 use std::{fs, io};
 
-/// The record, another name of it or what it leads to, and the file beside it.
+// The record, another name of it or what it leads to, and the file beside it.
 const RECORD: &str = "d.record";
 
 const OTHER: &str = "d.other";
 
 const BESIDE: &str = "d.record.ldaodt-new";
 
-/// A record of version 1, which has other lines than one that is written.
+// A record of version 1, which has other lines than one that is written.
 const OLD: &str = "LDAODT 1\n001000 177777 011064\n";
 
-/// A record of version 2, with an LF more than one that is begun with the smallest tape's word.
+// A record of version 2, with an LF more than one that is begun with the smallest tape's word.
 const CURRENT: &str = "LDAODT 2\n001000 011064\n";
 
-/// One that is begun so.
+// One that is begun so.
 const BEGUN: &str = "LDAODT 2\n001000 011064";
 
-/// The record is looked at, opened, held and looked at again before it is read. Then a new one is made beside
-/// it and held, with the header and the word on the disk before it takes the old one's place; and then that,
-/// too.
+// The record is looked at, opened, held and looked at again before it is read. Then a new one is made beside
+// it and held, with the header and the word on the disk before it takes the old one's place; and then that,
+// too.
 const REPLACED: [Step; 14] = [
     Step::Look,
     Step::Open,
@@ -46,14 +46,14 @@ const REPLACED: [Step; 14] = [
     Step::SyncAll,
 ];
 
-/// How many of these steps come before the record is read, up to the opened folder, and up to the rename.
+// How many of these steps come before the record is read, up to the opened folder, and up to the rename.
 const READ: usize = 4;
 
 const FOLDER: usize = 5;
 
 const RENAME: usize = 13;
 
-/// The record itself is written over, and what it has more is cut off last.
+// The record itself is written over, and what it has more is cut off last.
 const IN_PLACE: &[Step] = &[
     Step::Write,
     Step::Write,
@@ -63,7 +63,7 @@ const IN_PLACE: &[Step] = &[
     Step::SyncAll,
 ];
 
-/// The new record goes, which could not be renamed, and the old one is written in its place.
+// The new record goes, which could not be renamed, and the old one is written in its place.
 const NOT_RENAMED: &[Step] = &[
     Step::RemoveBeside,
     Step::Write,
@@ -74,7 +74,7 @@ const NOT_RENAMED: &[Step] = &[
     Step::SyncAll,
 ];
 
-/// The same of a record that was made: that it was is on the disk first.
+// The same of a record that was made: that it was is on the disk first.
 const MADE_NOT_RENAMED: &[Step] = &[
     Step::RemoveBeside,
     Step::OpenFolder,
@@ -87,7 +87,7 @@ const MADE_NOT_RENAMED: &[Step] = &[
     Step::SyncAll,
 ];
 
-/// A record that was made is written where it is, once it is on the disk that it was made.
+// A record that was made is written where it is, once it is on the disk that it was made.
 const MADE_IN_PLACE: &[Step] = &[
     Step::OpenFolder,
     Step::SyncAll,
@@ -99,7 +99,7 @@ const MADE_IN_PLACE: &[Step] = &[
     Step::SyncAll,
 ];
 
-/// The same of one that was made behind a link, from the second opening on.
+// The same of one that was made behind a link, from the second opening on.
 const BEHIND_LINK: &[Step] = &[
     Step::Open,
     Step::Hold,
@@ -114,41 +114,46 @@ const BEHIND_LINK: &[Step] = &[
     Step::SyncAll,
 ];
 
-/// The new record goes.
+// The new record goes.
 const GIVEN_UP: &[Step] = &[Step::RemoveBeside];
 
-/// A record that was made goes, where its name still leads to it.
+// A record that was made goes, where its name still leads to it.
 const UNMADE: &[Step] = &[Step::Look, Step::Remove];
 
-/// Both go.
+// Both go.
 const BOTH_GO: &[Step] = &[Step::RemoveBeside, Step::Look, Step::Remove];
 
-/// What stands under the record's name beforehand.
+// What stands under the record's name beforehand.
 #[derive(Clone, Copy)]
 enum Before {
     Nothing,
+
     /// A file.
     Holds(&'static str),
+
     /// A link to a file.
     Link(&'static str),
+
     /// A link that leads nowhere.
     Dangling,
+
     /// A file with a second name.
     Named(&'static str),
 }
 
-/// What came of a record.
+// What came of a record.
 #[derive(Clone, Copy, PartialEq)]
 enum Course {
     Unread(RecordFault),
     Protected,
     Unbegun(RecordFault),
     Begun,
+
     /// It was read, and nothing else.
     LetGo,
 }
 
-/// What a load is to do with a record.
+// What a load is to do with a record.
 #[derive(Clone, Copy, PartialEq)]
 enum Task {
     Begin,
@@ -157,11 +162,11 @@ enum Task {
 
 const NO_FAULT: Failing = &[];
 
-/// The record could not be begun.
+// The record could not be begun.
 const UNBEGUN: Course = Course::Unbegun(RecordFault::Write);
 
-/// What stands there, which steps fail, what comes of it, how many steps of a replacing are asked of the system, which
-/// then, and what the record then holds, where it is there.
+// What stands there, which steps fail, what comes of it, how many steps of a replacing are asked of the system, which
+// then, and what the record then holds, where it is there.
 type Row = (
     Before,
     Failing,
@@ -171,7 +176,7 @@ type Row = (
     Option<&'static str>,
 );
 
-/// Reads a record, and begins it anew with the smallest tape's word; None where there is no memory for the tape.
+// Reads a record, and begins it anew with the smallest tape's word; None where there is no memory for the tape.
 fn take<'x>(system: &'x System<'x>, alloc: Global, name: &'x str, task: Task) -> Option<Course> {
     let plan = plan_of_one_word(alloc)?;
     let mut record = RecordFile::new(system, name);
@@ -186,7 +191,7 @@ fn take<'x>(system: &'x System<'x>, alloc: Global, name: &'x str, task: Task) ->
     })
 }
 
-/// Whether just these steps were asked for, in this order: so many of a replacing, and then these.
+// Whether just these steps were asked for, in this order: so many of a replacing, and then these.
 fn are_noted(notes: &Notes<'_>, count: usize, then: &[Step]) -> bool {
     let (Ok(steps), Some(front)) = (notes.steps.try_borrow(), REPLACED.get(..count)) else {
         return false;
@@ -194,8 +199,8 @@ fn are_noted(notes: &Notes<'_>, count: usize, then: &[Step]) -> bool {
     steps.strip_prefix(front) == Some(then)
 }
 
-/// Takes a record in a folder, where steps may fail, and answers whether that and what was asked is as it
-/// should be.
+// Takes a record in a folder, where steps may fail, and answers whether that and what was asked is as it
+// should be.
 fn is_taken_so(
     rt: &HostRuntime,
     (name, folder, task): (&str, &str, Task),
@@ -209,7 +214,7 @@ fn is_taken_so(
     course == Some(wanted) && are_noted(&notes, count, then)
 }
 
-/// Puts a record there.
+// Puts a record there.
 fn put(rt: &HostRuntime, before: Before) -> io::Result<()> {
     match before {
         Before::Nothing => Ok(()),
@@ -226,7 +231,7 @@ fn put(rt: &HostRuntime, before: Before) -> io::Result<()> {
     }
 }
 
-/// Whether a file holds this, or is not there.
+// Whether a file holds this, or is not there.
 fn holds(rt: &HostRuntime, name: &str, text: Option<&str>) -> bool {
     match (fs::read(rt, name), text) {
         (Ok(held), Some(text)) => held.as_slice() == text.as_bytes(),
@@ -235,7 +240,7 @@ fn holds(rt: &HostRuntime, name: &str, text: Option<&str>) -> bool {
     }
 }
 
-/// Whether the record holds this, its other name the same where it has one, and none is beside it.
+// Whether the record holds this, its other name the same where it has one, and none is beside it.
 fn is_left_so(rt: &HostRuntime, before: Before, text: Option<&str>) -> bool {
     let other = match before {
         Before::Nothing | Before::Holds(_) => None,
@@ -244,14 +249,14 @@ fn is_left_so(rt: &HostRuntime, before: Before, text: Option<&str>) -> bool {
     holds(rt, RECORD, text) && holds(rt, OTHER, other) && holds(rt, BESIDE, None)
 }
 
-/// Removes whatever is there.
+// Removes whatever is there.
 fn clear(rt: &HostRuntime) {
     let _ = fs::remove_file(rt, RECORD);
     let _ = fs::remove_file(rt, OTHER);
     let _ = fs::remove_file(rt, BESIDE);
 }
 
-/// Whether a row is as it should be. What is made behind a link is made in the folder of its whole name.
+// Whether a row is as it should be. What is made behind a link is made in the folder of its whole name.
 fn is_row_so(rt: &HostRuntime, task: Task, row: &Row) -> bool {
     let (before, failing, wanted, count, then, text) = *row;
     clear(rt);
@@ -267,7 +272,7 @@ fn is_row_so(rt: &HostRuntime, task: Task, row: &Row) -> bool {
         && is_left_so(rt, before, text)
 }
 
-/// A record that is there, or not, and nothing fails.
+// A record that is there, or not, and nothing fails.
 const FORMS: [Row; 8] = [
     (
         Before::Holds(OLD),
@@ -329,7 +334,7 @@ fn a_record_is_on_the_disk_before_it_replaces_the_old_one(rt: HostRuntime) {
     clear(&rt);
 }
 
-/// A record that is there, or not, and steps of its reading fail; or it is read and let go again.
+// A record that is there, or not, and steps of its reading fail; or it is read and let go again.
 const UNREAD: [Row; 16] = [
     (
         Before::Holds(OLD),
@@ -488,7 +493,7 @@ fn a_record_is_held_before_it_is_read(rt: HostRuntime) {
     clear(&rt);
 }
 
-/// A record that is there, and each step of its replacing fails in turn.
+// A record that is there, and each step of its replacing fails in turn.
 const REPLACING: [Row; 17] = [
     (
         Before::Holds(CURRENT),
@@ -650,7 +655,7 @@ fn each_step_of_a_replacing_fails(rt: HostRuntime) {
     clear(&rt);
 }
 
-/// A record that the load makes, and each step fails in turn: what was made and not begun goes.
+// A record that the load makes, and each step fails in turn: what was made and not begun goes.
 const MADE: [Row; 12] = [
     (
         Before::Nothing,
@@ -782,8 +787,8 @@ fn a_record_that_was_made_in_vain_goes(rt: HostRuntime) {
     clear(&rt);
 }
 
-/// A record that is written where it is, and each step fails in turn. It is never less
-/// than it was: one of version 1 is not written over.
+// A record that is written where it is, and each step fails in turn. It is never less
+// than it was: one of version 1 is not written over.
 const WRITTEN_OVER: [Row; 12] = [
     (
         Before::Link(CURRENT),
@@ -903,7 +908,7 @@ fn each_step_of_a_writing_over_fails(rt: HostRuntime) {
     clear(&rt);
 }
 
-/// All steps of reading, eight times: each time the name leads to another file by then.
+// All steps of reading, eight times: each time the name leads to another file by then.
 const EIGHT_TIMES: [Step; 28] = [
     Step::Look,
     Step::Open,
@@ -960,15 +965,15 @@ fn a_record_that_is_always_replaced_is_in_use(rt: HostRuntime) {
     clear(&rt);
 }
 
-/// Opens a file, and holds it as another program does.
+// Opens a file, and holds it as another program does.
 fn held(rt: &HostRuntime, name: &str) -> Option<File> {
     let file = File::options().read(true).write(true).open(rt, name).ok()?;
     file.try_lock().ok()?;
     Some(file)
 }
 
-/// Whether a record is in use while somebody holds the file of a name, changed in nothing, and begun once it is
-/// let go.
+// Whether a record is in use while somebody holds the file of a name, changed in nothing, and begun once it is
+// let go.
 fn is_in_use(rt: &HostRuntime, before: Before, name: &str) -> bool {
     clear(rt);
     let Ok(()) = put(rt, before) else {
@@ -994,7 +999,7 @@ fn a_record_that_somebody_holds_is_in_use(rt: HostRuntime) {
     clear(&rt);
 }
 
-/// Whether the old file and the new one are held until the load lets go.
+// Whether the old file and the new one are held until the load lets go.
 fn is_held_to_the_end(rt: &HostRuntime) -> Option<bool> {
     let plan = plan_of_one_word(rt.alloc())?;
     let system = System::new(rt, AMPLE);
@@ -1018,7 +1023,7 @@ fn a_record_is_held_to_the_end(rt: HostRuntime) -> Result<(), Fail> {
     Ok(())
 }
 
-/// A new record that a load left which was killed: it is found, held, and goes.
+// A new record that a load left which was killed: it is found, held, and goes.
 const LEFT_BEHIND: &[Step] = &[
     Step::OpenBeside,
     Step::HoldBeside,
@@ -1034,7 +1039,7 @@ const LEFT_BEHIND: &[Step] = &[
     Step::SyncAll,
 ];
 
-/// One that somebody holds: it is found, and the record is written in place.
+// One that somebody holds: it is found, and the record is written in place.
 const HELD_BESIDE: &[Step] = &[
     Step::OpenBeside,
     Step::HoldBeside,
@@ -1046,7 +1051,7 @@ const HELD_BESIDE: &[Step] = &[
     Step::SyncAll,
 ];
 
-/// Whether a record is begun so where a file stands beside it, which then holds this.
+// Whether a record is begun so where a file stands beside it, which then holds this.
 fn is_begun_beside(rt: &HostRuntime, then: &[Step], left: Option<&str>) -> bool {
     let done = is_taken_so(
         rt,
@@ -1058,7 +1063,7 @@ fn is_begun_beside(rt: &HostRuntime, then: &[Step], left: Option<&str>) -> bool 
     done && holds(rt, RECORD, Some(BEGUN)) && holds(rt, BESIDE, left)
 }
 
-/// Puts a record there, and a file beside it.
+// Puts a record there, and a file beside it.
 fn put_beside(rt: &HostRuntime) -> io::Result<()> {
     clear(rt);
     fs::write(rt, RECORD, CURRENT)?;
@@ -1080,7 +1085,7 @@ fn a_new_record_that_was_left_goes(rt: HostRuntime) -> Result<(), Fail> {
     Ok(())
 }
 
-/// A link beside the record, and what it leads to, which is none of this load's.
+// A link beside the record, and what it leads to, which is none of this load's.
 #[test]
 fn a_link_beside_the_record_is_left_alone(rt: HostRuntime) -> Result<(), Fail> {
     clear(&rt);
@@ -1092,7 +1097,7 @@ fn a_link_beside_the_record_is_left_alone(rt: HostRuntime) -> Result<(), Fail> {
     Ok(())
 }
 
-/// Somebody held the new record between its making and its lock: it is left to him.
+// Somebody held the new record between its making and its lock: it is left to him.
 #[test]
 fn a_new_record_that_somebody_holds_is_left_alone(rt: HostRuntime) -> Result<(), Fail> {
     clear(&rt);
@@ -1105,7 +1110,7 @@ fn a_new_record_that_somebody_holds_is_left_alone(rt: HostRuntime) -> Result<(),
     Ok(())
 }
 
-/// A folder is no record.
+// A folder is no record.
 #[test]
 fn a_folder_is_not_opened(rt: HostRuntime) -> Result<(), Fail> {
     fs::create_dir(&rt, "d.folder")?;
@@ -1115,7 +1120,7 @@ fn a_folder_is_not_opened(rt: HostRuntime) -> Result<(), Fail> {
     Ok(fs::remove_dir(&rt, "d.folder")?)
 }
 
-/// A device, which is there already, is not held and has no length.
+// A device, which is there already, is not held and has no length.
 const DEVICE: &str = "/dev/null";
 
 const ON_DEVICE: &[Step] = &[
@@ -1126,7 +1131,7 @@ const ON_DEVICE: &[Step] = &[
     Step::SyncData,
 ];
 
-/// Names of records that are not there yet, or are devices, the folder of each, and what is asked of the system.
+// Names of records that are not there yet, or are devices, the folder of each, and what is asked of the system.
 const NAMES: [(&str, &str, usize, &[Step]); 5] = [
     ("d.record", ".", 14, &[]),
     ("./d.record", ".", 14, &[]),
@@ -1135,7 +1140,7 @@ const NAMES: [(&str, &str, usize, &[Step]); 5] = [
     (DEVICE, ".", 2, ON_DEVICE),
 ];
 
-/// Whether a record of this name is begun in its folder with these steps. It is removed, where it is no device.
+// Whether a record of this name is begun in its folder with these steps. It is removed, where it is no device.
 fn is_begun_in(rt: &HostRuntime, row: &(&str, &str, usize, &[Step])) -> bool {
     let (name, folder, count, then) = *row;
     let place = (name, folder, Task::Begin);

@@ -9,7 +9,7 @@ use std::alloc::{AllocError, Global};
 use tape_blocks::{Fault, ReadError, Tape, Why, read_tape, write_tape};
 use tape_image::Plan;
 
-/// A call that takes memory.
+// A call that takes memory.
 #[derive(Clone, Copy)]
 enum Call {
     Read,
@@ -21,31 +21,36 @@ enum Call {
     Keeper,
 }
 
-/// What a call answers with ample memory, as far as its contract does not say it: that it is that.
+// What a call answers with ample memory, as far as its contract does not say it: that it is that.
 #[derive(Clone, Copy, PartialEq)]
 enum Answer {
     /// A tape of so many blocks, and how many bytes it has.
     Tape(usize, u32),
+
     /// The tape is refused.
     Refused(Fault),
+
     /// A text of so many bytes.
     Text(usize),
+
     /// A plan of so many words.
     Plan(usize),
+
     /// The last word of a machine's memory can be reached.
     Machine(Option<u16>),
+
     /// A device that has not failed.
     Device(u64),
 }
 
-/// The refusal of the tape with a wrong sum.
+// The refusal of the tape with a wrong sum.
 const WRONG_SUM_FAULT: Fault = Fault {
     at: 9,
     why: Why::BadSum,
 };
 
-/// Calls, the texts of the tapes that they have, what they answer with ample memory, and why the row
-/// is here.
+// Calls, the texts of the tapes that they have, what they answer with ample memory, and why the row
+// is here.
 const CALLS: [(Call, &[&[u8]], Answer, &str); 12] = [
     (
         Call::Read,
@@ -124,7 +129,7 @@ fn machine(alloc: Global) -> Option<Answer> {
     Some(Answer::Machine(odt.peek(0o157776)))
 }
 
-/// A machine of no words takes no memory, so that the line's own is wanted alone.
+// A machine of no words takes no memory, so that the line's own is wanted alone.
 fn line(alloc: Global) -> Option<Answer> {
     let odt = Odt::new(alloc, 0, PLAIN_STYLE).ok()?;
     let line = MemoryLine::new(alloc, odt, Vec::new(alloc), 1000, None).ok()?;
@@ -136,7 +141,7 @@ fn keeper(alloc: Global) -> Option<Answer> {
     Some(Answer::Device(keep.failures()))
 }
 
-/// What a call answers; None is the answer for want of memory.
+// What a call answers; None is the answer for want of memory.
 fn ask(alloc: Global, call: Call, texts: &[&[u8]], tapes: &[Tape]) -> Option<Answer> {
     match call {
         Call::Read => read(alloc, texts.first()?),
@@ -149,7 +154,7 @@ fn ask(alloc: Global, call: Call, texts: &[&[u8]], tapes: &[Tape]) -> Option<Ans
     }
 }
 
-/// Adds the tapes that texts are, without those that are refused.
+// Adds the tapes that texts are, without those that are refused.
 fn add_tapes(alloc: Global, texts: &[&[u8]], tapes: &mut Vec<Tape>) -> Result<(), AllocError> {
     for text in texts {
         if let Ok((tape, _)) = read_tape(alloc, text) {
@@ -159,7 +164,7 @@ fn add_tapes(alloc: Global, texts: &[&[u8]], tapes: &mut Vec<Tape>) -> Result<()
     Ok(())
 }
 
-/// The first answer but that for want of memory, in rooms that grow, where that came before; or None.
+// The first answer but that for want of memory, in rooms that grow, where that came before; or None.
 fn first_answer(
     alloc: Global,
     famine: &mut Famine,
@@ -177,7 +182,7 @@ fn first_answer(
     None
 }
 
-/// Whether a call for which memory is wanting at first answers this at last.
+// Whether a call for which memory is wanting at first answers this at last.
 fn answers_at_last(alloc: Global, call: Call, texts: &[&[u8]], ample: Answer) -> bool {
     let mut tapes = Vec::new(alloc);
     let has_tapes = add_tapes(alloc, texts, &mut tapes).is_ok();

@@ -13,7 +13,7 @@ use std::test::Fail;
 use std::{fs, io};
 use tape_image::Start;
 
-/// The files that the requests name.
+// The files that the requests name.
 const FILES: [(&str, &[u8]); 6] = [
     ("scarce-one-word.lda", &ONE_WORD),
     ("scarce-wrong-sum.lda", &WRONG_SUM),
@@ -23,13 +23,13 @@ const FILES: [(&str, &[u8]); 6] = [
     ("scarce.record", b"LDAODT 1\n001000 177777 011064\nG\n"),
 ];
 
-/// Loads that survive eight mishaps.
+// Loads that survive eight mishaps.
 const OPTIONS: LoadOptions = LoadOptions {
     patience: 8,
     recheck: false,
 };
 
-/// A load whose start was typed in an earlier life, so that nothing is connected to.
+// A load whose start was typed in an earlier life, so that nothing is connected to.
 const MARKED_LOAD: Load<'static> = Load {
     line: "127.0.0.1:1",
     record: Some("scarce.record"),
@@ -39,7 +39,7 @@ const MARKED_LOAD: Load<'static> = Load {
     quiet_ms: 2000,
 };
 
-/// A load through a port where nobody listens.
+// A load through a port where nobody listens.
 const VAIN_LOAD: Load<'static> = Load {
     line: "127.0.0.1:1",
     record: None,
@@ -49,31 +49,31 @@ const VAIN_LOAD: Load<'static> = Load {
     quiet_ms: 2000,
 };
 
-/// A console over all the memory that there may be.
+// A console over all the memory that there may be.
 const LARGEST: Console = Console {
     words: LARGEST_WORDS,
     style: PLAIN_STYLE,
 };
 
-/// What `check` prints of the smallest tape, and the same tape again.
+// What `check` prints of the smallest tape, and the same tape again.
 const CHECKED_TWICE: &str =
     "blocks 1 data 2 read 16\nstart 001000\ncanonical yes\nblocks 1 data 2 read 16\nstart 001000\ncanonical yes\nwords 1\n001000 177777 011064\n";
 
-/// A dialogue that ends at once: the machine has no memory at 001000.
+// A dialogue that ends at once: the machine has no memory at 001000.
 const SMALL: Console = Console {
     words: 256,
     style: PLAIN_STYLE,
 };
 
-/// What it prints.
+// What it prints.
 const SMALL_MACHINE: &str =
     "Z -> ?<CR><LF>@\n001000/ -> 001000/?<CR><LF>@\nsent 8 lost 0 spent 0 verified 0 of 1\nend NoWord 001000\nodt Prompt\n001000 ------ absent\n";
 
-/// What is reported where the third digit was lost.
+// What is reported where the third digit was lost.
 const DIGIT_LOST: &str =
     "sent 34 lost 1 spent 1 verified 1 of 1\nend Started\nodt Running 001000\n001000 011064 stands\n";
 
-/// What is asked for, with the names that a request has in a vector.
+// What is asked for, with the names that a request has in a vector.
 #[derive(Clone, Copy)]
 enum Asked {
     CheckInput,
@@ -84,7 +84,7 @@ enum Asked {
     Load(&'static [&'static str], Load<'static>),
 }
 
-/// The request of a row.
+// The request of a row.
 fn request_of(alloc: Global, asked: Asked) -> Result<Request<'static>, AllocError> {
     Ok(match asked {
         Asked::CheckInput => Request::CheckInput,
@@ -98,11 +98,11 @@ fn request_of(alloc: Global, asked: Asked) -> Result<Request<'static>, AllocErro
     })
 }
 
-/// What is asked for, what stands on standard input, and with ample memory how it ends, the output and
-/// the line on standard error.
+// What is asked for, what stands on standard input, and with ample memory how it ends, the output and
+// the line on standard error.
 type Row = (Asked, &'static [u8], Status, &'static str, &'static str);
 
-/// Requests of each command, some of them refused behind their growths.
+// Requests of each command, some of them refused behind their growths.
 static REQUESTS: [Row; 13] = [
     (
         Asked::CheckInput,
@@ -191,14 +191,14 @@ static REQUESTS: [Row; 13] = [
     ),
 ];
 
-/// Whether a request ended for want of memory as it has to, where this is the whole output.
+// Whether a request ended for want of memory as it has to, where this is the whole output.
 fn is_orderly(ended: &Ended, whole: &str) -> bool {
     whole.as_bytes().starts_with(ended.out.as_slice())
         && ended.err.as_slice() == OUT_OF_MEMORY.as_bytes()
 }
 
-/// Does a request in the room that is left, and answers how often it ended for want of memory as it has to, or None
-/// where it ended otherwise.
+// Does a request in the room that is left, and answers how often it ended for want of memory as it has to, or None
+// where it ended otherwise.
 fn refusals_of(
     rt: &HostRuntime,
     asked: Asked,
@@ -214,7 +214,7 @@ fn refusals_of(
     (ended.status == Status::NoMemory && is_orderly(ended, whole)).then_some(1)
 }
 
-/// Does a request in rooms that grow until memory is not wanting, and answers how often it was.
+// Does a request in rooms that grow until memory is not wanting, and answers how often it was.
 fn run_scarcely(
     rt: &HostRuntime,
     asked: Asked,
@@ -234,7 +234,7 @@ fn run_scarcely(
     None
 }
 
-/// Puts the files there.
+// Puts the files there.
 fn put_files(rt: &HostRuntime) -> io::Result<()> {
     for row in &FILES {
         let (name, bytes) = *row;
@@ -251,8 +251,8 @@ fn remove_files(rt: &HostRuntime) -> io::Result<()> {
     Ok(())
 }
 
-/// Whether a request for which memory is wanting at first ends as it has to at last: no row ends for want of memory
-/// then, so one that was refused in another way than it has to be does not.
+// Whether a request for which memory is wanting at first ends as it has to at last: no row ends for want of memory
+// then, so one that was refused in another way than it has to be does not.
 fn ends_at_last(rt: &HostRuntime, row: &Row) -> bool {
     let (asked, input, status, out, line) = *row;
     let Ok(mut ended) = Ended::with_room(rt.alloc()) else {
@@ -271,7 +271,7 @@ fn each_growth_is_refused_in_turn(rt: HostRuntime) -> Result<(), Fail> {
     Ok(remove_files(&rt)?)
 }
 
-/// Runs a request where there is no memory, and answers whether there was none.
+// Runs a request where there is no memory, and answers whether there was none.
 fn run_without_memory(rt: &HostRuntime, ended: &mut Ended) -> bool {
     let famine = Famine::begin(rt.alloc());
     run(rt, rt.alloc(), Request::CheckInput, &ONE_WORD, ended);

@@ -84,7 +84,7 @@ pub struct System<'a> {
     time: Cell<u64>,
 }
 
-/// The machine of a setting, where there is memory for it.
+// The machine of a setting, where there is memory for it.
 fn machine_of(alloc: Global, setting: Setting) -> Option<Odt> {
     let mut odt = Odt::new(alloc, setting.words, PLAIN_STYLE).ok()?;
     for (address, value) in setting.memory {
@@ -112,7 +112,7 @@ impl<'a> System<'a> {
         self
     }
 
-    /// Whether the console is at this address.
+    // Whether the console is at this address.
     fn listens_at(&self, address: SocketAddr) -> bool {
         self.setting.reads > 0 && address == SocketAddr::from((Ipv4Addr::LOCALHOST, PORT))
     }
@@ -129,7 +129,7 @@ pub struct Console {
 }
 
 impl Console {
-    /// The console over this machine, which has answered nothing yet.
+    // The console over this machine, which has answered nothing yet.
     fn over(odt: Odt, setting: Setting) -> Console {
         Console {
             odt,
@@ -333,7 +333,7 @@ impl OpenFile for RoomyFile<'_> {
     }
 }
 
-/// Where a file of this name is: what would stand in the system's root stands in the test's own folder.
+// Where a file of this name is: what would stand in the system's root stands in the test's own folder.
 fn found(path: &str) -> &str {
     match path.strip_prefix('/') {
         Some("") => ".",

@@ -14,8 +14,16 @@ pub const ONE_WORD_TEXT: &str =
     "blocks 1 data 2 read 16\nstart 001000\ncanonical yes\nwords 1\n001000 177777 011064\n";
 
 /// Its dialogue with a plain console.
-pub const ONE_WORD_DIALOGUE: &str =
-    "Z -> ?<CR><LF>@\n001000/ -> 001000/000000_\n011064<CR> -> 011064<CR><LF>@\n001000/ -> 001000/011064_\n<CR> -> <CR><LF>@\n001000G -> 001000G\nsent 30 lost 0 spent 0 verified 1 of 1\nend Started\nodt Running 001000\n001000 011064 stands\n";
+pub const ONE_WORD_DIALOGUE: &str = "Z -> ?<CR><LF>@\n\
+    001000/ -> 001000/000000_\n\
+    011064<CR> -> 011064<CR><LF>@\n\
+    001000/ -> 001000/011064_\n\
+    <CR> -> <CR><LF>@\n\
+    001000G -> 001000G\n\
+    sent 30 lost 0 spent 0 verified 1 of 1\n\
+    end Started\n\
+    odt Running 001000\n\
+    001000 011064 stands\n";
 
 /// The same tape with a wrong sum at its end: the refusal waits behind the block.
 pub const WRONG_SUM: [u8; 16] = [

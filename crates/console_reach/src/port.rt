@@ -2,14 +2,13 @@
 
 use crate::reach::Reach;
 use load_devices::LineFault;
-use std::net::Net;
-use stream_line::SocketLine;
+use stream_line::{Dialling, SocketLine};
 
 /// A console behind a port of the network.
 #[derive(Drop)]
-pub struct Port<'a, N: Net> {
+pub struct Port<'a, D: Dialling> {
     /// The network.
-    pub net: &'a N,
+    pub net: D,
 
     /// HOST:PORT.
     pub address: &'a str,
@@ -18,10 +17,14 @@ pub struct Port<'a, N: Net> {
     pub quiet_ms: u32,
 }
 
-impl<N: Net> Reach for Port<'_, N> {
-    type Line = SocketLine<N::Stream>;
+impl<D: Dialling> Reach for Port<'_, D> {
+    type Line = SocketLine<D::Stream>;
 
-    fn reach(&mut self) -> Result<SocketLine<N::Stream>, LineFault> {
-        SocketLine::connect(self.net, self.address, self.quiet_ms)
+    ghost asked = { λ port. D.asked port.net };
+
+    ghost call = { λ port. record { name = port.address.now; quiet_ms = port.quiet_ms } };
+
+    fn reach(&mut self) -> Result<SocketLine<D::Stream>, LineFault> {
+        SocketLine::connect(&mut self.net, self.address, self.quiet_ms)
     }
 }

@@ -1,5 +1,6 @@
 //! A writer that fails once.
 
+use load_record::LastingWrite;
 use std::alloc::Global;
 use std::io;
 use std::io::{ErrorKind, Write};
@@ -49,5 +50,12 @@ impl Write for Brittle {
         self.called()?;
         self.flushes = self.flushes.saturating_add(1);
         Ok(())
+    }
+}
+
+// It lasts once it was flushed.
+impl LastingWrite for Brittle {
+    fn make_last(&mut self) -> io::Result<()> {
+        self.flush()
     }
 }

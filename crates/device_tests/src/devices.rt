@@ -7,11 +7,11 @@ use load_devices::{Line, LineFault};
 use serial_line::{DeviceLine, open_line};
 use std::io::ErrorKind;
 
-/// Nothing has come.
+// Nothing has come.
 const NOTHING: Turn = Turn::Fails(ErrorKind::WouldBlock);
 
-/// A silence: the quiet time in milliseconds, what the clock does, and then how many pauses are made (there is
-/// one look more), and how many microseconds the clock goes on.
+// A silence: the quiet time in milliseconds, what the clock does, and then how many pauses are made (there is
+// one look more), and how many microseconds the clock goes on.
 struct Silence {
     quiet_ms: u32,
     pace: Pace,
@@ -19,9 +19,9 @@ struct Silence {
     passed: u64,
 }
 
-/// Reckoned by hand: a pause is a thirty-second of what was counted before it, from 10 to 5,000
-/// microseconds, and
-/// counts for what passed, but not for less than was asked for nor for more than 10,000.
+// Reckoned by hand: a pause is a thirty-second of what was counted before it, from 10 to 5,000
+// microseconds, and
+// counts for what passed, but not for less than was asked for nor for more than 10,000.
 const SILENCES: [Silence; 9] = [
     // Without a delay a silence is as long as it shall be, and never shorter.
     Silence {
@@ -83,7 +83,7 @@ const SILENCES: [Silence; 9] = [
     },
 ];
 
-/// Whether nothing is heard in a silence, by so many looks and pauses and in that time.
+// Whether nothing is heard in a silence, by so many looks and pauses and in that time.
 fn is_silence(row: &Silence) -> bool {
     let bench = Bench::new(&[NOTHING], &[], row.pace);
     let system = &bench;
@@ -103,8 +103,8 @@ fn a_silence_lasts_the_quiet_time(rt: HostRuntime) {
     }
 }
 
-/// What the terminal's reads meet, what is then heard in a quiet time of 50 ms, how many reads there were, and
-/// how many pauses.
+// What the terminal's reads meet, what is then heard in a quiet time of 50 ms, how many reads there were, and
+// how many pauses.
 const HEARINGS: [(&[Turn], Result<Heard, LineFault>, usize, u32); 9] = [
     // What has come is found at once, and what comes later at the next look.
     (&[Turn::Passes(0xC1)], Ok(Heard::Got(0x41)), 1, 0),
@@ -147,7 +147,7 @@ const HEARINGS: [(&[Turn], Result<Heard, LineFault>, usize, u32); 9] = [
     ),
 ];
 
-/// Whether this is heard of a terminal, by so many reads and pauses.
+// Whether this is heard of a terminal, by so many reads and pauses.
 fn is_heard(
     reads: &'static [Turn],
     heard: Result<Heard, LineFault>,
@@ -173,8 +173,8 @@ fn each_look_is_heard_as_what_it_finds(rt: HostRuntime) {
     }
 }
 
-/// What the terminal's writes meet, how a key is sent in a quiet time of 50 ms, how many writes there were, and
-/// how many pauses.
+// What the terminal's writes meet, how a key is sent in a quiet time of 50 ms, how many writes there were, and
+// how many pauses.
 const SENDINGS: [(&[Turn], Result<(), LineFault>, usize, u32); 6] = [
     (&[Turn::Passes(0)], Ok(()), 1, 0),
     // An output that is stopped for a while.
@@ -192,7 +192,7 @@ const SENDINGS: [(&[Turn], Result<(), LineFault>, usize, u32); 6] = [
     (&[Turn::Empty], Err(LineFault::Send), 1, 0),
 ];
 
-/// Whether a key is sent in this way, by so many writes and pauses.
+// Whether a key is sent in this way, by so many writes and pauses.
 fn is_sent(
     writes: &'static [Turn],
     sent: Result<(), LineFault>,
@@ -215,7 +215,7 @@ fn a_key_waits_for_room_for_the_quiet_time(rt: HostRuntime) {
     }
 }
 
-/// Whether a stopped output ends by the clock, also where the process was held for an hour.
+// Whether a stopped output ends by the clock, also where the process was held for an hour.
 fn is_stopped_output_ended() -> bool {
     let bench = Bench::new(&[], &[NOTHING], Pace::Held);
     let system = &bench;
@@ -225,12 +225,12 @@ fn is_stopped_output_ended() -> bool {
     line.send(b'Z') == Err(LineFault::Send) && bench.pauses.get() == 460
 }
 
-/// How no line is made to a device.
+// How no line is made to a device.
 fn fault_of(line: Result<DeviceLine<'_, &Bench>, LineFault>) -> Option<LineFault> {
     line.err()
 }
 
-/// Whether a device of another name and a quiet time of nothing are refused, and nothing is asked of either.
+// Whether a device of another name and a quiet time of nothing are refused, and nothing is asked of either.
 fn is_refused() -> bool {
     let bench = Bench::new(&[], &[], Pace::Still);
     let system = &bench;
@@ -246,8 +246,8 @@ fn a_stopped_output_ends_and_no_line_without_a_time(rt: HostRuntime) {
     assert!(rt; is_refused());
 }
 
-/// Names of the test's own system that are no terminals: one that is not there, folders, devices that are none,
-/// and no name at all.
+// Names of the test's own system that are no terminals: one that is not there, folders, devices that are none,
+// and no name at all.
 const NO_TERMINALS: [&str; 7] = [
     "./nothing",
     ".",

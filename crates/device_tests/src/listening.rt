@@ -12,11 +12,11 @@ use std::io::ErrorKind;
 use std::time::Clock;
 use stream_line::StreamLine;
 
-/// Nothing has come.
+// Nothing has come.
 const NOTHING: Turn = Turn::Fails(ErrorKind::WouldBlock);
 
-/// What a device says with its reads, after how many silences listening ends, what is copied, how often the device
-/// was read, and whether the line is then over. A silence of 1 millisecond is 72 looks in vain.
+// What a device says with its reads, after how many silences listening ends, what is copied, how often the device
+// was read, and whether the line is then over. A silence of 1 millisecond is 72 looks in vain.
 struct Listening {
     reads: &'static [Turn],
     silences: u32,
@@ -102,7 +102,7 @@ const LISTENINGS: [Listening; 8] = [
     },
 ];
 
-/// Whether this is copied of a device, with each character flushed, and nothing is typed at it.
+// Whether this is copied of a device, with each character flushed, and nothing is typed at it.
 fn is_copied(alloc: Global, row: &Listening) -> bool {
     let bench = Bench::new(row.reads, &[], Pace::Late(0));
     let system = &bench;
@@ -111,7 +111,7 @@ fn is_copied(alloc: Global, row: &Listening) -> bool {
         && bench.written.get() == 0
 }
 
-/// Whether this is copied of a system's device, with each character flushed, and the line is then over or not.
+// Whether this is copied of a system's device, with each character flushed, and the line is then over or not.
 fn is_heard_out<D: Devices + Clock>(
     alloc: Global,
     system: &D,
@@ -143,8 +143,8 @@ fn what_a_device_says_is_copied(rt: HostRuntime) {
     }
 }
 
-/// What a stream says with its reads, `-` for a silence and the last for ever, after how many silences listening ends,
-/// what is copied, and how often the stream was read: a character ends a run of silences.
+// What a stream says with its reads, `-` for a silence and the last for ever, after how many silences listening ends,
+// what is copied, and how often the stream was read: a character ends a run of silences.
 const RUNS: [(&str, u32, &[u8], usize); 5] = [
     ("A-", 2, b"A", 3),
     ("A-B-", 2, b"AB", 5),
@@ -153,7 +153,7 @@ const RUNS: [(&str, u32, &[u8], usize); 5] = [
     ("--A---B-", 3, b"A", 6),
 ];
 
-/// Whether this is copied of a stream.
+// Whether this is copied of a stream.
 fn is_run(alloc: Global, script: &'static str, silences: u32, copied: &[u8], reads: usize) -> bool {
     let count = Cell::new(0);
     let stream = Spoken {
@@ -180,11 +180,11 @@ fn a_character_ends_a_run_of_silences(rt: HostRuntime) {
     }
 }
 
-/// Which call of an output fails, a character's write or its flush, how many bytes it then holds, and how often the
-/// stream was read, that says `A` for ever: nothing is heard behind a failure.
+// Which call of an output fails, a character's write or its flush, how many bytes it then holds, and how often the
+// stream was read, that says `A` for ever: nothing is heard behind a failure.
 const CUTS: [(u32, usize, u32); 4] = [(1, 0, 1), (2, 1, 1), (3, 1, 2), (6, 3, 3)];
 
-/// Whether listening ends so, with the output not asked again.
+// Whether listening ends so, with the output not asked again.
 fn is_cut(alloc: Global, fails_at: u32, held: usize, reads: u32) -> bool {
     let notes = Notes::new();
     let stream = Faulty {
@@ -215,7 +215,7 @@ fn an_output_that_fails_ends_it(rt: HostRuntime) {
     }
 }
 
-/// Names, and whether they are paths of devices.
+// Names, and whether they are paths of devices.
 const NAMES: [(&str, bool); 10] = [
     ("/dev/ttyUSB0", true),
     ("./ttyUSB0", true),
@@ -237,7 +237,7 @@ fn a_name_with_a_slash_is_a_path(rt: HostRuntime) {
     }
 }
 
-/// Seconds, a quiet time in milliseconds, and how many silences last so long.
+// Seconds, a quiet time in milliseconds, and how many silences last so long.
 const TIMES: [(u16, u32, u32); 8] = [
     (0, 1000, 0),
     (1, 1000, 1),
@@ -260,14 +260,14 @@ fn silences_last_the_seconds(rt: HostRuntime) {
     }
 }
 
-/// How a device is not reached: another name, and a quiet time of nothing.
+// How a device is not reached: another name, and a quiet time of nothing.
 fn is_not_reached(path: &str, quiet_ms: u32, wanted: LineFault) -> bool {
     let bench = Bench::new(&[], &[], Pace::Still);
     let system = &bench;
     fault_of(&system, path, quiet_ms) == Some(wanted)
 }
 
-/// How a system's device is not reached.
+// How a system's device is not reached.
 fn fault_of<'a, D: Devices + Clock>(
     system: &'a D,
     path: &'a str,

@@ -4,7 +4,7 @@ use std::alloc::Global;
 use tape_blocks::read_tape;
 use tape_image::Plan;
 
-/// The plan of a tape, if it is one and memory is left.
+// The plan of a tape, if it is one and memory is left.
 fn plan_of(alloc: Global, tape: &[u8]) -> Option<Plan> {
     let (tape, _) = read_tape(alloc, tape).ok()?;
     Plan::of(alloc, &tape).ok()

@@ -8,7 +8,7 @@ use std::io;
 use std::io::Print;
 use std::time::{Clock, Duration};
 
-/// A clock that stands where it is set, in milliseconds, or has no time.
+// A clock that stands where it is set, in milliseconds, or has no time.
 #[derive(Drop)]
 struct SetClock {
     millis: Cell<Option<u64>>,
@@ -35,7 +35,7 @@ impl Clock for SetClock {
     }
 }
 
-/// A terminal that keeps what was written last, and counts the writes.
+// A terminal that keeps what was written last, and counts the writes.
 #[derive(Drop)]
 struct Screen {
     alloc: Global,
@@ -52,7 +52,7 @@ impl Screen {
         }
     }
 
-    /// Whether this was written last.
+    // Whether this was written last.
     fn shows(&self, last: &str) -> bool {
         match self.text.try_borrow() {
             Ok(text) => text.as_slice() == last.as_bytes(),
@@ -60,8 +60,8 @@ impl Screen {
         }
     }
 
-    /// Whether there were so many writes, and the last put this in the line's place, for a terminal that
-    /// does not wrap it.
+    // Whether there were so many writes, and the last put this in the line's place, for a terminal that
+    // does not wrap it.
     fn has_shown(&self, writes: u32, text: &str) -> bool {
         match format!(in self.alloc; "\r\x1b[?7l{text}\x1b[K\x1b[?7h") {
             Ok(line) => self.writes.get() == writes && self.shows(&line),
@@ -89,20 +89,20 @@ impl Print for Screen {
     }
 }
 
-/// What happens to a load of 2,000 words, 500 of them verified before.
+// What happens to a load of 2,000 words, 500 of them verified before.
 #[derive(Clone, Copy)]
 enum Step {
     Verified,
     Resynchronised,
 }
 
-/// When the load begins, in milliseconds of its clock.
+// When the load begins, in milliseconds of its clock.
 const BEGINNING: u64 = 7_000_000;
 
-/// What is shown of it before its first key.
+// What is shown of it before its first key.
 const GOING_ON: &str = "going on behind 500 of 2000 words, listening; power lost? use --recheck";
 
-/// The time since then in milliseconds, what happens, how often something was shown by then, and what last.
+// The time since then in milliseconds, what happens, how often something was shown by then, and what last.
 const STORY: [(u64, Step, u32, &str); 7] = [
     (10, Step::Resynchronised, 1, GOING_ON),
     (99, Step::Verified, 1, GOING_ON),
@@ -128,7 +128,7 @@ const STORY: [(u64, Step, u32, &str); 7] = [
     ),
 ];
 
-/// What a step is to an onlooker, with a key behind it, which shows nothing of its own.
+// What a step is to an onlooker, with a key behind it, which shows nothing of its own.
 fn happens<O: Onlooker>(line: &O, step: Step) {
     match step {
         Step::Verified => line.verifies(),
@@ -153,7 +153,7 @@ fn a_load_is_shown_at_its_pace(rt: HostRuntime) {
     assert!(rt; terminal.shows("\r\x1b[K"));
 }
 
-/// How many words are done when a load begins, of how many, and what is shown of it before its first key.
+// How many words are done when a load begins, of how many, and what is shown of it before its first key.
 const BEGINNINGS: [(u32, u32, &str); 5] = [
     (0, 0, "0 of 0 words, listening"),
     (0, 28, "0 of 28 words, 0%, listening"),
@@ -174,7 +174,7 @@ const BEGINNINGS: [(u32, u32, &str); 5] = [
     ),
 ];
 
-/// Whether a load that begins so is shown so, in one write, at this time.
+// Whether a load that begins so is shown so, in one write, at this time.
 fn begins_so(alloc: Global, time: Option<u64>, done: u32, words: u32, text: &str) -> bool {
     let clock = SetClock::new(time);
     let terminal = Screen::new(alloc);
@@ -195,9 +195,9 @@ fn a_load_that_goes_on_says_so_and_that_it_listens(rt: HostRuntime) {
     }
 }
 
-/// A clock's time in milliseconds, if it has one, when a word of four is verified, how often something was shown
-/// by then, and what last. Where the clock has no time nothing more is shown; where it had none at first no time
-/// left is known.
+// A clock's time in milliseconds, if it has one, when a word of four is verified, how often something was shown
+// by then, and what last. Where the clock has no time nothing more is shown; where it had none at first no time
+// left is known.
 const STUMBLING: [(Option<u64>, u32, &str); 4] = [
     (None, 1, "0 of 4 words, 0%, listening"),
     (Some(50), 2, "2 of 4 words, 50%, listening"),
@@ -205,14 +205,14 @@ const STUMBLING: [(Option<u64>, u32, &str); 4] = [
     (Some(149), 2, "2 of 4 words, 50%, listening"),
 ];
 
-/// The same for a clock that had a time at first, 1,000, and then goes back.
+// The same for a clock that had a time at first, 1,000, and then goes back.
 const GOING_BACK: [(Option<u64>, u32, &str); 3] = [
     (Some(500), 1, "0 of 4 words, 0%, listening"),
     (Some(1099), 1, "0 of 4 words, 0%, listening"),
     (Some(4000), 2, "3 of 4 words, 75%, listening, 0:01 left"),
 ];
 
-/// Whether a load of four words that begins at this time is shown so.
+// Whether a load of four words that begins at this time is shown so.
 fn is_shown(alloc: Global, first: Option<u64>, rows: &[(Option<u64>, u32, &str)]) -> bool {
     let clock = SetClock::new(first);
     let terminal = Screen::new(alloc);
@@ -235,7 +235,7 @@ fn a_clock_that_fails_or_goes_back_stops_nothing(rt: HostRuntime) {
     assert!(rt; is_shown(rt.alloc(), Some(1000), &GOING_BACK));
 }
 
-/// How many words are done of how many, whether the load listens, the mishaps, the seconds left, and the text.
+// How many words are done of how many, whether the load listens, the mishaps, the seconds left, and the text.
 const SHOWINGS: [(u32, u32, bool, u32, Option<u64>, &str); 14] = [
     (0, 0, false, 0, None, "0 of 0 words"),
     (0, 28, true, 0, None, "0 of 28 words, 0%, listening"),
@@ -302,7 +302,7 @@ const SHOWINGS: [(u32, u32, bool, u32, Option<u64>, &str); 14] = [
     ),
 ];
 
-/// Whether a showing has this text.
+// Whether a showing has this text.
 fn is_text(alloc: Global, showing: Showing, text: &str) -> bool {
     match format!(in alloc; "{showing}") {
         Ok(shown) => shown.as_str() == text,
@@ -325,15 +325,15 @@ fn the_text_says_words_mishaps_and_time(rt: HostRuntime) {
     }
 }
 
-/// How many characters are heard behind the first key of a load of 28 words, and what is then shown of it: a console
-/// answers with 32 at most, and whatever says more is listened to until it is silent, or the next key is sent.
+// How many characters are heard behind the first key of a load of 28 words, and what is then shown of it: a console
+// answers with 32 at most, and whatever says more is listened to until it is silent, or the next key is sent.
 const TALKS: [(u32, &str); 3] = [
     (0, "0 of 28 words, 0%"),
     (32, "0 of 28 words, 0%"),
     (33, "0 of 28 words, 0%, listening"),
 ];
 
-/// Whether a load is shown so, each tenth of a second.
+// Whether a load is shown so, each tenth of a second.
 fn is_talk_shown(alloc: Global, heard: u32, text: &str) -> bool {
     let clock = SetClock::new(Some(BEGINNING));
     let terminal = Screen::new(alloc);

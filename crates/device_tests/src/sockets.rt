@@ -8,27 +8,28 @@ use std::net::{SocketAddr, TcpListener, TcpStream};
 use std::time::Duration;
 use stream_line::SocketLine;
 
-/// How a call of `hear` may end.
+// How a call of `hear` may end.
 type Hearing = Result<Heard, LineFault>;
 
-/// A port of 127.0.0.1, if there is one.
+// A port of 127.0.0.1, if there is one.
 fn port(rt: &HostRuntime) -> Option<TcpListener> {
     TcpListener::bind(rt, "127.0.0.1:0").ok()
 }
 
-/// The address of a port of 127.0.0.1.
+// The address of a port of 127.0.0.1.
 fn address_of(rt: &HostRuntime, listener: &TcpListener) -> Option<String> {
     let address = listener.local_addr().ok()?;
     format!(in rt.alloc(); "{address}").ok()
 }
 
-/// A line to a console behind that port.
+// A line to a console behind that port.
 fn line_to(rt: &HostRuntime, listener: &TcpListener) -> Option<SocketLine<TcpStream>> {
     let address = address_of(rt, listener)?;
-    SocketLine::connect(rt, &address, 50).ok()
+    let mut network = rt;
+    SocketLine::connect(&mut network, &address, 50).ok()
 }
 
-/// A line to a console behind that port, and the console's end of it.
+// A line to a console behind that port, and the console's end of it.
 fn connected(
     rt: &HostRuntime,
     listener: &TcpListener,
@@ -38,12 +39,12 @@ fn connected(
     Some((line, console))
 }
 
-/// Whether a line hears this, and has failed or not by it.
+// Whether a line hears this, and has failed or not by it.
 fn hears(line: &mut SocketLine<TcpStream>, heard: Hearing) -> bool {
     line.hear() == heard && line.failed() == heard.is_err()
 }
 
-/// Whether two characters and then silence are heard of a console that says so many and padding.
+// Whether two characters and then silence are heard of a console that says so many and padding.
 fn is_heard(line: &mut SocketLine<TcpStream>, console: &mut TcpStream) -> bool {
     console.write_all(&[0xC1, 0x00, 0x80, 0x42]).is_ok()
         && hears(line, Ok(Heard::Got(0x41)))
@@ -51,7 +52,7 @@ fn is_heard(line: &mut SocketLine<TcpStream>, console: &mut TcpStream) -> bool {
         && hears(line, Ok(Heard::Quiet))
 }
 
-/// Whether a key that is sent is all that comes to the console.
+// Whether a key that is sent is all that comes to the console.
 fn is_sent(line: &mut SocketLine<TcpStream>, console: &mut TcpStream) -> bool {
     if line.send(b'Z').is_err() {
         return false;
@@ -63,7 +64,7 @@ fn is_sent(line: &mut SocketLine<TcpStream>, console: &mut TcpStream) -> bool {
     }
 }
 
-/// Whether the end of a console is heard, as the first failure of a line.
+// Whether the end of a console is heard, as the first failure of a line.
 fn is_end_heard(line: &mut SocketLine<TcpStream>, console: TcpStream) -> bool {
     drop(console);
     hears(line, Err(LineFault::Closed)) && line.failures() == 1
@@ -79,18 +80,18 @@ fn characters_silence_and_the_end_are_heard(rt: HostRuntime) {
     assert!(rt; is_end_heard(&mut line, console));
 }
 
-/// Padding that comes before an `A`, and what is heard by two calls.
+// Padding that comes before an `A`, and what is heard by two calls.
 const PADDED: [(&[u8], Hearing, Heard); 2] = [
     (&[0; 4095], Ok(Heard::Got(0x41)), Heard::Quiet),
     (&[0; 4096], Err(LineFault::Noise), Heard::Got(0x41)),
 ];
 
-/// Whether a console can say some padding and an `A`.
+// Whether a console can say some padding and an `A`.
 fn says_padded(console: &mut TcpStream, padding: &[u8]) -> bool {
     console.write_all(padding).is_ok() && console.write_all(b"A").is_ok()
 }
 
-/// Whether this is heard of a console that says some padding and an `A`.
+// Whether this is heard of a console that says some padding and an `A`.
 fn is_padding_heard(
     rt: &HostRuntime,
     listener: &TcpListener,
@@ -113,9 +114,10 @@ fn padding_is_dropped_up_to_a_limit(rt: HostRuntime) {
     }
 }
 
-/// Whether a connection to an address fails in this way.
+// Whether a connection to an address fails in this way.
 fn fails(rt: &HostRuntime, address: &str, quiet_ms: u32, fault: LineFault) -> bool {
-    match SocketLine::connect(rt, address, quiet_ms) {
+    let mut network = rt;
+    match SocketLine::connect(&mut network, address, quiet_ms) {
         Ok(_) => false,
         Err(found) => found == fault,
     }
@@ -132,10 +134,16 @@ fn what_can_not_be_connected_is_told(rt: HostRuntime) {
     assert!(rt; fails(&rt, "no port", 50, LineFault::Connect));
 }
 
-/// Whether there is a line to the second address of a name, and so many addresses were tried for it.
+// Whether there is a line to the second address of a name, and so many addresses were tried for it.
 fn is_connected(rt: &HostRuntime, second: SocketAddr, tried: u32) -> bool {
     let net = TwoAddresses::new(rt, second);
-    SocketLine::connect(&net, "console:23", 50).is_ok() && net.tried() == tried
+    is_reached(&net) && net.tried() == tried
+}
+
+// Whether there is a line to a console of this name.
+fn is_reached(net: &TwoAddresses<'_>) -> bool {
+    let mut network = net;
+    SocketLine::connect(&mut network, "console:23", 50).is_ok()
 }
 
 #[test]
@@ -145,7 +153,7 @@ fn each_address_of_a_name_is_tried(rt: HostRuntime) {
     assert!(rt; is_connected(&rt, second, 2));
 }
 
-/// A line over a stream of which so many calls fail in one way, from the call of this number on.
+// A line over a stream of which so many calls fail in one way, from the call of this number on.
 fn faulty<'a>(
     notes: &'a Notes,
     kind: ErrorKind,
@@ -170,8 +178,8 @@ fn a_stream_is_set_to_the_quiet_time_and_to_wait_for_nothing(rt: HostRuntime) {
     assert!(rt; notes.is_prompt.get());
 }
 
-/// How often and how a read fails before one gives an `A`, what is heard, and how often the stream was
-/// read: a read is begun again where the system interrupts it, and only there.
+// How often and how a read fails before one gives an `A`, what is heard, and how often the stream was
+// read: a read is begun again where the system interrupts it, and only there.
 const HEARINGS: [(ErrorKind, u32, Hearing, u32); 7] = [
     (ErrorKind::Interrupted, 1, Ok(Heard::Got(0x41)), 2),
     (ErrorKind::Interrupted, 4095, Ok(Heard::Got(0x41)), 4096),
@@ -182,7 +190,7 @@ const HEARINGS: [(ErrorKind, u32, Hearing, u32); 7] = [
     (ErrorKind::Other, 1, Err(LineFault::Receive), 1),
 ];
 
-/// Whether this is heard over a stream that fails so, and that is read so often.
+// Whether this is heard over a stream that fails so, and that is read so often.
 fn is_heard_over(kind: ErrorKind, faults: u32, wanted: Hearing, reads: u32) -> bool {
     let notes = Notes::new();
     let Some(mut line) = faulty(&notes, kind, 0, faults) else {
@@ -200,7 +208,7 @@ fn only_an_interrupted_read_is_begun_again(rt: HostRuntime) {
     }
 }
 
-/// How the writing of a key, call 0 of the stream, or its flushing, call 1, fails.
+// How the writing of a key, call 0 of the stream, or its flushing, call 1, fails.
 const SENDINGS: [(ErrorKind, u32); 7] = [
     (ErrorKind::Interrupted, 0),
     (ErrorKind::WouldBlock, 0),
@@ -211,7 +219,7 @@ const SENDINGS: [(ErrorKind, u32); 7] = [
     (ErrorKind::Other, 1),
 ];
 
-/// Whether a key can not be sent over a stream of which this call fails, and no call comes after that.
+// Whether a key can not be sent over a stream of which this call fails, and no call comes after that.
 fn is_not_sent_again(kind: ErrorKind, first: u32) -> bool {
     let notes = Notes::new();
     let Some(mut line) = faulty(&notes, kind, first, 1) else {

@@ -86,7 +86,7 @@ impl Bench {
     }
 }
 
-/// The turn of this number, and one more is counted.
+// The turn of this number, and one more is counted.
 fn next(turns: &[Turn], count: &Cell<usize>) -> Turn {
     let number = count.get();
     count.set(number.saturating_add(1));

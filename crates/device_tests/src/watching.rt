@@ -11,7 +11,7 @@ use std::io::ErrorKind;
 use stream_line::StreamLine;
 use tape_image::Plan;
 
-/// Counts what it is told of.
+// Counts what it is told of.
 #[derive(Drop)]
 struct Counts {
     words: Cell<u32>,
@@ -30,7 +30,7 @@ impl Counts {
         }
     }
 
-    /// Whether so many keys, the last of them this, and so many words were told of.
+    // Whether so many keys, the last of them this, and so many words were told of.
     fn are(&self, keys: u32, last: u8, words: u32) -> bool {
         self.keys.get() == keys && self.last.get() == last && self.words.get() == words
     }
@@ -55,7 +55,7 @@ impl Onlooker for Counts {
     fn ends(&self) {}
 }
 
-/// A line whose stream fails from the call of this number on; a key is two calls.
+// A line whose stream fails from the call of this number on; a key is two calls.
 fn line_over<'a>(notes: &'a Notes, first: u32) -> Option<StreamLine<Faulty<'a>>> {
     let stream = Faulty {
         kind: ErrorKind::Other,
@@ -66,8 +66,8 @@ fn line_over<'a>(notes: &'a Notes, first: u32) -> Option<StreamLine<Faulty<'a>>>
     StreamLine::new(stream, 50).ok()
 }
 
-/// Whether, of the keys `1`, CR, `2` and one that can't be sent, an onlooker is told of the first three and of
-/// so many words, and the line comes back as it is.
+// Whether, of the keys `1`, CR, `2` and one that can't be sent, an onlooker is told of the first three and of
+// so many words, and the line comes back as it is.
 fn are_keys_told(is_reading: bool, words: u32) -> bool {
     let (notes, counts) = (Notes::new(), Counts::new());
     let Some(line) = line_over(&notes, 6) else {
@@ -92,7 +92,7 @@ fn keys_are_told_that_went_out_and_words_that_were_read(rt: HostRuntime) {
     assert!(rt; are_keys_told(true, 1));
 }
 
-/// Whether, of two words and a mark of which the second can't be kept, an onlooker is told of the first word.
+// Whether, of two words and a mark of which the second can't be kept, an onlooker is told of the first word.
 fn are_words_told(alloc: Global, plan: &Plan) -> bool {
     let counts = Counts::new();
     let Ok(keeper) = MemoryKeep::new(alloc, 3, Some(2)) else {
@@ -114,7 +114,7 @@ fn words_are_told_that_were_kept(rt: HostRuntime) {
     assert!(rt; are_words_told(rt.alloc(), &plan));
 }
 
-/// Whether, of an `A`, a silence and a `B`, an onlooker is told of two characters.
+// Whether, of an `A`, a silence and a `B`, an onlooker is told of two characters.
 fn are_characters_told() -> bool {
     let (reads, counts) = (Cell::new(0), Counts::new());
     let stream = Spoken {

@@ -7,8 +7,7 @@ use Rattle.std.specs.Char.Escape.{escape_default}
 use Rattle.std.specs.List.{flat_map}
 use Rattle.std.specs.Str.{chars}
 use Rattle.std.specs.Io.KnownBytes.{Appends}
-use Rattle.tape_blocks.specs.Fault.{why_text, read_error_text}
-use Rattle.tape_blocks.specs.declared.fault.ReadError.TheVariants as reading
+use Rattle.tape_blocks.specs.Fault.{fault_text, memory_text}
 use Rattle.byte_io.specs.Output.{WritesProperPrefix}
 use Rattle.endings.specs.declared.failure.Failure.{Failure}
 use Rattle.endings.specs.declared.failure.OneTape.{OneTape}
@@ -47,7 +46,7 @@ status_of NoMemory = OutOfMemory
 
 -- the number of one of several tapes, and why it is refused
 abbrev pub one_tape_text : OneTape → List ℕ
-one_tape_text tape = decimal tape.number ++ (codes " refused at " ++ (decimal tape.fault.at ++ (codes ": " ++ why_text tape.fault.why)))
+one_tape_text tape = decimal tape.number ++ (codes " " ++ fault_text tape.fault)
 
 -- a character of a name, as a fault shows it: a control character by its escape, any other as it is
 abbrev pub shown_char : ℕ → List ℕ
@@ -68,14 +67,14 @@ failure_words (FileIsThere name) = []
 failure_words (RecordInUse name) = codes "record in use: "
 failure_words LineFailed = codes "line failed"
 failure_words StartInDoubt = codes "line failed\nldaodt: the start may have gone out: look at the machine first"
-failure_words (TapeRefused refusal) = read_error_text (reading.Tape refusal)
+failure_words (TapeRefused refusal) = codes "tape " ++ fault_text refusal
 failure_words (OneTapeRefused tape) = codes "tape " ++ one_tape_text tape
 failure_words (ScriptRefused number) = codes "script refused at line " ++ decimal number
 failure_words (RecordRefused why.NotARecord) = codes "record refused: NotARecord"
 failure_words (RecordRefused (why.Foreign number)) = codes "record refused at line " ++ decimal number
 failure_words TooLarge = codes "machine too large"
 failure_words BadWord = codes "a word of the command line is not UTF-8"
-failure_words NoMemory = read_error_text reading.Memory
+failure_words NoMemory = memory_text
 
 -- the name in a failure's line, where it has one
 abbrev pub failure_name : Failure → List ℕ

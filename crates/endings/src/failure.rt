@@ -11,32 +11,46 @@ use tape_blocks::Fault;
 pub enum Failure<'a> {
     /// The file of this name, or standard input, can't be opened or read.
     CannotRead(&'a str),
+
     /// Standard output can't be written.
     CannotWrite,
+
     /// The record's file of this name can't be written.
     CannotWriteFile(&'a str),
+
     /// There is a file of this name already, which is as it was.
     FileIsThere(&'a str),
+
     /// Another load holds the record's file of this name.
     RecordInUse(&'a str),
+
     /// The console at this HOST:PORT or device can't be reached.
     CannotConnect(&'a str),
+
     /// The line failed during a load or a look, before the start was typed.
     LineFailed,
+
     /// The line failed once the start was typed or may have been: the program may be running.
     StartInDoubt,
+
     /// The only tape is refused.
     TapeRefused(Fault),
+
     /// One of several tapes is refused.
     OneTapeRefused(OneTape),
+
     /// The script is refused at this line.
     ScriptRefused(u32),
+
     /// The record is none of this tape's load.
     RecordRefused(RecordError),
+
     /// The machine is larger than an LSI-11's memory.
     TooLarge,
+
     /// A word of the command line is no text, so it names nothing.
     BadWord,
+
     /// A growth of memory was refused.
     NoMemory,
 }
@@ -135,6 +149,7 @@ impl<'a> Failure<'a> {
 pub struct OneTape {
     /// Its number, from 1.
     pub number: usize,
+
     /// What is wrong with it, and at which byte.
     pub fault: Fault,
 }
@@ -147,9 +162,8 @@ impl fmt::Display for OneTape {
 
     fn fmt<W: fmt::Write>(&self, f: &mut fmt::Formatter<W>) -> fmt::Result {
         let number = self.number;
-        let at = self.fault.at;
-        let why = self.fault.why;
-        write!(f, "{number} refused at {at}: {why}")
+        let fault = self.fault;
+        write!(f, "{number} {fault}")
     }
 }
 

@@ -8,9 +8,9 @@ use byte_io::WriteFault;
 use load_record::RecordError;
 use std::fmt;
 use std::fmt::Write;
-use tape_blocks::ReadError;
+use tape_blocks::Memory;
 
-/// What a failure's line says after the program's name, up to the name in it where it has one.
+// What a failure's line says after the program's name, up to the name in it where it has one.
 #[derive(Clone, Copy)]
 struct Words<'a>(Failure<'a>);
 
@@ -31,7 +31,7 @@ impl fmt::Display for Words<'_> {
             Failure::StartInDoubt => f.write_str(
                 "line failed\nldaodt: the start may have gone out: look at the machine first",
             ),
-            Failure::TapeRefused(fault) => write!(f, "{}", ReadError::Tape(fault)),
+            Failure::TapeRefused(fault) => write!(f, "tape {fault}"),
             Failure::OneTapeRefused(tape) => write!(f, "tape {tape}"),
             Failure::ScriptRefused(line) => write!(f, "script refused at line {line}"),
             Failure::RecordRefused(RecordError::NotARecord) => {
@@ -42,12 +42,12 @@ impl fmt::Display for Words<'_> {
             }
             Failure::TooLarge => f.write_str("machine too large"),
             Failure::BadWord => f.write_str("a word of the command line is not UTF-8"),
-            Failure::NoMemory => write!(f, "{}", ReadError::Memory),
+            Failure::NoMemory => write!(f, "{Memory}"),
         }
     }
 }
 
-/// Room for the longest words of a line.
+// Room for the longest words of a line.
 type LineWords = ArrayString<128>;
 
 /// The program's name and the words of a failure's line. The error is want of room, which no words have.

@@ -7,19 +7,26 @@ use machine_look::{SaveEnd, VerifyEnd};
 pub enum Status {
     /// The command was done, or help was asked for.
     Done,
+
     /// Memory differs from what `verify` was given.
     Differs,
+
     /// The command line was refused.
     BadCommandLine,
+
     /// A tape, the script or the record was refused.
     Refused,
+
     /// A file, standard input or standard output failed, no connection was made, or the line of a load
     /// or its record failed.
     DeviceFailed,
+
     /// The host gave up, a word was not there or did not hold, or the turns were over with no end.
     NotLoaded,
+
     /// The load may have started the program, or not.
     Uncertain,
+
     /// A growth of memory was refused.
     NoMemory,
 }

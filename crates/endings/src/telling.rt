@@ -16,7 +16,7 @@ use byte_io::{WriteFault, write_whole};
 use std::alloc::Global;
 use std::io::Write;
 
-/// A character as it is shown: four bytes, or an escape of six.
+// A character as it is shown: four bytes, or an escape of six.
 type Shown = ArrayVec<u8, 6>;
 
 /// Prints the line of a failure, in one write, and answers the status that tells of it.
@@ -31,8 +31,8 @@ pub fn tell<E: Write>(alloc: Global, failure: Failure<'_>, err: &mut E) -> Statu
     failure.status()
 }
 
-/// Writes a failure's line, in one write where there is memory to gather it in. The line that says there
-/// is none needs none.
+// Writes a failure's line, in one write where there is memory to gather it in. The line that says there
+// is none needs none.
 fn write_at_once<E: Write>(
     alloc: Global,
     failure: Failure<'_>,
@@ -51,7 +51,7 @@ fn write_at_once<E: Write>(
     }
 }
 
-/// Writes a failure's line in pieces. At the first write that fails it stops.
+// Writes a failure's line in pieces. At the first write that fails it stops.
 fn write_line<W: Write>(out: &mut W, failure: Failure<'_>) -> Result<(), WriteFault>
     ensures ok { OnOk result (Appends (W.contents out.old) (W.contents out.new) (fault_line failure.entry)) }
     ensures err { OnErr result (WritesProperPrefix (W.contents out.old) (W.contents out.new) (fault_line failure.entry)) }
@@ -62,7 +62,7 @@ fn write_line<W: Write>(out: &mut W, failure: Failure<'_>) -> Result<(), WriteFa
     write_whole(out, line_end(failure))
 }
 
-/// What a failure's line says behind its name, and the line's end.
+// What a failure's line says behind its name, and the line's end.
 fn line_end(failure: Failure<'_>) -> &'static [u8]
     ensures { result.now ≡ failure_end failure.entry }
 {
@@ -72,7 +72,7 @@ fn line_end(failure: Failure<'_>) -> &'static [u8]
     }
 }
 
-/// Writes the name in a failure's line, where it has one.
+// Writes the name in a failure's line, where it has one.
 fn write_shown_name<W: Write>(out: &mut W, failure: Failure<'_>) -> Result<(), WriteFault>
     ensures ok { OnOk result (Appends (W.contents out.old) (W.contents out.new) (failure_name failure.entry)) }
     ensures err { OnErr result (WritesProperPrefix (W.contents out.old) (W.contents out.new) (failure_name failure.entry)) }
@@ -87,7 +87,7 @@ fn write_shown_name<W: Write>(out: &mut W, failure: Failure<'_>) -> Result<(), W
     }
 }
 
-/// Writes a name as a fault shows it.
+// Writes a name as a fault shows it.
 fn write_name<W: Write>(out: &mut W, name: &str) -> Result<(), WriteFault>
     ensures ok { OnOk result (Appends (W.contents out.old) (W.contents out.new) (shown_name name.now)) }
     ensures err { OnErr result (WritesProperPrefix (W.contents out.old) (W.contents out.new) (shown_name name.now)) }
@@ -102,7 +102,7 @@ fn write_name<W: Write>(out: &mut W, name: &str) -> Result<(), WriteFault>
     Ok(())
 }
 
-/// A character as a fault shows it.
+// A character as a fault shows it.
 fn shown(character: char) -> Shown
     ensures { result.items ≡ shown_char character }
 {
@@ -116,7 +116,7 @@ fn shown(character: char) -> Shown
     shown
 }
 
-/// The escape of a control character: `\n`, `\r`, `\t`, or its code in hexadecimal.
+// The escape of a control character: `\n`, `\r`, `\t`, or its code in hexadecimal.
 fn escape(character: char) -> Shown
     requires { IsTrue (is_control character) }
     ensures { result.items ≡ escape_default character }
@@ -141,7 +141,7 @@ fn escape(character: char) -> Shown
     escape
 }
 
-/// The hexadecimal digit of a number below 16.
+// The hexadecimal digit of a number below 16.
 fn hex_digit(number: u32) -> u8
     requires { number < 16 }
     ensures { result ≡ digit_char number }

@@ -1,6 +1,7 @@
 -- Addresses on the command line (this project's own).
 use Rattle.std.specs.Prelude.{◌≡◌, ℕ, ◌<◌, ◌≤◌, ◌-◌, ◌%◌, List, ◌++◌, length, replicate}
 use Rattle.octal.specs.Octal.{IsOct6}
+use Rattle.tape_blocks.specs.Block.{top}
 
 -- the text is a number in one to six octal digits
 pub record IsOctalText (text : List ℕ) (number : ℕ) : Type 0 where
@@ -15,4 +16,4 @@ pub record IsEvenText (text : List ℕ) (number : ℕ) : Type 0 where
 -- the text is the address of a word of memory, so that it is below 160000, too
 pub record IsWordText (text : List ℕ) (address : ℕ) : Type 0 where
   pub address_is : IsEvenText text address
-  pub below_top : address < 57344
+  pub below_top : address < top

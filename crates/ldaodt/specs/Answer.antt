@@ -33,14 +33,14 @@ IsRefusal NoMemory = ⊤
 IsRefusal other = ⊥
 
 -- the words are refused, and standard error says so by a text, or by a prefix of it
-pub record IsRefused (text : List ℕ) (before after : Held) (ended : Status) : Type 0 where
+pub record AreWordsRefused (text : List ℕ) (before after : Held) (ended : Status) : Type 0 where
   pub status : ended ≡ status.BadCommandLine
   pub told : WritesPrefix before.err after.err text
   pub out : after.out ≡ before.out
   pub input : after.input ≡ before.input
 
 -- memory was wanting, and standard error says so
-pub record IsWanting (before after : Held) (ended : Status) : Type 0 where
+pub record IsMemoryWanting (before after : Held) (ended : Status) : Type 0 where
   pub status : ended ≡ status.NoMemory
   pub told : IsTold before.err after.err failure.NoMemory
   pub out : after.out ≡ before.out
@@ -50,9 +50,9 @@ pub record IsWanting (before after : Held) (ended : Status) : Type 0 where
 -- wanting
 abbrev pub IsExplained : NoRequest → Held → Held → Status → Type 0
 IsExplained (Help text) before after ended = IsShown (string_bytes text) before after ended
-IsExplained (Refused text) before after ended = IsRefused (string_bytes text) before after ended
-IsExplained Meaningless before after ended = (text : List ℕ) × IsRefused text before after ended
-IsExplained NoMemory before after ended = IsWanting before after ended
+IsExplained (Refused text) before after ended = AreWordsRefused (string_bytes text) before after ended
+IsExplained Meaningless before after ended = (text : List ℕ) × AreWordsRefused text before after ended
+IsExplained NoMemory before after ended = IsMemoryWanting before after ended
 
 -- something was asked for and attempted, the check of the input only where there were no words; or the words were explained
 abbrev pub IsAnswered : Type 0 → Held → Held → Status → Type 0

@@ -8,6 +8,7 @@ use Rattle.clap.specs.declared.parser.matches.Found.{Found}
 use Rattle.tape_image.specs.declared.start.Start.{Start}
 use Rattle.tape_image.specs.declared.start.Start.TheVariants.{OfTape, At, Nowhere}
 use Rattle.machine_look.specs.declared.range.AddressRange.{AddressRange}
+use Rattle.odt_machine.specs.Machine.{largest_words}
 use Rattle.odt_machine.specs.Style.{style_number}
 use Rattle.requests.specs.declared.request.Console.{Console}
 use Rattle.requests.specs.declared.request.Load.{Load}
@@ -65,7 +66,7 @@ AreTapes found names = (first : List ℕ) × ((first_value found (codes "TAPE") 
 
 -- a simulated console is what its two options say: all memory and the plain style where nothing else is said
 pub record IsConsoleOf (found : Found) (console : Console) : Type 0 where
-  pub words : IsNumberOf found (codes "words") 28672 console.words
+  pub words : IsNumberOf found (codes "words") largest_words console.words
   pub style : IsNumberOf found (codes "style") 0 (style_number console.style)
 
 -- a load, but for its tapes, is what the arguments and options of `load` say

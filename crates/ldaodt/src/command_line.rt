@@ -22,10 +22,10 @@ use shown_words::{have_control, shown_words};
 use std::alloc::Global;
 use values::{console_of, further_tapes_of, line_of, number_given, number_of, tapes_of, text_of};
 
-/// How many mishaps a load or a look survives where nothing else is said.
+// How many mishaps a load or a look survives where nothing else is said.
 const PLAIN_PATIENCE: u16 = 8;
 
-/// How many milliseconds of silence mean that nothing more is coming, where nothing else is said.
+// How many milliseconds of silence mean that nothing more is coming, where nothing else is said.
 const PLAIN_QUIET: u16 = 2000;
 
 /// Reads the words after the program's name. Without any the tape on standard input is to be checked.
@@ -42,8 +42,8 @@ pub(crate) fn parse<'a>(alloc: Global, words: &'a [String]) -> Result<Request<'a
     }
 }
 
-/// The refusal of words that are refused by this text, with their control characters shown: words as they
-/// are shown are refused as they are.
+// The refusal of words that are refused by this text, with their control characters shown: words as they
+// are shown are refused as they are.
 fn shown_refusal(alloc: Global, words: &[String], text: String) -> NoRequest {
     if !have_control(words) {
         return NoRequest::Refused(text);
@@ -54,12 +54,12 @@ fn shown_refusal(alloc: Global, words: &[String], text: String) -> NoRequest {
     }
 }
 
-/// Why words ask for nothing that could be done, where they do.
+// Why words ask for nothing that could be done, where they do.
 fn refusal_of(alloc: Global, words: &[String]) -> Option<NoRequest> {
     read(alloc, words.first()?, words).err()
 }
 
-/// What words ask for, of which this is the first.
+// What words ask for, of which this is the first.
 fn read<'a>(alloc: Global, first: &str, words: &'a [String]) -> Result<Request<'a>, NoRequest>
     ensures { IfOk result (λ request. request ≢ Request.CheckInput) }
 {
@@ -69,7 +69,7 @@ fn read<'a>(alloc: Global, first: &str, words: &'a [String]) -> Result<Request<'
     }
 }
 
-/// What the parsed words ask for, where there were any.
+// What the parsed words ask for, where there were any.
 fn request_of<'a>(alloc: Global, matches: &ArgMatches<'a>) -> Result<Request<'a>, NoRequest>
     ensures { IfOk result (λ request. request ≢ Request.CheckInput) }
 {
@@ -85,7 +85,7 @@ fn request_of<'a>(alloc: Global, matches: &ArgMatches<'a>) -> Result<Request<'a>
     }
 }
 
-/// The load of tapes into a machine.
+// The load of tapes into a machine.
 fn loading_of<'a>(alloc: Global, found: &ArgMatches<'a>) -> Result<Request<'a>, NoRequest>
     ensures value { IfOk result (IsRequestOf (found_of found.now)) }
     ensures some { IfOk result (λ request. request ≢ Request.CheckInput) }
@@ -94,7 +94,7 @@ fn loading_of<'a>(alloc: Global, found: &ArgMatches<'a>) -> Result<Request<'a>, 
     Ok(Request::Load(tapes_of(alloc, found)?, load))
 }
 
-/// A load, but for its tapes.
+// A load, but for its tapes.
 fn load_of<'a>(alloc: Global, found: &ArgMatches<'a>) -> Result<Load<'a>, NoRequest>
     ensures { IfOk result (IsLoadOf (found_of found.now)) }
 {
@@ -111,7 +111,7 @@ fn load_of<'a>(alloc: Global, found: &ArgMatches<'a>) -> Result<Load<'a>, NoRequ
     })
 }
 
-/// The look whether a machine holds what tapes say.
+// The look whether a machine holds what tapes say.
 fn verifying_of<'a>(alloc: Global, found: &ArgMatches<'a>) -> Result<Request<'a>, NoRequest>
     ensures value { IfOk result (IsRequestOf (found_of found.now)) }
     ensures some { IfOk result (λ request. request ≢ Request.CheckInput) }
@@ -120,7 +120,7 @@ fn verifying_of<'a>(alloc: Global, found: &ArgMatches<'a>) -> Result<Request<'a>
     Ok(Request::Verify(tapes_of(alloc, found)?, look))
 }
 
-/// The save of words of a machine.
+// The save of words of a machine.
 fn saving_of<'a>(alloc: Global, found: &ArgMatches<'a>) -> Result<Request<'a>, NoRequest>
     ensures value { IfOk result (IsRequestOf (found_of found.now)) }
     ensures some { IfOk result (λ request. request ≢ Request.CheckInput) }
@@ -132,7 +132,7 @@ fn saving_of<'a>(alloc: Global, found: &ArgMatches<'a>) -> Result<Request<'a>, N
     Ok(Request::Save(file, Save { range, start, look }))
 }
 
-/// A look at a machine.
+// A look at a machine.
 fn look_of<'a>(alloc: Global, found: &ArgMatches<'a>) -> Result<Look<'a>, NoRequest>
     ensures { IfOk result (IsLookOf (found_of found.now)) }
 {
@@ -143,7 +143,7 @@ fn look_of<'a>(alloc: Global, found: &ArgMatches<'a>) -> Result<Look<'a>, NoRequ
     })
 }
 
-/// The dialogue of tapes with a console.
+// The dialogue of tapes with a console.
 fn dialogue_of<'a>(alloc: Global, found: &ArgMatches<'a>) -> Result<Request<'a>, NoRequest>
     ensures value { IfOk result (IsRequestOf (found_of found.now)) }
     ensures some { IfOk result (λ request. request ≢ Request.CheckInput) }
@@ -153,7 +153,7 @@ fn dialogue_of<'a>(alloc: Global, found: &ArgMatches<'a>) -> Result<Request<'a>,
     Ok(Request::Dialogue(tapes_of(alloc, found)?, console, start))
 }
 
-/// The rehearsal of a tape, its script and further tapes.
+// The rehearsal of a tape, its script and further tapes.
 fn rehearsal_of<'a>(alloc: Global, found: &ArgMatches<'a>) -> Result<Request<'a>, NoRequest>
     ensures value { IfOk result (IsRequestOf (found_of found.now)) }
     ensures some { IfOk result (λ request. request ≢ Request.CheckInput) }

@@ -36,14 +36,14 @@ fn main(rt: HostRuntime) -> ExitCode {
     ExitCode::from(code)
 }
 
-/// Says to whoever typed the program's name alone what it waits for. What can't be said is not told.
+// Says to whoever typed the program's name alone what it waits for. What can't be said is not told.
 fn say_what_is_read<R: Eprint>(rt: &R) {
     let _ = rt.eprint(&"ldaodt: reading a tape from standard input ('ldaodt --help' says more)\n");
 }
 
-/// Fills the descriptors 0 to 2 where the program was started without them, so that no file that it
-/// opens becomes its input or an output. Each is opened against its use: what is read or written
-/// there fails, as it should.
+// Fills the descriptors 0 to 2 where the program was started without them, so that no file that it
+// opens becomes its input or an output. Each is opened against its use: what is read or written
+// there fails, as it should.
 fn fill_standard_descriptors(rt: &HostRuntime) {
     if let Ok(file) = File::options().write(true).open(rt, "/dev/null") {
         keep_up_to(file, 0);
@@ -55,7 +55,7 @@ fn fill_standard_descriptors(rt: &HostRuntime) {
     }
 }
 
-/// Leaves a file open for as long as the program runs where its descriptor is at most this number.
+// Leaves a file open for as long as the program runs where its descriptor is at most this number.
 fn keep_up_to(file: File, most: RawFd) {
     if file.as_raw_fd() <= most {
         let _ = file.into_raw_fd();

@@ -24,7 +24,7 @@ pub(crate) fn words_of<R: Env + AllocGlobal>(rt: &R) -> Result<Vec<String>, Fail
     Ok(words)
 }
 
-/// Why the words can't be had: one of them is no text, or else memory was wanting.
+// Why the words can't be had: one of them is no text, or else memory was wanting.
 fn failure_of(error: &io::Error) -> Failure<'static>
     ensures word { error_kind error.now ≡ ErrorKind.InvalidData → result ≡ Failure.BadWord }
     ensures memory { error_kind error.now ≢ ErrorKind.InvalidData → result ≡ Failure.NoMemory }

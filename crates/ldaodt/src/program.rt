@@ -18,7 +18,7 @@ use std::io::{Print, Read, Write};
 use std::net::Net;
 use std::time::Clock;
 
-/// What is said of words that the parser let pass and that mean nothing.
+// What is said of words that the parser let pass and that mean nothing.
 const MEANINGLESS: &str = "ldaodt: the command line is not understood\n";
 
 /// Does what the words after the program's name ask for, and answers the exit status.
@@ -49,7 +49,7 @@ pub(crate) fn program<F: Locks + Devices + Net + Clock, R: Read, W: Write, E: Wr
     answer(rt, alloc, words, streams, terminal).code()
 }
 
-/// Does what the words ask for, or explains them.
+// Does what the words ask for, or explains them.
 fn answer<F: Locks + Devices + Net + Clock, R: Read, W: Write, E: Write, T: Print>(
     rt: &F,
     alloc: Global,
@@ -73,7 +73,7 @@ fn answer<F: Locks + Devices + Net + Clock, R: Read, W: Write, E: Write, T: Prin
     }
 }
 
-/// Says why there was nothing to do: help, the version, or what is wrong with the words.
+// Says why there was nothing to do: help, the version, or what is wrong with the words.
 fn explain<R: Read, W: Write, E: Write>(
     alloc: Global,
     answer: NoRequest,

@@ -1,6 +1,7 @@
 -- What a load does over a line in memory that is lent for it.
 use Rattle.std.specs.Prelude.{ℕ, ◌+◌, ◌≤◌, List, length}
 use Rattle.host_core.specs.Core.{Core}
+use Rattle.line_world.specs.Wire.{most_waiting}
 use Rattle.load_devices.specs.declared.item.Item.{Item}
 use Rattle.load_devices.specs.Dialogue.{keys_of}
 use Rattle.honest_line.specs.Lent.{Passed}
@@ -20,5 +21,5 @@ unpaid stop = 0
 -- start, with the losses of what passed meanwhile
 abbrev pub LoadsSafely : Stop → Core → Core → LineValue → LineValue → Type 0
 LoadsSafely stop core next old new =
-    (said : List Item) (lost : ℕ) → Passed old new said lost → MayBegin core old.machine → length old.waiting ≤ 32 →
+    (said : List Item) (lost : ℕ) → Passed old new said lost → MayBegin core old.machine → length old.waiting ≤ most_waiting →
     IsTrusted old.machine.memory next new.machine.memory (keys_of said) (lost + unpaid stop) × IsStartTrue next new.machine (keys_of said)

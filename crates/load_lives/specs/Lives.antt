@@ -6,7 +6,7 @@ use Rattle.host_core.specs.declared.progress.Progress.{Progress}
 use Rattle.host_core.specs.Console.{go}
 use Rattle.host_core.specs.Core.{Core, begun}
 use Rattle.host_core.specs.Laws.{led}
-use Rattle.line_world.specs.Wire.{Wire, forgiven}
+use Rattle.line_world.specs.Wire.{Wire, forgiven, most_waiting}
 use Rattle.line_world.specs.Safe.{IsSafe}
 use Rattle.line_world.specs.Promises.{EndsAtGo}
 use Rattle.load_devices.specs.declared.item.Item.{Item}
@@ -52,7 +52,7 @@ pub record GoesOnFrom (plan : PlanValue) (text : List ℕ) (progress : Progress)
 -- and at most 32 characters waiting. Its losses are counted from there
 abbrev pub Reopens : Wire → Wire → Type 0
 Reopens left found =
-    (found ≡ forgiven left) ⊎ ((waiting : List ℕ) × (length waiting ≤ 32) × (found ≡ resting left.machine waiting 0))
+    (found ≡ forgiven left) ⊎ ((waiting : List ℕ) × (length waiting ≤ most_waiting) × (found ≡ resting left.machine waiting 0))
 
 -- the record that a life leaves, which began with a progress, became a core and said these items: the text that it found, or a
 -- new one of all that it has verified, cut at any byte. Where `G` was sent it is the whole new one, with the mark; and where the
@@ -87,7 +87,7 @@ typed (life ∷ earlier) = typed earlier ++ keys_of life.items
 -- the first life may begin here: few characters wait and no key is under way, the machine runs no program, and what the record
 -- says, which has no mark, is true of memory
 pub record MayOpen (plan : PlanValue) (old : Setting) : Type 0 where
-  pub few : length old.wire.up ≤ 32
+  pub few : length old.wire.up ≤ most_waiting
   pub none_down : old.wire.down ≡ []
   pub progress : Progress
   pub says : Says plan old.text (Ok progress)

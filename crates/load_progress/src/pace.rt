@@ -2,11 +2,11 @@
 ghost use Rattle.std.specs.Prelude.{◌≡◌, ◌+◌, ◌<◌, ◌≤◌, ◌↔◌, IsTrue};
 ghost use Rattle.load_progress.specs.Pace.{percent_of, seconds_left, time_left};
 
-/// The shortest time between two showings, in milliseconds: ten a second.
+// The shortest time between two showings, in milliseconds: ten a second.
 const SHORTEST_PAUSE: u64 = 100;
 
 /// Of a hundred, how many are done. Rounded down, so that 100 means all.
-pub fn percent(done: u32, total: u32) -> u64
+pub(crate) fn percent(done: u32, total: u32) -> u64
     requires { 0 < total }
     ensures { result ≡ percent_of done total }
 {
@@ -15,7 +15,7 @@ pub fn percent(done: u32, total: u32) -> u64
 
 /// How many seconds what is left takes at the pace so far, where the time that went by is known, in
 /// milliseconds; none where nothing was done in it.
-pub fn time_left(elapsed: Option<u64>, done: u32, left: u32) -> Option<u64>
+pub(crate) fn time_left(elapsed: Option<u64>, done: u32, left: u32) -> Option<u64>
     ensures { result ≡ seconds_left elapsed done left }
 {
     if done == 0 {
@@ -26,7 +26,7 @@ pub fn time_left(elapsed: Option<u64>, done: u32, left: u32) -> Option<u64>
 }
 
 /// Whether a showing is due at a time, in milliseconds, after one at an earlier time.
-pub fn is_due(shown: u64, now: u64) -> bool
+pub(crate) fn is_due(shown: u64, now: u64) -> bool
     ensures { IsTrue result ↔ (shown + 100 ≤ now) }
 {
     now.saturating_sub(shown) >= SHORTEST_PAUSE

@@ -12,10 +12,10 @@ use std::fmt::Write;
 use std::io::Print;
 use std::time::Clock;
 
-/// What moves the cursor to the line's beginning and clears the line.
+// What moves the cursor to the line's beginning and clears the line.
 const CLEARED: &str = "\r\x1b[K";
 
-/// Room for the longest line.
+// Room for the longest line.
 type LineText = ArrayString<128>;
 
 /// Shows, while a load or a reading goes on, how many words are done of all, the mishaps, and the time

@@ -5,16 +5,16 @@ ghost use Rattle.load_progress.specs.Tally.{after_character, after_key, after_wo
 use crate::pace::time_left;
 use crate::showing::Showing;
 
-/// The key that the host types where it has lost the thread: once at the beginning, and then once for
-/// each mishap that it survives.
+// The key that the host types where it has lost the thread: once at the beginning, and then once for
+// each mishap that it survives.
 const RESYNCHRONISE: u8 = b'Z';
 
-/// More characters than these a console answers to no key.
+// More characters than these a console answers to no key.
 const LONGEST_ANSWER: u32 = 32;
 
 /// How far it is.
 #[derive(Clone, Copy)]
-pub struct Tally {
+pub(crate) struct Tally {
     /// How many words there are.
     pub words: u32,
 

@@ -5,7 +5,7 @@ use crate::onlooker::Onlooker;
 use host_core::Heard;
 use load_devices::{Line, LineFault};
 
-/// The key with which a reading closes a word once it has read it.
+// The key with which a reading closes a word once it has read it.
 const RETURN: u8 = b'\r';
 
 /// A line that tells an onlooker of what was sent and heard, and is otherwise the line in it.

@@ -11,7 +11,7 @@ use Rattle.load_record.specs.declared.version.Version.TheVariants.{Second}
 use Rattle.load_record.specs.declared.run.OpenRun.{OpenRun}
 use Rattle.byte_io.specs.declared.output.WriteFault.{WriteFault}
 use Rattle.byte_io.specs.Output.{WritesProperPrefix}
-use Rattle.load_record.specs.Keeper.{Keeper, Wrote, Failed, HoldsRecord}
+use Rattle.load_record.specs.Keeper.{Keeper, Lasts, Wrote, Failed, HoldsRecord}
 use Rattle.load_record.specs.RecordText.{second_piece, second_run, words_text}
 use Rattle.load_record.proofs.Pieces.{words_text-more, open_run-more}
 use Rattle.byte_io.proofs.Fronts.{front_prefix, front_whole}
@@ -50,12 +50,13 @@ failed_now before after between (Err failed) (Err fault) text run none ok err ke
 -- a call that wrote its text
 pub wrote_now : (before after : Keeper) (between : Option (List ℕ)) (written : Result (Option OpenRun) WriteFault) (result : Result (Unit {0}) KeepFault) (text : List ℕ) (run : Option OpenRun)
     → before.failures ≤ 0 → IfOk written (λ now_open. (now_open ≡ run) × Appends before.text between text) → Keeps between after.text
-    → OnOk result (IfOk written (λ now_open. after.run ≡ now_open) × IsOk written × (after.failures ≡ before.failures)) → OnOk result (Wrote before after text run)
+    → OnOk result (IfOk written (λ now_open. after.run ≡ now_open) × IsOk written × (after.failures ≡ before.failures) × Lasts after.lasting after.text) → OnOk result (Wrote before after text run)
 wrote_now before after between written (Err fault) text run none ok kept settled = tt
 wrote_now before after between (Err failed) (Ok x) text run none ok kept settled = let no_write = settled.1 in absurd (cc no_write)
 wrote_now before after between (Ok now_open) (Ok x) text run none ok kept settled = record {
   sound = omega arith;
   appended = Appends-kept before.text between after.text text ok.1 kept;
+  lasts = settled.3;
   now_open = settled.0 ∙ ok.0;
   no_failure = let same = settled.2 in omega arith;
 }

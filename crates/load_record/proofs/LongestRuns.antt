@@ -1,5 +1,5 @@
 -- In version 2 the run lines of a record are as long as they may be.
-use Rattle.std.proofs.Common.{◌≡◌, ℕ, ◌+◌, Bool, true, false, cond, List, [], ◌∷◌, ◌++◌, length, take, Option, Some, None, arith, ap, sym, refl, ◌∙◌, subst, append-nil, inl, inr, ◌&&◌, ◌==◌, nat_lt, ◌⊎◌, rules}
+use Rattle.std.proofs.Common.{◌≡◌, ℕ, Bool, true, false, cond, List, [], ◌∷◌, ◌++◌, take, Some, None, ap, sym, refl, ◌∙◌, subst, append-nil, inl, inr, ◌&&◌, ◌==◌, nat_lt, rules}
 use Rattle.std.proofs.lemmas.List.{append_assoc}
 use Rattle.std.proofs.lemmas.Bool.{false≢true}
 use Rattle.std.specs.List.{AllZip, flat_map}

@@ -1,5 +1,5 @@
 -- A keeper that writes a record of version 2, as one value, and what its calls do to it.
-use Rattle.std.specs.Prelude.{◌≡◌, ℕ, ◌<◌, nat_lt, if◌then◌else◌, false, List, Option, Some, None}
+use Rattle.std.specs.Prelude.{◌≡◌, ℕ, ◌<◌, nat_lt, if◌then◌else◌, false, List, Option, Some, None, ⊤}
 use Rattle.std.specs.Io.KnownBytes.{Appends, Keeps}
 use Rattle.byte_io.specs.Output.{WritesPrefix}
 use Rattle.tape_image.specs.Plan.{PlanValue}
@@ -12,9 +12,11 @@ use Rattle.load_record.specs.declared.version.Version.TheVariants.{Second}
 use Rattle.load_record.specs.declared.run.OpenRun.{OpenRun}
 use Rattle.load_record.specs.RecordText.{open_run, record_text, second_piece, second_run, mark_text}
 
--- what the writer holds, where it tells its bytes; the run line that stands open; and how many calls have failed
+-- what the writer holds and what of it lasts, where it tells its bytes; the run line that stands open; and how many calls
+-- have failed
 pub record Keeper : Type 0 where
   pub text : Option (List ℕ)
+  pub lasting : Option (List ℕ)
   pub run : Option OpenRun
   pub failures : ℕ
 
@@ -22,10 +24,16 @@ pub record Keeper : Type 0 where
 abbrev pub fault_now : ℕ → Option KeepFault
 fault_now failures = if nat_lt 0 failures then Some Write else None
 
--- a call that succeeds: none has failed, the text was written, and this run line stands open now
+-- all that was written is what a loss of power leaves, where the writer tells that
+abbrev pub Lasts : Option (List ℕ) → Option (List ℕ) → Type 0
+Lasts None written = ⊤
+Lasts (Some left) written = written ≡ Some left
+
+-- a call that succeeds: none has failed, the text was written and lasts, and this run line stands open now
 pub record Wrote (before after : Keeper) (text : List ℕ) (run : Option OpenRun) : Type 0 where
   pub sound : before.failures ≡ 0
   pub appended : Appends before.text after.text text
+  pub lasts : Lasts after.lasting after.text
   pub now_open : after.run ≡ run
   pub no_failure : after.failures ≡ 0
 

@@ -5,34 +5,34 @@ ghost use Rattle.tape_image.specs.Plan.{PlanValue};
 ghost use Rattle.load_devices.specs.Failures.{one_more};
 ghost use Rattle.load_devices.specs.declared.fault.KeepFault.{KeepFault};
 ghost use Rattle.load_record.specs.declared.version.Version.TheVariants.{Second};
-ghost use Rattle.load_record.specs.Keeper.{Failed, HasCutShort, HasKept, HoldsRecord, Wrote, fault_now};
+ghost use Rattle.load_record.specs.Keeper.{Failed, HasCutShort, HasKept, HoldsRecord, Lasts, Wrote, fault_now};
 ghost use Rattle.load_record.specs.RecordText.{ending, mark_text, open_run, record_text, second_piece, second_run};
 
+use crate::lasting_write::LastingWrite;
 use crate::output::{write_begin, write_mark, write_word};
 use crate::run::OpenRun;
 use byte_io::WriteFault;
 use load_devices::{Keep, KeepFault};
-use std::io::Write;
 use std::marker::Model;
 use tape_image::{Plan, Word};
 
 /// A keeper that writes the record, version 2, to a writer: each call writes what the record gains,
-/// and flushes.
+/// and makes it last before it answers.
 ///
 /// The one fault is `Write`, where the writer failed or took nothing; it is not asked again. How
 /// much of the text went out is then not known, so every later call answers `Write`, is counted and
 /// writes nothing. What such a file holds is still read, as what went out whole.
 ///
-/// Contracts see what the writer holds, where it tells its bytes, the run line that stands open at
-/// its end, and how many calls have failed.
+/// Contracts see what the writer holds and what of it lasts, where it tells its bytes, the run line that
+/// stands open at its end, and how many calls have failed.
 #[derive(Drop)]
-pub struct FileKeep<W: Write> {
+pub struct FileKeep<W: LastingWrite> {
     writer: W,
     run: Option<OpenRun>,
     failures: u64,
 }
 
-impl<W: Write> Model for FileKeep<W> {
+impl<W: LastingWrite> Model for FileKeep<W> {
     ghost use Rattle.std.specs.Coded.{codes};
     ghost use Rattle.load_record.specs.Keeper.{Keeper};
 
@@ -40,13 +40,13 @@ impl<W: Write> Model for FileKeep<W> {
 
     ghost coded = { Prim.hlevel codes };
 
-    ghost view = { λ k. record { text = W.contents k.writer; run = k.run; failures = k.failures } };
+    ghost view = { λ k. record { text = W.contents k.writer; lasting = W.lasting k.writer; run = k.run; failures = k.failures } };
 }
 
-impl<W: Write> FileKeep<W> {
+impl<W: LastingWrite> FileKeep<W> {
     /// A keeper that has written nothing to the writer yet.
     pub fn new(writer: W) -> FileKeep<W>
-        ensures { result ≡ record { text = W.contents writer; run = None; failures = 0 } }
+        ensures { result ≡ record { text = W.contents writer; lasting = W.lasting writer; run = None; failures = 0 } }
     {
         FileKeep {
             writer,
@@ -73,7 +73,8 @@ impl<W: Write> FileKeep<W> {
 
     /// The writer.
     pub fn writer(&self) -> &W
-        ensures { W.contents result.now ≡ self.now.text }
+        ensures text { W.contents result.now ≡ self.now.text }
+        ensures lasting { W.lasting result.now ≡ self.now.lasting }
     {
         &self.writer
     }
@@ -85,14 +86,15 @@ impl<W: Write> FileKeep<W> {
         self.failures > 0
     }
 
-    // Flushes what a call wrote, and takes note of the run line that stands open, or of the fault.
+    // Makes last what a call wrote, and takes note of the run line that stands open, or of the fault.
     fn settle(&mut self, written: Result<Option<OpenRun>, WriteFault>) -> Result<(), KeepFault>
-        ensures ok { OnOk result (IfOk written (λ run. self.new.run ≡ run) × IsOk written × (self.new.failures ≡ self.old.failures)) }
+        ensures ok { OnOk result (IfOk written (λ run. self.new.run ≡ run) × IsOk written × (self.new.failures ≡ self.old.failures)
+            × Lasts self.new.lasting self.new.text) }
         ensures err { IfErr result (λ fault. (fault ≡ KeepFault.Write) × (self.new.failures ≡ one_more self.old.failures)) }
         ensures text { Keeps self.old.text self.new.text }
     {
         if let Ok(run) = written
-            && self.writer.flush().is_ok()
+            && self.writer.make_last().is_ok()
         {
             self.run = run;
             return Ok(());
@@ -102,7 +104,7 @@ impl<W: Write> FileKeep<W> {
     }
 }
 
-impl<W: Write> Keep for FileKeep<W> {
+impl<W: LastingWrite> Keep for FileKeep<W> {
     ghost keeps = { λ before item after. HasKept before item after };
 
     ghost fails = { λ before item after. HasCutShort before item after };

@@ -10,6 +10,7 @@
 #![tactic(auto)]
 
 mod file_keep;
+mod lasting_write;
 mod law;
 mod line;
 mod output;
@@ -18,6 +19,7 @@ mod run;
 mod version;
 
 pub use file_keep::FileKeep;
+pub use lasting_write::LastingWrite;
 pub use law::{cut_record, first_lines, longest_runs, whole_record};
 pub use reader::{RECORD_LIMIT, RecordError, read_record};
 pub use version::Version;

@@ -5,6 +5,7 @@ ghost use Rattle.machine_load.specs.Driving.{ending_of, line_told, IsLoadReporte
 ghost use Rattle.machine_load.specs.Lives.{of_file};
 ghost use Rattle.record_file.specs.RecordFault.{IsUnbegun};
 
+use crate::disk_text::DiskText;
 use honest_line::MemoryLine;
 use load_devices::LineFault;
 use load_progress::Unwatched;
@@ -30,7 +31,7 @@ pub struct Bench {
     fail_at: Option<u64>,
 
     /// The record, with the keeper that has written it.
-    keeper: FileKeep<Vec<u8>>,
+    keeper: FileKeep<DiskText>,
 }
 
 impl Bench {
@@ -40,7 +41,7 @@ impl Bench {
             alloc,
             odt: Some(odt),
             fail_at: None,
-            keeper: FileKeep::new(Vec::new(alloc)),
+            keeper: FileKeep::new(DiskText::new(alloc)),
         }
     }
 
@@ -56,14 +57,19 @@ impl Bench {
 
     /// What the record is.
     pub fn record(&self) -> &[u8] {
-        self.keeper.writer()
+        self.keeper.writer().text()
+    }
+
+    /// What a loss of power would leave of it.
+    pub fn left(&self) -> &[u8] {
+        self.keeper.writer().left()
     }
 }
 
 impl Surroundings for Bench {
     type Line = MemoryLine;
 
-    type Keeper = FileKeep<Vec<u8>>;
+    type Keeper = FileKeep<DiskText>;
 
     ghost record_text = { λ bench. bench.keeper.text };
 
@@ -72,7 +78,7 @@ impl Surroundings for Bench {
     ghost begins = { λ keeper plan count. HoldsRecord keeper plan count };
 
     fn read_record(&mut self, alloc: Global) -> Result<OldRecord, RecordFault> {
-        let text = Vec::from_slice(alloc, self.keeper.writer())?;
+        let text = Vec::from_slice(alloc, self.keeper.writer().text())?;
         Ok(OldRecord {
             text,
             writable: true,
@@ -94,22 +100,22 @@ impl Surroundings for Bench {
         alloc: Global,
         plan: &Plan,
         verified: u32,
-    ) -> Result<FileKeep<Vec<u8>>, RecordFault> {
+    ) -> Result<FileKeep<DiskText>, RecordFault> {
         self.keeper = begun(alloc, plan, verified)?;
         begun(alloc, plan, verified)
     }
 
-    fn end_record(&mut self, keeper: FileKeep<Vec<u8>>) {
+    fn end_record(&mut self, keeper: FileKeep<DiskText>) {
         self.keeper = keeper;
     }
 }
 
 // A new record of the first verified words of a plan.
-fn begun(alloc: Global, plan: &Plan, verified: u32) -> Result<FileKeep<Vec<u8>>, RecordFault>
+fn begun(alloc: Global, plan: &Plan, verified: u32) -> Result<FileKeep<DiskText>, RecordFault>
     ensures begun { IfOk result (λ keeper. HoldsRecord keeper plan.now verified) }
     ensures fault { IfErr result IsUnbegun }
 {
-    let mut keeper = FileKeep::new(Vec::new(alloc));
+    let mut keeper = FileKeep::new(DiskText::new(alloc));
     keeper.begin(plan, verified)?;
     Ok(keeper)
 }

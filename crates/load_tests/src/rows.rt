@@ -104,9 +104,9 @@ impl Row {
         }
     }
 
-    /// Whether the word stands, and the record is whole.
+    /// Whether the word stands, and the record is whole, also on the disk.
     fn is_whole(&self) -> bool {
-        self.word == Some(WORD) && self.bench.record() == RECORD
+        self.word == Some(WORD) && self.bench.record() == RECORD && self.bench.left() == RECORD
     }
 }
 

@@ -15,7 +15,7 @@ pub gathers_none : (text : List ℕ) → Gathers text text []
 gathers_none text = record { made = λ more are. are; only = λ all are. (all, refl, are) }
 
 -- a text begins with one code
-pub one_code : (text : List ℕ) (c d : ℕ) (after rest : List ℕ) → BeginsWithCode text c after → BeginsWithCode text d rest → (c ≡ d) × (after ≡ rest)
+one_code : (text : List ℕ) (c d : ℕ) (after rest : List ℕ) → BeginsWithCode text c after → BeginsWithCode text d rest → (c ≡ d) × (after ≡ rest)
 one_code text c d after rest a b =
     let same : 32 ∷ a.high ∷ a.low ∷ after ≡ 32 ∷ b.high ∷ b.low ∷ rest = sym a.spelled ∙ b.spelled in
     let high : a.high ≡ b.high = cc in
@@ -36,7 +36,7 @@ gathers_more text rest after characters c so begins = record {
   only = λ all are. let left = so.only all are in onward text rest after characters all left.0 c begins left.1 left.2;
 }
 
-pub gathers_all : (text characters : List ℕ) → Gathers text [] characters → AreCodes text characters
+gathers_all : (text characters : List ℕ) → Gathers text [] characters → AreCodes text characters
 gathers_all text characters so = subst (AreCodes text) (append-nil characters) (so.made [] refl)
 
 -- what no code begins has none left
@@ -44,7 +44,7 @@ stuck : (rest more : List ℕ) → ((c : ℕ) (after : List ℕ) → BeginsWithC
 stuck rest [] none are = (refl, are)
 stuck rest (c ∷ more) none are = absurd (none c are.0 are.1)
 
-pub gathers_stuck : (text rest characters all : List ℕ) → Gathers text rest characters → ((c : ℕ) (after : List ℕ) → BeginsWithCode rest c after → ⊥) → AreCodes text all → (all ≡ characters) × (rest ≡ [])
+gathers_stuck : (text rest characters all : List ℕ) → Gathers text rest characters → ((c : ℕ) (after : List ℕ) → BeginsWithCode rest c after → ⊥) → AreCodes text all → (all ≡ characters) × (rest ≡ [])
 gathers_stuck text rest characters all so none are =
     let left = so.only all are in
     let end = stuck rest left.0 none left.2 in

@@ -13,13 +13,13 @@ use Rattle.loss_scripts.specs.Script.{first_in, words_in, style_in, patience_in,
 use Rattle.loss_scripts.specs.Draft.{HasNamed, Joins}
 
 -- what was named stays, and else the next may name it
-abbrev pub first_or : {A : Type 0} → Option A → Option A → Option A
+abbrev first_or : {A : Type 0} → Option A → Option A → Option A
 first_or old None = old
 first_or None (Some x) = Some x
 first_or (Some y) (Some x) = Some y
 
 -- a list, with one more where there is one
-abbrev pub and_one : {A : Type 0} → List A → Option A → List A
+abbrev and_one : {A : Type 0} → List A → Option A → List A
 and_one xs None = xs
 and_one xs (Some x) = xs ++ x ∷ []
 

@@ -9,7 +9,7 @@ use Rattle.octal.specs.Octal.{IsOct6}
 use Rattle.loss_scripts.specs.Line.{IsNumber, HasNumber, IsPut, IsCounted}
 
 -- a text has one number
-pub one_number : (text : List ℕ) (m n : ℕ) → IsNumber text m → IsNumber text n → m ≡ n
+one_number : (text : List ℕ) (m n : ℕ) → IsNumber text m → IsNumber text n → m ≡ n
 one_number text m n a b = sym a.value ∙ b.value
 
 -- behind a keyword stands no number, so the line has none

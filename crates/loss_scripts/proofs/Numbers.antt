@@ -8,7 +8,7 @@ use Rattle.std.proofs.lemmas.Str.Parse.{digits_value_short, numerals_by_value, t
 use Rattle.loss_scripts.specs.Line.{IsNumber}
 
 -- each character of a numeral is a digit
-pub digit_in : (radix : ℕ) (text : List ℕ) (i : ℕ) → AllDigits radix text → i < length text → digit_value (get_or text i 0) < radix
+digit_in : (radix : ℕ) (text : List ℕ) (i : ℕ) → AllDigits radix text → i < length text → digit_value (get_or text i 0) < radix
 digit_in radix [] i all within = absurd (omega arith)
 digit_in radix (c ∷ cs) zero all within = all.0
 digit_in radix (c ∷ cs) (suc i) all within = digit_in radix cs i all.1 (omega arith)

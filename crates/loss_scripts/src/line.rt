@@ -27,7 +27,7 @@ pub type Waiting = ArrayVec<u8, MOST_WAITING>;
 
 /// What a setup line says.
 #[derive(Drop)]
-pub enum Setting {
+pub(crate) enum Setting {
     /// `words N`: the size of the machine.
     Words(u16),
 
@@ -59,7 +59,7 @@ pub enum Step {
 
 /// What a line of a script says.
 #[derive(Drop)]
-pub enum Line {
+pub(crate) enum Line {
     /// Nothing: it is empty or a comment.
     Blank,
 
@@ -251,7 +251,7 @@ fn read_step(text: &[u8]) -> Option<Step>
 }
 
 /// What a line says, without the characters that end it: `None` where it is of no form.
-pub fn read_line(text: &[u8]) -> Option<Line>
+pub(crate) fn read_line(text: &[u8]) -> Option<Line>
     ensures found { IfSome result (IsLine text.now) }
     ensures none { IfNone result ((said : Line) → IsLine text.now said → ⊥) }
 {

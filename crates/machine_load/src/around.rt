@@ -23,6 +23,10 @@ impl<C: Reach, R: Records> Surroundings for Around<C, R> {
 
     type Keeper = R::Keeper;
 
+    ghost asked = { λ around. C.asked around.console };
+
+    ghost call = { λ around. C.call around.console };
+
     ghost begins = { λ keeper plan count. R.begins keeper plan count };
 
     fn read_record(&mut self, alloc: Global) -> Result<OldRecord, RecordFault> {

@@ -10,6 +10,9 @@ ghost use Rattle.load_engine.specs.Keeping.{KeptBy};
 ghost use Rattle.load_engine.specs.Session.{KeepsMarkFirst, Session, TellsEnd};
 ghost use Rattle.host_core.specs.Opening.{refusal_of};
 ghost use Rattle.load_record.specs.Reading.{Says};
+ghost use Rattle.load_devices.specs.Told.{Gains};
+ghost use Rattle.machine_load.specs.Called.{asked_by, IsAskedBefore};
+ghost use Rattle.stream_line.specs.Dialling.{asked_once};
 ghost use Rattle.machine_load.specs.Driving.{ending_of, finish_of, keeper_tells, line_told, IsDrivenLife, IsLived, IsLoadReported, IsLoadUntold};
 ghost use Rattle.machine_load.specs.Load.{around_of, setting, Asks, IsNeverBegun, IsOpening, IsReported, words_taken};
 ghost use Rattle.machine_load.specs.LoadFault.{IsLoadFault, IsOpeningFault, IsDrivingFault, IsReportFault};
@@ -76,6 +79,8 @@ pub fn load<S: Surroundings, W: Write, O: Onlooker>(
         (setting S.steps S.record_text W.contents around.old out.old)
         (setting S.steps S.record_text W.contents around.new out.new)) }
     ensures line { IfOk result (λ outcome. IsSome outcome.line ⊎ IsNeverBegun outcome.stop) }
+    ensures asked { IfOk result (λ outcome. Gains (S.asked around.old) (S.asked around.new) (asked_by (S.call around.old) outcome.line)) }
+    ensures asked_in_vain { IfErr result (IsAskedBefore (S.call around.old) (S.asked around.old) (S.asked around.new)) }
     ensures fault { IfErr result (IsLoadFault plan options
         (setting S.steps S.record_text W.contents around.old out.old)
         (setting S.steps S.record_text W.contents around.new out.new)) }
@@ -126,6 +131,8 @@ fn open<S: Surroundings>(
         (around_of S.steps S.record_text around.old)
         (around_of S.steps S.record_text around.new)) }
     ensures same { Keeps (S.record_text around.old) (S.record_text around.new) }
+    ensures asked { S.asked around.new ≡ S.asked around.old }
+    ensures call { S.call around.new ≡ S.call around.old }
 {
     let record = around.read_record(alloc)?;
     let said = what_is_said(&record.text, &plan)?;
@@ -180,6 +187,8 @@ fn live<S: Surroundings, O: Onlooker>(
     ensures fault { IfErr result (IsDrivingFault writable
         (around_of S.steps S.record_text around.old)
         (around_of S.steps S.record_text around.new)) }
+    ensures asked { IfOk result (λ lived. Gains (S.asked around.old) (S.asked around.new) (asked_by (S.call around.old) lived.line)) }
+    ensures asked_in_vain { IfErr result (IsAskedBefore (S.call around.old) (S.asked around.old) (S.asked around.new)) }
 {
     match core.end() {
         Some(end) => Ok(Lived {
@@ -223,6 +232,8 @@ fn drive_over<S: Surroundings, O: Onlooker>(
     ensures fault { IfErr result (IsDrivingFault true
         (around_of S.steps S.record_text around.old)
         (around_of S.steps S.record_text around.new)) }
+    ensures asked { IfOk result (λ driven. Gains (S.asked around.old) (S.asked around.new) (asked_once (S.call around.old))) }
+    ensures asked_in_vain { IfErr result (IsAskedBefore (S.call around.old) (S.asked around.old) (S.asked around.new)) }
 {
     let line = around.connect()?;
     let verified = core.progress().verified;

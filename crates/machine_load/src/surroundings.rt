@@ -4,6 +4,7 @@ ghost use Rattle.load_devices.specs.Told.{Gains};
 ghost use Rattle.machine_load.specs.Load.{IsBegun, IsRecordText};
 ghost use Rattle.record_file.specs.RecordFault.{IsUnread, IsUnbegun};
 ghost use Rattle.console_reach.specs.Reached.{IsFresh};
+ghost use Rattle.stream_line.specs.Dialling.{Asked, Call, asked_for};
 ghost use Rattle.tape_image.specs.Plan.{PlanValue};
 ghost use Rattle.machine_load.specs.Step.{Step, EndRecord, read_step, connect_step, begin_step};
 
@@ -24,6 +25,12 @@ pub trait Surroundings {
     /// What was asked so far, in its order, with what was answered; None where the type doesn't tell.
     ghost steps: { Self → Option (List Step) } = { λ _. None };
 
+    /// What was asked of the network so far; None where the type doesn't tell.
+    ghost asked: { Self → Option (List Asked) } = { λ _. None };
+
+    /// Whom a connection leads to, and with which quiet time, where the type tells what was asked.
+    ghost call: { Self → Call } = { λ _. record { name = []; quiet_ms = 0 } };
+
     /// What the record is; None where the type doesn't tell.
     ghost record_text: { Self → Option (List ℕ) } = { λ _. None };
 
@@ -39,13 +46,16 @@ pub trait Surroundings {
         ensures step { Gains (steps self.old) (steps self.new) (read_step result ∷ []) }
         ensures text { IfOk result (λ old. IsRecordText (record_text self.old) old.text.items) }
         ensures fault { IfErr result IsUnread }
-        ensures same { Keeps (record_text self.old) (record_text self.new) };
+        ensures same { Keeps (record_text self.old) (record_text self.new) }
+        ensures asked { asked self.new ≡ asked self.old }
+        ensures call { call self.new ≡ call self.old };
 
     /// A connection to the console, on which nothing was said.
     fn connect(&mut self) -> Result<Self::Line, LineFault>
         ensures step { Gains (steps self.old) (steps self.new) (connect_step result ∷ []) }
         ensures fresh { IfOk result (λ line. IsFresh (Self.Line.told line) (Self.Line.fault_count line) (Self.Line.last_fault line)) }
-        ensures same { Keeps (record_text self.old) (record_text self.new) };
+        ensures same { Keeps (record_text self.old) (record_text self.new) }
+        ensures asked { Gains (asked self.old) (asked self.new) (asked_for (call self.old) result) };
 
     /// Writes the record anew, with the first verified words of the plan, and keeps it from there on.
     fn begin_record(
@@ -57,10 +67,12 @@ pub trait Surroundings {
         ensures step { Gains (steps self.old) (steps self.new) (begin_step result ∷ []) }
         ensures fault { IfErr result IsUnbegun }
         ensures begun { OnOk result (IsBegun (record_text self.new) plan.now verified) }
-        ensures keeper { IfOk result (λ keeper. begins keeper plan.now verified) };
+        ensures keeper { IfOk result (λ keeper. begins keeper plan.now verified) }
+        ensures asked { asked self.new ≡ asked self.old };
 
     /// Takes back the keeper of a life that is over: the record is what it has kept.
     fn end_record(&mut self, keeper: Self::Keeper)
         ensures step { Gains (steps self.old) (steps self.new) (EndRecord ∷ []) }
-        ensures text { record_text self.new ≡ kept_text keeper };
+        ensures text { record_text self.new ≡ kept_text keeper }
+        ensures asked { asked self.new ≡ asked self.old };
 }

@@ -2,16 +2,17 @@
 use Rattle.std.proofs.Common.{◌≡◌, ℕ, true, false, eqb, List, [], ◌∷◌, ◌++◌, length, Option, None, Some, Result, Ok, Err, IfErr, IfOk, IsErrAnd, refl, arith, ap, sym, subst, ◌∙◌, inl, inr, append_assoc, append-nil, OnOk}
 use Rattle.std.proofs.lemmas.Bool.{eqb-true}
 use Rattle.std.specs.Io.KnownBytes.{Keeps}
-use Rattle.tape_blocks.specs.Tape.{plain_text}
+use Rattle.tape_blocks.specs.Tape.{TapeValue, plain_text}
 use Rattle.load_devices.specs.Told.{Gains}
 use Rattle.reading_core.specs.Reader.{Reader}
 use Rattle.reading_engine.specs.declared.stop.Stop.{Stop}
 use Rattle.machine_look.specs.declared.look_fault.LookFault.{LookFault}
 use Rattle.machine_look.specs.declared.look_fault.LookFault.TheVariants.{IsThere, WriteTape, Connect, WriteOutput, Memory}
+use Rattle.machine_look.specs.declared.saving.SaveOptions.{SaveOptions}
 use Rattle.machine_look.specs.declared.shelf.ShelfFault.{ShelfFault}
 use Rattle.machine_look.specs.declared.shelf.ShelfFault.TheVariants as why
 use Rattle.machine_look.specs.LookFault.{IsKeepFault, IsSaveFault, fault_of_shelf}
-use Rattle.machine_look.specs.Save.{IsRead, puts}
+use Rattle.machine_look.specs.Save.{IsRead, SaveTold, puts, tape_to_save}
 use Rattle.machine_look.specs.SavedTape.{saved_tape}
 use Rattle.machine_look.specs.Shelf.{Step, Reserve, Put, NotPut, reserve_step, put_step, IsPutFault}
 
@@ -37,29 +38,28 @@ puts_some from (n ∷ numbers) start some = refl
 
 -- ---- how a save fails
 
-pub not_reserved : (from to start patience : ℕ) (shelf shelf' : Option (List Step)) (tries : Option ℕ) (out : Option (List ℕ)) (fault : ShelfFault)
-    → Gains shelf shelf' (reserve_step (Err fault) ∷ []) → Keeps out out → IsSaveFault from to start patience shelf shelf' tries tries out out (fault_of_shelf fault)
-not_reserved from to start patience shelf shelf' tries out why.IsThere step same = inl (record { refused = step; not_tried = refl; nothing_reported = same })
-not_reserved from to start patience shelf shelf' tries out why.Write step same = inl (record { refused = step; not_tried = refl; nothing_reported = same })
-not_reserved from to start patience shelf shelf' tries out why.Memory step same = (inr (inl step), same)
+pub not_reserved : (options : SaveOptions) (before after : SaveTold) (fault : ShelfFault) → Gains before.steps after.steps (reserve_step (Err fault) ∷ [])
+    → after.tries ≡ before.tries → Keeps before.out after.out → IsSaveFault options before after (fault_of_shelf fault)
+not_reserved options before after why.IsThere step untried same = inl (record { refused = step; not_tried = untried; nothing_reported = same })
+not_reserved options before after why.Write step untried same = inl (record { refused = step; not_tried = untried; nothing_reported = same })
+not_reserved options before after why.Memory step untried same = (inr (inl step), same)
 
 -- a tape that the shelf does not take
-pub not_put : (from : ℕ) (numbers : List ℕ) (start : ℕ) (shelf shelf' : Option (List Step)) (text : List ℕ) (fault : ShelfFault) → text ≡ plain_text (saved_tape from numbers start)
-    → IsPutFault fault → Gains shelf shelf' (put_step text (Err fault) ∷ []) → IsKeepFault from numbers start shelf shelf' (fault_of_shelf fault)
-not_put from numbers start shelf shelf' text why.IsThere is can step = subst (λ t. Gains shelf shelf' (NotPut t why.IsThere ∷ [])) is step
-not_put from numbers start shelf shelf' text why.Write is can step = subst (λ t. Gains shelf shelf' (NotPut t why.Write ∷ [])) is step
-not_put from numbers start shelf shelf' text why.Memory is can step = absurd can
+pub not_put : (tape : TapeValue) (shelf shelf' : Option (List Step)) (text : List ℕ) (fault : ShelfFault) → text ≡ plain_text tape → IsPutFault fault
+    → Gains shelf shelf' (put_step text (Err fault) ∷ []) → IsKeepFault tape shelf shelf' (fault_of_shelf fault)
+not_put tape shelf shelf' text why.IsThere is can step = subst (λ t. Gains shelf shelf' (NotPut t why.IsThere ∷ [])) is step
+not_put tape shelf shelf' text why.Write is can step = subst (λ t. Gains shelf shelf' (NotPut t why.Write ∷ [])) is step
+not_put tape shelf shelf' text why.Memory is can step = absurd can
 
-pub not_kept : (from to start patience : ℕ) (shelf mid shelf' : Option (List Step)) (tries tries' : Option ℕ) (out : Option (List ℕ)) (last : Reader) (stop : Stop) (fault : LookFault)
-    → Gains shelf mid (Reserve ∷ []) → IsRead from to start patience tries tries' last stop → IsKeepFault from last.values start mid shelf' fault → Keeps out out
-    → IsSaveFault from to start patience shelf shelf' tries tries' out out fault
-not_kept from to start patience shelf mid shelf' tries tries' out last stop IsThere reserved read fails same =
-    inr (record { last = last; stop = stop; is_read = read; refused = gains_then shelf mid shelf' _ _ reserved fails; nothing_reported = same })
-not_kept from to start patience shelf mid shelf' tries tries' out last stop WriteTape reserved read fails same =
-    inr (record { last = last; stop = stop; is_read = read; refused = gains_then shelf mid shelf' _ _ reserved fails; nothing_reported = same })
-not_kept from to start patience shelf mid shelf' tries tries' out last stop Memory reserved read fails same = (inr (inr (gains_then shelf mid shelf' _ _ reserved fails)), same)
-not_kept from to start patience shelf mid shelf' tries tries' out last stop Connect reserved read fails same = absurd fails
-not_kept from to start patience shelf mid shelf' tries tries' out last stop WriteOutput reserved read fails same = absurd fails
+pub not_kept : (options : SaveOptions) (before after : SaveTold) (mid : Option (List Step)) (last : Reader) (stop : Stop) (fault : LookFault) → Gains before.steps mid (Reserve ∷ [])
+    → IsRead options before after last stop → IsKeepFault (tape_to_save options last.values) mid after.steps fault → Keeps before.out after.out → IsSaveFault options before after fault
+not_kept options before after mid last stop IsThere reserved read fails same =
+    inr (record { last = last; stop = stop; is_read = read; refused = gains_then before.steps mid after.steps _ _ reserved fails; nothing_reported = same })
+not_kept options before after mid last stop WriteTape reserved read fails same =
+    inr (record { last = last; stop = stop; is_read = read; refused = gains_then before.steps mid after.steps _ _ reserved fails; nothing_reported = same })
+not_kept options before after mid last stop Memory reserved read fails same = (inr (inr (gains_then before.steps mid after.steps _ _ reserved fails)), same)
+not_kept options before after mid last stop Connect reserved read fails same = absurd fails
+not_kept options before after mid last stop WriteOutput reserved read fails same = absurd fails
 
 -- ---- results
 

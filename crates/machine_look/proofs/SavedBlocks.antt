@@ -54,7 +54,7 @@ one_more_block from numbers n = ap (saved_blocks from numbers) (next n) ∙ one_
 
 -- ---- their bytes
 
-pub bytes_length : (numbers : List ℕ) → length (flat_map low_first numbers) ≡ 2 * length numbers
+bytes_length : (numbers : List ℕ) → length (flat_map low_first numbers) ≡ 2 * length numbers
 bytes_length [] = refl
 bytes_length (n ∷ numbers) = omega (arith, bytes_length numbers)
 
@@ -95,7 +95,7 @@ these_left numbers n = omega (arith, length_take_no_more 256 (drop (256 * n) num
 these_some : (numbers : List ℕ) (n : ℕ) → 256 * n < length numbers → 0 < length (take 256 (drop (256 * n) numbers))
 these_some numbers n within = length_take_some 256 (drop (256 * n) numbers) (omega arith) (omega (arith, length-drop (256 * n) numbers))
 
-pub good_block : (from : ℕ) (numbers : List ℕ) (n : ℕ) → from + 2 * length numbers ≤ top → 256 * n < length numbers → IsBlock (saved_block from numbers n)
+good_block : (from : ℕ) (numbers : List ℕ) (n : ℕ) → from + 2 * length numbers ≤ top → 256 * n < length numbers → IsBlock (saved_block from numbers n)
 good_block from numbers n low within = record {
   not_empty = omega (arith, bytes_length (take 256 (drop (256 * n) numbers)), these_some numbers n within);
   below_top = omega (arith, bytes_length (take 256 (drop (256 * n) numbers)), these_left numbers n);
@@ -107,7 +107,7 @@ good_blocks from numbers (suc n) low few =
     subst (All IsBlock) (sym (one_more from numbers n))
     (All-push IsBlock (saved_blocks from numbers n) (saved_block from numbers n) (good_blocks from numbers n low (omega arith)) (good_block from numbers n low (omega arith)))
 
-pub real_bytes : (numbers : List ℕ) → All (λ n. n < 65536) numbers → All (λ byte. byte < 2 ^ 8) (flat_map low_first numbers)
+real_bytes : (numbers : List ℕ) → All (λ n. n < 65536) numbers → All (λ byte. byte < 2 ^ 8) (flat_map low_first numbers)
 real_bytes [] small = All-nil (λ byte. byte < 2 ^ 8)
 real_bytes (n ∷ numbers) small =
     let this : n < 65536 = All-head (λ n. n < 65536) n numbers small in

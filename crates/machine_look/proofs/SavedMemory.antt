@@ -1,5 +1,5 @@
 -- What was read over an honest line is what memory holds.
-use Rattle.std.proofs.Common.{◌≡◌, ℕ, zero, suc, ◌+◌, ◌-◌, ◌*◌, ◌/◌, ◌<◌, ◌≤◌, List, [], ◌∷◌, ◌++◌, length, get_or, map, take, cond, Option, None, refl, arith, ap, subst, ◌∙◌, inl, inr}
+use Rattle.std.proofs.Common.{◌≡◌, ℕ, zero, suc, ◌+◌, ◌-◌, ◌*◌, ◌/◌, ◌<◌, ◌≤◌, List, [], ◌∷◌, ◌++◌, length, get_or, map, take, cond, None, refl, arith, ap, subst, ◌∙◌, inl, inr}
 use Rattle.std.proofs.lemmas.Bool.{cases_lt, ne_eqb}
 use Rattle.std.proofs.lemmas.List.{get_or_append_left}
 use Rattle.std.proofs.Math.Seq.{get_or-append_seam}
@@ -11,8 +11,9 @@ use Rattle.reading_core.specs.declared.phase.Phase.TheVariants.{Settle, Ended as
 use Rattle.reading_core.specs.Reader.{Reader, begun, ended}
 use Rattle.reading_core.proofs.Asking.{one_more, length_from}
 use Rattle.reading_engine.specs.declared.stop.Stop.{Stop}
+use Rattle.machine_look.specs.declared.saving.SaveOptions.{SaveOptions}
 use Rattle.machine_look.specs.Look.{IsLook, TriesOnce}
-use Rattle.machine_look.specs.Save.{IsRead}
+use Rattle.machine_look.specs.Save.{IsRead, SaveTold, addresses_in}
 use Rattle.machine_look.specs.SavedTape.{whole_word, words_read, StandFrom}
 use Rattle.machine_look.proofs.Looks.{is_true}
 use Rattle.machine_look.proofs.SavedWords.{holds_what_was_read}
@@ -30,15 +31,15 @@ nr_from from (suc n) i low =
           ∙ (get_or-append_seam (addresses_from from n) (from + 2 * n) [] 0 ∙ (let same : from + 2 * n ≡ from + 2 * i = omega arith in same))
     ]
 
-pub range_stands : (from to : ℕ) → StandFrom from (addresses_between from to)
+range_stands : (from to : ℕ) → StandFrom from (addresses_between from to)
 range_stands from to i low = nr_from from ((to - from) / 2 + 1) i (omega (arith, length_from from ((to - from) / 2 + 1)))
 
-pub range_length : (from to : ℕ) → length (addresses_between from to) ≡ (to - from) / 2 + 1
+range_length : (from to : ℕ) → length (addresses_between from to) ≡ (to - from) / 2 + 1
 range_length from to = length_from from ((to - from) / 2 + 1)
 
 -- ---- the words
 
-pub words_are : (memory addresses numbers : List ℕ) → length numbers ≤ length addresses → ((i : ℕ) → i < length numbers → get_or numbers i 0 ≡ word_at memory (get_or addresses i 0))
+words_are : (memory addresses numbers : List ℕ) → length numbers ≤ length addresses → ((i : ℕ) → i < length numbers → get_or numbers i 0 ≡ word_at memory (get_or addresses i 0))
     → words_read addresses numbers ≡ map (λ address. whole_word address (word_at memory address)) (take (length numbers) addresses)
 words_are memory [] [] few holds = refl
 words_are memory [] (n ∷ numbers) few holds = absurd (omega arith)
@@ -51,16 +52,18 @@ words_are memory (a ∷ addresses) (n ∷ numbers) few holds =
 -- ---- a reading of a range
 
 -- there is something to read
-pub range_goes_on : (from to patience : ℕ) → ended (begun (addresses_between from to) [] patience).phase ≡ None
+range_goes_on : (from to patience : ℕ) → ended (begun (addresses_between from to) [] patience).phase ≡ None
 range_goes_on from to patience =
     ap (λ t. ended (cond t (Over Complete) Settle)) (ne_eqb 0 (length (addresses_between from to)) (λ none. omega (arith, none, range_length from to)))
 
-pub is_read : (from to start patience : ℕ) (last : Reader) (stop : Stop) (tries tries' : Option ℕ) → IsRange from to → start < 65536
-    → IsLook (begun (addresses_between from to) [] patience) last stop → TriesOnce None tries tries' → IsRead from to start patience tries tries' last stop
-is_read from to start patience last stop tries tries' range begins look tried =
+pub is_read : (options : SaveOptions) (before after : SaveTold) (last : Reader) (stop : Stop) → IsRange options.range.from options.range.to → options.start < 65536
+    → IsLook (begun (addresses_in options.range) [] options.patience) last stop → TriesOnce None before.tries after.tries → IsRead options before after last stop
+is_read options before after last stop range begins look tried =
+    let from = options.range.from in
+    let to = options.range.to in
     let few : length last.values ≤ length (addresses_between from to) = subst (λ (list : List ℕ). length last.values ≤ length list) look.addresses look.kept.within in
     let low : from + 2 * length last.values ≤ top = omega (arith, few, range_length from to, range.from_is.even, range.to_is.even, range.to_is.below, range.order) in
-    let holds = holds_what_was_read from (addresses_between from to) last.values start range.from_is.even low look.kept.numbers begins (range_stands from to) few in
+    let holds = holds_what_was_read from (addresses_between from to) last.values options.start range.from_is.even low look.kept.numbers begins (range_stands from to) few in
     record {
       look = look;
       tried = tried;
@@ -73,11 +76,11 @@ is_read from to start patience last stop tries tries' range begins look tried =
           );
     }
 
-pub read_of : (from to start patience : ℕ) (tries tries' : Option ℕ) (first last : Reader) (stop : Stop) → IsRange from to → start < 65536 → first ≡ begun (addresses_between from to) [] patience
-    → IsLook first last stop → TriesOnce (ended first.phase) tries tries' → IsRead from to start patience tries tries' last stop
-read_of from to start patience tries tries' first last stop range begins is look tried =
-    is_read from to start patience last stop tries tries' range begins (subst (λ r. IsLook r last stop) is look)
-    (subst (λ o. TriesOnce o tries tries') (ap (λ r. ended r.phase) is ∙ range_goes_on from to patience) tried)
+pub read_of : (options : SaveOptions) (before after : SaveTold) (first last : Reader) (stop : Stop) → IsRange options.range.from options.range.to → options.start < 65536
+    → first ≡ begun (addresses_in options.range) [] options.patience → IsLook first last stop → TriesOnce (ended first.phase) before.tries after.tries → IsRead options before after last stop
+read_of options before after first last stop range begins is look tried =
+    is_read options before after last stop range begins (subst (λ r. IsLook r last stop) is look)
+    (subst (λ o. TriesOnce o before.tries after.tries) (ap (λ r. ended r.phase) is ∙ range_goes_on options.range.from options.range.to options.patience) tried)
 
 -- the numbers that were read end at or below the top
 pub reads_low : (from to patience : ℕ) (first last : Reader) (stop : Stop) → IsRange from to → first ≡ begun (addresses_between from to) [] patience → IsLook first last stop → from + 2 * length last.values ≤ top

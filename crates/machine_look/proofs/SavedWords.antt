@@ -71,7 +71,7 @@ word_before a n b rest even above =
 stand_behind : (from a : ℕ) (addresses : List ℕ) → StandFrom from (a ∷ addresses) → StandFrom (from + 2) addresses
 stand_behind from a addresses stand i low = let this : get_or (a ∷ addresses) (suc i) 0 ≡ from + 2 * suc i = stand (suc i) (omega arith) in omega (arith, this)
 
-pub read_bytes : (from : ℕ) (addresses numbers : List ℕ) (b : ℕ) → from % 2 ≡ 0 → StandFrom from addresses → length numbers ≤ length addresses
+read_bytes : (from : ℕ) (addresses numbers : List ℕ) (b : ℕ) → from % 2 ≡ 0 → StandFrom from addresses → length numbers ≤ length addresses
     → byte_in (block_at from (flat_map low_first numbers)) b ≡ given_byte (words_read addresses numbers) b
 read_bytes from [] [] b even stand few = no_bytes from b
 read_bytes from [] (n ∷ numbers) b even stand few = absurd (omega arith)

@@ -1,5 +1,5 @@
 -- A verification that ends as `Same` over an honest line.
-use Rattle.std.proofs.Common.{◌≡◌, ℕ, ◌<◌, true, false, cond, eqb, List, [], ◌++◌, length, get_or, Some, Option, refl, arith, ap, sym, subst, ◌∙◌}
+use Rattle.std.proofs.Common.{◌≡◌, ℕ, ◌<◌, true, false, cond, eqb, List, [], ◌++◌, length, get_or, Some, refl, arith, ap, sym, subst, ◌∙◌}
 use Rattle.std.proofs.lemmas.Bool.{eqb-true}
 use Rattle.std.proofs.lemmas.List.{get_or-map, length-map}
 use Rattle.tape_image.specs.Plan.{PlanValue}
@@ -18,7 +18,7 @@ use Rattle.machine_look.specs.declared.difference.Difference.{Difference}
 use Rattle.machine_look.specs.declared.verify_end.VerifyEnd.{VerifyEnd}
 use Rattle.machine_look.specs.declared.verify_end.VerifyEnd.TheVariants.{Same, Differs}
 use Rattle.machine_look.specs.Differences.{differences}
-use Rattle.machine_look.specs.Look.{IsLook, OverHonestLine, TriesOnce}
+use Rattle.machine_look.specs.Look.{IsLook, LookTold, OverHonestLine, TriesOnce}
 use Rattle.machine_look.specs.Verify.{AllStand, IsSameWith, IsVerified}
 use Rattle.machine_look.specs.VerifyReport.{report_text, verify_end, verify_report}
 use Rattle.machine_look.proofs.Found.{none_differ}
@@ -46,7 +46,7 @@ stand_where_read words last before now keys lost are all none heard = record {
       subst (Stands (word_nr words i)) here (Stands-unchanged (word_nr words i) (get_or last.values i 0) (none_differ words last.values all none i low));
 }
 
-pub all_stand : (words : List WordValue) (first last : Reader) (stop : Stop) (look : IsLook first last stop) → first.addresses ≡ addresses_of words
+all_stand : (words : List WordValue) (first last : Reader) (stop : Stop) (look : IsLook first last stop) → first.addresses ≡ addresses_of words
     → verify_end (length (differences words last.values)) stop ≡ Same → OverHonestLine look (IsSameWith words)
 all_stand words first last stop look are same machine now lost may honest =
     let means = same_means (length (differences words last.values)) stop same in
@@ -61,13 +61,13 @@ all_stand words first last stop look are same machine now lost may honest =
 
 -- ---- a verification
 
-pub verified_of : (plan : PlanValue) (patience : ℕ) (tries tries' : Option ℕ) (first last : Reader) (stop : Stop) (end : VerifyEnd) → first ≡ begun (addresses_of plan.words) [] patience → IsLook first last stop
-    → TriesOnce (ended first.phase) tries tries' → end ≡ verify_end (length (differences plan.words last.values)) stop → IsVerified plan patience tries tries' last stop end
-verified_of plan patience tries tries' first last stop end is look tried ends =
+pub verified_of : (plan : PlanValue) (patience : ℕ) (before after : LookTold) (first last : Reader) (stop : Stop) (end : VerifyEnd) → first ≡ begun (addresses_of plan.words) [] patience → IsLook first last stop
+    → TriesOnce (ended first.phase) before.tries after.tries → end ≡ verify_end (length (differences plan.words last.values)) stop → IsVerified plan patience before after last stop end
+verified_of plan patience before after first last stop end is look tried ends =
     let moved : IsLook (begun (addresses_of plan.words) [] patience) last stop = subst (λ r. IsLook r last stop) is look in
     record {
       look = moved;
-      tried = subst (λ r. TriesOnce (ended r.phase) tries tries') is tried;
+      tried = subst (λ r. TriesOnce (ended r.phase) before.tries after.tries) is tried;
       end_is = ends;
       stand = λ same. all_stand plan.words (begun (addresses_of plan.words) [] patience) last stop moved refl (sym ends ∙ same);
     }

@@ -31,6 +31,14 @@ abbrev pub OverHonestLine : {first last : Reader} {stop : Stop} → IsLook first
 OverHonestLine {first} look holds =
     (machine now : Machine) (lost : ℕ) → MayLook first machine → IsHonest machine look.inquired.said lost now → holds machine now
 
+-- what a look's console and output tell: how often that one was tried to be reached, and what this one holds
+pub record LookTold : Type 0 where
+  pub tries : Option ℕ
+  pub out : Option (List ℕ)
+
+abbrev pub look_told : {R W : Type 0} → (R → Option ℕ) → (W → Option (List ℕ)) → R → W → LookTold
+look_told tries_of contents console out = record { tries = tries_of console; out = contents out }
+
 -- the console was tried to be reached once, where there is something to look at, and else not at all
 abbrev pub TriesOnce : Option End → Option ℕ → Option ℕ → Type 0
 TriesOnce (Some end) tries tries' = tries' ≡ tries

@@ -9,7 +9,9 @@ use Rattle.byte_io.specs.Output.{WritesAllBut}
 use Rattle.reading_core.specs.Addresses.{addresses_between}
 use Rattle.reading_core.specs.Reader.{Reader, begun}
 use Rattle.reading_engine.specs.declared.stop.Stop.{Stop}
+use Rattle.machine_look.specs.declared.range.AddressRange.{AddressRange}
 use Rattle.machine_look.specs.declared.save_end.SaveEnd.{SaveEnd}
+use Rattle.machine_look.specs.declared.saving.SaveOptions.{SaveOptions}
 use Rattle.machine_look.specs.declared.shelf.ShelfFault.{ShelfFault}
 use Rattle.machine_look.specs.Look.{IsLook, OverHonestLine, TriesOnce}
 use Rattle.machine_look.specs.SavedTape.{saved_tape, whole_word, HoldsWhatWasRead}
@@ -23,41 +25,60 @@ puts from (number ∷ numbers) start = Put (plain_text (saved_tape from (number 
 
 -- a memory is what it was, and the tape's plan has of it the words at these addresses, whole ones, and no others
 abbrev pub IsMemoryAt : List ℕ → TapeValue → Machine → Machine → Type 0
-IsMemoryAt addresses tape before now = (now.memory ≡ before.memory) × ((plan_of tape).words ≡ map (λ address. whole_word address (word_at now.memory address)) addresses)
+IsMemoryAt addresses tape before now =
+    (now.memory ≡ before.memory) × ((plan_of tape).words ≡ map (λ address. whole_word address (word_at now.memory address)) addresses)
 
--- the words from one address to another, both included, were looked at, once there was room for their tape
-pub record IsRead (from to start patience : ℕ) (tries tries' : Option ℕ) (last : Reader) (stop : Stop) : Type 0 where
-  pub look : IsLook (begun (addresses_between from to) [] patience) last stop
-  pub tried : TriesOnce None tries tries'
+-- what a save's shelf, console and output tell: what was asked of the first, how often the second was tried to be reached, and what the
+-- third holds
+pub record SaveTold : Type 0 where
+  pub steps : Option (List Step)
+  pub tries : Option ℕ
+  pub out : Option (List ℕ)
+
+abbrev pub save_told : {S R W : Type 0} → (S → Option (List Step)) → (R → Option ℕ) → (W → Option (List ℕ)) → S → R → W → SaveTold
+save_told steps_of tries_of contents shelf console out = record { steps = steps_of shelf; tries = tries_of console; out = contents out }
+
+-- the addresses of a range, both ends included
+abbrev pub addresses_in : AddressRange → List ℕ
+addresses_in range = addresses_between range.from range.to
+
+-- the tape of the numbers that a save has read
+abbrev pub tape_to_save : SaveOptions → List ℕ → TapeValue
+tape_to_save options numbers = saved_tape options.range.from numbers options.start
+
+-- the words of a save were looked at, once there was room for their tape
+pub record IsRead (options : SaveOptions) (before after : SaveTold) (last : Reader) (stop : Stop) : Type 0 where
+  pub look : IsLook (begun (addresses_in options.range) [] options.patience) last stop
+  pub tried : TriesOnce None before.tries after.tries
   -- the tape of what was read is memory, where the line was honest
-  pub holds : HoldsWhatWasRead (addresses_between from to) last.values (saved_tape from last.values start)
-  pub is_memory : OverHonestLine look (IsMemoryAt (take (length last.values) (addresses_between from to)) (saved_tape from last.values start))
+  pub holds : HoldsWhatWasRead (addresses_in options.range) last.values (tape_to_save options last.values)
+  pub is_memory : OverHonestLine look (IsMemoryAt (take (length last.values) (addresses_in options.range)) (tape_to_save options last.values))
 
--- what was read was saved, and so it ended
-pub record IsSaved (from to start patience : ℕ) (shelf shelf' : Option (List Step)) (tries tries' : Option ℕ) (last : Reader) (stop : Stop) : Type 0 where
-  pub is_read : IsRead from to start patience tries tries' last stop
-  pub is_put : Gains shelf shelf' (Reserve ∷ puts from last.values start)
+-- what was read was put where the tape goes, and so it ended
+pub record IsPut (options : SaveOptions) (before after : SaveTold) (last : Reader) (stop : Stop) : Type 0 where
+  pub is_read : IsRead options before after last stop
+  pub is_put : Gains before.steps after.steps (Reserve ∷ puts options.range.from last.values options.start)
 
 -- it was reported, too
-pub record IsSavedAndReported (from to start patience : ℕ) (shelf shelf' : Option (List Step)) (tries tries' : Option ℕ) (out out' : Option (List ℕ)) (end : SaveEnd) : Type 0 where
+pub record IsSavedAndReported (options : SaveOptions) (before after : SaveTold) (end : SaveEnd) : Type 0 where
   pub last : Reader
   pub stop : Stop
-  pub saved : IsSaved from to start patience shelf shelf' tries tries' last stop
+  pub saved : IsPut options before after last stop
   pub end_is : end ≡ save_end stop
-  pub reported : Appends out out' (save_report last stop)
+  pub reported : Appends before.out after.out (save_report last stop)
 
 -- the same, with a report that may be cut short
-pub record IsSavedUnreported (from to start patience : ℕ) (shelf shelf' : Option (List Step)) (tries tries' : Option ℕ) (out out' : Option (List ℕ)) : Type 0 where
+pub record IsSavedUnreported (options : SaveOptions) (before after : SaveTold) : Type 0 where
   pub last : Reader
   pub stop : Stop
-  pub saved : IsSaved from to start patience shelf shelf' tries tries' last stop
+  pub saved : IsPut options before after last stop
   pub missing : List ℕ
-  pub reported : WritesAllBut out out' (save_report last stop) missing
+  pub reported : WritesAllBut before.out after.out (save_report last stop) missing
 
 -- what was read could not be put where the tape goes, and nothing was reported
-pub record IsUnput (fault : ShelfFault) (from to start patience : ℕ) (shelf shelf' : Option (List Step)) (tries tries' : Option ℕ) (out out' : Option (List ℕ)) : Type 0 where
+pub record IsUnput (fault : ShelfFault) (options : SaveOptions) (before after : SaveTold) : Type 0 where
   pub last : Reader
   pub stop : Stop
-  pub is_read : IsRead from to start patience tries tries' last stop
-  pub refused : Gains shelf shelf' (Reserve ∷ NotPut (plain_text (saved_tape from last.values start)) fault ∷ [])
-  pub nothing_reported : Keeps out out'
+  pub is_read : IsRead options before after last stop
+  pub refused : Gains before.steps after.steps (Reserve ∷ NotPut (plain_text (tape_to_save options last.values)) fault ∷ [])
+  pub nothing_reported : Keeps before.out after.out

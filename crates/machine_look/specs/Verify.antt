@@ -1,5 +1,5 @@
 -- What `verify` does (this project's own).
-use Rattle.std.specs.Prelude.{◌≡◌, ℕ, ◌<◌, true, List, [], length, Option}
+use Rattle.std.specs.Prelude.{◌≡◌, ℕ, ◌<◌, true, List, [], length}
 use Rattle.std.specs.Io.KnownBytes.{Appends}
 use Rattle.tape_image.specs.Plan.{PlanValue}
 use Rattle.tape_image.specs.Word.{WordValue, Stands}
@@ -12,7 +12,7 @@ use Rattle.reading_engine.specs.declared.stop.Stop.{Stop}
 use Rattle.machine_look.specs.declared.verify_end.VerifyEnd.{VerifyEnd}
 use Rattle.machine_look.specs.declared.verify_end.VerifyEnd.TheVariants.{Same}
 use Rattle.machine_look.specs.Differences.{differences}
-use Rattle.machine_look.specs.Look.{IsLook, OverHonestLine, TriesOnce}
+use Rattle.machine_look.specs.Look.{IsLook, LookTold, OverHonestLine, TriesOnce}
 use Rattle.machine_look.specs.VerifyReport.{verify_end, verify_report}
 
 -- every word lies in memory and stands there
@@ -25,24 +25,24 @@ abbrev pub IsSameWith : List WordValue → Machine → Machine → Type 0
 IsSameWith words before now = (now.memory ≡ before.memory) × AllStand words now.memory
 
 -- a plan's words were looked at, and so it ended; where it ends as `Same` over an honest line, every word stands
-pub record IsVerified (plan : PlanValue) (patience : ℕ) (tries tries' : Option ℕ) (last : Reader) (stop : Stop) (end : VerifyEnd) : Type 0 where
+pub record IsVerified (plan : PlanValue) (patience : ℕ) (before after : LookTold) (last : Reader) (stop : Stop) (end : VerifyEnd) : Type 0 where
   pub look : IsLook (begun (addresses_of plan.words) [] patience) last stop
-  pub tried : TriesOnce (ended (begun (addresses_of plan.words) [] patience).phase) tries tries'
+  pub tried : TriesOnce (ended (begun (addresses_of plan.words) [] patience).phase) before.tries after.tries
   pub end_is : end ≡ verify_end (length (differences plan.words last.values)) stop
   pub stand : end ≡ Same → OverHonestLine look (IsSameWith plan.words)
 
 -- it was reported, too
-pub record IsReported (plan : PlanValue) (patience : ℕ) (tries tries' : Option ℕ) (out out' : Option (List ℕ)) (end : VerifyEnd) : Type 0 where
+pub record IsReported (plan : PlanValue) (patience : ℕ) (before after : LookTold) (end : VerifyEnd) : Type 0 where
   pub last : Reader
   pub stop : Stop
-  pub verified : IsVerified plan patience tries tries' last stop end
-  pub reported : Appends out out' (verify_report plan.words last stop)
+  pub verified : IsVerified plan patience before after last stop end
+  pub reported : Appends before.out after.out (verify_report plan.words last stop)
 
 -- the same, with a report that may be cut short
-pub record IsCutShort (plan : PlanValue) (patience : ℕ) (tries tries' : Option ℕ) (out out' : Option (List ℕ)) : Type 0 where
+pub record IsCutShort (plan : PlanValue) (patience : ℕ) (before after : LookTold) : Type 0 where
   pub last : Reader
   pub stop : Stop
   pub end : VerifyEnd
-  pub verified : IsVerified plan patience tries tries' last stop end
+  pub verified : IsVerified plan patience before after last stop end
   pub missing : List ℕ
-  pub reported : WritesAllBut out out' (verify_report plan.words last stop) missing
+  pub reported : WritesAllBut before.out after.out (verify_report plan.words last stop) missing

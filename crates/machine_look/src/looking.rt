@@ -15,7 +15,7 @@ use load_progress::{Onlooker, WatchedLine};
 use reading_core::ReadingCore;
 use reading_engine::{Stop, inquire};
 
-/// The most turns of a look.
+// The most turns of a look.
 const TURNS: u64 = 10_000_000;
 
 /// Lends the core to the line for at most 10,000,000 turns, as `inquire` does, and the line comes back. An

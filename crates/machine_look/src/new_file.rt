@@ -11,7 +11,7 @@ use std::fs::{File, Metadata, OpenFile};
 use std::io::ErrorKind;
 use std::os::unix::fs::MetadataExt;
 
-/// What the name of the file that is written has more than that of the tape.
+// What the name of the file that is written has more than that of the tape.
 const BESIDE: &str = ".ldaodt-new";
 
 /// A file that is not there yet, for the tape of a save.
@@ -55,8 +55,8 @@ impl<F: Locks> Shelf for NewFile<'_, F> {
     }
 }
 
-/// A file beside the one of a name, and the folder of both. It goes with this value, where it still has
-/// its own name.
+// A file beside the one of a name, and the folder of both. It goes with this value, where it still has
+// its own name.
 struct Beside<'a, F: Locks> {
     files: &'a F,
     name: String,

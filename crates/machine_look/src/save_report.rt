@@ -12,7 +12,11 @@ use std::io::Write;
 
 /// Puts the report of a reading at the end of a text: the counts of the host's life, and how the reading
 /// ended. The error is want of memory.
-pub fn put_save_report(text: &mut Vec<u8>, core: &ReadingCore, stop: Stop) -> Result<(), AllocError>
+pub(crate) fn put_save_report(
+    text: &mut Vec<u8>,
+    core: &ReadingCore,
+    stop: Stop,
+) -> Result<(), AllocError>
     ensures { OnOk result (text.new.items ≡ text.old.items ++ save_report core.now stop) }
 {
     put_counts(text, core)?;

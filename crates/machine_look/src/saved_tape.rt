@@ -7,7 +7,7 @@ ghost use Rattle.machine_look.specs.SavedTape.{HoldsWhatWasRead, StandFrom, save
 use std::alloc::{AllocError, Global};
 use tape_blocks::{Block, Tape};
 
-/// How many words a block has, but for the last: 512 bytes.
+// How many words a block has, but for the last: 512 bytes.
 const BLOCK_WORDS: usize = 256;
 
 /// The tape of the numbers that stand in memory from an address on, in blocks of 512 bytes, of which the

@@ -2,7 +2,8 @@
 ghost use Rattle.std.specs.Prelude.{◌≡◌, ◌⊎◌, ◌*◌, ◌+◌, ◌%◌, ◌<◌, ◌≤◌, length, [], ◌∷◌, IfErr, IfOk, OnOk};
 ghost use Rattle.load_devices.specs.Told.{Gains};
 ghost use Rattle.machine_look.specs.LookFault.{IsKeepFault, IsSaveFault};
-ghost use Rattle.machine_look.specs.Save.{IsSavedAndReported, puts};
+ghost use Rattle.machine_look.specs.Save.{IsSavedAndReported, puts, save_told};
+ghost use Rattle.machine_look.specs.SavedTape.{saved_tape};
 
 use crate::look_fault::LookFault;
 use crate::looking::look_over;
@@ -19,7 +20,7 @@ use std::alloc::Global;
 use std::io::Write;
 use tape_blocks::write_tape;
 
-/// Room for the longest report.
+// Room for the longest report.
 const REPORT_ROOM: usize = 160;
 
 /// What is to be saved, and how.
@@ -53,8 +54,12 @@ pub fn save<S: Shelf, R: Reach, W: Write, O: Onlooker>(
     out: &mut W,
     onlooker: &O,
 ) -> Result<SaveEnd, LookFault>
-    ensures reported { IfOk result (IsSavedAndReported options.range.from options.range.to options.start options.patience (S.steps shelf.old) (S.steps shelf.new) (R.tries console.old) (R.tries console.new) (W.contents out.old) (W.contents out.new)) }
-    ensures fault { IfErr result (IsSaveFault options.range.from options.range.to options.start options.patience (S.steps shelf.old) (S.steps shelf.new) (R.tries console.old) (R.tries console.new) (W.contents out.old) (W.contents out.new)) }
+    ensures reported { IfOk result (IsSavedAndReported options
+        (save_told S.steps R.tries W.contents shelf.old console.old out.old)
+        (save_told S.steps R.tries W.contents shelf.new console.new out.new)) }
+    ensures fault { IfErr result (IsSaveFault options
+        (save_told S.steps R.tries W.contents shelf.old console.old out.old)
+        (save_told S.steps R.tries W.contents shelf.new console.new out.new)) }
 {
     let (from, to) = (options.range.from(), options.range.to());
     let core = ReadingCore::of_range(alloc, from, to, options.patience)?;
@@ -79,7 +84,7 @@ fn keep<S: Shelf>(
     requires below { from + 2 * length numbers.now ≤ 0o160000 }
     ensures fits { start < 65536 }
     ensures ok { OnOk result (Gains (S.steps shelf.old) (S.steps shelf.new) (puts from numbers.now start)) }
-    ensures fault { IfErr result (IsKeepFault from numbers.now start (S.steps shelf.old) (S.steps shelf.new)) }
+    ensures fault { IfErr result (IsKeepFault (saved_tape from numbers.now start) (S.steps shelf.old) (S.steps shelf.new)) }
 {
     if numbers.is_empty() {
         return Ok(());

@@ -2,6 +2,7 @@
 ghost use Rattle.std.specs.Prelude.{◌≡◌, ◌≤◌, ◌++◌, ℕ, length, codes, IfOk, OnOk};
 ghost use Rattle.std.specs.List.{flat_map};
 ghost use Rattle.octal.specs.Octal.{octal_text};
+ghost use Rattle.tape_image.specs.Memory.{most_words};
 ghost use Rattle.byte_io.specs.Text.{line};
 ghost use Rattle.machine_look.specs.VerifyReport.{counts_text, difference_text, end_name, life_text, report_text, verify_end};
 
@@ -14,22 +15,22 @@ use reading_engine::Stop;
 use std::alloc::AllocError;
 use std::io::Write;
 
-/// Room for a line of the longest report.
+// Room for a line of the longest report.
 const LINE_ROOM: usize = 37;
 
-/// Room for its last two lines.
+// Room for its last two lines.
 const COUNTS_ROOM: usize = 160;
 
 /// How many bytes the report of so many words has at most.
 pub(crate) fn longest_report(words: usize) -> usize
-    requires { words ≤ 28672 }
+    requires { words ≤ most_words }
 {
     LINE_ROOM * words + COUNTS_ROOM
 }
 
 /// Puts the report of a reading that found these differences at the end of a text: a line for each, the
 /// counts of the host's life, and how it ended, which is answered. The error is want of memory.
-pub fn put_verify_report(
+pub(crate) fn put_verify_report(
     text: &mut Vec<u8>,
     found: &[Difference],
     core: &ReadingCore,

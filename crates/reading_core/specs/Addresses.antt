@@ -1,5 +1,6 @@
 -- Which words are read, and in which order.
 use Rattle.std.specs.Prelude.{◌≡◌, ℕ, zero, suc, ◌+◌, ◌-◌, ◌*◌, ◌/◌, ◌%◌, ◌<◌, ◌≤◌, All, AllPairs, List, [], ◌∷◌, ◌++◌, length, map}
+use Rattle.tape_image.specs.Memory.{most_words}
 use Rattle.tape_image.specs.Word.{WordValue}
 
 -- a word's address is even, and below 160000 (this project's choice)
@@ -11,7 +12,7 @@ pub record IsAddress (a : ℕ) : Type 0 where
 pub record AreAddresses (addresses : List ℕ) : Type 0 where
   pub each : All IsAddress addresses
   pub rising : AllPairs (λ a b. a < b) addresses
-  pub few : length addresses ≤ 28672
+  pub few : length addresses ≤ most_words
 
 -- the addresses of a plan's words
 abbrev pub addresses_of : List WordValue → List ℕ

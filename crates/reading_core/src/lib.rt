@@ -10,7 +10,7 @@
 //! machine, `reading_engine` lends the core to a line.
 #![tactic(auto)]
 
-mod console;
+pub mod console;
 mod life;
 mod phase;
 mod reading;

@@ -53,13 +53,24 @@ impl ReadingCore {
         ensures kept { IfOk result IsReader }
     {
         let values = Vec::with_capacity(alloc, addresses.len())?;
+        Ok(ReadingCore::in_room(addresses, values, patience))
+    }
+
+    /// The same, where the room for the numbers was made before: no memory is taken.
+    pub fn in_room(addresses: Vec<u16>, room: Vec<u16>, patience: u32) -> ReadingCore
+        requires asked { AreAddresses addresses.items }
+        requires empty { room.items ≡ [] }
+        requires ample { length addresses.items ≤ vec_capacity room }
+        ensures begun { result ≡ begun addresses.items [] patience }
+        ensures kept { IsReader result }
+    {
         let life = Life::begun(addresses.len(), 0);
-        Ok(ReadingCore {
+        ReadingCore {
             addresses,
-            values,
+            values: room,
             patience,
             life,
-        })
+        }
     }
 
     /// A host that reads the words from the first address to the last, both included. The one error

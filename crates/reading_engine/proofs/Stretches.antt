@@ -7,7 +7,7 @@ use Rattle.load_devices.specs.declared.item.Item.{Item}
 use Rattle.load_devices.specs.declared.item.Item.TheVariants.{Sent, Heard as Came}
 use Rattle.load_devices.specs.Dialogue.{said}
 use Rattle.load_devices.specs.Told.{Gains, Keeps}
-use Rattle.load_engine.proofs.Sessions.{gains_none, gains_kept, gains_join}
+use Rattle.load_engine.proofs.Sessions.{gains_kept, gains_join}
 use Rattle.reading_core.specs.declared.phase.End.{End}
 use Rattle.reading_core.specs.Laws.{led}
 use Rattle.reading_core.specs.Reader.{Reader, ended}
@@ -63,10 +63,7 @@ inquired_join turns more stop a b c line line' line'' s t = let all : length s.h
   on_line = gains_join line line' line'' s.said t.said s.on_line t.on_line;
 }
 
--- ---- a stretch of no turns, and one that stops
-
-pub inquired_none : (r : Reader) (line : Option (List Item)) → Inquired 0 None r r line line
-inquired_none r line = record { heard = []; said = []; reader = refl; goes_on = tt; within = omega arith; items = (refl, omega arith); on_line = gains_none line }
+-- ---- a stretch that stops
 
 more_left : (fault : LineFault) (turns all : ℕ) (heard : List Heard) (items now : List Item) → turns ≤ all → IsSaid (Some (LineFailed fault)) (turns - length heard) items now → IsSaid (Some (LineFailed fault)) (all - length heard) items now
 more_left fault turns all heard items now le (inl s) = inl (s.0, omega (arith, le, s.1))

@@ -1,5 +1,6 @@
 -- What a reading does over a line in memory that is lent for it.
 use Rattle.std.specs.Prelude.{ℕ, ◌+◌, ◌≤◌, List, length}
+use Rattle.line_world.specs.Wire.{most_waiting}
 use Rattle.load_devices.specs.declared.item.Item.{Item}
 use Rattle.load_devices.specs.Dialogue.{keys_of}
 use Rattle.honest_line.specs.LineTable.{LineValue}
@@ -18,5 +19,5 @@ unpaid stop = 0
 -- was changed, with the losses of what passed meanwhile
 abbrev pub ReadsTrue : Stop → Reader → Reader → LineValue → LineValue → Type 0
 ReadsTrue stop r next old new =
-    (said : List Item) (lost : ℕ) → Passed old new said lost → MayLook r old.machine → length old.waiting ≤ 32 →
+    (said : List Item) (lost : ℕ) → Passed old new said lost → MayLook r old.machine → length old.waiting ≤ most_waiting →
     IsTrue old.machine.memory next new.machine.memory (keys_of said) (lost + unpaid stop)

@@ -1,8 +1,12 @@
 -- What a run of the world says of a reading host that heard an honest line.
 use Rattle.std.specs.Prelude.{option_to_list}
 use Rattle.std.proofs.Common.{◌≡◌, ℕ, ◌+◌, ◌==◌, ◌≤◌, Bool, false, List, [], ◌∷◌, ◌++◌, length, Option, Some, None, refl, arith, ap, sym, subst, ◌∙◌}
+use Rattle.odt_machine.specs.declared.mode.Mode.{Mode}
+use Rattle.odt_machine.specs.declared.mode.Mode.TheVariants.{Prompt, Number, Opened, Typing, Running}
+use Rattle.odt_machine.specs.Laws.{is_running}
 use Rattle.odt_machine.specs.Machine.{Machine}
 use Rattle.host_core.specs.declared.heard.Heard.{Heard}
+use Rattle.line_world.specs.Invariant.{RunsWith}
 use Rattle.line_world.specs.Wire.{Wire}
 use Rattle.load_devices.specs.declared.item.Item.{Item}
 use Rattle.load_devices.specs.declared.item.Item.TheVariants.{Sent, Heard as Came}
@@ -16,7 +20,7 @@ use Rattle.reading_core.specs.Laws.{led, replay}
 use Rattle.reading_core.specs.ReadingTable.{ask}
 use Rattle.reading_law.specs.Inquiry.{Inquiry, over, after}
 use Rattle.reading_law.specs.Law.{HoldsRead, HasCause, IsHarmless, OnlyLook}
-use Rattle.reading_law.specs.Belief.{dialogue, MayLook, IsTrue, HonestReadingsAreTrue, UnsaidReadingsAreTrue}
+use Rattle.reading_law.specs.Belief.{dialogue, MayLook, IsReady, IsTrue, HonestReadingsAreTrue, ReadingsLeaveItReady, UnsaidReadingsAreTrue}
 use Rattle.reading_law.proofs.Harmless.{mirrored_events, harmless}
 use Rattle.reading_law.proofs.Looks.{events_look}
 use Rattle.reading_law.proofs.Mirrors.{IsMirrored, opened_mirrored}
@@ -31,9 +35,12 @@ begin_mirrored r machine waiting is may few =
 
 -- ---- the run
 
+run_mirrored : (memory : List ℕ) (w next : Inquiry) (typing : List ℕ) → IsMirrored memory w → Leads w typing next → IsMirrored memory next
+run_mirrored memory w next typing k run = subst (IsMirrored memory) run.world (mirrored_events memory w run.events k)
+
 run_true : (memory : List ℕ) (w next : Inquiry) (typing : List ℕ) → IsMirrored memory w → Leads w typing next → IsTrue memory next.reader next.machine.memory typing next.lost
 run_true memory w next typing k run =
-    let fine : IsHarmless memory next = subst (IsHarmless memory) run.world (harmless memory (after w run.events) (mirrored_events memory w run.events k)) in
+    let fine : IsHarmless memory next = harmless memory next (run_mirrored memory w next typing k run) in
     record {
       same = fine.same;
       read = subst (λ m. HoldsRead m next.reader) (sym fine.same) fine.read;
@@ -75,6 +82,26 @@ honest_are_true r things is machine now lost may honest =
   where
     more : (n : ℕ) → n ≡ n + 0
     more n = omega arith
+
+-- ---- what a dialogue leaves
+
+pub dialogue_mirrored : (r : Reader) (things : List Heard) (machine : Machine) (waiting : List ℕ) (end : Wire) → IsReader r → MayLook r machine → length waiting ≤ 32 → Passes (resting machine waiting 0) (dialogue r things) end →
+    IsMirrored machine.memory (over (led r things) end)
+dialogue_mirrored r things machine waiting end is may few passes =
+    run_mirrored machine.memory (over r (resting machine waiting 0)) (over (led r things) end) (replay r things) (begin_mirrored r machine waiting is may few)
+    (dialogue_leads things r (resting machine waiting 0) end passes)
+
+stopped_with : (mode : Mode) → RunsWith false mode → is_running mode ≡ false
+stopped_with Prompt runs = refl
+stopped_with (Number v n) runs = refl
+stopped_with (Opened a) runs = refl
+stopped_with (Typing a v n) runs = refl
+stopped_with (Running p) runs = absurd (cc runs)
+
+pub leave_ready : ReadingsLeaveItReady
+leave_ready r things machine now lost is may honest =
+    let left : IsMirrored machine.memory (over (led r things) honest.end) = dialogue_mirrored r things machine honest.waiting honest.end is may honest.few honest.passes in
+    subst IsReady honest.machine_is record { console = left.kept.machine; stopped = stopped_with honest.end.machine.mode left.kept.running }
 
 -- ---- the dialogue without its last key
 

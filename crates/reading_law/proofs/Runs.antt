@@ -102,7 +102,7 @@ gives_lead r Silence x y (none, empty, now) =
 
 -- ---- a dialogue is a run of the world
 
-passes_said : (key : Option ℕ) (items : List Item) (x y : Wire) → Passes x (said key ++ items) y → Passes (sent x (option_to_list key)) items y
+pub passes_said : (key : Option ℕ) (items : List Item) (x y : Wire) → Passes x (said key ++ items) y → Passes (sent x (option_to_list key)) items y
 passes_said None items x y passes = subst (λ down. Passes (record x { down = down }) items y) (sym (append-nil x.down)) passes
 passes_said (Some key) items x y passes = passes
 

@@ -51,3 +51,14 @@ abbrev pub UnsaidReadingsAreTrue : Type 0
 UnsaidReadingsAreTrue =
     (r : Reader) (things : List Heard) (items : List Item) (key : ℕ) → IsReader r → dialogue r things ≡ items ++ Sent key ∷ [] →
     IsBelievable r (led r things) items 1
+
+-- a host may begin over this machine: it is one, and runs no program
+pub record IsReady (machine : Machine) : Type 0 where
+  pub console : IsMachine machine
+  pub stopped : is_running machine.mode ≡ false
+
+-- behind a reading that heard an honest line the next host may begin
+abbrev pub ReadingsLeaveItReady : Type 0
+ReadingsLeaveItReady =
+    (r : Reader) (things : List Heard) (machine now : Machine) (lost : ℕ) → IsReader r → MayLook r machine →
+    IsHonest machine (dialogue r things) lost now → IsReady now

@@ -4,7 +4,9 @@ use Rattle.octal.specs.Octal.{is_digit}
 use Rattle.tape_image.specs.Memory.{top_of}
 use Rattle.odt_machine.specs.Machine.{Machine, IsMachine, is_word, word_at}
 use Rattle.odt_machine.specs.Laws.{is_running}
+use Rattle.host_core.specs.Console.{carriage_return, resynchronise, slash}
 use Rattle.line_world.specs.declared.event.Event.{Event}
+use Rattle.line_world.specs.Wire.{most_waiting}
 use Rattle.reading_core.specs.declared.phase.Phase.{Phase}
 use Rattle.reading_core.specs.declared.phase.Phase.TheVariants.{Ended}
 use Rattle.reading_core.specs.declared.phase.End.{End}
@@ -32,13 +34,13 @@ HasCause phase memory patience lost = ⊤
 -- a key of a host that only looks. Right after `/`, where a digit would change the word, it is CR, which closes the
 -- word as it was, or `Z`; else it is a digit, `/`, CR or `Z`
 abbrev pub IsLooking : Bool → ℕ → Type 0
-IsLooking true c = (c ≡ 13) ⊎ (c ≡ 90)
-IsLooking false c = (is_digit c ≡ true) ⊎ ((c ≡ 47) ⊎ ((c ≡ 13) ⊎ (c ≡ 90)))
+IsLooking true key = (key ≡ carriage_return) ⊎ (key ≡ resynchronise)
+IsLooking false key = (is_digit key ≡ true) ⊎ ((key ≡ slash) ⊎ ((key ≡ carriage_return) ⊎ (key ≡ resynchronise)))
 
 -- all these keys are so, where the key before them was `/` or not: no digit comes right after `/`, and `G` never
 abbrev pub OnlyLook : Bool → List ℕ → Type 0
-OnlyLook slash [] = ⊤
-OnlyLook slash (c ∷ keys) = IsLooking slash c × OnlyLook (c == 47) keys
+OnlyLook behind_slash [] = ⊤
+OnlyLook behind_slash (key ∷ keys) = IsLooking behind_slash key × OnlyLook (key == slash) keys
 
 -- what holds against the memory before: it is what it was, what was read is what it holds, and no mishap and no end is
 -- without its losses
@@ -53,6 +55,6 @@ pub record IsHarmless (memory : List ℕ) (w : Inquiry) : Type 0 where
 abbrev pub ReadingsDoNoHarm : Type 0
 ReadingsDoNoHarm =
     (machine : Machine) (addresses waiting : List ℕ) (patience : ℕ) (events : List Event) →
-    IsMachine machine → is_running machine.mode ≡ false → AreAddresses addresses → length waiting ≤ 32 → patience < 2 ^ 32 →
+    IsMachine machine → is_running machine.mode ≡ false → AreAddresses addresses → length waiting ≤ most_waiting → patience < 2 ^ 32 →
     IsHarmless machine.memory (after (opened machine (begun addresses [] patience) waiting) events)
     × OnlyLook false (typed (opened machine (begun addresses [] patience) waiting) events)

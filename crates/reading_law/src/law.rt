@@ -1,4 +1,4 @@
-ghost use Rattle.reading_law.specs.Belief.{HonestReadingsAreTrue, UnsaidReadingsAreTrue};
+ghost use Rattle.reading_law.specs.Belief.{HonestReadingsAreTrue, ReadingsLeaveItReady, UnsaidReadingsAreTrue};
 ghost use Rattle.reading_law.specs.Law.{ReadingsDoNoHarm};
 
 /// Readings do no harm, whatever happens on the line and however often the host is restarted. This
@@ -17,4 +17,10 @@ pub fn honest_readings_are_true()
 /// nothing: its contract is the law.
 pub fn unsaid_readings_are_true()
     ensures { UnsaidReadingsAreTrue }
+{}
+
+/// Behind a reading the machine is ready for the next host. This function does nothing: its contract is
+/// the law.
+pub fn readings_leave_it_ready()
+    ensures { ReadingsLeaveItReady }
 {}

@@ -3,13 +3,14 @@ use Rattle.std.specs.Prelude.{◌≡◌, ℕ, false, List, Option}
 use Rattle.std.specs.Io.KnownBytes.{Appends}
 use Rattle.tape_image.specs.Plan.{PlanValue}
 use Rattle.load_record.specs.declared.version.Version.TheVariants.{Second}
-use Rattle.load_record.specs.Keeper.{Keeper}
+use Rattle.load_record.specs.Keeper.{Keeper, Lasts}
 use Rattle.load_record.specs.RecordText.{open_run, record_text}
 
--- the keeper has written the record of the plan's first k words, and nothing behind it; it knows which run line stands
--- open at the end, and no call of it failed
+-- the keeper has written the record of the plan's first k words, and nothing behind it, and that lasts; it knows which
+-- run line stands open at the end, and no call of it failed
 pub record HasBegun (plan : PlanValue) (k : ℕ) (keeper : Keeper) : Type 0 where
   pub before : Option (List ℕ)
   pub written : Appends before keeper.text (record_text Second plan k false)
+  pub lasts : Lasts keeper.lasting keeper.text
   pub knows : keeper.run ≡ open_run Second plan k
   pub sound : keeper.failures ≡ 0

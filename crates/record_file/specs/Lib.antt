@@ -1,4 +1,3 @@
 pub mod DiskRecord
-pub mod Durable
 pub mod OldRecord
 pub mod RecordFault

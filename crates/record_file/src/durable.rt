@@ -1,8 +1,9 @@
-//! Writing to a file so that what is flushed is on the disk.
+//! Writing to a file so that what was written can be brought to the disk.
 ghost use Rattle.std.specs.Prelude.{◌≡◌, ℕ, List, Option, None, OnOk};
 ghost use Rattle.std.specs.Io.KnownBytes.{Keeps};
-ghost use Rattle.record_file.specs.Durable.{IsOnDisk};
+ghost use Rattle.load_record.specs.Keeper.{Lasts};
 
+use load_record::LastingWrite;
 use std::fs::OpenFile;
 use std::io;
 use std::io::{ErrorKind, Write};
@@ -11,16 +12,28 @@ use std::io::{ErrorKind, Write};
 ///
 /// Every open file of std is one.
 pub trait SyncWrite: Write {
+    /// What the writer has handed on to the system; None where the type doesn't tell.
+    ghost handed_on: { Self → Option (List ℕ) } = { λ _. None };
+
     /// What a loss of power leaves; None where the type doesn't tell.
     ghost on_disk: { Self → Option (List ℕ) } = { λ _. None };
 
-    /// Brings to the disk what was written so far.
+    /// Hands on to the system all that was written so far.
+    fn hand_on(&mut self) -> io::Result<()>
+        ensures handed_on { OnOk result (Lasts (handed_on self.new) (Self.contents self.new)) }
+        ensures same { Keeps (Self.contents self.old) (Self.contents self.new) };
+
+    /// Brings to the disk what was handed on so far, and nothing else.
     fn sync(&mut self) -> io::Result<()>
-        ensures on_disk { OnOk result (IsOnDisk (on_disk self.new) (Self.contents self.new)) }
+        ensures on_disk { OnOk result (on_disk self.new ≡ handed_on self.old) }
         ensures same { Keeps (Self.contents self.old) (Self.contents self.new) };
 }
 
 impl<F: Write + OpenFile> SyncWrite for F {
+    fn hand_on(&mut self) -> io::Result<()> {
+        self.flush()
+    }
+
     // A pipe, a terminal or a device has no disk behind it, and says so.
     fn sync(&mut self) -> io::Result<()> {
         match self.sync_data() {
@@ -30,7 +43,7 @@ impl<F: Write + OpenFile> SyncWrite for F {
     }
 }
 
-/// A writer whose flush answers Ok only once everything written is on the disk.
+/// A writer to a file, which lasts once it was handed on and is on the disk.
 #[derive(Drop)]
 pub struct DurableWriter<F: SyncWrite> {
     /// Where it writes.
@@ -58,11 +71,16 @@ impl<F: SyncWrite> Write for DurableWriter<F> {
         Ok(count)
     }
 
-    fn flush(&mut self) -> io::Result<()>
-        ensures on_disk { OnOk result (IsOnDisk (F.on_disk self.new.file) (F.contents self.new.file)) }
-        ensures bytes { Keeps (F.contents self.old.file) (F.contents self.new.file) }
-    {
-        self.file.flush()?;
+    fn flush(&mut self) -> io::Result<()> {
+        self.file.flush()
+    }
+}
+
+impl<F: SyncWrite> LastingWrite for DurableWriter<F> {
+    ghost lasting = { λ writer. F.on_disk writer.file };
+
+    fn make_last(&mut self) -> io::Result<()> {
+        self.file.hand_on()?;
         self.file.sync()
     }
 }

@@ -2,7 +2,7 @@
 //!
 //! One load at a time has it: `RecordFile` holds its file from its reading on (`HeldFile`, over a system
 //! that `Locks`). What the file held is read whole; a record that is begun anew replaces it whole, or is
-//! written over it where a rename would not reach it (`DiskRecord`); and what was flushed to it is on the
+//! written over it where a rename would not reach it (`DiskRecord`); and what was kept in it is on the
 //! disk (`DurableWriter`).
 //!
 //! The crate `machine_load` uses it, and its tests stand in `command_tests`.

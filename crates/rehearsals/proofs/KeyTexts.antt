@@ -66,7 +66,7 @@ none_held (a ∷ others) none =
     absurd (some_shown (a.key == 32) (a.key == 13) (a.key == 10) a.key
     (omega (arith, none, ap length (flat_map-cons shown_character a.key (map (λ (b : Answered). b.key) others)), length-append (shown_character a.key) (shown_keys others))))
 
-pub last_is : (held : List Answered) → (held ≡ [] → ⊥) → last_line held ≡ key_line held
+last_is : (held : List Answered) → (held ≡ [] → ⊥) → last_line held ≡ key_line held
 last_is [] some = absurd (some refl)
 last_is (a ∷ others) some = refl
 
@@ -90,7 +90,7 @@ echo_noted g a now before holds echoes on = record {
   text = λ more. ap key_text (sym (append_assoc g (a ∷ []) more));
 }
 
-pub line_noted : (g : List Answered) (a : Answered) (now : Exchange) (before after : Option (List ℕ)) → Echoes g → is_echo a ≡ false → Appends before after (last_line (g ++ a ∷ [])) → Holds [] now → Notes g (a ∷ []) now before after
+line_noted : (g : List Answered) (a : Answered) (now : Exchange) (before after : Option (List ℕ)) → Echoes g → is_echo a ≡ false → Appends before after (last_line (g ++ a ∷ [])) → Holds [] now → Notes g (a ∷ []) now before after
 line_noted g a now before after echoes off written holds = record {
   told = key_line (g ++ a ∷ []);
   left = [];

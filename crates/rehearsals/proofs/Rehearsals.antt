@@ -24,7 +24,7 @@ use Rattle.loss_scripts.specs.declared.script.Script.{Script}
 use Rattle.command_io.proofs.TapeInput.{left_of, whole, ends}
 
 -- an input of which fewer bytes were taken than the limit is just these
-pub all_taken : (before after : Option (List ℕ)) (bytes : List ℕ) → IsTaken before after (script_limit + 1) bytes → length bytes ≤ script_limit → IsAsTold before bytes
+all_taken : (before after : Option (List ℕ)) (bytes : List ℕ) → IsTaken before after (script_limit + 1) bytes → length bytes ≤ script_limit → IsAsTold before bytes
 all_taken before after bytes taken few =
     subst (IsAsTold before) (ap (λ rest. bytes ++ rest) (ends after (taken.to_end (omega arith))) ∙ append-nil bytes) (whole before after bytes taken.consumed)
 

@@ -15,7 +15,7 @@ use std::io::Write;
 ///
 /// While the console merely echoes, keys are collected; the first other answer ends the line.
 #[derive(Drop)]
-pub struct Exchange {
+pub(crate) struct Exchange {
     keys: Vec<u8>,
     answers: Vec<u8>,
 }

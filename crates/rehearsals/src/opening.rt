@@ -17,7 +17,7 @@ use tape_image::Plan;
 
 /// A host that has done nothing yet, with a plan to type into a machine at its prompt, while `waiting`
 /// answers wait for it.
-pub fn open(plan: Plan, odt: Odt, patience: u32, waiting: &[u8]) -> World
+pub(crate) fn open(plan: Plan, odt: Odt, patience: u32, waiting: &[u8]) -> World
     requires prompt { odt.mode ≡ Prompt }
     requires few { length waiting.now ≤ 32 }
     ensures world { result ≡ opened odt (begun plan 0 false patience) waiting.now }
@@ -37,7 +37,7 @@ pub fn open(plan: Plan, odt: Odt, patience: u32, waiting: &[u8]) -> World
 }
 
 /// A zeroed machine. `TooLarge` exactly above 28,672 words, else `Memory`.
-pub fn zeroed(alloc: Global, words: u16, style: Style) -> Result<Odt, CommandFault>
+pub(crate) fn zeroed(alloc: Global, words: u16, style: Style) -> Result<Odt, CommandFault>
     ensures ok { IfOk result (λ odt. odt ≡ machine_of style (replicate words 0)) }
     ensures machine { IfOk result IsMachine }
     ensures err { IfErr result (IsMachineFault words) }
@@ -51,7 +51,7 @@ pub fn zeroed(alloc: Global, words: u16, style: Style) -> Result<Odt, CommandFau
 
 /// Puts words into a machine's memory, in order. The error is the line of the first word that does
 /// not lie there.
-pub fn put_words(odt: &mut Odt, puts: &[PutLine]) -> Result<(), u32>
+pub(crate) fn put_words(odt: &mut Odt, puts: &[PutLine]) -> Result<(), u32>
     ensures ok { OnOk result (odt.new ≡ record odt.old { memory = after_puts odt.old.memory puts.now }) }
     ensures lie { OnOk result (AllLie odt.old.memory puts.now) }
     ensures err { IfErr result (IsRefusedPut odt.old.memory puts.now) }

@@ -12,7 +12,11 @@ use std::alloc::AllocError;
 /// Lets the event lines of a script happen to a world, in order. A line that is not possible is told
 /// at the end of `text`, the rest of its count is dropped, and the script goes on. The error is
 /// want of memory.
-pub fn play(world: &mut World, steps: &[StepLine], text: &mut Vec<u8>) -> Result<(), AllocError>
+pub(crate) fn play(
+    world: &mut World,
+    steps: &[StepLine],
+    text: &mut Vec<u8>,
+) -> Result<(), AllocError>
     ensures { OnOk result ((numbers : List ℕ) × Played world.old steps.now world.new numbers × (text.new.items ≡ text.old.items
         ++ not_possible_lines numbers)) }
 {

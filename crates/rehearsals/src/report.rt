@@ -16,7 +16,7 @@ use tape_image::{Word, stands};
 /// Puts the report of a world at the end of a text: the counts of the host's life, how it ended,
 /// the console's mode, and for each word of the plan what memory holds there. The error is want of
 /// memory.
-pub fn put_report(text: &mut Vec<u8>, world: &World) -> Result<(), AllocError>
+pub(crate) fn put_report(text: &mut Vec<u8>, world: &World) -> Result<(), AllocError>
     ensures { OnOk result (text.new.items ≡ text.old.items ++ report world.now) }
 {
     put_counts(text, world)?;

@@ -7,7 +7,7 @@ use Rattle.endings.specs.declared.failure.Failure.TheVariants.{CannotRead, NoMem
 use Rattle.requests.specs.Files.{Known, Name, Inputs, OfFiles, IsUnopened, inputs_of}
 
 -- what can't be opened of some files can't of more
-pub unopened_within : (xs ys : List Name) → ((x : Name) → Contains xs x → Contains ys x) → (f : Failure) → IsUnopened xs f → IsUnopened ys f
+unopened_within : (xs ys : List Name) → ((x : Name) → Contains xs x → Contains ys x) → (f : Failure) → IsUnopened xs f → IsUnopened ys f
 unopened_within xs ys within (CannotRead name) is = within name is
 unopened_within xs ys within NoMemory is = tt
 unopened_within xs ys within other is = absurd is

@@ -22,7 +22,7 @@ record_name None = codes "the record in memory"
 record_name (Some name) = name.now
 
 -- a load of this plan, gone about so, was reported, and stopped so
-pub record IsLoadReported (plan : PlanValue) (options : LoadOptions) (out out' : Known) (stop : Stop) (marked : Bool) : Type 0 where
+pub record IsPlanReported (plan : PlanValue) (options : LoadOptions) (out out' : Known) (stop : Stop) (marked : Bool) : Type 0 where
   pub around : Around
   pub around' : Around
   pub reported : IsReported plan options (record { around = around; out = out }) (record { around = around'; out = out' }) stop marked
@@ -48,7 +48,7 @@ pub record IsPlanLoaded (plan : PlanValue) (load : LoadRequest) (out out' : Know
   pub stop : Stop
   pub marked : Bool
   pub between : Known
-  pub reported : IsLoadReported plan load.options out between stop marked
+  pub reported : IsPlanReported plan load.options out between stop marked
   pub ended : IsEnded load stop between out' status
 
 -- a load of this plan was reported, and failed all the same
@@ -56,7 +56,7 @@ pub record IsLoadBroken (plan : PlanValue) (load : LoadRequest) (out out' : Know
   pub stop : Stop
   pub marked : Bool
   pub between : Known
-  pub reported : IsLoadReported plan load.options out between stop marked
+  pub reported : IsPlanReported plan load.options out between stop marked
   pub is_so : IsEndFailure load stop marked between out' failure
 
 -- a load of this plan came to nothing

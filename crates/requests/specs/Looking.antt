@@ -2,11 +2,12 @@
 use Rattle.std.specs.Prelude.{◌≡◌, ◌⊎◌, ℕ, List, Option, Ok, Err}
 use Rattle.tape_image.specs.Plan.{PlanValue}
 use Rattle.machine_look.specs.LookFault.{IsVerifyFault, IsSaveFault}
-use Rattle.machine_look.specs.Save.{IsSavedAndReported}
+use Rattle.machine_look.specs.Save.{IsSavedAndReported, SaveTold}
 use Rattle.machine_look.specs.Shelf.{Step}
 use Rattle.machine_look.specs.Verify.{IsReported}
 use Rattle.machine_look.specs.declared.look_fault.LookFault.{LookFault}
 use Rattle.machine_look.specs.declared.save_end.SaveEnd.{SaveEnd}
+use Rattle.machine_look.specs.declared.saving.SaveOptions.{SaveOptions}
 use Rattle.machine_look.specs.declared.verify_end.VerifyEnd.{VerifyEnd}
 use Rattle.endings.specs.declared.failure.Failure.{Failure}
 use Rattle.endings.specs.declared.status.Status.{Status}
@@ -21,7 +22,7 @@ use Rattle.requests.specs.Files.{Known, Name, IsPlanned, IsUnplanned}
 pub record IsVerifyReported (plan : PlanValue) (look : Look) (out out' : Known) (end : VerifyEnd) : Type 0 where
   pub tries : Option ℕ
   pub tries' : Option ℕ
-  pub reported : IsReported plan look.patience tries tries' out out' end
+  pub reported : IsReported plan look.patience (record { tries = tries; out = out }) (record { tries = tries'; out = out' }) end
 
 -- memory was looked at for a plan
 abbrev pub IsPlanVerified : PlanValue → Look → Known → Known → Status → Type 0
@@ -32,7 +33,7 @@ pub record IsVerifyCutShort (plan : PlanValue) (look : Look) (out out' : Known) 
   pub fault : LookFault
   pub tries : Option ℕ
   pub tries' : Option ℕ
-  pub is_so : IsVerifyFault plan look.patience tries tries' out out' fault
+  pub is_so : IsVerifyFault plan look.patience (record { tries = tries; out = out }) (record { tries = tries'; out = out' }) fault
   pub is_called : IsLookFailureOf fault look.line.now look.line.now failure
 
 -- a look for a plan failed: it came to nothing, or it was reported and its line had failed
@@ -51,13 +52,21 @@ AreUnverified names look before after failure =
     IsUnplanned names before after failure
     ⊎ ((plan : PlanValue) × IsPlanned names before after plan × IsVerifyFailure plan look before.out after.out failure)
 
+-- what a shelf, a console and an output tell of a save
+abbrev pub told : Option (List Step) → Option ℕ → Known → SaveTold
+told shelf tries out = record { steps = shelf; tries = tries; out = out }
+
+-- what is to be saved, and how, as the request has it
+abbrev pub options_of : Save → SaveOptions
+options_of save = record { range = save.range; start = save.start; patience = save.look.patience }
+
 -- memory was read and saved, and that was reported
 pub record IsSaveReported (save : Save) (out out' : Known) (end : SaveEnd) : Type 0 where
   pub shelf : Option (List Step)
   pub shelf' : Option (List Step)
   pub tries : Option ℕ
   pub tries' : Option ℕ
-  pub reported : IsSavedAndReported save.range.from save.range.to save.start save.look.patience shelf shelf' tries tries' out out' end
+  pub reported : IsSavedAndReported (options_of save) (told shelf tries out) (told shelf' tries' out') end
 
 -- memory was read and saved
 abbrev pub IsSaved : Save → Known → Known → Status → Type 0
@@ -70,7 +79,7 @@ pub record IsSaveCutShort (name : Name) (save : Save) (out out' : Known) (failur
   pub shelf' : Option (List Step)
   pub tries : Option ℕ
   pub tries' : Option ℕ
-  pub is_so : IsSaveFault save.range.from save.range.to save.start save.look.patience shelf shelf' tries tries' out out' fault
+  pub is_so : IsSaveFault (options_of save) (told shelf tries out) (told shelf' tries' out') fault
   pub is_called : IsLookFailureOf fault save.look.line.now name.now failure
 
 -- a save into a file of this name failed: it came to nothing, or it was reported and its line had failed

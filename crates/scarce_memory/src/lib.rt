@@ -13,30 +13,30 @@ ghost use Rattle.std.specs.Prelude.{◌≡◌, ◌<◌, IfOk, OnOk};
 
 use std::alloc::{AllocError, Global};
 
-/// How many bytes a region has: more than a call of the tests needs, and few enough that the C library
-/// has it on its heap, where it can be cut in two.
+// How many bytes a region has: more than a call of the tests needs, and few enough that the C library
+// has it on its heap, where it can be cut in two.
 const REGION: usize = 112 * 1024;
 
 /// How many rooms a famine can leave: each takes a region.
 pub const ROOMS: usize = 300;
 
-/// The smallest step from one room to the next: the C library's blocks are multiples of it.
+// The smallest step from one room to the next: the C library's blocks are multiples of it.
 const STEP: usize = 16;
 
-/// How often a room is divided to have the step to the next one, where that is larger.
+// How often a room is divided to have the step to the next one, where that is larger.
 const STEPS: usize = 32;
 
-/// The largest block that the C library keeps by its size, and does not cut.
+// The largest block that the C library keeps by its size, and does not cut.
 const SMALL: usize = 1040;
 
-/// How many blocks may be taken in all.
+// How many blocks may be taken in all.
 const BLOCKS: usize = 200_000;
 
-/// How much of the stack is there in a famine, in pages: 2 MiB, more than a call of the tests needs, and a
-/// quarter of what the system usually allows.
+// How much of the stack is there in a famine, in pages: 2 MiB, more than a call of the tests needs, and a
+// quarter of what the system usually allows.
 const STACK_PAGES: usize = 512;
 
-/// How many bytes a page of the stack has.
+// How many bytes a page of the stack has.
 const PAGE: usize = 4096;
 
 /// All memory but what it leaves.
@@ -97,12 +97,12 @@ fn uses_stack(mark: u8) -> bool {
     is_marked(&pages, mark)
 }
 
-/// Whether the mark is on every page.
+// Whether the mark is on every page.
 fn is_marked(pages: &[[u8; PAGE]], mark: u8) -> bool {
     pages.iter().all(|page| page.contains(&mark))
 }
 
-/// Takes what memory there is.
+// Takes what memory there is.
 fn take_all(alloc: Global, taken: &mut Vec<Vec<u8>>) -> Result<(), AllocError> {
     for power in (11..47u32).rev() {
         take(alloc, taken, 1 << power)?;
@@ -113,7 +113,7 @@ fn take_all(alloc: Global, taken: &mut Vec<Vec<u8>>) -> Result<(), AllocError> {
     Ok(())
 }
 
-/// Takes blocks of this size until one is refused.
+// Takes blocks of this size until one is refused.
 fn take(alloc: Global, taken: &mut Vec<Vec<u8>>, size: usize) -> Result<(), AllocError> {
     for _ in 0..BLOCKS {
         let Ok(block) = Vec::with_capacity(alloc, size) else {

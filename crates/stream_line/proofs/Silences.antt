@@ -4,7 +4,7 @@ use Rattle.load_devices.specs.declared.fault.LineFault.{LineFault}
 use Rattle.stream_line.specs.Hearing.{MeetsLimit, limits_met}
 
 -- so many times, and then so many more
-pub met_then : (a b d : Option ℕ) (times more all : ℕ) → MeetsLimit a b times → MeetsLimit b d more → times + more ≡ all → MeetsLimit a d all
+met_then : (a b d : Option ℕ) (times more all : ℕ) → MeetsLimit a b times → MeetsLimit b d more → times + more ≡ all → MeetsLimit a d all
 met_then None b d times more all before then sum = tt
 met_then (Some x) None d times more all before then sum = absurd before
 met_then (Some x) (Some y) None times more all before then sum = absurd then

@@ -9,11 +9,16 @@ use Rattle.std.specs.Io.KnownBytes.{Consumes, Appends, Keeps, IsAtEnd}
 use Rattle.host_core.specs.declared.heard.Heard.{Heard}
 use Rattle.host_core.specs.declared.heard.Heard.TheVariants.{Got, Quiet}
 use Rattle.load_devices.specs.declared.fault.LineFault.{LineFault}
-use Rattle.load_devices.specs.declared.fault.LineFault.TheVariants.{Connect, Send, Closed, Receive, Full, Noise}
+use Rattle.load_devices.specs.declared.fault.LineFault.TheVariants.{Send, Closed, Receive, Noise}
 
 -- the character that a byte carries: its lower seven bits, since some consoles send a parity bit above them
 abbrev pub character_of : ℕ → ℕ
 character_of byte = byte % 128
+
+-- how many characters a hearing drops before the line is called noise: a console pads with a few, and a line that sends nothing else is
+-- no console's (this project's choice)
+abbrev pub most_dropped : ℕ
+most_dropped = 4096
 
 -- a byte that is dropped carries the character 000, with which consoles pad
 abbrev pub IsPadding : ℕ → Type 0
@@ -43,20 +48,19 @@ pub record DropsThenTakes (old new : Option (List ℕ)) (count : ℕ) (taken : L
   pub counted : length dropped ≡ count
   pub consumed : Consumes old new (dropped ++ taken)
 
--- a hearing: fewer than 4,096 bytes were dropped; behind them either one more was taken, whose character is heard and is
--- not 000, or none
+-- a hearing: fewer bytes were dropped than make noise; behind them either one more was taken, whose character is heard and is not 000,
+-- or none
 abbrev pub IsHearing : Option (List ℕ) → Option (List ℕ) → Heard → Type 0
-IsHearing old new (Got c) = (count : ℕ) × (count < 4096) × (byte : ℕ) × (c ≡ character_of byte) × (c ≢ 0) × DropsThenTakes old new count (byte ∷ [])
-IsHearing old new Quiet = (count : ℕ) × (count < 4096) × DropsThenTakes old new count []
+IsHearing old new (Got c) =
+    (count : ℕ) × (count < most_dropped) × (byte : ℕ) × (c ≡ character_of byte) × (c ≢ 0) × DropsThenTakes old new count (byte ∷ [])
+IsHearing old new Quiet = (count : ℕ) × (count < most_dropped) × DropsThenTakes old new count []
 
--- how a hearing fails: the stream is at its end, or a read failed, behind fewer than 4,096 dropped bytes; or as many were dropped
+-- how a hearing fails: the stream is at its end, or a read failed, behind fewer dropped bytes than make noise; or as many were dropped
 abbrev pub IsHearingFault : Option (List ℕ) → Option (List ℕ) → LineFault → Type 0
-IsHearingFault old new Closed = IsAtEnd new × ((count : ℕ) × (count < 4096) × DropsThenTakes old new count [])
-IsHearingFault old new Receive = (count : ℕ) × (count < 4096) × DropsThenTakes old new count []
-IsHearingFault old new Noise = DropsThenTakes old new 4096 []
-IsHearingFault old new Connect = ⊥
-IsHearingFault old new Send = ⊥
-IsHearingFault old new Full = ⊥
+IsHearingFault old new Closed = IsAtEnd new × ((count : ℕ) × (count < most_dropped) × DropsThenTakes old new count [])
+IsHearingFault old new Receive = (count : ℕ) × (count < most_dropped) × DropsThenTakes old new count []
+IsHearingFault old new Noise = DropsThenTakes old new most_dropped []
+IsHearingFault old new other = ⊥
 
 -- the kinds of error with which a read ends that met its time limit
 abbrev pub ends_waiting : ErrorKind → Bool
@@ -84,16 +88,9 @@ IsReceipt old new None = Consumes old new []
 abbrev pub IsReceiptFault : Option (List ℕ) → Option (List ℕ) → LineFault → Type 0
 IsReceiptFault old new Closed = IsAtEnd new × Consumes old new []
 IsReceiptFault old new Receive = Consumes old new []
-IsReceiptFault old new Noise = ⊥
-IsReceiptFault old new Connect = ⊥
-IsReceiptFault old new Send = ⊥
-IsReceiptFault old new Full = ⊥
+IsReceiptFault old new other = ⊥
 
 -- how sending fails: the key went out or it didn't, and nothing else did
 abbrev pub IsSentInPart : Option (List ℕ) → Option (List ℕ) → ℕ → LineFault → Type 0
 IsSentInPart old new key Send = Keeps old new ⊎ Appends old new (key ∷ [])
-IsSentInPart old new key Closed = ⊥
-IsSentInPart old new key Receive = ⊥
-IsSentInPart old new key Noise = ⊥
-IsSentInPart old new key Connect = ⊥
-IsSentInPart old new key Full = ⊥
+IsSentInPart old new key other = ⊥

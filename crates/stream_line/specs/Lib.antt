@@ -1,2 +1,3 @@
+pub mod Dialling
 pub mod Hearing
 pub mod StreamLine

@@ -1,6 +1,7 @@
 -- A line over a stream as one value.
-use Rattle.std.specs.Prelude.{◌≡◌, ℕ, ◌+◌, ◌-◌, ◌^◌, min, Bool, List, Option, Some, None}
+use Rattle.std.specs.Prelude.{◌≡◌, ℕ, Bool, List, Option, Some, None}
 use Rattle.load_devices.specs.declared.fault.LineFault.{LineFault}
+use Rattle.load_devices.specs.Failures.{one_more}
 
 -- the bytes that are still to come, those that went out, how often the time limit was met and whether the stream is at its end, where
 -- the stream tells; how many calls failed, and how the last did
@@ -22,7 +23,7 @@ pub record IsFreshLine (line : LineValue) : Type 0 where
   pub none_failed : line.failures ≡ 0
   pub no_fault : line.fault ≡ None
 
--- the line after a call whose fault is this, if it had one: the count stays at its largest, 64 bits
+-- the line after a call whose fault is this, if it had one
 abbrev pub after_call : LineValue → Option LineFault → LineValue
 after_call line None = record line { fault = None }
-after_call line (Some fault) = record line { failures = min (line.failures + 1) (2 ^ 64 - 1); fault = Some fault }
+after_call line (Some fault) = record line { failures = one_more line.failures; fault = Some fault }

@@ -8,7 +8,7 @@ use std::io;
 use std::io::{ErrorKind, Read, Write};
 use std::net::OpenStream;
 
-/// How often a read that the system interrupts is begun again.
+// How often a read that the system interrupts is begun again.
 const MOST_INTERRUPTIONS: u32 = 4096;
 
 /// A stream that is read within a time limit.
@@ -48,7 +48,7 @@ impl<S: Read + Write + OpenStream> TimedStream for S {
 ///
 /// A read that the system interrupts, as it does where a person stops the process and continues it, is
 /// begun again. `Closed` is the stream's end and `Receive` a read that failed; nothing is then taken.
-pub fn receive<S: TimedStream>(stream: &mut S) -> Result<Option<u8>, LineFault>
+pub(crate) fn receive<S: TimedStream>(stream: &mut S) -> Result<Option<u8>, LineFault>
     ensures received { IfOk result (IsReceipt (S.to_come stream.old) (S.to_come stream.new)) }
     ensures fault { IfErr result (IsReceiptFault (S.to_come stream.old) (S.to_come stream.new)) }
     ensures silence { MeetsLimit (S.silences stream.old) (S.silences stream.new) (limits_met result) }

@@ -8,15 +8,15 @@ use host_core::Heard;
 use load_devices::LineFault;
 use std::io::Write;
 
-/// How many characters one hearing drops. A console pads with a few of them; a line that sends
-/// nothing else is no console's.
+// How many characters one hearing drops. A console pads with a few of them; a line that sends
+// nothing else is no console's.
 const MOST_DROPPED: u32 = 4096;
 
 /// Hears the next character of a stream, or that none comes within its time limit.
 ///
 /// Bit 7 is cleared and the character 000 dropped; the 4,096th that is dropped is `Noise`. `Closed`
 /// is the stream's end, and `Receive` a read that failed.
-pub fn hear_from<S: TimedStream>(stream: &mut S) -> Result<Heard, LineFault>
+pub(crate) fn hear_from<S: TimedStream>(stream: &mut S) -> Result<Heard, LineFault>
     ensures heard { IfOk result (IsHearing (S.to_come stream.old) (S.to_come stream.new)) }
     ensures fault { IfErr result (IsHearingFault (S.to_come stream.old) (S.to_come stream.new)) }
     ensures silence { MeetsLimit (S.silences stream.old) (S.silences stream.new) (silences_of result) }
@@ -35,7 +35,7 @@ pub fn hear_from<S: TimedStream>(stream: &mut S) -> Result<Heard, LineFault>
 }
 
 /// Sends one key. It is not tried again where it fails, and it is then unknown whether it went out.
-pub fn send_to<S: Write>(stream: &mut S, key: u8) -> Result<(), LineFault>
+pub(crate) fn send_to<S: Write>(stream: &mut S, key: u8) -> Result<(), LineFault>
     ensures sent { OnOk result (Appends (S.contents stream.old) (S.contents stream.new) (key ∷ [])) }
     ensures fault { IfErr result (IsSentInPart (S.contents stream.old) (S.contents stream.new) key) }
 {

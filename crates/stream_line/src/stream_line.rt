@@ -51,14 +51,21 @@ impl<S: TimedStream + Drop> StreamLine<S> {
         if stream.set_read_timeout(Some(quiet_time)).is_err() {
             return Err(LineFault::Receive);
         }
+        Ok(StreamLine::over(stream))
+    }
+
+    // A line over a stream whose reads are limited to the quiet time.
+    pub(crate) fn over(stream: S) -> StreamLine<S>
+        ensures { result ≡ fresh_line (S.to_come stream) (S.contents stream) (S.silences stream) (S.is_over stream) }
+    {
         // A key is a packet of its own and waits for no other. A stream that is no TCP connection has
         // no such delay, and no such setting either.
         let _ = stream.set_nodelay(true);
-        Ok(StreamLine {
+        StreamLine {
             stream,
             failures: 0,
             fault: None,
-        })
+        }
     }
 }
 

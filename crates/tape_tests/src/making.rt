@@ -5,13 +5,13 @@ use std::alloc::{AllocError, Global};
 use tape_blocks::{BadTape, Block, Tape, read_tape, write_tape};
 use tape_image::Plan;
 
-/// Blocks of zeros: how many, their address and their length.
+// Blocks of zeros: how many, their address and their length.
 type Run = (usize, u16, usize);
 
-/// As much as a tape holds.
+// As much as a tape holds.
 const LONGEST: [Run; 2] = [(18, 0, 57_344), (1, 0, 16_244)];
 
-/// Adds a block of zeros.
+// Adds a block of zeros.
 fn push_zeros(
     alloc: Global,
     blocks: &mut Vec<Block>,
@@ -31,7 +31,7 @@ fn push_run(alloc: Global, blocks: &mut Vec<Block>, run: Run) -> Option<()> {
     Some(())
 }
 
-/// The blocks of these runs, if memory is left.
+// The blocks of these runs, if memory is left.
 fn blocks_of(alloc: Global, runs: &[Run]) -> Option<Vec<Block>> {
     let mut blocks = Vec::new(alloc);
     for run in runs {
@@ -40,7 +40,7 @@ fn blocks_of(alloc: Global, runs: &[Run]) -> Option<Vec<Block>> {
     Some(blocks)
 }
 
-/// Whether this is wrong with a tape of these blocks, or nothing is.
+// Whether this is wrong with a tape of these blocks, or nothing is.
 fn is_wrong_with(alloc: Global, runs: &[Run], expected: Option<BadTape>) -> Option<bool> {
     match Tape::new(blocks_of(alloc, runs)?, 0o1000) {
         Ok(_tape) => Some(expected.is_none()),
@@ -48,7 +48,7 @@ fn is_wrong_with(alloc: Global, runs: &[Run], expected: Option<BadTape>) -> Opti
     }
 }
 
-/// Why the row is there, blocks, and what is wrong with them.
+// Why the row is there, blocks, and what is wrong with them.
 static LISTS: [(&str, &[Run], Option<BadTape>); 11] = [
     ("no block at all", &[], None),
     (
@@ -100,7 +100,7 @@ fn lists_of_blocks_make_tapes_or_do_not(rt: HostRuntime) {
     }
 }
 
-/// Whether the plan of a tape has 22 at 001001, and nothing behind it.
+// Whether the plan of a tape has 22 at 001001, and nothing behind it.
 fn is_planned(alloc: Global, tape: &Tape) -> bool {
     let Ok(plan) = Plan::of(alloc, tape) else {
         return false;
@@ -108,7 +108,7 @@ fn is_planned(alloc: Global, tape: &Tape) -> bool {
     plan.byte_at(0o1001) == Some(0x12) && plan.byte_at(0o1002).is_none()
 }
 
-/// Whether a text of sixteen bytes is read as a tape that starts at 001000 and has this plan.
+// Whether a text of sixteen bytes is read as a tape that starts at 001000 and has this plan.
 fn is_read_again(alloc: Global, text: &[u8]) -> bool {
     let Ok((tape, used)) = read_tape(alloc, text) else {
         return false;
@@ -116,7 +116,7 @@ fn is_read_again(alloc: Global, text: &[u8]) -> bool {
     used == 16 && tape.start() == 0o1000 && is_planned(alloc, &tape)
 }
 
-/// The text of a tape with a block of two bytes, if memory is left.
+// The text of a tape with a block of two bytes, if memory is left.
 fn written(alloc: Global) -> Option<Vec<u8>> {
     let tape = tape_with(alloc, &[(0o1000, &[0x34, 0x12])], 0o1000)?;
     write_tape(alloc, &tape).ok()
@@ -129,13 +129,13 @@ fn a_tape_is_written_and_read_again(rt: HostRuntime) {
     assert!(rt; is_read_again(rt.alloc(), &text));
 }
 
-/// How many bytes of a text are read as a tape, if it is read as one.
+// How many bytes of a text are read as a tape, if it is read as one.
 fn length_of(alloc: Global, text: &[u8]) -> Option<u32> {
     let (_tape, used) = read_tape(alloc, text).ok()?;
     Some(used)
 }
 
-/// The text of the longest tape, if memory is left.
+// The text of the longest tape, if memory is left.
 fn longest_text(alloc: Global) -> Option<Vec<u8>> {
     let tape = tape_of(blocks_of(alloc, &LONGEST)?, 0o1000)?;
     write_tape(alloc, &tape).ok()

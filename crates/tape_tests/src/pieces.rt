@@ -35,7 +35,7 @@ pub(crate) fn finished(reader: TapeReader) -> Result<(usize, u16), ReadError> {
     Ok((tape.written_length(), tape.start()))
 }
 
-/// One block, byte by byte.
+// One block, byte by byte.
 const BYTES: [Feeding; 16] = [
     (b"\x01", Ok(Fed::More)),
     (b"\x00", Ok(Fed::More)),
@@ -55,7 +55,7 @@ const BYTES: [Feeding; 16] = [
     (b"\xF7", Ok(Fed::Done(1))),
 ];
 
-/// A tape of sixteen bytes, and one that follows it.
+// A tape of sixteen bytes, and one that follows it.
 const FOLLOWED: &[u8] = &[
     0x01, 0x00, 0x08, 0x00, 0x00, 0x02, 0x34, 0x12, 0xAF, 0x01, 0x00, 0x06, 0x00, 0x00, 0x02, 0xF7,
     0xFF,
@@ -71,7 +71,7 @@ const NO_TRANSFER: ReadError = ReadError::Tape(Fault {
     why: Why::NoTransfer,
 });
 
-/// Pieces with the answers to them, what is finished then, and why the row is there.
+// Pieces with the answers to them, what is finished then, and why the row is there.
 const FEEDINGS: [(&[Feeding], Result<(usize, u16), ReadError>, &str); 4] = [
     (&BYTES, Ok((16, 0o1000)), "a tape is fed byte by byte"),
     (
@@ -91,7 +91,7 @@ const FEEDINGS: [(&[Feeding], Result<(usize, u16), ReadError>, &str); 4] = [
     ),
 ];
 
-/// Whether a reader that is fed pieces in turn answers so, and finishes this.
+// Whether a reader that is fed pieces in turn answers so, and finishes this.
 fn is_fed(alloc: Global, feedings: &[Feeding], end: Result<(usize, u16), ReadError>) -> bool {
     let mut reader = TapeReader::new(alloc);
     answers_all(&mut reader, feedings) && finished(reader) == end
@@ -105,16 +105,16 @@ fn a_reader_is_fed_in_pieces(rt: HostRuntime) {
     }
 }
 
-/// How an input is read: how many bytes its tape has and where that starts; or at which byte it is refused,
-/// and why.
+// How an input is read: how many bytes its tape has and where that starts; or at which byte it is refused,
+// and why.
 type Reading = Result<(usize, u16), (u32, Why)>;
 
-/// Forty bytes 00 before a tape, three in it, and two bytes behind it.
+// Forty bytes 00 before a tape, three in it, and two bytes behind it.
 const PADDED: &[u8] = b"\0\0\0\0\0\0\0\0\0\0\0\0\0\0\0\0\0\0\0\0\
     \0\0\0\0\0\0\0\0\0\0\0\0\0\0\0\0\0\0\0\0\
     \x01\x00\x08\x00\x00\x02\x34\x12\xAF\0\0\0\x01\x00\x06\x00\x00\x02\xF7\xFF\xFF";
 
-/// Inputs, how each is read, and why the row is there.
+// Inputs, how each is read, and why the row is there.
 const INPUTS: [(&[u8], Reading, &str); 18] = [
     (ONE_BLOCK, Ok((16, 0o1000)), "one block"),
     (PADDED, Ok((59, 0o1000)), "blank tape, and bytes behind"),
@@ -168,7 +168,7 @@ const INPUTS: [(&[u8], Reading, &str); 18] = [
     (OVERLAPPING, Ok((25, 0o1000)), "two blocks"),
 ];
 
-/// Feeds a piece, and answers how many of its bytes belong to the tape.
+// Feeds a piece, and answers how many of its bytes belong to the tape.
 fn feed_piece(reader: &mut TapeReader, piece: &[u8]) -> Result<usize, ReadError> {
     match reader.feed(piece)? {
         Fed::More => Ok(piece.len()),
@@ -176,7 +176,7 @@ fn feed_piece(reader: &mut TapeReader, piece: &[u8]) -> Result<usize, ReadError>
     }
 }
 
-/// Feeds a text in pieces of this length, and answers how many of its bytes belong to the tape.
+// Feeds a text in pieces of this length, and answers how many of its bytes belong to the tape.
 fn feed_pieces(reader: &mut TapeReader, text: &[u8], length: usize) -> Result<usize, ReadError> {
     let mut used = 0usize;
     for piece in text.chunks(length.max(1)) {
@@ -185,8 +185,8 @@ fn feed_pieces(reader: &mut TapeReader, text: &[u8], length: usize) -> Result<us
     Ok(used)
 }
 
-/// Feeds a first piece and then the rest in pieces of this length, and answers how many of the bytes belong to
-/// the tape.
+// Feeds a first piece and then the rest in pieces of this length, and answers how many of the bytes belong to
+// the tape.
 fn feed_cut(
     reader: &mut TapeReader,
     first: &[u8],
@@ -211,7 +211,7 @@ pub(crate) fn reading_of(
     Ok((used, start))
 }
 
-/// Whether an input in two parts is read so, also where the second comes byte by byte.
+// Whether an input in two parts is read so, also where the second comes byte by byte.
 fn is_reading(alloc: Global, first: &[u8], rest: &[u8], reading: Reading) -> bool {
     let expected = match reading {
         Ok(tape) => Ok(tape),
@@ -221,8 +221,8 @@ fn is_reading(alloc: Global, first: &[u8], rest: &[u8], reading: Reading) -> boo
         && reading_of(alloc, first, rest, 1) == expected
 }
 
-/// A place where an input is read otherwise if it is cut there, also where what stands behind the cut comes
-/// byte by byte.
+// A place where an input is read otherwise if it is cut there, also where what stands behind the cut comes
+// byte by byte.
 fn misread_at(alloc: Global, text: &[u8], reading: Reading) -> Option<usize> {
     for place in 0..=text.len() {
         let (first, rest) = text.split_at(place);
@@ -242,8 +242,8 @@ fn where_an_input_is_cut_decides_nothing(rt: HostRuntime) {
     }
 }
 
-/// Counts its reads. Gives so many bytes a read at most, and fails before the byte at one place:
-/// once, with the error that a hidden second try would cover up.
+// Counts its reads. Gives so many bytes a read at most, and fails before the byte at one place:
+// once, with the error that a hidden second try would cover up.
 #[derive(Drop)]
 struct Device<'a> {
     bytes: &'a [u8],
@@ -269,7 +269,7 @@ impl Read for Device<'_> {
     }
 }
 
-/// How many bytes of these are read of a device as a tape, or why none; and how often it is read.
+// How many bytes of these are read of a device as a tape, or why none; and how often it is read.
 fn read_device(
     alloc: Global,
     bytes: &[u8],
@@ -298,7 +298,7 @@ fn a_device_that_fails_is_not_asked_again(rt: HostRuntime) {
     }
 }
 
-/// The text of a tape with a block of 57,328 zeros and another byte, and then a small one.
+// The text of a tape with a block of 57,328 zeros and another byte, and then a small one.
 fn long_text(alloc: Global) -> Result<Vec<u8>, AllocError> {
     let mut text = vec![in alloc; 0u8; 6 + 57_328]?;
     text[..6].copy_from_slice(&[1, 0, 0xF6, 0xDF, 0, 0]);
@@ -306,7 +306,7 @@ fn long_text(alloc: Global) -> Result<Vec<u8>, AllocError> {
     Ok(text)
 }
 
-/// The sum of the large block, and the small one.
+// The sum of the large block, and the small one.
 const BEHIND_ZEROS: &[u8] = b"\x2A\x01\x00\x08\x00\x00\x02\x34\x12\xAF\x01\x00\x06\x00\x00\x02\xF7";
 
 #[test]

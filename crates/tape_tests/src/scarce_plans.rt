@@ -8,12 +8,12 @@ use std::slice;
 use tape_blocks::Tape;
 use tape_image::Plan;
 
-/// Whether there is memory for a plan of the tapes.
+// Whether there is memory for a plan of the tapes.
 fn has_plan(alloc: Global, tapes: &[Tape]) -> bool {
     Plan::of_all(alloc, tapes).is_ok()
 }
 
-/// The first room of a famine in which there is a plan of the tapes, if there is one.
+// The first room of a famine in which there is a plan of the tapes, if there is one.
 fn room_in(alloc: Global, famine: &mut Famine, tapes: &[Tape]) -> Option<usize> {
     for _ in 0..ROOMS {
         let room = famine.leave_more(alloc).ok()?;
@@ -24,8 +24,8 @@ fn room_in(alloc: Global, famine: &mut Famine, tapes: &[Tape]) -> Option<usize> 
     None
 }
 
-/// The least room in which there is a plan of the tapes. In each lesser one the answer is want of memory,
-/// and with ample memory there is one.
+// The least room in which there is a plan of the tapes. In each lesser one the answer is want of memory,
+// and with ample memory there is one.
 fn least_room(alloc: Global, tapes: &[Tape]) -> Option<usize> {
     if !has_plan(alloc, tapes) {
         return None;
@@ -44,7 +44,7 @@ fn push_tape(
     tapes.push(tape).ok()
 }
 
-/// Two tapes, of three blocks in all, if memory is left.
+// Two tapes, of three blocks in all, if memory is left.
 fn two_tapes(alloc: Global) -> Option<Vec<Tape>> {
     let mut tapes = Vec::new(alloc);
     push_tape(
@@ -65,7 +65,7 @@ fn each_growth_of_a_plan_is_refused_in_turn(rt: HostRuntime) {
     assert!(rt; room > 3 * 1024);
 }
 
-/// The least room for a tape of so many copies of one block, a whole word.
+// The least room for a tape of so many copies of one block, a whole word.
 fn room_of_copies(alloc: Global, count: usize) -> Option<usize> {
     let tape = tape_of_copies(alloc, count, &[0x34, 0x12])?;
     least_room(alloc, slice::from_ref(&tape))

@@ -8,12 +8,12 @@ use std::alloc::Global;
 use std::process::Abort;
 use tape_blocks::{Fault, Fed, FromError, ReadError, TapeReader, Why, read_from, write_tape};
 
-/// A block and a transfer block with a wrong sum: the refusal waits behind the growths.
+// A block and a transfer block with a wrong sum: the refusal waits behind the growths.
 const WRONG_SUM: &[u8] = &[
     0x01, 0x00, 0x08, 0x00, 0x00, 0x02, 0x34, 0x12, 0xAF, 0x01, 0x00, 0x06, 0x00, 0x00, 0x02, 0xF6,
 ];
 
-/// How a text is read.
+// How a text is read.
 #[derive(Clone, Copy)]
 enum Call {
     Feed(usize),
@@ -27,7 +27,7 @@ const CALLS: [(Call, &str); 4] = [
     (Call::From, "as an input"),
 ];
 
-/// Feeds a text in pieces of this length, behind an empty one. The answer is the start, or the first error.
+// Feeds a text in pieces of this length, behind an empty one. The answer is the start, or the first error.
 fn feed(alloc: Global, text: &[u8], length: usize) -> Result<u16, FromError> {
     let (_, start) = reading_of(alloc, &[], text, length)?;
     Ok(start)
@@ -45,8 +45,8 @@ fn ask(alloc: Global, call: Call, text: &[u8]) -> Result<u16, FromError> {
     }
 }
 
-/// The first room of a famine in which the answer is another than want of memory, if there is one and the
-/// answer is this one.
+// The first room of a famine in which the answer is another than want of memory, if there is one and the
+// answer is this one.
 fn room_in(
     alloc: Global,
     famine: &mut Famine,
@@ -64,8 +64,8 @@ fn room_in(
     None
 }
 
-/// The least room in which the answer is another than want of memory, if it is this one there and with ample
-/// memory.
+// The least room in which the answer is another than want of memory, if it is this one there and with ample
+// memory.
 fn least_room(
     alloc: Global,
     call: Call,
@@ -79,8 +79,8 @@ fn least_room(
     room_in(alloc, &mut famine, call, text, expected)
 }
 
-/// With ample memory the answer is this one. With less it is want of memory, or this one in the least room
-/// that serves, which has more than so many bytes.
+// With ample memory the answer is this one. With less it is want of memory, or this one in the least room
+// that serves, which has more than so many bytes.
 fn assert_refused_in_turn(
     rt: &impl Abort,
     alloc: Global,
@@ -96,8 +96,8 @@ fn assert_refused_in_turn(
     }
 }
 
-/// A text, what it is read as, and more bytes than which the least room has. A block takes more than 24
-/// bytes beside its own: an address, and where these bytes are.
+// A text, what it is read as, and more bytes than which the least room has. A block takes more than 24
+// bytes beside its own: an address, and where these bytes are.
 const TEXTS: [(&[u8], Result<u16, FromError>, usize); 3] = [
     (ONE_BLOCK, Ok(0o1000), 24 + 2),
     (
@@ -111,7 +111,7 @@ const TEXTS: [(&[u8], Result<u16, FromError>, usize); 3] = [
     (OVERLAPPING, Ok(0o1000), 2 * (24 + 2)),
 ];
 
-/// The text of a tape of twenty blocks of forty bytes, if memory is left.
+// The text of a tape of twenty blocks of forty bytes, if memory is left.
 fn twenty_blocks(alloc: Global) -> Option<Vec<u8>> {
     let tape = tape_of_copies(alloc, 20, &[0; 40])?;
     write_tape(alloc, &tape).ok()
@@ -127,13 +127,13 @@ fn each_growth_of_a_reader_is_refused_in_turn(rt: HostRuntime) {
     }
 }
 
-/// Pieces in a famine: of blank tape no copy is kept.
+// Pieces in a famine: of blank tape no copy is kept.
 const IN_FAMINE: [Feeding; 2] = [
     (&[0; 1000], Ok(Fed::More)),
     (ONE_BLOCK, Err(ReadError::Memory)),
 ];
 
-/// Whether a reader that is fed these in a famine answers so, if there is a famine.
+// Whether a reader that is fed these in a famine answers so, if there is a famine.
 fn is_fed_in_famine(alloc: Global, reader: &mut TapeReader) -> bool {
     let Ok(famine) = Famine::begin(alloc) else {
         return false;

@@ -2,7 +2,7 @@
 
 use tape_image::Word;
 
-/// An address, a mask and a value, whether they are a word's, and why the row is there.
+// An address, a mask and a value, whether they are a word's, and why the row is there.
 const PARTS: [(u16, u16, u16, bool, &str); 9] = [
     (0o1000, 0o377, 0o104, true, "a low byte"),
     (
@@ -21,7 +21,7 @@ const PARTS: [(u16, u16, u16, bool, &str); 9] = [
     (0o160000, 0o177777, 0, false, "the I/O page"),
 ];
 
-/// Whether these are the parts of a word, which then has them, or of none.
+// Whether these are the parts of a word, which then has them, or of none.
 fn is_so(address: u16, mask: u16, value: u16, is_word: bool) -> bool {
     match Word::new(address, mask, value) {
         Some(word) => {

@@ -6,7 +6,7 @@ use odt_machine::{LARGEST_WORDS, Mode, Odt, OdtError, PLAIN_STYLE};
 use std::alloc::Global;
 use std::process::Abort;
 
-/// Modes of the largest machine, whether typing can reach them, and why the row is here.
+// Modes of the largest machine, whether typing can reach them, and why the row is here.
 const MODES: [(Mode, bool, &str); 9] = [
     (Mode::Number(0, 7), true, "seven digits or more"),
     (Mode::Number(0, 0), false, "a number has a digit"),
@@ -19,7 +19,7 @@ const MODES: [(Mode, bool, &str); 9] = [
     (Mode::Typing(0o160000, 0, 1), false, "no word at the top"),
 ];
 
-/// Whether the largest machine can be in the mode; nothing where memory for it is refused.
+// Whether the largest machine can be in the mode; nothing where memory for it is refused.
 fn reaches(alloc: Global, mode: Mode) -> Option<bool> {
     let odt = Odt::new(alloc, LARGEST_WORDS, PLAIN_STYLE).ok()?;
     Some(odt.with_mode(mode).is_ok())
@@ -33,14 +33,14 @@ fn modes_that_typing_reaches(rt: HostRuntime) {
     }
 }
 
-/// Addresses of the largest machine, and whether a word lies there.
+// Addresses of the largest machine, and whether a word lies there.
 const ADDRESSES: [(u16, bool, &str); 3] = [
     (0o157776, true, "the last word"),
     (0o157777, false, "an odd address"),
     (0o160000, false, "no word at the top"),
 ];
 
-/// Words lie in the largest machine where the table says it.
+// Words lie in the largest machine where the table says it.
 fn words_lie_so(rt: &impl Abort, odt: &mut Odt) {
     for row in &ADDRESSES {
         let (address, is_word, reason) = *row;

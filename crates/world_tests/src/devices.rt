@@ -8,8 +8,8 @@ use std::process::Abort;
 use std::test::Fail;
 use tape_image::Word;
 
-/// A keeper's room and its first failing call; then how keeping a word, the mark and a word again
-/// goes, how many things are kept, and why the row is here.
+// A keeper's room and its first failing call; then how keeping a word, the mark and a word again
+// goes, how many things are kept, and why the row is here.
 static ROWS: [(u32, Option<u32>, [Option<KeepFault>; 3], usize, &str); 6] = [
     (3, None, [None, None, None], 3, "room for all three"),
     (
@@ -57,7 +57,7 @@ static ROWS: [(u32, Option<u32>, [Option<KeepFault>; 3], usize, &str); 6] = [
     ),
 ];
 
-/// The fault of a call. What its contract promises of it, no test needs.
+// The fault of a call. What its contract promises of it, no test needs.
 fn fault_of(keep: &mut MemoryKeep, item: Kept) -> Option<KeepFault> {
     let outcome = match item {
         Kept::Word(word) => keep.add(word),
@@ -66,7 +66,7 @@ fn fault_of(keep: &mut MemoryKeep, item: Kept) -> Option<KeepFault> {
     outcome.err()
 }
 
-/// The next call has this outcome, and so many calls have failed then.
+// The next call has this outcome, and so many calls have failed then.
 fn keeps_so(
     rt: &impl Abort,
     keep: &mut MemoryKeep,
@@ -95,7 +95,7 @@ fn a_keeper_keeps_and_fails_by_its_numbers(rt: HostRuntime) -> Result<(), Fail> 
     Ok(())
 }
 
-/// The largest plan has a word for each even address below 160000. Whether all of them are kept.
+// The largest plan has a word for each even address below 160000. Whether all of them are kept.
 fn keeps_the_largest_load(keep: &mut MemoryKeep) -> Option<()> {
     const WORDS: u16 = 28672;
     for number in 0..WORDS {
@@ -117,7 +117,7 @@ fn a_keeper_of_the_largest_load(rt: HostRuntime) {
     keeps_so(&rt, &mut keep, Kept::Go, Some(KeepFault::Full), "no more");
 }
 
-/// Whether this is written so.
+// Whether this is written so.
 fn is_written(alloc: Global, fault: &impl Display, text: &str) -> Option<bool> {
     let written = format!(in alloc; "{fault}").ok()?;
     Some(written.as_str() == text)

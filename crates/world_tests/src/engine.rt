@@ -15,8 +15,8 @@ use std::alloc::Global;
 use std::process::Abort;
 use tape_image::Word;
 
-/// What a drive stands on besides the tape: the words of the machine, the patience, the losses of
-/// the line, the room and the first failing call of the line and of the keeper, and the turns.
+// What a drive stands on besides the tape: the words of the machine, the patience, the losses of
+// the line, the room and the first failing call of the line and of the keeper, and the turns.
 #[derive(Clone, Copy)]
 struct Setting {
     words: u16,
@@ -29,7 +29,7 @@ struct Setting {
     turns: u64,
 }
 
-/// A whole memory, a line that loses nothing, and no failure.
+// A whole memory, a line that loses nothing, and no failure.
 const AMPLE: Setting = Setting {
     words: 28672,
     patience: 8,
@@ -41,7 +41,7 @@ const AMPLE: Setting = Setting {
     turns: 1000,
 };
 
-/// What a drive came to.
+// What a drive came to.
 #[derive(Drop)]
 struct Outcome {
     stop: Stop,
@@ -50,7 +50,7 @@ struct Outcome {
     keep: MemoryKeep,
 }
 
-/// The losses of a line, one or none.
+// The losses of a line, one or none.
 fn losses_of(alloc: Global, loss: Option<Loss>) -> Option<Vec<Loss>> {
     let mut losses = Vec::new(alloc);
     if let Some(loss) = loss {
@@ -65,7 +65,7 @@ fn line_of(alloc: Global, setting: &Setting) -> Option<MemoryLine> {
     MemoryLine::new(alloc, odt, losses, setting.room, setting.fail_at).ok()
 }
 
-/// The engine's answer. What its contract promises of it, no test needs.
+// The engine's answer. What its contract promises of it, no test needs.
 fn drive_on<L: Line>(
     core: HostCore,
     line: &mut L,
@@ -75,8 +75,8 @@ fn drive_on<L: Line>(
     drive(core, line, keep, turns)
 }
 
-/// How a drive by a fresh host of this patience stops, and how many mishaps there were; nothing where
-/// memory for the host is refused.
+// How a drive by a fresh host of this patience stops, and how many mishaps there were; nothing where
+// memory for the host is refused.
 fn driven_over<L: Line>(
     alloc: Global,
     line: &mut L,
@@ -88,7 +88,7 @@ fn driven_over<L: Line>(
     Some((stop, core.spent()))
 }
 
-/// What a drive in this setting comes to.
+// What a drive in this setting comes to.
 fn driven(alloc: Global, setting: &Setting) -> Option<Outcome> {
     let mut keep = MemoryKeep::new(alloc, setting.keep_room, setting.keep_fail_at).ok()?;
     let mut line = line_of(alloc, setting)?;
@@ -102,7 +102,7 @@ fn driven(alloc: Global, setting: &Setting) -> Option<Outcome> {
     })
 }
 
-/// Whether so many things are kept of those that a whole load keeps: the word, and then the mark.
+// Whether so many things are kept of those that a whole load keeps: the word, and then the mark.
 fn is_kept(kept: &[Kept], count: usize) -> bool {
     match Word::new(0o1000, 0o177777, 0o11064) {
         Some(word) => kept == &[Kept::Word(word), Kept::Go][..count.min(2)],
@@ -117,7 +117,7 @@ fn keys_of(items: &[Item]) -> usize {
         .count()
 }
 
-/// What a drive comes to: how it stops, the keys sent, the things heard, the things kept, and the mishaps.
+// What a drive comes to: how it stops, the keys sent, the things heard, the things kept, and the mishaps.
 #[derive(Clone, Copy)]
 struct Course {
     stop: Stop,
@@ -127,7 +127,7 @@ struct Course {
     spent: u32,
 }
 
-/// The setting, what a drive in it comes to, and why the row is here.
+// The setting, what a drive in it comes to, and why the row is here.
 const ROWS: [(Setting, Course, &str); 12] = [
     (
         Setting { turns: 52, ..AMPLE },
@@ -285,7 +285,7 @@ const ROWS: [(Setting, Course, &str); 12] = [
     ),
 ];
 
-/// The device at which a drive stopped has failed once, and the other one not at all.
+// The device at which a drive stopped has failed once, and the other one not at all.
 fn fails_so(rt: &impl Abort, outcome: &Outcome, stop: Stop, reason: &str) {
     let line = matches!(stop, Stop::LineFailed(_));
     let keep = matches!(stop, Stop::KeepFailed(_));
@@ -295,7 +295,7 @@ fn fails_so(rt: &impl Abort, outcome: &Outcome, stop: Stop, reason: &str) {
     check_that(rt, outcome.keep.failures() == keep as u64, reason);
 }
 
-/// So much was sent, heard and kept.
+// So much was sent, heard and kept.
 fn says_so(rt: &impl Abort, outcome: &Outcome, course: &Course, reason: &str) {
     let items = outcome.line.items();
     let said = course.keys.saturating_add(course.heard);
@@ -304,7 +304,7 @@ fn says_so(rt: &impl Abort, outcome: &Outcome, course: &Course, reason: &str) {
     check_that(rt, is_kept(outcome.keep.kept(), course.kept), reason);
 }
 
-/// A drive has come to this.
+// A drive has come to this.
 fn came_to(rt: &impl Abort, outcome: &Outcome, course: &Course, reason: &str) {
     check_that(rt, outcome.stop == course.stop, reason);
     check_that(rt, outcome.spent == course.spent, reason);
@@ -312,7 +312,7 @@ fn came_to(rt: &impl Abort, outcome: &Outcome, course: &Course, reason: &str) {
     says_so(rt, outcome, course, reason);
 }
 
-/// A drive in this setting comes to this; nothing where there is no drive.
+// A drive in this setting comes to this; nothing where there is no drive.
 fn comes_to(
     rt: &impl Abort,
     alloc: Global,
@@ -333,13 +333,13 @@ fn worked_drives(rt: HostRuntime) {
     }
 }
 
-/// Whether a drive ended so, after so many mishaps. Where the host did not give up, memory holds the word.
+// Whether a drive ended so, after so many mishaps. Where the host did not give up, memory holds the word.
 fn is_ended_so(outcome: &Outcome, end: End, spent: u32) -> bool {
     let is_loaded = outcome.line.odt().peek(0o1000) == Some(0o11064);
     outcome.stop == Stop::Ended(end) && outcome.spent == spent && (is_loaded || end == End::GaveUp)
 }
 
-/// Whether the setting with this loss and patience ends so.
+// Whether the setting with this loss and patience ends so.
 fn is_driven_so(
     alloc: Global,
     (loss, patience): (Loss, u32),
@@ -354,25 +354,25 @@ fn is_driven_so(
     Some(is_ended_so(&outcome, end, spent))
 }
 
-/// A loss with a patience has this ending.
+// A loss with a patience has this ending.
 fn ends_so(rt: &impl Abort, alloc: Global, (loss, patience): (Loss, u32), ending: (End, u32)) {
     let is_so = is_driven_so(alloc, (loss, patience), ending) == Some(true);
     assert!(rt; is_so, "{loss:?} with patience {patience}");
 }
 
-/// A loss that takes one mishap, so that a host without patience gives up.
+// A loss that takes one mishap, so that a host without patience gives up.
 fn mends(rt: &impl Abort, alloc: Global, loss: Loss) {
     ends_so(rt, alloc, (loss, 1), (End::Started, 1));
     ends_so(rt, alloc, (loss, 0), (End::GaveUp, 0));
 }
 
-/// A loss after which, whatever the patience, nobody knows whether the program runs.
+// A loss after which, whatever the patience, nobody knows whether the program runs.
 fn leaves_open(rt: &impl Abort, alloc: Global, loss: Loss) {
     ends_so(rt, alloc, (loss, 0), (End::Uncertain, 0));
     ends_so(rt, alloc, (loss, 1), (End::Uncertain, 0));
 }
 
-/// Up to this number a loss is mended, the next one takes the last character.
+// Up to this number a loss is mended, the next one takes the last character.
 const KEYS_MENDED: u64 = 29;
 
 const ANSWERS_MENDED: u64 = 50;

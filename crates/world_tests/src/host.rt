@@ -8,7 +8,7 @@ use host_core::{BadProgress, End, Heard, HostCore, Progress};
 use std::alloc::Global;
 use std::process::Abort;
 
-/// In a text of what is heard: nothing comes for the quiet time.
+// In a text of what is heard: nothing comes for the quiet time.
 const PAUSE: u8 = b'~';
 
 /// What a character of such a text stands for.
@@ -19,12 +19,12 @@ pub(crate) fn heard_of(c: u8) -> Heard {
     }
 }
 
-/// The key with which the host answers. What its contract promises of it, no test needs.
+// The key with which the host answers. What its contract promises of it, no test needs.
 fn answer(host: &mut HostCore, heard: Heard) -> Option<u8> {
     host.step(heard)
 }
 
-/// The host hears the text. Whether it types nothing but `Z` then.
+// The host hears the text. Whether it types nothing but `Z` then.
 fn types_only_z(host: &mut HostCore, text: &str) -> bool {
     let mut is_z = true;
     for &c in text.as_bytes() {
@@ -33,7 +33,7 @@ fn types_only_z(host: &mut HostCore, text: &str) -> bool {
     is_z
 }
 
-/// What is heard, how often and with which patience; how many keys are sent, each a `Z`; and the end.
+// What is heard, how often and with which patience; how many keys are sent, each a `Z`; and the end.
 type Peer = (&'static str, u32, u32, u64, Option<End>, &'static str);
 
 const PEERS: [Peer; 5] = [
@@ -58,7 +58,7 @@ const PEERS: [Peer; 5] = [
     ("~", 2, 1, 2, None, "the first timeout is forgiven"),
 ];
 
-/// The host hears the text so often. Whether it types nothing but `Z` then.
+// The host hears the text so often. Whether it types nothing but `Z` then.
 fn types_only_z_for(host: &mut HostCore, text: &str, times: u32) -> bool {
     let mut is_z = true;
     for _ in 0..times {
@@ -67,7 +67,7 @@ fn types_only_z_for(host: &mut HostCore, text: &str, times: u32) -> bool {
     is_z
 }
 
-/// A fresh host beside this peer sends and ends so; nothing where there is no host.
+// A fresh host beside this peer sends and ends so; nothing where there is no host.
 fn sends_so(rt: &impl Abort, alloc: Global, row: &Peer) -> Option<()> {
     let (text, times, patience, sent, end, reason) = *row;
     let mut host = fresh_host(alloc, &ONE_WORD, patience)?;
@@ -85,11 +85,11 @@ fn peers_that_never_answer_rightly(rt: HostRuntime) {
     }
 }
 
-/// How a host begins: what is refused or its end, whether it is fresh, and how many words its plan has,
-/// or the one that comes back.
+// How a host begins: what is refused or its end, whether it is fresh, and how many words its plan has,
+// or the one that comes back.
 type Beginning = (Result<Option<End>, BadProgress>, bool, usize);
 
-/// How a host begins with this progress.
+// How a host begins with this progress.
 fn beginning(alloc: Global, tape: &[u8], progress: Progress) -> Option<Beginning> {
     match HostCore::new(plan_of(alloc, tape)?, progress, 3) {
         Ok(host) => Some((Ok(host.end()), host.is_fresh(), host.plan().words().len())),
@@ -97,7 +97,7 @@ fn beginning(alloc: Global, tape: &[u8], progress: Progress) -> Option<Beginning
     }
 }
 
-/// The tape, how many words are verified, the mark, and how a host begins with them.
+// The tape, how many words are verified, the mark, and how a host begins with them.
 const BEGINNINGS: [(&[u8], u32, bool, Beginning, &str); 9] = [
     (&ONE_WORD, 0, false, (Ok(None), true, 1), "a fresh load"),
     (

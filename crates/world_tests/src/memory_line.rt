@@ -16,7 +16,7 @@ fn list_of(alloc: Global, losses: &[Loss]) -> Option<Vec<Loss>> {
     Some(list)
 }
 
-/// A line to a machine of one word; none where memory for it is refused.
+// A line to a machine of one word; none where memory for it is refused.
 fn line_with(
     alloc: Global,
     losses: &[Loss],
@@ -28,7 +28,7 @@ fn line_with(
     MemoryLine::new(alloc, odt, list, room, fail_at).ok()
 }
 
-/// `Z` is sent so often.
+// `Z` is sent so often.
 fn send_so_often(line: &mut MemoryLine, times: u32) -> Result<(), LineFault> {
     for _ in 0..times {
         line.send(b'Z')?;
@@ -36,32 +36,32 @@ fn send_so_often(line: &mut MemoryLine, times: u32) -> Result<(), LineFault> {
     Ok(())
 }
 
-/// A key, and what is heard then.
+// A key, and what is heard then.
 fn ask(line: &mut MemoryLine, key: u8) -> Result<Heard, LineFault> {
     line.send(key)?;
     line.hear()
 }
 
-/// What is heard. What its contract promises of it, no test needs.
+// What is heard. What its contract promises of it, no test needs.
 fn heard_on(line: &mut MemoryLine) -> Option<Heard> {
     line.hear().ok()
 }
 
-/// The text is heard.
+// The text is heard.
 fn hears_text(rt: &impl Abort, line: &mut MemoryLine, text: &[u8], reason: &str) {
     for character in text {
         check_that(rt, heard_on(line) == Some(Heard::Got(*character)), reason);
     }
 }
 
-/// The text is heard, and then nothing.
+// The text is heard, and then nothing.
 fn hears(rt: &impl Abort, line: &mut MemoryLine, text: &[u8], reason: &str) {
     hears_text(rt, line, text, reason);
     check_that(rt, heard_on(line) == Some(Heard::Quiet), reason);
 }
 
-/// The losses; what is heard where `Z` is sent twice, and is answered `?`, CR, LF and `@` each time;
-/// and why the row is here.
+// The losses; what is heard where `Z` is sent twice, and is answered `?`, CR, LF and `@` each time;
+// and why the row is here.
 const LOSSES: [(&[Loss], &[u8], &str); 9] = [
     (&[], b"?\r\n@?\r\n@", "nothing is lost"),
     (&[Loss::Down(1)], b"?\r\n@", "a lost key is not answered"),
@@ -90,7 +90,7 @@ const LOSSES: [(&[Loss], &[u8], &str); 9] = [
     (&[Loss::Down(2), Loss::Down(1)], b"", "in any order"),
 ];
 
-/// The text is heard where `Z` is sent twice.
+// The text is heard where `Z` is sent twice.
 fn loses_so(rt: &impl Abort, line: &mut MemoryLine, text: &[u8], reason: &str) {
     check_that(rt, send_so_often(line, 2).is_ok(), reason);
     check_that(rt, line.waiting() == text, reason);
@@ -111,8 +111,8 @@ fn what_is_lost(rt: HostRuntime) {
     }
 }
 
-/// The room, the first call that fails, what is answered where `Z` is sent and one thing is heard,
-/// three times, and why the row is here.
+// The room, the first call that fails, what is answered where `Z` is sent and one thing is heard,
+// three times, and why the row is here.
 type Row = (
     u32,
     Option<u64>,
@@ -183,7 +183,7 @@ static FAULTS: [Row; 6] = [
     ),
 ];
 
-/// `Z` is sent and one thing is heard, with this answer.
+// `Z` is sent and one thing is heard, with this answer.
 fn answers(rt: &impl Abort, line: &mut MemoryLine, answer: Result<Heard, LineFault>, reason: &str) {
     let before = line.failures();
     check_that(rt, ask(line, b'Z') == answer, reason);
@@ -192,7 +192,7 @@ fn answers(rt: &impl Abort, line: &mut MemoryLine, answer: Result<Heard, LineFau
     check_that(rt, line.failures() == failures, reason);
 }
 
-/// A line fails so; nothing where there is no line.
+// A line fails so; nothing where there is no line.
 fn fails_so(rt: &impl Abort, alloc: Global, row: &Row) -> Option<()> {
     let (room, fail_at, outcomes, reason) = row;
     let mut line = line_with(alloc, &[], *room, *fail_at)?;
@@ -210,7 +210,7 @@ fn how_it_fails(rt: HostRuntime) {
     }
 }
 
-/// On this line many wait, so that it is full; then one is heard.
+// On this line many wait, so that it is full; then one is heard.
 fn fills_up(rt: &impl Abort, line: &mut MemoryLine) {
     check_that(rt, send_so_often(line, 14).is_ok(), "fourteen keys");
     check_that(rt, line.waiting().len() == 56, "fourteen answers wait");
@@ -218,7 +218,7 @@ fn fills_up(rt: &impl Abort, line: &mut MemoryLine) {
     hears_text(rt, line, b"?", "the first that waits");
 }
 
-/// A key that is answered by its echo has room.
+// A key that is answered by its echo has room.
 fn takes_one(rt: &impl Abort, line: &mut MemoryLine) {
     check_that(rt, line.send(b'1').is_ok(), "room for one");
     check_that(rt, line.waiting().len() == 56, "one came for one");
@@ -235,7 +235,7 @@ fn it_is_full_where_many_wait(rt: HostRuntime) {
     takes_one(&rt, &mut line);
 }
 
-/// A whole answer is heard, so often.
+// A whole answer is heard, so often.
 fn answers_so_often(rt: &impl Abort, line: &mut MemoryLine, times: u32) {
     for _ in 0..times {
         answers(rt, line, Ok(Heard::Got(b'?')), "a whole answer");

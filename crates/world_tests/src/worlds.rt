@@ -7,7 +7,7 @@ use line_world::{Setup, World};
 use odt_machine::{LARGEST_WORDS, Mode, Odt, PLAIN_STYLE};
 use std::alloc::Global;
 
-/// Why there is no world, where there is none.
+// Why there is no world, where there is none.
 fn refusal_of(odt: Odt, core: HostCore, waiting: &[u8]) -> Option<Setup> {
     match World::new(odt, core, waiting) {
         Ok(_) => None,
@@ -15,8 +15,8 @@ fn refusal_of(odt: Odt, core: HostCore, waiting: &[u8]) -> Option<Setup> {
     }
 }
 
-/// What waits, the machine's mode, the verified words; the refusal; and why the row is here. The
-/// tape has one word.
+// What waits, the machine's mode, the verified words; the refusal; and why the row is here. The
+// tape has one word.
 const OPENINGS: [(&[u8], Mode, u32, Option<Setup>, &str); 7] = [
     (&[], Mode::Prompt, 0, None, "nothing waits"),
     (
@@ -63,7 +63,7 @@ const OPENINGS: [(&[u8], Mode, u32, Option<Setup>, &str); 7] = [
     ),
 ];
 
-/// How a world with these begins: why there is none, where there is none.
+// How a world with these begins: why there is none, where there is none.
 fn opening_of(alloc: Global, waiting: &[u8], mode: Mode, verified: u32) -> Option<Option<Setup>> {
     let odt = Odt::new(alloc, LARGEST_WORDS, PLAIN_STYLE).ok()?;
     let odt = odt.with_mode(mode).ok()?;

@@ -9,25 +9,33 @@ use std::io::ErrorKind;
 pub enum Step {
     /// It is looked at which file a name leads to.
     Look,
+
     /// A file is opened or made whose name ends as that of a new record does.
     OpenBeside,
+
     /// The record's folder is opened.
     OpenFolder,
+
     /// Any other file is opened or made.
     Open,
+
     /// A file that was opened as a new record is held.
     HoldBeside,
+
     /// Any other file is held.
     Hold,
     Write,
     Flush,
+
     /// The length of a file is set.
     Cut,
     SyncData,
     SyncAll,
     Rename,
+
     /// A file is removed whose name ends as that of a new record does.
     RemoveBeside,
+
     /// Any other file is removed.
     Remove,
 }
@@ -40,11 +48,12 @@ pub type Failing = &'static [(Step, usize, ErrorKind)];
 pub struct Notes<'n> {
     pub steps: RefCell<Vec<Step>>,
     failing: Failing,
+
     /// The name of the record's folder.
     folder: &'n str,
 }
 
-/// Whether a file of this name is a new record, beside the old one.
+// Whether a file of this name is a new record, beside the old one.
 fn is_beside(path: &str) -> bool {
     path.ends_with("-new")
 }
@@ -68,7 +77,7 @@ impl<'n> Notes<'n> {
         }
     }
 
-    /// What opening a file of this name is.
+    // What opening a file of this name is.
     fn opening(&self, path: &str) -> Step {
         if path == self.folder {
             Step::OpenFolder
@@ -79,7 +88,7 @@ impl<'n> Notes<'n> {
         }
     }
 
-    /// How often a step was asked for.
+    // How often a step was asked for.
     fn count(&self, step: Step) -> usize {
         match self.steps.try_borrow() {
             Ok(steps) => steps.iter().filter(|noted| **noted == step).count(),
@@ -87,7 +96,7 @@ impl<'n> Notes<'n> {
         }
     }
 
-    /// Takes note of a step, which may be one that fails.
+    // Takes note of a step, which may be one that fails.
     fn take(&self, step: Step) -> io::Result<()> {
         if let Ok(mut steps) = self.steps.try_borrow_mut() {
             steps.push(step)?;

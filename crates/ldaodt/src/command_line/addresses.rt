@@ -15,21 +15,21 @@ use octal::read_oct6;
 use std::alloc::Global;
 use tape_image::Start;
 
-/// Why a word is no start of a load, and none of a saved tape.
+// Why a word is no start of a load, and none of a saved tape.
 const NO_START_ADDRESS: &str = "a start is octal, of one to six digits, and even";
 
 const NO_SAVED_START: &str = "a start is octal, of one to six digits";
 
-/// Why a word is no address of a word of memory.
+// Why a word is no address of a word of memory.
 const NO_ADDRESS: &str = "an address is octal, of one to six digits, even, and below 160000";
 
-/// Why a last address is none.
+// Why a last address is none.
 const IS_BELOW: &str = "the last address is below the first";
 
-/// The start address of a tape that starts nothing.
+// The start address of a tape that starts nothing.
 const STARTS_NOTHING: u16 = 0o000001;
 
-/// The first address that no word of memory has.
+// The first address that no word of memory has.
 const TOP: u16 = 0o160000;
 
 /// The start in place of the tapes', by two options of which one is given at most.
@@ -55,7 +55,7 @@ pub(crate) fn saved_start_of(alloc: Global, found: &ArgMatches<'_>) -> Result<u1
     }
 }
 
-/// The start address of a tape that a text is, or its refusal.
+// The start address of a tape that a text is, or its refusal.
 fn any_start(alloc: Global, text: &str) -> Result<u16, NoRequest>
     ensures { IfOk result (IsOctalText text.now) }
 {
@@ -65,7 +65,7 @@ fn any_start(alloc: Global, text: &str) -> Result<u16, NoRequest>
     }
 }
 
-/// The start address of a program that a text is, or its refusal.
+// The start address of a program that a text is, or its refusal.
 fn given_start(alloc: Global, text: &str) -> Result<u16, NoRequest>
     ensures { IfOk result (IsEvenText text.now) }
 {
@@ -88,7 +88,7 @@ pub(crate) fn range_of(alloc: Global, found: &ArgMatches<'_>) -> Result<AddressR
     }
 }
 
-/// The address of a word of memory that an argument's text is, or its refusal.
+// The address of a word of memory that an argument's text is, or its refusal.
 fn word_of(alloc: Global, text: &str, argument: &str) -> Result<u16, NoRequest>
     ensures { IfOk result (IsWordText text.now) }
 {
@@ -98,7 +98,7 @@ fn word_of(alloc: Global, text: &str, argument: &str) -> Result<u16, NoRequest>
     }
 }
 
-/// The even number that a text of one to six octal digits is.
+// The even number that a text of one to six octal digits is.
 fn even(text: &str) -> Option<u16>
     ensures { IfSome result (IsEvenText text.now) }
 {
@@ -108,7 +108,7 @@ fn even(text: &str) -> Option<u16>
     }
 }
 
-/// The number that a text of one to six octal digits is.
+// The number that a text of one to six octal digits is.
 fn octal(text: &str) -> Option<u16>
     ensures some { IfSome result (λ number. 1 ≤ length text.now) }
     ensures value { IfSome result (λ number. IsOct6 number (replicate (6 - length text.now) 48 ++ text.now)) }

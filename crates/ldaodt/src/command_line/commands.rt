@@ -9,7 +9,7 @@ use super::texts;
 use clap::{Arg, Command};
 use std::alloc::{AllocError, Global};
 
-/// Where the console is.
+// Where the console is.
 const LINE_HELP: &str =
     "Where the console is: HOST:PORT, or the path of a serial\ndevice, which has a '/'";
 
@@ -25,7 +25,7 @@ pub(crate) fn ldaodt<'a>(alloc: Global) -> Result<Command<'a>, AllocError> {
         .subcommands(subcommands(alloc)?)
 }
 
-/// What the program can be asked to do.
+// What the program can be asked to do.
 fn subcommands<'a>(alloc: Global) -> Result<Vec<Command<'a>>, AllocError> {
     let mut commands = Vec::new(alloc);
     commands.push(load_command(alloc)?)?;
@@ -110,12 +110,12 @@ fn type_command<'a>(alloc: Global) -> Result<Command<'a>, AllocError> {
     command(alloc, "type", about, texts::TYPE).args(console_options(alloc)?)
 }
 
-/// A command of this name, with what it is about and what stands below its options.
+// A command of this name, with what it is about and what stands below its options.
 fn command<'a>(alloc: Global, name: &'a str, about: &'a str, below: &'a str) -> Command<'a> {
     Command::new(alloc, name).about(about).after_help(below)
 }
 
-/// The arguments of a command that meets a machine with tapes.
+// The arguments of a command that meets a machine with tapes.
 fn tapes_and_line<'a>(alloc: Global) -> Result<Vec<Arg<'a>>, AllocError> {
     Ok(vec![in alloc;
         tape_argument(alloc),

@@ -51,7 +51,7 @@ impl NoRequest {
         }
     }
 
-    /// A text that was asked for, where there was memory for it.
+    // A text that was asked for, where there was memory for it.
     fn helping(text: Result<String, AllocError>) -> NoRequest
         ensures { IsHelpText result }
     {

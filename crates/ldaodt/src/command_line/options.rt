@@ -38,16 +38,16 @@ pub(crate) const PATIENCE: &str = "patience";
 
 pub(crate) const QUIET: &str = "quiet";
 
-/// The most mishaps that a load or a look may be asked to survive.
+// The most mishaps that a load or a look may be asked to survive.
 const LARGEST_PATIENCE: u16 = 1000;
 
-/// The shortest and the longest silence, in milliseconds, that may be taken to mean that nothing more is
-/// coming.
+// The shortest and the longest silence, in milliseconds, that may be taken to mean that nothing more is
+// coming.
 const SHORTEST_QUIET: u16 = 1;
 
 const LONGEST_QUIET: u16 = 60_000;
 
-/// The shortest and the longest silence, in seconds, that may end the listening behind a load.
+// The shortest and the longest silence, in seconds, that may end the listening behind a load.
 const SHORTEST_LISTENING: u16 = 1;
 
 const LONGEST_LISTENING: u16 = 65_535;
@@ -143,7 +143,7 @@ fn quiet_option<'a>(alloc: Global) -> Arg<'a> {
     ))
 }
 
-/// An option of this name, with what its value is called and what it says.
+// An option of this name, with what its value is called and what it says.
 fn option<'a>(alloc: Global, name: &'a str, value: &'a str, help: &'a str) -> Arg<'a> {
     Arg::new(alloc, name)
         .long(name)
@@ -151,7 +151,7 @@ fn option<'a>(alloc: Global, name: &'a str, value: &'a str, help: &'a str) -> Ar
         .help(help)
 }
 
-/// An option without a value, and what it says.
+// An option without a value, and what it says.
 fn flag<'a>(alloc: Global, name: &'a str, help: &'a str) -> Arg<'a> {
     Arg::new(alloc, name)
         .long(name)

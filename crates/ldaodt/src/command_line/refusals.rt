@@ -7,7 +7,7 @@ use clap::Error;
 use clap::error::ErrorKind;
 use std::alloc::{AllocError, Global};
 
-/// How the parser's tip begins that is wrong here for every option: behind `--` there are tapes alone.
+// How the parser's tip begins that is wrong here for every option: behind `--` there are tapes alone.
 const WRONG_TIP: &str = "\n  tip: to pass '";
 
 /// The text of a refusal by the parser, where this is the first of the words.
@@ -27,12 +27,12 @@ pub(crate) fn invalid_value(alloc: Global, value: &str, argument: &str, why: &st
     ))
 }
 
-/// Whether a word looks like a file's name, and so like a tape.
+// Whether a word looks like a file's name, and so like a tape.
 fn is_like_a_file(word: &str) -> bool {
     word.as_bytes().contains(&b'.') || word.as_bytes().contains(&b'/')
 }
 
-/// What is said of a tape where a command has to stand.
+// What is said of a tape where a command has to stand.
 fn no_command(alloc: Global, tape: &str) -> Result<String, AllocError> {
     format!(in alloc;
         "error: unrecognized subcommand '{tape}'\n
@@ -46,7 +46,7 @@ For more information, try '--help'.
     )
 }
 
-/// A text of the parser without its wrong tip. No word of the command line has a line's end in it here.
+// A text of the parser without its wrong tip. No word of the command line has a line's end in it here.
 fn without_wrong_tip(alloc: Global, text: &str) -> Result<String, AllocError> {
     let Some((before, behind)) = text.split_once(WRONG_TIP) else {
         return String::from_str(alloc, text);

@@ -16,7 +16,7 @@ pub(crate) fn shown_words(alloc: Global, words: &[String]) -> Result<Vec<String>
     Ok(shown)
 }
 
-/// A word, as it is shown.
+// A word, as it is shown.
 fn shown_word(alloc: Global, word: &str) -> Result<String, AllocError> {
     let mut shown = String::new(alloc);
     for character in word.chars() {
@@ -25,7 +25,7 @@ fn shown_word(alloc: Global, word: &str) -> Result<String, AllocError> {
     Ok(shown)
 }
 
-/// Puts a character behind a text, as it is shown: a control character by its escape.
+// Puts a character behind a text, as it is shown: a control character by its escape.
 fn push_shown(shown: &mut String, character: char) -> Result<(), AllocError> {
     if character.is_control() {
         write!(shown, "{}", character.escape_default())

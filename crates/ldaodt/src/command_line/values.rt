@@ -13,7 +13,7 @@ use odt_machine::{LARGEST_WORDS, PLAIN_STYLE, Style};
 use requests::Console;
 use std::alloc::{AllocError, Global};
 
-/// Why a word is no line.
+// Why a word is no line.
 const NO_LINE: &str = "a line is HOST:PORT, or the path of a serial device, which has a '/'";
 
 /// The text of a required argument.
@@ -53,7 +53,7 @@ pub(crate) fn further_tapes_of<'a>(
     Ok(joined(alloc, &[], found)?)
 }
 
-/// These names, and behind them those of further tapes. Without any of those there is no entry.
+// These names, and behind them those of further tapes. Without any of those there is no entry.
 fn joined<'a>(
     alloc: Global,
     first: &[&'a str],
@@ -77,7 +77,7 @@ pub(crate) fn console_of(found: &ArgMatches<'_>) -> Result<Console, NoRequest>
     })
 }
 
-/// The style whose number is given, or the plain one.
+// The style whose number is given, or the plain one.
 fn style_of(found: &ArgMatches<'_>) -> Result<Style, NoRequest>
     ensures { IfOk result (λ style. IsNumberOf (found_of found.now) (codes "style") 0 (style_number style)) }
 {

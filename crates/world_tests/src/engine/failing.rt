@@ -2,9 +2,9 @@ use super::*;
 use crate::host::heard_of;
 use std::slice::Iter;
 
-/// The calls of a whole load, counted by hand: `h` hears one thing, `s` sends a key. A line each for
-/// `Z`, its answer, the address, the reading, the deposit, its answer, the address again, the reading
-/// (after which the word is closed), its answer, the start address, and the echo of `G`.
+// The calls of a whole load, counted by hand: `h` hears one thing, `s` sends a key. A line each for
+// `Z`, its answer, the address, the reading, the deposit, its answer, the address again, the reading
+// (after which the word is closed), its answer, the start address, and the echo of `G`.
 const CALLS: &str = "hs\
     hhhhs\
     hshshshshshs\
@@ -17,22 +17,22 @@ const CALLS: &str = "hs\
     hshshshshshs\
     h";
 
-/// How many calls there are.
+// How many calls there are.
 const LAST: usize = 82;
 
-/// The keys of these calls.
+// The keys of these calls.
 const KEYS: &[u8] = b"Z001000/011064\r001000/\r001000G";
 
-/// What is heard in these calls, `~` for silence.
+// What is heard in these calls, `~` for silence.
 const HEARD: &[u8] = b"~?\r\n@001000/000000 011064\r\n@001000/011064 \r\n@001000G";
 
-/// The send of the CR that closes the verified word, and the send of `G`: the word is kept before
-/// the one, the mark before the other.
+// The send of the CR that closes the verified word, and the send of `G`: the word is kept before
+// the one, the mark before the other.
 const CLOSE: usize = 65;
 
 const START: usize = 81;
 
-/// A line that fails at one call and would then go on.
+// A line that fails at one call and would then go on.
 #[derive(Drop)]
 struct FailsOnce<L> {
     line: L,
@@ -86,13 +86,13 @@ impl<L: Line> Line for FailsOnce<L> {
     }
 }
 
-/// The kind of the call with this number, 0 where there is none.
+// The kind of the call with this number, 0 where there is none.
 fn kind_of(call: usize) -> u8 {
     let calls = CALLS.as_bytes();
     calls.get(call.saturating_sub(1)).copied().unwrap_or(0)
 }
 
-/// How a load stops whose call with this number fails, and how many things are kept.
+// How a load stops whose call with this number fails, and how many things are kept.
 fn expected(call: usize) -> (Stop, usize) {
     let kept = if call < CLOSE {
         0
@@ -109,7 +109,7 @@ fn expected(call: usize) -> (Stop, usize) {
     (stop, kept)
 }
 
-/// The next thing that is said, at a call of this kind.
+// The next thing that is said, at a call of this kind.
 fn said_at(kind: u8, keys: &mut Iter<u8>, heard: &mut Iter<u8>) -> Option<Item> {
     match kind {
         b's' => Some(Item::Sent(*keys.next()?)),
@@ -117,7 +117,7 @@ fn said_at(kind: u8, keys: &mut Iter<u8>, heard: &mut Iter<u8>) -> Option<Item> 
     }
 }
 
-/// Whether this is what was said before the call with this number.
+// Whether this is what was said before the call with this number.
 fn is_said_before(call: usize, items: &[Item]) -> bool {
     let mut keys = KEYS.iter();
     let mut heard = HEARD.iter();
@@ -128,13 +128,13 @@ fn is_said_before(call: usize, items: &[Item]) -> bool {
     is_so
 }
 
-/// Whether a load whose call with this number fails stops so, and this is said and kept.
+// Whether a load whose call with this number fails stops so, and this is said and kept.
 fn stops_so(call: usize, stop: Stop, items: &[Item], kept: &[Kept]) -> bool {
     let (expected_stop, count) = expected(call);
     stop == expected_stop && is_said_before(call, items) && is_kept(kept, count)
 }
 
-/// Whether a load over a line whose calls fail from this number on stops so.
+// Whether a load over a line whose calls fail from this number on stops so.
 fn stops_from(alloc: Global, call: usize) -> Option<bool> {
     let fail_at = Some(call as u64);
     let outcome = driven(alloc, &Setting { fail_at, ..AMPLE })?;
@@ -150,7 +150,7 @@ fn each_call_of_the_line_fails(rt: HostRuntime) {
     }
 }
 
-/// A line whose call with this number fails.
+// A line whose call with this number fails.
 fn failing_once(alloc: Global, call: usize) -> Option<FailsOnce<MemoryLine>> {
     Some(FailsOnce {
         line: line_of(alloc, &AMPLE)?,
@@ -161,7 +161,7 @@ fn failing_once(alloc: Global, call: usize) -> Option<FailsOnce<MemoryLine>> {
     })
 }
 
-/// Whether a load over a line whose call with this number fails stops so, and how many calls there were.
+// Whether a load over a line whose call with this number fails stops so, and how many calls there were.
 fn stops_at(alloc: Global, call: usize) -> Option<(bool, u64)> {
     let mut keep = MemoryKeep::new(alloc, 2, None).ok()?;
     let mut line = failing_once(alloc, call)?;

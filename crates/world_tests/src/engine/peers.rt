@@ -1,6 +1,6 @@
 use super::*;
 
-/// What a peer answers, whatever is typed.
+// What a peer answers, whatever is typed.
 #[derive(Clone, Copy)]
 enum Manner {
     /// This character for ever.
@@ -19,8 +19,8 @@ enum Manner {
     Babbles,
 }
 
-/// The keys that came, the `G`s among them, and those that came without the whole start address of
-/// the tape right before them.
+// The keys that came, the `G`s among them, and those that came without the whole start address of
+// the tape right before them.
 #[derive(Clone, Copy)]
 struct Tally {
     keys: u64,
@@ -29,7 +29,7 @@ struct Tally {
     last_six: [u8; 6],
 }
 
-/// The start address of the tape.
+// The start address of the tape.
 const START_DIGITS: [u8; 6] = *b"001000";
 
 impl Tally {
@@ -53,7 +53,7 @@ impl Tally {
     }
 }
 
-/// Numbers that look random.
+// Numbers that look random.
 #[derive(Clone, Copy)]
 struct Random(u64);
 
@@ -67,7 +67,7 @@ impl Random {
     }
 }
 
-/// A line to a peer that is no console.
+// A line to a peer that is no console.
 #[derive(Drop)]
 struct Peer {
     manner: Manner,
@@ -138,7 +138,7 @@ impl Line for Peer {
     }
 }
 
-/// How a drive over this line stops.
+// How a drive over this line stops.
 fn driven_by<L: Line>(alloc: Global, line: &mut L, patience: u32, turns: u64) -> Option<Stop> {
     let mut keep = MemoryKeep::new(alloc, 2, None).ok()?;
     let (stop, _) = driven_over(alloc, line, &mut keep, (patience, turns))?;
@@ -155,15 +155,15 @@ fn a_peer_that_repeats_itself(rt: HostRuntime) {
     }
 }
 
-/// The peer, the turns after which a host of patience 8 gives up, the keys that it sends, and why the
-/// row is here.
+// The peer, the turns after which a host of patience 8 gives up, the keys that it sends, and why the
+// row is here.
 const PEERS: [(Manner, u64, u64, &str); 3] = [
     (Manner::IsSilent, 10, 9, "a `Z` each time"),
     (Manner::Echoes, 19, 9, "the echo of `Z`, and then nothing"),
     (Manner::Prompts, 18, 9, "no question mark, and then nothing"),
 ];
 
-/// How a host of patience 8 stops after these turns with this peer, and the keys that it sends.
+// How a host of patience 8 stops after these turns with this peer, and the keys that it sends.
 fn keys_sent(alloc: Global, manner: Manner, turns: u64) -> (Option<Stop>, u64) {
     let mut peer = Peer::new(manner, 0);
     let stop = driven_by(alloc, &mut peer, 8, turns);
@@ -182,8 +182,8 @@ fn peers_that_are_no_console(rt: HostRuntime) {
     }
 }
 
-/// Whether a host beside a peer that babbles sends no more keys than it may and no start that it can't
-/// know to be one, and no device fails.
+// Whether a host beside a peer that babbles sends no more keys than it may and no start that it can't
+// know to be one, and no device fails.
 fn is_safe_beside(alloc: Global, seed: u64) -> Option<bool> {
     const PATIENCE: u32 = 100_000;
     const BOUND: u64 = 22 + 7 + 23 * 100_001;
@@ -201,8 +201,8 @@ fn peers_that_babble(rt: HostRuntime) {
     }
 }
 
-/// A line to a console that is heard badly: now and then a key goes lost, and a character of an answer
-/// comes as another one.
+// A line to a console that is heard badly: now and then a key goes lost, and a character of an answer
+// comes as another one.
 #[derive(Drop)]
 struct Garbler {
     odt: Odt,
@@ -249,7 +249,7 @@ impl Line for Garbler {
     }
 }
 
-/// What is typed at a console that is heard badly.
+// What is typed at a console that is heard badly.
 fn typed_at(alloc: Global, seed: u64) -> Option<Tally> {
     let mut line = Garbler {
         odt: Odt::new(alloc, 28672, PLAIN_STYLE).ok()?,
@@ -261,7 +261,7 @@ fn typed_at(alloc: Global, seed: u64) -> Option<Tally> {
     Some(line.tally)
 }
 
-/// How often `G` is typed at a console that is heard badly; nothing where that is not safe.
+// How often `G` is typed at a console that is heard badly; nothing where that is not safe.
 fn safe_starts(alloc: Global, seed: u64) -> Option<u64> {
     const BOUND: u64 = 22 + 7 + 23 * 1001;
     let tally = typed_at(alloc, seed)?;

@@ -2,11 +2,11 @@
 
 use super::*;
 
-/// A phase by the text that leads a host for the one word to it; the characters that it lists, any
-/// other being a mishap; and the key that each of these makes the host send.
+// A phase by the text that leads a host for the one word to it; the characters that it lists, any
+// other being a mishap; and the key that each of these makes the host send.
 type Row = (&'static str, &'static [u8], Option<u8>);
 
-/// The phases that wait for an answer. Where one leads is seen by what the next one lists.
+// The phases that wait for an answer. Where one leads is seen by what the next one lists.
 const WAITING: [Row; 28] = [
     ("~", b"Z?", None),
     ("~Z", b"?", None),
@@ -38,8 +38,8 @@ const WAITING: [Row; 28] = [
     ("~?\r\n@001000/011064 \r\n@00100", b"0", Some(b'G')),
 ];
 
-/// What leads to an end, or is no mishap though nothing is listed: the text before it, what is heard,
-/// the key that it makes the host send, and the end then.
+// What leads to an end, or is no mishap though nothing is listed: the text before it, what is heard,
+// the key that it makes the host send, and the end then.
 const OTHERS: [(&str, u8, Option<u8>, Option<End>); 12] = [
     ("", b'x', None, None),
     ("", PAUSE, Some(b'Z'), None),
@@ -90,15 +90,15 @@ const OTHERS: [(&str, u8, Option<u8>, Option<End>); 12] = [
     ("~?\r\n@001000/?", PAUSE, None, Some(End::NoWord(0o1000))),
 ];
 
-/// A host for the one word that has heard the text.
+// A host for the one word that has heard the text.
 fn host_after(alloc: Global, text: &str) -> Option<HostCore> {
     let mut host = fresh_host(alloc, &ONE_WORD, 1)?;
     types_only_z(&mut host, text);
     Some(host)
 }
 
-/// The key that a host which has heard the text sends at a character, the mishaps then, and the key at
-/// the silence after it.
+// The key that a host which has heard the text sends at a character, the mishaps then, and the key at
+// the silence after it.
 fn steps_after(alloc: Global, text: &str, character: u8) -> Option<(Option<u8>, u32, Option<u8>)> {
     let mut host = host_after(alloc, text)?;
     let key = answer(&mut host, Heard::Got(character));
@@ -106,7 +106,7 @@ fn steps_after(alloc: Global, text: &str, character: u8) -> Option<(Option<u8>, 
     Some((key, spent, answer(&mut host, Heard::Quiet)))
 }
 
-/// Whether a host that has heard the text takes the character as the row says.
+// Whether a host that has heard the text takes the character as the row says.
 fn is_taken_so(alloc: Global, row: &Row, character: u8) -> Option<bool> {
     let (before, listed, key) = *row;
     let (key_sent, spent, then) = steps_after(alloc, before, character)?;
@@ -127,7 +127,7 @@ fn each_phase_lists_its_characters(rt: HostRuntime) {
     }
 }
 
-/// What a host that has heard the text does next: the key that it sends, its end and the mishaps.
+// What a host that has heard the text does next: the key that it sends, its end and the mishaps.
 fn end_after(alloc: Global, text: &str, heard: u8) -> Option<(Option<u8>, Option<End>, u32)> {
     let mut host = host_after(alloc, text)?;
     let key = answer(&mut host, heard_of(heard));

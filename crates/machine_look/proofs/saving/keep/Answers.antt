@@ -3,6 +3,7 @@ use Rattle.tape_blocks.specs.Tape.{plain_text}
 use Rattle.load_devices.specs.Told.{Gains}
 use Rattle.machine_look.specs.declared.look_fault.LookFault.TheVariants.{Memory}
 use Rattle.machine_look.specs.LookFault.{IsKeepFault, fault_of_shelf}
+use Rattle.machine_look.specs.SavedTape.{saved_tape}
 use Rattle.machine_look.specs.Shelf.{Put}
 use Rattle.machine_look.proofs.Faults.{error_is, gains_none, no_ok, not_put, puts_none, puts_some}
 use Rattle.machine_look.proofs.saving.keep.Goals as goal
@@ -12,7 +13,7 @@ returns-in_err-tape-clause-ok g c = no_ok c.from_residual.result _ _ c.from_resi
 
 pub returns-in_err-tape-clause-fault : goal.returns-in_err-tape-clause-fault
 returns-in_err-tape-clause-fault g c =
-    error_is c.from_residual.result Memory (IsKeepFault c.args.from c.args.numbers.now c.args.start (g.S.Shelf.steps c.args.shelf.now) (g.S.Shelf.steps c.args.shelf.now))
+    error_is c.from_residual.result Memory (IsKeepFault (saved_tape c.args.from c.args.numbers.now c.args.start) (g.S.Shelf.steps c.args.shelf.now) (g.S.Shelf.steps c.args.shelf.now))
     c.from_residual.ensures.1 (gains_none (g.S.Shelf.steps c.args.shelf.now))
 
 pub returns-in_err-text-clause-ok : goal.returns-in_err-text-clause-ok
@@ -20,7 +21,7 @@ returns-in_err-text-clause-ok g c = no_ok c.from_residual-in_err-text.result _ _
 
 pub returns-in_err-text-clause-fault : goal.returns-in_err-text-clause-fault
 returns-in_err-text-clause-fault g c =
-    error_is c.from_residual-in_err-text.result Memory (IsKeepFault c.args.from c.args.numbers.now c.args.start (g.S.Shelf.steps c.args.shelf.now) (g.S.Shelf.steps c.args.shelf.now))
+    error_is c.from_residual-in_err-text.result Memory (IsKeepFault (saved_tape c.args.from c.args.numbers.now c.args.start) (g.S.Shelf.steps c.args.shelf.now) (g.S.Shelf.steps c.args.shelf.now))
     c.from_residual-in_err-text.ensures.1 (gains_none (g.S.Shelf.steps c.args.shelf.now))
 
 pub returns-in_err-put-clause-ok : goal.returns-in_err-put-clause-ok
@@ -29,9 +30,9 @@ returns-in_err-put-clause-ok g c = no_ok c.from_residual-in_err-put.result _ _ c
 pub returns-in_err-put-clause-fault : goal.returns-in_err-put-clause-fault
 returns-in_err-put-clause-fault g c =
     error_is c.from_residual-in_err-put.result (fault_of_shelf c.in_err-put.field-0.0)
-    (IsKeepFault c.args.from c.args.numbers.now c.args.start (g.S.Shelf.steps c.args.shelf.now) (g.S.Shelf.steps c.put.new.self))
+    (IsKeepFault (saved_tape c.args.from c.args.numbers.now c.args.start) (g.S.Shelf.steps c.args.shelf.now) (g.S.Shelf.steps c.put.new.self))
     c.from_residual-in_err-put.ensures.1
-    (not_put c.args.from c.args.numbers.now c.args.start (g.S.Shelf.steps c.args.shelf.now) (g.S.Shelf.steps c.put.new.self) c.deref.result.now c.in_err-put.field-0.0
+    (not_put (saved_tape c.args.from c.args.numbers.now c.args.start) (g.S.Shelf.steps c.args.shelf.now) (g.S.Shelf.steps c.put.new.self) c.deref.result.now c.in_err-put.field-0.0
     (c.deref.ensures.value ∙ (c.in_ok-text.ensures.plain ∙ ap plain_text c.in_ok-tape.ensures.made)) c.in_err-put.ensures.fault c.in_err-put.ensures.step)
 
 pub returns-then-is_empty-clause-ok : goal.returns-then-is_empty-clause-ok

@@ -1,4 +1,4 @@
-use Rattle.std.proofs.Common.{◌≡◌, ℕ, List, [], ◌∷◌, ◌++◌, length, ap, sym, subst, ◌∙◌, arith, inl, inr}
+use Rattle.std.proofs.Common.{◌≡◌, ℕ, List, [], ◌∷◌, ◌++◌, length, refl, ap, sym, subst, ◌∙◌, arith, inl, inr}
 use Rattle.std.specs.Io.KnownBytes.{Appends}
 use Rattle.std.proofs.KnownBytes.{Keeps-refl}
 use Rattle.byte_io.specs.Output.{WritesAllBut}
@@ -8,7 +8,8 @@ use Rattle.reading_core.specs.Reader.{Reader, begun}
 use Rattle.machine_look.specs.declared.look_fault.LookFault.TheVariants.{WriteOutput, Memory}
 use Rattle.machine_look.specs.Look.{TriesOnce}
 use Rattle.machine_look.specs.LookFault.{IsKeepFault, IsSaveFault, fault_of_shelf}
-use Rattle.machine_look.specs.Save.{puts}
+use Rattle.machine_look.specs.Save.{puts, save_told}
+use Rattle.machine_look.specs.SavedTape.{saved_tape}
 use Rattle.machine_look.specs.SaveReport.{save_report}
 use Rattle.machine_look.specs.Shelf.{Reserve}
 use Rattle.machine_look.proofs.Faults.{error_is, gains_none, gains_then, no_value, not_kept, not_reserved}
@@ -25,7 +26,7 @@ returns-in_err-core-clause-reported g c = no_value c.from_residual.result _ _ c.
 pub returns-in_err-core-clause-fault : goal.returns-in_err-core-clause-fault
 returns-in_err-core-clause-fault g c =
     error_is c.from_residual.result Memory
-    (IsSaveFault c.args.options.range.from c.args.options.range.to c.args.options.start c.args.options.patience (g.S.Shelf.steps c.args.shelf.now) (g.S.Shelf.steps c.args.shelf.now) (g.R.Reach.tries c.args.console.now) (g.R.Reach.tries c.args.console.now) (g.W.Write.contents c.args.out.now) (g.W.Write.contents c.args.out.now))
+    (IsSaveFault c.args.options (save_told g.S.Shelf.steps g.R.Reach.tries g.W.Write.contents c.args.shelf.now c.args.console.now c.args.out.now) (save_told g.S.Shelf.steps g.R.Reach.tries g.W.Write.contents c.args.shelf.now c.args.console.now c.args.out.now))
     c.from_residual.ensures.1 (inl (gains_none (g.S.Shelf.steps c.args.shelf.now)), Keeps-refl (g.W.Write.contents c.args.out.now))
 
 pub returns-in_err-report-clause-reported : goal.returns-in_err-report-clause-reported
@@ -34,7 +35,7 @@ returns-in_err-report-clause-reported g c = no_value c.from_residual-in_err-repo
 pub returns-in_err-report-clause-fault : goal.returns-in_err-report-clause-fault
 returns-in_err-report-clause-fault g c =
     error_is c.from_residual-in_err-report.result Memory
-    (IsSaveFault c.args.options.range.from c.args.options.range.to c.args.options.start c.args.options.patience (g.S.Shelf.steps c.args.shelf.now) (g.S.Shelf.steps c.args.shelf.now) (g.R.Reach.tries c.args.console.now) (g.R.Reach.tries c.args.console.now) (g.W.Write.contents c.args.out.now) (g.W.Write.contents c.args.out.now))
+    (IsSaveFault c.args.options (save_told g.S.Shelf.steps g.R.Reach.tries g.W.Write.contents c.args.shelf.now c.args.console.now c.args.out.now) (save_told g.S.Shelf.steps g.R.Reach.tries g.W.Write.contents c.args.shelf.now c.args.console.now c.args.out.now))
     c.from_residual-in_err-report.ensures.1 (inl (gains_none (g.S.Shelf.steps c.args.shelf.now)), Keeps-refl (g.W.Write.contents c.args.out.now))
 
 pub returns-in_err-reserve-clause-reported : goal.returns-in_err-reserve-clause-reported
@@ -43,8 +44,8 @@ returns-in_err-reserve-clause-reported g c = no_value c.from_residual-in_err-res
 pub returns-in_err-reserve-clause-fault : goal.returns-in_err-reserve-clause-fault
 returns-in_err-reserve-clause-fault g c =
     error_is c.from_residual-in_err-reserve.result (fault_of_shelf c.in_err-reserve.field-0.0)
-    (IsSaveFault c.args.options.range.from c.args.options.range.to c.args.options.start c.args.options.patience (g.S.Shelf.steps c.args.shelf.now) (g.S.Shelf.steps c.reserve.new.self) (g.R.Reach.tries c.args.console.now) (g.R.Reach.tries c.args.console.now) (g.W.Write.contents c.args.out.now) (g.W.Write.contents c.args.out.now))
-    c.from_residual-in_err-reserve.ensures.1 (not_reserved c.args.options.range.from c.args.options.range.to c.args.options.start c.args.options.patience (g.S.Shelf.steps c.args.shelf.now) (g.S.Shelf.steps c.reserve.new.self) (g.R.Reach.tries c.args.console.now) (g.W.Write.contents c.args.out.now) c.in_err-reserve.field-0.0 c.in_err-reserve.ensures.step (Keeps-refl (g.W.Write.contents c.args.out.now)))
+    (IsSaveFault c.args.options (save_told g.S.Shelf.steps g.R.Reach.tries g.W.Write.contents c.args.shelf.now c.args.console.now c.args.out.now) (save_told g.S.Shelf.steps g.R.Reach.tries g.W.Write.contents c.reserve.new.self c.args.console.now c.args.out.now))
+    c.from_residual-in_err-reserve.ensures.1 (not_reserved c.args.options (save_told g.S.Shelf.steps g.R.Reach.tries g.W.Write.contents c.args.shelf.now c.args.console.now c.args.out.now) (save_told g.S.Shelf.steps g.R.Reach.tries g.W.Write.contents c.reserve.new.self c.args.console.now c.args.out.now) c.in_err-reserve.field-0.0 c.in_err-reserve.ensures.step refl (Keeps-refl (g.W.Write.contents c.args.out.now)))
 
 pub returns-in_err-core-2-clause-reported : goal.returns-in_err-core-2-clause-reported
 returns-in_err-core-2-clause-reported g c = no_value c.from_residual-in_err-core-2.result _ _ c.from_residual-in_err-core-2.ensures.1
@@ -53,9 +54,9 @@ pub returns-in_err-core-2-clause-fault : goal.returns-in_err-core-2-clause-fault
 returns-in_err-core-2-clause-fault g c =
     let fails = c.in_err-core-2.ensures.fault in
     error_is c.from_residual-in_err-core-2.result c.in_err-core-2.field-0.0
-    (IsSaveFault c.args.options.range.from c.args.options.range.to c.args.options.start c.args.options.patience (g.S.Shelf.steps c.args.shelf.now) (g.S.Shelf.steps c.reserve.new.self) (g.R.Reach.tries c.args.console.now) (g.R.Reach.tries c.look_over.new.console) (g.W.Write.contents c.args.out.now) (g.W.Write.contents c.args.out.now))
+    (IsSaveFault c.args.options (save_told g.S.Shelf.steps g.R.Reach.tries g.W.Write.contents c.args.shelf.now c.args.console.now c.args.out.now) (save_told g.S.Shelf.steps g.R.Reach.tries g.W.Write.contents c.reserve.new.self c.look_over.new.console c.args.out.now))
     c.from_residual-in_err-core-2.ensures.1
-    (subst (IsSaveFault c.args.options.range.from c.args.options.range.to c.args.options.start c.args.options.patience (g.S.Shelf.steps c.args.shelf.now) (g.S.Shelf.steps c.reserve.new.self) (g.R.Reach.tries c.args.console.now) (g.R.Reach.tries c.look_over.new.console) (g.W.Write.contents c.args.out.now) (g.W.Write.contents c.args.out.now)) (sym fails.0)
+    (subst (IsSaveFault c.args.options (save_told g.S.Shelf.steps g.R.Reach.tries g.W.Write.contents c.args.shelf.now c.args.console.now c.args.out.now) (save_told g.S.Shelf.steps g.R.Reach.tries g.W.Write.contents c.reserve.new.self c.look_over.new.console c.args.out.now)) (sym fails.0)
     (c.in_ok-reserve.ensures.step, subst (λ o. TriesOnce o (g.R.Reach.tries c.args.console.now) (g.R.Reach.tries c.look_over.new.console)) fails.1 c.look_over.ensures.tried, Keeps-refl (g.W.Write.contents c.args.out.now)))
 
 pub returns-in_err-put_save_report-clause-reported : goal.returns-in_err-put_save_report-clause-reported
@@ -64,7 +65,7 @@ returns-in_err-put_save_report-clause-reported g c = no_value c.from_residual-in
 pub returns-in_err-put_save_report-clause-fault : goal.returns-in_err-put_save_report-clause-fault
 returns-in_err-put_save_report-clause-fault g c =
     error_is c.from_residual-in_err-put_save_report.result Memory
-    (IsSaveFault c.args.options.range.from c.args.options.range.to c.args.options.start c.args.options.patience (g.S.Shelf.steps c.args.shelf.now) (g.S.Shelf.steps c.reserve.new.self) (g.R.Reach.tries c.args.console.now) (g.R.Reach.tries c.look_over.new.console) (g.W.Write.contents c.args.out.now) (g.W.Write.contents c.args.out.now))
+    (IsSaveFault c.args.options (save_told g.S.Shelf.steps g.R.Reach.tries g.W.Write.contents c.args.shelf.now c.args.console.now c.args.out.now) (save_told g.S.Shelf.steps g.R.Reach.tries g.W.Write.contents c.reserve.new.self c.look_over.new.console c.args.out.now))
     c.from_residual-in_err-put_save_report.ensures.1 (inr (inr c.in_ok-reserve.ensures.step), Keeps-refl (g.W.Write.contents c.args.out.now))
 
 pub returns-in_err-keep-clause-reported : goal.returns-in_err-keep-clause-reported
@@ -77,24 +78,24 @@ pub returns-in_err-keep-clause-fault : goal.returns-in_err-keep-clause-fault
 returns-in_err-keep-clause-fault g c =
     let range = c.from-from.ensures.in_order in
     let begins = first_is c.args.options.range.from c.args.options.range.to c.from-from.result c.to-to.result c.args.options.patience c.in_ok-core.core c.from-from.ensures.value c.to-to.ensures.value c.in_ok-core.ensures.begun in
-    let read = read_of c.args.options.range.from c.args.options.range.to c.args.options.start c.args.options.patience (g.R.Reach.tries c.args.console.now) (g.R.Reach.tries c.look_over.new.console) c.in_ok-core.core c.in_ok-core-2.core c.in_ok-core-2.stop range c.keep.ensures.fits begins c.in_ok-core-2.ensures.look c.look_over.ensures.tried in
-    let fails = subst (λ a. IsKeepFault a c.in_ok-core-2.core.values c.args.options.start (g.S.Shelf.steps c.reserve.new.self) (g.S.Shelf.steps c.keep.new.shelf) c.in_err-keep.field-0.0) c.from-from.ensures.value
-    (subst (λ (numbers : List ℕ). IsKeepFault c.from-from.result numbers c.args.options.start (g.S.Shelf.steps c.reserve.new.self) (g.S.Shelf.steps c.keep.new.shelf) c.in_err-keep.field-0.0) c.values.ensures.value c.in_err-keep.ensures.fault) in
+    let read = read_of c.args.options (save_told g.S.Shelf.steps g.R.Reach.tries g.W.Write.contents c.args.shelf.now c.args.console.now c.args.out.now) (save_told g.S.Shelf.steps g.R.Reach.tries g.W.Write.contents c.keep.new.shelf c.look_over.new.console c.args.out.now) c.in_ok-core.core c.in_ok-core-2.core c.in_ok-core-2.stop range c.keep.ensures.fits begins c.in_ok-core-2.ensures.look c.look_over.ensures.tried in
+    let fails = subst (λ a. IsKeepFault (saved_tape a c.in_ok-core-2.core.values c.args.options.start) (g.S.Shelf.steps c.reserve.new.self) (g.S.Shelf.steps c.keep.new.shelf) c.in_err-keep.field-0.0) c.from-from.ensures.value
+    (subst (λ (numbers : List ℕ). IsKeepFault (saved_tape c.from-from.result numbers c.args.options.start) (g.S.Shelf.steps c.reserve.new.self) (g.S.Shelf.steps c.keep.new.shelf) c.in_err-keep.field-0.0) c.values.ensures.value c.in_err-keep.ensures.fault) in
     error_is c.from_residual-in_err-keep.result c.in_err-keep.field-0.0
-    (IsSaveFault c.args.options.range.from c.args.options.range.to c.args.options.start c.args.options.patience (g.S.Shelf.steps c.args.shelf.now) (g.S.Shelf.steps c.keep.new.shelf) (g.R.Reach.tries c.args.console.now) (g.R.Reach.tries c.look_over.new.console) (g.W.Write.contents c.args.out.now) (g.W.Write.contents c.args.out.now))
+    (IsSaveFault c.args.options (save_told g.S.Shelf.steps g.R.Reach.tries g.W.Write.contents c.args.shelf.now c.args.console.now c.args.out.now) (save_told g.S.Shelf.steps g.R.Reach.tries g.W.Write.contents c.keep.new.shelf c.look_over.new.console c.args.out.now))
     c.from_residual-in_err-keep.ensures.1
-    (not_kept c.args.options.range.from c.args.options.range.to c.args.options.start c.args.options.patience (g.S.Shelf.steps c.args.shelf.now) (g.S.Shelf.steps c.reserve.new.self) (g.S.Shelf.steps c.keep.new.shelf) (g.R.Reach.tries c.args.console.now) (g.R.Reach.tries c.look_over.new.console) (g.W.Write.contents c.args.out.now) c.in_ok-core-2.core c.in_ok-core-2.stop c.in_err-keep.field-0.0 c.in_ok-reserve.ensures.step read fails (Keeps-refl (g.W.Write.contents c.args.out.now)))
+    (not_kept c.args.options (save_told g.S.Shelf.steps g.R.Reach.tries g.W.Write.contents c.args.shelf.now c.args.console.now c.args.out.now) (save_told g.S.Shelf.steps g.R.Reach.tries g.W.Write.contents c.keep.new.shelf c.look_over.new.console c.args.out.now) (g.S.Shelf.steps c.reserve.new.self) c.in_ok-core-2.core c.in_ok-core-2.stop c.in_err-keep.field-0.0 c.in_ok-reserve.ensures.step read fails (Keeps-refl (g.W.Write.contents c.args.out.now)))
 
 pub returns-in_err-write_and_flush-clause-fault : goal.returns-in_err-write_and_flush-clause-fault
 returns-in_err-write_and_flush-clause-fault g c =
     let range = c.from-from.ensures.in_order in
     let begins = first_is c.args.options.range.from c.args.options.range.to c.from-from.result c.to-to.result c.args.options.patience c.in_ok-core.core c.from-from.ensures.value c.to-to.ensures.value c.in_ok-core.ensures.begun in
-    let read = read_of c.args.options.range.from c.args.options.range.to c.args.options.start c.args.options.patience (g.R.Reach.tries c.args.console.now) (g.R.Reach.tries c.look_over.new.console) c.in_ok-core.core c.in_ok-core-2.core c.in_ok-core-2.stop range c.keep.ensures.fits begins c.in_ok-core-2.ensures.look c.look_over.ensures.tried in
+    let read = read_of c.args.options (save_told g.S.Shelf.steps g.R.Reach.tries g.W.Write.contents c.args.shelf.now c.args.console.now c.args.out.now) (save_told g.S.Shelf.steps g.R.Reach.tries g.W.Write.contents c.keep.new.shelf c.look_over.new.console c.write_and_flush.new.out) c.in_ok-core.core c.in_ok-core-2.core c.in_ok-core-2.stop range c.keep.ensures.fits begins c.in_ok-core-2.ensures.look c.look_over.ensures.tried in
     let kept = subst (λ a. Gains (g.S.Shelf.steps c.reserve.new.self) (g.S.Shelf.steps c.keep.new.shelf) (puts a c.in_ok-core-2.core.values c.args.options.start)) c.from-from.ensures.value
     (subst (λ (numbers : List ℕ). Gains (g.S.Shelf.steps c.reserve.new.self) (g.S.Shelf.steps c.keep.new.shelf) (puts c.from-from.result numbers c.args.options.start)) c.values.ensures.value c.in_ok-keep.ensures.ok) in
     let text = c.deref.ensures.value ∙ (c.in_ok-put_save_report.ensures ∙ ap (λ (start : List ℕ). start ++ save_report c.in_ok-core-2.core c.in_ok-core-2.stop) c.in_ok-report.ensures.items) in
     error_is c.from_residual-in_err-write_and_flush.result WriteOutput
-    (IsSaveFault c.args.options.range.from c.args.options.range.to c.args.options.start c.args.options.patience (g.S.Shelf.steps c.args.shelf.now) (g.S.Shelf.steps c.keep.new.shelf) (g.R.Reach.tries c.args.console.now) (g.R.Reach.tries c.look_over.new.console) (g.W.Write.contents c.args.out.now) (g.W.Write.contents c.write_and_flush.new.out))
+    (IsSaveFault c.args.options (save_told g.S.Shelf.steps g.R.Reach.tries g.W.Write.contents c.args.shelf.now c.args.console.now c.args.out.now) (save_told g.S.Shelf.steps g.R.Reach.tries g.W.Write.contents c.keep.new.shelf c.look_over.new.console c.write_and_flush.new.out))
     c.from_residual-in_err-write_and_flush.ensures.1 (record {
       last = c.in_ok-core-2.core;
       stop = c.in_ok-core-2.stop;
@@ -120,7 +121,7 @@ pub returns-clause-reported : goal.returns-clause-reported
 returns-clause-reported g c =
     let range = c.from-from.ensures.in_order in
     let begins = first_is c.args.options.range.from c.args.options.range.to c.from-from.result c.to-to.result c.args.options.patience c.in_ok-core.core c.from-from.ensures.value c.to-to.ensures.value c.in_ok-core.ensures.begun in
-    let read = read_of c.args.options.range.from c.args.options.range.to c.args.options.start c.args.options.patience (g.R.Reach.tries c.args.console.now) (g.R.Reach.tries c.look_over.new.console) c.in_ok-core.core c.in_ok-core-2.core c.in_ok-core-2.stop range c.keep.ensures.fits begins c.in_ok-core-2.ensures.look c.look_over.ensures.tried in
+    let read = read_of c.args.options (save_told g.S.Shelf.steps g.R.Reach.tries g.W.Write.contents c.args.shelf.now c.args.console.now c.args.out.now) (save_told g.S.Shelf.steps g.R.Reach.tries g.W.Write.contents c.keep.new.shelf c.look_over.new.console c.write_and_flush.new.out) c.in_ok-core.core c.in_ok-core-2.core c.in_ok-core-2.stop range c.keep.ensures.fits begins c.in_ok-core-2.ensures.look c.look_over.ensures.tried in
     let kept = subst (λ a. Gains (g.S.Shelf.steps c.reserve.new.self) (g.S.Shelf.steps c.keep.new.shelf) (puts a c.in_ok-core-2.core.values c.args.options.start)) c.from-from.ensures.value
     (subst (λ (numbers : List ℕ). Gains (g.S.Shelf.steps c.reserve.new.self) (g.S.Shelf.steps c.keep.new.shelf) (puts c.from-from.result numbers c.args.options.start)) c.values.ensures.value c.in_ok-keep.ensures.ok) in
     let text = c.deref.ensures.value ∙ (c.in_ok-put_save_report.ensures ∙ ap (λ (start : List ℕ). start ++ save_report c.in_ok-core-2.core c.in_ok-core-2.stop) c.in_ok-report.ensures.items) in

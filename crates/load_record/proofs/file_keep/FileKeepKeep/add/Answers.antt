@@ -11,7 +11,7 @@ returns-then-is_broken-clause-err g c =
 
 pub returns-clause-adds : goal.returns-clause-adds
 returns-clause-adds g c =
-    let before : Keeper = record { text = g.W.Write.contents c.self.inside.writer; run = c.self.inside.run; failures = c.self.inside.failures } in
+    let before : Keeper = record { text = g.W.Write.contents c.self.inside.writer; lasting = g.W.LastingWrite.lasting c.self.inside.writer; run = c.self.inside.run; failures = c.self.inside.failures } in
     let none : before.failures ≤ 0 = (let same = ap (λ (k : Keeper). k.failures) c.self.view_is in let few = never_failed c.is_broken.result c.args.self.now.failures c.if-is_broken.false c.is_broken.ensures in omega arith) in
     subst (λ (k : Keeper). OnOk c.settle-2.result (AddsWord k c.settle-2.new.self c.args.word)) c.self.view_is
     (on_ok_map c.settle-2.result _ _ (wrote_adds before c.settle-2.new.self c.args.word)
@@ -20,7 +20,7 @@ returns-clause-adds g c =
 
 pub returns-clause-err : goal.returns-clause-err
 returns-clause-err g c =
-    let before : Keeper = record { text = g.W.Write.contents c.self.inside.writer; run = c.self.inside.run; failures = c.self.inside.failures } in
+    let before : Keeper = record { text = g.W.Write.contents c.self.inside.writer; lasting = g.W.LastingWrite.lasting c.self.inside.writer; run = c.self.inside.run; failures = c.self.inside.failures } in
     let none : before.failures ≤ 0 = (let same = ap (λ (k : Keeper). k.failures) c.self.view_is in let few = never_failed c.is_broken.result c.args.self.now.failures c.if-is_broken.false c.is_broken.ensures in omega arith) in
     subst (λ (k : Keeper). FailsAs k c.settle-2.new.self c.settle-2.result (second_piece k.run c.args.word)) c.self.view_is
     (failed_now before c.settle-2.new.self (g.W.Write.contents c.write_word-outcome.new.out) c.write_word-outcome.result c.settle-2.result

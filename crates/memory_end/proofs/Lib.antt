@@ -1,0 +1,3 @@
+pub mod Founds
+pub mod LastWords
+pub mod Searching

@@ -1,0 +1,277 @@
+-- Passes one after another: what was said in them, and what they find.
+use Rattle.std.proofs.Common.{◌≡◌, ℕ, ◌+◌, ◌*◌, ◌<◌, ◌≤◌, List, [], ◌∷◌, length, Option, Some, refl, arith, ap, subst, sym, ◌∙◌, append-nil}
+use Rattle.tape_image.specs.Memory.{top_of}
+use Rattle.odt_machine.specs.Machine.{Machine}
+use Rattle.load_devices.specs.declared.item.Item.{Item}
+use Rattle.load_devices.specs.Dialogue.{keys_of}
+use Rattle.load_devices.specs.Told.{Gains}
+use Rattle.load_engine.proofs.Sessions.{gains_none, gains_join}
+use Rattle.honest_line.specs.Honest.{IsHonest}
+use Rattle.reading_core.specs.declared.phase.End.{End}
+use Rattle.reading_core.specs.declared.phase.End.TheVariants.{Complete, GaveUp, NoWord}
+use Rattle.reading_core.specs.Invariant.{IsReader}
+use Rattle.reading_core.specs.Reader.{Reader, begun}
+use Rattle.reading_core.proofs.Lives.{led_addresses, led_kept, led_patience}
+use Rattle.reading_law.specs.Belief.{IsReady, IsTrue, MayLook, dialogue}
+use Rattle.reading_law.specs.Law.{HoldsRead}
+use Rattle.reading_law.proofs.Believed.{leave_ready}
+use Rattle.reading_engine.specs.declared.stop.Stop.{Stop}
+use Rattle.reading_engine.specs.declared.stop.Stop.TheVariants.{Ended, LineFailed, TurnsOver}
+use Rattle.reading_engine.specs.Belief.{IsBelievableAt}
+use Rattle.reading_engine.proofs.Beliefs.{inquired_believable}
+use Rattle.memory_end.specs.declared.finding.Outcome.TheVariants.{Lacking, Over}
+use Rattle.memory_end.specs.declared.pieces.Pieces.{Pieces}
+use Rattle.memory_end.specs.declared.search.Search.{Search}
+use Rattle.memory_end.specs.declared.search.Search.TheVariants.{Ends, Stopped}
+use Rattle.memory_end.specs.Ending.{IsRight, FindsEnd}
+use Rattle.memory_end.specs.Passes.{ArePieces, GoesOn, IsPass, Searches, found, last_words, three_passes}
+use Rattle.memory_end.specs.Rows.{AreHonest, in_a_row}
+use Rattle.memory_end.specs.Steps.{LiesWithin, Stepped, passed}
+use Rattle.memory_end.proofs.Founds.{IsOver, all_read, lacking, paid_at, reached}
+
+-- ---- one pass
+
+may_look : (addresses : List ℕ) (patience : ℕ) (machine : Machine) → IsReady machine → MayLook (begun addresses [] patience) machine
+may_look addresses patience machine ready = record {
+  begun = refl;
+  console = ready.console;
+  stopped = ready.stopped;
+  read = record { lies = λ i low. absurd (omega (arith, low)); holds = λ i low. absurd (omega (arith, low)) };
+}
+
+-- the first reader of a pass
+abbrev first : (patience from : ℕ) (pieces : Pieces) → Reader
+first patience from pieces = begun (last_words from pieces.bytes pieces.count) [] patience
+
+is_over : (turns patience from : ℕ) (pieces : Pieces) (stop : Stop) (last : Reader) (said : List Item) → IsReader (first patience from pieces) → IsPass turns patience from pieces stop last said → IsOver from pieces last
+is_over turns patience from pieces stop last said reads pass = let s = pass.inquired in record {
+  addresses = ap (λ (r : Reader). r.addresses) s.reader ∙ led_addresses (first patience from pieces) s.heard;
+  kept = subst IsReader (sym s.reader) (led_kept (first patience from pieces) s.heard reads);
+}
+
+same_patience : (turns patience from : ℕ) (pieces : Pieces) (stop : Stop) (last : Reader) (said : List Item) → IsPass turns patience from pieces stop last said → last.patience ≡ patience
+same_patience turns patience from pieces stop last said pass = let s = pass.inquired in ap (λ (r : Reader). r.patience) s.reader ∙ led_patience (first patience from pieces) s.heard
+
+believed : (turns patience from : ℕ) (pieces : Pieces) (stop : Stop) (last : Reader) (said : List Item) → IsReader (first patience from pieces) → IsPass turns patience from pieces stop last said →
+    IsBelievableAt stop (first patience from pieces) last said
+believed turns patience from pieces stop last said reads pass =
+    inquired_believable turns stop (first patience from pieces) last (Some []) (Some said) reads pass.inquired said ([], refl, refl)
+
+-- a pass over an honest line that told an end
+true_at : (turns patience from : ℕ) (pieces : Pieces) (end : End) (last : Reader) (said : List Item) (machine now : Machine) (lost : ℕ) → IsReader (first patience from pieces) → IsPass turns patience from pieces (Ended end) last said →
+    IsReady machine → IsHonest machine said lost now → IsTrue machine.memory last now.memory (keys_of said) (lost + 0)
+true_at turns patience from pieces end last said machine now lost reads pass ready honest =
+    believed turns patience from pieces (Ended end) last said reads pass machine now lost (may_look (last_words from pieces.bytes pieces.count) patience machine ready) honest
+
+-- behind it the next pass may begin
+ready_at : (turns patience from : ℕ) (pieces : Pieces) (end : End) (last : Reader) (said : List Item) (machine now : Machine) (lost : ℕ) → IsReader (first patience from pieces) → IsPass turns patience from pieces (Ended end) last said →
+    IsReady machine → IsHonest machine said lost now → IsReady now
+ready_at turns patience from pieces end last said machine now lost reads pass ready honest =
+    let s = pass.inquired in
+    let whole : said ≡ dialogue (first patience from pieces) s.heard = same said s.said s.on_line ∙ s.items in
+    leave_ready (first patience from pieces) s.heard machine now lost reads (may_look (last_words from pieces.bytes pieces.count) patience machine ready) (subst (λ items. IsHonest machine items lost now) whole honest)
+  where
+    same : (said other : List Item) → Gains (Some []) (Some said) other → said ≡ other
+    same said other gains = gains
+
+-- ---- what the passes find that are left, where memory ends not before an address and not behind a limit
+
+abbrev FindsFrom : (from limit patience : ℕ) → Search → List (List Item) → Type 0
+FindsFrom from limit patience search parts =
+    (machine now : Machine) (lost : ℕ) → IsReady machine → from ≤ top_of machine.memory → top_of machine.memory ≤ limit → AreHonest machine parts lost now →
+    (now.memory ≡ machine.memory) × IsRight search machine.memory patience lost
+
+-- these passes came to this, and what they find is so
+record Runs (passes : List Pieces) (turns patience from limit : ℕ) (search : Search) (line line' : Option (List Item)) : Type 0 where
+  pub parts : List (List Item)
+  pub searches : Searches passes turns patience from search parts
+  pub on_line : Gains line line' (in_a_row parts)
+  pub finds : FindsFrom from limit patience search parts
+
+-- none is left: memory ends here
+run_none : (turns patience from : ℕ) (line : Option (List Item)) → Runs [] turns patience from from (Ends from) line line
+run_none turns patience from line = record {
+  parts = [];
+  searches = (refl, refl);
+  on_line = gains_none line;
+  finds = λ machine now lost ready reaches within honest. (ap (λ (m : Machine). m.memory) honest.0, omega (arith, reaches, within));
+}
+
+-- ---- the last pass
+
+-- what is right of a pass that ended the search
+over_right : (turns patience from : ℕ) (pieces : Pieces) (stop : Stop) (last : Reader) (said : List Item) (search : Search) → ArePieces from pieces → IsReader (first patience from pieces) → IsPass turns patience from pieces stop last said →
+    Over search ≡ passed stop (found from pieces last) → FindsFrom from (from + pieces.bytes * pieces.count) patience search (said ∷ [])
+over_right turns patience from pieces (Ended Complete) last said search are reads pass is machine now lost ready reaches within (between, lost_first, lost_later, honest, (same, none), all) =
+    let t = true_at turns patience from pieces Complete last said machine between lost_first reads pass ready honest in
+    let o = is_over turns patience from pieces (Ended Complete) last said reads pass in
+    let far : found from pieces last ≤ top_of machine.memory = reached machine.memory from pieces last are o reaches (subst (λ m. HoldsRead m last) t.same t.read) in
+    let whole : length last.values ≡ pieces.count = all_read from pieces last o pass.end in
+    let top : top_of machine.memory ≡ found from pieces last = omega (arith, far, within, ap (λ n. pieces.bytes * n) whole) in
+    (ap (λ (m : Machine). m.memory) same ∙ t.same, subst (λ s. IsRight s machine.memory patience lost) (sym (searched is)) top)
+  where
+    searched : {found : ℕ} → Over search ≡ Over (Ends found) → search ≡ Ends found
+    searched e = cc e
+over_right turns patience from pieces (Ended (NoWord a)) last said search are reads pass is machine now lost ready reaches within honest = absurd (cc is)
+over_right turns patience from pieces (Ended GaveUp) last said search are reads pass is machine now lost ready reaches within (between, lost_first, lost_later, honest, (same, none), all) =
+    let t = true_at turns patience from pieces GaveUp last said machine between lost_first reads pass ready honest in
+    let paid : last.patience < lost_first + 0 = paid_at last.phase GaveUp between.memory last.patience (lost_first + 0) pass.end t.cause in
+    let more : patience < lost = omega (arith, paid, same_patience turns patience from pieces (Ended GaveUp) last said pass, none, all) in
+    (ap (λ (m : Machine). m.memory) same ∙ t.same, subst (λ s. IsRight s machine.memory patience lost) (sym (searched is)) more)
+  where
+    searched : Over search ≡ Over (Stopped (Ended GaveUp)) → search ≡ Stopped (Ended GaveUp)
+    searched e = cc e
+over_right turns patience from pieces TurnsOver last said search are reads pass is machine now lost ready reaches within (between, lost_first, lost_later, honest, (same, none), all) =
+    let t = believed turns patience from pieces TurnsOver last said reads pass machine between lost_first (may_look (last_words from pieces.bytes pieces.count) patience machine ready) honest in
+    (ap (λ (m : Machine). m.memory) same ∙ t.same, subst (λ s. IsRight s machine.memory patience lost) (sym (searched is)) tt)
+  where
+    searched : Over search ≡ Over (Stopped TurnsOver) → search ≡ Stopped TurnsOver
+    searched e = cc e
+over_right turns patience from pieces (LineFailed fault) last said search are reads pass is machine now lost ready reaches within (between, lost_first, lost_later, honest, (same, none), all) =
+    let t = (believed turns patience from pieces (LineFailed fault) last said reads pass).0 machine between lost_first (may_look (last_words from pieces.bytes pieces.count) patience machine ready) honest in
+    (ap (λ (m : Machine). m.memory) same ∙ t.same, subst (λ s. IsRight s machine.memory patience lost) (sym (searched is)) tt)
+  where
+    searched : Over search ≡ Over (Stopped (LineFailed fault)) → search ≡ Stopped (LineFailed fault)
+    searched e = cc e
+
+-- how the search goes on from there
+over_goes : (stop : Stop) (end : ℕ) (next : Search → List (List Item) → Type 0) (search : Search) → Over search ≡ passed stop end → GoesOn stop end next search []
+over_goes (Ended Complete) end next search is = (searched is, refl)
+  where
+    searched : Over search ≡ Over (Ends end) → search ≡ Ends end
+    searched e = cc e
+over_goes (Ended (NoWord a)) end next search is = absurd (cc is)
+over_goes (Ended GaveUp) end next search is = (searched is, refl)
+  where
+    searched : Over search ≡ Over (Stopped (Ended GaveUp)) → search ≡ Stopped (Ended GaveUp)
+    searched e = cc e
+over_goes TurnsOver end next search is = (searched is, refl)
+  where
+    searched : Over search ≡ Over (Stopped TurnsOver) → search ≡ Stopped TurnsOver
+    searched e = cc e
+over_goes (LineFailed fault) end next search is = (searched is, refl)
+  where
+    searched : Over search ≡ Over (Stopped (LineFailed fault)) → search ≡ Stopped (LineFailed fault)
+    searched e = cc e
+
+run_over : (pieces : Pieces) (passes : List Pieces) (turns patience from : ℕ) (search : Search) (line line' : Option (List Item)) → ArePieces from pieces → Stepped turns patience from pieces (Over search) line line' →
+    Runs (pieces ∷ passes) turns patience from (from + pieces.bytes * pieces.count) search line line'
+run_over pieces passes turns patience from search line line' are s = record {
+  parts = s.said ∷ [];
+  searches = (s.stop, s.last, s.pass, over_goes s.stop (found from pieces s.last) (Searches passes turns patience (found from pieces s.last)) search s.result_is);
+  on_line = subst (Gains line line') (sym (append-nil s.said)) s.on_line;
+  finds = over_right turns patience from pieces s.stop s.last s.said search are s.reads s.pass s.result_is;
+}
+
+-- ---- a pass, and those that follow it
+
+more_right : (turns patience from limit next : ℕ) (pieces : Pieces) (stop : Stop) (last : Reader) (said : List Item) (search : Search) (parts : List (List Item)) → ArePieces from pieces → IsReader (first patience from pieces) →
+    IsPass turns patience from pieces stop last said → Lacking next ≡ passed stop (found from pieces last) → next + pieces.bytes ≤ limit + 2 → FindsFrom next limit patience search parts →
+    FindsFrom from (from + pieces.bytes * pieces.count) patience search (said ∷ parts)
+more_right turns patience from limit next pieces (Ended (NoWord a)) last said search parts are reads pass is fits finds machine now lost ready reaches within (between, lost_first, lost_later, honest, rest, all) =
+    let t = true_at turns patience from pieces (NoWord a) last said machine between lost_first reads pass ready honest in
+    let o = is_over turns patience from pieces (Ended (NoWord a)) last said reads pass in
+    let far : found from pieces last ≤ top_of machine.memory = reached machine.memory from pieces last are o reaches (subst (λ m. HoldsRead m last) t.same t.read) in
+    let past : top_of between.memory ≤ a = paid_at last.phase (NoWord a) between.memory last.patience (lost_first + 0) pass.end t.cause in
+    let tops : top_of between.memory ≡ top_of machine.memory = ap top_of t.same in
+    let later = finds between now lost_later (ready_at turns patience from pieces (NoWord a) last said machine between lost_first reads pass ready honest)
+    (omega (arith, far, tops, here is)) (omega (arith, past, lacking from a pieces last o pass.end, here is, fits, are.some)) rest in
+    (later.0 ∙ t.same, right_more search between.memory machine.memory patience lost_later lost t.same (omega (arith, all)) later.1)
+  where
+    here : {at : ℕ} → Lacking next ≡ Lacking at → next ≡ at
+    here e = cc e
+
+    right_more : (search : Search) (memory before : List ℕ) (patience lost more : ℕ) → memory ≡ before → lost ≤ more → IsRight search memory patience lost → IsRight search before patience more
+    right_more (Ends top) memory before patience lost more same le right = sym (ap top_of same) ∙ right
+    right_more (Stopped (Ended GaveUp)) memory before patience lost more same le right = omega (arith, right, le)
+    right_more (Stopped (Ended Complete)) memory before patience lost more same le right = tt
+    right_more (Stopped (Ended (NoWord a))) memory before patience lost more same le right = tt
+    right_more (Stopped TurnsOver) memory before patience lost more same le right = tt
+    right_more (Stopped (LineFailed fault)) memory before patience lost more same le right = tt
+more_right turns patience from limit next pieces (Ended Complete) last said search parts are reads pass is fits finds machine now lost ready reaches within honest = absurd (cc is)
+more_right turns patience from limit next pieces (Ended GaveUp) last said search parts are reads pass is fits finds machine now lost ready reaches within honest = absurd (cc is)
+more_right turns patience from limit next pieces TurnsOver last said search parts are reads pass is fits finds machine now lost ready reaches within honest = absurd (cc is)
+more_right turns patience from limit next pieces (LineFailed fault) last said search parts are reads pass is fits finds machine now lost ready reaches within honest = absurd (cc is)
+
+more_goes : (stop : Stop) (next end turns patience : ℕ) (passes : List Pieces) (search : Search) (parts : List (List Item)) → Lacking next ≡ passed stop end → Searches passes turns patience next search parts →
+    GoesOn stop end (Searches passes turns patience end) search parts
+more_goes (Ended (NoWord a)) next end turns patience passes search parts is goes = subst (λ at. Searches passes turns patience at search parts) (here is) goes
+  where
+    here : {at : ℕ} → Lacking next ≡ Lacking at → next ≡ at
+    here e = cc e
+more_goes (Ended Complete) next end turns patience passes search parts is goes = absurd (cc is)
+more_goes (Ended GaveUp) next end turns patience passes search parts is goes = absurd (cc is)
+more_goes TurnsOver next end turns patience passes search parts is goes = absurd (cc is)
+more_goes (LineFailed fault) next end turns patience passes search parts is goes = absurd (cc is)
+
+run_more : (pieces : Pieces) (passes : List Pieces) (turns patience from next limit : ℕ) (search : Search) (line line' line'' : Option (List Item)) → ArePieces from pieces → Stepped turns patience from pieces (Lacking next) line line' →
+    next + pieces.bytes ≤ limit + 2 → Runs passes turns patience next limit search line' line'' → Runs (pieces ∷ passes) turns patience from (from + pieces.bytes * pieces.count) search line line''
+run_more pieces passes turns patience from next limit search line line' line'' are s fits run = record {
+  parts = s.said ∷ run.parts;
+  searches = (s.stop, s.last, s.pass, more_goes s.stop next (found from pieces s.last) turns patience passes search run.parts s.result_is run.searches);
+  on_line = gains_join line line' line'' s.said (in_a_row run.parts) s.on_line run.on_line;
+  finds = more_right turns patience from limit next pieces s.stop s.last s.said search run.parts are s.reads s.pass s.result_is fits run.finds;
+}
+
+-- ---- the three passes
+
+abbrev large : Pieces
+large = record { bytes = 0o4000; count = 28 }
+
+abbrev small : Pieces
+small = record { bytes = 0o100; count = 32 }
+
+abbrev words : Pieces
+words = record { bytes = 2; count = 32 }
+
+large_are : ArePieces 0 large
+large_are = record { even = refl; whole = refl; some = omega arith; below = omega arith }
+
+small_are : (from : ℕ) → LiesWithin 0 large (Lacking from) → ArePieces from small
+small_are from lies = record { even = lies.0; whole = refl; some = omega arith; below = omega (arith, lies.1) }
+
+words_are : (before from : ℕ) → ArePieces before small → LiesWithin before small (Lacking from) → ArePieces from words
+words_are before from are lies = record { even = lies.0; whole = refl; some = omega arith; below = omega (arith, lies.1, are.below) }
+
+finds_end : (turns patience : ℕ) (search : Search) (line line' : Option (List Item)) → Runs three_passes turns patience 0 0o160000 search line line' → FindsEnd turns patience search line line'
+finds_end turns patience search line line' run = record {
+  parts = run.parts;
+  passes = run.searches;
+  on_line = run.on_line;
+  believed = λ machine now lost is stopped honest. run.finds machine now lost record { console = is; stopped = stopped } (omega arith) (omega (arith, is.size)) honest;
+}
+
+-- the first pass ended the search
+pub ends_first : (turns patience : ℕ) (search : Search) (line line' : Option (List Item)) → Stepped turns patience 0 large (Over search) line line' → FindsEnd turns patience search line line'
+ends_first turns patience search line line' one = finds_end turns patience search line line' (run_over large (small ∷ words ∷ []) turns patience 0 search line line' large_are one)
+
+-- passes that follow the first
+ends_later : (turns patience from : ℕ) (search : Search) (a b c : Option (List Item)) → Stepped turns patience 0 large (Lacking from) a b → Runs (small ∷ words ∷ []) turns patience from (from + 64 * 32) search b c →
+    FindsEnd turns patience search a c
+ends_later turns patience from search a b c one run =
+    finds_end turns patience search a c (run_more large (small ∷ words ∷ []) turns patience 0 from (from + 64 * 32) search a b c large_are one (omega arith) run)
+
+-- the second did
+pub ends_second : (turns patience from : ℕ) (search : Search) (a b c : Option (List Item)) → Stepped turns patience 0 large (Lacking from) a b → LiesWithin 0 large (Lacking from) →
+    Stepped turns patience from small (Over search) b c → FindsEnd turns patience search a c
+ends_second turns patience from search a b c one lies two =
+    ends_later turns patience from search a b c one (run_over small (words ∷ []) turns patience from search b c (small_are from lies) two)
+
+-- the third begins
+words_run : (turns patience from next : ℕ) (search : Search) (a b c d : Option (List Item)) → Stepped turns patience 0 large (Lacking from) a b → LiesWithin 0 large (Lacking from) →
+    Stepped turns patience from small (Lacking next) b c → Runs (words ∷ []) turns patience next (next + 2 * 32) search c d → FindsEnd turns patience search a d
+words_run turns patience from next search a b c d one lies two run =
+    ends_later turns patience from search a b d one (run_more small (words ∷ []) turns patience from next (next + 2 * 32) search b c d (small_are from lies) two (omega arith) run)
+
+-- and ended the search
+pub ends_third : (turns patience from next : ℕ) (search : Search) (a b c d : Option (List Item)) → Stepped turns patience 0 large (Lacking from) a b → LiesWithin 0 large (Lacking from) →
+    Stepped turns patience from small (Lacking next) b c → LiesWithin from small (Lacking next) → Stepped turns patience next words (Over search) c d → FindsEnd turns patience search a d
+ends_third turns patience from next search a b c d one lies two lies_two three =
+    words_run turns patience from next search a b c d one lies two (run_over words [] turns patience next search c d (words_are from next (small_are from lies) lies_two) three)
+
+-- or came to memory's end
+pub ends_there : (turns patience from next top : ℕ) (a b c d : Option (List Item)) → Stepped turns patience 0 large (Lacking from) a b → LiesWithin 0 large (Lacking from) →
+    Stepped turns patience from small (Lacking next) b c → LiesWithin from small (Lacking next) → Stepped turns patience next words (Lacking top) c d → FindsEnd turns patience (Ends top) a d
+ends_there turns patience from next top a b c d one lies two lies_two three =
+    words_run turns patience from next (Ends top) a b c d one lies two
+    (run_more words [] turns patience next top top (Ends top) c d d (words_are from next (small_are from lies) lies_two) three (omega arith) (run_none turns patience top d))

@@ -1,0 +1,39 @@
+-- What a search for the end of memory says, and what of it may be believed.
+use Rattle.std.specs.Prelude.{◌≡◌, ℕ, ◌<◌, false, List, Option, Some, None, ⊤}
+use Rattle.tape_image.specs.Memory.{top_of}
+use Rattle.odt_machine.specs.Machine.{Machine, IsMachine}
+use Rattle.odt_machine.specs.Laws.{is_running}
+use Rattle.load_devices.specs.declared.item.Item.{Item}
+use Rattle.load_devices.specs.Told.{Gains}
+use Rattle.reading_core.specs.declared.phase.End.TheVariants.{GaveUp}
+use Rattle.reading_engine.specs.declared.stop.Stop.{Stop}
+use Rattle.reading_engine.specs.declared.stop.Stop.TheVariants.{Ended}
+use Rattle.memory_end.specs.declared.search.Search.{Search}
+use Rattle.memory_end.specs.declared.search.Search.TheVariants.{Ends, Stopped}
+use Rattle.memory_end.specs.Passes.{Searches, three_passes}
+use Rattle.memory_end.specs.Rows.{AreHonest, in_a_row}
+
+-- the stop that ended the search, if one did
+abbrev pub stop_of : Search → Option Stop
+stop_of (Ends top) = None
+stop_of (Stopped stop) = Some stop
+
+-- what is answered is so: memory ends there; and the host gave up after more losses than its patience
+abbrev pub IsRight : Search → List ℕ → (patience lost : ℕ) → Type 0
+IsRight (Ends top) memory patience lost = top_of memory ≡ top
+IsRight (Stopped (Ended GaveUp)) memory patience lost = patience < lost
+IsRight (Stopped stop) memory patience lost = ⊤
+
+-- over every machine that runs no program, and honest lines in a row: memory is what it was, and what is answered is so
+abbrev pub IsFound : ℕ → Search → List (List Item) → Type 0
+IsFound patience search parts =
+    (machine now : Machine) (lost : ℕ) → IsMachine machine → is_running machine.mode ≡ false → AreHonest machine parts lost now →
+    (now.memory ≡ machine.memory) × IsRight search machine.memory patience lost
+
+-- a search with so many turns in each pass came to this, with what the line told before and tells after
+pub record FindsEnd (turns patience : ℕ) (search : Search) (line line' : Option (List Item)) : Type 0 where
+  -- what was said in each pass
+  pub parts : List (List Item)
+  pub passes : Searches three_passes turns patience 0 search parts
+  pub on_line : Gains line line' (in_a_row parts)
+  pub believed : IsFound patience search parts

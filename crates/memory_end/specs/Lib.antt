@@ -1,0 +1,4 @@
+pub mod Ending
+pub mod Passes
+pub mod Rows
+pub mod Steps

@@ -1,0 +1,61 @@
+-- The passes of looks that find where memory ends (this project's choice).
+use Rattle.std.specs.Prelude.{◌≡◌, ℕ, zero, suc, ◌+◌, ◌-◌, ◌*◌, ◌%◌, ◌≤◌, List, [], ◌∷◌, length, vec_capacity, Some}
+use Rattle.load_devices.specs.declared.item.Item.{Item}
+use Rattle.reading_core.specs.declared.phase.End.TheVariants.{Complete, NoWord}
+use Rattle.reading_core.specs.Reader.{Reader, begun}
+use Rattle.reading_engine.specs.declared.stop.Stop.{Stop}
+use Rattle.reading_engine.specs.declared.stop.Stop.TheVariants.{Ended}
+use Rattle.reading_engine.specs.Inquired.{Inquired, TellsEnd}
+use Rattle.memory_end.specs.declared.pieces.Pieces.{Pieces}
+use Rattle.memory_end.specs.declared.room.Room.{Room}
+use Rattle.memory_end.specs.declared.search.Search.{Search}
+use Rattle.memory_end.specs.declared.search.Search.TheVariants.{Ends, Stopped}
+
+-- the last word of each of n pieces of so many bytes, one piece after another from an address on
+unfoldable pub last_words : (from bytes n : ℕ) → List ℕ
+last_words from bytes zero = []
+last_words from bytes (suc n) = (from + (bytes - 2)) ∷ last_words (from + bytes) bytes n
+
+-- pieces of whole words in what can be memory, from an address on
+pub record ArePieces (from : ℕ) (pieces : Pieces) : Type 0 where
+  pub even : from % 2 ≡ 0
+  pub whole : pieces.bytes % 2 ≡ 0
+  pub some : 2 ≤ pieces.bytes
+  pub below : from + pieces.bytes * pieces.count ≤ 0o160000
+
+-- room for a pass over these pieces
+pub record IsRoom (pieces : Pieces) (room : Room) : Type 0 where
+  pub no_address : room.addresses.items ≡ []
+  pub no_number : room.numbers.items ≡ []
+  pub addresses : pieces.count ≤ vec_capacity room.addresses
+  pub numbers : pieces.count ≤ vec_capacity room.numbers
+
+-- all that can be memory in 28 pieces of 4000 (octal) bytes, one of these in 32 pieces of 100, and one of those word by word
+abbrev pub three_passes : List Pieces
+three_passes = record { bytes = 0o4000; count = 28 } ∷ record { bytes = 0o100; count = 32 } ∷ record { bytes = 2; count = 32 } ∷ []
+
+-- a pass over pieces from an address on is a reading of their last words, from its beginning to where it stopped, with
+-- what was said of it
+pub record IsPass (turns patience from : ℕ) (pieces : Pieces) (stop : Stop) (last : Reader) (said : List Item) : Type 0 where
+  pub inquired : Inquired turns (Some stop) (begun (last_words from pieces.bytes pieces.count) [] patience) last (Some []) (Some said)
+  pub end : TellsEnd stop last
+
+-- behind the last piece whose last word was read
+abbrev pub found : ℕ → Pieces → Reader → ℕ
+found from pieces last = from + pieces.bytes * length last.values
+
+-- how a search goes on from a pass that stopped so and found memory up to an address, where `next` says what the passes
+-- do that are left: with these where a piece lacked its last word; where none did, memory ends behind the last; and any
+-- other stop is the search's
+abbrev pub GoesOn : Stop → ℕ → (next : Search → List (List Item) → Type 0) → Search → List (List Item) → Type 0
+GoesOn (Ended (NoWord address)) found next search parts = next search parts
+GoesOn (Ended Complete) found next search parts = (search ≡ Ends found) × (parts ≡ [])
+GoesOn stop found next search parts = (search ≡ Stopped stop) × (parts ≡ [])
+
+-- these passes, from an address on, came to this, with what was said in each. Behind the last pass memory ends
+abbrev pub Searches : List Pieces → (turns patience from : ℕ) → Search → List (List Item) → Type 0
+Searches [] turns patience from search parts = (search ≡ Ends from) × (parts ≡ [])
+Searches (pieces ∷ passes) turns patience from search [] = ⊥
+Searches (pieces ∷ passes) turns patience from search (said ∷ parts) =
+    (stop : Stop) × (last : Reader) × IsPass turns patience from pieces stop last said
+    × GoesOn stop (found from pieces last) (Searches passes turns patience (found from pieces last)) search parts

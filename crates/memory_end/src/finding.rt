@@ -1,0 +1,92 @@
+ghost use Rattle.std.specs.Prelude.{◌≡◌, IfOk, OnErr};
+ghost use Rattle.load_devices.specs.Told.{Keeps};
+ghost use Rattle.memory_end.specs.Ending.{FindsEnd, stop_of};
+ghost use Rattle.memory_end.specs.Passes.{ArePieces, IsRoom};
+ghost use Rattle.memory_end.specs.Steps.{Stepped, LiesWithin, passed, stop_in};
+ghost use Rattle.reading_engine.specs.Failing.{Counts, NamesFault};
+
+use crate::pieces::{LARGE, Pieces, SMALL, WORDS};
+use crate::room::Room;
+use crate::search::Search;
+use load_devices::Line;
+use reading_core::End;
+use reading_engine::{Stop, inquire};
+use std::alloc::{AllocError, Global};
+
+/// How many mishaps the host survives in a pass, and the most turns of it.
+#[derive(Clone, Copy)]
+struct Limits {
+    patience: u32,
+    turns: u64,
+}
+
+/// What a pass comes to.
+enum Outcome {
+    /// The piece that begins here is the first that lacks its last word.
+    Lacking(u16),
+
+    /// No pass follows.
+    Over(Search),
+}
+
+/// Looks for the end of memory, with at most so many turns in each of the three passes.
+///
+/// A pass reads the last word of each of its pieces and ends at the first that is not there; the next
+/// pass goes over this piece. Where the first pass reads all of its words, memory ends at 160000 (octal).
+/// The host survives `patience` mishaps in each pass. The one error is want of memory, and comes before
+/// anything was said on the line.
+pub fn find_end<L: Line>(
+    alloc: Global,
+    line: &mut L,
+    patience: u32,
+    turns: u64,
+) -> Result<Search, AllocError>
+    ensures found { IfOk result (λ search. FindsEnd turns patience search (L.told line.old) (L.told line.new)) }
+    ensures counted { IfOk result (λ search. Counts (stop_of search) (L.fault_count line.old) (L.fault_count line.new)) }
+    ensures fault { IfOk result (λ search. NamesFault (stop_of search) (L.last_fault line.new)) }
+    ensures unsaid { OnErr result (Keeps (L.told line.old) (L.told line.new)) }
+    ensures uncounted { OnErr result (L.fault_count line.new ≡ L.fault_count line.old) }
+{
+    let limits = Limits { patience, turns };
+    let large = Room::new(alloc, LARGE)?;
+    let small = Room::new(alloc, SMALL)?;
+    let words = Room::new(alloc, WORDS)?;
+    let from = match pass(large, 0, LARGE, limits, line) {
+        Outcome::Lacking(from) => from,
+        Outcome::Over(search) => return Ok(search),
+    };
+    let from = match pass(small, from, SMALL, limits, line) {
+        Outcome::Lacking(from) => from,
+        Outcome::Over(search) => return Ok(search),
+    };
+    match pass(words, from, WORDS, limits, line) {
+        Outcome::Lacking(top) => Ok(Search::Ends(top)),
+        Outcome::Over(search) => Ok(search),
+    }
+}
+
+// A pass over the pieces that stand from an address on.
+fn pass<L: Line>(room: Room, from: u16, pieces: Pieces, limits: Limits, line: &mut L) -> Outcome
+    requires room { IsRoom pieces room }
+    requires pieces { ArePieces from pieces }
+    ensures pass { Stepped limits.turns limits.patience from pieces result (L.told line.old) (L.told line.new) }
+    ensures within { LiesWithin from pieces result }
+    ensures counted { Counts (stop_in result) (L.fault_count line.old) (L.fault_count line.new) }
+    ensures fault { NamesFault (stop_in result) (L.last_fault line.new) }
+{
+    let core = room.core(from, pieces, limits.patience);
+    let (core, stop) = inquire(core, line, limits.turns);
+    let found = from + pieces.bytes * core.values().len() as u16;
+    passed(stop, found)
+}
+
+// What a pass comes to that stopped so and found memory up to an address.
+fn passed(stop: Stop, found: u16) -> Outcome
+    ensures { result ≡ passed stop found }
+{
+    match stop {
+        Stop::Ended(End::NoWord(_)) => Outcome::Lacking(found),
+        Stop::Ended(End::Complete) => Outcome::Over(Search::Ends(found)),
+        _ => Outcome::Over(Search::Stopped(stop)),
+    }
+}

@@ -1,0 +1,12 @@
+use reading_engine::Stop;
+
+/// How a search for the end of memory came out.
+#[derive(Clone, Copy, Debug, PartialEq, Eq)]
+pub enum Search {
+    /// Memory goes from 000000 to here: the first byte's address at which there is none, at most 160000
+    /// (octal), where the I/O page begins.
+    Ends(u16),
+
+    /// A pass was not brought to its end: the host gave up, the line failed, or the turns were over.
+    Stopped(Stop),
+}

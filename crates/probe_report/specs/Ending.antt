@@ -1,0 +1,57 @@
+-- How a probe ends (this project's choice).
+use Rattle.std.specs.Prelude.{ℕ, ◌==◌, if◌then◌else◌, Bool, Option, Some, None}
+use Rattle.probe_report.specs.declared.findings.Attempt.{Attempt}
+use Rattle.probe_report.specs.declared.findings.Findings.{Findings}
+use Rattle.probe_report.specs.declared.findings.Extent.{Extent}
+use Rattle.probe_report.specs.declared.findings.Extent.TheVariants as extent
+use Rattle.probe_report.specs.declared.findings.Sighting.{Sighting}
+use Rattle.probe_report.specs.declared.findings.Sighting.TheVariants as look
+use Rattle.probe_report.specs.declared.findings.TrialEnd.{TrialEnd}
+use Rattle.probe_report.specs.declared.findings.TrialEnd.TheVariants as trial
+use Rattle.probe_report.specs.declared.probe_end.ProbeEnd.{ProbeEnd}
+use Rattle.probe_report.specs.declared.probe_end.ProbeEnd.TheVariants.{Probed, NotTrusted, NoPrompt, GaveUp, NoWord, TurnsOver, LineFailed}
+
+-- behind the search of memory's end
+abbrev pub search_end : Option Extent → ProbeEnd
+search_end (Some (extent.Top top)) = Probed
+search_end (Some extent.TurnsOver) = TurnsOver
+search_end (Some (extent.LineFailed fault)) = LineFailed fault
+search_end (Some extent.GaveUp) = GaveUp
+search_end None = GaveUp
+
+-- where both looks read the same number: the trial's end, and behind one that was made the search's
+abbrev pub same_end : Option Extent → TrialEnd → ProbeEnd
+same_end found trial.Tried = search_end found
+same_end found trial.TurnsOver = TurnsOver
+same_end found end = GaveUp
+
+-- behind the second look: another number than before is no console to be trusted
+abbrev pub second_end : Findings → ℕ → TrialEnd → Option Sighting → ProbeEnd
+second_end f old end (Some (look.Number now)) = if now == old then same_end f.search end else NotTrusted
+second_end f old end (Some look.NoWord) = NoWord f.address
+second_end f old end (Some look.TurnsOver) = TurnsOver
+second_end f old end (Some (look.LineFailed fault)) = LineFailed fault
+second_end f old end (Some look.GaveUp) = GaveUp
+second_end f old end None = GaveUp
+
+-- behind the trial: a second look, but where the line failed
+abbrev pub attempt_end : Findings → ℕ → TrialEnd → ProbeEnd
+attempt_end f old (trial.LineFailed fault) = LineFailed fault
+attempt_end f old end = second_end f old end f.second
+
+-- behind a first look that read the word
+abbrev pub first_end : Findings → ℕ → Option Attempt → ProbeEnd
+first_end f old (Some attempt) = attempt_end f old attempt.end
+first_end f old None = GaveUp
+
+-- behind the first look
+abbrev pub look_end : Findings → Bool → Sighting → ProbeEnd
+look_end f prompt (look.Number old) = first_end f old f.trial
+look_end f prompt look.NoWord = NoWord f.address
+look_end f prompt look.GaveUp = if prompt then GaveUp else NoPrompt
+look_end f prompt look.TurnsOver = TurnsOver
+look_end f prompt (look.LineFailed fault) = LineFailed fault
+
+-- what a probe with these findings ends as, where a prompt was heard or not
+abbrev pub probe_end : Findings → Bool → ProbeEnd
+probe_end f prompt = look_end f prompt f.first

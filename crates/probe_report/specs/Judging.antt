@@ -1,0 +1,27 @@
+-- What a probe's findings say of a console (this project's choice).
+use Rattle.std.specs.Prelude.{ℕ, ◌==◌, if◌then◌else◌, Option, Some, None}
+use Rattle.probe_report.specs.declared.findings.Attempt.{Attempt}
+use Rattle.probe_report.specs.declared.findings.Findings.{Findings}
+use Rattle.probe_report.specs.declared.findings.Sighting.{Sighting}
+use Rattle.probe_report.specs.declared.findings.Sighting.TheVariants.{Number}
+use Rattle.probe_report.specs.declared.findings.TrialEnd.{TrialEnd}
+use Rattle.probe_report.specs.declared.findings.TrialEnd.TheVariants.{Tried}
+use Rattle.probe_report.specs.declared.judging.Verdict.{Verdict}
+use Rattle.probe_report.specs.declared.judging.Verdict.TheVariants.{Forgets, Stores, Unknown}
+
+-- the same number before the trial and behind it: that says something only where the trial came to its end
+abbrev pub on_same_number : TrialEnd → Verdict
+on_same_number Tried = Forgets
+on_same_number end = Unknown
+
+-- a number before the trial, and one behind it
+abbrev pub on_numbers : ℕ → ℕ → TrialEnd → Verdict
+on_numbers old now end = if now == old then on_same_number end else Stores
+
+-- a first look, the trial and a second look, as far as they were made
+abbrev pub on_looks : Sighting → Option Attempt → Option Sighting → Verdict
+on_looks (Number old) (Some attempt) (Some (Number now)) = on_numbers old now attempt.end
+on_looks first trial second = Unknown
+
+abbrev pub verdict_of : Findings → Verdict
+verdict_of findings = on_looks findings.first findings.trial findings.second

@@ -1,0 +1,50 @@
+-- What a probe prints of a console's style (this project's own).
+use Rattle.std.specs.Prelude.{ℕ, ◌+◌, Bool, true, false, ◌&&◌, if◌then◌else◌, List, [], ◌++◌, codes, decimal, Option, Some, None}
+use Rattle.byte_io.specs.Text.{line}
+use Rattle.trial_core.specs.declared.sight.Sight.{Sight}
+use Rattle.trial_core.specs.declared.sight.Sight.TheVariants.{Unseen, Yes, No, Mixed}
+use Rattle.trial_core.specs.declared.sight.Seen.{Seen}
+use Rattle.probe_report.specs.declared.findings.Attempt.{Attempt}
+
+-- the thing was seen, or seen to be missing
+abbrev pub is_seen : Sight → Bool
+is_seen Unseen = false
+is_seen sight = true
+
+-- the console does it, at least from time to time
+abbrev pub is_done : Sight → Bool
+is_done Yes = true
+is_done Mixed = true
+is_done sight = false
+
+-- the number of `--style`: 1 for a space before the digits, plus 2 for two CRs, plus 4 for the echo of an illegal key
+abbrev pub style_number : Seen → ℕ
+style_number seen =
+    (if is_done seen.space_before then 1 else 0) + (if is_done seen.two_returns then 2 else 0) + (if is_done seen.echo_illegal then 4 else 0)
+
+-- it is printed where all three were seen
+abbrev pub number_lines : Seen → List ℕ
+number_lines seen =
+    if is_seen seen.space_before && is_seen seen.two_returns && is_seen seen.echo_illegal then line (codes "style " ++ decimal (style_number seen)) else []
+
+-- a character that was lost looks like another style
+abbrev pub mishap_text : Bool → List ℕ
+mishap_text had_mishap = if had_mishap then codes ", which says nothing of the console after a mishap" else []
+
+-- a thing that was seen both ways
+abbrev pub mixed_lines : List ℕ → Sight → Bool → List ℕ
+mixed_lines name Mixed had_mishap = line (name ++ codes " comes from time to time" ++ mishap_text had_mishap)
+mixed_lines name sight had_mishap = []
+
+-- the style's number, and what was seen both ways
+abbrev pub seen_lines : Seen → Bool → List ℕ
+seen_lines seen had_mishap =
+    number_lines seen
+    ++ mixed_lines (codes "the second CR") seen.two_returns had_mishap
+    ++ mixed_lines (codes "the space before a word") seen.space_before had_mishap
+    ++ mixed_lines (codes "the echo of an illegal key") seen.echo_illegal had_mishap
+
+-- of a trial, if there was one
+abbrev pub style_lines : Option Attempt → List ℕ
+style_lines None = []
+style_lines (Some attempt) = seen_lines attempt.seen attempt.had_mishap

@@ -1,0 +1,77 @@
+//! How a probe ends.
+ghost use Rattle.std.specs.Prelude.{◌≡◌};
+ghost use Rattle.probe_report.specs.Ending.{attempt_end, first_end, probe_end, same_end, search_end, second_end};
+
+use crate::findings::{Attempt, Extent, Findings, Sighting, TrialEnd};
+use crate::probe_end::ProbeEnd;
+
+/// How a probe ends with these findings, where a prompt was heard or not.
+pub fn end_of(findings: &Findings, prompt: bool) -> ProbeEnd
+    ensures { result ≡ probe_end findings.now prompt }
+{
+    match findings.first {
+        Sighting::Number(old) => first_end(findings, old),
+        Sighting::GaveUp if prompt => ProbeEnd::GaveUp,
+        Sighting::GaveUp => ProbeEnd::NoPrompt,
+        Sighting::NoWord => ProbeEnd::NoWord(findings.address),
+        Sighting::TurnsOver => ProbeEnd::TurnsOver,
+        Sighting::LineFailed(fault) => ProbeEnd::LineFailed(fault),
+    }
+}
+
+// Behind a first look that read the word.
+fn first_end(findings: &Findings, old: u16) -> ProbeEnd
+    ensures { result ≡ first_end findings.now old findings.now.trial }
+{
+    match findings.trial {
+        Some(attempt) => attempt_end(findings, old, attempt),
+        None => ProbeEnd::GaveUp,
+    }
+}
+
+// Behind the trial.
+fn attempt_end(findings: &Findings, old: u16, attempt: Attempt) -> ProbeEnd
+    ensures { result ≡ attempt_end findings.now old attempt.end }
+{
+    match attempt.end {
+        TrialEnd::LineFailed(fault) => ProbeEnd::LineFailed(fault),
+        end => second_end(findings, old, end),
+    }
+}
+
+// Behind the second look.
+fn second_end(findings: &Findings, old: u16, trial: TrialEnd) -> ProbeEnd
+    ensures { result ≡ second_end findings.now old trial findings.now.second }
+{
+    match findings.second {
+        Some(Sighting::Number(now)) if now == old => same_end(trial, findings.search),
+        Some(Sighting::Number(_)) => ProbeEnd::NotTrusted,
+        Some(Sighting::GaveUp) | None => ProbeEnd::GaveUp,
+        Some(Sighting::NoWord) => ProbeEnd::NoWord(findings.address),
+        Some(Sighting::TurnsOver) => ProbeEnd::TurnsOver,
+        Some(Sighting::LineFailed(fault)) => ProbeEnd::LineFailed(fault),
+    }
+}
+
+// Where both looks read the same number.
+fn same_end(trial: TrialEnd, search: Option<Extent>) -> ProbeEnd
+    ensures { result ≡ same_end search trial }
+{
+    match trial {
+        TrialEnd::Tried => search_end(search),
+        TrialEnd::TurnsOver => ProbeEnd::TurnsOver,
+        _ => ProbeEnd::GaveUp,
+    }
+}
+
+// Behind the search.
+fn search_end(search: Option<Extent>) -> ProbeEnd
+    ensures { result ≡ search_end search }
+{
+    match search {
+        Some(Extent::Top(_)) => ProbeEnd::Probed,
+        Some(Extent::GaveUp) | None => ProbeEnd::GaveUp,
+        Some(Extent::TurnsOver) => ProbeEnd::TurnsOver,
+        Some(Extent::LineFailed(fault)) => ProbeEnd::LineFailed(fault),
+    }
+}

@@ -1,0 +1,91 @@
+use load_devices::LineFault;
+use trial_core::Seen;
+
+/// What a look at the word gave.
+#[derive(Clone, Copy, Debug, PartialEq, Eq)]
+pub enum Sighting {
+    /// The word holds this number.
+    Number(u16),
+
+    /// Memory has no such word.
+    NoWord,
+
+    /// More mishaps than the patience.
+    GaveUp,
+
+    /// The turns were over.
+    TurnsOver,
+
+    /// The line failed.
+    LineFailed(LineFault),
+}
+
+/// How the trial ended.
+#[derive(Clone, Copy, Debug, PartialEq, Eq)]
+pub enum TrialEnd {
+    /// The digits and the illegal key were typed, and the prompt came back.
+    Tried,
+
+    /// Memory has no such word.
+    NoWord,
+
+    /// More mishaps than the patience. Digits may have been typed.
+    GaveUp,
+
+    /// The turns were over. Digits may have been typed.
+    TurnsOver,
+
+    /// The line failed. Digits may have been typed.
+    LineFailed(LineFault),
+}
+
+/// What the trial gave.
+#[derive(Clone, Copy, Debug, PartialEq, Eq)]
+pub struct Attempt {
+    /// How it ended.
+    pub end: TrialEnd,
+
+    /// What was seen of the console's style.
+    pub seen: Seen,
+
+    /// Whether there was a mishap: a character that was lost looks like another style.
+    pub had_mishap: bool,
+}
+
+/// What the search of memory's end gave.
+#[derive(Clone, Copy, Debug, PartialEq, Eq)]
+pub enum Extent {
+    /// Memory ends below this address.
+    Top(u16),
+
+    /// More mishaps than the patience.
+    GaveUp,
+
+    /// The turns were over.
+    TurnsOver,
+
+    /// The line failed.
+    LineFailed(LineFault),
+}
+
+/// What the runs of a probe gave, each where it was made.
+#[derive(Clone, Copy, Debug, PartialEq, Eq)]
+pub struct Findings {
+    /// The address of the word.
+    pub address: u16,
+
+    /// The first look at it.
+    pub first: Sighting,
+
+    /// The trial.
+    pub trial: Option<Attempt>,
+
+    /// The second look at the word.
+    pub second: Option<Sighting>,
+
+    /// Whether the word holds its old number again, where that was put back.
+    pub put_back: Option<bool>,
+
+    /// The search of memory's end.
+    pub search: Option<Extent>,
+}

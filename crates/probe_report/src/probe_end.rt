@@ -1,0 +1,26 @@
+use load_devices::LineFault;
+
+/// How a probe ended.
+#[derive(Clone, Copy, Debug, PartialEq, Eq)]
+pub enum ProbeEnd {
+    /// The word was the same behind digits and an illegal key, and the end of memory was found.
+    Probed,
+
+    /// The word was another one behind digits and an illegal key: no load of this machine is safe.
+    NotTrusted,
+
+    /// More mishaps than the patience, and no prompt was heard.
+    NoPrompt,
+
+    /// More mishaps than the patience, and a prompt was heard.
+    GaveUp,
+
+    /// Memory has no word at this address, at which the probe was to be made.
+    NoWord(u16),
+
+    /// The turns of a run were over before its end: the line never falls silent.
+    TurnsOver,
+
+    /// The line failed.
+    LineFailed(LineFault),
+}

@@ -1,0 +1,5 @@
+pub mod Digits
+pub mod Laws
+pub mod Style
+pub mod Trial
+pub mod TrialTable

@@ -1,0 +1,46 @@
+-- What a trial sees of a console's style, in the answers that it hears (this project's choice).
+use Rattle.std.specs.Prelude.{ℕ, ◌==◌, ◌||◌, if◌then◌else◌}
+use Rattle.host_core.specs.declared.heard.Heard.{Heard}
+use Rattle.host_core.specs.declared.heard.Heard.TheVariants.{Got}
+use Rattle.host_core.specs.Console.{resynchronise, question_mark, carriage_return, line_feed, space}
+use Rattle.trial_core.specs.declared.phase.Phase.{Phase}
+use Rattle.trial_core.specs.declared.phase.Phase.TheVariants.{Sync, Before, Done}
+use Rattle.trial_core.specs.declared.sight.Sight.{Sight}
+use Rattle.trial_core.specs.declared.sight.Sight.TheVariants.{Unseen, Yes, No, Mixed}
+use Rattle.trial_core.specs.declared.sight.Seen.{Seen}
+
+-- a thing that was seen once more: seen both ways it is mixed
+abbrev pub and_then : Sight → Sight → Sight
+and_then Unseen now = now
+and_then before Unseen = before
+and_then Yes Yes = Yes
+and_then No No = No
+and_then _ _ = Mixed
+
+-- of two characters that may come at a place, one shows that the console does a thing, and the other that it does not
+abbrev pub shown : ℕ → ℕ → ℕ → Sight
+shown does does_not c = if c == does then Yes else if c == does_not then No else Unseen
+
+-- the first character of the answer to `Z`: its echo, or `?`
+abbrev pub echo_seen : Seen → ℕ → Seen
+echo_seen seen c = record seen { echo_illegal = and_then seen.echo_illegal (shown resynchronise question_mark c) }
+
+-- behind the first CR of a prompt: a second one, or LF
+abbrev pub returns_seen : Seen → ℕ → Seen
+returns_seen seen c = record seen { two_returns = and_then seen.two_returns (shown carriage_return line_feed c) }
+
+-- behind the echo of `/`: a space, or the first digit, which is 0 or 1
+abbrev pub space_seen : Seen → ℕ → Seen
+space_seen seen c =
+    record seen { space_before = and_then seen.space_before (if c == space then Yes else if c == 48 || c == 49 then No else Unseen) }
+
+-- the answer to `Z`, at a place
+abbrev pub reply_seen : Seen → ℕ → ℕ → Seen
+reply_seen seen place c = if place == 0 then echo_seen seen c else if place == 3 then returns_seen seen c else seen
+
+-- what was seen, after one thing more was heard in a phase
+abbrev pub seen_after : Seen → Phase → Heard → Seen
+seen_after seen (Sync place) (Got c) = reply_seen seen place c
+seen_after seen (Done place) (Got c) = reply_seen seen place c
+seen_after seen Before (Got c) = space_seen seen c
+seen_after seen phase heard = seen

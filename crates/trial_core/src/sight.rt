@@ -1,0 +1,28 @@
+/// What was seen of a thing that a console may do or not.
+#[derive(Clone, Copy, Debug, PartialEq, Eq)]
+pub enum Sight {
+    /// It was not looked at.
+    Unseen,
+
+    /// The console does it.
+    Yes,
+
+    /// The console does not do it.
+    No,
+
+    /// It was seen both ways.
+    Mixed,
+}
+
+/// What was seen of a console's style.
+#[derive(Clone, Copy, Debug, PartialEq, Eq)]
+pub struct Seen {
+    /// One space stands before the digits of an opened word.
+    pub space_before: Sight,
+
+    /// Two carriage returns, in place of one, stand before the line feed.
+    pub two_returns: Sight,
+
+    /// An illegal key is echoed before the question mark.
+    pub echo_illegal: Sight,
+}

@@ -1,0 +1,94 @@
+// What a trial sees of a console's style.
+ghost use Rattle.std.specs.Prelude.{◌≡◌};
+ghost use Rattle.trial_core.specs.Style.{and_then, echo_seen, reply_seen, returns_seen, seen_after, shown, space_seen};
+
+use crate::phase::Phase;
+use crate::sight::{Seen, Sight};
+use host_core::Heard;
+use reading_core::console::{CARRIAGE_RETURN, LINE_FEED, QUESTION_MARK, RESYNCHRONISE, SPACE};
+
+impl Sight {
+    /// What was seen, once it was seen again.
+    fn and_then(self, now: Sight) -> Sight
+        ensures { result ≡ and_then self now }
+    {
+        match (self, now) {
+            (Sight::Unseen, seen) | (seen, Sight::Unseen) => seen,
+            (Sight::Yes, Sight::Yes) => Sight::Yes,
+            (Sight::No, Sight::No) => Sight::No,
+            _ => Sight::Mixed,
+        }
+    }
+}
+
+impl Seen {
+    /// Nothing was seen.
+    pub const NOTHING: Seen = Seen {
+        space_before: Sight::Unseen,
+        two_returns: Sight::Unseen,
+        echo_illegal: Sight::Unseen,
+    };
+
+    /// What was seen, once one thing more was heard in a phase.
+    pub fn after(self, phase: Phase, heard: Heard) -> Seen
+        ensures { result ≡ seen_after self phase heard }
+    {
+        let Heard::Got(c) = heard else {
+            return self;
+        };
+        match phase {
+            Phase::Sync(place) | Phase::Done(place) => self.after_reply(place, c),
+            Phase::Before => self.after_space(c),
+            _ => self,
+        }
+    }
+
+    // The answer to `Z`: its echo or `?`, and behind its first CR a second one or LF.
+    fn after_reply(self, place: u8, c: u8) -> Seen
+        ensures { result ≡ reply_seen self place c }
+    {
+        match place {
+            0 => Seen {
+                echo_illegal: self
+                    .echo_illegal
+                    .and_then(shown(RESYNCHRONISE, QUESTION_MARK, c)),
+                ..self
+            },
+            3 => Seen {
+                two_returns: self
+                    .two_returns
+                    .and_then(shown(CARRIAGE_RETURN, LINE_FEED, c)),
+                ..self
+            },
+            _ => self,
+        }
+    }
+
+    // Behind the echo of `/`: a space, or the first digit.
+    fn after_space(self, c: u8) -> Seen
+        ensures { result ≡ space_seen self c }
+    {
+        let now = match c {
+            SPACE => Sight::Yes,
+            b'0' | b'1' => Sight::No,
+            _ => Sight::Unseen,
+        };
+        Seen {
+            space_before: self.space_before.and_then(now),
+            ..self
+        }
+    }
+}
+
+// What a character shows that may be one of two.
+fn shown(does: u8, does_not: u8, c: u8) -> Sight
+    ensures { result ≡ shown does does_not c }
+{
+    if c == does {
+        Sight::Yes
+    } else if c == does_not {
+        Sight::No
+    } else {
+        Sight::Unseen
+    }
+}

@@ -1,0 +1,138 @@
+-- Stretches of the engine: one turn of each kind, and two stretches one after the other.
+use Rattle.std.proofs.Common.{◌≡◌, ℕ, ◌+◌, ◌-◌, ◌≤◌, List, [], ◌∷◌, ◌++◌, length, Option, Some, None, inl, inr, refl, arith, ap, sym, subst, ◌∙◌, append_assoc, length-append}
+use Rattle.std.specs.Prelude.{Result, Ok, Err, IsErrAnd}
+use Rattle.host_core.specs.declared.heard.Heard.{Heard}
+use Rattle.load_devices.specs.declared.fault.LineFault.{LineFault}
+use Rattle.load_devices.specs.declared.item.Item.{Item}
+use Rattle.load_devices.specs.declared.item.Item.TheVariants.{Sent, Heard as Came}
+use Rattle.load_devices.specs.Dialogue.{said}
+use Rattle.load_devices.specs.Told.{Gains, Keeps}
+use Rattle.load_engine.proofs.Sessions.{gains_none, gains_kept, gains_join}
+use Rattle.trial_core.specs.declared.phase.End.{End}
+use Rattle.trial_core.specs.declared.trial.Trial.{Trial}
+use Rattle.trial_core.specs.Laws.{led}
+use Rattle.trial_core.specs.Trial.{ended}
+use Rattle.trial_core.specs.TrialTable.{ask}
+use Rattle.trial_law.specs.Trying.{trial_dialogue}
+use Rattle.trial_engine.specs.declared.stop.Stop.{Stop}
+use Rattle.trial_engine.specs.declared.stop.Stop.TheVariants.{Ended, LineFailed, TurnsOver}
+use Rattle.trial_engine.specs.Attempted.{GoesOn, IsSaid, Attempted, failure_of}
+
+-- ---- dialogues
+
+led_join : (t : Trial) (one two : List Heard) → led t (one ++ two) ≡ led (led t one) two
+led_join t [] two = refl
+led_join t (heard ∷ one) two = led_join (ask t heard).next one two
+
+goes_join : (t : Trial) (one two : List Heard) → GoesOn t one → GoesOn (led t one) two → GoesOn t (one ++ two)
+goes_join t [] two g h = h
+goes_join t (heard ∷ one) two g h = (g.0, goes_join (ask t heard).next one two g.1 h)
+
+dialogue_join : (t : Trial) (one two : List Heard) → trial_dialogue t (one ++ two) ≡ trial_dialogue t one ++ trial_dialogue (led t one) two
+dialogue_join t [] two = refl
+dialogue_join t (heard ∷ one) two =
+    ap (λ rest. Came heard ∷ (said (ask t heard).key ++ rest)) (dialogue_join (ask t heard).next one two)
+    ∙ ap (λ rest. Came heard ∷ rest) (sym (append_assoc (said (ask t heard).key) (trial_dialogue (ask t heard).next one) (trial_dialogue (led (ask t heard).next one) two)))
+
+said_join : (stop : Option Stop) (left : ℕ) (first all now : List Item) → IsSaid stop left all now → IsSaid stop left (first ++ all) (first ++ now)
+said_join None left first all now s = (ap (λ rest. first ++ rest) s.0, s.1)
+said_join (Some (Ended end)) left first all now s = ap (λ rest. first ++ rest) s
+said_join (Some TurnsOver) left first all now s = (ap (λ rest. first ++ rest) s.0, s.1)
+said_join (Some (LineFailed fault)) left first all now (inl s) = inl (ap (λ rest. first ++ rest) s.0, s.1)
+said_join (Some (LineFailed fault)) left first all now (inr s) = inr (s.0, ap (λ rest. first ++ rest) s.1 ∙ sym (append_assoc first now (Sent s.0 ∷ [])))
+
+-- ---- two stretches, one after the other
+
+items_join : (stop : Option Stop) (turns more : ℕ) (a b : Trial) (heard later : List Heard) (first second : List Item) → b ≡ led a heard → length heard ≡ turns → first ≡ trial_dialogue a heard →
+    IsSaid stop (more - length later) (trial_dialogue b later) second →
+    IsSaid stop (turns + more - length (heard ++ later)) (trial_dialogue a (heard ++ later)) (first ++ second)
+items_join stop turns more a b heard later first second is all whole s =
+    let left : more - length later ≡ turns + more - length (heard ++ later) = omega (arith, all, length-append heard later) in
+    let dialogues : first ++ trial_dialogue b later ≡ trial_dialogue a (heard ++ later) =
+    ap (λ host. first ++ trial_dialogue host later) is ∙ (ap (λ front. front ++ trial_dialogue (led a heard) later) whole ∙ sym (dialogue_join a heard later)) in
+    subst (λ n. IsSaid stop n (trial_dialogue a (heard ++ later)) (first ++ second)) left
+    (subst (λ items. IsSaid stop (more - length later) items (first ++ second)) dialogues (said_join stop (more - length later) first (trial_dialogue b later) second s))
+
+pub attempted_join : (turns more : ℕ) (stop : Option Stop) (a b c : Trial) (line line' line'' : Option (List Item)) → Attempted turns None a b line line' → Attempted more stop b c line' line'' → Attempted (turns + more) stop a c line line''
+attempted_join turns more stop a b c line line' line'' s t = let all : length s.heard ≡ turns = omega (arith, s.within, s.items.1) in record {
+  heard = s.heard ++ t.heard;
+  said = s.said ++ t.said;
+  trial = t.trial ∙ (ap (λ host. led host t.heard) s.trial ∙ sym (led_join a s.heard t.heard));
+  goes_on = goes_join a s.heard t.heard s.goes_on (subst (λ host. GoesOn host t.heard) s.trial t.goes_on);
+  within = omega (arith, t.within, all, length-append s.heard t.heard);
+  items = items_join stop turns more a b s.heard t.heard s.said t.said s.trial all s.items.0 t.items;
+  on_line = gains_join line line' line'' s.said t.said s.on_line t.on_line;
+}
+
+-- ---- a stretch of no turns, and one that stops
+
+pub attempted_none : (t : Trial) (line : Option (List Item)) → Attempted 0 None t t line line
+attempted_none t line = record { heard = []; said = []; trial = refl; goes_on = tt; within = omega arith; items = (refl, omega arith); on_line = gains_none line }
+
+more_left : (fault : LineFault) (turns all : ℕ) (heard : List Heard) (items now : List Item) → turns ≤ all → IsSaid (Some (LineFailed fault)) (turns - length heard) items now → IsSaid (Some (LineFailed fault)) (all - length heard) items now
+more_left fault turns all heard items now le (inl s) = inl (s.0, omega (arith, le, s.1))
+more_left fault turns all heard items now le (inr s) = inr s
+
+-- a failure with turns to spare
+pub attempted_wider : (fault : LineFault) (turns all : ℕ) (a b : Trial) (line line' : Option (List Item)) → turns ≤ all → Attempted turns (Some (LineFailed fault)) a b line line' → Attempted all (Some (LineFailed fault)) a b line line'
+attempted_wider fault turns all a b line line' le s =
+    record { heard = s.heard; said = s.said; trial = s.trial; goes_on = s.goes_on; within = omega (arith, s.within, le); items = more_left fault turns all s.heard (trial_dialogue a s.heard) s.said le s.items; on_line = s.on_line }
+
+pub attempted_ended : (end : End) (turns all : ℕ) (a b : Trial) (line line' : Option (List Item)) → turns ≤ all → Attempted turns None a b line line' → Attempted all (Some (Ended end)) a b line line'
+attempted_ended end turns all a b line line' le s =
+    record { heard = s.heard; said = s.said; trial = s.trial; goes_on = s.goes_on; within = omega (arith, s.within, le); items = s.items.0; on_line = s.on_line }
+
+pub attempted_over : (turns : ℕ) (a b : Trial) (line line' : Option (List Item)) → Attempted turns None a b line line' → Attempted turns (Some TurnsOver) a b line line'
+attempted_over turns a b line line' s =
+    record { heard = s.heard; said = s.said; trial = s.trial; goes_on = s.goes_on; within = s.within; items = s.items; on_line = s.on_line }
+
+-- ---- one turn
+
+-- the line fails at the hear
+pub turn_deaf : (fault : LineFault) (t : Trial) (line line' : Option (List Item)) → Keeps line line' → Attempted 1 (Some (LineFailed fault)) t t line line'
+turn_deaf fault t line line' k =
+    record { heard = []; said = []; trial = refl; goes_on = tt; within = omega arith; items = inl (refl, omega arith); on_line = gains_kept line line' k }
+
+-- the line fails at the send
+pub turn_unsent : (fault : LineFault) (old new : Trial) (heard : Heard) (key : ℕ) (line line' line'' : Option (List Item)) → ended old.phase ≡ None → new ≡ (ask old heard).next → (ask old heard).key ≡ Some key →
+    Gains line line' (Came heard ∷ []) → Keeps line' line'' → Attempted 1 (Some (LineFailed fault)) old new line line''
+turn_unsent fault old new heard key line line' line'' goes next sends hears k = record {
+  heard = heard ∷ [];
+  said = Came heard ∷ [];
+  trial = next;
+  goes_on = (goes, tt);
+  within = omega arith;
+  items = inr (key, ap (λ sent. Came heard ∷ (said sent ++ [])) sends);
+  on_line = gains_join line line' line'' (Came heard ∷ []) [] hears (gains_kept line' line'' k);
+}
+
+-- the key is sent
+pub turn_sent : (old new : Trial) (heard : Heard) (key : ℕ) (line line' line'' : Option (List Item)) → ended old.phase ≡ None → new ≡ (ask old heard).next → (ask old heard).key ≡ Some key →
+    Gains line line' (Came heard ∷ []) → Gains line' line'' (Sent key ∷ []) → Attempted 1 None old new line line''
+turn_sent old new heard key line line' line'' goes next sends hears sent = record {
+  heard = heard ∷ [];
+  said = Came heard ∷ Sent key ∷ [];
+  trial = next;
+  goes_on = (goes, tt);
+  within = omega arith;
+  items = (sym (ap (λ sent. Came heard ∷ (said sent ++ [])) sends), omega arith);
+  on_line = gains_join line line' line'' (Came heard ∷ []) (Sent key ∷ []) hears sent;
+}
+
+-- there is no key to send
+pub turn_still : (old new : Trial) (heard : Heard) (line line' : Option (List Item)) → ended old.phase ≡ None → new ≡ (ask old heard).next → (ask old heard).key ≡ None →
+    Gains line line' (Came heard ∷ []) → Attempted 1 None old new line line'
+turn_still old new heard line line' goes next silent hears = record {
+  heard = heard ∷ [];
+  said = Came heard ∷ [];
+  trial = next;
+  goes_on = (goes, tt);
+  within = omega arith;
+  items = (sym (ap (λ sent. Came heard ∷ (said sent ++ [])) silent), omega arith);
+  on_line = hears;
+}
+
+-- the stop that a failed call makes
+pub failure_is : {T : Type 0} (result : Result T LineFault) (fault : LineFault) → IsErrAnd result (λ made. made ≡ fault) → failure_of result ≡ Some (LineFailed fault)
+failure_is (Ok done) fault h = absurd h
+failure_is (Err made) fault h = ap (λ f. Some (LineFailed f)) h

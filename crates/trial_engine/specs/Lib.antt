@@ -1,0 +1,3 @@
+pub mod Attempted
+pub mod Failing
+pub mod Harmless

@@ -1,0 +1,5 @@
+pub mod Again
+pub mod Rows
+pub mod Runs
+pub mod Splitting
+pub mod Trying

@@ -1,0 +1,38 @@
+-- What a trial types changes nothing.
+use Rattle.std.specs.Prelude.{◌≡◌, ℕ, ◌⊎◌, false, All, List, [], ◌∷◌, ◌++◌}
+use Rattle.odt_machine.specs.Machine.{Machine, IsMachine}
+use Rattle.odt_machine.specs.Laws.{is_running}
+use Rattle.host_core.specs.declared.heard.Heard.{Heard}
+use Rattle.load_devices.specs.declared.item.Item.{Item}
+use Rattle.load_devices.specs.declared.item.Item.TheVariants.{Sent, Heard as Came}
+use Rattle.load_devices.specs.Dialogue.{said, keys_of}
+use Rattle.honest_line.specs.Honest.{IsHonest}
+use Rattle.trial_core.specs.declared.trial.Trial.{Trial}
+use Rattle.trial_core.specs.Trial.{IsTrial}
+use Rattle.trial_core.specs.TrialTable.{IsTrying, ask}
+
+-- nothing was stored and nothing was started
+pub record IsLeftAlone (machine now : Machine) : Type 0 where
+  pub memory : now.memory ≡ machine.memory
+  pub stopped : is_running machine.mode ≡ false → is_running now.mode ≡ false
+  pub console : IsMachine machine → IsMachine now
+
+-- digits, `/` and `Z` alone store nothing and start nothing: whatever the console is in the middle of, whatever answers wait,
+-- whatever is lost
+abbrev pub TryingKeysStoreNothing : Type 0
+TryingKeysStoreNothing =
+    (machine now : Machine) (items : List Item) (lost : ℕ) → All IsTrying (keys_of items) → IsHonest machine items lost now → IsLeftAlone machine now
+
+-- each heard thing, and right after it the key that it makes the trial send
+abbrev pub trial_dialogue : Trial → List Heard → List Item
+trial_dialogue t [] = []
+trial_dialogue t (heard ∷ more) = Came heard ∷ (said (ask t heard).key ++ trial_dialogue (ask t heard).next more)
+
+-- what was said of a dialogue on a line: all of it, or, where the line failed, all but its last key
+abbrev pub IsToldOf : (all told : List Item) → Type 0
+IsToldOf all told = (told ≡ all) ⊎ ((key : ℕ) × (all ≡ told ++ Sent key ∷ []))
+
+-- whatever a trial hears, its keys are digits, `/` and `Z`
+abbrev pub TrialsOnlyTry : Type 0
+TrialsOnlyTry =
+    (t : Trial) (things : List Heard) (told : List Item) → IsTrial t → IsToldOf (trial_dialogue t things) told → All IsTrying (keys_of told)

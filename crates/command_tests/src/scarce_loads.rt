@@ -1,9 +1,12 @@
-//! Want of memory while a load goes on: each growth is refused in turn, those behind the connection, too.
+//! Want of memory while a load or a look goes on: each growth is refused in turn, those behind the
+//! connection, too.
 
 use crate::attempts::{Ended, OUT_OF_MEMORY, load_of, run};
-use crate::simulated_system::{AMPLE, Setting, System};
+use crate::simulated_system::{AMPLE, QUIET_MS, Setting, System};
 use crate::tapes::ONE_WORD;
 use endings::Status;
+use machine_look::AddressRange;
+use requests::{Look, Request, Save};
 use scarce_memory::{Famine, ROOMS};
 use std::alloc::{AllocError, Global};
 use std::fs;
@@ -24,12 +27,61 @@ const TAPE: &str = "scarce-load.lda";
 
 const RECORD: &str = "scarce-load.record";
 
+// The file of a save, and the one that is written beside it.
+const SAVED: &str = "scarce-saved.lda";
+
+const BESIDE_SAVED: &str = "scarce-saved.lda.ldaodt-new";
+
+// A look at the machine.
+const LOOK: Look<'static> = Look {
+    line: "127.0.0.1:2323",
+    patience: 3,
+    quiet_ms: QUIET_MS,
+};
+
 // What is reported of a tape of so many zeroes: a key to begin with, and of each word, which stands already,
 // its address, the slash and the return.
 const ZEROES_LOADED: &str = "sent 16001 spent 0 verified 2000 of 2000\nend Loaded\n";
 
+// What is reported of a look at as many zeroes, which types the same keys.
+const ZEROES_THERE: &str = "sent 16001 spent 0 looked 2000 of 2000 differ 0\nend Same\n";
+
+const ZEROES_SAVED: &str = "sent 16001 spent 0 read 2000 of 2000\nend Saved\n";
+
 // What is reported of the smallest tape.
 const STARTED: &str = "sent 30 spent 0 verified 1 of 1\nend Started\n";
+
+// What is asked for.
+#[derive(Clone, Copy)]
+enum Asked<'a> {
+    // Load the tape, with a record in this file, or in memory.
+    Load(Option<&'a str>),
+
+    // Look whether memory has the tape's words.
+    Verify,
+
+    // Save as many words as that tape has.
+    Save,
+}
+
+// The request for it. The error is that it has no room.
+fn request_of<'a>(alloc: Global, asked: Asked<'a>) -> Result<Request<'a>, AllocError> {
+    match asked {
+        Asked::Load(record) => load_of(alloc, TAPE, record),
+        Asked::Verify => Ok(Request::Verify(Vec::from_slice(alloc, &[TAPE])?, LOOK)),
+        Asked::Save => match AddressRange::new(0o001000, 0o010636) {
+            Some(range) => Ok(Request::Save(
+                SAVED,
+                Save {
+                    range,
+                    start: 1,
+                    look: LOOK,
+                },
+            )),
+            None => Ok(Request::CheckInput),
+        },
+    }
+}
 
 // The text of the tape of zeroes: zeroes at 001000, and no start.
 fn zeroes(alloc: Global) -> Option<Vec<u8>> {
@@ -60,21 +112,25 @@ fn add_long_name(name: &mut String) -> Result<(), AllocError> {
     name.push_str(RECORD)
 }
 
-// Loads the tape, in place of what the load before it left. The error is that the request itself has no room.
-fn load(
+// Does what is asked for, in place of what the attempt before it left. The error is that the request itself has no
+// room.
+fn attempt(
     system: &System<'_>,
     alloc: Global,
-    record: Option<&str>,
+    asked: Asked<'_>,
     ended: &mut Ended,
 ) -> Result<(), AllocError> {
-    let request = load_of(alloc, TAPE, record)?;
+    let request = request_of(alloc, asked)?;
     run(system, alloc, request, &[], ended);
     Ok(())
 }
 
-// Whether a load ended for want of memory as it has to: nothing is reported and no record is begun.
+// Whether it ended for want of memory as it has to: nothing is reported, no record is begun, and no tape is saved.
 fn is_orderly(rt: &HostRuntime, ended: &Ended) -> bool {
-    ended.is(Status::NoMemory, "", OUT_OF_MEMORY) && fs::metadata(rt, RECORD).is_err()
+    ended.is(Status::NoMemory, "", OUT_OF_MEMORY)
+        && fs::metadata(rt, RECORD).is_err()
+        && fs::metadata(rt, SAVED).is_err()
+        && fs::metadata(rt, BESIDE_SAVED).is_err()
 }
 
 // How often memory was wanting, and how often of these behind the connection.
@@ -96,25 +152,25 @@ impl Refusals {
     }
 }
 
-// Loads in the room that is left, and answers how often memory was wanting, or None where the load did not end for
+// Does it in the room that is left, and answers how often memory was wanting, or None where it did not end for
 // want of memory as it has to.
 fn refusals_of(
     system: &System<'_>,
     rt: &HostRuntime,
-    record: Option<&str>,
+    asked: Asked<'_>,
     ended: &mut Ended,
 ) -> Option<Refusals> {
-    if load(system, rt.alloc(), record, ended).is_err() {
+    if attempt(system, rt.alloc(), asked, ended).is_err() {
         return Some(Refusals::NONE);
     }
     let behind = system.connections.get();
     is_orderly(rt, ended).then_some(Refusals { all: 1, behind })
 }
 
-// Loads in rooms that grow until memory is not wanting, and answers how often it was.
-fn load_scarcely(
+// Does it in rooms that grow until memory is not wanting, and answers how often it was.
+fn attempt_scarcely(
     rt: &HostRuntime,
-    record: Option<&str>,
+    asked: Asked<'_>,
     systems: &[System<'_>],
     famine: &mut Famine,
     ended: &mut Ended,
@@ -124,7 +180,7 @@ fn load_scarcely(
         if famine.leave_more(rt.alloc()).is_err() {
             break;
         }
-        match refusals_of(system, rt, record, ended) {
+        match refusals_of(system, rt, asked, ended) {
             Some(more) => refusals = refusals.and(more),
             None => break,
         }
@@ -140,28 +196,44 @@ fn add_systems<'a>(rt: &'a HostRuntime, systems: &mut Vec<System<'a>>) -> Result
     Ok(())
 }
 
-// Loads so with a system for each room, or answers None where these have no memory beforehand.
-fn load_at_last(rt: &HostRuntime, record: Option<&str>, ended: &mut Ended) -> Option<Refusals> {
+// Does it so with a system for each room, or answers None where these have no memory beforehand.
+fn attempt_at_last(rt: &HostRuntime, asked: Asked<'_>, ended: &mut Ended) -> Option<Refusals> {
     let mut systems = Vec::new(rt.alloc());
     add_systems(rt, &mut systems).ok()?;
     let mut famine = Famine::begin(rt.alloc()).ok()?;
-    Some(load_scarcely(rt, record, &systems, &mut famine, ended))
+    Some(attempt_scarcely(rt, asked, &systems, &mut famine, ended))
 }
 
-// How often memory was wanting for a load that reports this at last: one that was always refused, or once in another
-// way than it has to be, does not.
-fn loaded_at_last(rt: &HostRuntime, record: Option<&str>, report: &str) -> Option<Refusals> {
+// How often memory was wanting for an attempt that reports this at last: one that was always refused, or once in
+// another way than it has to be, does not.
+fn done_at_last(rt: &HostRuntime, asked: Asked<'_>, report: &str) -> Option<Refusals> {
     let mut ended = Ended::with_room(rt.alloc()).ok()?;
-    let refusals = load_at_last(rt, record, &mut ended)?;
+    let refusals = attempt_at_last(rt, asked, &mut ended)?;
     ended.is(Status::Done, report, "").then_some(refusals)
 }
 
 #[test]
 fn each_growth_of_a_load_is_refused_in_turn(rt: HostRuntime) -> Result<(), Fail> {
     assert!(rt; put_zeroes(&rt), "no tape");
-    let refusals = loaded_at_last(&rt, None, ZEROES_LOADED);
+    let refusals = done_at_last(&rt, Asked::Load(None), ZEROES_LOADED);
     assert!(rt; refusals.is_some_and(|refusals| refusals.behind > 0));
     Ok(fs::remove_file(&rt, TAPE)?)
+}
+
+// All that a verify needs is taken before the first key.
+#[test]
+fn each_growth_of_a_verify_is_refused_in_turn(rt: HostRuntime) -> Result<(), Fail> {
+    assert!(rt; put_zeroes(&rt), "no tape");
+    let refusals = done_at_last(&rt, Asked::Verify, ZEROES_THERE);
+    assert!(rt; refusals.is_some_and(|refusals| refusals.all > 0 && refusals.behind == 0));
+    Ok(fs::remove_file(&rt, TAPE)?)
+}
+
+#[test]
+fn each_growth_of_a_save_is_refused_in_turn(rt: HostRuntime) -> Result<(), Fail> {
+    let refusals = done_at_last(&rt, Asked::Save, ZEROES_SAVED);
+    assert!(rt; refusals.is_some_and(|refusals| refusals.behind > 0));
+    Ok(fs::remove_file(&rt, SAVED)?)
 }
 
 // How often memory was wanting for a load of the smallest tape, with a record of a long name. Behind the connection
@@ -169,7 +241,7 @@ fn each_growth_of_a_load_is_refused_in_turn(rt: HostRuntime) -> Result<(), Fail>
 fn recorded_at_last(rt: &HostRuntime) -> Option<Refusals> {
     let mut name = String::new(rt.alloc());
     add_long_name(&mut name).ok()?;
-    loaded_at_last(rt, Some(name.as_str()), STARTED)
+    done_at_last(rt, Asked::Load(Some(name.as_str())), STARTED)
 }
 
 #[test]

@@ -1,5 +1,5 @@
-//! Requests at a machine: loads with another start or none, listening behind them, looks and saves, through a port
-//! and at a device.
+//! Requests at a machine: loads with another start or none, listening behind them, looks, saves and probes, through
+//! a port and at a device.
 
 use crate::attempts::{Ended, run};
 use crate::simulated_system::{AMPLE, DEVICE, QUIET_MS, Setting, System};
@@ -7,7 +7,7 @@ use crate::tapes::ONE_WORD;
 use endings::Status;
 use machine_load::LoadOptions;
 use machine_look::AddressRange;
-use requests::{Load, Look, Request, Save};
+use requests::{Load, Look, Probe, Request, Save};
 use std::alloc::{AllocError, Global};
 use std::fs;
 use std::test::Fail;
@@ -47,6 +47,7 @@ enum Asked {
     Load(Load<'static>),
     Verify(Look<'static>),
     Save(Look<'static>),
+    Probe(Look<'static>),
 }
 
 // The request, with the smallest tape, or for its word.
@@ -66,6 +67,10 @@ fn request_of(alloc: Global, asked: Asked) -> Result<Request<'static>, AllocErro
             ),
             None => Request::CheckInput,
         },
+        Asked::Probe(look) => Request::Probe(Probe {
+            address: 0o001000,
+            look,
+        }),
     })
 }
 
@@ -243,6 +248,57 @@ static LOOKS: [Row; 7] = [
     ),
 ];
 
+// Probes. A clock that goes on by a millisecond at each look at it is looked at 25 times for a word, as often as
+// something is said.
+static PROBES: [Row; 5] = [
+    (
+        Asked::Probe(LOOK),
+        Setting { tick: 1, ..AMPLE },
+        Status::Done,
+        "prompt yes\nstyle 0\nforgets digits yes\nmemory 000000 to 157776\nkey 1.0 ms\na load of 28672 words takes 28 minutes at this pace\nend Probed\n",
+        "",
+        1,
+    ),
+    (
+        Asked::Probe(LOOK),
+        SMALL,
+        Status::NotLoaded,
+        "prompt yes\nend NoWord 001000\n",
+        "",
+        1,
+    ),
+    (
+        Asked::Probe(LOOK),
+        Setting {
+            deaf: true,
+            ..AMPLE
+        },
+        Status::NotLoaded,
+        "prompt no\nheard nothing\nhelp: docs/REAL-MACHINE.md, \"Nothing answers\"\nend NoPrompt\n",
+        "",
+        1,
+    ),
+    (
+        Asked::Probe(LOOK),
+        Setting { reads: 12, ..AMPLE },
+        Status::DeviceFailed,
+        "prompt yes\nend LineFailed\n",
+        "ldaodt: line failed\n",
+        1,
+    ),
+    (
+        Asked::Probe(Look {
+            line: "/dev/ttyUSB1",
+            ..LOOK
+        }),
+        AMPLE,
+        Status::DeviceFailed,
+        "",
+        "ldaodt: cannot connect to /dev/ttyUSB1\n",
+        1,
+    ),
+];
+
 // Whether a request ends so.
 fn is_so(rt: &HostRuntime, row: &Row) -> bool {
     let (asked, setting, status, out, err, connections) = *row;
@@ -277,4 +333,11 @@ fn a_machine_is_looked_at_and_saved(rt: HostRuntime) -> Result<(), Fail> {
     assert!(rt; fs::read(&rt, SAVED)?.as_slice() == ONE_WORD_SAVED.as_slice());
     fs::remove_file(&rt, SAVED)?;
     Ok(fs::remove_file(&rt, TAPE)?)
+}
+
+#[test]
+fn a_console_is_probed(rt: HostRuntime) {
+    for (place, row) in PROBES.iter().enumerate() {
+        assert!(rt; is_so(&rt, row), "row {place}");
+    }
 }

@@ -6,7 +6,7 @@ use crate::tapes::{NOTHING, ONE_WORD, ONE_WORD_DIALOGUE, ONE_WORD_TEXT, PADDED, 
 use endings::Status;
 use machine_load::LoadOptions;
 use odt_machine::{LARGEST_WORDS, PLAIN_STYLE};
-use requests::{Console, Load, Request};
+use requests::{Console, Load, Look, Probe, Request};
 use scarce_memory::{Famine, ROOMS};
 use std::alloc::{AllocError, Global};
 use std::test::Fail;
@@ -49,6 +49,13 @@ const VAIN_LOAD: Load<'static> = Load {
     quiet_ms: 2000,
 };
 
+// A look through such a port.
+const VAIN_LOOK: Look<'static> = Look {
+    line: "127.0.0.1:1",
+    patience: 8,
+    quiet_ms: 2000,
+};
+
 // A console over all the memory that there may be.
 const LARGEST: Console = Console {
     words: LARGEST_WORDS,
@@ -82,6 +89,7 @@ enum Asked {
     Rehearse(&'static str, &'static str),
     Type(Console),
     Load(&'static [&'static str], Load<'static>),
+    Probe(Look<'static>),
 }
 
 // The request of a row.
@@ -95,6 +103,10 @@ fn request_of(alloc: Global, asked: Asked) -> Result<Request<'static>, AllocErro
         Asked::Rehearse(tape, script) => Request::Rehearse(tape, script, Vec::new(alloc)),
         Asked::Type(console) => Request::Type(console),
         Asked::Load(tapes, load) => Request::Load(Vec::from_slice(alloc, tapes)?, load),
+        Asked::Probe(look) => Request::Probe(Probe {
+            address: 0o001000,
+            look,
+        }),
     })
 }
 
@@ -103,7 +115,7 @@ fn request_of(alloc: Global, asked: Asked) -> Result<Request<'static>, AllocErro
 type Row = (Asked, &'static [u8], Status, &'static str, &'static str);
 
 // Requests of each command, some of them refused behind their growths.
-static REQUESTS: [Row; 13] = [
+static REQUESTS: [Row; 14] = [
     (
         Asked::CheckInput,
         &ONE_WORD,
@@ -184,6 +196,13 @@ static REQUESTS: [Row; 13] = [
     ),
     (
         Asked::Load(&["scarce-one-word.lda"], VAIN_LOAD),
+        &[],
+        Status::DeviceFailed,
+        "",
+        "ldaodt: cannot connect to 127.0.0.1:1\n",
+    ),
+    (
+        Asked::Probe(VAIN_LOOK),
         &[],
         Status::DeviceFailed,
         "",

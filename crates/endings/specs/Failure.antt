@@ -23,6 +23,8 @@ use Rattle.machine_load.specs.declared.fault.LoadFault.{LoadFault}
 use Rattle.machine_load.specs.declared.fault.LoadFault.TheVariants as load
 use Rattle.machine_look.specs.declared.look_fault.LookFault.{LookFault}
 use Rattle.machine_look.specs.declared.look_fault.LookFault.TheVariants as look
+use Rattle.machine_probe.specs.declared.probe_fault.ProbeFault.{ProbeFault}
+use Rattle.machine_probe.specs.declared.probe_fault.ProbeFault.TheVariants as probe
 use Rattle.endings.specs.declared.status.Status.{Status}
 use Rattle.endings.specs.declared.status.Status.TheVariants.{BadCommandLine, Refused, DeviceFailed, NoMemory as OutOfMemory}
 
@@ -145,6 +147,12 @@ IsLookFailureOf look.WriteTape address file failure = NamesWrittenFile file fail
 IsLookFailureOf look.Connect address file failure = NamesAddress address failure
 IsLookFailureOf look.WriteOutput address file failure = failure ≡ CannotWrite
 IsLookFailureOf look.Memory address file failure = failure ≡ NoMemory
+
+-- the failure that a probe's fault is, where its console has this name
+abbrev pub IsProbeFailureOf : ProbeFault → List ℕ → Failure → Type 0
+IsProbeFailureOf probe.Connect address failure = NamesAddress address failure
+IsProbeFailureOf probe.WriteOutput address failure = failure ≡ CannotWrite
+IsProbeFailureOf probe.Memory address failure = failure ≡ NoMemory
 
 -- how a load fails whose line did: once the start was typed, or may have been, it says so
 abbrev pub line_failure : Bool → Failure

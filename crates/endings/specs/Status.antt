@@ -8,6 +8,8 @@ use Rattle.machine_look.specs.declared.save_end.SaveEnd.{SaveEnd}
 use Rattle.machine_look.specs.declared.save_end.SaveEnd.TheVariants as save
 use Rattle.machine_look.specs.declared.verify_end.VerifyEnd.{VerifyEnd}
 use Rattle.machine_look.specs.declared.verify_end.VerifyEnd.TheVariants as verify
+use Rattle.probe_report.specs.declared.probe_end.ProbeEnd.{ProbeEnd}
+use Rattle.probe_report.specs.declared.probe_end.ProbeEnd.TheVariants as probe
 use Rattle.endings.specs.declared.failure.Failure.{Failure}
 use Rattle.endings.specs.declared.failure.Failure.TheVariants.{LineFailed}
 use Rattle.endings.specs.declared.status.Status.{Status}
@@ -57,3 +59,13 @@ after_save (save.NoWord address) = Ok NotLoaded
 after_save save.GaveUp = Ok NotLoaded
 after_save save.TurnsOver = Ok NotLoaded
 after_save (save.LineFailed fault) = Err LineFailed
+
+-- how the program ends after a `probe` that ended so: where its line failed, that is a failure and no ending
+abbrev pub after_probe : ProbeEnd → Result Status Failure
+after_probe probe.Probed = Ok Done
+after_probe probe.NotTrusted = Ok NotLoaded
+after_probe probe.NoPrompt = Ok NotLoaded
+after_probe probe.GaveUp = Ok NotLoaded
+after_probe (probe.NoWord address) = Ok NotLoaded
+after_probe probe.TurnsOver = Ok NotLoaded
+after_probe (probe.LineFailed fault) = Err LineFailed

@@ -3,6 +3,7 @@ use command_io::CommandFault;
 use load_record::RecordError;
 use machine_load::LoadFault;
 use machine_look::LookFault;
+use machine_probe::ProbeFault;
 use std::fmt;
 use tape_blocks::Fault;
 
@@ -27,7 +28,7 @@ pub enum Failure<'a> {
     /// The console at this HOST:PORT or device can't be reached.
     CannotConnect(&'a str),
 
-    /// The line failed during a load or a look, before the start was typed.
+    /// The line failed during a load, a look or a probe, before a start was typed.
     LineFailed,
 
     /// The line failed once the start was typed or may have been: the program may be running.
@@ -57,7 +58,7 @@ pub enum Failure<'a> {
 
 impl<'a> Failure<'a> {
     ghost use Rattle.std.specs.Prelude.{◌≡◌, ◌-◌, slice_get};
-    ghost use Rattle.endings.specs.Failure.{status_of, IsFailureOf, IsLoadFailureOf, IsLookFailureOf, NamesTape};
+    ghost use Rattle.endings.specs.Failure.{status_of, IsFailureOf, IsLoadFailureOf, IsLookFailureOf, IsProbeFailureOf, NamesTape};
 
     /// The failure that a command's fault is, where its tapes and its script have these names. A tape
     /// that has no name is standard input's.
@@ -118,6 +119,17 @@ impl<'a> Failure<'a> {
             LookFault::Connect => Failure::CannotConnect(address),
             LookFault::WriteOutput => Failure::CannotWrite,
             LookFault::Memory => Failure::NoMemory,
+        }
+    }
+
+    /// The failure that a probe's fault is, where its console has this name.
+    pub fn of_probe(fault: ProbeFault, address: &'a str) -> Failure<'a>
+        ensures { IsProbeFailureOf fault address.entry.now result }
+    {
+        match fault {
+            ProbeFault::Connect => Failure::CannotConnect(address),
+            ProbeFault::WriteOutput => Failure::CannotWrite,
+            ProbeFault::Memory => Failure::NoMemory,
         }
     }
 

@@ -1,6 +1,7 @@
 use crate::failure::Failure;
 use host_core::End;
 use machine_look::{SaveEnd, VerifyEnd};
+use probe_report::ProbeEnd;
 
 /// How the program ended, as its exit status says.
 #[derive(Clone, Copy, Debug, PartialEq, Eq)]
@@ -21,7 +22,8 @@ pub enum Status {
     /// or its record failed.
     DeviceFailed,
 
-    /// The host gave up, a word was not there or did not hold, or the turns were over with no end.
+    /// The host gave up, a word was not there or did not hold, or the turns were over with no end; or a
+    /// console has no prompt or is not to be trusted.
     NotLoaded,
 
     /// The load may have started the program, or not.
@@ -33,7 +35,7 @@ pub enum Status {
 
 impl Status {
     ghost use Rattle.std.specs.Prelude.{◌≡◌};
-    ghost use Rattle.endings.specs.Status.{after_save, after_verify, end_status, status_code};
+    ghost use Rattle.endings.specs.Status.{after_probe, after_save, after_verify, end_status, status_code};
 
     /// The status after a load that ended so.
     pub fn of_end(end: End) -> Status
@@ -68,6 +70,21 @@ impl Status {
             SaveEnd::Saved => Ok(Status::Done),
             SaveEnd::NoWord(_) | SaveEnd::GaveUp | SaveEnd::TurnsOver => Ok(Status::NotLoaded),
             SaveEnd::LineFailed(_) => Err(Failure::LineFailed),
+        }
+    }
+
+    /// The status after a `probe` that ended so, or the failure that it is where its line failed.
+    pub fn after_probe(end: ProbeEnd) -> Result<Status, Failure<'static>>
+        ensures { result ≡ after_probe end }
+    {
+        match end {
+            ProbeEnd::Probed => Ok(Status::Done),
+            ProbeEnd::NotTrusted
+            | ProbeEnd::NoPrompt
+            | ProbeEnd::GaveUp
+            | ProbeEnd::NoWord(_)
+            | ProbeEnd::TurnsOver => Ok(Status::NotLoaded),
+            ProbeEnd::LineFailed(_) => Err(Failure::LineFailed),
         }
     }
 

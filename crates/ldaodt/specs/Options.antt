@@ -13,8 +13,9 @@ use Rattle.odt_machine.specs.Style.{style_number}
 use Rattle.requests.specs.declared.request.Console.{Console}
 use Rattle.requests.specs.declared.request.Load.{Load}
 use Rattle.requests.specs.declared.request.Look.{Look}
+use Rattle.requests.specs.declared.request.Probe.{Probe}
 use Rattle.requests.specs.declared.request.Request.{Request}
-use Rattle.requests.specs.declared.request.Request.TheVariants.{CheckInput, Check, Dialogue, Rehearse, «Type» as TypeKeys, Load as Loads, Verify, Save as Saves}
+use Rattle.requests.specs.declared.request.Request.TheVariants.{CheckInput, Check, Dialogue, Rehearse, «Type» as TypeKeys, Load as Loads, Verify, Save as Saves, Probe as Probes}
 use Rattle.requests.specs.declared.request.Save.{Save}
 use Rattle.ldaodt.specs.Addresses.{IsEvenText, IsOctalText, IsWordText}
 
@@ -56,6 +57,11 @@ abbrev pub IsSavedStart : Option (List ℕ) → ℕ → Type 0
 IsSavedStart None start = start ≡ 1
 IsSavedStart (Some text) start = IsOctalText text start
 
+-- the address of the word at which a probe is made: the one that is given, or 001000
+abbrev pub IsProbedWord : Option (List ℕ) → ℕ → Type 0
+IsProbedWord None address = address ≡ 0o001000
+IsProbedWord (Some text) address = IsWordText text address
+
 -- the names of further tapes, in order
 abbrev pub more_in : Found → List (List ℕ)
 more_in found = option_map_or raw_values (matched_of found (codes "MORE")) []
@@ -79,7 +85,7 @@ pub record IsLoadOf (found : Found) (load : Load) : Type 0 where
   pub listen : IsNumberGiven found (codes "listen") load.listen
   pub start : IsStartOf found load.start
 
--- a look is what the arguments and options of `verify` and `save` say
+-- a look is what the arguments and options of `verify`, `save` and `probe` say
 pub record IsLookOf (found : Found) (look : Look) : Type 0 where
   pub line : first_value found (codes "LINE") ≡ Some look.line.now
   pub patience : IsNumberOf found (codes "patience") 8 look.patience
@@ -96,6 +102,11 @@ pub record IsSaveOf (found : Found) (save : Save) : Type 0 where
   pub start : IsSavedStart (first_value found (codes "start")) save.start
   pub look : IsLookOf found save.look
 
+-- a probe is what the arguments and options of `probe` say
+pub record IsProbeOf (found : Found) (probe : Probe) : Type 0 where
+  pub address : IsProbedWord (first_value found (codes "address")) probe.address
+  pub look : IsLookOf found probe.look
+
 -- a request is what the arguments and options of its command say
 abbrev pub IsRequestOf : Found → Request → Type 0
 IsRequestOf found (Check names) = AreTapes found names.items
@@ -107,4 +118,5 @@ IsRequestOf found (TypeKeys console) = IsConsoleOf found console
 IsRequestOf found (Loads names load) = AreTapes found names.items × IsLoadOf found load
 IsRequestOf found (Verify names look) = AreTapes found names.items × IsLookOf found look
 IsRequestOf found (Saves file save) = (first_value found (codes "FILE") ≡ Some file.now) × IsSaveOf found save
+IsRequestOf found (Probes probe) = IsProbeOf found probe
 IsRequestOf found CheckInput = ⊥

@@ -12,17 +12,17 @@ mod shown_words;
 mod texts;
 mod values;
 
-use addresses::{range_of, saved_start_of, start_of};
+use addresses::{probed_of, range_of, saved_start_of, start_of};
 use clap::ArgMatches;
 use machine_load::LoadOptions;
 pub(crate) use no_request::NoRequest;
 use options::{FILE, LISTEN, PATIENCE, QUIET, RECHECK, RECORD, SCRIPT, TAPE};
-use requests::{Load, Look, Request, Save};
+use requests::{Load, Look, Probe, Request, Save};
 use shown_words::{have_control, shown_words};
 use std::alloc::Global;
 use values::{console_of, further_tapes_of, line_of, number_given, number_of, tapes_of, text_of};
 
-// How many mishaps a load or a look survives where nothing else is said.
+// How many mishaps a load, a look or a probe survives where nothing else is said.
 const PLAIN_PATIENCE: u16 = 8;
 
 // How many milliseconds of silence mean that nothing more is coming, where nothing else is said.
@@ -77,6 +77,7 @@ fn request_of<'a>(alloc: Global, matches: &ArgMatches<'a>) -> Result<Request<'a>
         Some(("load", found)) => loading_of(alloc, found),
         Some(("verify", found)) => verifying_of(alloc, found),
         Some(("save", found)) => saving_of(alloc, found),
+        Some(("probe", found)) => probing_of(alloc, found),
         Some(("check", found)) => Ok(Request::Check(tapes_of(alloc, found)?)),
         Some(("dialogue", found)) => dialogue_of(alloc, found),
         Some(("rehearse", found)) => rehearsal_of(alloc, found),
@@ -130,6 +131,16 @@ fn saving_of<'a>(alloc: Global, found: &ArgMatches<'a>) -> Result<Request<'a>, N
     let range = range_of(alloc, found)?;
     let start = saved_start_of(alloc, found)?;
     Ok(Request::Save(file, Save { range, start, look }))
+}
+
+// The probe of a machine's console.
+fn probing_of<'a>(alloc: Global, found: &ArgMatches<'a>) -> Result<Request<'a>, NoRequest>
+    ensures value { IfOk result (IsRequestOf (found_of found.now)) }
+    ensures some { IfOk result (λ request. request ≢ Request.CheckInput) }
+{
+    let look = look_of(alloc, found)?;
+    let address = probed_of(alloc, found)?;
+    Ok(Request::Probe(Probe { address, look }))
 }
 
 // A look at a machine.

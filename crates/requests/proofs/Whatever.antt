@@ -3,7 +3,7 @@ use Rattle.std.proofs.Common.{List, inl, inr, ⊎_elim}
 use Rattle.endings.specs.declared.failure.Failure.{Failure}
 use Rattle.endings.specs.Streams.{Held}
 use Rattle.requests.specs.declared.request.Request.{Request}
-use Rattle.requests.specs.declared.request.Request.TheVariants.{CheckInput, Check, Dialogue, Rehearse, «Type» as TypeKeys, Load, Verify, Save}
+use Rattle.requests.specs.declared.request.Request.TheVariants.{CheckInput, Check, Dialogue, Rehearse, «Type» as TypeKeys, Load, Verify, Save, Probe}
 use Rattle.requests.specs.Attempt.{IsFailed}
 use Rattle.requests.specs.Files.{Known, Name, FailsUnopened}
 
@@ -28,3 +28,4 @@ module _ (before : Held) (input out err err' : Known) (failure : Failure) where
   failed_whatever (Load names load) is = ⊎_elim (λ no_plan. inl (⊎_elim (λ u. inl (unopened names.items u)) (λ t. inr t) no_plan)) (λ p. inr p) is
   failed_whatever (Verify names look) is = ⊎_elim (λ no_plan. inl (⊎_elim (λ u. inl (unopened names.items u)) (λ t. inr t) no_plan)) (λ p. inr p) is
   failed_whatever (Save name save) is = is
+  failed_whatever (Probe request) is = is

@@ -7,10 +7,11 @@ use Rattle.endings.specs.declared.status.Status.TheVariants.{Done}
 use Rattle.endings.specs.Failure.{status_of, IsTold}
 use Rattle.endings.specs.Streams.{Held}
 use Rattle.requests.specs.declared.request.Request.{Request}
-use Rattle.requests.specs.declared.request.Request.TheVariants.{CheckInput, Check, Dialogue, Rehearse, «Type» as TypeKeys, Load, Verify, Save}
+use Rattle.requests.specs.declared.request.Request.TheVariants.{CheckInput, Check, Dialogue, Rehearse, «Type» as TypeKeys, Load, Verify, Save, Probe}
 use Rattle.requests.specs.Checking.{AreChecked, AreUnchecked, IsInputChecked, IsInputUnchecked}
 use Rattle.requests.specs.Loading.{AreLoaded, AreUnloaded}
 use Rattle.requests.specs.Looking.{AreVerified, AreUnverified, IsSaved, IsSaveFailure}
+use Rattle.requests.specs.Probing.{IsConsoleProbed, IsProbeFailure}
 use Rattle.requests.specs.Rehearsing.{AreRehearsed, AreUnrehearsed}
 use Rattle.requests.specs.Showing.{AreShown, AreUnshown}
 use Rattle.requests.specs.Typing.{IsTypedThrough, IsTypingFailure}
@@ -25,6 +26,7 @@ IsDone (TypeKeys console) before after status = IsTypedThrough console before af
 IsDone (Load names load) before after status = AreLoaded names.items load before after status
 IsDone (Verify names look) before after status = AreVerified names.items look before after status
 IsDone (Save name save) before after status = IsSaved save before.out after.out status × (after.input ≡ before.input)
+IsDone (Probe request) before after status = IsConsoleProbed request before.out after.out status × (after.input ≡ before.input)
 
 -- a request failed
 abbrev pub IsFailed : Request → Held → Held → Failure → Type 0
@@ -36,6 +38,7 @@ IsFailed (TypeKeys console) before after failure = IsTypingFailure console befor
 IsFailed (Load names load) before after failure = AreUnloaded names.items load before after failure
 IsFailed (Verify names look) before after failure = AreUnverified names.items look before after failure
 IsFailed (Save name save) before after failure = IsSaveFailure name save before.out after.out failure × (after.input ≡ before.input)
+IsFailed (Probe request) before after failure = IsProbeFailure request before.out after.out failure × (after.input ≡ before.input)
 
 -- it was done, with this status, and standard error has nothing of it
 pub record IsDoneQuietly (request : Request) (before after : Held) (status : Status) : Type 0 where

@@ -4,6 +4,7 @@ pub mod Files
 pub mod Listening
 pub mod Loading
 pub mod Looking
+pub mod Probing
 pub mod Rehearsing
 pub mod Showing
 pub mod Typing

@@ -6,6 +6,7 @@ ghost use Rattle.requests.specs.Attempt.{IsDone, IsFailed, IsAttempted};
 
 use crate::checking::{check_input, check_tapes};
 use crate::loading::load_tapes;
+use crate::probing::probe_console;
 use crate::rehearsing::rehearse;
 use crate::request::Request;
 use crate::saving::save_words;
@@ -23,8 +24,8 @@ use std::time::Clock;
 /// Does a request and answers the exit status, or tells why not, with the status that says so.
 ///
 /// Reports go to standard output, which is flushed; a fault goes to standard error as one line, in one
-/// write. What can't be written there is not told. A host at a machine shows on the terminal how far it
-/// is, where there is one.
+/// write. What can't be written there is not told. A load of a machine and a look at it show on the
+/// terminal, where there is one, how far they are.
 ///
 /// What is asked of the caller is only that a value of the input's type fits into memory, as each type
 /// of a program does. It has to be said where the type is not known, since the input is lent as a slice of
@@ -78,5 +79,6 @@ fn perform<'a, F: Locks + Devices + Net + Clock, R: Read, W: Write, E: Write, T:
         Request::Load(names, load) => load_tapes(rt, alloc, &names, load, streams, terminal),
         Request::Verify(names, look) => verify_tapes(rt, alloc, &names, look, streams, terminal),
         Request::Save(name, save) => save_words(rt, alloc, name, save, &mut streams.out, terminal),
+        Request::Probe(request) => probe_console(rt, alloc, request, &mut streams.out),
     }
 }

@@ -3,8 +3,8 @@
 //! A `Request` names a command, its files and its options. `attempt` does it and answers the exit
 //! status; where it can't be done, one line on standard error says why, by the name of the file that
 //! was at fault. Each command's own contract stands in its crate: `tape_check`, `console_typing`,
-//! `rehearsals`, `machine_load`, `machine_look`. Which status and which line an end or a fault becomes
-//! stands in `endings`.
+//! `rehearsals`, `machine_load`, `machine_look`, `machine_probe`. Which status and which line an end or
+//! a fault becomes stands in `endings`.
 //!
 //! The program `ldaodt` makes the request of the words of its command line.
 #![tactic(auto)]
@@ -16,6 +16,7 @@ mod host;
 mod listening;
 mod loading;
 mod planning;
+mod probing;
 mod rehearsing;
 mod request;
 mod saving;
@@ -24,4 +25,4 @@ mod typing;
 mod verifying;
 
 pub use handling::attempt;
-pub use request::{Console, Load, Look, Request, Save};
+pub use request::{Console, Load, Look, Probe, Request, Save};

@@ -1,3 +1,5 @@
+ghost use Rattle.reading_core.specs.Addresses.{IsAddress};
+
 use machine_load::LoadOptions;
 use machine_look::AddressRange;
 use odt_machine::Style;
@@ -32,6 +34,9 @@ pub enum Request<'a> {
 
     /// Save words of a real machine as a tape, in a file of this name, which is not there yet.
     Save(&'a str, Save<'a>),
+
+    /// Find out what stands at the other end of a line, and whether it may be trusted.
+    Probe(Probe<'a>),
 }
 
 /// A simulated console: how many words its machine has, and how it answers.
@@ -90,4 +95,15 @@ pub struct Save<'a> {
 
     /// How the machine is looked at.
     pub look: Look<'a>,
+}
+
+/// A probe of a real machine's console.
+#[derive(Clone, Copy, Debug, PartialEq, Eq)]
+pub struct Probe<'a> {
+    /// The address of the word that is tried: even, and below 160000 (octal).
+    pub address: u16,
+
+    /// How the machine is looked at.
+    pub look: Look<'a>,
+    ghost in_memory: { IsAddress address },
 }

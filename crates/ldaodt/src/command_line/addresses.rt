@@ -1,12 +1,13 @@
 //! Addresses on the command line.
 ghost use Rattle.std.specs.Prelude.{◌≤◌, ◌-◌, ◌++◌, length, replicate, IfSome, IfOk, codes};
 ghost use Rattle.octal.specs.Octal.{IsOct6};
+ghost use Rattle.reading_core.specs.Addresses.{IsAddress};
 ghost use Rattle.clap.specs.Matches.{found_of, first_value};
 ghost use Rattle.ldaodt.specs.Addresses.{IsEvenText, IsOctalText, IsWordText};
-ghost use Rattle.ldaodt.specs.Options.{IsRangeOf, IsSavedStart, IsStartOf};
+ghost use Rattle.ldaodt.specs.Options.{IsProbedWord, IsRangeOf, IsSavedStart, IsStartOf};
 
 use super::no_request::NoRequest;
-use super::options::{FROM, NO_START, START, TO};
+use super::options::{ADDRESS, FROM, NO_START, START, TO};
 use super::refusals::invalid_value;
 use super::values::text_of;
 use clap::ArgMatches;
@@ -28,6 +29,9 @@ const IS_BELOW: &str = "the last address is below the first";
 
 // The start address of a tape that starts nothing.
 const STARTS_NOTHING: u16 = 0o000001;
+
+// The address of the word at which a probe is made where nothing else is said.
+const PLAIN_WORD: u16 = 0o001000;
 
 // The first address that no word of memory has.
 const TOP: u16 = 0o160000;
@@ -85,6 +89,17 @@ pub(crate) fn range_of(alloc: Global, found: &ArgMatches<'_>) -> Result<AddressR
     match AddressRange::new(from, to) {
         Some(range) => Ok(range),
         None => Err(invalid_value(alloc, last, "<TO>", IS_BELOW)),
+    }
+}
+
+/// The address of the word at which a probe is made.
+pub(crate) fn probed_of(alloc: Global, found: &ArgMatches<'_>) -> Result<u16, NoRequest>
+    ensures value { IfOk result (IsProbedWord (first_value (found_of found.now) (codes "address"))) }
+    ensures in_memory { IfOk result IsAddress }
+{
+    match found.get_str(ADDRESS) {
+        Some(text) => word_of(alloc, text, "--address <AAAAAA>"),
+        None => Ok(PLAIN_WORD),
     }
 }
 

@@ -1,9 +1,9 @@
 //! The commands, as the parser is told of them.
 
 use super::options::{
-    FILE, FROM, LINE, SCRIPT, TO, argument, console_options, listen_option, look_options,
-    more_argument, no_start_option, recheck_option, record_option, saved_start_option,
-    start_option, tape_argument,
+    FILE, FROM, LINE, SCRIPT, TO, address_option, argument, console_options, listen_option,
+    look_options, more_argument, no_start_option, recheck_option, record_option,
+    saved_start_option, start_option, tape_argument,
 };
 use super::texts;
 use clap::{Arg, Command};
@@ -31,6 +31,7 @@ fn subcommands<'a>(alloc: Global) -> Result<Vec<Command<'a>>, AllocError> {
     commands.push(load_command(alloc)?)?;
     commands.push(verify_command(alloc)?)?;
     commands.push(save_command(alloc)?)?;
+    commands.push(probe_command(alloc)?)?;
     commands.push(check_command(alloc)?)?;
     commands.push(dialogue_command(alloc)?)?;
     commands.push(rehearse_command(alloc)?)?;
@@ -73,6 +74,13 @@ fn save_command<'a>(alloc: Global) -> Result<Command<'a>, AllocError> {
             argument(alloc, TO, "The last word's address, not below the first"),
             saved_start_option(alloc),
         ]?)?
+        .args(look_options(alloc)?)
+}
+
+fn probe_command<'a>(alloc: Global) -> Result<Command<'a>, AllocError> {
+    let about = "Finds out what console is there, and whether it may be trusted";
+    command(alloc, "probe", about, texts::PROBE)
+        .args(vec![in alloc; argument(alloc, LINE, LINE_HELP), address_option(alloc)]?)?
         .args(look_options(alloc)?)
 }
 

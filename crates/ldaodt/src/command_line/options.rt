@@ -32,13 +32,15 @@ pub(crate) const START: &str = "start";
 
 pub(crate) const NO_START: &str = "no-start";
 
+pub(crate) const ADDRESS: &str = "address";
+
 pub(crate) const LISTEN: &str = "listen";
 
 pub(crate) const PATIENCE: &str = "patience";
 
 pub(crate) const QUIET: &str = "quiet";
 
-// The most mishaps that a load or a look may be asked to survive.
+// The most mishaps that a load, a look or a probe may be asked to survive.
 const LARGEST_PATIENCE: u16 = 1000;
 
 // The shortest and the longest silence, in milliseconds, that may be taken to mean that nothing more is
@@ -121,6 +123,11 @@ pub(crate) fn listen_option<'a>(alloc: Global) -> Arg<'a> {
     option(alloc, LISTEN, "SECONDS", help).value_parser(value_parser!(u16).range(
         i64::from(SHORTEST_LISTENING)..=i64::from(LONGEST_LISTENING),
     ))
+}
+
+pub(crate) fn address_option<'a>(alloc: Global) -> Arg<'a> {
+    let help = "The word that is tried: octal, even, below 160000\n[default: 001000]";
+    option(alloc, ADDRESS, "AAAAAA", help)
 }
 
 /// The options of whatever meets a machine.

@@ -15,7 +15,8 @@ Exit status:
   4  a file could not be read or something not be written, the file of a new
      tape is there already, a record is another load's at the time, there was
      no connection, or the line failed
-  5  a load, verify or save ended GaveUp, NoWord, WontHold or TurnsOver
+  5  a load, verify, save or probe ended GaveUp, NoWord, WontHold, TurnsOver,
+     NoPrompt or NotTrusted
   6  a load ended Uncertain or MaybeStarted: the program may be running
   7  out of memory
 Each fault but a refused command line is one line on standard error; a line
@@ -83,6 +84,28 @@ Exit status:
 
 Example, what is at the bottom of memory, before anything is loaded:
   ldaodt save before.lda /dev/ttyUSB0 0 7776";
+
+/// Of `probe`.
+pub(crate) const PROBE: &str = "\
+One word is looked at, opened, three digits are typed and then a Z, and it is
+looked at again: a console that forgets what was typed may be trusted. Then it
+is found out where memory ends. Where the word became another one, so that the
+console stores at a wrong key, the old one is put back. Nothing else is typed
+that changes memory, and nothing that starts anything.
+
+Leave the console at its @ before: what stands typed behind an open word could
+be stored.
+
+Exit status:
+  0  the probe ended Probed: the console forgets digits
+  4  the output could not be written, there was no connection, or the line
+     failed
+  5  the probe ended NotTrusted: do not load this machine; NoPrompt: there was
+     no @; GaveUp: there was one, but too many mishaps; NoWord: memory has no
+     word at the address; or TurnsOver: the line never falls silent
+
+Example, before the first load:
+  ldaodt probe /dev/ttyUSB0";
 
 /// Of `check`.
 pub(crate) const CHECK: &str = "\

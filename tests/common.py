@@ -1,6 +1,7 @@
 """What the tests share: a folder for each test, the program run in it, and a machine to load."""
 import os
 import pty
+import re
 import shutil
 import socket
 import subprocess
@@ -91,6 +92,16 @@ class LateConsole(Console):
         if len(self.typed) == 5:
             time.sleep(self.seconds)
         return answer
+
+
+def pace(words):
+    """The two lines of a probe's pace, without what varies in them."""
+    return f"a key and a load of {words} words"
+
+
+def timeless(text):
+    """What a probe has printed, with its pace so."""
+    return re.sub(r"^key \d+\.\d ms\na load of (\d+) words takes \d+ (?:seconds|minutes|hours) at this pace$", pace(r"\1"), text, flags=re.MULTILINE)
 
 
 class Noted(unittest.TestResult):

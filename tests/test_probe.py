@@ -15,7 +15,7 @@ import time
 import unittest
 from concurrent.futures import ThreadPoolExecutor
 
-from common import Case, Console, DeafConsole, Keeping, Losing, LossyConsole, SlowConsole
+from common import Case, Console, DeafConsole, Keeping, Losing, LossyConsole, SlowConsole, pace, timeless
 from outside import NO_OUTPUT, PROGRAM
 import odt_peer
 
@@ -128,15 +128,6 @@ def searched(words):
 
 def said(*lines):
     return "".join(f"{it}\n" for it in lines)
-
-
-def pace(words):
-    """The two lines of a pace, without what varies in them."""
-    return f"a key and a load of {words} words"
-
-
-def timeless(text):
-    return re.sub(r"^key \d+\.\d ms\na load of (\d+) words takes \d+ (?:seconds|minutes|hours) at this pace$", pace(r"\1"), text, flags=re.MULTILINE)
 
 
 def found(style=0, words=28672, more=()):

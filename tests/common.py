@@ -94,6 +94,18 @@ class LateConsole(Console):
         return answer
 
 
+class BabblingPeer(odt_peer.Peer):
+    """Before it is a console, it sends so many characters that nobody asked for."""
+
+    def __init__(self, machine, count):
+        super().__init__(machine)
+        self.babble = count
+
+    def talk(self, receive, send):
+        send(b"@" * self.babble)
+        return super().talk(receive, send)
+
+
 def pace(words):
     """The two lines of a probe's pace, without what varies in them."""
     return f"a key and a load of {words} words"

@@ -10,7 +10,8 @@ from common import Case
 from outside import HELLO, PROGRAM, TOP, run
 
 ROW = re.compile(r"^\|(.*)\|$", re.MULTILINE)
-ENDS = re.compile(r"\b(Loaded|Started|Uncertain|MaybeStarted|GaveUp|NoWord|WontHold|TurnsOver|LineFailed|KeepFailed|Same|Differs|Saved|Probed|NotTrusted|NoPrompt)\b")
+ENDS = re.compile(r"\b(Loaded|Started|Uncertain|MaybeStarted|GaveUp|NoWord|WontHold|TurnsOver|LineFailed|KeepFailed|Same|Differs|Saved"
+                  r"|Probed|NotTrusted|NoPrompt)\b")
 
 
 def text_at(name):

@@ -15,7 +15,7 @@ import time
 import unittest
 from concurrent.futures import ThreadPoolExecutor
 
-from common import Case, Console, DeafConsole, Keeping, Losing, LossyConsole, SlowConsole, pace, timeless
+from common import BabblingPeer, Case, Console, DeafConsole, Keeping, Losing, LossyConsole, SlowConsole, pace, timeless
 from outside import NO_OUTPUT, PROGRAM
 import odt_peer
 
@@ -456,6 +456,21 @@ class Strangers(Probes):
             self.assertEqual(len(shown) - shown.count("\\"), 40)
             self.is_so(line.machine.typed, "")
             self.assertGreaterEqual(line.answered, 10_800)
+
+    def test_the_turns_of_a_run(self):
+        """Behind characters that nobody asked for a look hears a silence, 4 characters to `Z` and 17 to the word."""
+        def trial(row):
+            patience, more = row
+            line = BabblingPeer(Console(), 10_000 + 100 * patience - 22 + more)
+            self.addCleanup(line.close)
+            line.address = line.name
+            return self.probe_rightly(line, f"--patience {patience}")
+
+        for (patience, more), given in self.at_once(trial, [(patience, more) for patience in (0, 8) for more in (0, 1)]):
+            with self.subTest(patience, more=more):
+                characters = "@" * 40 + "?\r\n@001000/000000 \r\n"
+                over = said("prompt yes", heard(characters), look_at("It never falls silent"), "end TurnsOver")
+                self.ends(given, 5 if more else 0, over if more else found())
 
     def test_the_echo_left_on(self):
         """A device that sends back what it hears never falls silent."""

@@ -308,13 +308,13 @@ class Known(Probes):
             self.ends(self.probe_rightly(line, "--patience 0"), 0, found())
 
     def test_the_pace(self):
-        """A console takes ten milliseconds for each key, and 25 characters of a look are eight keys or seven."""
-        line = self.console_at(SlowConsole(words=1024))
-        given = self.ldaodt(self.words_of(line))
+        """A console takes ten milliseconds for each of a look's eight keys, and a load types 62 characters for 25 of a look."""
+        given = self.ldaodt(self.words_of(self.console_at(SlowConsole(words=1024))))
         key = re.search(r"^key (\d+\.\d) ms$", given.out, re.MULTILINE)
-        load = re.search(r"^a load of 1024 words takes (\d+) (seconds|minutes|hours) at this pace$", given.out, re.MULTILINE)
+        count, unit = re.search(r"^a load of 1024 words takes (\d+) (seconds|minutes|hours) at this pace$", given.out, re.MULTILINE).groups()
+        unit = {"seconds": 1, "minutes": 60, "hours": 3600}[unit]
         self.assertGreaterEqual(float(key[1]), 10)
-        self.assertGreaterEqual(int(load[1]) * {"seconds": 1, "minutes": 60, "hours": 3600}[load[2]], 1024 * 62 / 25 * 7 * 0.01)
+        self.assertGreaterEqual((int(count) + 0.5) * unit, 1024 * 62 / 25 * 8 * 0.01)
 
     def test_no_files_are_made(self):
         self.probe_rightly(self.console_at(Console()))

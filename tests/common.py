@@ -1,7 +1,9 @@
 """What the tests share: a folder for each test, the program run in it, and a machine to load."""
 import os
 import pty
+import re
 import shutil
+import socket
 import subprocess
 import sys
 import tempfile
@@ -25,27 +27,57 @@ TAPES = {
 QUIET, LONG_QUIET = 200, 3000
 
 
-class Console(odt_peer.Machine):
-    """A machine that keeps which keys were typed at it, and when."""
+class Keeping:
+    """A machine that keeps which keys were typed at it, and when, and what it answered."""
 
-    def __init__(self, words=28672, memory=None, says=()):
-        super().__init__(words, says=says)
-        self.typed, self.times = "", []
+    def __init__(self, words=28672, memory=None, style=0, says=()):
+        super().__init__(words, style, says)
+        self.typed, self.times, self.said = "", [], ""
         for address, value in (memory or {}).items():
             self.words[address // 2] = value
 
     def take(self, key):
         self.typed += key
         self.times.append(time.monotonic())
+        answer = super().take(key)
+        self.said += answer
+        return answer
+
+
+class Losing:
+    """A machine behind a line that loses one character: the key or the answer's character that comes as this one."""
+
+    def __init__(self, lost_key=None, lost_answer=None, **named):
+        super().__init__(**named)
+        self.lost_key, self.lost_answer = lost_key, lost_answer
+
+    def take(self, key):
+        if len(self.typed) == self.lost_key:
+            self.typed += key
+            return ""
+        place = None if self.lost_answer is None else self.lost_answer - len(self.said)
+        answer = super().take(key)
+        return answer if place is None or not 0 <= place < len(answer) else answer[:place] + answer[place + 1:]
+
+
+class Console(Keeping, odt_peer.Machine):
+    """ODT, as docs/CONSOLE.md has it."""
+
+
+class LossyConsole(Losing, Console):
+    """ODT behind such a line."""
+
+
+class SlowConsole(Console):
+    """It takes its time for each key."""
+
+    def take(self, key):
+        time.sleep(0.01)
         return super().take(key)
 
 
-class DeafConsole(Console):
+class DeafConsole(Keeping, odt_peer.DeadMachine):
     """It answers nothing."""
-
-    def take(self, key):
-        super().take(key)
-        return ""
 
 
 class LateConsole(Console):
@@ -60,6 +92,28 @@ class LateConsole(Console):
         if len(self.typed) == 5:
             time.sleep(self.seconds)
         return answer
+
+
+class BabblingPeer(odt_peer.Peer):
+    """Before it is a console, it sends so many characters that nobody asked for."""
+
+    def __init__(self, machine, count):
+        super().__init__(machine)
+        self.babble = count
+
+    def talk(self, receive, send):
+        send(b"@" * self.babble)
+        return super().talk(receive, send)
+
+
+def pace(words):
+    """The two lines of a probe's pace, without what varies in them."""
+    return f"a key and a load of {words} words"
+
+
+def timeless(text):
+    """What a probe has printed, with its pace so."""
+    return re.sub(r"^key \d+\.\d ms\na load of (\d+) words takes \d+ (?:seconds|minutes|hours) at this pace$", pace(r"\1"), text, flags=re.MULTILINE)
 
 
 class Noted(unittest.TestResult):
@@ -168,6 +222,18 @@ class Case(unittest.TestCase):
         self.addCleanup(device.close)
         device.address = device.name
         return device
+
+    def lines(self, machine, **named):
+        """The two kinds of line to such a machine, each with one of its own."""
+        yield self.console_at(machine(), **named)
+        yield self.device_at(machine(), **named)
+
+    def taken_port(self):
+        """An address at which nobody listens, and which nobody else can have."""
+        taken = socket.socket()
+        self.addCleanup(taken.close)
+        taken.bind(("127.0.0.1", 0))
+        return f"127.0.0.1:{taken.getsockname()[1]}"
 
     def holds(self, files):
         """Asserts that the test's folder has these files, and no others but tapes."""

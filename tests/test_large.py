@@ -6,8 +6,7 @@ import os
 import unittest
 from concurrent.futures import ThreadPoolExecutor
 
-from common import Case, Console
-from odt_peer import Peer
+from common import BabblingPeer, Case, Console
 from outside import block
 
 WORDS = 28672
@@ -92,18 +91,6 @@ class FullImage(Case):
         self.is_so(left, record_of(IMAGE, 2) + "\nG\n")
         self.is_so([(address, peer.machine.word(address)) for address, _ in due], due)
         self.is_so((set(peer.machine.words[:len(done)]), peer.machine.starts), ({0}, [0]))
-
-
-class BabblingPeer(Peer):
-    """Before it is a console, it sends so many characters that nobody asked for."""
-
-    def __init__(self, machine, count):
-        super().__init__(machine)
-        self.babble = count
-
-    def talk(self, receive, send):
-        send(b"@" * self.babble)
-        return super().talk(receive, send)
 
 
 class Turns(Case):

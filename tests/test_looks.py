@@ -8,13 +8,12 @@ import os
 import random
 import re
 import signal
-import socket
 import subprocess
 import time
 import unittest
 from concurrent.futures import ThreadPoolExecutor
 
-from common import Case, Console, DeafConsole
+from common import Case, Console, DeafConsole, LossyConsole, SlowConsole
 from outside import NO_OUTPUT, PROGRAM, Answer, bytes_of, tape_of
 
 FAILED = "ldaodt: line failed\n"
@@ -42,31 +41,6 @@ def as_tape(address, words, start=1):
     """The plain tape of words: blocks of 512 bytes, the last one shorter."""
     data = b"".join(it.to_bytes(2, "little") for it in words)
     return tape_of([(address + place, data[place:place + 512]) for place in range(0, len(data), 512)], start)
-
-
-class LossyConsole(Console):
-    """A machine behind a line that loses one character: the key or the answer's character that comes as this one."""
-
-    def __init__(self, lost_key=None, lost_answer=None, **named):
-        super().__init__(**named)
-        self.lost_key, self.lost_answer, self.answered = lost_key, lost_answer, 0
-
-    def take(self, key):
-        if len(self.typed) == self.lost_key:
-            self.typed += key
-            return ""
-        answer = super().take(key)
-        place = None if self.lost_answer is None else self.lost_answer - self.answered
-        self.answered += len(answer)
-        return answer if place is None or not 0 <= place < len(answer) else answer[:place] + answer[place + 1:]
-
-
-class SlowConsole(Console):
-    """It takes its time for each key."""
-
-    def take(self, key):
-        time.sleep(0.01)
-        return super().take(key)
 
 
 class Looks(Case):
@@ -115,20 +89,8 @@ class Looks(Case):
             self.assertLess(time.monotonic(), end, "it never came to that")
             time.sleep(0.005)
 
-    def lines(self, machine, **named):
-        """The two kinds of line to such a machine, each with one of its own."""
-        yield self.console_at(machine(), **named)
-        yield self.device_at(machine(), **named)
-
     def was_typed(self, line, keys):
         self.is_so(line.machine.typed, keys)
-
-    def taken_port(self):
-        """An address at which nobody listens, and which nobody else can have."""
-        taken = socket.socket()
-        self.addCleanup(taken.close)
-        taken.bind(("127.0.0.1", 0))
-        return f"127.0.0.1:{taken.getsockname()[1]}"
 
 
 class Verify(Looks):

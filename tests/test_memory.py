@@ -11,7 +11,7 @@ import tempfile
 import unittest
 from concurrent.futures import ProcessPoolExecutor, ThreadPoolExecutor
 
-from common import Case, Console
+from common import Case, Console, timeless
 from outside import FIRST, PAGE, PROGRAM, Answer, block, bytes_of, is_want, run, sweep
 
 # Words of a large tape, which is loaded at 001000 and starts there: more than what the program has room for at once.
@@ -49,6 +49,7 @@ LINES = (
     ("verify wordless.lda [::1]:1", b"", 0),
     ("verify full.lda ./nothing", b"", 4),
     ("save new.lda 127.0.0.1:1 0 157776", b"", 4),
+    ("probe 127.0.0.1:1", b"", 4),
     ("help load", b"", 0),
     ("load small.lda", b"", 2),
     ("x" * 100000, b"", 2),
@@ -102,8 +103,8 @@ class Starving(Console):
 
 
 class BehindTheConnection(Case):
-    """Looks that get no more memory once they have begun to type: a whole answer, or the line that memory is wanting, and
-    a tape that is whole or not there. The machine's memory is what it was."""
+    """Looks and probes that get no more memory once they have begun to type: a whole answer, or the line that memory is
+    wanting, and a tape that is whole or not there. The machine's memory is what it was."""
 
     WORDS = 1024
 
@@ -115,7 +116,7 @@ class BehindTheConnection(Case):
         self.put("a.lda", self.tape)
 
     def look(self, words, spare=1 << 30, at_key=0):
-        """Looks, with so much memory more from one key on."""
+        """Looks or probes, with so much memory more from one key on."""
         machine = Starving(spare, at_key, words=self.WORDS, memory=self.memory)
         before, line = list(machine.words), self.console_at(machine)
         command = [PROGRAM, *(line.address if it == "LINE" else it for it in words), "--quiet", str(self.quiet)]
@@ -123,7 +124,7 @@ class BehindTheConnection(Case):
         out, err = machine.process.communicate(timeout=120)
         line.settle()
         self.is_so((machine.words == before, machine.starts), (True, []))
-        return Answer(machine.process.returncode, out, err)
+        return Answer(machine.process.returncode, timeless(out), err)
 
     def each(self, words):
         """Such looks with nothing more from the first key on, from one in the middle, and from the last."""
@@ -136,6 +137,15 @@ class BehindTheConnection(Case):
         self.is_so((ample.status, ample.out.count(" differs ")), (1, self.WORDS))
         for row, given in self.each(["verify", "a.lda", "LINE"]):
             with self.subTest(row):
+                self.assertTrue(given == ample or is_want(given, ample), f"{given!r:.2000}")
+
+    def test_probe(self):
+        """With nothing more from its first key on, from its trial, and from its search."""
+        ample = self.look(["probe", "LINE"])
+        self.is_so((ample.status, ample.out.split("\n")[-2]), (0, "end Probed"))
+        for at_key in (0, 9, 30):
+            with self.subTest(at_key):
+                given = self.look(["probe", "LINE"], 0, at_key)
                 self.assertTrue(given == ample or is_want(given, ample), f"{given!r:.2000}")
 
     def test_save(self):

@@ -10,7 +10,8 @@ from common import Case
 from outside import HELLO, PROGRAM, TOP, run
 
 ROW = re.compile(r"^\|(.*)\|$", re.MULTILINE)
-ENDS = re.compile(r"\b(Loaded|Started|Uncertain|MaybeStarted|GaveUp|NoWord|WontHold|TurnsOver|LineFailed|KeepFailed|Same|Differs|Saved)\b")
+ENDS = re.compile(r"\b(Loaded|Started|Uncertain|MaybeStarted|GaveUp|NoWord|WontHold|TurnsOver|LineFailed|KeepFailed|Same|Differs|Saved"
+                  r"|Probed|NotTrusted|NoPrompt)\b")
 
 
 def text_at(name):
@@ -64,7 +65,7 @@ class Endings(Case):
         self.statuses = {int(cells[0]): cells[1] for cells in rows_of(section(self.page, "## Statuses")) if cells[0].isdecimal()}
 
     def test_each_ending_has_a_status_that_is_one(self):
-        self.assertGreaterEqual(len(self.ends), 11)
+        self.assertGreaterEqual(len(self.ends), 17)
         self.assertLessEqual(set(self.ends.values()), set(self.statuses))
         for status, when in self.statuses.items():
             for end in ENDS.findall(when):
@@ -100,6 +101,15 @@ class Endings(Case):
             if name and name[1] in self.ends and len(cells) == 3:
                 said[name[1]] = int(cells[1])
         self.is_so(said, {end: status for end, status in self.ends.items() if end != "none"})
+
+    def test_each_heading_that_a_probe_names_is_there(self):
+        """Those of its lines `help`, as the crate of its report has them."""
+        text = text_at("crates/probe_report/src/heard_text.rt")
+        named = [it for it in re.findall(r'b"([A-Z][^"\\]*)"', text) if " " in it]
+        self.is_so(len(named), 5)
+        page = text_at("docs/REAL-MACHINE.md")
+        for heading in named:
+            self.assertIn(f"\n### {heading}\n", page)
 
     def test_each_fault_is_in_the_manual_page(self):
         page = text_at("docs/ldaodt.1")

@@ -1,17 +1,19 @@
 #!/usr/bin/env python3
 """A simulated LSI-11 console behind a TCP port or a serial device, with a line that may lose characters or break.
 
-    tools/odt_peer.py [--port N | --device [--stty "SETTING.."]] [--words N] [--style N] [--says TEXT]
-                      [--loss PERCENT] [--seed N] [--baud N] [--break-after N]
+    tools/odt_peer.py [--port N | --device [--stty "SETTING.."]] [--console KIND] [--words N] [--style N]
+                      [--says TEXT] [--loss PERCENT] [--seed N] [--baud N] [--break-after N]
 
-It is a second console, written from docs/CONSOLE.md alone, for trying `ldaodt load` from outside: the
-built program meets a machine that shares no line of text with it. Without --port the system chooses one;
+It is a second console, written from docs/CONSOLE.md alone, for trying `ldaodt` from outside: the built
+program meets a machine that shares no line of text with it. --console names one that is none as ldaodt
+knows it: see CONSOLES. Without --port the system chooses one;
 with --device it is behind a pseudo-terminal, which is set by stty as a person sets a serial device. It tells
 its port or its device on its first line, and each start and each end of a connection after it. Its memory
 lasts from one connection to the next, as that of a machine does whose cable is pulled. With --says the
 program that is started prints TEXT. It never sees the network: it listens on 127.0.0.1.
 """
 import argparse
+import contextlib
 import os
 import pty
 import random
@@ -28,6 +30,9 @@ ILLEGAL, RUNNING = "illegal", "running"
 class Machine:
     """An LSI-11 as its console shows it. What its program prints, once it is started, is pieces of text, each
     behind so many seconds."""
+
+    # How many digits of a word it prints, and what it prints again and again, unasked.
+    width, chatter = 6, ""
 
     def __init__(self, words=28672, style=0, says=()):
         self.words = [0] * words
@@ -61,7 +66,7 @@ class Machine:
             if self.number % 2 or self.number // 2 >= len(self.words):
                 return self.to_prompt("/?")
             self.mode, self.open_at, self.digits = "open", self.number, 0
-            return f"/{self.blank}{self.word(self.open_at):06o} "
+            return f"/{self.blank}{self.word(self.open_at):0{self.width}o} "
         if self.mode == "number" and key == "G":
             if self.number % 2:
                 return self.to_prompt("G?")
@@ -69,6 +74,60 @@ class Machine:
             self.starts.append(self.number)
             return "G"
         return self.to_prompt(f"{key}?" if self.echoes_illegal else "?")
+
+
+class StoringMachine(Machine):
+    """An illegal key stores the digits that were typed into the open word."""
+
+    def take(self, key):
+        if self.mode == "value" and key not in "01234567\r":
+            self.words[self.open_at // 2] = self.number
+        return super().take(key)
+
+
+class WideMachine(Machine):
+    """It prints eight digits behind a `/`."""
+
+    width = 8
+
+
+class EchoingMachine(Machine):
+    """A loop, or a terminal that sends back what comes."""
+
+    def take(self, key):
+        return key
+
+
+class BootingMachine(Machine):
+    """Another program: it echoes each key, and prints its prompt."""
+
+    def take(self, key):
+        return f"{key}\r\n$ "
+
+
+class DeadMachine(Machine):
+    """Nothing comes back from it, as where that wire is broken."""
+
+    def take(self, key):
+        super().take(key)
+        return ""
+
+
+class EndlessMachine(DeadMachine):
+    """It prints for ever, and answers nothing besides."""
+
+    chatter = "MEMORY TEST PASS\r\n"
+
+
+CONSOLES = {
+    "odt": Machine,
+    "storing": StoringMachine,
+    "wide": WideMachine,
+    "echo": EchoingMachine,
+    "boot": BootingMachine,
+    "dead": DeadMachine,
+    "endless": EndlessMachine,
+}
 
 
 class Line:
@@ -86,8 +145,11 @@ class Line:
 
     def talk(self, receive, send):
         """Lets the machine answer what is received, until nothing is; returns whether the line broke before."""
-        if self.is_over():
-            return True
+        with self.chattering(send):
+            return self.is_over() or self.answer(receive, send)
+
+    def answer(self, receive, send):
+        """The same, beside what it prints unasked."""
         while keys := receive(64):
             for key in keys.decode("latin-1"):
                 self.keys += 1
@@ -106,6 +168,24 @@ class Line:
                 if not self.say(answer, send) or is_started and not self.run(send):
                     return True
         return False
+
+    @contextlib.contextmanager
+    def chattering(self, send):
+        """Lets the machine print meanwhile what it prints unasked."""
+        is_over = threading.Event()
+
+        def chatter():
+            with contextlib.suppress(OSError):
+                while self.machine.chatter and not is_over.wait(0.001) and self.say(self.machine.chatter, send):
+                    pass
+
+        chatterer = threading.Thread(target=chatter)
+        chatterer.start()
+        try:
+            yield
+        finally:
+            is_over.set()
+            chatterer.join()
 
     def say(self, text, send):
         """Sends what the machine prints; returns whether the line still holds."""
@@ -260,6 +340,7 @@ def main():
     words.add_argument("--port", type=int, default=0)
     words.add_argument("--device", action="store_true", help="behind a pseudo-terminal, in place of a port")
     words.add_argument("--stty", default="raw -echo", help="how the device is set: %(default)s")
+    words.add_argument("--console", choices=CONSOLES, default="odt", help="which console: %(default)s")
     words.add_argument("--words", type=int, default=28672)
     words.add_argument("--style", type=int, choices=range(8), default=0)
     words.add_argument("--says", default="", help="what the program prints that is started; \\r and \\n as there")
@@ -270,7 +351,7 @@ def main():
     asked = words.parse_args()
     tell = lambda text: print(text, flush=True)
     says = asked.says.encode("latin-1").decode("unicode_escape")
-    machine = Machine(asked.words, asked.style, [(0, says)])
+    machine = CONSOLES[asked.console](asked.words, asked.style, [(0, says)])
     named = {"loss": asked.loss / 100, "seed": asked.seed, "close_after": asked.break_after, "baud": asked.baud, "tell": tell}
     line = Device(machine, asked.stty, **named) if asked.device else Peer(machine, asked.port, **named)
     tell(line.name)

@@ -1,5 +1,5 @@
 -- What `probe` does (this project's own).
-use Rattle.std.specs.Prelude.{◌≡◌, ℕ, List, [], Option, Some}
+use Rattle.std.specs.Prelude.{◌≡◌, ℕ, List, [], Option}
 use Rattle.std.specs.Io.KnownBytes.{Appends}
 use Rattle.byte_io.specs.Output.{WritesAllBut}
 use Rattle.console_reach.specs.Reached.{OneMoreTime}
@@ -10,12 +10,13 @@ use Rattle.probe_report.specs.declared.findings.Findings.{Findings}
 use Rattle.probe_report.specs.declared.pace.Pace.{Pace}
 use Rattle.probe_report.specs.declared.probe_end.ProbeEnd.{ProbeEnd}
 use Rattle.probe_report.specs.Ending.{probe_end}
-use Rattle.probe_report.specs.Notes.{Noted, noted}
+use Rattle.probe_report.specs.Notes.{Noted}
 use Rattle.probe_report.specs.ProbeText.{probe_text}
 use Rattle.tape_blocks.specs.Told.{IsAsTold}
 use Rattle.machine_probe.specs.declared.probe_options.ProbeOptions.{ProbeOptions}
-use Rattle.machine_probe.specs.Belief.{IsBelievable}
+use Rattle.machine_probe.specs.Belief.{IsBelievable, IsBelievableOver}
 use Rattle.machine_probe.specs.Follow.{IsProbe}
+use Rattle.machine_probe.specs.Noted.{AreNotesSince}
 
 -- what a probe's console and output tell: how often that one was tried to be reached, and what this one holds
 pub record ProbeTold : Type 0 where
@@ -33,8 +34,9 @@ pub record IsProbed (options : ProbeOptions) (line line' : Option (List Item)) (
   pub runs : IsProbe options f parts
   pub on_line : Gains line line' (in_a_row parts)
   pub believed : IsBelievable f parts
+  pub believed_over : IsBelievableOver f parts
   -- all that was said was noted
-  pub notes_are : (items : List Item) → line' ≡ Some items → notes ≡ noted items
+  pub notes_are : AreNotesSince line line' notes
 
 -- a text is the report of a probe over a line that told this and then that, and so the probe ended
 pub record IsReport (options : ProbeOptions) (line line' : Option (List Item)) (text : List ℕ) (end : ProbeEnd) : Type 0 where

@@ -14,6 +14,7 @@ mod probe_options;
 mod probing;
 mod putting_back;
 mod runs;
+mod stopwatch;
 
 pub use probe_fault::ProbeFault;
 pub use probe_options::ProbeOptions;

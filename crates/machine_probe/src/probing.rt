@@ -1,12 +1,13 @@
 //! The command `probe`.
 ghost use Rattle.std.specs.Prelude.{◌≡◌, [], IfErr, IfOk, OnOk};
-ghost use Rattle.console_reach.specs.Reached.{IsFresh, OneMoreTime};
+ghost use Rattle.console_reach.specs.Reached.{OneMoreTime};
+ghost use Rattle.tape_blocks.specs.Told.{IsAsTold};
 ghost use Rattle.reading_core.specs.Addresses.{IsAddress};
 ghost use Rattle.machine_probe.specs.Probe.{IsReportFrom, IsReportOver, IsReported, IsReportedOver, probe_told};
 ghost use Rattle.machine_probe.specs.ProbeFault.{IsProbeFault, IsUnreported};
 ghost use Rattle.machine_probe.specs.Rooms.{AreLookers};
 
-use crate::noted_line::NotedLine;
+use crate::noted_line::{NotedLine, Opening};
 use crate::probe_fault::ProbeFault;
 use crate::probe_options::ProbeOptions;
 use crate::runs::{Lookers, make_runs};
@@ -16,6 +17,7 @@ use load_devices::Line;
 use probe_report::{LONGEST_REPORT, ProbeEnd, put_report};
 use std::alloc::{AllocError, Global};
 use std::io::Write;
+use std::marker::Brand;
 use std::time::Clock;
 
 /// Tries whether a console forgets digits at an illegal key, and reports what it found: whether a prompt
@@ -86,11 +88,30 @@ fn report_runs<L: Line + Drop, C: Clock>(
 ) -> Result<ProbeEnd, AllocError>
     requires address { IsAddress options.address }
     requires lookers { AreLookers options lookers }
-    requires fresh { IsFresh (L.told line) (L.fault_count line) (L.last_fault line) }
+    requires fresh { IsAsTold (L.told line) [] }
     requires empty { report.old.items ≡ [] }
     ensures { IfOk result (IsReportFrom L.told options line report.new.items) }
 {
-    let mut line = NotedLine::new(line, clock);
+    report_noted::<L, C, Brand>(alloc, lookers, options, line, clock, report)
+}
+
+// The same, where what the line told at first has a name.
+fn report_noted<L: Line + Drop, C: Clock, E: Opening>(
+    alloc: Global,
+    lookers: Lookers,
+    options: ProbeOptions,
+    line: L,
+    clock: &C,
+    report: &mut Vec<u8>,
+) -> Result<ProbeEnd, AllocError>
+    requires address { IsAddress options.address }
+    requires lookers { AreLookers options lookers }
+    requires opening { L.told line ≡ E.told }
+    requires fresh { IsAsTold (L.told line) [] }
+    requires empty { report.old.items ≡ [] }
+    ensures { IfOk result (IsReportFrom L.told options line report.new.items) }
+{
+    let mut line: NotedLine<'_, L, C, E> = NotedLine::new(line, clock);
     let findings = make_runs(alloc, lookers, options, &mut line)?;
     put_report(report, &findings, line.notes(), line.pace())
 }

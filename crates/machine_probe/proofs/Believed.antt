@@ -1,0 +1,229 @@
+-- What the runs of a probe leave, over honest lines.
+use Rattle.std.proofs.Common.{◌≡◌, ℕ, ◌+◌, ◌^◌, ◌<◌, Bool, true, false, eqb, List, [], ◌∷◌, ◌++◌, length, get_or, Option, Some, None, inl, inr, refl, arith, ap, sym, subst, ◌∙◌}
+use Rattle.std.specs.Prelude.{All}
+use Rattle.std.proofs.lemmas.Bool.{eq-eqb}
+use Rattle.std.proofs.lemmas.List.Elements.{All-nil, All-cons}
+use Rattle.tape_image.specs.Memory.{top_of}
+use Rattle.odt_machine.specs.Machine.{Machine, word_at}
+use Rattle.load_devices.specs.declared.item.Item.{Item}
+use Rattle.load_devices.specs.Told.{Gains}
+use Rattle.honest_line.specs.Honest.{IsHonest}
+use Rattle.memory_end.specs.declared.search.Search.{Search}
+use Rattle.memory_end.specs.declared.search.Search.TheVariants as search
+use Rattle.memory_end.specs.Ending.{IsRight as IsRightEnd}
+use Rattle.memory_end.specs.Rows.{AreHonest}
+use Rattle.probe_report.specs.declared.findings.Attempt.{Attempt}
+use Rattle.probe_report.specs.declared.findings.Extent.{Extent}
+use Rattle.probe_report.specs.declared.findings.Extent.TheVariants as extent
+use Rattle.probe_report.specs.declared.findings.Findings.{Findings}
+use Rattle.probe_report.specs.declared.findings.Sighting.{Sighting}
+use Rattle.probe_report.specs.declared.findings.Sighting.TheVariants as look
+use Rattle.probe_report.specs.declared.findings.TrialEnd.{TrialEnd}
+use Rattle.probe_report.specs.declared.findings.TrialEnd.TheVariants as trial
+use Rattle.probe_report.specs.Judging.{on_looks, on_numbers, on_same_number, verdict_of}
+use Rattle.reading_core.specs.declared.phase.End.TheVariants.{Complete, GaveUp, NoWord}
+use Rattle.reading_core.specs.Addresses.{AreAddresses, IsAddress}
+use Rattle.reading_core.specs.Laws.{led}
+use Rattle.reading_core.specs.Reader.{Reader}
+use Rattle.reading_core.proofs.Lives.{led_addresses}
+use Rattle.reading_law.specs.Belief.{IsReady, dialogue}
+use Rattle.reading_engine.specs.declared.stop.Stop.{Stop as LookStop}
+use Rattle.reading_engine.specs.declared.stop.Stop.TheVariants.{Ended, LineFailed, TurnsOver}
+use Rattle.reading_engine.specs.Inquired.{IsSaid}
+use Rattle.trial_core.specs.Trial.{begun_trial}
+use Rattle.trial_engine.specs.declared.stop.Stop.{Stop as TrialStop}
+use Rattle.trial_engine.specs.declared.stop.Stop.TheVariants as stopped
+use Rattle.trial_engine.specs.Attempted.{IsSaid as IsSaidOfTrial}
+use Rattle.trial_law.specs.Again.{looker}
+use Rattle.trial_law.specs.Runs.{Look, Run, Try, dialogue_of, IsRun}
+use Rattle.trial_law.specs.Trying.{IsToldOf, trial_dialogue}
+use Rattle.trial_law.proofs.Runs.{IsHarmless, run_harmless}
+use Rattle.trial_law.proofs.Told.{told_honest}
+use Rattle.machine_probe.specs.declared.probe_options.ProbeOptions.{ProbeOptions}
+use Rattle.machine_probe.specs.Belief.{IsBelievable, IsRight}
+use Rattle.machine_probe.specs.Came.{extent_of, first_of, sighting_of}
+use Rattle.machine_probe.specs.Follow.{IsProbe, Made, forgets, goes_on, is_number, number_in, stores}
+use Rattle.machine_probe.specs.Runs.{IsLook, IsSearch, IsTrialOf, One}
+
+-- ---- what was said is a dialogue, perhaps without its last key
+
+pub told_look : (stop : LookStop) (left : ℕ) (all said : List Item) → IsSaid (Some stop) left all said → IsToldOf all said
+told_look (Ended end) left all said is = inl is
+told_look TurnsOver left all said is = inl is.0
+told_look (LineFailed fault) left all said (inl whole) = inl whole.0
+told_look (LineFailed fault) left all said (inr lacks) = inr lacks
+
+pub told_trial : (stop : TrialStop) (left : ℕ) (all said : List Item) → IsSaidOfTrial (Some stop) left all said → IsToldOf all said
+told_trial (stopped.Ended end) left all said is = inl is
+told_trial stopped.TurnsOver left all said is = inl is.0
+told_trial (stopped.LineFailed fault) left all said (inl whole) = inl whole.0
+told_trial (stopped.LineFailed fault) left all said (inr lacks) = inr lacks
+
+-- ---- one run
+
+pub one_address : (address : ℕ) → IsAddress address → AreAddresses (address ∷ [])
+one_address address is = record {
+  each = All-cons IsAddress address [] is (All-nil IsAddress);
+  rising = λ i j d before low. absurd (omega (arith, before, low));
+  few = omega arith;
+}
+
+-- what a run leaves that ended at a machine
+record Leaves (machine now : Machine) : Type 0 where
+  pub ready : IsReady now
+  pub memory : now.memory ≡ machine.memory
+
+-- a number that a look gives is the first that was read
+is_first : (stop : LookStop) (values : List ℕ) (number : ℕ) → look.Number number ≡ sighting_of stop (first_of values) → (0 < length values) × (get_or values 0 0 ≡ number)
+is_first (Ended Complete) [] number is = absurd (cc is)
+is_first (Ended Complete) (value ∷ more) number is = (omega arith, cc is)
+is_first (Ended GaveUp) values number is = absurd (cc is)
+is_first (Ended (NoWord address)) values number is = absurd (cc is)
+is_first TurnsOver values number is = absurd (cc is)
+is_first (LineFailed fault) values number is = absurd (cc is)
+
+look_right : (options : ProbeOptions) (sighting : Sighting) (said : List Item) (machine now : Machine) (lost : ℕ) → IsAddress options.address → options.patience < 2 ^ 32 → IsLook options sighting said →
+    IsReady machine → IsHonest machine said lost now → Leaves machine now × ((number : ℕ) → sighting ≡ look.Number number → number ≡ word_at machine.memory options.address)
+look_right options sighting said machine now lost address long l ready honest =
+    let s = l.inquired in
+    let run : Run = Look (options.address ∷ []) options.patience s.heard in
+    let front : IsToldOf (dialogue_of run) said = subst (IsToldOf (dialogue_of run)) (sym s.on_line) (told_look l.stop _ (dialogue_of run) s.said s.items) in
+    let h : IsHarmless machine run lost now = run_harmless run machine now lost ready (one_address options.address address, long) (told_honest (dialogue_of run) said machine now lost front honest) in
+    (record { ready = h.ready; memory = h.memory }, λ number is.
+      let first = is_first l.stop l.last.values number (sym is ∙ l.sighting_is) in
+      let values : l.last.values ≡ (led (looker options.address options.patience) s.heard).values = ap (λ (r : Reader). r.values) s.reader in
+      let holds = h.learned.read.holds 0 (subst (λ (list : List ℕ). 0 < length list) values first.0) in
+      sym first.1 ∙ ap (λ (list : List ℕ). get_or list 0 0) values ∙ holds ∙ ap (λ (list : List ℕ). word_at machine.memory (get_or list 0 0)) (led_addresses (looker options.address options.patience) s.heard))
+
+trial_leaves : (options : ProbeOptions) (old : ℕ) (attempt : Attempt) (said : List Item) (machine now : Machine) (lost : ℕ) → IsAddress options.address → options.patience < 2 ^ 32 → IsTrialOf options old attempt said →
+    IsReady machine → IsHonest machine said lost now → Leaves machine now
+trial_leaves options old attempt said machine now lost address long t ready honest =
+    let s = t.attempted in
+    let run : Run = Try options.address old options.patience s.heard in
+    let front : IsToldOf (dialogue_of run) said = subst (IsToldOf (dialogue_of run)) (sym s.on_line) (told_trial t.stop _ (dialogue_of run) s.said s.items) in
+    let h : IsHarmless machine run lost now = run_harmless run machine now lost ready (address, long) (told_honest (dialogue_of run) said machine now lost front honest) in
+    record { ready = h.ready; memory = h.memory }
+
+-- ---- rows
+
+split : (machine now : Machine) (xs ys : List (List Item)) (lost : ℕ) → AreHonest machine (xs ++ ys) lost now → (between : Machine) × (first : ℕ) × (later : ℕ) × AreHonest machine xs first between × AreHonest between ys later now
+split machine now [] ys lost honest = (machine, 0, lost, (refl, refl), honest)
+split machine now (said ∷ xs) ys lost (between, first, later, here, there, all) =
+    let rest = split between now xs ys later there in
+    (rest.0, first + rest.1, rest.2, (between, first, rest.1, here, rest.3, refl), rest.4)
+
+-- nothing was said
+none_leaves : (machine now : Machine) (parts : List (List Item)) (lost : ℕ) → parts ≡ [] → IsReady machine → AreHonest machine parts lost now → Leaves machine now
+none_leaves machine now [] lost is ready honest = record { ready = subst IsReady (sym honest.0) ready; memory = ap (λ (m : Machine). m.memory) honest.0 }
+none_leaves machine now (said ∷ parts) lost is ready honest = absurd (cc is)
+
+same_now : (machine b now : Machine) → Leaves machine b → now ≡ b → Leaves machine now
+same_now machine b now l is = subst (Leaves machine) (sym is) l
+
+row_look : (options : ProbeOptions) (sighting : Sighting) (parts : List (List Item)) (machine now : Machine) (lost : ℕ) → IsAddress options.address → options.patience < 2 ^ 32 → One (IsLook options sighting) parts →
+    IsReady machine → AreHonest machine parts lost now → Leaves machine now × ((number : ℕ) → sighting ≡ look.Number number → number ≡ word_at machine.memory options.address)
+row_look options sighting [] machine now lost address long is ready honest = absurd is
+row_look options sighting (said ∷ []) machine now lost address long is ready (between, first, later, here, there, all) =
+    let r = look_right options sighting said machine between first address long is ready here in
+    (same_now machine between now r.0 there.0, r.1)
+row_look options sighting (said ∷ (more ∷ parts)) machine now lost address long is ready honest = absurd is
+
+row_trial : (options : ProbeOptions) (old : ℕ) (attempt : Attempt) (parts : List (List Item)) (machine now : Machine) (lost : ℕ) → IsAddress options.address → options.patience < 2 ^ 32 → One (IsTrialOf options old attempt) parts →
+    IsReady machine → AreHonest machine parts lost now → Leaves machine now
+row_trial options old attempt [] machine now lost address long is ready honest = absurd is
+row_trial options old attempt (said ∷ []) machine now lost address long is ready (between, first, later, here, there, all) =
+    same_now machine between now (trial_leaves options old attempt said machine between first address long is ready here) there.0
+row_trial options old attempt (said ∷ (more ∷ parts)) machine now lost address long is ready honest = absurd is
+
+-- ---- runs that were made, or not
+
+made_trial : (options : ProbeOptions) (wanted : Bool) (old : ℕ) (found : Option Attempt) (parts : List (List Item)) (machine now : Machine) (lost : ℕ) → IsAddress options.address → options.patience < 2 ^ 32 →
+    Made wanted (λ attempt. One (IsTrialOf options old attempt)) found parts → IsReady machine → AreHonest machine parts lost now → Leaves machine now
+made_trial options true old None parts machine now lost address long is ready honest = absurd is
+made_trial options true old (Some attempt) parts machine now lost address long is ready honest = row_trial options old attempt parts machine now lost address long is ready honest
+made_trial options false old None parts machine now lost address long is ready honest = none_leaves machine now parts lost is ready honest
+made_trial options false old (Some attempt) parts machine now lost address long is ready honest = absurd is
+
+made_look : (options : ProbeOptions) (wanted : Bool) (found : Option Sighting) (parts : List (List Item)) (machine now : Machine) (lost : ℕ) → IsAddress options.address → options.patience < 2 ^ 32 →
+    Made wanted (λ sighting. One (IsLook options sighting)) found parts → IsReady machine → AreHonest machine parts lost now →
+    Leaves machine now × ((number : ℕ) → found ≡ Some (look.Number number) → number ≡ word_at machine.memory options.address)
+made_look options true None parts machine now lost address long is ready honest = absurd is
+made_look options true (Some sighting) parts machine now lost address long is ready honest =
+    let r = row_look options sighting parts machine now lost address long is ready honest in (r.0, λ number same. r.1 number (cc same))
+made_look options false None parts machine now lost address long is ready honest = (none_leaves machine now parts lost is ready honest, λ number same. absurd (cc same))
+made_look options false (Some sighting) parts machine now lost address long is ready honest = absurd is
+
+unmade : {A : Type 0} (wanted : Bool) (run : A → List (List Item) → Type 0) (found : Option A) (parts : List (List Item)) → wanted ≡ false → Made wanted run found parts → (found ≡ None) × (parts ≡ [])
+unmade {A} true run found parts off is = absurd (cc off)
+unmade {A} false run None parts off is = (refl, is)
+unmade {A} false run (Some thing) parts off is = absurd is
+
+-- memory's end, where a search found it
+end_right : (search : Search) (memory : List ℕ) (patience lost top : ℕ) → IsRightEnd search memory patience lost → extent.Top top ≡ extent_of search → top_of memory ≡ top
+end_right (search.Ends found) memory patience lost top right is = right ∙ cc is
+end_right (search.Stopped (Ended end)) memory patience lost top right is = absurd (cc is)
+end_right (search.Stopped TurnsOver) memory patience lost top right is = absurd (cc is)
+end_right (search.Stopped (LineFailed fault)) memory patience lost top right is = absurd (cc is)
+
+made_search : (options : ProbeOptions) (wanted : Bool) (found : Option Extent) (parts : List (List Item)) (machine now : Machine) (lost : ℕ) → Made wanted (IsSearch options) found parts → IsReady machine →
+    AreHonest machine parts lost now → (now.memory ≡ machine.memory) × ((top : ℕ) → found ≡ Some (extent.Top top) → top_of machine.memory ≡ top)
+made_search options true None parts machine now lost is ready honest = absurd is
+made_search options true (Some given) parts machine now lost is ready honest =
+    let r = is.found machine now lost ready.console ready.stopped honest in
+    (r.0, λ top same. end_right is.search machine.memory options.patience lost top r.1 (sym (cc same) ∙ is.extent_is))
+made_search options false None parts machine now lost is ready honest = ((none_leaves machine now parts lost is ready honest).memory, λ top same. absurd (cc same))
+made_search options false (Some given) parts machine now lost is ready honest = absurd is
+
+-- ---- no console of the profile is said to store digits
+
+same_is_kept : (end : TrialEnd) → stores (on_same_number end) ≡ false
+same_is_kept trial.Tried = refl
+same_is_kept trial.NoWord = refl
+same_is_kept trial.GaveUp = refl
+same_is_kept trial.TurnsOver = refl
+same_is_kept (trial.LineFailed fault) = refl
+
+numbers_kept : (old now : ℕ) (end : TrialEnd) → now ≡ old → stores (on_numbers old now end) ≡ false
+numbers_kept old now end is = rw (eq-eqb now old is) (same_is_kept end)
+
+never_stores : (word : ℕ) (first : Sighting) (attempt : Option Attempt) (second : Option Sighting) → ((n : ℕ) → first ≡ look.Number n → n ≡ word) → ((n : ℕ) → second ≡ Some (look.Number n) → n ≡ word) →
+    stores (on_looks first attempt second) ≡ false
+never_stores word (look.Number old) (Some attempt) (Some (look.Number now)) h k = numbers_kept old now attempt.end (k now refl ∙ sym (h old refl))
+never_stores word (look.Number old) (Some attempt) (Some look.NoWord) h k = refl
+never_stores word (look.Number old) (Some attempt) (Some look.GaveUp) h k = refl
+never_stores word (look.Number old) (Some attempt) (Some look.TurnsOver) h k = refl
+never_stores word (look.Number old) (Some attempt) (Some (look.LineFailed fault)) h k = refl
+never_stores word (look.Number old) (Some attempt) None h k = refl
+never_stores word (look.Number old) None second h k = refl
+never_stores word look.NoWord attempt second h k = refl
+never_stores word look.GaveUp attempt second h k = refl
+never_stores word look.TurnsOver attempt second h k = refl
+never_stores word (look.LineFailed fault) attempt second h k = refl
+
+-- ---- all of it
+
+pub believes : (options : ProbeOptions) (f : Findings) (parts : List (List Item)) → IsAddress options.address → options.patience < 2 ^ 32 → IsProbe options f parts → IsBelievable f parts
+believes options f parts address long p machine now lost ready all =
+    let s1 = split machine now p.in_first (p.in_trial ++ (p.in_second ++ (p.in_deposit ++ p.in_search))) lost (subst (λ list. AreHonest machine list lost now) p.parts_are all) in
+    let s2 = split s1.0 now p.in_trial (p.in_second ++ (p.in_deposit ++ p.in_search)) s1.2 s1.4 in
+    let s3 = split s2.0 now p.in_second (p.in_deposit ++ p.in_search) s2.2 s2.4 in
+    let s4 = split s3.0 now p.in_deposit p.in_search s3.2 s3.4 in
+    let r1 = row_look options f.first p.in_first machine s1.0 s1.1 address long p.looked ready s1.3 in
+    let r2 = made_trial options (is_number f.first) (number_in f.first) f.trial p.in_trial s1.0 s2.0 s2.1 address long p.tried r1.0.ready s2.3 in
+    let m2 : s2.0.memory ≡ machine.memory = r2.memory ∙ r1.0.memory in
+    let r3 = made_look options (goes_on f.trial) f.second p.in_second s2.0 s3.0 s3.1 address long p.looked_again r2.ready s3.3 in
+    let second : (number : ℕ) → f.second ≡ Some (look.Number number) → number ≡ word_at machine.memory options.address =
+    λ number is. r3.1 number is ∙ ap (λ memory. word_at memory options.address) m2 in
+    let off : stores (verdict_of f) ≡ false = never_stores (word_at machine.memory options.address) f.first f.trial f.second r1.1 second in
+    let r4 = unmade (stores (verdict_of f)) _ f.put_back p.in_deposit off p.deposited in
+    let l4 = none_leaves s3.0 s4.0 p.in_deposit s4.1 r4.1 r3.0.ready s4.3 in
+    let m4 : s4.0.memory ≡ machine.memory = l4.memory ∙ (r3.0.memory ∙ m2) in
+    let r5 = made_search options (forgets (verdict_of f)) f.search p.in_search s4.0 now s4.2 p.searched l4.ready s4.4 in
+    let here : (number : ℕ) → number ≡ word_at machine.memory options.address → number ≡ word_at machine.memory f.address = λ number is. is ∙ ap (word_at machine.memory) (sym p.address) in
+    record {
+      memory = r5.0 ∙ m4;
+      first = λ number is. here number (r1.1 number is);
+      second = λ number is. here number (second number is);
+      nothing_put_back = r4.0;
+      top = λ top is. ap top_of (sym m4) ∙ r5.1 top is;
+    }

@@ -1,0 +1,163 @@
+-- How the runs of a probe come to stand one behind another.
+use Rattle.std.proofs.Common.{◌≡◌, ℕ, true, false, Bool, List, [], ◌∷◌, ◌++◌, length, Option, Some, None, refl, ap, sym, subst, ◌∙◌, append_assoc, append-nil}
+use Rattle.load_devices.specs.declared.item.Item.{Item}
+use Rattle.load_devices.specs.Told.{Gains}
+use Rattle.load_engine.proofs.Sessions.{gains_join, gains_none}
+use Rattle.memory_end.specs.declared.search.Search.{Search}
+use Rattle.memory_end.specs.Ending.{FindsEnd}
+use Rattle.memory_end.specs.Passes.{Searches, three_passes}
+use Rattle.memory_end.specs.Rows.{in_a_row}
+use Rattle.probe_report.specs.declared.findings.Attempt.{Attempt}
+use Rattle.probe_report.specs.declared.findings.Extent.{Extent}
+use Rattle.probe_report.specs.declared.findings.Findings.{Findings}
+use Rattle.probe_report.specs.declared.findings.Sighting.{Sighting}
+use Rattle.probe_report.specs.declared.findings.Sighting.TheVariants.{Number, NoWord, GaveUp, TurnsOver, LineFailed}
+use Rattle.probe_report.specs.declared.findings.TrialEnd.{TrialEnd}
+use Rattle.probe_report.specs.declared.findings.TrialEnd.TheVariants as trial
+use Rattle.probe_report.specs.declared.judging.Verdict.{Verdict}
+use Rattle.probe_report.specs.declared.judging.Verdict.TheVariants.{Forgets, Stores, Unknown}
+use Rattle.probe_report.specs.Judging.{on_looks, on_numbers, on_same_number, verdict_of}
+use Rattle.reading_core.specs.Reader.{Reader}
+use Rattle.reading_engine.specs.declared.stop.Stop.{Stop as LookStop}
+use Rattle.reading_engine.specs.Inquired.{Inquired, TellsEnd}
+use Rattle.trial_core.specs.declared.trial.Trial.{Trial}
+use Rattle.trial_core.specs.Trial.{begun_trial}
+use Rattle.trial_engine.specs.declared.stop.Stop.{Stop as TrialStop}
+use Rattle.trial_engine.specs.Attempted.{Attempted, TellsEnd as TellsEndOfTrial}
+use Rattle.trial_law.specs.Again.{looker}
+use Rattle.machine_probe.specs.declared.probe_options.ProbeOptions.{ProbeOptions}
+use Rattle.machine_probe.specs.declared.putting_back.Deposit.{Deposit}
+use Rattle.machine_probe.specs.Came.{attempt_of, extent_of, first_of, sighting_of}
+use Rattle.machine_probe.specs.Follow.{IsProbe, Made, forgets, goes_on, is_number, number_in, stores}
+use Rattle.machine_probe.specs.PuttingBack.{IsPutBack, PutsBack}
+use Rattle.machine_probe.specs.Rooms.{HasDeposit}
+use Rattle.machine_probe.specs.Runs.{IsLook, IsSearch, IsTrialOf, OnLine, One}
+use Rattle.machine_probe.specs.Turns.{turns_of}
+
+-- ---- one run
+
+-- one run is a row of one part
+pub one : (run : List Item → Type 0) (line line' : Option (List Item)) (said : List Item) → run said → Gains line line' said → OnLine (One run) line line'
+one run line line' said is gains = record { parts = said ∷ []; are = is; on_line = subst (Gains line line') (sym (append-nil said)) gains }
+
+-- what the engine of the looks answers is a look
+pub look_is : (options : ProbeOptions) (core last : Reader) (stop : LookStop) (turns : ℕ) (number : Option ℕ) (sighting : Sighting) (line line' : Option (List Item)) →
+    core ≡ looker options.address options.patience → turns ≡ turns_of options.patience → Inquired turns (Some stop) core last line line' → TellsEnd stop last →
+    number ≡ first_of last.values → sighting ≡ sighting_of stop number → OnLine (One (IsLook options sighting)) line line'
+look_is options core last stop turns number sighting line line' begins limit s end is came =
+    one (IsLook options sighting) line line' s.said (record {
+      stop = stop;
+      last = last;
+      inquired = subst (λ (n : ℕ). Inquired n (Some stop) (looker options.address options.patience) last (Some []) (Some s.said)) limit (subst (λ (r : Reader). Inquired turns (Some stop) r last (Some []) (Some s.said)) begins (record {
+        heard = s.heard;
+        said = s.said;
+        reader = s.reader;
+        goes_on = s.goes_on;
+        within = s.within;
+        items = s.items;
+        on_line = refl;
+      }));
+      end = end;
+      sighting_is = came ∙ ap (sighting_of stop) is;
+    }) s.on_line
+
+-- what the engine of the trial answers is a trial
+pub trial_is : (options : ProbeOptions) (old : ℕ) (first last : Trial) (stop : TrialStop) (turns : ℕ) (attempt : Attempt) (line line' : Option (List Item)) →
+    first ≡ begun_trial options.address old options.patience → turns ≡ turns_of options.patience → Attempted turns (Some stop) first last line line' → TellsEndOfTrial stop last →
+    attempt ≡ attempt_of last stop → OnLine (One (IsTrialOf options old attempt)) line line'
+trial_is options old first last stop turns attempt line line' begins limit s end came =
+    one (IsTrialOf options old attempt) line line' s.said (record {
+      stop = stop;
+      last = last;
+      attempted = subst (λ (n : ℕ). Attempted n (Some stop) (begun_trial options.address old options.patience) last (Some []) (Some s.said)) limit (subst (λ (t : Trial). Attempted turns (Some stop) t last (Some []) (Some s.said)) begins (record {
+        heard = s.heard;
+        said = s.said;
+        trial = s.trial;
+        goes_on = s.goes_on;
+        within = s.within;
+        items = s.items;
+        on_line = refl;
+      }));
+      end = end;
+      attempt_is = came;
+    }) s.on_line
+
+-- what the load of the one word answers puts it back
+pub puts_is : (options : ProbeOptions) (old turns : ℕ) (is_back : Bool) (line line' : Option (List Item)) → turns ≡ turns_of options.patience → IsPutBack options.address old options.patience turns is_back line line' →
+    OnLine (One (PutsBack options.address old options.patience (turns_of options.patience) is_back)) line line'
+puts_is options old turns is_back line line' limit s =
+    one (PutsBack options.address old options.patience (turns_of options.patience) is_back) line line' s.said
+    (subst (λ (n : ℕ). PutsBack options.address old options.patience n is_back s.said) limit s.puts) s.on_line
+
+-- what the search answers is one
+pub search_is : (options : ProbeOptions) (search : Search) (turns : ℕ) (extent : Extent) (line line' : Option (List Item)) → turns ≡ turns_of options.patience → FindsEnd turns options.patience search line line' →
+    extent ≡ extent_of search → OnLine (IsSearch options extent) line line'
+search_is options search turns extent line line' limit s came = record {
+  parts = s.parts;
+  are = record { search = search; passes = subst (λ (n : ℕ). Searches three_passes n options.patience 0 search s.parts) limit s.passes; extent_is = came; found = s.believed };
+  on_line = s.on_line;
+}
+
+-- ---- runs that are made, or not
+
+pub made : {A : Type 0} (wanted : Bool) (run : A → List (List Item) → Type 0) (found : A) (line line' : Option (List Item)) → wanted ≡ true → OnLine (run found) line line' → OnLine (Made wanted run (Some found)) line line'
+made {A} true run found line line' is s = record { parts = s.parts; are = s.are; on_line = s.on_line }
+made {A} false run found line line' is s = absurd (cc is)
+
+pub not_made : {A : Type 0} (wanted : Bool) (run : A → List (List Item) → Type 0) (line : Option (List Item)) → wanted ≡ false → OnLine (Made wanted run None) line line
+not_made {A} true run line is = absurd (cc is)
+not_made {A} false run line is = record { parts = []; are = refl; on_line = gains_none line }
+
+-- where the console stored the digits, the old number can be put back
+pub can_put_back : (options : ProbeOptions) (first : Sighting) (trial : Option Attempt) (second : Option Sighting) → stores (on_looks first trial second) ≡ true → HasDeposit options first None → ⊥
+can_put_back options (Number old) trial second is has = has
+can_put_back options NoWord trial second is has = cc is
+can_put_back options GaveUp trial second is has = cc is
+can_put_back options TurnsOver trial second is has = cc is
+can_put_back options (LineFailed fault) trial second is has = cc is
+
+-- and it is the number that was read
+pub deposit_of : (options : ProbeOptions) (first : Sighting) (trial : Option Attempt) (second : Option Sighting) (deposit : Deposit) (P : ℕ → Type 0) → stores (on_looks first trial second) ≡ true →
+    ((old : ℕ) → HasDeposit options (Number old) (Some deposit) → P old) → HasDeposit options first (Some deposit) → P (number_in first)
+deposit_of options (Number old) trial second deposit P is so has = so old has
+deposit_of options NoWord trial second deposit P is so has = absurd (cc is)
+deposit_of options GaveUp trial second deposit P is so has = absurd (cc is)
+deposit_of options TurnsOver trial second deposit P is so has = absurd (cc is)
+deposit_of options (LineFailed fault) trial second deposit P is so has = absurd (cc is)
+
+-- ---- all of them
+
+row_append : (xs ys : List (List Item)) → in_a_row (xs ++ ys) ≡ in_a_row xs ++ in_a_row ys
+row_append [] ys = refl
+row_append (said ∷ xs) ys = ap (λ rest. said ++ rest) (row_append xs ys) ∙ sym (append_assoc said (in_a_row xs) (in_a_row ys))
+
+rows_join : (a b c : Option (List Item)) (xs ys : List (List Item)) → Gains a b (in_a_row xs) → Gains b c (in_a_row ys) → Gains a c (in_a_row (xs ++ ys))
+rows_join a b c xs ys g h = subst (Gains a c) (sym (row_append xs ys)) (gains_join a b c (in_a_row xs) (in_a_row ys) g h)
+
+pub all_runs : (options : ProbeOptions) (f : Findings) (l0 l1 l2 l3 l4 l5 : Option (List Item)) → f.address ≡ options.address →
+    OnLine (One (IsLook options f.first)) l0 l1 →
+    OnLine (Made (is_number f.first) (λ attempt. One (IsTrialOf options (number_in f.first) attempt)) f.trial) l1 l2 →
+    OnLine (Made (goes_on f.trial) (λ sighting. One (IsLook options sighting)) f.second) l2 l3 →
+    OnLine (Made (stores (verdict_of f)) (λ is_back. One (PutsBack options.address (number_in f.first) options.patience (turns_of options.patience) is_back)) f.put_back) l3 l4 →
+    OnLine (Made (forgets (verdict_of f)) (IsSearch options) f.search) l4 l5 →
+    OnLine (IsProbe options f) l0 l5
+all_runs options f l0 l1 l2 l3 l4 l5 address a b c d e = record {
+  parts = a.parts ++ (b.parts ++ (c.parts ++ (d.parts ++ e.parts)));
+  are = record {
+    address = address;
+    in_first = a.parts;
+    in_trial = b.parts;
+    in_second = c.parts;
+    in_deposit = d.parts;
+    in_search = e.parts;
+    parts_are = refl;
+    looked = a.are;
+    tried = b.are;
+    looked_again = c.are;
+    deposited = d.are;
+    searched = e.are;
+  };
+  on_line = rows_join l0 l1 l5 a.parts (b.parts ++ (c.parts ++ (d.parts ++ e.parts))) a.on_line
+      (rows_join l1 l2 l5 b.parts (c.parts ++ (d.parts ++ e.parts)) b.on_line
+      (rows_join l2 l3 l5 c.parts (d.parts ++ e.parts) c.on_line (rows_join l3 l4 l5 d.parts e.parts d.on_line e.on_line)));
+}

@@ -1,0 +1,6 @@
+mod Believed
+mod Faults
+mod Joins
+mod Noting
+mod OneLine
+mod Reports

@@ -1,0 +1,24 @@
+-- How the notes of a line go on.
+use Rattle.std.proofs.Common.{◌≡◌, List, [], ◌∷◌, ◌++◌, Option, Some, None, ap, sym, ◌∙◌}
+use Rattle.tape_blocks.specs.Told.{IsAsTold}
+use Rattle.load_devices.specs.declared.item.Item.{Item}
+use Rattle.load_devices.specs.Told.{Gains, Keeps}
+use Rattle.probe_report.specs.Notes.{Noted, noted}
+use Rattle.machine_probe.specs.Noted.{AreNotesSince}
+
+pub noted_at_first : (told : Option (List Item)) → IsAsTold told [] → AreNotesSince told told (noted [])
+noted_at_first None fresh = tt
+noted_at_first (Some items) fresh = ap noted fresh
+
+pub still_noted : (first told told' : Option (List Item)) (notes : Noted) → Keeps told told' → AreNotesSince first told notes → AreNotesSince first told' notes
+still_noted None told told' notes keeps are = tt
+still_noted (Some first) None told' notes keeps are = absurd are
+still_noted (Some first) (Some items) None notes keeps are = absurd keeps
+still_noted (Some first) (Some items) (Some same) notes keeps are = are ∙ ap noted (sym keeps)
+
+pub noted_too : (first told told' : Option (List Item)) (notes notes' : Noted) (item : Item) → Gains told told' (item ∷ []) →
+    ((items : List Item) → notes ≡ noted items → notes' ≡ noted (items ++ item ∷ [])) → AreNotesSince first told notes → AreNotesSince first told' notes'
+noted_too None told told' notes notes' item gains next are = tt
+noted_too (Some first) None told' notes notes' item gains next are = absurd are
+noted_too (Some first) (Some items) None notes notes' item gains next are = absurd gains
+noted_too (Some first) (Some items) (Some grown) notes notes' item gains next are = next items are ∙ ap noted (sym gains)

@@ -1,0 +1,252 @@
+-- One honest line on which the runs of a probe were made is an honest line for each of them.
+use Rattle.std.proofs.Common.{◌≡◌, ℕ, ◌+◌, ◌*◌, ◌^◌, ◌<◌, ◌≤◌, ◌%◌, Bool, true, false, List, [], ◌∷◌, ◌++◌, length, Option, Some, None, ⊤, ◌⊎◌, inl, inr, refl, arith, ap, sym, subst, ◌∙◌, append-nil}
+use Rattle.odt_machine.specs.Machine.{Machine}
+use Rattle.load_devices.specs.declared.item.Item.{Item}
+use Rattle.host_core.specs.Core.{Core, begun as begun_load}
+use Rattle.host_core.specs.declared.heard.Heard.{Heard}
+use Rattle.load_devices.specs.Dialogue.{dialogue as load_dialogue}
+use Rattle.load_engine.specs.declared.stop.Stop.{Stop as LoadStop}
+use Rattle.load_engine.specs.declared.stop.Stop.TheVariants as load
+use Rattle.load_engine.specs.Session.{IsSaid as IsSaidOfLoad}
+use Rattle.honest_line.specs.Honest.{IsHonest}
+use Rattle.memory_end.specs.declared.pieces.Pieces.{Pieces}
+use Rattle.memory_end.specs.declared.search.Search.{Search}
+use Rattle.memory_end.specs.Passes.{ArePieces, GoesOn, IsPass, Searches, found, last_words, three_passes}
+use Rattle.memory_end.specs.Rows.{AreHonest, in_a_row}
+use Rattle.memory_end.proofs.Founds.{IsOver, passed_within}
+use Rattle.memory_end.proofs.LastWords.{last_asked}
+use Rattle.probe_report.specs.declared.findings.Attempt.{Attempt}
+use Rattle.probe_report.specs.declared.findings.Extent.{Extent}
+use Rattle.probe_report.specs.declared.findings.Findings.{Findings}
+use Rattle.probe_report.specs.declared.findings.Sighting.{Sighting}
+use Rattle.probe_report.specs.declared.judging.Verdict.{Verdict}
+use Rattle.probe_report.specs.declared.judging.Verdict.TheVariants.{Forgets, Stores, Unknown}
+use Rattle.probe_report.specs.Judging.{verdict_of}
+use Rattle.reading_core.specs.declared.phase.End.TheVariants.{Complete, GaveUp, NoWord}
+use Rattle.reading_core.specs.Addresses.{IsAddress}
+use Rattle.reading_core.specs.Invariant.{IsReader}
+use Rattle.reading_core.specs.Reader.{Reader, begun}
+use Rattle.reading_core.proofs.Lives.{led_addresses, led_kept}
+use Rattle.reading_core.proofs.Turns.{fresh_kept}
+use Rattle.reading_law.specs.Belief.{IsReady}
+use Rattle.reading_engine.specs.declared.stop.Stop.{Stop as LookStop}
+use Rattle.reading_engine.specs.declared.stop.Stop.TheVariants.{Ended, LineFailed, TurnsOver}
+use Rattle.trial_law.specs.Rows.{LeavesReady}
+use Rattle.trial_law.specs.Runs.{Look, Run, Try, dialogue_of}
+use Rattle.trial_law.specs.Splitting.{BeginsByListening, IsSplit}
+use Rattle.trial_law.specs.Trying.{IsToldOf}
+use Rattle.trial_law.proofs.Rows.{leave_ready}
+use Rattle.trial_law.proofs.Splits.{lines_split}
+use Rattle.trial_law.proofs.Told.{both_begin, told_begins}
+use Rattle.machine_probe.specs.declared.probe_options.ProbeOptions.{ProbeOptions}
+use Rattle.machine_probe.specs.Belief.{IsBelievable, IsBelievableOver, IsRight}
+use Rattle.machine_probe.specs.Follow.{IsProbe, Made, forgets, goes_on, is_number, number_in, stores}
+use Rattle.machine_probe.specs.PuttingBack.{PutsBack}
+use Rattle.machine_probe.specs.Runs.{IsLook, IsSearch, IsTrialOf, One}
+use Rattle.machine_probe.specs.Turns.{turns_of}
+use Rattle.machine_probe.proofs.Believed.{believes, one_address, told_look, told_trial}
+
+-- ---- rows of hosts
+
+-- every one of these leaves the machine ready
+abbrev AllLeave : List (List Item) → Type 0
+AllLeave [] = ⊤
+AllLeave (said ∷ parts) = LeavesReady said × AllLeave parts
+
+-- there is one, and all but the last leave it ready
+abbrev AreHosts : List (List Item) → Type 0
+AreHosts [] = ⊥
+AreHosts (said ∷ []) = BeginsByListening said
+AreHosts (said ∷ (next ∷ parts)) = LeavesReady said × AreHosts (next ∷ parts)
+
+row_begins : (parts : List (List Item)) → AreHosts parts → BeginsByListening (in_a_row parts)
+row_begins [] are = absurd are
+row_begins (said ∷ []) are = both_begin said [] are tt
+row_begins (said ∷ (next ∷ parts)) are = both_begin said (in_a_row (next ∷ parts)) are.0.begins (row_begins (next ∷ parts) are.1)
+
+row_of_line : (machine now : Machine) (parts : List (List Item)) (lost : ℕ) → IsReady machine → AreHosts parts → IsHonest machine (in_a_row parts) lost now → AreHonest machine parts lost now
+row_of_line machine now [] lost ready are honest = absurd are
+row_of_line machine now (said ∷ []) lost ready are honest = (now, lost, 0, subst (λ items. IsHonest machine items lost now) (append-nil said) honest, (refl, refl), none_later lost)
+  where
+    none_later : (n : ℕ) → n ≡ n + 0
+    none_later n = omega arith
+row_of_line machine now (said ∷ (next ∷ parts)) lost ready are honest =
+    let s : IsSplit machine said (in_a_row (next ∷ parts)) lost now =
+    lines_split machine now said (in_a_row (next ∷ parts)) lost (are.0.tidy machine ready) (row_begins (next ∷ parts) are.1) honest in (
+      s.between,
+      s.lost_before,
+      s.lost_after,
+      s.before,
+      row_of_line s.between now (next ∷ parts) s.lost_after (are.0.ready machine s.between s.lost_before ready s.before) are.1 s.after,
+      sym s.losses,
+    )
+
+in_front : (said : List Item) (parts : List (List Item)) → LeavesReady said → AreHosts parts → AreHosts (said ∷ parts)
+in_front said [] leaves are = absurd are
+in_front said (next ∷ parts) leaves are = (leaves, are)
+
+hosts_behind : (xs ys : List (List Item)) → AllLeave xs → AreHosts ys → AreHosts (xs ++ ys)
+hosts_behind [] ys all are = are
+hosts_behind (said ∷ xs) ys all are = in_front said (xs ++ ys) all.0 (hosts_behind xs ys all.1 are)
+
+all_join : (xs ys : List (List Item)) → AllLeave xs → AllLeave ys → AllLeave (xs ++ ys)
+all_join [] ys all more = more
+all_join (said ∷ xs) ys all more = (all.0, all_join xs ys all.1 more)
+
+hosts_all : (said : List Item) (parts : List (List Item)) → LeavesReady said → AllLeave parts → AreHosts (said ∷ parts)
+hosts_all said [] leaves all = leaves.begins
+hosts_all said (next ∷ parts) leaves all = (leaves, hosts_all next parts all.0 all.1)
+
+-- ---- the runs
+
+look_leaves : (options : ProbeOptions) (sighting : Sighting) (said : List Item) → IsAddress options.address → options.patience < 2 ^ 32 → IsLook options sighting said → LeavesReady said
+look_leaves options sighting said address long l =
+    let s = l.inquired in
+    let run : Run = Look (options.address ∷ []) options.patience s.heard in
+    leave_ready run said (one_address options.address address, long) (subst (IsToldOf (dialogue_of run)) (sym s.on_line) (told_look l.stop _ (dialogue_of run) s.said s.items))
+
+trial_leaves_ready : (options : ProbeOptions) (old : ℕ) (attempt : Attempt) (said : List Item) → IsAddress options.address → options.patience < 2 ^ 32 → IsTrialOf options old attempt said → LeavesReady said
+trial_leaves_ready options old attempt said address long t =
+    let s = t.attempted in
+    let run : Run = Try options.address old options.patience s.heard in
+    leave_ready run said (address, long) (subst (IsToldOf (dialogue_of run)) (sym s.on_line) (told_trial t.stop _ (dialogue_of run) s.said s.items))
+
+one_leaves : (run : List Item → Type 0) (parts : List (List Item)) → ((said : List Item) → run said → LeavesReady said) → One run parts → AllLeave parts
+one_leaves run [] so is = absurd is
+one_leaves run (said ∷ []) so is = (so said is, tt)
+one_leaves run (said ∷ (next ∷ parts)) so is = absurd is
+
+made_leave : {A : Type 0} (wanted : Bool) (run : A → List (List Item) → Type 0) (thing : Option A) (parts : List (List Item)) → ((a : A) → run a parts → AllLeave parts) → Made wanted run thing parts → AllLeave parts
+made_leave {A} true run None parts so is = absurd is
+made_leave {A} true run (Some a) parts so is = so a is
+made_leave {A} false run None parts so is = subst AllLeave (sym is) tt
+made_leave {A} false run (Some a) parts so is = absurd is
+
+-- ---- the load of the old number
+
+load_begins : (core : Core) (heard : List Heard) → BeginsByListening (load_dialogue core heard)
+load_begins core [] = tt
+load_begins core (heard ∷ more) = tt
+
+told_load : (stop : LoadStop) (left : ℕ) (all said : List Item) → IsSaidOfLoad (Some stop) left all said → IsToldOf all said
+told_load (load.Ended end) left all said is = inl is
+told_load load.TurnsOver left all said is = inl is.0
+told_load (load.KeepFailed fault) left all said lacks = inr lacks
+told_load (load.LineFailed fault) left all said (inl whole) = inl whole.0
+told_load (load.LineFailed fault) left all said (inr lacks) = inr lacks
+
+deposit_begins : (address old patience turns : ℕ) (is_back : Bool) (said : List Item) → PutsBack address old patience turns is_back said → BeginsByListening said
+deposit_begins address old patience turns is_back said p =
+    let s = p.session in
+    let core : Core = begun_load p.plan 0 false patience in
+    told_begins (load_dialogue core s.heard) said (subst (IsToldOf (load_dialogue core s.heard)) (sym s.on_line) (told_load p.stop _ (load_dialogue core s.heard) s.said s.items)) (load_begins core s.heard)
+
+-- ---- the passes of the search
+
+pass_leaves : (turns patience from : ℕ) (pieces : Pieces) (stop : LookStop) (last : Reader) (said : List Item) → patience < 2 ^ 32 → ArePieces from pieces → IsPass turns patience from pieces stop last said → LeavesReady said
+pass_leaves turns patience from pieces stop last said long are p =
+    let s = p.inquired in
+    let run : Run = Look (last_words from pieces.bytes pieces.count) patience s.heard in
+    leave_ready run said (last_asked from pieces are, long) (subst (IsToldOf (dialogue_of run)) (sym s.on_line) (told_look stop _ (dialogue_of run) s.said s.items))
+
+-- where the next pass begins
+record NextAt (from next : ℕ) (pieces : Pieces) : Type 0 where
+  pub even : next % 2 ≡ 0
+  pub within : next + pieces.bytes ≤ from + pieces.bytes * pieces.count
+
+next_at : (turns patience from address : ℕ) (pieces : Pieces) (last : Reader) (said : List Item) → patience < 2 ^ 32 → ArePieces from pieces → IsPass turns patience from pieces (Ended (NoWord address)) last said → NextAt from (found from pieces last) pieces
+next_at turns patience from address pieces last said long are p =
+    let s = p.inquired in
+    let first : Reader = begun (last_words from pieces.bytes pieces.count) [] patience in
+    let over : IsOver from pieces last = record {
+      addresses = ap (λ (r : Reader). r.addresses) s.reader ∙ led_addresses first s.heard;
+      kept = subst IsReader (sym s.reader) (led_kept first s.heard (fresh_kept (last_words from pieces.bytes pieces.count) patience (last_asked from pieces are) long));
+    } in
+    let w = passed_within from pieces (Ended (NoWord address)) last are over p.end in
+    record { even = w.0; within = w.1 }
+
+-- what is left of a search leaves the machine ready, if the passes behind this one do
+goes_on_leaves : (stop : LookStop) (to : ℕ) (next : Search → List (List Item) → Type 0) (search : Search) (parts : List (List Item)) → ((address : ℕ) → stop ≡ Ended (NoWord address) → next search parts → AllLeave parts) → GoesOn stop to next search parts → AllLeave parts
+goes_on_leaves (Ended (NoWord address)) to next search parts so is = so address refl is
+goes_on_leaves (Ended Complete) to next search parts so is = subst AllLeave (sym is.1) tt
+goes_on_leaves (Ended GaveUp) to next search parts so is = subst AllLeave (sym is.1) tt
+goes_on_leaves TurnsOver to next search parts so is = subst AllLeave (sym is.1) tt
+goes_on_leaves (LineFailed fault) to next search parts so is = subst AllLeave (sym is.1) tt
+
+pass_then : (pieces : Pieces) (passes : List Pieces) (turns patience from : ℕ) (search : Search) (parts : List (List Item)) → patience < 2 ^ 32 → ArePieces from pieces →
+    ((next : ℕ) (rest : List (List Item)) → NextAt from next pieces → Searches passes turns patience next search rest → AllLeave rest) →
+    Searches (pieces ∷ passes) turns patience from search parts → AllLeave parts
+pass_then pieces passes turns patience from search [] long are so is = absurd is
+pass_then pieces passes turns patience from search (said ∷ parts) long are so (stop, last, p, goes) = (
+  pass_leaves turns patience from pieces stop last said long are p,
+  goes_on_leaves stop (found from pieces last) (Searches passes turns patience (found from pieces last)) search parts
+      (λ address is. so (found from pieces last) parts (next_at turns patience from address pieces last said long are (subst (λ (s : LookStop). IsPass turns patience from pieces s last said) is p))) goes,
+)
+
+none_then : (turns patience from : ℕ) (search : Search) (parts : List (List Item)) → Searches [] turns patience from search parts → AllLeave parts
+none_then turns patience from search parts is = subst AllLeave (sym is.1) tt
+
+search_leaves : (turns patience : ℕ) (search : Search) (parts : List (List Item)) → patience < 2 ^ 32 → Searches three_passes turns patience 0 search parts → AllLeave parts
+search_leaves turns patience search parts long is =
+    pass_then (record { bytes = 0o4000; count = 28 }) (record { bytes = 0o100; count = 32 } ∷ record { bytes = 2; count = 32 } ∷ []) turns patience 0 search parts long
+    (record { even = refl; whole = refl; some = omega arith; below = omega arith })
+    (λ from rest at. pass_then (record { bytes = 0o100; count = 32 }) (record { bytes = 2; count = 32 } ∷ []) turns patience from search rest long
+      (record { even = at.even; whole = refl; some = omega arith; below = omega (arith, at.within) })
+      (λ next more here. pass_then (record { bytes = 2; count = 32 }) [] turns patience next search more long
+        (record { even = here.even; whole = refl; some = omega arith; below = omega (arith, here.within, at.within) })
+        (λ last none there. none_then turns patience last search none)))
+    is
+
+-- ---- all of them
+
+one_hosts : (run : List Item → Type 0) (xs : List (List Item)) → ((said : List Item) → run said → BeginsByListening said) → One run xs → AreHosts (xs ++ [])
+one_hosts run [] so is = absurd is
+one_hosts run (said ∷ []) so is = so said is
+one_hosts run (said ∷ (next ∷ parts)) so is = absurd is
+
+one_then_all : (run : List Item → Type 0) (xs rest : List (List Item)) → ((said : List Item) → run said → LeavesReady said) → One run xs → AllLeave rest → AreHosts (xs ++ rest)
+one_then_all run [] rest so is all = absurd is
+one_then_all run (said ∷ []) rest so is all = hosts_all said rest (so said is) all
+one_then_all run (said ∷ (next ∷ parts)) rest so is all = absurd is
+
+-- behind the second look: the old number is put back or the end of memory is searched, and not both
+behind_second : (options : ProbeOptions) (verdict : Verdict) (old : ℕ) (put_back : Option Bool) (search : Option Extent) (xs ys : List (List Item)) →
+    Made (stores verdict) (λ is_back. One (PutsBack options.address old options.patience (turns_of options.patience) is_back)) put_back xs → Made (forgets verdict) (IsSearch options) search ys →
+    ((is_back : Bool) (said : List Item) → PutsBack options.address old options.patience (turns_of options.patience) is_back said → BeginsByListening said) → options.patience < 2 ^ 32 →
+    AllLeave (xs ++ ys) ⊎ AreHosts (xs ++ ys)
+behind_second options Stores old None search xs ys deposits searches begins long = absurd deposits
+behind_second options Stores old (Some is_back) None xs ys deposits searches begins long =
+    inr (subst (λ list. AreHosts (xs ++ list)) (sym searches) (one_hosts (PutsBack options.address old options.patience (turns_of options.patience) is_back) xs (begins is_back) deposits))
+behind_second options Stores old (Some is_back) (Some extent) xs ys deposits searches begins long = absurd searches
+behind_second options Forgets old None None xs ys deposits searches begins long = absurd searches
+behind_second options Forgets old None (Some extent) xs ys deposits searches begins long =
+    inl (subst (λ list. AllLeave (list ++ ys)) (sym deposits) (search_leaves (turns_of options.patience) options.patience searches.search ys long searches.passes))
+behind_second options Forgets old (Some is_back) search xs ys deposits searches begins long = absurd deposits
+behind_second options Unknown old None None xs ys deposits searches begins long = inl (subst (λ list. AllLeave (list ++ ys)) (sym deposits) (subst AllLeave (sym searches) tt))
+behind_second options Unknown old None (Some extent) xs ys deposits searches begins long = absurd searches
+behind_second options Unknown old (Some is_back) search xs ys deposits searches begins long = absurd deposits
+
+hosts : (options : ProbeOptions) (f : Findings) (parts : List (List Item)) → IsAddress options.address → options.patience < 2 ^ 32 →
+    (p : IsProbe options f parts) → AllLeave (p.in_deposit ++ p.in_search) ⊎ AreHosts (p.in_deposit ++ p.in_search) → AreHosts (p.in_first ++ (p.in_trial ++ (p.in_second ++ (p.in_deposit ++ p.in_search))))
+hosts options f parts address long p (inl all) =
+    one_then_all (IsLook options f.first) p.in_first (p.in_trial ++ (p.in_second ++ (p.in_deposit ++ p.in_search))) (λ said is. look_leaves options f.first said address long is) p.looked
+    (all_join p.in_trial (p.in_second ++ (p.in_deposit ++ p.in_search))
+      (made_leave (is_number f.first) _ f.trial p.in_trial (λ attempt is. one_leaves (IsTrialOf options (number_in f.first) attempt) p.in_trial (λ said made. trial_leaves_ready options (number_in f.first) attempt said address long made) is) p.tried)
+      (all_join p.in_second (p.in_deposit ++ p.in_search)
+        (made_leave (goes_on f.trial) _ f.second p.in_second (λ sighting is. one_leaves (IsLook options sighting) p.in_second (λ said made. look_leaves options sighting said address long made) is) p.looked_again)
+        all))
+hosts options f parts address long p (inr are) =
+    hosts_behind p.in_first (p.in_trial ++ (p.in_second ++ (p.in_deposit ++ p.in_search))) (one_leaves (IsLook options f.first) p.in_first (λ said made. look_leaves options f.first said address long made) p.looked)
+    (hosts_behind p.in_trial (p.in_second ++ (p.in_deposit ++ p.in_search))
+      (made_leave (is_number f.first) _ f.trial p.in_trial (λ attempt is. one_leaves (IsTrialOf options (number_in f.first) attempt) p.in_trial (λ said made. trial_leaves_ready options (number_in f.first) attempt said address long made) is) p.tried)
+      (hosts_behind p.in_second (p.in_deposit ++ p.in_search)
+        (made_leave (goes_on f.trial) _ f.second p.in_second (λ sighting is. one_leaves (IsLook options sighting) p.in_second (λ said made. look_leaves options sighting said address long made) is) p.looked_again)
+        are))
+
+pub believes_over : (options : ProbeOptions) (f : Findings) (parts : List (List Item)) → IsAddress options.address → options.patience < 2 ^ 32 →
+    IsProbe options f parts → IsBelievableOver f parts
+believes_over options f parts address long p machine now lost ready honest =
+    let begins = deposit_begins options.address (number_in f.first) options.patience (turns_of options.patience) in
+    let behind = behind_second options (verdict_of f) (number_in f.first) f.put_back f.search p.in_deposit p.in_search p.deposited p.searched begins long in
+    believes options f parts address long p machine now lost ready
+    (row_of_line machine now parts lost ready (subst AreHosts (sym p.parts_are) (hosts options f parts address long p behind)) honest)

@@ -1,0 +1,29 @@
+-- What may be believed of a probe.
+use Rattle.std.specs.Prelude.{◌≡◌, ℕ, ◌≤◌, true, List, Option, Some, None}
+use Rattle.tape_image.specs.Memory.{top_of}
+use Rattle.odt_machine.specs.Machine.{Machine, is_word, word_at}
+use Rattle.load_devices.specs.declared.item.Item.{Item}
+use Rattle.honest_line.specs.Honest.{IsHonest}
+use Rattle.memory_end.specs.Rows.{AreHonest, in_a_row}
+use Rattle.probe_report.specs.declared.findings.Extent.TheVariants.{Top}
+use Rattle.probe_report.specs.declared.findings.Findings.{Findings}
+use Rattle.probe_report.specs.declared.findings.Sighting.TheVariants.{Number, NoWord}
+use Rattle.reading_law.specs.Belief.{IsReady}
+
+-- memory is what it was; what a look read is what it holds, so that nothing is put back; and it ends where the search found its end
+pub record IsRight (f : Findings) (before now : List ℕ) : Type 0 where
+  pub memory : now ≡ before
+  pub first : (number : ℕ) → f.first ≡ Number number → number ≡ word_at before f.address
+  pub second : (number : ℕ) → f.second ≡ Some (Number number) → number ≡ word_at before f.address
+  pub nothing_put_back : f.put_back ≡ None
+  pub top : (top : ℕ) → f.search ≡ Some (Top top) → top_of before ≡ top
+
+-- over every machine that runs no program, and honest lines in a row
+abbrev pub IsBelievable : Findings → List (List Item) → Type 0
+IsBelievable f parts =
+    (machine now : Machine) (lost : ℕ) → IsReady machine → AreHonest machine parts lost now → IsRight f machine.memory now.memory
+
+-- over every machine that runs no program, and one honest line on which all the parts were said, one after another
+abbrev pub IsBelievableOver : Findings → List (List Item) → Type 0
+IsBelievableOver f parts =
+    (machine now : Machine) (lost : ℕ) → IsReady machine → IsHonest machine (in_a_row parts) lost now → IsRight f machine.memory now.memory

@@ -1,0 +1,51 @@
+-- What the runs of a probe come to, by how their engines stopped.
+use Rattle.std.specs.Prelude.{ℕ, nat_lt, List, [], ◌∷◌, Option, Some, None}
+use Rattle.memory_end.specs.declared.search.Search.{Search}
+use Rattle.memory_end.specs.declared.search.Search.TheVariants as search
+use Rattle.probe_report.specs.declared.findings.Attempt.{Attempt}
+use Rattle.probe_report.specs.declared.findings.Extent.{Extent}
+use Rattle.probe_report.specs.declared.findings.Extent.TheVariants as extent
+use Rattle.probe_report.specs.declared.findings.Sighting.{Sighting}
+use Rattle.probe_report.specs.declared.findings.Sighting.TheVariants as look
+use Rattle.probe_report.specs.declared.findings.TrialEnd.{TrialEnd}
+use Rattle.probe_report.specs.declared.findings.TrialEnd.TheVariants as trial
+use Rattle.reading_core.specs.declared.phase.End.TheVariants.{Complete, GaveUp, NoWord}
+use Rattle.reading_engine.specs.declared.stop.Stop.{Stop as LookStop}
+use Rattle.reading_engine.specs.declared.stop.Stop.TheVariants.{Ended, LineFailed, TurnsOver}
+use Rattle.trial_core.specs.declared.phase.End.TheVariants as last
+use Rattle.trial_core.specs.declared.trial.Trial.{Trial}
+use Rattle.trial_engine.specs.declared.stop.Stop.{Stop as TrialStop}
+use Rattle.trial_engine.specs.declared.stop.Stop.TheVariants as stopped
+
+-- the first of the numbers that were read
+abbrev pub first_of : List ℕ → Option ℕ
+first_of [] = None
+first_of (number ∷ more) = Some number
+
+-- what a look gave that stopped so and read this number
+abbrev pub sighting_of : LookStop → Option ℕ → Sighting
+sighting_of (Ended Complete) (Some number) = look.Number number
+sighting_of (Ended Complete) None = look.GaveUp
+sighting_of (Ended GaveUp) number = look.GaveUp
+sighting_of (Ended (NoWord address)) number = look.NoWord
+sighting_of TurnsOver number = look.TurnsOver
+sighting_of (LineFailed fault) number = look.LineFailed fault
+
+-- how a trial ended that stopped so
+abbrev pub trial_end_of : TrialStop → TrialEnd
+trial_end_of (stopped.Ended last.Tried) = trial.Tried
+trial_end_of (stopped.Ended last.GaveUp) = trial.GaveUp
+trial_end_of (stopped.Ended last.NoWord) = trial.NoWord
+trial_end_of stopped.TurnsOver = trial.TurnsOver
+trial_end_of (stopped.LineFailed fault) = trial.LineFailed fault
+
+-- what a trial gave that stopped so: its end, what it saw, and whether it had a mishap
+abbrev pub attempt_of : Trial → TrialStop → Attempt
+attempt_of t stop = record { end = trial_end_of stop; seen = t.seen; had_mishap = nat_lt 0 t.spent }
+
+-- what a search gave that came out so
+abbrev pub extent_of : Search → Extent
+extent_of (search.Ends top) = extent.Top top
+extent_of (search.Stopped (Ended end)) = extent.GaveUp
+extent_of (search.Stopped TurnsOver) = extent.TurnsOver
+extent_of (search.Stopped (LineFailed fault)) = extent.LineFailed fault

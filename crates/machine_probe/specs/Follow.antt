@@ -1,0 +1,70 @@
+-- Which runs a probe makes.
+use Rattle.std.specs.Prelude.{◌≡◌, ℕ, Bool, true, false, List, [], ◌++◌, Option, Some, None}
+use Rattle.load_devices.specs.declared.item.Item.{Item}
+use Rattle.probe_report.specs.declared.findings.Attempt.{Attempt}
+use Rattle.probe_report.specs.declared.findings.Findings.{Findings}
+use Rattle.probe_report.specs.declared.findings.Sighting.{Sighting}
+use Rattle.probe_report.specs.declared.findings.Sighting.TheVariants as look
+use Rattle.probe_report.specs.declared.findings.TrialEnd.{TrialEnd}
+use Rattle.probe_report.specs.declared.findings.TrialEnd.TheVariants as trial
+use Rattle.probe_report.specs.declared.judging.Verdict.{Verdict}
+use Rattle.probe_report.specs.declared.judging.Verdict.TheVariants.{Forgets, Stores, Unknown}
+use Rattle.probe_report.specs.Judging.{verdict_of}
+use Rattle.machine_probe.specs.declared.probe_options.ProbeOptions.{ProbeOptions}
+use Rattle.machine_probe.specs.PuttingBack.{PutsBack}
+use Rattle.machine_probe.specs.Runs.{IsLook, IsSearch, IsTrialOf, One}
+use Rattle.machine_probe.specs.Turns.{turns_of}
+
+-- the look read a number
+abbrev pub is_number : Sighting → Bool
+is_number (look.Number number) = true
+is_number sighting = false
+
+-- the number that a look read
+abbrev pub number_in : Sighting → ℕ
+number_in (look.Number number) = number
+number_in sighting = 0
+
+-- the line goes on behind a trial with this end
+abbrev pub has_line : TrialEnd → Bool
+has_line (trial.LineFailed fault) = false
+has_line end = true
+
+-- there was a trial, and the line goes on behind it
+abbrev pub goes_on : Option Attempt → Bool
+goes_on None = false
+goes_on (Some attempt) = has_line attempt.end
+
+-- the console stored the digits: the second look read another number
+abbrev pub stores : Verdict → Bool
+stores Stores = true
+stores verdict = false
+
+-- the console forgot the digits: both looks read the same number, and the trial came to its end
+abbrev pub forgets : Verdict → Bool
+forgets Forgets = true
+forgets verdict = false
+
+-- a run was made exactly where it is wanted, gave this, and these are its parts
+abbrev pub Made : {A : Type 0} → Bool → (A → List (List Item) → Type 0) → Option A → List (List Item) → Type 0
+Made {A} true run None parts = ⊥
+Made {A} true run (Some found) parts = run found parts
+Made {A} false run None parts = parts ≡ []
+Made {A} false run (Some found) parts = ⊥
+
+-- the runs of a probe gave these findings, with what was said in each of them: a look, a trial where it read the word, a second look
+-- behind every trial whose line goes on, and then the old number is put back where the console stored another, or memory's end is
+-- searched where it forgets
+pub record IsProbe (options : ProbeOptions) (f : Findings) (parts : List (List Item)) : Type 0 where
+  pub address : f.address ≡ options.address
+  pub in_first : List (List Item)
+  pub in_trial : List (List Item)
+  pub in_second : List (List Item)
+  pub in_deposit : List (List Item)
+  pub in_search : List (List Item)
+  pub parts_are : parts ≡ in_first ++ (in_trial ++ (in_second ++ (in_deposit ++ in_search)))
+  pub looked : One (IsLook options f.first) in_first
+  pub tried : Made (is_number f.first) (λ attempt. One (IsTrialOf options (number_in f.first) attempt)) f.trial in_trial
+  pub looked_again : Made (goes_on f.trial) (λ sighting. One (IsLook options sighting)) f.second in_second
+  pub deposited : Made (stores (verdict_of f)) (λ is_back. One (PutsBack options.address (number_in f.first) options.patience (turns_of options.patience) is_back)) f.put_back in_deposit
+  pub searched : Made (forgets (verdict_of f)) (IsSearch options) f.search in_search

@@ -1,0 +1,11 @@
+pub mod Belief
+pub mod Came
+pub mod Follow
+pub mod Noted
+pub mod Probe
+pub mod ProbeFault
+pub mod PuttingBack
+pub mod Rooms
+pub mod Runs
+pub mod Stopwatch
+pub mod Turns

@@ -1,0 +1,83 @@
+-- What `probe` does (this project's own).
+use Rattle.std.specs.Prelude.{◌≡◌, ℕ, List, [], Option}
+use Rattle.std.specs.Io.KnownBytes.{Appends}
+use Rattle.byte_io.specs.Output.{WritesAllBut}
+use Rattle.console_reach.specs.Reached.{OneMoreTime}
+use Rattle.load_devices.specs.declared.item.Item.{Item}
+use Rattle.load_devices.specs.Told.{Gains}
+use Rattle.memory_end.specs.Rows.{in_a_row}
+use Rattle.probe_report.specs.declared.findings.Findings.{Findings}
+use Rattle.probe_report.specs.declared.pace.Pace.{Pace}
+use Rattle.probe_report.specs.declared.probe_end.ProbeEnd.{ProbeEnd}
+use Rattle.probe_report.specs.Ending.{probe_end}
+use Rattle.probe_report.specs.Notes.{Noted}
+use Rattle.probe_report.specs.ProbeText.{probe_text}
+use Rattle.tape_blocks.specs.Told.{IsAsTold}
+use Rattle.machine_probe.specs.declared.probe_options.ProbeOptions.{ProbeOptions}
+use Rattle.machine_probe.specs.Belief.{IsBelievable, IsBelievableOver}
+use Rattle.machine_probe.specs.Follow.{IsProbe}
+use Rattle.machine_probe.specs.Noted.{AreNotesSince}
+
+-- what a probe's console and output tell: how often that one was tried to be reached, and what this one holds
+pub record ProbeTold : Type 0 where
+  pub tries : Option ℕ
+  pub out : Option (List ℕ)
+
+abbrev pub probe_told : {R W : Type 0} → (R → Option ℕ) → (W → Option (List ℕ)) → R → W → ProbeTold
+probe_told tries_of contents console out = record { tries = tries_of console; out = contents out }
+
+-- the runs of a probe were made over a line on which nothing was said before: these are their findings, and what was noted
+pub record IsProbed (options : ProbeOptions) (line line' : Option (List Item)) (f : Findings) (notes : Noted) : Type 0 where
+  pub fresh : IsAsTold line []
+  -- what was said in each run, and nothing else was said
+  pub parts : List (List Item)
+  pub runs : IsProbe options f parts
+  pub on_line : Gains line line' (in_a_row parts)
+  pub believed : IsBelievable f parts
+  pub believed_over : IsBelievableOver f parts
+  -- all that was said was noted
+  pub notes_are : AreNotesSince line line' notes
+
+-- a text is the report of a probe over a line that told this and then that, and so the probe ended
+pub record IsReport (options : ProbeOptions) (line line' : Option (List Item)) (text : List ℕ) (end : ProbeEnd) : Type 0 where
+  pub f : Findings
+  pub notes : Noted
+  pub pace : Pace
+  pub probed : IsProbed options line line' f notes
+  pub text_is : text ≡ probe_text f notes pace
+  pub end_is : end ≡ probe_end f notes.prompt
+
+-- the console was reached once, and the report was written
+pub record IsReportedOn (options : ProbeOptions) (line line' : Option (List Item)) (before after : ProbeTold) (end : ProbeEnd) : Type 0 where
+  pub tried : OneMoreTime before.tries after.tries
+  pub text : List ℕ
+  pub report : IsReport options line line' text end
+  pub reported : Appends before.out after.out text
+
+-- the same, with a report that may be cut short
+pub record IsCutShortOn (options : ProbeOptions) (line line' : Option (List Item)) (before after : ProbeTold) : Type 0 where
+  pub tried : OneMoreTime before.tries after.tries
+  pub text : List ℕ
+  pub end : ProbeEnd
+  pub report : IsReport options line line' text end
+  pub missing : List ℕ
+  pub reported : WritesAllBut before.out after.out text missing
+
+-- over some line
+abbrev pub IsReported : ProbeOptions → ProbeTold → ProbeTold → ProbeEnd → Type 0
+IsReported options before after end = (line : Option (List Item)) × (line' : Option (List Item)) × IsReportedOn options line line' before after end
+
+abbrev pub IsCutShort : ProbeOptions → ProbeTold → ProbeTold → Type 0
+IsCutShort options before after = (line : Option (List Item)) × (line' : Option (List Item)) × IsCutShortOn options line line' before after
+
+-- over a line of this type, which tells what was said on it
+abbrev pub IsReportedOver : {L : Type 0} → (L → Option (List Item)) → ProbeOptions → ProbeTold → ProbeTold → ProbeEnd → Type 0
+IsReportedOver {L} told options before after end = (line : L) × (line' : L) × IsReportedOn options (told line) (told line') before after end
+
+-- the same of the report alone
+abbrev pub IsReportOver : {L : Type 0} → (L → Option (List Item)) → ProbeOptions → List ℕ → ProbeEnd → Type 0
+IsReportOver {L} told options text end = (line : L) × (line' : L) × IsReport options (told line) (told line') text end
+
+-- the same of a line that is known before
+abbrev pub IsReportFrom : {L : Type 0} → (L → Option (List Item)) → ProbeOptions → L → List ℕ → ProbeEnd → Type 0
+IsReportFrom {L} told options line text end = (line' : L) × IsReport options (told line) (told line') text end

@@ -1,0 +1,62 @@
+use byte_io::WriteFault;
+use load_devices::LineFault;
+use std::alloc::AllocError;
+use tape_blocks::Memory;
+
+/// Why a probe came to nothing.
+#[derive(Clone, Copy, Debug, PartialEq, Eq)]
+pub enum ProbeFault {
+    /// The console can't be reached. Nothing was sent.
+    Connect,
+
+    /// The report can't be written whole. The probe was made.
+    WriteOutput,
+
+    /// A growth of memory was refused, and nothing was reported. No digit was typed into a word, or the
+    /// word holds the number that it held.
+    Memory,
+}
+
+impl From<LineFault> for ProbeFault {
+    ghost use Rattle.std.specs.Prelude.{◌≡◌};
+    ghost use Rattle.machine_probe.specs.declared.probe_fault.ProbeFault.TheVariants.{Connect};
+
+    ghost from_gives = { λ _ fault. fault ≡ Connect };
+
+    fn from(_line: LineFault) -> ProbeFault {
+        ProbeFault::Connect
+    }
+}
+
+impl From<WriteFault> for ProbeFault {
+    ghost use Rattle.std.specs.Prelude.{◌≡◌};
+    ghost use Rattle.machine_probe.specs.declared.probe_fault.ProbeFault.TheVariants.{WriteOutput};
+
+    ghost from_gives = { λ _ fault. fault ≡ WriteOutput };
+
+    fn from(_failed: WriteFault) -> ProbeFault {
+        ProbeFault::WriteOutput
+    }
+}
+
+impl From<AllocError> for ProbeFault {
+    ghost use Rattle.std.specs.Prelude.{◌≡◌};
+    ghost use Rattle.machine_probe.specs.declared.probe_fault.ProbeFault.TheVariants.{Memory as OutOfMemory};
+
+    ghost from_gives = { λ _ fault. fault ≡ OutOfMemory };
+
+    fn from(_refused: AllocError) -> ProbeFault {
+        ProbeFault::Memory
+    }
+}
+
+impl From<Memory> for ProbeFault {
+    ghost use Rattle.std.specs.Prelude.{◌≡◌};
+    ghost use Rattle.machine_probe.specs.declared.probe_fault.ProbeFault.TheVariants.{Memory as OutOfMemory};
+
+    ghost from_gives = { λ _ fault. fault ≡ OutOfMemory };
+
+    fn from(_refused: Memory) -> ProbeFault {
+        ProbeFault::Memory
+    }
+}

@@ -1,0 +1,117 @@
+//! The command `probe`.
+ghost use Rattle.std.specs.Prelude.{◌≡◌, [], IfErr, IfOk, OnOk};
+ghost use Rattle.console_reach.specs.Reached.{OneMoreTime};
+ghost use Rattle.tape_blocks.specs.Told.{IsAsTold};
+ghost use Rattle.reading_core.specs.Addresses.{IsAddress};
+ghost use Rattle.machine_probe.specs.Probe.{IsReportFrom, IsReportOver, IsReported, IsReportedOver, probe_told};
+ghost use Rattle.machine_probe.specs.ProbeFault.{IsProbeFault, IsUnreported};
+ghost use Rattle.machine_probe.specs.Rooms.{AreLookers};
+
+use crate::noted_line::{NotedLine, Opening};
+use crate::probe_fault::ProbeFault;
+use crate::probe_options::ProbeOptions;
+use crate::runs::{Lookers, make_runs};
+use byte_io::write_and_flush;
+use console_reach::Reach;
+use load_devices::Line;
+use probe_report::{LONGEST_REPORT, ProbeEnd, put_report};
+use std::alloc::{AllocError, Global};
+use std::io::Write;
+use std::marker::Brand;
+use std::time::Clock;
+
+/// Tries whether a console forgets digits at an illegal key, and reports what it found: whether a prompt
+/// was heard, the console's style, whether it forgets, where memory ends, how fast it goes, and how the
+/// probe ended.
+///
+/// The word at the address is looked at, tried and looked at again, also where the trial gave up. Where
+/// the second look reads another number, the old one is put back; where it reads the same and the trial
+/// came to its end, the end of memory is searched. Each run has at most 10,000 turns, and 100 more for
+/// each mishap of the patience.
+///
+/// `Connect` comes before anything was sent. `WriteOutput` is a report that could not be written whole.
+/// `Memory` comes only where a growth was refused, with nothing reported: before a digit was typed, or
+/// behind a second look that read the same number.
+pub fn probe<R: Reach, W: Write, C: Clock>(
+    alloc: Global,
+    options: ProbeOptions,
+    console: &mut R,
+    out: &mut W,
+    clock: &C,
+) -> Result<ProbeEnd, ProbeFault>
+    requires { IsAddress options.address }
+    ensures reported { IfOk result (IsReported options
+        (probe_told R.tries W.contents console.old out.old)
+        (probe_told R.tries W.contents console.new out.new)) }
+    ensures over_line { IfOk result (IsReportedOver R.Line.told options
+        (probe_told R.tries W.contents console.old out.old)
+        (probe_told R.tries W.contents console.new out.new)) }
+    ensures fault { IfErr result (IsProbeFault options
+        (probe_told R.tries W.contents console.old out.old)
+        (probe_told R.tries W.contents console.new out.new)) }
+{
+    let mut report = Vec::with_capacity(alloc, LONGEST_REPORT)?;
+    let end = gather(alloc, options, console, clock, &mut report)?;
+    write_and_flush(out, &report)?;
+    Ok(end)
+}
+
+// Reaches the console, makes the probe, and puts its report into an empty text. Everything that fails
+// here comes before anything was reported.
+fn gather<R: Reach, C: Clock>(
+    alloc: Global,
+    options: ProbeOptions,
+    console: &mut R,
+    clock: &C,
+    report: &mut Vec<u8>,
+) -> Result<ProbeEnd, ProbeFault>
+    requires address { IsAddress options.address }
+    requires empty { report.old.items ≡ [] }
+    ensures report { IfOk result (IsReportOver R.Line.told options report.new.items) }
+    ensures tried { OnOk result (OneMoreTime (R.tries console.old) (R.tries console.new)) }
+    ensures fault { IfErr result (IsUnreported (R.tries console.old) (R.tries console.new)) }
+{
+    let lookers = Lookers::new(alloc, options)?;
+    let line = console.reach()?;
+    let end = report_runs(alloc, lookers, options, line, clock, report)?;
+    Ok(end)
+}
+
+// Makes the runs of a probe over a fresh line, and puts their report into an empty text.
+fn report_runs<L: Line + Drop, C: Clock>(
+    alloc: Global,
+    lookers: Lookers,
+    options: ProbeOptions,
+    line: L,
+    clock: &C,
+    report: &mut Vec<u8>,
+) -> Result<ProbeEnd, AllocError>
+    requires address { IsAddress options.address }
+    requires lookers { AreLookers options lookers }
+    requires fresh { IsAsTold (L.told line) [] }
+    requires empty { report.old.items ≡ [] }
+    ensures { IfOk result (IsReportFrom L.told options line report.new.items) }
+{
+    report_noted::<L, C, Brand>(alloc, lookers, options, line, clock, report)
+}
+
+// The same, where what the line told at first has a name.
+fn report_noted<L: Line + Drop, C: Clock, E: Opening>(
+    alloc: Global,
+    lookers: Lookers,
+    options: ProbeOptions,
+    line: L,
+    clock: &C,
+    report: &mut Vec<u8>,
+) -> Result<ProbeEnd, AllocError>
+    requires address { IsAddress options.address }
+    requires lookers { AreLookers options lookers }
+    requires opening { L.told line ≡ E.told }
+    requires fresh { IsAsTold (L.told line) [] }
+    requires empty { report.old.items ≡ [] }
+    ensures { IfOk result (IsReportFrom L.told options line report.new.items) }
+{
+    let mut line: NotedLine<'_, L, C, E> = NotedLine::new(line, clock);
+    let findings = make_runs(alloc, lookers, options, &mut line)?;
+    put_report(report, &findings, line.notes(), line.pace())
+}

@@ -1,0 +1,96 @@
+//! Putting an old number back into a word.
+ghost use Rattle.std.specs.Prelude.{◌≡◌, ℕ, IfOk};
+ghost use Rattle.reading_core.specs.Addresses.{IsAddress};
+ghost use Rattle.machine_probe.specs.PuttingBack.{IsDeposit, IsPlanOf, IsPutBack, is_loaded};
+
+use host_core::{End, HostCore, Progress};
+use load_devices::{Line, MemoryKeep};
+use load_engine::{Stop, drive};
+use std::alloc::{AllocError, Global};
+use tape_blocks::{Block, Memory, Tape};
+use tape_image::Plan;
+
+// An odd start address, which asks for no start.
+const NO_START: u16 = 1;
+
+// How many values a byte has.
+const BYTE: u16 = 256;
+
+/// A load of one word that was not begun, with all the memory that it takes.
+#[derive(Drop)]
+pub(crate) struct Deposit {
+    /// The host, at the beginning of its life.
+    pub core: HostCore,
+
+    /// What keeps the one word, once it is verified.
+    pub keeper: MemoryKeep,
+}
+
+impl Deposit {
+    /// A load that deposits the old number of the word at an address and starts nothing, by a host that
+    /// survives so many mishaps. The error is want of memory.
+    pub(crate) fn new(
+        alloc: Global,
+        address: u16,
+        old: u16,
+        patience: u32,
+    ) -> Result<Deposit, AllocError>
+        requires { IsAddress address }
+        ensures { IfOk result (IsDeposit address old patience) }
+    {
+        match deposit_of(alloc, address, old, patience) {
+            Ok(deposit) => Ok(deposit),
+            Err(Memory) => Err(AllocError),
+        }
+    }
+}
+
+/// Makes the load over a line for at most so many turns, and answers whether it came to its end: the word
+/// was read back and holds the old number again. It takes no memory.
+pub(crate) fn put_back<L: Line>(deposit: Deposit, line: &mut L, turns: u64) -> bool
+    ensures { (address old patience : ℕ) → IsDeposit address old patience deposit → IsPutBack address old patience turns result (L.told line.old) (L.told line.new) }
+{
+    let Deposit { core, mut keeper } = deposit;
+    let (_, stop) = drive(core, line, &mut keeper, turns);
+    is_loaded(stop)
+}
+
+// Whether a load came to its end.
+fn is_loaded(stop: Stop) -> bool
+    ensures { result ≡ is_loaded stop }
+{
+    match stop {
+        Stop::Ended(End::Loaded) => true,
+        _ => false,
+    }
+}
+
+fn deposit_of(
+    alloc: Global,
+    address: u16,
+    old: u16,
+    patience: u32,
+) -> Result<Deposit, Memory>
+    requires { IsAddress address }
+    ensures { IfOk result (IsDeposit address old patience) }
+{
+    let plan = plan_of(alloc, address, old)?;
+    let nothing = Progress {
+        verified: 0,
+        going: false,
+    };
+    let core = HostCore::new(plan, nothing, patience).unwrap();
+    let keeper = MemoryKeep::new(alloc, 1, None)?;
+    Ok(Deposit { core, keeper })
+}
+
+// The plan of this one word.
+fn plan_of(alloc: Global, address: u16, old: u16) -> Result<Plan, Memory>
+    requires { IsAddress address }
+    ensures { IfOk result (IsPlanOf address old) }
+{
+    let bytes = vec![in alloc; (old % BYTE) as u8, (old / BYTE) as u8]?;
+    let blocks = vec![in alloc; Block { address, bytes }]?;
+    let tape = Tape::new(blocks, NO_START).unwrap();
+    Plan::of(alloc, &tape)
+}

@@ -1,0 +1,255 @@
+//! The runs of a probe, one after another over one line.
+ghost use Rattle.std.specs.Prelude.{◌≡◌, IfOk};
+ghost use Rattle.reading_core.specs.Addresses.{IsAddress};
+ghost use Rattle.reading_core.specs.Invariant.{IsReader};
+ghost use Rattle.trial_law.specs.Again.{looker};
+ghost use Rattle.probe_report.specs.Judging.{verdict_of};
+ghost use Rattle.machine_probe.specs.Came.{attempt_of, extent_of, first_of, sighting_of, trial_end_of};
+ghost use Rattle.machine_probe.specs.Follow.{IsProbe, Made, forgets, goes_on, is_number, number_in, stores};
+ghost use Rattle.machine_probe.specs.PuttingBack.{PutsBack};
+ghost use Rattle.machine_probe.specs.Rooms.{AreLookers, HasDeposit};
+ghost use Rattle.machine_probe.specs.Runs.{IsLook, IsSearch, IsTrialOf, OnLine, One};
+ghost use Rattle.machine_probe.specs.Turns.{turns_of};
+
+use crate::probe_options::ProbeOptions;
+use crate::putting_back::{Deposit, put_back};
+use load_devices::Line;
+use memory_end::{Search, find_end};
+use probe_report::{Attempt, Extent, Findings, Sighting, TrialEnd, Verdict, judge};
+use reading_core::{End, ReadingCore};
+use reading_engine::{Stop, inquire};
+use std::alloc::{AllocError, Global};
+use tape_blocks::Memory;
+use trial_core::{End as LastOfTrial, Trial};
+use trial_engine::{Stop as TrialStop, attempt};
+
+/// The hosts of the two looks.
+#[derive(Drop)]
+pub(crate) struct Lookers {
+    pub first: ReadingCore,
+    pub second: ReadingCore,
+}
+
+impl Lookers {
+    /// Two hosts that look at the word. The one error is want of memory.
+    pub fn new(alloc: Global, options: ProbeOptions) -> Result<Lookers, Memory>
+        requires { IsAddress options.address }
+        ensures { IfOk result (AreLookers options) }
+    {
+        Ok(Lookers {
+            first: looker(alloc, options)?,
+            second: looker(alloc, options)?,
+        })
+    }
+}
+
+// A host that looks at the word.
+fn looker(alloc: Global, options: ProbeOptions) -> Result<ReadingCore, Memory>
+    requires { IsAddress options.address }
+    ensures begun { IfOk result (λ core. core ≡ looker options.address options.patience) }
+    ensures kept { IfOk result IsReader }
+{
+    ReadingCore::of_range(alloc, options.address, options.address, options.patience)
+}
+
+/// Makes the runs of a probe: a look at the word, the trial of it, a second look, and then either the
+/// old number is put back or the end of memory is searched.
+///
+/// The one error is want of memory, before a digit was typed or behind a second look that read the same
+/// number.
+pub(crate) fn make_runs<L: Line>(
+    alloc: Global,
+    lookers: Lookers,
+    options: ProbeOptions,
+    line: &mut L,
+) -> Result<Findings, AllocError>
+    requires address { IsAddress options.address }
+    requires lookers { AreLookers options lookers }
+    ensures { IfOk result (λ found. OnLine (IsProbe options found) (L.told line.old) (L.told line.new)) }
+{
+    let Lookers {
+        first: first_core,
+        second: second_core,
+    } = lookers;
+    let first = look(first_core, options, line);
+    let deposit = deposit_for(alloc, first, options)?;
+    let trial = try_word(first, options, line);
+    let second = look_again(trial, second_core, options, line);
+    let found = Findings {
+        address: options.address,
+        first,
+        trial,
+        second,
+        put_back: None,
+        search: None,
+    };
+    let put_back = restore(&found, deposit, options, line);
+    let search = find_memory(alloc, judge(&found), options, line)?;
+    Ok(Findings {
+        put_back,
+        search,
+        ..found
+    })
+}
+
+// A look at the word.
+fn look<L: Line>(core: ReadingCore, options: ProbeOptions, line: &mut L) -> Sighting
+    requires { core ≡ looker options.address options.patience }
+    ensures { OnLine (One (IsLook options result)) (L.told line.old) (L.told line.new) }
+{
+    let (core, stop) = inquire(core, line, options.turns());
+    sighting_of(stop, first_of(core.values()))
+}
+
+// The first of the numbers.
+fn first_of(numbers: &[u16]) -> Option<u16>
+    ensures { result ≡ first_of numbers.now }
+{
+    match numbers {
+        [number, ..] => Some(*number),
+        [] => None,
+    }
+}
+
+// What a look gave that stopped so and read this number.
+fn sighting_of(stop: Stop, number: Option<u16>) -> Sighting
+    ensures { result ≡ sighting_of stop number }
+{
+    match (stop, number) {
+        (Stop::Ended(End::Complete), Some(number)) => Sighting::Number(number),
+        (Stop::Ended(End::Complete), None) => Sighting::GaveUp,
+        (Stop::Ended(End::GaveUp), _) => Sighting::GaveUp,
+        (Stop::Ended(End::NoWord(_)), _) => Sighting::NoWord,
+        (Stop::TurnsOver, _) => Sighting::TurnsOver,
+        (Stop::LineFailed(fault), _) => Sighting::LineFailed(fault),
+    }
+}
+
+// What it takes to put the number back that the first look read, if it read one.
+fn deposit_for(
+    alloc: Global,
+    first: Sighting,
+    options: ProbeOptions,
+) -> Result<Option<Deposit>, AllocError>
+    requires { IsAddress options.address }
+    ensures { IfOk result (HasDeposit options first) }
+{
+    match first {
+        Sighting::Number(old) => {
+            let deposit = Deposit::new(alloc, options.address, old, options.patience)?;
+            Ok(Some(deposit))
+        }
+        _ => Ok(None),
+    }
+}
+
+// The trial, where the first look read the word.
+fn try_word<L: Line>(first: Sighting, options: ProbeOptions, line: &mut L) -> Option<Attempt>
+    requires { IsAddress options.address }
+    ensures { OnLine (Made (is_number first) (λ attempt. One (IsTrialOf options (number_in first) attempt)) result) (L.told line.old) (L.told line.new) }
+{
+    match first {
+        Sighting::Number(old) => Some(try_number(old, options, line)),
+        _ => None,
+    }
+}
+
+// A trial of the word, which holds this number.
+fn try_number<L: Line>(old: u16, options: ProbeOptions, line: &mut L) -> Attempt
+    requires { IsAddress options.address }
+    ensures { OnLine (One (IsTrialOf options old result)) (L.told line.old) (L.told line.new) }
+{
+    let trial = Trial::new(options.address, old, options.patience);
+    let (trial, stop) = attempt(trial, line, options.turns());
+    attempt_of(trial, stop)
+}
+
+// What a trial gave that stopped so.
+fn attempt_of(trial: Trial, stop: TrialStop) -> Attempt
+    ensures { result ≡ attempt_of trial stop }
+{
+    Attempt {
+        end: trial_end_of(stop),
+        seen: trial.seen,
+        had_mishap: trial.spent > 0,
+    }
+}
+
+// How a trial ended that stopped so.
+fn trial_end_of(stop: TrialStop) -> TrialEnd
+    ensures { result ≡ trial_end_of stop }
+{
+    match stop {
+        TrialStop::Ended(LastOfTrial::Tried) => TrialEnd::Tried,
+        TrialStop::Ended(LastOfTrial::GaveUp) => TrialEnd::GaveUp,
+        TrialStop::Ended(LastOfTrial::NoWord) => TrialEnd::NoWord,
+        TrialStop::TurnsOver => TrialEnd::TurnsOver,
+        TrialStop::LineFailed(fault) => TrialEnd::LineFailed(fault),
+    }
+}
+
+// The second look, behind every trial whose line goes on: digits may have been typed in each of them.
+fn look_again<L: Line>(
+    trial: Option<Attempt>,
+    core: ReadingCore,
+    options: ProbeOptions,
+    line: &mut L,
+) -> Option<Sighting>
+    requires { core ≡ looker options.address options.patience }
+    ensures { OnLine (Made (goes_on trial) (λ sighting. One (IsLook options sighting)) result) (L.told line.old) (L.told line.new) }
+{
+    match trial {
+        None => None,
+        Some(Attempt {
+            end: TrialEnd::LineFailed(_),
+            ..
+        }) => None,
+        Some(_) => Some(look(core, options, line)),
+    }
+}
+
+// Puts the old number back, where the console stored another.
+fn restore<L: Line>(
+    found: &Findings,
+    deposit: Option<Deposit>,
+    options: ProbeOptions,
+    line: &mut L,
+) -> Option<bool>
+    requires { HasDeposit options found.now.first deposit }
+    ensures { OnLine (Made (stores (verdict_of found.now)) (λ is_back. One (PutsBack options.address (number_in found.now.first) options.patience (turns_of options.patience) is_back)) result) (L.told line.old) (L.told line.new) }
+{
+    match (judge(found), deposit) {
+        (Verdict::Stores, Some(deposit)) => Some(put_back(deposit, line, options.turns())),
+        _ => None,
+    }
+}
+
+// Searches the end of memory, where the console forgets.
+fn find_memory<L: Line>(
+    alloc: Global,
+    verdict: Verdict,
+    options: ProbeOptions,
+    line: &mut L,
+) -> Result<Option<Extent>, AllocError>
+    ensures { IfOk result (λ search. OnLine (Made (forgets verdict) (IsSearch options) search) (L.told line.old) (L.told line.new)) }
+{
+    match verdict {
+        Verdict::Forgets => {
+            let search = find_end(alloc, line, options.patience, options.turns())?;
+            Ok(Some(extent_of(search)))
+        }
+        _ => Ok(None),
+    }
+}
+
+// What a search gave that came out so.
+fn extent_of(search: Search) -> Extent
+    ensures { result ≡ extent_of search }
+{
+    match search {
+        Search::Ends(top) => Extent::Top(top),
+        Search::Stopped(Stop::Ended(_)) => Extent::GaveUp,
+        Search::Stopped(Stop::TurnsOver) => Extent::TurnsOver,
+        Search::Stopped(Stop::LineFailed(fault)) => Extent::LineFailed(fault),
+    }
+}

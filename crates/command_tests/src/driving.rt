@@ -32,11 +32,16 @@ fn load_over(
     Some((stop, core.sent_count()))
 }
 
-// The same over a line to the console of a system, or None where there is no connection.
+// The line to the console of a system, or None where there is no connection.
+fn line_to(system: &System<'_>) -> Option<SocketLine<Console>> {
+    let mut network = system;
+    SocketLine::connect(&mut network, "127.0.0.1:2323", QUIET_MS).ok()
+}
+
+// The same over a line to the console of a system.
 fn load_one_word(rt: &HostRuntime, keeper: &mut FileKeep<Vec<u8>>) -> Option<(Stop, u64)> {
     let system = System::new(rt, AMPLE);
-    let mut network = &system;
-    let mut line = SocketLine::connect(&mut network, "127.0.0.1:2323", QUIET_MS).ok()?;
+    let mut line = line_to(&system)?;
     load_over(rt.alloc(), &mut line, keeper)
 }
 

@@ -1,5 +1,5 @@
 -- How the runs of a probe come to stand one behind another.
-use Rattle.std.proofs.Common.{◌≡◌, ℕ, true, false, Bool, List, [], ◌∷◌, ◌++◌, length, Option, Some, None, refl, ap, sym, subst, ◌∙◌, append_assoc, append-nil}
+use Rattle.std.proofs.Common.{◌≡◌, ℕ, ◌+◌, ◌-◌, ◌*◌, ◌/◌, true, false, Bool, List, [], ◌∷◌, ◌++◌, length, Option, Some, None, refl, arith, ap, sym, subst, ◌∙◌, append_assoc, append-nil}
 use Rattle.load_devices.specs.declared.item.Item.{Item}
 use Rattle.load_devices.specs.Told.{Gains}
 use Rattle.load_engine.proofs.Sessions.{gains_join, gains_none}
@@ -17,6 +17,7 @@ use Rattle.probe_report.specs.declared.findings.TrialEnd.TheVariants as trial
 use Rattle.probe_report.specs.declared.judging.Verdict.{Verdict}
 use Rattle.probe_report.specs.declared.judging.Verdict.TheVariants.{Forgets, Stores, Unknown}
 use Rattle.probe_report.specs.Judging.{on_looks, on_numbers, on_same_number, verdict_of}
+use Rattle.reading_core.specs.Addresses.{addresses_between, addresses_from}
 use Rattle.reading_core.specs.Reader.{Reader}
 use Rattle.reading_engine.specs.declared.stop.Stop.{Stop as LookStop}
 use Rattle.reading_engine.specs.Inquired.{Inquired, TellsEnd}
@@ -33,6 +34,22 @@ use Rattle.machine_probe.specs.PuttingBack.{IsPutBack, PutsBack}
 use Rattle.machine_probe.specs.Rooms.{HasDeposit}
 use Rattle.machine_probe.specs.Runs.{IsLook, IsSearch, IsTrialOf, OnLine, One}
 use Rattle.machine_probe.specs.Turns.{turns_of}
+
+-- ---- the hosts of the looks
+
+single : (a : ℕ) → addresses_from a 1 ≡ a ∷ []
+unfolding addresses_from
+single a = ap (λ (n : ℕ). n ∷ []) (none_more a)
+  where
+    none_more : (n : ℕ) → n + 2 * 0 ≡ n
+    none_more n = omega arith
+
+-- the words from an address to itself are the one word
+pub one_between : (a : ℕ) → addresses_between a a ≡ a ∷ []
+one_between a = ap (addresses_from a) (count a) ∙ single a
+  where
+    count : (n : ℕ) → (n - n) / 2 + 1 ≡ 1
+    count n = omega arith
 
 -- ---- one run
 

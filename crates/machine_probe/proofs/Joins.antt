@@ -142,6 +142,11 @@ deposit_of options GaveUp trial second deposit P is so has = absurd (cc is)
 deposit_of options TurnsOver trial second deposit P is so has = absurd (cc is)
 deposit_of options (LineFailed fault) trial second deposit P is so has = absurd (cc is)
 
+pub not_stores : (verdict : Verdict) → (verdict ≡ Stores → ⊥) → stores verdict ≡ false
+not_stores Forgets other = refl
+not_stores Stores other = absurd (other refl)
+not_stores Unknown other = refl
+
 -- ---- all of them
 
 row_append : (xs ys : List (List Item)) → in_a_row (xs ++ ys) ≡ in_a_row xs ++ in_a_row ys
@@ -151,14 +156,14 @@ row_append (said ∷ xs) ys = ap (λ rest. said ++ rest) (row_append xs ys) ∙ 
 rows_join : (a b c : Option (List Item)) (xs ys : List (List Item)) → Gains a b (in_a_row xs) → Gains b c (in_a_row ys) → Gains a c (in_a_row (xs ++ ys))
 rows_join a b c xs ys g h = subst (Gains a c) (sym (row_append xs ys)) (gains_join a b c (in_a_row xs) (in_a_row ys) g h)
 
-pub all_runs : (options : ProbeOptions) (f : Findings) (l0 l1 l2 l3 l4 l5 : Option (List Item)) → f.address ≡ options.address →
+pub all_runs : (options : ProbeOptions) (f : Findings) (verdict : Verdict) (l0 l1 l2 l3 l4 l5 : Option (List Item)) → f.address ≡ options.address →
     OnLine (One (IsLook options f.first)) l0 l1 →
     OnLine (Made (is_number f.first) (λ attempt. One (IsTrialOf options (number_in f.first) attempt)) f.trial) l1 l2 →
     OnLine (Made (goes_on f.trial) (λ sighting. One (IsLook options sighting)) f.second) l2 l3 →
     OnLine (Made (stores (verdict_of f)) (λ is_back. One (PutsBack options.address (number_in f.first) options.patience (turns_of options.patience) is_back)) f.put_back) l3 l4 →
-    OnLine (Made (forgets (verdict_of f)) (IsSearch options) f.search) l4 l5 →
+    verdict ≡ verdict_of f → OnLine (Made (forgets verdict) (IsSearch options) f.search) l4 l5 →
     OnLine (IsProbe options f) l0 l5
-all_runs options f l0 l1 l2 l3 l4 l5 address a b c d e = record {
+all_runs options f verdict l0 l1 l2 l3 l4 l5 address a b c d judged e = record {
   parts = a.parts ++ (b.parts ++ (c.parts ++ (d.parts ++ e.parts)));
   are = record {
     address = address;
@@ -172,7 +177,7 @@ all_runs options f l0 l1 l2 l3 l4 l5 address a b c d e = record {
     tried = b.are;
     looked_again = c.are;
     deposited = d.are;
-    searched = e.are;
+    searched = subst (λ (v : Verdict). Made (forgets v) (IsSearch options) f.search e.parts) judged e.are;
   };
   on_line = rows_join l0 l1 l5 a.parts (b.parts ++ (c.parts ++ (d.parts ++ e.parts))) a.on_line
       (rows_join l1 l2 l5 b.parts (c.parts ++ (d.parts ++ e.parts)) b.on_line

@@ -3,5 +3,5 @@ use Rattle.machine_probe.proofs.runs.try_number.Goals as goal
 
 pub returns : goal.returns
 returns g c =
-    trial_is c.args.options c.args.old c.new-trial.result c.attempt-trial.result.0 c.attempt-trial.result.1 c.turns.result c.attempt_of.result (g.L.Line.told c.args.line.now) (g.L.Line.told c.attempt-trial.new.line)
-    c.new-trial.ensures.begun c.turns.ensures c.attempt-trial.ensures.turns c.attempt-trial.ensures.end c.attempt_of.ensures
+    trial_is c.args.options c.args.old c.new-trial.result c.attempt-stop.result.0 c.attempt-stop.result.1 c.turns.result c.attempt_of.result (g.L.Line.told c.args.line.now) (g.L.Line.told c.attempt-stop.new.line)
+    c.new-trial.ensures.begun c.turns.ensures c.attempt-stop.ensures.turns c.attempt-stop.ensures.end c.attempt_of.ensures

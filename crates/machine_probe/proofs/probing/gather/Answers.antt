@@ -19,7 +19,7 @@ pub returns-in_err-line-clause-tried : goal.returns-in_err-line-clause-tried
 returns-in_err-line-clause-tried g c = no_ok c.from_residual-in_err-line.result _ _ c.from_residual-in_err-line.ensures.1
 
 pub returns-in_err-line-clause-fault : goal.returns-in_err-line-clause-fault
-returns-in_err-line-clause-fault g c = error_is c.from_residual-in_err-line.result Connect (IsUnreported (g.R.Reach.tries c.args.console.now) (g.R.Reach.tries c.reach.new.console)) c.from_residual-in_err-line.ensures.1 c.reach.ensures.tried
+returns-in_err-line-clause-fault g c = error_is c.from_residual-in_err-line.result Connect (IsUnreported (g.R.Reach.tries c.args.console.now) (g.R.Reach.tries c.reach.new.self)) c.from_residual-in_err-line.ensures.1 c.reach.ensures.tried
 
 pub returns-in_err-end-clause-report : goal.returns-in_err-end-clause-report
 returns-in_err-end-clause-report g c = no_value c.from_residual-in_err-end.result _ _ c.from_residual-in_err-end.ensures.1
@@ -28,7 +28,7 @@ pub returns-in_err-end-clause-tried : goal.returns-in_err-end-clause-tried
 returns-in_err-end-clause-tried g c = no_ok c.from_residual-in_err-end.result _ _ c.from_residual-in_err-end.ensures.1
 
 pub returns-in_err-end-clause-fault : goal.returns-in_err-end-clause-fault
-returns-in_err-end-clause-fault g c = error_is c.from_residual-in_err-end.result Memory (IsUnreported (g.R.Reach.tries c.args.console.now) (g.R.Reach.tries c.reach.new.console)) c.from_residual-in_err-end.ensures.1 tt
+returns-in_err-end-clause-fault g c = error_is c.from_residual-in_err-end.result Memory (IsUnreported (g.R.Reach.tries c.args.console.now) (g.R.Reach.tries c.reach.new.self)) c.from_residual-in_err-end.ensures.1 tt
 
 pub returns-clause-report : goal.returns-clause-report
 returns-clause-report g c = (c.in_ok-line.line, c.in_ok-end.ensures.0, c.in_ok-end.ensures.1)

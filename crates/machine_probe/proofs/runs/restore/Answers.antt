@@ -15,13 +15,13 @@ returns-in-Stores-Some g c =
     let stored = ap stores (sym c.in-Stores-Some.ensures) in
     made _ _ c.put_back.result (g.L.Line.told c.args.line.now) (g.L.Line.told c.put_back.new.line) stored
     (deposit_of o f.first f.trial f.second c.in-Stores-Some.deposit
-      (λ (old : ℕ). OnLine (One (PutsBack o.address old o.patience (turns_of o.patience) c.put_back.result)) (g.L.Line.told c.args.line.now) (g.L.Line.told c.put_back.new.line)) stored
-      (λ old has. puts_is o old c.turns.result c.put_back.result (g.L.Line.told c.args.line.now) (g.L.Line.told c.put_back.new.line) c.turns.ensures (c.put_back.ensures o.address old o.patience has))
-      (subst (HasDeposit o f.first) c.in-Stores-Some.is-1 c.requires))
+    (λ (old : ℕ). OnLine (One (PutsBack o.address old o.patience (turns_of o.patience) c.put_back.result)) (g.L.Line.told c.args.line.now) (g.L.Line.told c.put_back.new.line)) stored
+    (λ old has. puts_is o old c.turns.result c.put_back.result (g.L.Line.told c.args.line.now) (g.L.Line.told c.put_back.new.line) c.turns.ensures (c.put_back.ensures o.address old o.patience has))
+    (subst (HasDeposit o f.first) c.in-Stores-Some.is-1 c.requires))
 
 pub returns-in_default : goal.returns-in_default
 returns-in_default g c = elim c.in_default.branch [
-  in_default-via-in-Stores+in_default w ↦
-    absurd (can_put_back c.args.options c.args.found.now.first c.args.found.now.trial c.args.found.now.second (ap stores (sym w.in_default.ensures)) (subst (HasDeposit c.args.options c.args.found.now.first) w.in_default.is-1 c.requires))
+  | in_default-via-in-Stores+in_default w ↦
+      absurd (can_put_back c.args.options c.args.found.now.first c.args.found.now.trial c.args.found.now.second (ap stores (sym w.in_default.ensures)) (subst (HasDeposit c.args.options c.args.found.now.first) w.in_default.is-1 c.requires))
   | in_default-via-in_default w ↦ not_made _ _ (g.L.Line.told c.args.line.now) (ap stores (sym c.judge.ensures) ∙ not_stores c.judge.result w.in_default.not-Stores-0)
 ]

@@ -88,12 +88,14 @@ look_right options sighting said machine now lost address long l ready honest =
     let s = l.inquired in
     let run : Run = Look (options.address ∷ []) options.patience s.heard in
     let front : IsToldOf (dialogue_of run) said = subst (IsToldOf (dialogue_of run)) (sym s.on_line) (told_look l.stop _ (dialogue_of run) s.said s.items) in
-    let h : IsHarmless machine run lost now = run_harmless run machine now lost ready (one_address options.address address, long) (told_honest (dialogue_of run) said machine now lost front honest) in
-    (record { ready = h.ready; memory = h.memory }, λ number is.
-      let first = is_first l.stop l.last.values number (sym is ∙ l.sighting_is) in
-      let values : l.last.values ≡ (led (looker options.address options.patience) s.heard).values = ap (λ (r : Reader). r.values) s.reader in
-      let holds = h.learned.read.holds 0 (subst (λ (list : List ℕ). 0 < length list) values first.0) in
-      sym first.1 ∙ ap (λ (list : List ℕ). get_or list 0 0) values ∙ holds ∙ ap (λ (list : List ℕ). word_at machine.memory (get_or list 0 0)) (led_addresses (looker options.address options.patience) s.heard))
+    let h : IsHarmless machine run lost now = run_harmless run machine now lost ready (one_address options.address address, long) (told_honest (dialogue_of run) said machine now lost front honest) in (
+      record { ready = h.ready; memory = h.memory },
+      λ number is.
+          let first = is_first l.stop l.last.values number (sym is ∙ l.sighting_is) in
+          let values : l.last.values ≡ (led (looker options.address options.patience) s.heard).values = ap (λ (r : Reader). r.values) s.reader in
+          let holds = h.learned.read.holds 0 (subst (λ (list : List ℕ). 0 < length list) values first.0) in
+          sym first.1 ∙ ap (λ (list : List ℕ). get_or list 0 0) values ∙ holds ∙ ap (λ (list : List ℕ). word_at machine.memory (get_or list 0 0)) (led_addresses (looker options.address options.patience) s.heard),
+    )
 
 trial_leaves : (options : ProbeOptions) (old : ℕ) (attempt : Attempt) (said : List Item) (machine now : Machine) (lost : ℕ) → IsAddress options.address → options.patience < 2 ^ 32 → IsTrialOf options old attempt said →
     IsReady machine → IsHonest machine said lost now → Leaves machine now

@@ -1,5 +1,5 @@
 -- How the runs of a probe come to stand one behind another.
-use Rattle.std.proofs.Common.{◌≡◌, ℕ, true, false, Bool, List, [], ◌∷◌, ◌++◌, length, Option, Some, None, refl, ap, sym, subst, ◌∙◌, append_assoc, append-nil}
+use Rattle.std.proofs.Common.{◌≡◌, ℕ, ◌+◌, ◌-◌, ◌*◌, ◌/◌, true, false, Bool, List, [], ◌∷◌, ◌++◌, length, Option, Some, None, refl, arith, ap, sym, subst, ◌∙◌, append_assoc, append-nil}
 use Rattle.load_devices.specs.declared.item.Item.{Item}
 use Rattle.load_devices.specs.Told.{Gains}
 use Rattle.load_engine.proofs.Sessions.{gains_join, gains_none}
@@ -17,6 +17,7 @@ use Rattle.probe_report.specs.declared.findings.TrialEnd.TheVariants as trial
 use Rattle.probe_report.specs.declared.judging.Verdict.{Verdict}
 use Rattle.probe_report.specs.declared.judging.Verdict.TheVariants.{Forgets, Stores, Unknown}
 use Rattle.probe_report.specs.Judging.{on_looks, on_numbers, on_same_number, verdict_of}
+use Rattle.reading_core.specs.Addresses.{addresses_between, addresses_from}
 use Rattle.reading_core.specs.Reader.{Reader}
 use Rattle.reading_engine.specs.declared.stop.Stop.{Stop as LookStop}
 use Rattle.reading_engine.specs.Inquired.{Inquired, TellsEnd}
@@ -33,6 +34,22 @@ use Rattle.machine_probe.specs.PuttingBack.{IsPutBack, PutsBack}
 use Rattle.machine_probe.specs.Rooms.{HasDeposit}
 use Rattle.machine_probe.specs.Runs.{IsLook, IsSearch, IsTrialOf, OnLine, One}
 use Rattle.machine_probe.specs.Turns.{turns_of}
+
+-- ---- the hosts of the looks
+
+single : (a : ℕ) → addresses_from a 1 ≡ a ∷ []
+unfolding addresses_from
+single a = ap (λ (n : ℕ). n ∷ []) (none_more a)
+  where
+    none_more : (n : ℕ) → n + 2 * 0 ≡ n
+    none_more n = omega arith
+
+-- the words from an address to itself are the one word
+pub one_between : (a : ℕ) → addresses_between a a ≡ a ∷ []
+one_between a = ap (addresses_from a) (count a) ∙ single a
+  where
+    count : (n : ℕ) → (n - n) / 2 + 1 ≡ 1
+    count n = omega arith
 
 -- ---- one run
 
@@ -125,6 +142,11 @@ deposit_of options GaveUp trial second deposit P is so has = absurd (cc is)
 deposit_of options TurnsOver trial second deposit P is so has = absurd (cc is)
 deposit_of options (LineFailed fault) trial second deposit P is so has = absurd (cc is)
 
+pub not_stores : (verdict : Verdict) → (verdict ≡ Stores → ⊥) → stores verdict ≡ false
+not_stores Forgets other = refl
+not_stores Stores other = absurd (other refl)
+not_stores Unknown other = refl
+
 -- ---- all of them
 
 row_append : (xs ys : List (List Item)) → in_a_row (xs ++ ys) ≡ in_a_row xs ++ in_a_row ys
@@ -134,14 +156,14 @@ row_append (said ∷ xs) ys = ap (λ rest. said ++ rest) (row_append xs ys) ∙ 
 rows_join : (a b c : Option (List Item)) (xs ys : List (List Item)) → Gains a b (in_a_row xs) → Gains b c (in_a_row ys) → Gains a c (in_a_row (xs ++ ys))
 rows_join a b c xs ys g h = subst (Gains a c) (sym (row_append xs ys)) (gains_join a b c (in_a_row xs) (in_a_row ys) g h)
 
-pub all_runs : (options : ProbeOptions) (f : Findings) (l0 l1 l2 l3 l4 l5 : Option (List Item)) → f.address ≡ options.address →
+pub all_runs : (options : ProbeOptions) (f : Findings) (verdict : Verdict) (l0 l1 l2 l3 l4 l5 : Option (List Item)) → f.address ≡ options.address →
     OnLine (One (IsLook options f.first)) l0 l1 →
     OnLine (Made (is_number f.first) (λ attempt. One (IsTrialOf options (number_in f.first) attempt)) f.trial) l1 l2 →
     OnLine (Made (goes_on f.trial) (λ sighting. One (IsLook options sighting)) f.second) l2 l3 →
     OnLine (Made (stores (verdict_of f)) (λ is_back. One (PutsBack options.address (number_in f.first) options.patience (turns_of options.patience) is_back)) f.put_back) l3 l4 →
-    OnLine (Made (forgets (verdict_of f)) (IsSearch options) f.search) l4 l5 →
+    verdict ≡ verdict_of f → OnLine (Made (forgets verdict) (IsSearch options) f.search) l4 l5 →
     OnLine (IsProbe options f) l0 l5
-all_runs options f l0 l1 l2 l3 l4 l5 address a b c d e = record {
+all_runs options f verdict l0 l1 l2 l3 l4 l5 address a b c d judged e = record {
   parts = a.parts ++ (b.parts ++ (c.parts ++ (d.parts ++ e.parts)));
   are = record {
     address = address;
@@ -155,7 +177,7 @@ all_runs options f l0 l1 l2 l3 l4 l5 address a b c d e = record {
     tried = b.are;
     looked_again = c.are;
     deposited = d.are;
-    searched = e.are;
+    searched = subst (λ (v : Verdict). Made (forgets v) (IsSearch options) f.search e.parts) judged e.are;
   };
   on_line = rows_join l0 l1 l5 a.parts (b.parts ++ (c.parts ++ (d.parts ++ e.parts))) a.on_line
       (rows_join l1 l2 l5 b.parts (c.parts ++ (d.parts ++ e.parts)) b.on_line

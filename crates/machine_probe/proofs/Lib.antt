@@ -1,6 +1,8 @@
 mod Believed
 mod Faults
 mod Joins
-mod Noting
+pub mod Noting
 mod OneLine
+pub mod OneWord
+pub mod PuttingBack
 mod Reports

@@ -1,5 +1,6 @@
 -- One honest line on which the runs of a probe were made is an honest line for each of them.
-use Rattle.std.proofs.Common.{◌≡◌, ℕ, ◌+◌, ◌*◌, ◌^◌, ◌<◌, ◌≤◌, ◌%◌, Bool, true, false, List, [], ◌∷◌, ◌++◌, length, Option, Some, None, ⊤, ◌⊎◌, inl, inr, refl, arith, ap, sym, subst, ◌∙◌, append-nil}
+use Rattle.std.proofs.Common.{◌≡◌, ℕ, ◌+◌, ◌*◌, ◌^◌, ◌<◌, ◌≤◌, ◌%◌, Bool, true, false, List, [], ◌∷◌, ◌++◌, length, Option, Some, None, ◌⊎◌, inl, inr, refl, arith, ap, sym, subst, ◌∙◌, append-nil}
+use Rattle.std.specs.Prelude.{⊤}
 use Rattle.odt_machine.specs.Machine.{Machine}
 use Rattle.load_devices.specs.declared.item.Item.{Item}
 use Rattle.host_core.specs.Core.{Core, begun as begun_load}
@@ -191,10 +192,10 @@ search_leaves turns patience search parts long is =
     pass_then (record { bytes = 0o4000; count = 28 }) (record { bytes = 0o100; count = 32 } ∷ record { bytes = 2; count = 32 } ∷ []) turns patience 0 search parts long
     (record { even = refl; whole = refl; some = omega arith; below = omega arith })
     (λ from rest at. pass_then (record { bytes = 0o100; count = 32 }) (record { bytes = 2; count = 32 } ∷ []) turns patience from search rest long
-      (record { even = at.even; whole = refl; some = omega arith; below = omega (arith, at.within) })
-      (λ next more here. pass_then (record { bytes = 2; count = 32 }) [] turns patience next search more long
-        (record { even = here.even; whole = refl; some = omega arith; below = omega (arith, here.within, at.within) })
-        (λ last none there. none_then turns patience last search none)))
+    (record { even = at.even; whole = refl; some = omega arith; below = omega (arith, at.within) })
+    (λ next more here. pass_then (record { bytes = 2; count = 32 }) [] turns patience next search more long
+    (record { even = here.even; whole = refl; some = omega arith; below = omega (arith, here.within, at.within) })
+    (λ last none there. none_then turns patience last search none)))
     is
 
 -- ---- all of them
@@ -231,17 +232,17 @@ hosts : (options : ProbeOptions) (f : Findings) (parts : List (List Item)) → I
 hosts options f parts address long p (inl all) =
     one_then_all (IsLook options f.first) p.in_first (p.in_trial ++ (p.in_second ++ (p.in_deposit ++ p.in_search))) (λ said is. look_leaves options f.first said address long is) p.looked
     (all_join p.in_trial (p.in_second ++ (p.in_deposit ++ p.in_search))
-      (made_leave (is_number f.first) _ f.trial p.in_trial (λ attempt is. one_leaves (IsTrialOf options (number_in f.first) attempt) p.in_trial (λ said made. trial_leaves_ready options (number_in f.first) attempt said address long made) is) p.tried)
-      (all_join p.in_second (p.in_deposit ++ p.in_search)
-        (made_leave (goes_on f.trial) _ f.second p.in_second (λ sighting is. one_leaves (IsLook options sighting) p.in_second (λ said made. look_leaves options sighting said address long made) is) p.looked_again)
-        all))
+    (made_leave (is_number f.first) _ f.trial p.in_trial (λ attempt is. one_leaves (IsTrialOf options (number_in f.first) attempt) p.in_trial (λ said made. trial_leaves_ready options (number_in f.first) attempt said address long made) is) p.tried)
+    (all_join p.in_second (p.in_deposit ++ p.in_search)
+    (made_leave (goes_on f.trial) _ f.second p.in_second (λ sighting is. one_leaves (IsLook options sighting) p.in_second (λ said made. look_leaves options sighting said address long made) is) p.looked_again)
+    all))
 hosts options f parts address long p (inr are) =
     hosts_behind p.in_first (p.in_trial ++ (p.in_second ++ (p.in_deposit ++ p.in_search))) (one_leaves (IsLook options f.first) p.in_first (λ said made. look_leaves options f.first said address long made) p.looked)
     (hosts_behind p.in_trial (p.in_second ++ (p.in_deposit ++ p.in_search))
-      (made_leave (is_number f.first) _ f.trial p.in_trial (λ attempt is. one_leaves (IsTrialOf options (number_in f.first) attempt) p.in_trial (λ said made. trial_leaves_ready options (number_in f.first) attempt said address long made) is) p.tried)
-      (hosts_behind p.in_second (p.in_deposit ++ p.in_search)
-        (made_leave (goes_on f.trial) _ f.second p.in_second (λ sighting is. one_leaves (IsLook options sighting) p.in_second (λ said made. look_leaves options sighting said address long made) is) p.looked_again)
-        are))
+    (made_leave (is_number f.first) _ f.trial p.in_trial (λ attempt is. one_leaves (IsTrialOf options (number_in f.first) attempt) p.in_trial (λ said made. trial_leaves_ready options (number_in f.first) attempt said address long made) is) p.tried)
+    (hosts_behind p.in_second (p.in_deposit ++ p.in_search)
+    (made_leave (goes_on f.trial) _ f.second p.in_second (λ sighting is. one_leaves (IsLook options sighting) p.in_second (λ said made. look_leaves options sighting said address long made) is) p.looked_again)
+    are))
 
 pub believes_over : (options : ProbeOptions) (f : Findings) (parts : List (List Item)) → IsAddress options.address → options.patience < 2 ^ 32 →
     IsProbe options f parts → IsBelievableOver f parts

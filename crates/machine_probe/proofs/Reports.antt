@@ -1,5 +1,9 @@
 -- How the report of a probe comes to be.
-use Rattle.std.proofs.Common.{◌≡◌, ℕ, ◌^◌, ◌<◌, List, [], ◌++◌, Option, ap, ◌∙◌}
+use Rattle.std.proofs.Common.{◌≡◌, ℕ, ◌^◌, ◌<◌, List, [], ◌++◌, Option, Result, Ok, Err, IfOk, OnOk, ap, sym, subst, ◌∙◌}
+use Rattle.std.specs.Io.KnownBytes.{Appends}
+use Rattle.std.proofs.KnownBytes.{Keeps-refl}
+use Rattle.byte_io.specs.Output.{WritesAllBut, WritesPrefix}
+use Rattle.console_reach.specs.Reached.{OneMoreTime}
 use Rattle.load_devices.specs.declared.item.Item.{Item}
 use Rattle.probe_report.specs.declared.findings.Findings.{Findings}
 use Rattle.probe_report.specs.declared.pace.Pace.{Pace}
@@ -12,7 +16,10 @@ use Rattle.tape_blocks.specs.Told.{IsAsTold}
 use Rattle.machine_probe.specs.declared.probe_options.ProbeOptions.{ProbeOptions}
 use Rattle.machine_probe.specs.Follow.{IsProbe}
 use Rattle.machine_probe.specs.Noted.{AreNotesSince}
-use Rattle.machine_probe.specs.Probe.{IsReport}
+use Rattle.machine_probe.specs.Probe.{IsCutShort, IsReport, IsReportFrom, IsReportOver, IsReported, IsReportedOver, ProbeTold}
+use Rattle.machine_probe.specs.ProbeFault.{IsProbeFault, IsUnreported}
+use Rattle.machine_probe.specs.declared.probe_fault.ProbeFault.{ProbeFault}
+use Rattle.machine_probe.specs.declared.probe_fault.ProbeFault.TheVariants.{Connect, WriteOutput, Memory}
 use Rattle.machine_probe.specs.Runs.{OnLine}
 use Rattle.machine_probe.proofs.Believed.{believes}
 use Rattle.machine_probe.proofs.OneLine.{believes_over}
@@ -36,3 +43,42 @@ report_is options line line' f notes pace before text end address long fresh run
   text_is = put ∙ ap (λ list. list ++ probe_text f notes pace) empty;
   end_is = is;
 }
+
+-- the same of a line that was noted, where the report could be put
+pub report_from : {L E : Type 0} (told : L → Option (List Item)) (options : ProbeOptions) (line opened line' : L) (first : Option (List Item)) (f : Findings) (notes : Noted) (pace : Pace) (before text : List ℕ) (r : Result ProbeEnd E) →
+    IsAddress options.address → options.patience < 2 ^ 32 → IsAsTold (told line) [] → opened ≡ line → told line ≡ first → OnLine (IsProbe options f) (told opened) (told line') → AreNotesSince first (told line') notes →
+    before ≡ [] → OnOk r (text ≡ before ++ probe_text f notes pace) → IfOk r (λ end. end ≡ probe_end f notes.prompt) → IfOk r (IsReportFrom told options line text)
+report_from {L} {E} told options line opened line' first f notes pace before text (Err e) address long fresh same opening runs are empty put is = tt
+report_from {L} {E} told options line opened line' first f notes pace before text (Ok end) address long fresh same opening runs are empty put is = (
+  line',
+  report_is options (told line) (told line') f notes pace before text end address long fresh
+      (subst (λ (l : L). OnLine (IsProbe options f) (told l) (told line')) same runs)
+      (subst (λ (o : Option (List Item)). AreNotesSince o (told line') notes) (sym opening) are) empty put is,
+)
+
+-- ---- what is written of it
+
+pub over_of : {L : Type 0} (told : L → Option (List Item)) (options : ProbeOptions) (tries tries' : Option ℕ) (out out' : Option (List ℕ)) (text written : List ℕ) (end : ProbeEnd) →
+    OneMoreTime tries tries' → IsReportOver told options text end → written ≡ text → Appends out out' written →
+    IsReportedOver told options (record { tries = tries; out = out }) (record { tries = tries'; out = out' }) end
+over_of {L} told options tries tries' out out' text written end tried (line, line', report) is appended =
+    (line, line', record { tried = tried; text = text; report = report; reported = subst (Appends out out') is appended })
+
+pub some_of : {L : Type 0} (told : L → Option (List Item)) (options : ProbeOptions) (before after : ProbeTold) (end : ProbeEnd) → IsReportedOver told options before after end → IsReported options before after end
+some_of {L} told options before after end (line, line', reported) = (told line, told line', reported)
+
+pub cut_of : {L : Type 0} (told : L → Option (List Item)) (options : ProbeOptions) (tries tries' : Option ℕ) (out out' : Option (List ℕ)) (text written : List ℕ) (end : ProbeEnd) →
+    OneMoreTime tries tries' → IsReportOver told options text end → written ≡ text → WritesPrefix out out' written →
+    IsCutShort options (record { tries = tries; out = out }) (record { tries = tries'; out = out' })
+cut_of {L} told options tries tries' out out' text written end tried (line, line', report) is (left, cut) = (
+  told line,
+  told line',
+  record { tried = tried; text = text; end = end; report = report; missing = left; reported = subst (λ (t : List ℕ). WritesAllBut out out' t left) is cut },
+)
+
+-- a fault that came before there was a report
+pub unreported_is : (options : ProbeOptions) (tries tries' : Option ℕ) (out : Option (List ℕ)) (fault : ProbeFault) → IsUnreported tries tries' fault →
+    IsProbeFault options (record { tries = tries; out = out }) (record { tries = tries'; out = out }) fault
+unreported_is options tries tries' out Connect is = (is, Keeps-refl out)
+unreported_is options tries tries' out WriteOutput is = absurd is
+unreported_is options tries tries' out Memory is = Keeps-refl out

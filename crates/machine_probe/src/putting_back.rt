@@ -65,12 +65,7 @@ fn is_loaded(stop: Stop) -> bool
     }
 }
 
-fn deposit_of(
-    alloc: Global,
-    address: u16,
-    old: u16,
-    patience: u32,
-) -> Result<Deposit, Memory>
+fn deposit_of(alloc: Global, address: u16, old: u16, patience: u32) -> Result<Deposit, Memory>
     requires { IsAddress address }
     ensures { IfOk result (IsDeposit address old patience) }
 {

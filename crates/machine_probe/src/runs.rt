@@ -200,10 +200,12 @@ fn look_again<L: Line>(
 {
     match trial {
         None => None,
-        Some(Attempt {
-            end: TrialEnd::LineFailed(_),
-            ..
-        }) => None,
+        Some(
+            Attempt {
+                end: TrialEnd::LineFailed(_),
+                ..
+            },
+        ) => None,
         Some(_) => Some(look(core, options, line)),
     }
 }

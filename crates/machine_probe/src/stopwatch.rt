@@ -60,7 +60,11 @@ impl Stopwatch {
     /// after a silence it is timed no more.
     pub fn with_heard(self, heard: Heard, time: Option<u64>) -> Stopwatch {
         match (heard, self.look, time) {
-            (Heard::Got(c), Some(look), Some(time)) => self.with_answer(look.answered(time), c, time),
+            (Heard::Got(c), Some(look), Some(time)) => self.with_answer(
+                look.answered(time),
+                c,
+                time,
+            ),
             _ => Stopwatch { look: None, ..self },
         }
     }

@@ -1,0 +1,141 @@
+-- What a load of one word says.
+use Rattle.std.proofs.Common.{◌≡◌, ℕ, ◌+◌, ◌<◌, Bool, true, false, List, [], ◌∷◌, length, Option, Some, refl, arith, ap, sym, subst, ◌∙◌}
+use Rattle.tape_image.specs.Word.{Stands}
+use Rattle.tape_image.specs.Plan.{PlanValue}
+use Rattle.tape_image.proofs.Halves.{halves_make_word, merged-Stands}
+use Rattle.odt_machine.specs.Machine.{Machine, IsMachine, is_word, word_at}
+use Rattle.odt_machine.specs.Laws.{is_running}
+use Rattle.host_core.specs.declared.heard.Heard.{Heard}
+use Rattle.host_core.specs.declared.phase.End.TheVariants.{Loaded, Started, Uncertain, MaybeStarted, GaveUp, NoWord, WontHold}
+use Rattle.host_core.specs.declared.phase.Phase.{Phase}
+use Rattle.host_core.specs.declared.phase.Phase.TheVariants.{Settle, Sync, Address, Slash, Before, Value, Deposit as Depositing, Return, Start, Go, Ended as Over}
+use Rattle.host_core.specs.Core.{Core, begun, ended, word_nr}
+use Rattle.host_core.specs.Host.{Basis, EndFits, IsHost, PhaseFits, basis_of}
+use Rattle.host_core.specs.Laws.{led}
+use Rattle.load_devices.specs.declared.item.Item.{Item}
+use Rattle.load_devices.specs.declared.item.Kept.{Kept}
+use Rattle.load_devices.specs.Dialogue.{dialogue}
+use Rattle.honest_line.specs.Trust.{IsTrusted, IsTrustworthy, MayBegin}
+use Rattle.honest_line.proofs.Trusted.{trustworthy}
+use Rattle.load_engine.specs.declared.stop.Stop.{Stop}
+use Rattle.load_engine.specs.declared.stop.Stop.TheVariants.{Ended, LineFailed, KeepFailed, TurnsOver}
+use Rattle.load_engine.specs.Session.{Session, TellsEnd}
+use Rattle.machine_probe.specs.declared.putting_back.Deposit.{Deposit}
+use Rattle.machine_probe.specs.PuttingBack.{HoldsAgain, IsDeposit, IsPlanOf, IsPutBack, is_loaded, old_word}
+
+-- ---- the end
+
+loaded_at : (phase : Phase) (b : Basis) → ended phase ≡ Some Loaded → PhaseFits phase b → EndFits Loaded b
+loaded_at (Over Loaded) b is fits = fits
+loaded_at (Over Started) b is fits = absurd (cc is)
+loaded_at (Over Uncertain) b is fits = absurd (cc is)
+loaded_at (Over MaybeStarted) b is fits = absurd (cc is)
+loaded_at (Over GaveUp) b is fits = absurd (cc is)
+loaded_at (Over (NoWord a)) b is fits = absurd (cc is)
+loaded_at (Over (WontHold a)) b is fits = absurd (cc is)
+loaded_at Settle b is fits = absurd (cc is)
+loaded_at (Sync place) b is fits = absurd (cc is)
+loaded_at (Address visit place) b is fits = absurd (cc is)
+loaded_at (Slash visit) b is fits = absurd (cc is)
+loaded_at (Before visit) b is fits = absurd (cc is)
+loaded_at (Value visit value place) b is fits = absurd (cc is)
+loaded_at (Depositing value place) b is fits = absurd (cc is)
+loaded_at (Return reason place) b is fits = absurd (cc is)
+loaded_at (Start place) b is fits = absurd (cc is)
+loaded_at Go b is fits = absurd (cc is)
+
+-- a whole word that stands is the one that memory holds
+stands_whole : (address old now : ℕ) → Stands (old_word address old) now → now ≡ old
+stands_whole address old now stands = sym (merged-Stands (old_word address old) now stands) ∙ halves_make_word old
+
+-- ---- over an honest line
+
+-- a host that verified the one word of its plan
+holds : (before : List ℕ) (address old : ℕ) (last : Core) (now : List ℕ) (keys : List ℕ) (lost : ℕ) → last.plan.words ≡ old_word address old ∷ [] → last.verified ≡ length last.plan.words → IsTrusted before last now keys lost →
+    (is_word now address ≡ true) × (word_at now address ≡ old)
+holds before address old last now keys lost words all trusted =
+    let one : 0 < last.verified = subst (λ n. 0 < n) (sym (all ∙ ap length words)) (omega arith) in (
+      subst (λ ws. is_word now (word_nr ws 0).address ≡ true) words (trusted.safe.lies 0 one),
+      stands_whole address old (word_at now address) (subst (λ ws. Stands (word_nr ws 0) (word_at now (word_nr ws 0).address)) words (trusted.safe.stands 0 one)),
+    )
+
+-- a life that begins without a verified word may begin over every machine that runs no program
+may_begin : (plan : PlanValue) (patience : ℕ) (machine : Machine) → IsMachine machine → is_running machine.mode ≡ false → MayBegin (begun plan 0 false patience) machine
+may_begin plan patience machine console stopped = record {
+  begun = refl;
+  console = console;
+  stopped = stopped;
+  lies = λ i below. absurd (omega arith);
+  stands = λ i below. absurd (omega arith);
+}
+
+holds_again : (address old patience : ℕ) (plan : PlanValue) (last : Core) (heard : List Heard) (said : List Item) → IsPlanOf address old plan → IsHost (begun plan 0 false patience) →
+    last ≡ led (begun plan 0 false patience) heard → said ≡ dialogue (begun plan 0 false patience) heard → last.plan ≡ plan → last.verified ≡ length last.plan.words → HoldsAgain address old said
+holds_again address old patience plan last heard said of host led_to said_is same all machine now lost console stopped honest =
+    let first : Core = begun plan 0 false patience in
+    let trust : IsTrustworthy first last said 0 =
+    subst (λ (core : Core). IsTrustworthy first core said 0) (sym led_to) (subst (λ items. IsTrustworthy first (led first heard) items 0) (sym said_is) (trustworthy first heard host)) in
+    holds machine.memory address old last now.memory _ (lost + 0) (ap (λ (p : PlanValue). p.words) same ∙ of.words) all (trust machine now lost (may_begin plan patience machine console stopped) honest)
+
+-- ---- what was driven
+
+again_of : (stop : Stop) (address old patience turns : ℕ) (plan : PlanValue) (last : Core) (line line' : Option (List Item)) (keep keep' : Option (List Kept)) →
+    IsPlanOf address old plan → IsHost (begun plan 0 false patience) → IsHost last → last.plan ≡ plan → TellsEnd stop last →
+    (session : Session turns (Some stop) (begun plan 0 false patience) last line line' keep keep') → is_loaded stop ≡ true → HoldsAgain address old session.said
+again_of (Ended Loaded) address old patience turns plan last line line' keep keep' of first host same end session is =
+    holds_again address old patience plan last session.heard session.said of first session.core session.items same (loaded_at last.phase (basis_of last) end host.fits).0
+again_of (Ended Started) address old patience turns plan last line line' keep keep' of first host same end session is = absurd (cc is)
+again_of (Ended Uncertain) address old patience turns plan last line line' keep keep' of first host same end session is = absurd (cc is)
+again_of (Ended MaybeStarted) address old patience turns plan last line line' keep keep' of first host same end session is = absurd (cc is)
+again_of (Ended GaveUp) address old patience turns plan last line line' keep keep' of first host same end session is = absurd (cc is)
+again_of (Ended (NoWord a)) address old patience turns plan last line line' keep keep' of first host same end session is = absurd (cc is)
+again_of (Ended (WontHold a)) address old patience turns plan last line line' keep keep' of first host same end session is = absurd (cc is)
+again_of (LineFailed fault) address old patience turns plan last line line' keep keep' of first host same end session is = absurd (cc is)
+again_of (KeepFailed fault) address old patience turns plan last line line' keep keep' of first host same end session is = absurd (cc is)
+again_of TurnsOver address old patience turns plan last line line' keep keep' of first host same end session is = absurd (cc is)
+
+-- the same session, over a line that tells from there on
+told_alone : (turns : ℕ) (stop : Stop) (core last : Core) (line line' : Option (List Item)) (keep keep' : Option (List Kept)) → (session : Session turns (Some stop) core last line line' keep keep') →
+    Session turns (Some stop) core last (Some []) (Some session.said) keep keep'
+told_alone turns stop core last line line' keep keep' session = record {
+  heard = session.heard;
+  said = session.said;
+  kept = session.kept;
+  core = session.core;
+  goes_on = session.goes_on;
+  within = session.within;
+  items = session.items;
+  news = session.news;
+  mark_first = session.mark_first;
+  on_line = refl;
+  at_keeper = session.at_keeper;
+}
+
+put_by : (address old patience turns : ℕ) (plan : PlanValue) (last : Core) (stop : Stop) (line line' : Option (List Item)) (kept : List Kept) →
+    IsPlanOf address old plan → IsHost (begun plan 0 false patience) → IsHost last → last.plan ≡ plan → TellsEnd stop last →
+    Session turns (Some stop) (begun plan 0 false patience) last line line' (Some []) (Some kept) → IsPutBack address old patience turns (is_loaded stop) line line'
+put_by address old patience turns plan last stop line line' kept of first host same end session = record {
+  said = session.said;
+  puts = record {
+    plan = plan;
+    plan_is = of;
+    last = last;
+    stop = stop;
+    kept = kept;
+    session = told_alone turns stop (begun plan 0 false patience) last line line' (Some []) (Some kept) session;
+    end = end;
+    is_back_is = refl;
+    again = again_of stop address old patience turns plan last line line' (Some []) (Some kept) of first host same end session;
+  };
+  on_line = session.on_line;
+}
+
+pub put_back_by : (deposit : Deposit) (turns : ℕ) (last : Core) (stop : Stop) (is_back : Bool) (line line' : Option (List Item)) (kept : List Kept) →
+    IsHost last → last.plan ≡ deposit.core.plan → TellsEnd stop last → is_back ≡ is_loaded stop →
+    Session turns (Some stop) deposit.core last line line' (Some deposit.keeper.kept) (Some kept) →
+    (address old patience : ℕ) → IsDeposit address old patience deposit → IsPutBack address old patience turns is_back line line'
+put_back_by deposit turns last stop is_back line line' kept host same end is session address old patience of =
+    subst (λ back. IsPutBack address old patience turns back line line') (sym is)
+    (put_by address old patience turns deposit.core.plan last stop line line' kept of.plan (subst IsHost of.begun_is of.host) host same end
+    (subst (λ ks. Session turns (Some stop) (begun deposit.core.plan 0 false patience) last line line' (Some ks) (Some kept)) of.empty
+    (subst (λ (core : Core). Session turns (Some stop) core last line line' (Some deposit.keeper.kept) (Some kept)) of.begun_is session)))

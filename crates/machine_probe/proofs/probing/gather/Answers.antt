@@ -1,0 +1,34 @@
+use Rattle.machine_probe.specs.declared.probe_fault.ProbeFault.TheVariants.{Connect, Memory}
+use Rattle.machine_probe.specs.ProbeFault.{IsUnreported}
+use Rattle.machine_probe.proofs.Faults.{error_is, no_ok, no_value}
+use Rattle.machine_probe.proofs.probing.gather.Goals as goal
+
+pub returns-in_err-lookers-clause-report : goal.returns-in_err-lookers-clause-report
+returns-in_err-lookers-clause-report g c = no_value c.from_residual.result _ _ c.from_residual.ensures.1
+
+pub returns-in_err-lookers-clause-tried : goal.returns-in_err-lookers-clause-tried
+returns-in_err-lookers-clause-tried g c = no_ok c.from_residual.result _ _ c.from_residual.ensures.1
+
+pub returns-in_err-lookers-clause-fault : goal.returns-in_err-lookers-clause-fault
+returns-in_err-lookers-clause-fault g c = error_is c.from_residual.result Memory (IsUnreported (g.R.Reach.tries c.args.console.now) (g.R.Reach.tries c.args.console.now)) c.from_residual.ensures.1 tt
+
+pub returns-in_err-line-clause-report : goal.returns-in_err-line-clause-report
+returns-in_err-line-clause-report g c = no_value c.from_residual-in_err-line.result _ _ c.from_residual-in_err-line.ensures.1
+
+pub returns-in_err-line-clause-tried : goal.returns-in_err-line-clause-tried
+returns-in_err-line-clause-tried g c = no_ok c.from_residual-in_err-line.result _ _ c.from_residual-in_err-line.ensures.1
+
+pub returns-in_err-line-clause-fault : goal.returns-in_err-line-clause-fault
+returns-in_err-line-clause-fault g c = error_is c.from_residual-in_err-line.result Connect (IsUnreported (g.R.Reach.tries c.args.console.now) (g.R.Reach.tries c.reach.new.self)) c.from_residual-in_err-line.ensures.1 c.reach.ensures.tried
+
+pub returns-in_err-end-clause-report : goal.returns-in_err-end-clause-report
+returns-in_err-end-clause-report g c = no_value c.from_residual-in_err-end.result _ _ c.from_residual-in_err-end.ensures.1
+
+pub returns-in_err-end-clause-tried : goal.returns-in_err-end-clause-tried
+returns-in_err-end-clause-tried g c = no_ok c.from_residual-in_err-end.result _ _ c.from_residual-in_err-end.ensures.1
+
+pub returns-in_err-end-clause-fault : goal.returns-in_err-end-clause-fault
+returns-in_err-end-clause-fault g c = error_is c.from_residual-in_err-end.result Memory (IsUnreported (g.R.Reach.tries c.args.console.now) (g.R.Reach.tries c.reach.new.self)) c.from_residual-in_err-end.ensures.1 tt
+
+pub returns-clause-report : goal.returns-clause-report
+returns-clause-report g c = (c.in_ok-line.line, c.in_ok-end.ensures.0, c.in_ok-end.ensures.1)

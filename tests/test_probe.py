@@ -609,11 +609,12 @@ class Words(Probes):
         self.is_so((self.ldaodt(["probe"]).status, line.connections), (2, 0))
         self.holds({})
 
-    def test_an_output_that_is_full(self):
+    def test_an_output_that_can_not_be_written(self):
         """The probe was made all the same, and the old number put back."""
-        line = self.console_at(StoringConsole(memory={WORD: HELD}))
-        self.ends(self.probe(line, before="> /dev/full"), 4, "", NO_OUTPUT)
-        self.is_so((line.machine.word(WORD), line.machine.typed), (HELD, tried() + put_back(HELD)))
+        for before in ("> /dev/full", ">&-"):
+            line = self.console_at(StoringConsole(memory={WORD: HELD}))
+            self.ends(self.probe(line, before=before), 4, "", NO_OUTPUT)
+            self.is_so((line.machine.word(WORD), line.machine.typed), (HELD, tried() + put_back(HELD)))
 
 
 if __name__ == "__main__":

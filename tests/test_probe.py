@@ -69,6 +69,22 @@ class StuckConsole(StoringConsole):
         return answer
 
 
+class Babbling:
+    """Behind the third digit of the trial it prints more than a run may hear."""
+
+    def take(self, key):
+        answer = super().take(key)
+        return answer + "-" * 11_000 if len(self.typed) == len("Z001000/\rZ001000/123") else answer
+
+
+class BabblingConsole(Babbling, Console):
+    """ODT that does so."""
+
+
+class BabblingStoringConsole(Babbling, StoringConsole):
+    """One that stores."""
+
+
 class WaveringConsole(LossyConsole):
     """Each `Z` changes its style, from 0 to 7 and back."""
 
@@ -471,6 +487,17 @@ class Strangers(Probes):
                 characters = "@" * 40 + "?\r\n@001000/000000 \r\n"
                 over = said("prompt yes", heard(characters), look_at("It never falls silent"), "end TurnsOver")
                 self.ends(given, 5 if more else 0, over if more else found())
+
+    def test_a_trial_whose_turns_are_over(self):
+        """There is a second look behind it, and what that shows counts."""
+        line = self.console_at(BabblingConsole(memory={WORD: HELD}))
+        characters = "-" * 40 + "?\r\n@" + "?\r\n@001000/123456 \r\n@"
+        self.ends(self.probe_rightly(line), 5, said("prompt yes", heard(characters), look_at("It never falls silent"), "style 0",
+                                                    "forgets digits not known", held(HELD), "end TurnsOver"))
+        self.is_so(line.machine.typed, tried())
+        line = self.console_at(BabblingStoringConsole(memory={WORD: HELD}))
+        self.ends(self.probe(line), 5, refused(HELD))
+        self.is_so((line.machine.typed, line.machine.word(WORD)), (tried() + put_back(HELD), HELD))
 
     def test_the_echo_left_on(self):
         """A device that sends back what it hears never falls silent."""

@@ -66,5 +66,7 @@ pub record IsProbe (options : ProbeOptions) (f : Findings) (parts : List (List I
   pub looked : One (IsLook options f.first) in_first
   pub tried : Made (is_number f.first) (λ attempt. One (IsTrialOf options (number_in f.first) attempt)) f.trial in_trial
   pub looked_again : Made (goes_on f.trial) (λ sighting. One (IsLook options sighting)) f.second in_second
-  pub deposited : Made (stores (verdict_of f)) (λ is_back. One (PutsBack options.address (number_in f.first) options.patience (turns_of options.patience) is_back)) f.put_back in_deposit
+  pub deposited :
+      Made (stores (verdict_of f))
+      (λ is_back. One (PutsBack options.address (number_in f.first) options.patience (turns_of options.patience) is_back)) f.put_back in_deposit
   pub searched : Made (forgets (verdict_of f)) (IsSearch options) f.search in_search

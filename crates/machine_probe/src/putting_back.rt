@@ -48,7 +48,8 @@ impl Deposit {
 /// Makes the load over a line for at most so many turns, and answers whether it came to its end: the word
 /// was read back and holds the old number again. It takes no memory.
 pub(crate) fn put_back<L: Line>(deposit: Deposit, line: &mut L, turns: u64) -> bool
-    ensures { (address old patience : ℕ) → IsDeposit address old patience deposit → IsPutBack address old patience turns result (L.told line.old) (L.told line.new) }
+    ensures { (address old patience : ℕ) → IsDeposit address old patience deposit →
+        IsPutBack address old patience turns result (L.told line.old) (L.told line.new) }
 {
     let Deposit { core, mut keeper } = deposit;
     let (_, stop) = drive(core, line, &mut keeper, turns);

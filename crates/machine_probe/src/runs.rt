@@ -218,7 +218,9 @@ fn restore<L: Line>(
     line: &mut L,
 ) -> Option<bool>
     requires { HasDeposit options found.now.first deposit }
-    ensures { OnLine (Made (stores (verdict_of found.now)) (λ is_back. One (PutsBack options.address (number_in found.now.first) options.patience (turns_of options.patience) is_back)) result) (L.told line.old) (L.told line.new) }
+    ensures { OnLine (Made (stores (verdict_of found.now))
+        (λ is_back. One (PutsBack options.address (number_in found.now.first) options.patience (turns_of options.patience) is_back)) result)
+        (L.told line.old) (L.told line.new) }
 {
     match (judge(found), deposit) {
         (Verdict::Stores, Some(deposit)) => Some(put_back(deposit, line, options.turns())),

@@ -15,7 +15,8 @@ use Rattle.requests.specs.declared.request.Load.{Load}
 use Rattle.requests.specs.declared.request.Look.{Look}
 use Rattle.requests.specs.declared.request.Probe.{Probe}
 use Rattle.requests.specs.declared.request.Request.{Request}
-use Rattle.requests.specs.declared.request.Request.TheVariants.{CheckInput, Check, Dialogue, Rehearse, «Type» as TypeKeys, Load as Loads, Verify, Save as Saves, Probe as Probes}
+use Rattle.requests.specs.declared.request.Request.TheVariants.{CheckInput, Check, Dialogue, Rehearse, «Type» as TypeKeys}
+use Rattle.requests.specs.declared.request.Request.TheVariants.{Load as Loads, Verify, Save as Saves, Probe as Probes}
 use Rattle.requests.specs.declared.request.Save.{Save}
 use Rattle.ldaodt.specs.Addresses.{IsEvenText, IsOctalText, IsWordText}
 

@@ -16,7 +16,7 @@ use record_file::{OldRecord, RecordFault};
 use std::alloc::Global;
 use tape_image::Plan;
 
-/// How much may be said on a line.
+// How much may be said on a line.
 const ROOM: u32 = 1000;
 
 /// A machine, and the record of its loads, in memory.

@@ -11,26 +11,26 @@ use std::alloc::Global;
 use tape_blocks::read_tape;
 use tape_image::Plan;
 
-/// The smallest tape with a word: 011064 at 001000, where it starts.
+// The smallest tape with a word: 011064 at 001000, where it starts.
 const ONE_WORD: [u8; 16] = [
     0x01, 0x00, 0x08, 0x00, 0x00, 0x02, 0x34, 0x12, 0xAF, 0x01, 0x00, 0x06, 0x00, 0x00, 0x02, 0xF7,
 ];
 
-/// Where its word is, and which it is.
+// Where its word is, and which it is.
 const ADDRESS: u16 = 0o001000;
 
 const WORD: u16 = 0o011064;
 
-/// The whole record of its load.
+// The whole record of its load.
 const RECORD: &[u8] = b"LDAODT 2\n001000 011064\nG\n";
 
-/// Eight mishaps are survived, and what the record says is believed.
+// Eight mishaps are survived, and what the record says is believed.
 const OPTIONS: LoadOptions = LoadOptions {
     patience: 8,
     recheck: false,
 };
 
-/// A bench, and what came of the loads on it so far.
+// A bench, and what came of the loads on it so far.
 #[derive(Drop)]
 struct Row {
     bench: Bench,
@@ -46,7 +46,7 @@ struct Row {
     word: Option<u16>,
 }
 
-/// How often the start was typed on a line.
+// How often the start was typed on a line.
 fn starts_on(line: &MemoryLine) -> usize {
     let mut count: usize = 0;
     for item in line.items() {
@@ -57,7 +57,7 @@ fn starts_on(line: &MemoryLine) -> usize {
     count
 }
 
-/// The machine at the end of a line, with its word and in its mode; none for want of memory.
+// The machine at the end of a line, with its word and in its mode; none for want of memory.
 fn machine_of(alloc: Global, line: &MemoryLine) -> Option<Odt> {
     let left = line.odt();
     let mut odt = Odt::new(alloc, LARGEST_WORDS, PLAIN_STYLE).ok()?;
@@ -65,7 +65,7 @@ fn machine_of(alloc: Global, line: &MemoryLine) -> Option<Odt> {
     odt.with_mode(left.mode()).ok()
 }
 
-/// A machine that was not typed into, with an empty record; none for want of memory.
+// A machine that was not typed into, with an empty record; none for want of memory.
 fn new_row(alloc: Global) -> Option<Row> {
     let odt = Odt::new(alloc, LARGEST_WORDS, PLAIN_STYLE).ok()?;
     Some(Row {
@@ -78,7 +78,7 @@ fn new_row(alloc: Global) -> Option<Row> {
 }
 
 impl Row {
-    /// One more load, on the machine as the last one left it; none where it is not reported.
+    // One more load, on the machine as the last one left it; none where it is not reported.
     fn load_more(&mut self, alloc: Global) -> Option<()> {
         let (tape, _) = read_tape(alloc, &ONE_WORD).ok()?;
         let plan = Plan::of(alloc, &tape).ok()?;
@@ -94,8 +94,8 @@ impl Row {
         Some(())
     }
 
-    /// Whether the last load is over as it should be: it has started the program, and the start was typed
-    /// just once, or it had no line, since the start was typed before or may have been.
+    // Whether the last load is over as it should be: it has started the program, and the start was typed
+    // just once, or it had no line, since the start was typed before or may have been.
     fn is_over(&self) -> bool {
         match self.stop {
             Some(Stop::Ended(End::Started)) => self.had_line && self.starts == 1,
@@ -104,13 +104,13 @@ impl Row {
         }
     }
 
-    /// Whether the word stands, and the record is whole, also on the disk.
+    // Whether the word stands, and the record is whole, also on the disk.
     fn is_whole(&self) -> bool {
         self.word == Some(WORD) && self.bench.record() == RECORD && self.bench.left() == RECORD
     }
 }
 
-/// So many loads in a row, each of whose lines fails at a call, and then one whose line does not fail.
+// So many loads in a row, each of whose lines fails at a call, and then one whose line does not fail.
 fn loads_in_a_row(alloc: Global, stopped: u32, call: u64) -> Option<Row> {
     let mut row = new_row(alloc)?;
     row.bench.fail_lines_at(Some(call));
@@ -122,7 +122,7 @@ fn loads_in_a_row(alloc: Global, stopped: u32, call: u64) -> Option<Row> {
     Some(row)
 }
 
-/// Whether all is as it should be after these loads.
+// Whether all is as it should be after these loads.
 fn ends_well(alloc: Global, stopped: u32, call: u64) -> bool {
     match loads_in_a_row(alloc, stopped, call) {
         Some(row) => row.is_over() && row.is_whole(),
@@ -130,7 +130,7 @@ fn ends_well(alloc: Global, stopped: u32, call: u64) -> bool {
     }
 }
 
-/// Whether a load whose line fails at a call starts the program before: the next one asks for no line.
+// Whether a load whose line fails at a call starts the program before: the next one asks for no line.
 fn starts_before(alloc: Global, call: u64) -> bool {
     match loads_in_a_row(alloc, 1, call) {
         Some(row) => row.starts == 1 && !row.had_line,
@@ -138,7 +138,7 @@ fn starts_before(alloc: Global, call: u64) -> bool {
     }
 }
 
-/// More calls than a load of one word makes of its line.
+// More calls than a load of one word makes of its line.
 const CALLS: u64 = 200;
 
 #[test]

@@ -36,10 +36,10 @@ use std::alloc::Global;
 use std::io::Write;
 use tape_image::Plan;
 
-/// The most turns of a load.
+// The most turns of a load.
 const TURNS: u64 = 10_000_000;
 
-/// Room for the longest report, so that a load that is over needs no memory to say so.
+// Room for the longest report, so that a load that is over needs no memory to say so.
 const REPORT_ROOM: usize = 128;
 
 /// Loads a plan through the console that the surroundings connect to, and reports how far that came.

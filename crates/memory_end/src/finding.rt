@@ -13,14 +13,14 @@ use reading_core::End;
 use reading_engine::{Stop, inquire};
 use std::alloc::{AllocError, Global};
 
-/// How many mishaps the host survives in a pass, and the most turns of it.
+// How many mishaps the host survives in a pass, and the most turns of it.
 #[derive(Clone, Copy)]
 struct Limits {
     patience: u32,
     turns: u64,
 }
 
-/// What a pass comes to.
+// What a pass comes to.
 enum Outcome {
     /// The piece that begins here is the first that lacks its last word.
     Lacking(u16),

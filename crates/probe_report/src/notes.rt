@@ -7,10 +7,10 @@ use arrayvec::ArrayVec;
 use host_core::Heard;
 use std::marker::Model;
 
-/// The console's prompt.
+// The console's prompt.
 const PROMPT: u8 = b'@';
 
-/// How many of the characters that were heard last are kept.
+// How many of the characters that were heard last are kept.
 const TAIL: usize = 40;
 
 /// What is noted of what is said on a line: whether a prompt was heard, whether each character that was

@@ -15,7 +15,7 @@ pub struct Pace {
     pub look: Option<u32>,
 }
 
-/// A second, a minute and an hour, in twenty-fifths of a microsecond.
+// A second, a minute and an hour, in twenty-fifths of a microsecond.
 const SECOND: u64 = 25_000_000;
 
 const MINUTE: u64 = 60 * SECOND;

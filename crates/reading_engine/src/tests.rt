@@ -12,11 +12,11 @@ use std::process::Abort;
 use tape_blocks::read_tape;
 use tape_image::Plan;
 
-/// What memory holds from 001000 on.
+// What memory holds from 001000 on.
 const VALUES: [u16; 3] = [0o11064, 0o177777, 0o100001];
 
-/// What a reading stands on: the words of the machine, the patience, the loss of the line, its first
-/// failing call, and the turns.
+// What a reading stands on: the words of the machine, the patience, the loss of the line, its first
+// failing call, and the turns.
 #[derive(Clone, Copy)]
 struct Setting {
     words: u16,
@@ -34,8 +34,8 @@ const AMPLE: Setting = Setting {
     turns: 1000,
 };
 
-/// What a reading comes to: how it stops, the keys sent, the things heard, the numbers read, and the
-/// mishaps.
+// What a reading comes to: how it stops, the keys sent, the things heard, the numbers read, and the
+// mishaps.
 #[derive(Clone, Copy)]
 struct Course {
     stop: Stop,
@@ -45,7 +45,7 @@ struct Course {
     spent: u32,
 }
 
-/// The setting, what a reading in it comes to, and why the row is here.
+// The setting, what a reading in it comes to, and why the row is here.
 const ROWS: [(Setting, Course, &str); 7] = [
     (
         Setting { turns: 64, ..AMPLE },
@@ -142,7 +142,7 @@ const ROWS: [(Setting, Course, &str); 7] = [
     ),
 ];
 
-/// Ends the test where this is not so; the reason says why it should be.
+// Ends the test where this is not so; the reason says why it should be.
 fn check_that(rt: &impl Abort, is_so: bool, reason: &str) {
     assert!(rt; is_so, "{reason}");
 }
@@ -167,12 +167,12 @@ fn keys_of(items: &[Item]) -> usize {
         .count()
 }
 
-/// The engine's answer. What its contract promises of it, no test needs.
+// The engine's answer. What its contract promises of it, no test needs.
 fn inquire_on<L: Line>(core: ReadingCore, line: &mut L, turns: u64) -> (ReadingCore, Stop) {
     inquire(core, line, turns)
 }
 
-/// The engine's answer over a line that is lent.
+// The engine's answer over a line that is lent.
 fn inquire_by_lending(
     core: ReadingCore,
     line: MemoryLine,
@@ -181,7 +181,7 @@ fn inquire_by_lending(
     inquire_in_memory(core, line, turns)
 }
 
-/// The reading came to this.
+// The reading came to this.
 fn comes_to(
     rt: &impl Abort,
     (core, stop): &(ReadingCore, Stop),
@@ -197,7 +197,7 @@ fn comes_to(
     check_that(rt, core.spent() == course.spent, reason);
 }
 
-/// What a reading in this setting comes to; nothing where memory for it is refused.
+// What a reading in this setting comes to; nothing where memory for it is refused.
 fn read(alloc: Global, setting: &Setting) -> Option<((ReadingCore, Stop), MemoryLine)> {
     let core = ReadingCore::of_range(alloc, 0o1000, 0o1004, setting.patience).ok()?;
     let line = line_of(alloc, setting)?;
@@ -215,7 +215,7 @@ fn readings(rt: HostRuntime) {
     }
 }
 
-/// A life that is stopped right after its first CR, and a new one that keeps so many numbers.
+// A life that is stopped right after its first CR, and a new one that keeps so many numbers.
 fn read_twice(alloc: Global, kept: u32) -> Option<((ReadingCore, Stop), MemoryLine)> {
     let ((mut core, _), mut line) = read(alloc, &Setting { turns: 22, ..AMPLE })?;
     core.restart(kept);
@@ -223,7 +223,7 @@ fn read_twice(alloc: Global, kept: u32) -> Option<((ReadingCore, Stop), MemoryLi
     Some((answer, line))
 }
 
-/// How many numbers a new life keeps, the keys and the things heard of both lives, and why.
+// How many numbers a new life keeps, the keys and the things heard of both lives, and why.
 const LIVES: [(u32, usize, usize, &str); 3] = [
     (
         1,
@@ -253,15 +253,15 @@ fn new_lives(rt: HostRuntime) {
     }
 }
 
-/// A tape with one byte, 125 at 001001, and no start.
+// A tape with one byte, 125 at 001001, and no start.
 const HIGH_BYTE: [u8; 15] = [
     0x01, 0x00, 0x07, 0x00, 0x01, 0x02, 0x55, 0xA0, 0x01, 0x00, 0x06, 0x00, 0x01, 0x00, 0xF8,
 ];
 
-/// A tape with no word and no start.
+// A tape with no word and no start.
 const NOTHING: [u8; 7] = [0x01, 0x00, 0x06, 0x00, 0x01, 0x00, 0xF8];
 
-/// A host that reads the words of a tape; nothing where the tape or memory is refused.
+// A host that reads the words of a tape; nothing where the tape or memory is refused.
 fn reads_tape(alloc: Global, tape: &[u8]) -> Option<ReadingCore> {
     let (tape, _) = read_tape(alloc, tape).ok()?;
     let plan = Plan::of(alloc, &tape).ok()?;

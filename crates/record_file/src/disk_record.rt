@@ -19,7 +19,7 @@ use std::fs::{File, OpenFile};
 use std::io::{ErrorKind, Seek, SeekFrom, Write};
 use tape_image::Plan;
 
-/// What the name of the new file has more than that of the record.
+// What the name of the new file has more than that of the record.
 const BESIDE: &str = ".ldaodt-new";
 
 /// A record on the disk: what its keeper has flushed survives a loss of power.

@@ -13,10 +13,10 @@ use std::fs::{File, Metadata, OpenFile};
 use std::io::ErrorKind;
 use std::os::unix::fs::{FileTypeExt, MetadataExt};
 
-/// How often a file is opened again that somebody replaces between its opening and its lock.
+// How often a file is opened again that somebody replaces between its opening and its lock.
 const ATTEMPTS: u32 = 8;
 
-/// Which file it is, whatever its names: no two files that are there have the same numbers.
+// Which file it is, whatever its names: no two files that are there have the same numbers.
 #[derive(Clone, Copy, PartialEq, Eq)]
 struct FileId {
     device: u64,
@@ -45,7 +45,7 @@ pub(crate) enum Made {
     BehindLink,
 }
 
-/// A file that was opened and is not held yet.
+// A file that was opened and is not held yet.
 #[derive(Drop)]
 struct Opened<T: Drop> {
     file: T,
@@ -53,7 +53,7 @@ struct Opened<T: Drop> {
     writable: bool,
 }
 
-/// What came of opening a record's file.
+// What came of opening a record's file.
 #[derive(Drop)]
 enum Opening<T: Drop> {
     Opened(Opened<T>),
@@ -76,7 +76,7 @@ pub struct HeldFile<'a, F: Locks> {
     state: State,
 }
 
-/// What is known of a file that is held.
+// What is known of a file that is held.
 #[derive(Clone, Copy)]
 struct State {
     id: FileId,

@@ -8,7 +8,7 @@ use host_core::Heard;
 use reading_core::console::{CARRIAGE_RETURN, LINE_FEED, QUESTION_MARK, RESYNCHRONISE, SPACE};
 
 impl Sight {
-    /// What was seen, once it was seen again.
+    // What was seen, once it was seen again.
     fn and_then(self, now: Sight) -> Sight
         ensures { result ≡ and_then self now }
     {

@@ -13,10 +13,10 @@ use reading_core::console::{
     CARRIAGE_RETURN, LINE_FEED, PROMPT, QUESTION_MARK, RESYNCHRONISE, SLASH, SPACE,
 };
 
-/// How many octal digits the host types of an address, and the console prints of a word.
+// How many octal digits the host types of an address, and the console prints of a word.
 const DIGITS: u8 = 6;
 
-/// How many octal digits are typed into the open word.
+// How many octal digits are typed into the open word.
 const TRIED_DIGITS: u8 = 3;
 
 /// The answer to `Z`: its echo or none, `?`, one CR or two, LF, and the prompt.

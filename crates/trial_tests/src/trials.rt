@@ -11,14 +11,14 @@ use std::process::Abort;
 use trial_core::{End, Seen, Sight, Trial};
 use trial_engine::{Stop, attempt};
 
-/// The word's address.
+// The word's address.
 const WORD: u16 = 0o1000;
 
-/// The style with a space, two CRs and an echo of `Z`.
+// The style with a space, two CRs and an echo of `Z`.
 const LARGEST: u8 = 7;
 
-/// What a trial stands on: the words of the machine, what the word holds, the style, the patience, the
-/// loss of the line, its first failing call, and the turns.
+// What a trial stands on: the words of the machine, what the word holds, the style, the patience, the
+// loss of the line, its first failing call, and the turns.
 #[derive(Clone, Copy)]
 struct Setting {
     words: u16,
@@ -40,8 +40,8 @@ const AMPLE: Setting = Setting {
     turns: 1000,
 };
 
-/// What a trial comes to: how it stops, the keys sent, the things heard, the mishaps, and what was seen
-/// of two CRs.
+// What a trial comes to: how it stops, the keys sent, the things heard, the mishaps, and what was seen
+// of two CRs.
 #[derive(Clone, Copy)]
 struct Course {
     stop: Stop,
@@ -51,7 +51,7 @@ struct Course {
     two_returns: Sight,
 }
 
-/// The setting, what a trial in it comes to, and why the row is here.
+// The setting, what a trial in it comes to, and why the row is here.
 const ROWS: [(Setting, Course, &str); 9] = [
     (
         AMPLE,
@@ -173,7 +173,7 @@ const ROWS: [(Setting, Course, &str); 9] = [
     ),
 ];
 
-/// Ends the test where this is not so; the reason says why it should be.
+// Ends the test where this is not so; the reason says why it should be.
 fn check_that(rt: &impl Abort, is_so: bool, reason: &str) {
     assert!(rt; is_so, "{reason}");
 }
@@ -189,12 +189,12 @@ fn line_of(alloc: Global, setting: &Setting) -> Option<MemoryLine> {
     MemoryLine::new(alloc, odt, losses, 1000, setting.fail_at).ok()
 }
 
-/// The engine's answer. What its contract promises of it, no test needs.
+// The engine's answer. What its contract promises of it, no test needs.
 fn attempt_on<L: Line>(old: u16, patience: u32, line: &mut L, turns: u64) -> (Trial, Stop) {
     attempt(Trial::new(WORD, old, patience), line, turns)
 }
 
-/// What a trial in this setting comes to; nothing where memory for it is refused.
+// What a trial in this setting comes to; nothing where memory for it is refused.
 fn try_in(alloc: Global, setting: &Setting) -> Option<((Trial, Stop), MemoryLine)> {
     let mut line = line_of(alloc, setting)?;
     let answer = attempt_on(setting.held, setting.patience, &mut line, setting.turns);
@@ -225,12 +225,12 @@ fn trials(rt: HostRuntime) {
     }
 }
 
-/// What is to be seen of a thing that the console does or not.
+// What is to be seen of a thing that the console does or not.
 fn sight_of(does: bool) -> Sight {
     if does { Sight::Yes } else { Sight::No }
 }
 
-/// What is to be seen of a style.
+// What is to be seen of a style.
 fn seen_of(style: Style) -> Seen {
     Seen {
         space_before: sight_of(style.space_before),
@@ -255,7 +255,7 @@ fn styles_are_seen(rt: HostRuntime) {
     }
 }
 
-/// What the word holds, the digits that are typed into it, and why.
+// What the word holds, the digits that are typed into it, and why.
 const DIGITS: [(u16, u16, &str); 5] = [
     (0o1, 0o321, "a console that stores 1 shows the same word"),
     (0o12, 0o321, "the same of 12"),
@@ -264,7 +264,7 @@ const DIGITS: [(u16, u16, &str); 5] = [
     (0o177777, 0o123, "also the largest"),
 ];
 
-/// The keys that were sent from the tenth on, as far as three.
+// The keys that were sent from the tenth on, as far as three.
 fn digits_sent(items: &[Item]) -> [u8; 3] {
     let mut digits = [0; 3];
     let keys = items.iter().filter_map(|item| match *item {

@@ -65,21 +65,29 @@ enum Asked<'a> {
 }
 
 // The request for it. The error is that it has no room.
-fn request_of<'a>(alloc: Global, asked: Asked<'a>) -> Result<Request<'a>, AllocError> {
+fn request_of(alloc: Global, asked: Asked<'_>) -> Result<Request<'_>, AllocError> {
     match asked {
         Asked::Load(record) => load_of(alloc, TAPE, record),
-        Asked::Verify => Ok(Request::Verify(Vec::from_slice(alloc, &[TAPE])?, LOOK)),
-        Asked::Save => match AddressRange::new(0o001000, 0o010636) {
-            Some(range) => Ok(Request::Save(
-                SAVED,
-                Save {
-                    range,
-                    start: 1,
-                    look: LOOK,
-                },
-            )),
-            None => Ok(Request::CheckInput),
-        },
+        Asked::Verify => verify_of(alloc, TAPE, LOOK),
+        Asked::Save => Ok(save_of(SAVED, LOOK)),
+    }
+}
+
+fn verify_of<'a>(alloc: Global, tape: &'a str, look: Look<'a>) -> Result<Request<'a>, AllocError> {
+    Ok(Request::Verify(Vec::from_slice(alloc, &[tape])?, look))
+}
+
+fn save_of<'a>(name: &'a str, look: Look<'a>) -> Request<'a> {
+    match AddressRange::new(0o001000, 0o010636) {
+        Some(range) => Request::Save(
+            name,
+            Save {
+                range,
+                start: 1,
+                look,
+            },
+        ),
+        None => Request::CheckInput,
     }
 }
 

@@ -16,7 +16,10 @@ use tape_blocks::{Block, Tape, write_tape};
 // How many words a long tape has: as many things have to have room in a record that is kept in memory.
 const WORDS: usize = 2000;
 
-// A machine that is no larger than that tape needs, since there is one for each room before memory is taken.
+// How many words a tape has that is looked for: the report has room beforehand for a line of each that differs.
+const LOOKED: usize = 500;
+
+// A machine that is no larger than the long tape needs, since there is one for each room before memory is taken.
 const SETTING: Setting = Setting {
     words: 2256,
     ..AMPLE
@@ -43,8 +46,8 @@ const LOOK: Look<'static> = Look {
 // its address, the slash and the return.
 const ZEROES_LOADED: &str = "sent 16001 spent 0 verified 2000 of 2000\nend Loaded\n";
 
-// What is reported of a look at as many zeroes, which types the same keys.
-const ZEROES_THERE: &str = "sent 16001 spent 0 looked 2000 of 2000 differ 0\nend Same\n";
+// What is reported of a look at the shorter one, which types as many keys for a word.
+const ZEROES_THERE: &str = "sent 4001 spent 0 looked 500 of 500 differ 0\nend Same\n";
 
 const ZEROES_SAVED: &str = "sent 16001 spent 0 read 2000 of 2000\nend Saved\n";
 
@@ -91,9 +94,9 @@ fn save_of<'a>(name: &'a str, look: Look<'a>) -> Request<'a> {
     }
 }
 
-// The text of the tape of zeroes: zeroes at 001000, and no start.
-fn zeroes(alloc: Global) -> Option<Vec<u8>> {
-    let bytes = Vec::from_slice(alloc, &[0; 2 * WORDS]).ok()?;
+// The text of a tape with these bytes at 001000, and no start.
+fn text_of(alloc: Global, bytes: &[u8]) -> Option<Vec<u8>> {
+    let bytes = Vec::from_slice(alloc, bytes).ok()?;
     let mut blocks = Vec::new(alloc);
     let block = Block {
         address: 0o1000,
@@ -105,8 +108,8 @@ fn zeroes(alloc: Global) -> Option<Vec<u8>> {
 }
 
 // Puts that tape there, and answers whether it is.
-fn put_zeroes(rt: &HostRuntime) -> bool {
-    match zeroes(rt.alloc()) {
+fn put_tape(rt: &HostRuntime, bytes: &[u8]) -> bool {
+    match text_of(rt.alloc(), bytes) {
         Some(text) => fs::write(rt, TAPE, text.as_slice()).is_ok(),
         None => false,
     }
@@ -222,16 +225,16 @@ fn done_at_last(rt: &HostRuntime, asked: Asked<'_>, report: &str) -> Option<Refu
 
 #[test]
 fn each_growth_of_a_load_is_refused_in_turn(rt: HostRuntime) -> Result<(), Fail> {
-    assert!(rt; put_zeroes(&rt), "no tape");
+    assert!(rt; put_tape(&rt, &[0; 2 * WORDS]), "no tape");
     let refusals = done_at_last(&rt, Asked::Load(None), ZEROES_LOADED);
     assert!(rt; refusals.is_some_and(|refusals| refusals.behind > 0));
     Ok(fs::remove_file(&rt, TAPE)?)
 }
 
-// All that a verify needs is taken before the first key.
+// All that a verify needs is taken before it connects.
 #[test]
 fn each_growth_of_a_verify_is_refused_in_turn(rt: HostRuntime) -> Result<(), Fail> {
-    assert!(rt; put_zeroes(&rt), "no tape");
+    assert!(rt; put_tape(&rt, &[0; 2 * LOOKED]), "no tape");
     let refusals = done_at_last(&rt, Asked::Verify, ZEROES_THERE);
     assert!(rt; refusals.is_some_and(|refusals| refusals.all > 0 && refusals.behind == 0));
     Ok(fs::remove_file(&rt, TAPE)?)

@@ -1,7 +1,7 @@
 ghost use Rattle.std.specs.Prelude.{◌≡◌, ℕ, [], List, Option, None, IfOk, IfErr};
 ghost use Rattle.console_reach.specs.Reached.{IsFresh, IsReachFault, OneMoreTime};
 ghost use Rattle.load_devices.specs.Told.{Gains};
-ghost use Rattle.stream_line.specs.Dialling.{Asked, Call, asked_for};
+ghost use Rattle.stream_line.specs.Dialling.{NetRequest, Call, asked_for};
 
 use load_devices::{Line, LineFault};
 
@@ -14,7 +14,7 @@ pub trait Reach {
     ghost tries: { Self → Option ℕ } = { λ _. None };
 
     /// What was asked of the network so far; None where the type doesn't tell.
-    ghost asked: { Self → Option (List Asked) } = { λ _. None };
+    ghost asked: { Self → Option (List NetRequest) } = { λ _. None };
 
     /// Whom it reaches, and with which quiet time, where it tells what was asked.
     ghost call: { Self → Call } = { λ _. record { name = []; quiet_ms = 0 } };

@@ -68,8 +68,8 @@ abbrev pub more_in : Found → List (List ℕ)
 more_in found = option_map_or raw_values (matched_of found (codes "MORE")) []
 
 -- the names of the tapes are these, the first before all others
-abbrev pub AreTapes : Found → List (Bor (List ℕ)) → Type 0
-AreTapes found names = (first : List ℕ) × ((first_value found (codes "TAPE") ≡ Some first) × (map (λ name. name.now) names ≡ first ∷ more_in found))
+abbrev pub NamesTapes : Found → List (Bor (List ℕ)) → Type 0
+NamesTapes found names = (first : List ℕ) × ((first_value found (codes "TAPE") ≡ Some first) × (map (λ name. name.now) names ≡ first ∷ more_in found))
 
 -- a simulated console is what its two options say: all memory and the plain style where nothing else is said
 pub record IsConsoleOf (found : Found) (console : Console) : Type 0 where
@@ -77,7 +77,7 @@ pub record IsConsoleOf (found : Found) (console : Console) : Type 0 where
   pub style : IsNumberOf found (codes "style") 0 (style_number console.style)
 
 -- a load, but for its tapes, is what the arguments and options of `load` say
-pub record IsLoadOf (found : Found) (load : Load) : Type 0 where
+pub record SaysLoad (found : Found) (load : Load) : Type 0 where
   pub line : first_value found (codes "LINE") ≡ Some load.line.now
   pub record_file : option_map (λ name. name.now) load.«record» ≡ first_value found (codes "record")
   pub recheck : IsFlag found (codes "recheck") load.options.recheck
@@ -110,14 +110,14 @@ pub record IsProbeOf (found : Found) (probe : Probe) : Type 0 where
 
 -- a request is what the arguments and options of its command say
 abbrev pub IsRequestOf : Found → Request → Type 0
-IsRequestOf found (Check names) = AreTapes found names.items
-IsRequestOf found (Dialogue names console start) = AreTapes found names.items × IsConsoleOf found console × IsStartOf found start
+IsRequestOf found (Check names) = NamesTapes found names.items
+IsRequestOf found (Dialogue names console start) = NamesTapes found names.items × IsConsoleOf found console × IsStartOf found start
 IsRequestOf found (Rehearse tape script more) =
     (first_value found (codes "TAPE") ≡ Some tape.now) × (first_value found (codes "SCRIPT") ≡ Some script.now)
     × (map (λ name. name.now) more.items ≡ more_in found)
 IsRequestOf found (TypeKeys console) = IsConsoleOf found console
-IsRequestOf found (Loads names load) = AreTapes found names.items × IsLoadOf found load
-IsRequestOf found (Verify names look) = AreTapes found names.items × IsLookOf found look
+IsRequestOf found (Loads names load) = NamesTapes found names.items × SaysLoad found load
+IsRequestOf found (Verify names look) = NamesTapes found names.items × IsLookOf found look
 IsRequestOf found (Saves file save) = (first_value found (codes "FILE") ≡ Some file.now) × IsSaveOf found save
 IsRequestOf found (Probes probe) = IsProbeOf found probe
 IsRequestOf found CheckInput = ⊥

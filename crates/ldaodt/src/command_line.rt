@@ -1,7 +1,7 @@
 //! The command line: which words ask for what.
 ghost use Rattle.std.specs.Prelude.{◌≡◌, ◌≢◌, [], IfOk};
 ghost use Rattle.clap.specs.Matches.{found_of};
-ghost use Rattle.ldaodt.specs.Options.{IsLoadOf, IsLookOf, IsRequestOf};
+ghost use Rattle.ldaodt.specs.Options.{SaysLoad, IsLookOf, IsRequestOf};
 
 mod addresses;
 mod commands;
@@ -97,7 +97,7 @@ fn loading_of<'a>(alloc: Global, found: &ArgMatches<'a>) -> Result<Request<'a>, 
 
 // A load, but for its tapes.
 fn load_of<'a>(alloc: Global, found: &ArgMatches<'a>) -> Result<Load<'a>, NoRequest>
-    ensures { IfOk result (IsLoadOf (found_of found.now)) }
+    ensures { IfOk result (SaysLoad (found_of found.now)) }
 {
     Ok(Load {
         line: line_of(alloc, found)?,

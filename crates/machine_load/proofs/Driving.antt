@@ -23,9 +23,9 @@ is_life tells writable first before after finish (inr life) = inr (record {
     goes_on = life.driven.goes_on;
     driven = record {
       line = life.driven.line.said;
-      line_after = life.line'.said;
+      line' = life.line'.said;
       keeper = tells.kept life.driven.keeper;
-      keeper_after = tells.kept life.keeper';
+      keeper' = tells.kept life.keeper';
       session = life.driven.session;
       end = life.driven.end;
     };

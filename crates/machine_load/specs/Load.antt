@@ -57,7 +57,7 @@ abbrev pub words_taken : Bool → Progress → ℕ
 words_taken recheck said = if recheck && not said.going then 0 else said.verified
 
 -- the record says this progress of the plan
-pub record IsOpened (record_told : Option (List ℕ)) (plan : PlanValue) (said : Progress) : Type 0 where
+pub record SaysProgress (record_told : Option (List ℕ)) (plan : PlanValue) (said : Progress) : Type 0 where
   pub text : List ℕ
   pub is_record : IsRecordText record_told text
   pub is_ours : HoldsNoRecord text → ⊥
@@ -66,16 +66,16 @@ pub record IsOpened (record_told : Option (List ℕ)) (plan : PlanValue) (said :
 -- the life that begins with what the record says of the plan
 pub record IsOpening (record_told : Option (List ℕ)) (plan : PlanValue) (options : LoadOptions) (core : Core) : Type 0 where
   pub said : Progress
-  pub opened : IsOpened record_told plan said
+  pub opened : SaysProgress record_told plan said
   pub core_is : core ≡ begun plan (words_taken options.recheck said) said.going options.patience
 
 -- an engine that had 10,000,000 turns led the one core to the other, and stopped so
 pub record IsDriven (old new : Core) (stop : Stop) : Type 0 where
   pub line : Option (List Item)
-  pub line_after : Option (List Item)
+  pub line' : Option (List Item)
   pub keeper : Option (List Kept)
-  pub keeper_after : Option (List Kept)
-  pub session : Session 10000000 (Some stop) old new line line_after keeper keeper_after
+  pub keeper' : Option (List Kept)
+  pub session : Session 10000000 (Some stop) old new line line' keeper keeper'
   pub end : TellsEnd stop new
 
 -- the life is over before it has begun

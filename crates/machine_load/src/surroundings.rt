@@ -4,7 +4,7 @@ ghost use Rattle.load_devices.specs.Told.{Gains};
 ghost use Rattle.machine_load.specs.Load.{IsBegun, IsRecordText};
 ghost use Rattle.record_file.specs.RecordFault.{IsUnread, IsUnbegun};
 ghost use Rattle.console_reach.specs.Reached.{IsFresh};
-ghost use Rattle.stream_line.specs.Dialling.{Asked, Call, asked_for};
+ghost use Rattle.stream_line.specs.Dialling.{NetRequest, Call, asked_for};
 ghost use Rattle.tape_image.specs.Plan.{PlanValue};
 ghost use Rattle.machine_load.specs.Step.{Step, EndRecord, read_step, connect_step, begin_step};
 
@@ -26,7 +26,7 @@ pub trait Surroundings {
     ghost steps: { Self → Option (List Step) } = { λ _. None };
 
     /// What was asked of the network so far; None where the type doesn't tell.
-    ghost asked: { Self → Option (List Asked) } = { λ _. None };
+    ghost asked: { Self → Option (List NetRequest) } = { λ _. None };
 
     /// Whom a connection leads to, and with which quiet time, where the type tells what was asked.
     ghost call: { Self → Call } = { λ _. record { name = []; quiet_ms = 0 } };

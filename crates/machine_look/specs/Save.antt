@@ -55,7 +55,7 @@ pub record IsRead (options : SaveOptions) (before after : SaveTold) (last : Read
   pub is_memory : OverHonestLine look (IsMemoryAt (take (length last.values) (addresses_in options.range)) (tape_to_save options last.values))
 
 -- what was read was put where the tape goes, and so it ended
-pub record IsPut (options : SaveOptions) (before after : SaveTold) (last : Reader) (stop : Stop) : Type 0 where
+pub record IsShelved (options : SaveOptions) (before after : SaveTold) (last : Reader) (stop : Stop) : Type 0 where
   pub is_read : IsRead options before after last stop
   pub is_put : Gains before.steps after.steps (Reserve ∷ puts options.range.from last.values options.start)
 
@@ -63,7 +63,7 @@ pub record IsPut (options : SaveOptions) (before after : SaveTold) (last : Reade
 pub record IsSavedAndReported (options : SaveOptions) (before after : SaveTold) (end : SaveEnd) : Type 0 where
   pub last : Reader
   pub stop : Stop
-  pub saved : IsPut options before after last stop
+  pub saved : IsShelved options before after last stop
   pub end_is : end ≡ save_end stop
   pub reported : Appends before.out after.out (save_report last stop)
 
@@ -71,7 +71,7 @@ pub record IsSavedAndReported (options : SaveOptions) (before after : SaveTold) 
 pub record IsSavedUnreported (options : SaveOptions) (before after : SaveTold) : Type 0 where
   pub last : Reader
   pub stop : Stop
-  pub saved : IsPut options before after last stop
+  pub saved : IsShelved options before after last stop
   pub missing : List ℕ
   pub reported : WritesAllBut before.out after.out (save_report last stop) missing
 

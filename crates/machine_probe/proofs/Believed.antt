@@ -10,8 +10,8 @@ use Rattle.load_devices.specs.Told.{Gains}
 use Rattle.honest_line.specs.Honest.{IsHonest}
 use Rattle.memory_end.specs.declared.search.Search.{Search}
 use Rattle.memory_end.specs.declared.search.Search.TheVariants as search
-use Rattle.memory_end.specs.Ending.{IsRight as IsRightEnd}
-use Rattle.memory_end.specs.Rows.{AreHonest}
+use Rattle.memory_end.specs.Ending.{IsTrueEnd}
+use Rattle.reading_law.specs.Rows.{AreHonest}
 use Rattle.probe_report.specs.declared.findings.Attempt.{Attempt}
 use Rattle.probe_report.specs.declared.findings.Extent.{Extent}
 use Rattle.probe_report.specs.declared.findings.Extent.TheVariants as extent
@@ -26,7 +26,7 @@ use Rattle.reading_core.specs.Addresses.{AreAddresses, IsAddress}
 use Rattle.reading_core.specs.Laws.{led}
 use Rattle.reading_core.specs.Reader.{Reader}
 use Rattle.reading_core.proofs.Lives.{led_addresses}
-use Rattle.reading_law.specs.Belief.{IsReady, dialogue}
+use Rattle.reading_law.specs.Belief.{IsReadyMachine, dialogue}
 use Rattle.reading_engine.specs.declared.stop.Stop.{Stop as LookStop}
 use Rattle.reading_engine.specs.declared.stop.Stop.TheVariants.{Ended, LineFailed, TurnsOver}
 use Rattle.reading_engine.specs.Inquired.{IsSaid}
@@ -35,7 +35,7 @@ use Rattle.trial_engine.specs.declared.stop.Stop.{Stop as TrialStop}
 use Rattle.trial_engine.specs.declared.stop.Stop.TheVariants as stopped
 use Rattle.trial_engine.specs.Attempted.{IsSaid as IsSaidOfTrial}
 use Rattle.trial_law.specs.Again.{looker}
-use Rattle.trial_law.specs.Runs.{Look, Run, Try, dialogue_of, IsRun}
+use Rattle.trial_law.specs.Runs.{Look, Run, Try, dialogue_of, MayBeSuchAHost}
 use Rattle.trial_law.specs.Trying.{IsToldOf, trial_dialogue}
 use Rattle.trial_law.proofs.Runs.{IsHarmless, run_harmless}
 use Rattle.trial_law.proofs.Told.{told_honest}
@@ -43,7 +43,7 @@ use Rattle.machine_probe.specs.declared.probe_options.ProbeOptions.{ProbeOptions
 use Rattle.machine_probe.specs.Belief.{IsBelievable, IsRight}
 use Rattle.machine_probe.specs.Came.{extent_of, first_of, sighting_of}
 use Rattle.machine_probe.specs.Follow.{IsProbe, Made, forgets, goes_on, is_number, number_in, stores}
-use Rattle.machine_probe.specs.Runs.{IsLook, IsSearch, IsTrialOf, One}
+use Rattle.machine_probe.specs.Runs.{LooksAt, IsSearch, IsTrialOf, One}
 
 -- ---- what was said is a dialogue, perhaps without its last key
 
@@ -70,7 +70,7 @@ one_address address is = record {
 
 -- what a run leaves that ended at a machine
 record Leaves (machine now : Machine) : Type 0 where
-  pub ready : IsReady now
+  pub ready : IsReadyMachine now
   pub memory : now.memory ≡ machine.memory
 
 -- a number that a look gives is the first that was read
@@ -82,8 +82,8 @@ is_first (Ended (NoWord address)) values number is = absurd (cc is)
 is_first TurnsOver values number is = absurd (cc is)
 is_first (LineFailed fault) values number is = absurd (cc is)
 
-look_right : (options : ProbeOptions) (sighting : Sighting) (said : List Item) (machine now : Machine) (lost : ℕ) → IsAddress options.address → options.patience < 2 ^ 32 → IsLook options sighting said →
-    IsReady machine → IsHonest machine said lost now → Leaves machine now × ((number : ℕ) → sighting ≡ look.Number number → number ≡ word_at machine.memory options.address)
+look_right : (options : ProbeOptions) (sighting : Sighting) (said : List Item) (machine now : Machine) (lost : ℕ) → IsAddress options.address → options.patience < 2 ^ 32 → LooksAt options sighting said →
+    IsReadyMachine machine → IsHonest machine said lost now → Leaves machine now × ((number : ℕ) → sighting ≡ look.Number number → number ≡ word_at machine.memory options.address)
 look_right options sighting said machine now lost address long l ready honest =
     let s = l.inquired in
     let run : Run = Look (options.address ∷ []) options.patience s.heard in
@@ -98,7 +98,7 @@ look_right options sighting said machine now lost address long l ready honest =
     )
 
 trial_leaves : (options : ProbeOptions) (old : ℕ) (attempt : Attempt) (said : List Item) (machine now : Machine) (lost : ℕ) → IsAddress options.address → options.patience < 2 ^ 32 → IsTrialOf options old attempt said →
-    IsReady machine → IsHonest machine said lost now → Leaves machine now
+    IsReadyMachine machine → IsHonest machine said lost now → Leaves machine now
 trial_leaves options old attempt said machine now lost address long t ready honest =
     let s = t.attempted in
     let run : Run = Try options.address old options.patience s.heard in
@@ -115,15 +115,15 @@ split machine now (said ∷ xs) ys lost (between, first, later, here, there, all
     (rest.0, first + rest.1, rest.2, (between, first, rest.1, here, rest.3, refl), rest.4)
 
 -- nothing was said
-none_leaves : (machine now : Machine) (parts : List (List Item)) (lost : ℕ) → parts ≡ [] → IsReady machine → AreHonest machine parts lost now → Leaves machine now
-none_leaves machine now [] lost is ready honest = record { ready = subst IsReady (sym honest.0) ready; memory = ap (λ (m : Machine). m.memory) honest.0 }
+none_leaves : (machine now : Machine) (parts : List (List Item)) (lost : ℕ) → parts ≡ [] → IsReadyMachine machine → AreHonest machine parts lost now → Leaves machine now
+none_leaves machine now [] lost is ready honest = record { ready = subst IsReadyMachine (sym honest.0) ready; memory = ap (λ (m : Machine). m.memory) honest.0 }
 none_leaves machine now (said ∷ parts) lost is ready honest = absurd (cc is)
 
 same_now : (machine b now : Machine) → Leaves machine b → now ≡ b → Leaves machine now
 same_now machine b now l is = subst (Leaves machine) (sym is) l
 
-row_look : (options : ProbeOptions) (sighting : Sighting) (parts : List (List Item)) (machine now : Machine) (lost : ℕ) → IsAddress options.address → options.patience < 2 ^ 32 → One (IsLook options sighting) parts →
-    IsReady machine → AreHonest machine parts lost now → Leaves machine now × ((number : ℕ) → sighting ≡ look.Number number → number ≡ word_at machine.memory options.address)
+row_look : (options : ProbeOptions) (sighting : Sighting) (parts : List (List Item)) (machine now : Machine) (lost : ℕ) → IsAddress options.address → options.patience < 2 ^ 32 → One (LooksAt options sighting) parts →
+    IsReadyMachine machine → AreHonest machine parts lost now → Leaves machine now × ((number : ℕ) → sighting ≡ look.Number number → number ≡ word_at machine.memory options.address)
 row_look options sighting [] machine now lost address long is ready honest = absurd is
 row_look options sighting (said ∷ []) machine now lost address long is ready (between, first, later, here, there, all) =
     let r = look_right options sighting said machine between first address long is ready here in
@@ -131,7 +131,7 @@ row_look options sighting (said ∷ []) machine now lost address long is ready (
 row_look options sighting (said ∷ (more ∷ parts)) machine now lost address long is ready honest = absurd is
 
 row_trial : (options : ProbeOptions) (old : ℕ) (attempt : Attempt) (parts : List (List Item)) (machine now : Machine) (lost : ℕ) → IsAddress options.address → options.patience < 2 ^ 32 → One (IsTrialOf options old attempt) parts →
-    IsReady machine → AreHonest machine parts lost now → Leaves machine now
+    IsReadyMachine machine → AreHonest machine parts lost now → Leaves machine now
 row_trial options old attempt [] machine now lost address long is ready honest = absurd is
 row_trial options old attempt (said ∷ []) machine now lost address long is ready (between, first, later, here, there, all) =
     same_now machine between now (trial_leaves options old attempt said machine between first address long is ready here) there.0
@@ -140,14 +140,14 @@ row_trial options old attempt (said ∷ (more ∷ parts)) machine now lost addre
 -- ---- runs that were made, or not
 
 made_trial : (options : ProbeOptions) (wanted : Bool) (old : ℕ) (found : Option Attempt) (parts : List (List Item)) (machine now : Machine) (lost : ℕ) → IsAddress options.address → options.patience < 2 ^ 32 →
-    Made wanted (λ attempt. One (IsTrialOf options old attempt)) found parts → IsReady machine → AreHonest machine parts lost now → Leaves machine now
+    Made wanted (λ attempt. One (IsTrialOf options old attempt)) found parts → IsReadyMachine machine → AreHonest machine parts lost now → Leaves machine now
 made_trial options true old None parts machine now lost address long is ready honest = absurd is
 made_trial options true old (Some attempt) parts machine now lost address long is ready honest = row_trial options old attempt parts machine now lost address long is ready honest
 made_trial options false old None parts machine now lost address long is ready honest = none_leaves machine now parts lost is ready honest
 made_trial options false old (Some attempt) parts machine now lost address long is ready honest = absurd is
 
 made_look : (options : ProbeOptions) (wanted : Bool) (found : Option Sighting) (parts : List (List Item)) (machine now : Machine) (lost : ℕ) → IsAddress options.address → options.patience < 2 ^ 32 →
-    Made wanted (λ sighting. One (IsLook options sighting)) found parts → IsReady machine → AreHonest machine parts lost now →
+    Made wanted (λ sighting. One (LooksAt options sighting)) found parts → IsReadyMachine machine → AreHonest machine parts lost now →
     Leaves machine now × ((number : ℕ) → found ≡ Some (look.Number number) → number ≡ word_at machine.memory options.address)
 made_look options true None parts machine now lost address long is ready honest = absurd is
 made_look options true (Some sighting) parts machine now lost address long is ready honest =
@@ -161,13 +161,13 @@ unmade {A} false run None parts off is = (refl, is)
 unmade {A} false run (Some thing) parts off is = absurd is
 
 -- memory's end, where a search found it
-end_right : (search : Search) (memory : List ℕ) (patience lost top : ℕ) → IsRightEnd search memory patience lost → extent.Top top ≡ extent_of search → top_of memory ≡ top
+end_right : (search : Search) (memory : List ℕ) (patience lost top : ℕ) → IsTrueEnd search memory patience lost → extent.Top top ≡ extent_of search → top_of memory ≡ top
 end_right (search.Ends found) memory patience lost top right is = right ∙ cc is
 end_right (search.Stopped (Ended end)) memory patience lost top right is = absurd (cc is)
 end_right (search.Stopped TurnsOver) memory patience lost top right is = absurd (cc is)
 end_right (search.Stopped (LineFailed fault)) memory patience lost top right is = absurd (cc is)
 
-made_search : (options : ProbeOptions) (wanted : Bool) (found : Option Extent) (parts : List (List Item)) (machine now : Machine) (lost : ℕ) → Made wanted (IsSearch options) found parts → IsReady machine →
+made_search : (options : ProbeOptions) (wanted : Bool) (found : Option Extent) (parts : List (List Item)) (machine now : Machine) (lost : ℕ) → Made wanted (IsSearch options) found parts → IsReadyMachine machine →
     AreHonest machine parts lost now → (now.memory ≡ machine.memory) × ((top : ℕ) → found ≡ Some (extent.Top top) → top_of machine.memory ≡ top)
 made_search options true None parts machine now lost is ready honest = absurd is
 made_search options true (Some given) parts machine now lost is ready honest =

@@ -6,7 +6,7 @@ use Rattle.load_engine.proofs.Sessions.{gains_join, gains_none}
 use Rattle.memory_end.specs.declared.search.Search.{Search}
 use Rattle.memory_end.specs.Ending.{FindsEnd}
 use Rattle.memory_end.specs.Passes.{Searches, three_passes}
-use Rattle.memory_end.specs.Rows.{in_a_row}
+use Rattle.reading_law.specs.Rows.{in_a_row}
 use Rattle.probe_report.specs.declared.findings.Attempt.{Attempt}
 use Rattle.probe_report.specs.declared.findings.Extent.{Extent}
 use Rattle.probe_report.specs.declared.findings.Findings.{Findings}
@@ -32,7 +32,7 @@ use Rattle.machine_probe.specs.Came.{attempt_of, extent_of, first_of, sighting_o
 use Rattle.machine_probe.specs.Follow.{IsProbe, Made, forgets, goes_on, is_number, number_in, stores}
 use Rattle.machine_probe.specs.PuttingBack.{IsPutBack, PutsBack}
 use Rattle.machine_probe.specs.Rooms.{HasDeposit}
-use Rattle.machine_probe.specs.Runs.{IsLook, IsSearch, IsTrialOf, OnLine, One}
+use Rattle.machine_probe.specs.Runs.{LooksAt, IsSearch, IsTrialOf, OnLine, One}
 use Rattle.machine_probe.specs.Turns.{turns_of}
 
 -- ---- the hosts of the looks
@@ -60,9 +60,9 @@ one run line line' said is gains = record { parts = said ∷ []; are = is; on_li
 -- what the engine of the looks answers is a look
 pub look_is : (options : ProbeOptions) (core last : Reader) (stop : LookStop) (turns : ℕ) (number : Option ℕ) (sighting : Sighting) (line line' : Option (List Item)) →
     core ≡ looker options.address options.patience → turns ≡ turns_of options.patience → Inquired turns (Some stop) core last line line' → TellsEnd stop last →
-    number ≡ first_of last.values → sighting ≡ sighting_of stop number → OnLine (One (IsLook options sighting)) line line'
+    number ≡ first_of last.values → sighting ≡ sighting_of stop number → OnLine (One (LooksAt options sighting)) line line'
 look_is options core last stop turns number sighting line line' begins limit s end is came =
-    one (IsLook options sighting) line line' s.said (record {
+    one (LooksAt options sighting) line line' s.said (record {
       stop = stop;
       last = last;
       inquired = subst (λ (n : ℕ). Inquired n (Some stop) (looker options.address options.patience) last (Some []) (Some s.said)) limit (subst (λ (r : Reader). Inquired turns (Some stop) r last (Some []) (Some s.said)) begins (record {
@@ -157,9 +157,9 @@ rows_join : (a b c : Option (List Item)) (xs ys : List (List Item)) → Gains a 
 rows_join a b c xs ys g h = subst (Gains a c) (sym (row_append xs ys)) (gains_join a b c (in_a_row xs) (in_a_row ys) g h)
 
 pub all_runs : (options : ProbeOptions) (f : Findings) (verdict : Verdict) (l0 l1 l2 l3 l4 l5 : Option (List Item)) → f.address ≡ options.address →
-    OnLine (One (IsLook options f.first)) l0 l1 →
+    OnLine (One (LooksAt options f.first)) l0 l1 →
     OnLine (Made (is_number f.first) (λ attempt. One (IsTrialOf options (number_in f.first) attempt)) f.trial) l1 l2 →
-    OnLine (Made (goes_on f.trial) (λ sighting. One (IsLook options sighting)) f.second) l2 l3 →
+    OnLine (Made (goes_on f.trial) (λ sighting. One (LooksAt options sighting)) f.second) l2 l3 →
     OnLine (Made (stores (verdict_of f)) (λ is_back. One (PutsBack options.address (number_in f.first) options.patience (turns_of options.patience) is_back)) f.put_back) l3 l4 →
     verdict ≡ verdict_of f → OnLine (Made (forgets verdict) (IsSearch options) f.search) l4 l5 →
     OnLine (IsProbe options f) l0 l5

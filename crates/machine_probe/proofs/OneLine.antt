@@ -13,7 +13,7 @@ use Rattle.honest_line.specs.Honest.{IsHonest}
 use Rattle.memory_end.specs.declared.pieces.Pieces.{Pieces}
 use Rattle.memory_end.specs.declared.search.Search.{Search}
 use Rattle.memory_end.specs.Passes.{ArePieces, GoesOn, IsPass, Searches, found, last_words, three_passes}
-use Rattle.memory_end.specs.Rows.{AreHonest, in_a_row}
+use Rattle.reading_law.specs.Rows.{AreHonest, in_a_row}
 use Rattle.memory_end.proofs.Founds.{IsOver, passed_within}
 use Rattle.memory_end.proofs.LastWords.{last_asked}
 use Rattle.probe_report.specs.declared.findings.Attempt.{Attempt}
@@ -29,12 +29,12 @@ use Rattle.reading_core.specs.Invariant.{IsReader}
 use Rattle.reading_core.specs.Reader.{Reader, begun}
 use Rattle.reading_core.proofs.Lives.{led_addresses, led_kept}
 use Rattle.reading_core.proofs.Turns.{fresh_kept}
-use Rattle.reading_law.specs.Belief.{IsReady}
+use Rattle.reading_law.specs.Belief.{IsReadyMachine}
 use Rattle.reading_engine.specs.declared.stop.Stop.{Stop as LookStop}
 use Rattle.reading_engine.specs.declared.stop.Stop.TheVariants.{Ended, LineFailed, TurnsOver}
 use Rattle.trial_law.specs.Rows.{LeavesReady}
 use Rattle.trial_law.specs.Runs.{Look, Run, Try, dialogue_of}
-use Rattle.trial_law.specs.Splitting.{BeginsByListening, IsSplit}
+use Rattle.trial_law.specs.Splitting.{BeginsByListening, PartsAt}
 use Rattle.trial_law.specs.Trying.{IsToldOf}
 use Rattle.trial_law.proofs.Rows.{leave_ready}
 use Rattle.trial_law.proofs.Splits.{lines_split}
@@ -43,7 +43,7 @@ use Rattle.machine_probe.specs.declared.probe_options.ProbeOptions.{ProbeOptions
 use Rattle.machine_probe.specs.Belief.{IsBelievable, IsBelievableOver, IsRight}
 use Rattle.machine_probe.specs.Follow.{IsProbe, Made, forgets, goes_on, is_number, number_in, stores}
 use Rattle.machine_probe.specs.PuttingBack.{PutsBack}
-use Rattle.machine_probe.specs.Runs.{IsLook, IsSearch, IsTrialOf, One}
+use Rattle.machine_probe.specs.Runs.{LooksAt, IsSearch, IsTrialOf, One}
 use Rattle.machine_probe.specs.Turns.{turns_of}
 use Rattle.machine_probe.proofs.Believed.{believes, one_address, told_look, told_trial}
 
@@ -65,14 +65,14 @@ row_begins [] are = absurd are
 row_begins (said ∷ []) are = both_begin said [] are tt
 row_begins (said ∷ (next ∷ parts)) are = both_begin said (in_a_row (next ∷ parts)) are.0.begins (row_begins (next ∷ parts) are.1)
 
-row_of_line : (machine now : Machine) (parts : List (List Item)) (lost : ℕ) → IsReady machine → AreHosts parts → IsHonest machine (in_a_row parts) lost now → AreHonest machine parts lost now
+row_of_line : (machine now : Machine) (parts : List (List Item)) (lost : ℕ) → IsReadyMachine machine → AreHosts parts → IsHonest machine (in_a_row parts) lost now → AreHonest machine parts lost now
 row_of_line machine now [] lost ready are honest = absurd are
 row_of_line machine now (said ∷ []) lost ready are honest = (now, lost, 0, subst (λ items. IsHonest machine items lost now) (append-nil said) honest, (refl, refl), none_later lost)
   where
     none_later : (n : ℕ) → n ≡ n + 0
     none_later n = omega arith
 row_of_line machine now (said ∷ (next ∷ parts)) lost ready are honest =
-    let s : IsSplit machine said (in_a_row (next ∷ parts)) lost now =
+    let s : PartsAt machine said (in_a_row (next ∷ parts)) lost now =
     lines_split machine now said (in_a_row (next ∷ parts)) lost (are.0.tidy machine ready) (row_begins (next ∷ parts) are.1) honest in (
       s.between,
       s.lost_before,
@@ -100,7 +100,7 @@ hosts_all said (next ∷ parts) leaves all = (leaves, hosts_all next parts all.0
 
 -- ---- the runs
 
-look_leaves : (options : ProbeOptions) (sighting : Sighting) (said : List Item) → IsAddress options.address → options.patience < 2 ^ 32 → IsLook options sighting said → LeavesReady said
+look_leaves : (options : ProbeOptions) (sighting : Sighting) (said : List Item) → IsAddress options.address → options.patience < 2 ^ 32 → LooksAt options sighting said → LeavesReady said
 look_leaves options sighting said address long l =
     let s = l.inquired in
     let run : Run = Look (options.address ∷ []) options.patience s.heard in
@@ -230,18 +230,18 @@ behind_second options Unknown old (Some is_back) search xs ys deposits searches 
 hosts : (options : ProbeOptions) (f : Findings) (parts : List (List Item)) → IsAddress options.address → options.patience < 2 ^ 32 →
     (p : IsProbe options f parts) → AllLeave (p.in_deposit ++ p.in_search) ⊎ AreHosts (p.in_deposit ++ p.in_search) → AreHosts (p.in_first ++ (p.in_trial ++ (p.in_second ++ (p.in_deposit ++ p.in_search))))
 hosts options f parts address long p (inl all) =
-    one_then_all (IsLook options f.first) p.in_first (p.in_trial ++ (p.in_second ++ (p.in_deposit ++ p.in_search))) (λ said is. look_leaves options f.first said address long is) p.looked
+    one_then_all (LooksAt options f.first) p.in_first (p.in_trial ++ (p.in_second ++ (p.in_deposit ++ p.in_search))) (λ said is. look_leaves options f.first said address long is) p.looked
     (all_join p.in_trial (p.in_second ++ (p.in_deposit ++ p.in_search))
     (made_leave (is_number f.first) _ f.trial p.in_trial (λ attempt is. one_leaves (IsTrialOf options (number_in f.first) attempt) p.in_trial (λ said made. trial_leaves_ready options (number_in f.first) attempt said address long made) is) p.tried)
     (all_join p.in_second (p.in_deposit ++ p.in_search)
-    (made_leave (goes_on f.trial) _ f.second p.in_second (λ sighting is. one_leaves (IsLook options sighting) p.in_second (λ said made. look_leaves options sighting said address long made) is) p.looked_again)
+    (made_leave (goes_on f.trial) _ f.second p.in_second (λ sighting is. one_leaves (LooksAt options sighting) p.in_second (λ said made. look_leaves options sighting said address long made) is) p.looked_again)
     all))
 hosts options f parts address long p (inr are) =
-    hosts_behind p.in_first (p.in_trial ++ (p.in_second ++ (p.in_deposit ++ p.in_search))) (one_leaves (IsLook options f.first) p.in_first (λ said made. look_leaves options f.first said address long made) p.looked)
+    hosts_behind p.in_first (p.in_trial ++ (p.in_second ++ (p.in_deposit ++ p.in_search))) (one_leaves (LooksAt options f.first) p.in_first (λ said made. look_leaves options f.first said address long made) p.looked)
     (hosts_behind p.in_trial (p.in_second ++ (p.in_deposit ++ p.in_search))
     (made_leave (is_number f.first) _ f.trial p.in_trial (λ attempt is. one_leaves (IsTrialOf options (number_in f.first) attempt) p.in_trial (λ said made. trial_leaves_ready options (number_in f.first) attempt said address long made) is) p.tried)
     (hosts_behind p.in_second (p.in_deposit ++ p.in_search)
-    (made_leave (goes_on f.trial) _ f.second p.in_second (λ sighting is. one_leaves (IsLook options sighting) p.in_second (λ said made. look_leaves options sighting said address long made) is) p.looked_again)
+    (made_leave (goes_on f.trial) _ f.second p.in_second (λ sighting is. one_leaves (LooksAt options sighting) p.in_second (λ said made. look_leaves options sighting said address long made) is) p.looked_again)
     are))
 
 pub believes_over : (options : ProbeOptions) (f : Findings) (parts : List (List Item)) → IsAddress options.address → options.patience < 2 ^ 32 →

@@ -11,7 +11,7 @@ use Rattle.tape_image.specs.Memory.{half}
 use Rattle.tape_image.specs.Word.{IsWord, covers}
 use Rattle.tape_image.specs.Plan.{AreWordsOf, AreTheWordsOf, PlanValue, given_byte, plan_of, program_start}
 use Rattle.reading_core.specs.Addresses.{IsAddress}
-use Rattle.machine_probe.specs.PuttingBack.{IsPlanOf, old_word}
+use Rattle.machine_probe.specs.PuttingBack.{IsPlanOfWord, old_word}
 
 -- ---- its bytes
 
@@ -80,7 +80,7 @@ one_word address old image is fits of = record {
 }
 
 plan_of_word : (address old : ℕ) (plan : PlanValue) → IsAddress address → old < 65536 → IsImageOf (block_at address (two_bytes old) ∷ []) plan.image → AreTheWordsOf plan.image plan.words →
-    plan.start ≡ None → IsPlanOf address old plan
+    plan.start ≡ None → IsPlanOfWord address old plan
 plan_of_word address old plan is fits image words start = record {
   words = sym ((words (old_word address old ∷ [])).0 (one_word address old plan.image is fits image));
   no_start = start;
@@ -88,7 +88,7 @@ plan_of_word address old plan is fits image words start = record {
 
 -- the plan of the tape that has this word alone
 pub plan_made : (address old : ℕ) (tape : TapeValue) (made : Result PlanValue Memory) → IsAddress address → old < 65536 → tape ≡ record { blocks = block_at address (two_bytes old) ∷ []; start = 1 } →
-    IfOk made (λ plan. plan ≡ plan_of tape) → IfOk made (λ plan. IsImageOf tape.blocks plan.image) → IfOk made (λ plan. AreTheWordsOf plan.image plan.words) → IfOk made (IsPlanOf address old)
+    IfOk made (λ plan. plan ≡ plan_of tape) → IfOk made (λ plan. IsImageOf tape.blocks plan.image) → IfOk made (λ plan. AreTheWordsOf plan.image plan.words) → IfOk made (IsPlanOfWord address old)
 plan_made address old tape (Err memory) is fits tape_is made image words = tt
 plan_made address old tape (Ok plan) is fits tape_is made image words =
     plan_of_word address old plan is fits (subst (λ blocks. IsImageOf blocks plan.image) (ap (λ (t : TapeValue). t.blocks) tape_is) image) words

@@ -21,7 +21,7 @@ use Rattle.load_engine.specs.declared.stop.Stop.{Stop}
 use Rattle.load_engine.specs.declared.stop.Stop.TheVariants.{Ended, LineFailed, KeepFailed, TurnsOver}
 use Rattle.load_engine.specs.Session.{Session, TellsEnd}
 use Rattle.machine_probe.specs.declared.putting_back.Deposit.{Deposit}
-use Rattle.machine_probe.specs.PuttingBack.{HoldsAgain, IsDeposit, IsPlanOf, IsPutBack, is_loaded, old_word}
+use Rattle.machine_probe.specs.PuttingBack.{HoldsAgain, IsDeposit, IsPlanOfWord, IsPutBack, is_loaded, old_word}
 
 -- ---- the end
 
@@ -69,7 +69,7 @@ may_begin plan patience machine console stopped = record {
   stands = λ i below. absurd (omega arith);
 }
 
-holds_again : (address old patience : ℕ) (plan : PlanValue) (last : Core) (heard : List Heard) (said : List Item) → IsPlanOf address old plan → IsHost (begun plan 0 false patience) →
+holds_again : (address old patience : ℕ) (plan : PlanValue) (last : Core) (heard : List Heard) (said : List Item) → IsPlanOfWord address old plan → IsHost (begun plan 0 false patience) →
     last ≡ led (begun plan 0 false patience) heard → said ≡ dialogue (begun plan 0 false patience) heard → last.plan ≡ plan → last.verified ≡ length last.plan.words → HoldsAgain address old said
 holds_again address old patience plan last heard said of host led_to said_is same all machine now lost console stopped honest =
     let first : Core = begun plan 0 false patience in
@@ -80,7 +80,7 @@ holds_again address old patience plan last heard said of host led_to said_is sam
 -- ---- what was driven
 
 again_of : (stop : Stop) (address old patience turns : ℕ) (plan : PlanValue) (last : Core) (line line' : Option (List Item)) (keep keep' : Option (List Kept)) →
-    IsPlanOf address old plan → IsHost (begun plan 0 false patience) → IsHost last → last.plan ≡ plan → TellsEnd stop last →
+    IsPlanOfWord address old plan → IsHost (begun plan 0 false patience) → IsHost last → last.plan ≡ plan → TellsEnd stop last →
     (session : Session turns (Some stop) (begun plan 0 false patience) last line line' keep keep') → is_loaded stop ≡ true → HoldsAgain address old session.said
 again_of (Ended Loaded) address old patience turns plan last line line' keep keep' of first host same end session is =
     holds_again address old patience plan last session.heard session.said of first session.core session.items same (loaded_at last.phase (basis_of last) end host.fits).0
@@ -112,7 +112,7 @@ told_alone turns stop core last line line' keep keep' session = record {
 }
 
 put_by : (address old patience turns : ℕ) (plan : PlanValue) (last : Core) (stop : Stop) (line line' : Option (List Item)) (kept : List Kept) →
-    IsPlanOf address old plan → IsHost (begun plan 0 false patience) → IsHost last → last.plan ≡ plan → TellsEnd stop last →
+    IsPlanOfWord address old plan → IsHost (begun plan 0 false patience) → IsHost last → last.plan ≡ plan → TellsEnd stop last →
     Session turns (Some stop) (begun plan 0 false patience) last line line' (Some []) (Some kept) → IsPutBack address old patience turns (is_loaded stop) line line'
 put_by address old patience turns plan last stop line line' kept of first host same end session = record {
   said = session.said;

@@ -4,11 +4,11 @@ use Rattle.tape_image.specs.Memory.{top_of}
 use Rattle.odt_machine.specs.Machine.{Machine, is_word, word_at}
 use Rattle.load_devices.specs.declared.item.Item.{Item}
 use Rattle.honest_line.specs.Honest.{IsHonest}
-use Rattle.memory_end.specs.Rows.{AreHonest, in_a_row}
+use Rattle.reading_law.specs.Rows.{AreHonest, in_a_row}
 use Rattle.probe_report.specs.declared.findings.Extent.TheVariants.{Top}
 use Rattle.probe_report.specs.declared.findings.Findings.{Findings}
 use Rattle.probe_report.specs.declared.findings.Sighting.TheVariants.{Number, NoWord}
-use Rattle.reading_law.specs.Belief.{IsReady}
+use Rattle.reading_law.specs.Belief.{IsReadyMachine}
 
 -- memory is what it was; what a look read is what it holds, so that nothing is put back; and it ends where the search found its end
 pub record IsRight (f : Findings) (before now : List ℕ) : Type 0 where
@@ -21,9 +21,9 @@ pub record IsRight (f : Findings) (before now : List ℕ) : Type 0 where
 -- over every machine that runs no program, and honest lines in a row
 abbrev pub IsBelievable : Findings → List (List Item) → Type 0
 IsBelievable f parts =
-    (machine now : Machine) (lost : ℕ) → IsReady machine → AreHonest machine parts lost now → IsRight f machine.memory now.memory
+    (machine now : Machine) (lost : ℕ) → IsReadyMachine machine → AreHonest machine parts lost now → IsRight f machine.memory now.memory
 
 -- over every machine that runs no program, and one honest line on which all the parts were said, one after another
 abbrev pub IsBelievableOver : Findings → List (List Item) → Type 0
 IsBelievableOver f parts =
-    (machine now : Machine) (lost : ℕ) → IsReady machine → IsHonest machine (in_a_row parts) lost now → IsRight f machine.memory now.memory
+    (machine now : Machine) (lost : ℕ) → IsReadyMachine machine → IsHonest machine (in_a_row parts) lost now → IsRight f machine.memory now.memory

@@ -12,7 +12,7 @@ use Rattle.probe_report.specs.declared.judging.Verdict.TheVariants.{Forgets, Sto
 use Rattle.probe_report.specs.Judging.{verdict_of}
 use Rattle.machine_probe.specs.declared.probe_options.ProbeOptions.{ProbeOptions}
 use Rattle.machine_probe.specs.PuttingBack.{PutsBack}
-use Rattle.machine_probe.specs.Runs.{IsLook, IsSearch, IsTrialOf, One}
+use Rattle.machine_probe.specs.Runs.{LooksAt, IsSearch, IsTrialOf, One}
 use Rattle.machine_probe.specs.Turns.{turns_of}
 
 -- the look read a number
@@ -63,9 +63,9 @@ pub record IsProbe (options : ProbeOptions) (f : Findings) (parts : List (List I
   pub in_deposit : List (List Item)
   pub in_search : List (List Item)
   pub parts_are : parts ≡ in_first ++ (in_trial ++ (in_second ++ (in_deposit ++ in_search)))
-  pub looked : One (IsLook options f.first) in_first
+  pub looked : One (LooksAt options f.first) in_first
   pub tried : Made (is_number f.first) (λ attempt. One (IsTrialOf options (number_in f.first) attempt)) f.trial in_trial
-  pub looked_again : Made (goes_on f.trial) (λ sighting. One (IsLook options sighting)) f.second in_second
+  pub looked_again : Made (goes_on f.trial) (λ sighting. One (LooksAt options sighting)) f.second in_second
   pub deposited :
       Made (stores (verdict_of f))
       (λ is_back. One (PutsBack options.address (number_in f.first) options.patience (turns_of options.patience) is_back)) f.put_back in_deposit

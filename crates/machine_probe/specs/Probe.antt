@@ -5,7 +5,7 @@ use Rattle.byte_io.specs.Output.{WritesAllBut}
 use Rattle.console_reach.specs.Reached.{OneMoreTime}
 use Rattle.load_devices.specs.declared.item.Item.{Item}
 use Rattle.load_devices.specs.Told.{Gains}
-use Rattle.memory_end.specs.Rows.{in_a_row}
+use Rattle.reading_law.specs.Rows.{in_a_row}
 use Rattle.probe_report.specs.declared.findings.Findings.{Findings}
 use Rattle.probe_report.specs.declared.pace.Pace.{Pace}
 use Rattle.probe_report.specs.declared.probe_end.ProbeEnd.{ProbeEnd}

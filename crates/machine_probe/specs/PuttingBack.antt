@@ -21,13 +21,13 @@ abbrev pub old_word : ℕ → ℕ → WordValue
 old_word address old = record { address = address; mask = 0o177777; value = old }
 
 -- a plan that has this word alone, and starts nothing
-pub record IsPlanOf (address old : ℕ) (plan : PlanValue) : Type 0 where
+pub record IsPlanOfWord (address old : ℕ) (plan : PlanValue) : Type 0 where
   pub words : plan.words ≡ old_word address old ∷ []
   pub no_start : plan.start ≡ None
 
 -- a host at the beginning of a load of this word, and a keeper that keeps nothing yet
 pub record IsDeposit (address old patience : ℕ) (deposit : Deposit) : Type 0 where
-  pub plan : IsPlanOf address old deposit.core.plan
+  pub plan : IsPlanOfWord address old deposit.core.plan
   pub begun_is : deposit.core ≡ begun deposit.core.plan 0 false patience
   pub host : IsHost deposit.core
   pub empty : deposit.keeper.kept ≡ []
@@ -46,7 +46,7 @@ HoldsAgain address old said =
 -- this was said by a host that loaded this one word, for at most so many turns; and whether it came to its end
 pub record PutsBack (address old patience turns : ℕ) (is_back : Bool) (said : List Item) : Type 0 where
   pub plan : PlanValue
-  pub plan_is : IsPlanOf address old plan
+  pub plan_is : IsPlanOfWord address old plan
   pub last : Core
   pub stop : Stop
   pub kept : List Kept

@@ -5,7 +5,7 @@ use Rattle.load_devices.specs.Told.{Gains}
 use Rattle.memory_end.specs.declared.search.Search.{Search}
 use Rattle.memory_end.specs.Ending.{IsFound}
 use Rattle.memory_end.specs.Passes.{Searches, three_passes}
-use Rattle.memory_end.specs.Rows.{in_a_row}
+use Rattle.reading_law.specs.Rows.{in_a_row}
 use Rattle.probe_report.specs.declared.findings.Attempt.{Attempt}
 use Rattle.probe_report.specs.declared.findings.Extent.{Extent}
 use Rattle.probe_report.specs.declared.findings.Sighting.{Sighting}
@@ -22,7 +22,7 @@ use Rattle.machine_probe.specs.Came.{attempt_of, extent_of, first_of, sighting_o
 use Rattle.machine_probe.specs.Turns.{turns_of}
 
 -- a look at the word gave this, with what was said
-pub record IsLook (options : ProbeOptions) (sighting : Sighting) (said : List Item) : Type 0 where
+pub record LooksAt (options : ProbeOptions) (sighting : Sighting) (said : List Item) : Type 0 where
   pub stop : LookStop
   pub last : Reader
   pub inquired : Inquired (turns_of options.patience) (Some stop) (looker options.address options.patience) last (Some []) (Some said)

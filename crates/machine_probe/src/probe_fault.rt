@@ -1,7 +1,6 @@
 use byte_io::WriteFault;
 use load_devices::LineFault;
 use std::alloc::AllocError;
-use tape_blocks::Memory;
 
 /// Why a probe came to nothing.
 #[derive(Clone, Copy, Debug, PartialEq, Eq)]
@@ -46,17 +45,6 @@ impl From<AllocError> for ProbeFault {
     ghost from_gives = { λ _ fault. fault ≡ OutOfMemory };
 
     fn from(_refused: AllocError) -> ProbeFault {
-        ProbeFault::Memory
-    }
-}
-
-impl From<Memory> for ProbeFault {
-    ghost use Rattle.std.specs.Prelude.{◌≡◌};
-    ghost use Rattle.machine_probe.specs.declared.probe_fault.ProbeFault.TheVariants.{Memory as OutOfMemory};
-
-    ghost from_gives = { λ _ fault. fault ≡ OutOfMemory };
-
-    fn from(_refused: Memory) -> ProbeFault {
         ProbeFault::Memory
     }
 }

@@ -1,7 +1,7 @@
 //! Putting an old number back into a word.
 ghost use Rattle.std.specs.Prelude.{◌≡◌, ℕ, IfOk};
 ghost use Rattle.reading_core.specs.Addresses.{IsAddress};
-ghost use Rattle.machine_probe.specs.PuttingBack.{IsDeposit, IsPlanOf, IsPutBack, is_loaded};
+ghost use Rattle.machine_probe.specs.PuttingBack.{IsDeposit, IsPlanOfWord, IsPutBack, is_loaded};
 
 use host_core::{End, HostCore, Progress};
 use load_devices::{Line, MemoryKeep};
@@ -83,7 +83,7 @@ fn deposit_of(alloc: Global, address: u16, old: u16, patience: u32) -> Result<De
 // The plan of this one word.
 fn plan_of(alloc: Global, address: u16, old: u16) -> Result<Plan, Memory>
     requires { IsAddress address }
-    ensures { IfOk result (IsPlanOf address old) }
+    ensures { IfOk result (IsPlanOfWord address old) }
 {
     let bytes = vec![in alloc; (old % BYTE) as u8, (old / BYTE) as u8]?;
     let blocks = vec![in alloc; Block { address, bytes }]?;

@@ -8,7 +8,7 @@ ghost use Rattle.machine_probe.specs.Came.{attempt_of, extent_of, first_of, sigh
 ghost use Rattle.machine_probe.specs.Follow.{IsProbe, Made, forgets, goes_on, is_number, number_in, stores};
 ghost use Rattle.machine_probe.specs.PuttingBack.{PutsBack};
 ghost use Rattle.machine_probe.specs.Rooms.{AreLookers, HasDeposit};
-ghost use Rattle.machine_probe.specs.Runs.{IsLook, IsSearch, IsTrialOf, OnLine, One};
+ghost use Rattle.machine_probe.specs.Runs.{LooksAt, IsSearch, IsTrialOf, OnLine, One};
 ghost use Rattle.machine_probe.specs.Turns.{turns_of};
 
 use crate::probe_options::ProbeOptions;
@@ -19,7 +19,6 @@ use probe_report::{Attempt, Extent, Findings, Sighting, TrialEnd, Verdict, judge
 use reading_core::{End, ReadingCore};
 use reading_engine::{Stop, inquire};
 use std::alloc::{AllocError, Global};
-use tape_blocks::Memory;
 use trial_core::{End as LastOfTrial, Trial};
 use trial_engine::{Stop as TrialStop, attempt};
 
@@ -32,7 +31,7 @@ pub(crate) struct Lookers {
 
 impl Lookers {
     /// Two hosts that look at the word. The one error is want of memory.
-    pub fn new(alloc: Global, options: ProbeOptions) -> Result<Lookers, Memory>
+    pub fn new(alloc: Global, options: ProbeOptions) -> Result<Lookers, AllocError>
         requires { IsAddress options.address }
         ensures { IfOk result (AreLookers options) }
     {
@@ -44,7 +43,7 @@ impl Lookers {
 }
 
 // A host that looks at the word.
-fn looker(alloc: Global, options: ProbeOptions) -> Result<ReadingCore, Memory>
+fn looker(alloc: Global, options: ProbeOptions) -> Result<ReadingCore, AllocError>
     requires { IsAddress options.address }
     ensures begun { IfOk result (λ core. core ≡ looker options.address options.patience) }
     ensures kept { IfOk result IsReader }
@@ -95,7 +94,7 @@ pub(crate) fn make_runs<L: Line>(
 // A look at the word.
 fn look<L: Line>(core: ReadingCore, options: ProbeOptions, line: &mut L) -> Sighting
     requires { core ≡ looker options.address options.patience }
-    ensures { OnLine (One (IsLook options result)) (L.told line.old) (L.told line.new) }
+    ensures { OnLine (One (LooksAt options result)) (L.told line.old) (L.told line.new) }
 {
     let (core, stop) = inquire(core, line, options.turns());
     sighting_of(stop, first_of(core.values()))
@@ -196,7 +195,7 @@ fn look_again<L: Line>(
     line: &mut L,
 ) -> Option<Sighting>
     requires { core ≡ looker options.address options.patience }
-    ensures { OnLine (Made (goes_on trial) (λ sighting. One (IsLook options sighting)) result) (L.told line.old) (L.told line.new) }
+    ensures { OnLine (Made (goes_on trial) (λ sighting. One (LooksAt options sighting)) result) (L.told line.old) (L.told line.new) }
 {
     match trial {
         None => None,

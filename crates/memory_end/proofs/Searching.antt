@@ -12,7 +12,7 @@ use Rattle.reading_core.specs.declared.phase.End.TheVariants.{Complete, GaveUp, 
 use Rattle.reading_core.specs.Invariant.{IsReader}
 use Rattle.reading_core.specs.Reader.{Reader, begun}
 use Rattle.reading_core.proofs.Lives.{led_addresses, led_kept, led_patience}
-use Rattle.reading_law.specs.Belief.{IsReady, IsTrue, MayLook, dialogue}
+use Rattle.reading_law.specs.Belief.{IsReadyMachine, IsTrue, MayLook, dialogue}
 use Rattle.reading_law.specs.Law.{HoldsRead}
 use Rattle.reading_law.proofs.Believed.{leave_ready}
 use Rattle.reading_engine.specs.declared.stop.Stop.{Stop}
@@ -23,15 +23,15 @@ use Rattle.memory_end.specs.declared.finding.Outcome.TheVariants.{Lacking, Over}
 use Rattle.memory_end.specs.declared.pieces.Pieces.{Pieces}
 use Rattle.memory_end.specs.declared.search.Search.{Search}
 use Rattle.memory_end.specs.declared.search.Search.TheVariants.{Ends, Stopped}
-use Rattle.memory_end.specs.Ending.{IsRight, FindsEnd}
+use Rattle.memory_end.specs.Ending.{IsTrueEnd, FindsEnd}
 use Rattle.memory_end.specs.Passes.{ArePieces, GoesOn, IsPass, Searches, found, last_words, three_passes}
-use Rattle.memory_end.specs.Rows.{AreHonest, in_a_row}
+use Rattle.reading_law.specs.Rows.{AreHonest, in_a_row}
 use Rattle.memory_end.specs.Steps.{LiesWithin, Stepped, passed}
 use Rattle.memory_end.proofs.Founds.{IsOver, all_read, lacking, paid_at, reached}
 
 -- ---- one pass
 
-may_look : (addresses : List ℕ) (patience : ℕ) (machine : Machine) → IsReady machine → MayLook (begun addresses [] patience) machine
+may_look : (addresses : List ℕ) (patience : ℕ) (machine : Machine) → IsReadyMachine machine → MayLook (begun addresses [] patience) machine
 may_look addresses patience machine ready = record {
   begun = refl;
   console = ready.console;
@@ -59,13 +59,13 @@ believed turns patience from pieces stop last said reads pass =
 
 -- a pass over an honest line that told an end
 true_at : (turns patience from : ℕ) (pieces : Pieces) (end : End) (last : Reader) (said : List Item) (machine now : Machine) (lost : ℕ) → IsReader (first patience from pieces) → IsPass turns patience from pieces (Ended end) last said →
-    IsReady machine → IsHonest machine said lost now → IsTrue machine.memory last now.memory (keys_of said) (lost + 0)
+    IsReadyMachine machine → IsHonest machine said lost now → IsTrue machine.memory last now.memory (keys_of said) (lost + 0)
 true_at turns patience from pieces end last said machine now lost reads pass ready honest =
     believed turns patience from pieces (Ended end) last said reads pass machine now lost (may_look (last_words from pieces.bytes pieces.count) patience machine ready) honest
 
 -- behind it the next pass may begin
 ready_at : (turns patience from : ℕ) (pieces : Pieces) (end : End) (last : Reader) (said : List Item) (machine now : Machine) (lost : ℕ) → IsReader (first patience from pieces) → IsPass turns patience from pieces (Ended end) last said →
-    IsReady machine → IsHonest machine said lost now → IsReady now
+    IsReadyMachine machine → IsHonest machine said lost now → IsReadyMachine now
 ready_at turns patience from pieces end last said machine now lost reads pass ready honest =
     let s = pass.inquired in
     let whole : said ≡ dialogue (first patience from pieces) s.heard = same said s.said s.on_line ∙ s.items in
@@ -78,8 +78,8 @@ ready_at turns patience from pieces end last said machine now lost reads pass re
 
 abbrev FindsFrom : (from limit patience : ℕ) → Search → List (List Item) → Type 0
 FindsFrom from limit patience search parts =
-    (machine now : Machine) (lost : ℕ) → IsReady machine → from ≤ top_of machine.memory → top_of machine.memory ≤ limit → AreHonest machine parts lost now →
-    (now.memory ≡ machine.memory) × IsRight search machine.memory patience lost
+    (machine now : Machine) (lost : ℕ) → IsReadyMachine machine → from ≤ top_of machine.memory → top_of machine.memory ≤ limit → AreHonest machine parts lost now →
+    (now.memory ≡ machine.memory) × IsTrueEnd search machine.memory patience lost
 
 -- these passes came to this, and what they find is so
 record Runs (passes : List Pieces) (turns patience from limit : ℕ) (search : Search) (line line' : Option (List Item)) : Type 0 where
@@ -108,7 +108,7 @@ over_right turns patience from pieces (Ended Complete) last said search are read
     let far : found from pieces last ≤ top_of machine.memory = reached machine.memory from pieces last are o reaches (subst (λ m. HoldsRead m last) t.same t.read) in
     let whole : length last.values ≡ pieces.count = all_read from pieces last o pass.end in
     let top : top_of machine.memory ≡ found from pieces last = omega (arith, far, within, ap (λ n. pieces.bytes * n) whole) in
-    (ap (λ (m : Machine). m.memory) same ∙ t.same, subst (λ s. IsRight s machine.memory patience lost) (sym (searched is)) top)
+    (ap (λ (m : Machine). m.memory) same ∙ t.same, subst (λ s. IsTrueEnd s machine.memory patience lost) (sym (searched is)) top)
   where
     searched : {found : ℕ} → Over search ≡ Over (Ends found) → search ≡ Ends found
     searched e = cc e
@@ -117,19 +117,19 @@ over_right turns patience from pieces (Ended GaveUp) last said search are reads 
     let t = true_at turns patience from pieces GaveUp last said machine between lost_first reads pass ready honest in
     let paid : last.patience < lost_first + 0 = paid_at last.phase GaveUp between.memory last.patience (lost_first + 0) pass.end t.cause in
     let more : patience < lost = omega (arith, paid, same_patience turns patience from pieces (Ended GaveUp) last said pass, none, all) in
-    (ap (λ (m : Machine). m.memory) same ∙ t.same, subst (λ s. IsRight s machine.memory patience lost) (sym (searched is)) more)
+    (ap (λ (m : Machine). m.memory) same ∙ t.same, subst (λ s. IsTrueEnd s machine.memory patience lost) (sym (searched is)) more)
   where
     searched : Over search ≡ Over (Stopped (Ended GaveUp)) → search ≡ Stopped (Ended GaveUp)
     searched e = cc e
 over_right turns patience from pieces TurnsOver last said search are reads pass is machine now lost ready reaches within (between, lost_first, lost_later, honest, (same, none), all) =
     let t = believed turns patience from pieces TurnsOver last said reads pass machine between lost_first (may_look (last_words from pieces.bytes pieces.count) patience machine ready) honest in
-    (ap (λ (m : Machine). m.memory) same ∙ t.same, subst (λ s. IsRight s machine.memory patience lost) (sym (searched is)) tt)
+    (ap (λ (m : Machine). m.memory) same ∙ t.same, subst (λ s. IsTrueEnd s machine.memory patience lost) (sym (searched is)) tt)
   where
     searched : Over search ≡ Over (Stopped TurnsOver) → search ≡ Stopped TurnsOver
     searched e = cc e
 over_right turns patience from pieces (LineFailed fault) last said search are reads pass is machine now lost ready reaches within (between, lost_first, lost_later, honest, (same, none), all) =
     let t = (believed turns patience from pieces (LineFailed fault) last said reads pass).0 machine between lost_first (may_look (last_words from pieces.bytes pieces.count) patience machine ready) honest in
-    (ap (λ (m : Machine). m.memory) same ∙ t.same, subst (λ s. IsRight s machine.memory patience lost) (sym (searched is)) tt)
+    (ap (λ (m : Machine). m.memory) same ∙ t.same, subst (λ s. IsTrueEnd s machine.memory patience lost) (sym (searched is)) tt)
   where
     searched : Over search ≡ Over (Stopped (LineFailed fault)) → search ≡ Stopped (LineFailed fault)
     searched e = cc e
@@ -181,7 +181,7 @@ more_right turns patience from limit next pieces (Ended (NoWord a)) last said se
     here : {at : ℕ} → Lacking next ≡ Lacking at → next ≡ at
     here e = cc e
 
-    right_more : (search : Search) (memory before : List ℕ) (patience lost more : ℕ) → memory ≡ before → lost ≤ more → IsRight search memory patience lost → IsRight search before patience more
+    right_more : (search : Search) (memory before : List ℕ) (patience lost more : ℕ) → memory ≡ before → lost ≤ more → IsTrueEnd search memory patience lost → IsTrueEnd search before patience more
     right_more (Ends top) memory before patience lost more same le right = sym (ap top_of same) ∙ right
     right_more (Stopped (Ended GaveUp)) memory before patience lost more same le right = omega (arith, right, le)
     right_more (Stopped (Ended Complete)) memory before patience lost more same le right = tt

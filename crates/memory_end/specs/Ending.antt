@@ -11,7 +11,7 @@ use Rattle.reading_engine.specs.declared.stop.Stop.TheVariants.{Ended}
 use Rattle.memory_end.specs.declared.search.Search.{Search}
 use Rattle.memory_end.specs.declared.search.Search.TheVariants.{Ends, Stopped}
 use Rattle.memory_end.specs.Passes.{Searches, three_passes}
-use Rattle.memory_end.specs.Rows.{AreHonest, in_a_row}
+use Rattle.reading_law.specs.Rows.{AreHonest, in_a_row}
 
 -- the stop that ended the search, if one did
 abbrev pub stop_of : Search → Option Stop
@@ -19,16 +19,16 @@ stop_of (Ends top) = None
 stop_of (Stopped stop) = Some stop
 
 -- what is answered is so: memory ends there; and the host gave up after more losses than its patience
-abbrev pub IsRight : Search → List ℕ → (patience lost : ℕ) → Type 0
-IsRight (Ends top) memory patience lost = top_of memory ≡ top
-IsRight (Stopped (Ended GaveUp)) memory patience lost = patience < lost
-IsRight (Stopped stop) memory patience lost = ⊤
+abbrev pub IsTrueEnd : Search → List ℕ → (patience lost : ℕ) → Type 0
+IsTrueEnd (Ends top) memory patience lost = top_of memory ≡ top
+IsTrueEnd (Stopped (Ended GaveUp)) memory patience lost = patience < lost
+IsTrueEnd (Stopped stop) memory patience lost = ⊤
 
 -- over every machine that runs no program, and honest lines in a row: memory is what it was, and what is answered is so
 abbrev pub IsFound : ℕ → Search → List (List Item) → Type 0
 IsFound patience search parts =
     (machine now : Machine) (lost : ℕ) → IsMachine machine → is_running machine.mode ≡ false → AreHonest machine parts lost now →
-    (now.memory ≡ machine.memory) × IsRight search machine.memory patience lost
+    (now.memory ≡ machine.memory) × IsTrueEnd search machine.memory patience lost
 
 -- a search with so many turns in each pass came to this, with what the line told before and tells after
 pub record FindsEnd (turns patience : ℕ) (search : Search) (line line' : Option (List Item)) : Type 0 where

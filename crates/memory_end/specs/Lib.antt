@@ -1,4 +1,3 @@
 pub mod Ending
 pub mod Passes
-pub mod Rows
 pub mod Steps

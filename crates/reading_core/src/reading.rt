@@ -13,9 +13,8 @@ use crate::phase::{End, Phase};
 use crate::table;
 use crate::turn::Turn;
 use host_core::Heard;
-use std::alloc::Global;
+use std::alloc::{AllocError, Global};
 use std::marker::Model;
-use tape_blocks::Memory;
 use tape_image::Plan;
 
 /// A host that reads the words at a list of addresses and changes none: it says which character to
@@ -47,7 +46,7 @@ impl Model for ReadingCore {
 impl ReadingCore {
     /// A host that has read nothing of these addresses, and survives `patience` mishaps. With no
     /// address it has ended already, as `Complete`. The one error is want of memory, for the numbers.
-    pub fn new(alloc: Global, addresses: Vec<u16>, patience: u32) -> Result<ReadingCore, Memory>
+    pub fn new(alloc: Global, addresses: Vec<u16>, patience: u32) -> Result<ReadingCore, AllocError>
         requires { AreAddresses addresses.items }
         ensures begun { IfOk result (λ core. core ≡ begun addresses.items [] patience) }
         ensures kept { IfOk result IsReader }
@@ -75,7 +74,12 @@ impl ReadingCore {
 
     /// A host that reads the words from the first address to the last, both included. The one error
     /// is want of memory, for the addresses or the numbers.
-    pub fn of_range(alloc: Global, from: u16, to: u16, patience: u32) -> Result<ReadingCore, Memory>
+    pub fn of_range(
+        alloc: Global,
+        from: u16,
+        to: u16,
+        patience: u32,
+    ) -> Result<ReadingCore, AllocError>
         requires { IsRange from to }
         ensures begun { IfOk result (λ core. core ≡ begun (addresses_between from to) [] patience) }
         ensures kept { IfOk result IsReader }
@@ -90,7 +94,7 @@ impl ReadingCore {
 
     /// A host that reads the words of the plan, whole ones, in the order of their addresses. The one
     /// error is want of memory, for the addresses or the numbers.
-    pub fn of_plan(alloc: Global, plan: &Plan, patience: u32) -> Result<ReadingCore, Memory>
+    pub fn of_plan(alloc: Global, plan: &Plan, patience: u32) -> Result<ReadingCore, AllocError>
         ensures begun { IfOk result (λ core. core ≡ begun (addresses_of plan.now.words) [] patience) }
         ensures kept { IfOk result IsReader }
     {

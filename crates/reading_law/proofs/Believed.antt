@@ -20,7 +20,7 @@ use Rattle.reading_core.specs.Laws.{led, replay}
 use Rattle.reading_core.specs.ReadingTable.{ask}
 use Rattle.reading_law.specs.Inquiry.{Inquiry, over, after}
 use Rattle.reading_law.specs.Law.{HoldsRead, HasCause, IsHarmless, OnlyLook}
-use Rattle.reading_law.specs.Belief.{dialogue, MayLook, IsReady, IsTrue, HonestReadingsAreTrue, ReadingsLeaveItReady, UnsaidReadingsAreTrue}
+use Rattle.reading_law.specs.Belief.{dialogue, MayLook, IsReadyMachine, IsTrue, HonestReadingsAreTrue, ReadingsLeaveItReady, UnsaidReadingsAreTrue}
 use Rattle.reading_law.proofs.Harmless.{mirrored_events, harmless}
 use Rattle.reading_law.proofs.Looks.{events_look}
 use Rattle.reading_law.proofs.Mirrors.{IsMirrored, opened_mirrored}
@@ -101,7 +101,7 @@ stopped_with (Running p) runs = absurd (cc runs)
 pub leave_ready : ReadingsLeaveItReady
 leave_ready r things machine now lost is may honest =
     let left : IsMirrored machine.memory (over (led r things) honest.end) = dialogue_mirrored r things machine honest.waiting honest.end is may honest.few honest.passes in
-    subst IsReady honest.machine_is record { console = left.kept.machine; stopped = stopped_with honest.end.machine.mode left.kept.running }
+    subst IsReadyMachine honest.machine_is record { console = left.kept.machine; stopped = stopped_with honest.end.machine.mode left.kept.running }
 
 -- ---- the dialogue without its last key
 

@@ -53,7 +53,7 @@ UnsaidReadingsAreTrue =
     IsBelievable r (led r things) items 1
 
 -- a host may begin over this machine: it is one, and runs no program
-pub record IsReady (machine : Machine) : Type 0 where
+pub record IsReadyMachine (machine : Machine) : Type 0 where
   pub console : IsMachine machine
   pub stopped : is_running machine.mode ≡ false
 
@@ -61,4 +61,4 @@ pub record IsReady (machine : Machine) : Type 0 where
 abbrev pub ReadingsLeaveItReady : Type 0
 ReadingsLeaveItReady =
     (r : Reader) (things : List Heard) (machine now : Machine) (lost : ℕ) → IsReader r → MayLook r machine →
-    IsHonest machine (dialogue r things) lost now → IsReady now
+    IsHonest machine (dialogue r things) lost now → IsReadyMachine now

@@ -1,3 +1,4 @@
 pub mod Belief
 pub mod Inquiry
 pub mod Law
+pub mod Rows

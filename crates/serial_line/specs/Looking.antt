@@ -8,10 +8,10 @@ use Rattle.serial_line.specs.declared.terminal.Look.{Look}
 use Rattle.serial_line.specs.declared.terminal.Look.TheVariants.{Byte, Nothing, Gone}
 
 -- what one look takes: the byte that it finds, or nothing; a terminal that is gone has nothing left
-abbrev pub IsLook : Option (List ℕ) → Option (List ℕ) → Look → Type 0
-IsLook old new (Byte byte) = Consumes old new (byte ∷ [])
-IsLook old new Nothing = Consumes old new []
-IsLook old new Gone = IsAtEnd new × Consumes old new []
+abbrev pub IsGlance : Option (List ℕ) → Option (List ℕ) → Look → Type 0
+IsGlance old new (Byte byte) = Consumes old new (byte ∷ [])
+IsGlance old new Nothing = Consumes old new []
+IsGlance old new Gone = IsAtEnd new × Consumes old new []
 
 -- a look was in vain where it found nothing
 abbrev pub misses_of : Result Look Error → ℕ
@@ -39,12 +39,12 @@ abbrev pub EndsWaiting : ErrorKind → Type 0
 EndsWaiting kind = (kind ≡ WouldBlock) ⊎ (kind ≡ TimedOut)
 
 -- something went wrong, and not only that nothing has come
-pub record IsFailure (kind : ErrorKind) : Type 0 where
+pub record IsRealFailure (kind : ErrorKind) : Type 0 where
   pub no_wait : kind ≢ WouldBlock
   pub no_time : kind ≢ TimedOut
   pub no_signal : kind ≢ Interrupted
 
 -- what is not taken now would not be taken either if it was written again at once
-pub record IsRefused (kind : ErrorKind) : Type 0 where
+pub record StaysRefused (kind : ErrorKind) : Type 0 where
   pub no_wait : kind ≢ WouldBlock
   pub no_signal : kind ≢ Interrupted

@@ -3,7 +3,7 @@ ghost use Rattle.std.specs.Prelude.{◌≡◌, ◌+◌, ◌*◌, IfErr};
 ghost use Rattle.std.specs.Io.{ReadsAtMost, WritesAtMost};
 ghost use Rattle.std.specs.Io.KnownBytes.{ReadConsumes, WriteAppends};
 ghost use Rattle.std.specs.IoError.{error_kind};
-ghost use Rattle.serial_line.specs.Looking.{EndsWaiting, IsRefused, IsSilence, LooksUpTo};
+ghost use Rattle.serial_line.specs.Looking.{EndsWaiting, StaysRefused, IsSilence, LooksUpTo};
 
 use crate::pause::{in_microseconds, most_looks, pause};
 use crate::terminal::{Look, Terminal};
@@ -94,7 +94,7 @@ impl<T: Terminal, C: Clock> Write for Device<'_, T, C> {
     fn write(&mut self, buf: &[u8]) -> io::Result<usize>
         ensures bound { WritesAtMost result buf.now }
         ensures bytes { WriteAppends self.old.gone_out self.new.gone_out result buf.now }
-        ensures refused { IfErr result (λ error. IsRefused (error_kind error)) }
+        ensures refused { IfErr result (λ error. StaysRefused (error_kind error)) }
         ensures same { self.new.quiet_ms ≡ self.old.quiet_ms }
     {
         let quiet_time = in_microseconds(self.quiet_ms);

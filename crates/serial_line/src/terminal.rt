@@ -2,7 +2,7 @@
 ghost use Rattle.std.specs.Prelude.{ℕ, Option, None, IfOk, IfErr, OnErr};
 ghost use Rattle.std.specs.Io.KnownBytes.{Keeps};
 ghost use Rattle.std.specs.IoError.{error_kind};
-ghost use Rattle.serial_line.specs.Looking.{IsFailure, IsLook, Misses, misses_of};
+ghost use Rattle.serial_line.specs.Looking.{IsRealFailure, IsGlance, Misses, misses_of};
 
 use std::io;
 use std::io::{ErrorKind, IsTerminal, Read, Write};
@@ -30,9 +30,9 @@ pub trait Terminal: Read + Write {
     /// An error is a read that failed, and then nothing was taken. It is none of those that only say
     /// that nothing has come: WouldBlock, TimedOut and Interrupted.
     fn look(&mut self) -> io::Result<Look>
-        ensures found { IfOk result (IsLook (Self.remaining self.old) (Self.remaining self.new)) }
+        ensures found { IfOk result (IsGlance (Self.remaining self.old) (Self.remaining self.new)) }
         ensures failed { OnErr result (Keeps (Self.remaining self.old) (Self.remaining self.new)) }
-        ensures kind { IfErr result (λ error. IsFailure (error_kind error)) }
+        ensures kind { IfErr result (λ error. IsRealFailure (error_kind error)) }
         ensures missed { Misses (misses self.old) (misses self.new) (misses_of result) };
 }
 

@@ -4,9 +4,9 @@ use Rattle.load_devices.specs.declared.fault.LineFault.{LineFault}
 use Rattle.load_devices.specs.declared.fault.LineFault.TheVariants.{Connect}
 
 -- a name was dialled, or the reads of what came of that were limited to a time, in milliseconds
-pub data Asked : Type 0 where
-  Dialled : List ℕ → Asked
-  Limited : ℕ → Asked
+pub data NetRequest : Type 0 where
+  Dialled : List ℕ → NetRequest
+  Limited : ℕ → NetRequest
 
 -- whom a line is to lead to, and its quiet time in milliseconds
 pub record Call : Type 0 where
@@ -14,11 +14,11 @@ pub record Call : Type 0 where
   pub quiet_ms : ℕ
 
 -- what a line that was reached was asked for: its name was dialled once, and its time limit is the quiet time
-abbrev pub asked_once : Call → List Asked
+abbrev pub asked_once : Call → List NetRequest
 asked_once call = Dialled call.name ∷ Limited call.quiet_ms ∷ []
 
 -- what was asked, by what came of it: where nobody answered no time limit was set
-abbrev pub asked_for : {L : Type 0} → Call → Result L LineFault → List Asked
+abbrev pub asked_for : {L : Type 0} → Call → Result L LineFault → List NetRequest
 asked_for call (Ok line) = asked_once call
 asked_for call (Err Connect) = Dialled call.name ∷ []
 asked_for call (Err other) = asked_once call

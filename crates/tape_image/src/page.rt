@@ -5,8 +5,8 @@ ghost use Rattle.tape_image.specs.Image.{byte_in};
 ghost use Rattle.tape_image.specs.Pages.{AddsPageWords, IsLaid};
 
 use crate::word::Word;
+use std::alloc::AllocError;
 use std::marker::Model;
-use tape_blocks::Memory;
 
 /// How many addresses a page has.
 pub const PAGE: usize = 512;
@@ -57,7 +57,7 @@ impl Page {
 
     /// Appends the words of the page, which is the one of this number. The one error is want of memory
     /// for them.
-    pub fn push_words(&self, number: usize, words: &mut Vec<Word>) -> Result<(), Memory>
+    pub fn push_words(&self, number: usize, words: &mut Vec<Word>) -> Result<(), AllocError>
         requires { number < 112 }
         ensures { IfOk result (λ _. AddsPageWords number self.now words.old.items words.new.items) }
     {

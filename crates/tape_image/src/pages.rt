@@ -7,9 +7,9 @@ ghost use Rattle.tape_image.specs.Plan.{words_of};
 
 use crate::page::{PAGE, Page};
 use crate::word::Word;
-use std::alloc::Global;
+use std::alloc::{AllocError, Global};
 use std::marker::Model;
-use tape_blocks::{Block, Memory};
+use tape_blocks::Block;
 
 // How many pages memory has below 160000 (octal).
 const PAGES: usize = 112;
@@ -41,7 +41,7 @@ impl Model for Pages {
 
 impl Pages {
     /// The pages of no block. The one error is want of memory, for the table.
-    pub fn new(alloc: Global) -> Result<Pages, Memory>
+    pub fn new(alloc: Global) -> Result<Pages, AllocError>
         ensures { IfOk result (λ pages. pages ≡ empty) }
     {
         let mut table = Vec::with_capacity(alloc, PAGES)?;
@@ -52,7 +52,7 @@ impl Pages {
     }
 
     /// Lays the blocks over the image in their order. The one error is want of memory, for a page.
-    pub fn lay_blocks(&mut self, alloc: Global, blocks: &[Block]) -> Result<(), Memory>
+    pub fn lay_blocks(&mut self, alloc: Global, blocks: &[Block]) -> Result<(), AllocError>
         requires { All IsBlock blocks.now }
         ensures { IfOk result (λ _. IsLaid (byte_at blocks.now) self.old self.new) }
     {
@@ -63,7 +63,7 @@ impl Pages {
     }
 
     // Lays the bytes over the image, the first at the address: a run of them for each page.
-    fn lay(&mut self, alloc: Global, address: u16, bytes: &[u8]) -> Result<(), Memory>
+    fn lay(&mut self, alloc: Global, address: u16, bytes: &[u8]) -> Result<(), AllocError>
         requires { IsBlock (block_at address bytes.now) }
         ensures { IfOk result (λ _. IsLaid (byte_in (block_at address bytes.now)) self.old self.new) }
     {
@@ -91,7 +91,7 @@ impl Pages {
         number: usize,
         offset: usize,
         run: &[u8],
-    ) -> Result<(), Memory>
+    ) -> Result<(), AllocError>
         requires page { number < 112 }
         requires within { offset + length run.now ≤ 512 }
         ensures { IfOk result (λ _. IsLaid (byte_in (block_at (512 * number + offset) run.now)) self.old self.new) }
@@ -107,7 +107,7 @@ impl Pages {
 
     /// The words of the image, in the order of their addresses. The one error is want of memory for
     /// them.
-    pub fn words(&self, alloc: Global) -> Result<Vec<Word>, Memory>
+    pub fn words(&self, alloc: Global) -> Result<Vec<Word>, AllocError>
         ensures { IfOk result (λ words. words.items ≡ words_of self.now) }
     {
         let mut words = Vec::new(alloc);

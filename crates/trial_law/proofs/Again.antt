@@ -10,10 +10,10 @@ use Rattle.reading_core.specs.Laws.{led}
 use Rattle.reading_core.specs.Reader.{Reader}
 use Rattle.reading_core.proofs.Lives.{led_addresses}
 use Rattle.reading_core.proofs.Turns.{fresh_kept}
-use Rattle.reading_law.specs.Belief.{IsReady, MayLook}
+use Rattle.reading_law.specs.Belief.{IsReadyMachine, MayLook}
 use Rattle.reading_law.specs.Law.{HoldsRead}
 use Rattle.trial_law.specs.Again.{IsSame, OneLineFindsTheWordAgain, ProbesFindTheWordAgain, looker}
-use Rattle.trial_law.specs.Runs.{AreHarmless, IsBorneOut, IsRun, Look, Run, Try}
+use Rattle.trial_law.specs.Runs.{AreHarmless, IsBorneOut, MayBeSuchAHost, Look, Run, Try}
 use Rattle.trial_law.proofs.Runs.{IsHarmless, may_begin, no_harm, run_harmless}
 
 -- ---- a host that looks at one word
@@ -28,7 +28,7 @@ one_address address is = record {
 pub looker_kept : (address patience : ℕ) → IsAddress address → patience < 2 ^ 32 → IsReader (looker address patience)
 looker_kept address patience is long = fresh_kept (address ∷ []) patience (one_address address is) long
 
-pub may_look : (address patience : ℕ) (machine : Machine) → IsReady machine → MayLook (looker address patience) machine
+pub may_look : (address patience : ℕ) (machine : Machine) → IsReadyMachine machine → MayLook (looker address patience) machine
 may_look address patience machine ready = may_begin (address ∷ []) patience machine ready
 
 -- ---- the numbers
@@ -46,7 +46,7 @@ same_read memory r s same first second one once =
 
 -- ---- the three
 
-looks : (address patience : ℕ) (heard : List Heard) → IsAddress address → patience < 2 ^ 32 → IsRun (Look (address ∷ []) patience heard)
+looks : (address patience : ℕ) (heard : List Heard) → IsAddress address → patience < 2 ^ 32 → MayBeSuchAHost (Look (address ∷ []) patience heard)
 looks address patience heard is long = (one_address address is, long)
 
 same_learned : (memory now : List ℕ) (address patience lost more : ℕ) (first second : List Heard) → now ≡ memory →
@@ -71,9 +71,9 @@ one_line machine now address old patience lost first trying second told ready is
     let one : Run = Look (address ∷ []) patience first in
     let two : Run = Try address old patience trying in
     let three : Run = Look (address ∷ []) patience second in
-    let runs : All IsRun (one ∷ two ∷ three ∷ []) =
-    All-cons IsRun one (two ∷ three ∷ []) (looks address patience first is long)
-    (All-cons IsRun two (three ∷ []) (is, long) (All-cons IsRun three [] (looks address patience second is long) (All-nil IsRun))) in
+    let runs : All MayBeSuchAHost (one ∷ two ∷ three ∷ []) =
+    All-cons MayBeSuchAHost one (two ∷ three ∷ []) (looks address patience first is long)
+    (All-cons MayBeSuchAHost two (three ∷ []) (is, long) (All-cons MayBeSuchAHost three [] (looks address patience second is long) (All-nil MayBeSuchAHost))) in
     let all : AreHarmless machine (one ∷ two ∷ three ∷ []) lost now = no_harm machine now (one ∷ two ∷ three ∷ []) told lost ready runs are honest in
     let P : Run → Type 0 = IsBorneOut machine.memory lost in
     same_learned machine.memory now.memory address patience lost lost first second all.memory

@@ -4,9 +4,10 @@ use Rattle.std.specs.Prelude.{All}
 use Rattle.std.proofs.lemmas.List.Elements.{All-head, All-tail}
 use Rattle.load_devices.specs.declared.item.Item.{Item}
 use Rattle.honest_line.specs.Honest.{IsHonest}
-use Rattle.trial_law.specs.Rows.{LeavesReady, OneLineIsARow, RunsLeaveReady, in_a_row}
+use Rattle.reading_law.specs.Rows.{in_a_row}
+use Rattle.trial_law.specs.Rows.{LeavesReady, OneLineIsARow, RunsLeaveReady}
 use Rattle.trial_law.specs.Runs.{dialogue_of}
-use Rattle.trial_law.specs.Splitting.{BeginsByListening, IsSplit}
+use Rattle.trial_law.specs.Splitting.{BeginsByListening, PartsAt}
 use Rattle.trial_law.proofs.Runs.{run_begins, run_harmless, run_tidy}
 use Rattle.trial_law.proofs.Splits.{lines_split}
 use Rattle.trial_law.proofs.Told.{both_begin, told_begins, told_honest}
@@ -33,7 +34,7 @@ is_row machine now (said ∷ parts) last lost ready all begins honest =
     let rest : List Item = in_a_row (parts ++ last ∷ []) in
     let leaves : LeavesReady said = All-head LeavesReady said parts all in
     let others : All LeavesReady parts = All-tail LeavesReady said parts all in
-    let split : IsSplit machine said rest lost now = lines_split machine now said rest lost (leaves.tidy machine ready) (rows_begin parts last others begins) honest in (
+    let split : PartsAt machine said rest lost now = lines_split machine now said rest lost (leaves.tidy machine ready) (rows_begin parts last others begins) honest in (
       split.between,
       split.lost_before,
       split.lost_after,

@@ -12,13 +12,13 @@ use Rattle.reading_core.specs.declared.phase.End.TheVariants.{Complete, GaveUp, 
 use Rattle.reading_core.specs.Reader.{Reader, begun}
 use Rattle.reading_core.proofs.Turns.{fresh_kept}
 use Rattle.reading_core.specs.Laws.{led}
-use Rattle.reading_law.specs.Belief.{IsReady, IsTrue, MayLook, dialogue}
+use Rattle.reading_law.specs.Belief.{IsReadyMachine, IsTrue, MayLook, dialogue}
 use Rattle.reading_law.specs.Law.{HasCause}
 use Rattle.reading_law.proofs.Believed.{honest_are_true, leave_ready}
 use Rattle.trial_core.specs.TrialTable.{IsTrying}
 use Rattle.trial_core.specs.Trial.{begun_trial}
-use Rattle.trial_law.specs.Splitting.{BeginsByListening, EndsTidily, IsSplit}
-use Rattle.trial_law.specs.Runs.{AreHarmless, AreHarmlessBefore, AreTold, IsBorneOut, IsRun, Look, LooksAndTrialsDoNoHarm, OthersMayFollow, Run, Try, dialogue_of}
+use Rattle.trial_law.specs.Splitting.{BeginsByListening, EndsTidily, PartsAt}
+use Rattle.trial_law.specs.Runs.{AreHarmless, AreHarmlessBefore, AreTold, IsBorneOut, MayBeSuchAHost, Look, LooksAndTrialsDoNoHarm, OthersMayFollow, Run, Try, dialogue_of}
 use Rattle.trial_law.specs.Trying.{IsLeftAlone, IsToldOf, trial_dialogue}
 use Rattle.trial_law.proofs.Keys.{store_nothing}
 use Rattle.trial_law.proofs.Splits.{lines_split}
@@ -57,7 +57,7 @@ borne_out memory lost more le (Try address old patience heard) only = only
 
 -- ---- one run
 
-pub may_begin : (addresses : List ℕ) (patience : ℕ) (machine : Machine) → IsReady machine → MayLook (begun addresses [] patience) machine
+pub may_begin : (addresses : List ℕ) (patience : ℕ) (machine : Machine) → IsReadyMachine machine → MayLook (begun addresses [] patience) machine
 may_begin addresses patience machine ready = record {
   begun = refl;
   console = ready.console;
@@ -69,18 +69,18 @@ pub run_begins : (run : Run) → BeginsByListening (dialogue_of run)
 run_begins (Look addresses patience heard) = reading_begins (begun addresses [] patience) heard
 run_begins (Try address old patience heard) = trial_begins (begun_trial address old patience) heard
 
-pub run_tidy : (run : Run) (told : List Item) (machine : Machine) → IsReady machine → IsRun run → IsToldOf (dialogue_of run) told → EndsTidily machine told
+pub run_tidy : (run : Run) (told : List Item) (machine : Machine) → IsReadyMachine machine → MayBeSuchAHost run → IsToldOf (dialogue_of run) told → EndsTidily machine told
 run_tidy (Look addresses patience heard) told machine ready is front =
     readings_tidy (begun addresses [] patience) heard told machine (fresh_kept addresses patience is.0 is.1) (may_begin addresses patience machine ready) front
 run_tidy (Try address old patience heard) told machine ready is front = trials_tidy address old patience heard told machine front
 
 -- what came of one run
 pub record IsHarmless (machine : Machine) (run : Run) (lost : ℕ) (now : Machine) : Type 0 where
-  pub ready : IsReady now
+  pub ready : IsReadyMachine now
   pub memory : now.memory ≡ machine.memory
   pub learned : IsBorneOut machine.memory lost run
 
-pub run_harmless : (run : Run) (machine now : Machine) (lost : ℕ) → IsReady machine → IsRun run → IsHonest machine (dialogue_of run) lost now → IsHarmless machine run lost now
+pub run_harmless : (run : Run) (machine now : Machine) (lost : ℕ) → IsReadyMachine machine → MayBeSuchAHost run → IsHonest machine (dialogue_of run) lost now → IsHarmless machine run lost now
 run_harmless (Look addresses patience heard) machine now lost ready is honest =
     let r : Reader = begun addresses [] patience in
     let reader = fresh_kept addresses patience is.0 is.1 in
@@ -122,13 +122,13 @@ others_follow machine now [] told more lost ready are none begins honest = recor
   losses = omega arith;
 }
 others_follow machine now (run ∷ runs) told more lost ready are (first, rest, front, rests, parts) begins honest =
-    let split : IsSplit machine first (rest ++ more) lost now =
-    lines_split machine now first (rest ++ more) lost (run_tidy run first machine ready (All-head IsRun run runs are) front) (both_begin rest more (told_begin runs rest rests) begins)
+    let split : PartsAt machine first (rest ++ more) lost now =
+    lines_split machine now first (rest ++ more) lost (run_tidy run first machine ready (All-head MayBeSuchAHost run runs are) front) (both_begin rest more (told_begin runs rest rests) begins)
     (subst (λ items. IsHonest machine items lost now) (append_assoc first rest more) (subst (λ (items : List Item). IsHonest machine (items ++ more) lost now) parts honest)) in
     let here : IsHarmless machine run split.lost_before split.between =
-    run_harmless run machine split.between split.lost_before ready (All-head IsRun run runs are) (told_honest (dialogue_of run) first machine split.between split.lost_before front split.before) in
+    run_harmless run machine split.between split.lost_before ready (All-head MayBeSuchAHost run runs are) (told_honest (dialogue_of run) first machine split.between split.lost_before front split.before) in
     let there : AreHarmlessBefore split.between runs more split.lost_after now =
-    others_follow split.between now runs rest more split.lost_after here.ready (All-tail IsRun run runs are) rests begins split.after in
+    others_follow split.between now runs rest more split.lost_after here.ready (All-tail MayBeSuchAHost run runs are) rests begins split.after in
     record {
       between = there.between;
       lost_before = split.lost_before + there.lost_before;

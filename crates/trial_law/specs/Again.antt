@@ -7,7 +7,7 @@ use Rattle.honest_line.specs.Honest.{IsHonest}
 use Rattle.reading_core.specs.Addresses.{IsAddress}
 use Rattle.reading_core.specs.Reader.{Reader, begun}
 use Rattle.reading_core.specs.Laws.{led}
-use Rattle.reading_law.specs.Belief.{dialogue, IsReady}
+use Rattle.reading_law.specs.Belief.{dialogue, IsReadyMachine}
 use Rattle.trial_core.specs.Trial.{begun_trial}
 use Rattle.trial_law.specs.Runs.{AreTold, Look, Try}
 use Rattle.trial_law.specs.Trying.{trial_dialogue}
@@ -25,7 +25,7 @@ pub record IsSame (before now first second : List ℕ) : Type 0 where
 abbrev pub ProbesFindTheWordAgain : Type 0
 ProbesFindTheWordAgain =
     (a b c d : Machine) (address old patience : ℕ) (first trying second : List Heard) (lost_first lost_trying lost_second : ℕ) →
-    IsReady a → IsAddress address → patience < 2 ^ 32 →
+    IsReadyMachine a → IsAddress address → patience < 2 ^ 32 →
     IsHonest a (dialogue (looker address patience) first) lost_first b →
     IsHonest b (trial_dialogue (begun_trial address old patience) trying) lost_trying c →
     IsHonest c (dialogue (looker address patience) second) lost_second d →
@@ -35,7 +35,7 @@ ProbesFindTheWordAgain =
 abbrev pub OneLineFindsTheWordAgain : Type 0
 OneLineFindsTheWordAgain =
     (machine now : Machine) (address old patience lost : ℕ) (first trying second : List Heard) (told : List Item) →
-    IsReady machine → IsAddress address → patience < 2 ^ 32 →
+    IsReadyMachine machine → IsAddress address → patience < 2 ^ 32 →
     AreTold (Look (address ∷ []) patience first ∷ Try address old patience trying ∷ Look (address ∷ []) patience second ∷ []) told →
     IsHonest machine told lost now →
     IsSame machine.memory now.memory (led (looker address patience) first).values (led (looker address patience) second).values

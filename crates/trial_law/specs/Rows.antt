@@ -1,38 +1,27 @@
 -- What several hosts said on one line, part by part.
-use Rattle.std.specs.Prelude.{◌≡◌, ℕ, ◌+◌, All, List, [], ◌∷◌, ◌++◌}
+use Rattle.std.specs.Prelude.{ℕ, All, List, [], ◌∷◌, ◌++◌}
 use Rattle.odt_machine.specs.Machine.{Machine}
 use Rattle.load_devices.specs.declared.item.Item.{Item}
 use Rattle.honest_line.specs.Honest.{IsHonest}
-use Rattle.reading_law.specs.Belief.{IsReady}
-use Rattle.trial_law.specs.Runs.{IsRun, Run, dialogue_of}
+use Rattle.reading_law.specs.Belief.{IsReadyMachine}
+use Rattle.reading_law.specs.Rows.{AreHonest, in_a_row}
+use Rattle.trial_law.specs.Runs.{MayBeSuchAHost, Run, dialogue_of}
 use Rattle.trial_law.specs.Splitting.{BeginsByListening, EndsTidily}
 use Rattle.trial_law.specs.Trying.{IsToldOf}
-
--- all the parts, one after another
-abbrev pub in_a_row : List (List Item) → List Item
-in_a_row [] = []
-in_a_row (said ∷ parts) = said ++ in_a_row parts
-
--- the parts passed over honest lines, each from the machine where the one before it ended, and so many characters were lost in all
-abbrev pub AreHonest : Machine → List (List Item) → ℕ → Machine → Type 0
-AreHonest machine [] lost now = (now ≡ machine) × (lost ≡ 0)
-AreHonest machine (said ∷ parts) lost now =
-    (between : Machine) × (first : ℕ) × (later : ℕ) × IsHonest machine said first between × AreHonest between parts later now
-    × (lost ≡ first + later)
 
 -- a host that said this began by listening, and whatever machine it met, it ended tidily there and left it ready for the next
 pub record LeavesReady (said : List Item) : Type 0 where
   pub begins : BeginsByListening said
-  pub tidy : (machine : Machine) → IsReady machine → EndsTidily machine said
-  pub ready : (machine now : Machine) (lost : ℕ) → IsReady machine → IsHonest machine said lost now → IsReady now
+  pub tidy : (machine : Machine) → IsReadyMachine machine → EndsTidily machine said
+  pub ready : (machine now : Machine) (lost : ℕ) → IsReadyMachine machine → IsHonest machine said lost now → IsReadyMachine now
 
 -- a look and a trial leave the machine ready
 abbrev pub RunsLeaveReady : Type 0
-RunsLeaveReady = (run : Run) (told : List Item) → IsRun run → IsToldOf (dialogue_of run) told → LeavesReady told
+RunsLeaveReady = (run : Run) (told : List Item) → MayBeSuchAHost run → IsToldOf (dialogue_of run) told → LeavesReady told
 
 -- one honest line on which such hosts ran, and then any host that began by listening, is an honest line for each of them
 abbrev pub OneLineIsARow : Type 0
 OneLineIsARow =
     (machine now : Machine) (parts : List (List Item)) (last : List Item) (lost : ℕ) →
-    IsReady machine → All LeavesReady parts → BeginsByListening last →
+    IsReadyMachine machine → All LeavesReady parts → BeginsByListening last →
     IsHonest machine (in_a_row (parts ++ last ∷ [])) lost now → AreHonest machine (parts ++ last ∷ []) lost now

@@ -8,7 +8,7 @@ use Rattle.honest_line.specs.Honest.{IsHonest}
 use Rattle.reading_core.specs.Addresses.{AreAddresses, IsAddress}
 use Rattle.reading_core.specs.Laws.{led}
 use Rattle.reading_core.specs.Reader.{begun}
-use Rattle.reading_law.specs.Belief.{dialogue, IsReady, IsTrue}
+use Rattle.reading_law.specs.Belief.{dialogue, IsReadyMachine, IsTrue}
 use Rattle.trial_core.specs.Trial.{begun_trial}
 use Rattle.trial_core.specs.TrialTable.{IsTrying}
 use Rattle.trial_law.specs.Splitting.{BeginsByListening}
@@ -20,9 +20,9 @@ pub data Run : Type 0 where
   Try : (address old patience : ℕ) (heard : List Heard) → Run
 
 -- there may be such a host
-abbrev pub IsRun : Run → Type 0
-IsRun (Look addresses patience heard) = AreAddresses addresses × (patience < 2 ^ 32)
-IsRun (Try address old patience heard) = IsAddress address × (patience < 2 ^ 32)
+abbrev pub MayBeSuchAHost : Run → Type 0
+MayBeSuchAHost (Look addresses patience heard) = AreAddresses addresses × (patience < 2 ^ 32)
+MayBeSuchAHost (Try address old patience heard) = IsAddress address × (patience < 2 ^ 32)
 
 -- each thing that it heard, and right after it the key that it sent
 abbrev pub dialogue_of : Run → List Item
@@ -42,14 +42,14 @@ IsBorneOut memory lost (Try address old patience heard) = All IsTrying (keys_of 
 
 -- what came of these hosts: the next may begin, memory is what it was, and what each of them learned is borne out
 pub record AreHarmless (machine : Machine) (runs : List Run) (lost : ℕ) (now : Machine) : Type 0 where
-  pub ready : IsReady now
+  pub ready : IsReadyMachine now
   pub memory : now.memory ≡ machine.memory
   pub learned : All (IsBorneOut machine.memory lost) runs
 
 -- looks and trials over one honest line, as many as there are, do no harm
 abbrev pub LooksAndTrialsDoNoHarm : Type 0
 LooksAndTrialsDoNoHarm =
-    (machine now : Machine) (runs : List Run) (told : List Item) (lost : ℕ) → IsReady machine → All IsRun runs → AreTold runs told →
+    (machine now : Machine) (runs : List Run) (told : List Item) (lost : ℕ) → IsReadyMachine machine → All MayBeSuchAHost runs → AreTold runs told →
     IsHonest machine told lost now → AreHarmless machine runs lost now
 
 -- the hosts did no harm up to a machine, and what was told behind them is honest from there, with these losses together
@@ -64,5 +64,5 @@ pub record AreHarmlessBefore (machine : Machine) (runs : List Run) (more : List 
 -- the same where any other host followed on the line
 abbrev pub OthersMayFollow : Type 0
 OthersMayFollow =
-    (machine now : Machine) (runs : List Run) (told more : List Item) (lost : ℕ) → IsReady machine → All IsRun runs → AreTold runs told →
+    (machine now : Machine) (runs : List Run) (told more : List Item) (lost : ℕ) → IsReadyMachine machine → All MayBeSuchAHost runs → AreTold runs told →
     BeginsByListening more → IsHonest machine (told ++ more) lost now → AreHarmlessBefore machine runs more lost now

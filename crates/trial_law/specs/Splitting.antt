@@ -31,7 +31,7 @@ BeginsByListening (Sent key ∷ items) = ⊥
 BeginsByListening (Came what ∷ items) = ⊤
 
 -- a list is honest up to a machine, and a second one from there, with these losses together
-pub record IsSplit (machine : Machine) (items more : List Item) (lost : ℕ) (now : Machine) : Type 0 where
+pub record PartsAt (machine : Machine) (items more : List Item) (lost : ℕ) (now : Machine) : Type 0 where
   pub between : Machine
   pub lost_before : ℕ
   pub lost_after : ℕ
@@ -44,7 +44,7 @@ pub record IsSplit (machine : Machine) (items more : List Item) (lost : ℕ) (no
 abbrev pub HonestLinesSplit : Type 0
 HonestLinesSplit =
     (machine now : Machine) (items more : List Item) (lost : ℕ) → EndsTidily machine items → BeginsByListening more →
-    IsHonest machine (items ++ more) lost now → IsSplit machine items more lost now
+    IsHonest machine (items ++ more) lost now → PartsAt machine items more lost now
 
 -- a reading ends tidily
 abbrev pub ReadingsEndTidily : Type 0

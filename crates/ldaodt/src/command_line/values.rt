@@ -2,7 +2,7 @@
 ghost use Rattle.std.specs.Prelude.{◌≡◌, ◌++◌, Some, IfOk, codes, map};
 ghost use Rattle.odt_machine.specs.Style.{style_number};
 ghost use Rattle.clap.specs.Matches.{first_value, found_of};
-ghost use Rattle.ldaodt.specs.Options.{AreTapes, IsConsoleOf, IsNumberGiven, IsNumberOf, more_in};
+ghost use Rattle.ldaodt.specs.Options.{NamesTapes, IsConsoleOf, IsNumberGiven, IsNumberOf, more_in};
 
 use super::no_request::NoRequest;
 use super::options::{LINE, MORE, STYLE, TAPE, WORDS};
@@ -37,7 +37,7 @@ pub(crate) fn line_of<'a>(alloc: Global, found: &ArgMatches<'a>) -> Result<&'a s
 
 /// The names of the tapes, in order.
 pub(crate) fn tapes_of<'a>(alloc: Global, found: &ArgMatches<'a>) -> Result<Vec<&'a str>, NoRequest>
-    ensures { IfOk result (λ names. AreTapes (found_of found.now) names.items) }
+    ensures { IfOk result (λ names. NamesTapes (found_of found.now) names.items) }
 {
     let first = text_of(found, TAPE)?;
     Ok(joined(alloc, &[first], found)?)

@@ -3,7 +3,7 @@
 use crate::simulated_system::{AMPLE, Console, QUIET_MS, System};
 use crate::tapes::plan_of_one_word;
 use host_core::{End, HostCore, Progress};
-use load_devices::Keep;
+use load_devices::{Keep, Unwatched};
 use load_engine::{Stop, drive};
 use load_record::FileKeep;
 use std::alloc::Global;
@@ -28,7 +28,7 @@ fn load_over(
     keeper: &mut FileKeep<Vec<u8>>,
 ) -> Option<(Stop, u64)> {
     let core = begun_with(alloc, keeper)?;
-    let (core, stop) = drive(core, line, keeper, 52);
+    let (core, stop) = drive(core, line, keeper, 52, &Unwatched);
     Some((stop, core.sent_count()))
 }
 

@@ -28,5 +28,3 @@ mod streams;
 mod telling;
 #[cfg(test)]
 mod terminals;
-#[cfg(test)]
-mod watching;

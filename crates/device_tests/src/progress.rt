@@ -1,6 +1,8 @@
 //! What a person sees of a load and at what pace: over a clock that stands where it is set, or has no time.
 
-use load_progress::{Onlooker, ProgressLine, Showing};
+use host_core::Heard;
+use load_devices::{Onlooker, Sight};
+use load_progress::{ProgressLine, Showing};
 use std::alloc::Global;
 use std::cell::{Cell, RefCell};
 use std::fmt::Display;
@@ -89,52 +91,60 @@ impl Print for Screen {
     }
 }
 
-// What happens to a load of 2,000 words, 500 of them verified before.
-#[derive(Clone, Copy)]
-enum Step {
-    Verified,
-    Resynchronised,
-}
-
 // When the load begins, in milliseconds of its clock.
 const BEGINNING: u64 = 7_000_000;
 
 // What is shown of it before its first key.
 const GOING_ON: &str = "going on behind 500 of 2000 words, listening; power lost? use --recheck";
 
-// The time since then in milliseconds, what happens, how often something was shown by then, and what last.
-const STORY: [(u64, Step, u32, &str); 7] = [
-    (10, Step::Resynchronised, 1, GOING_ON),
-    (99, Step::Verified, 1, GOING_ON),
-    (100, Step::Verified, 2, "502 of 2000 words, 25%, 1:14 left"),
-    (199, Step::Verified, 2, "502 of 2000 words, 25%, 1:14 left"),
+// Of a load of 2,000 words, 500 of them verified before: the time since then in milliseconds, how many words are
+// verified and how many mishaps there were, how often something was shown by then, and what last.
+const STORY: [(u64, u32, u32, u32, &str); 7] = [
+    (10, 500, 0, 1, GOING_ON),
+    (99, 501, 0, 1, GOING_ON),
+    (100, 502, 0, 2, "502 of 2000 words, 25%, 1:14 left"),
+    (199, 503, 0, 2, "502 of 2000 words, 25%, 1:14 left"),
     (
         200,
-        Step::Resynchronised,
+        503,
+        1,
         3,
         "503 of 2000 words, 25%, 1 mishap, 1:39 left",
     ),
     (
         1000,
-        Step::Resynchronised,
+        503,
+        2,
         4,
         "503 of 2000 words, 25%, 2 mishaps, 8:19 left",
     ),
     (
         10000,
-        Step::Verified,
+        504,
+        2,
         5,
         "504 of 2000 words, 25%, 2 mishaps, 1:02:20 left",
     ),
 ];
 
-// What a step is to an onlooker, with a key behind it, which shows nothing of its own.
-fn happens<O: Onlooker>(line: &O, step: Step) {
-    match step {
-        Step::Verified => line.verifies(),
-        Step::Resynchronised => line.sends(b'Z'),
+// A character that the host answers with a key.
+fn answered(key: u8, done: u32, spent: u32) -> Sight {
+    Sight {
+        heard: Heard::Got(b'@'),
+        key: Some(key),
+        done,
+        spent,
     }
-    line.sends(b'/');
+}
+
+// Something that the host answers with no key.
+fn noticed(heard: Heard, done: u32) -> Sight {
+    Sight {
+        heard,
+        key: None,
+        done,
+        spent: 0,
+    }
 }
 
 #[test]
@@ -144,9 +154,9 @@ fn a_load_is_shown_at_its_pace(rt: HostRuntime) {
     let line = ProgressLine::new(&clock, &terminal);
     line.begins(500, 2000);
     for row in &STORY {
-        let (millis, step, writes, text) = *row;
+        let (millis, done, spent, writes, text) = *row;
         clock.millis.set(Some(BEGINNING.saturating_add(millis)));
-        happens(&line, step);
+        line.sees(answered(b'/', done, spent));
         assert!(rt; terminal.has_shown(writes, text), "{millis}");
     }
     line.ends();
@@ -195,8 +205,8 @@ fn a_load_that_goes_on_says_so_and_that_it_listens(rt: HostRuntime) {
     }
 }
 
-// A clock's time in milliseconds, if it has one, when a word of four is verified, how often something was shown
-// by then, and what last. Where the clock has no time nothing more is shown; where it had none at first no time
+// A clock's time in milliseconds, if it has one, when one word more of four is verified and no key was sent, how
+// often something was shown by then, and what last. Where the clock has no time nothing more is shown; where it had none at first no time
 // left is known.
 const STUMBLING: [(Option<u64>, u32, &str); 4] = [
     (None, 1, "0 of 4 words, 0%, listening"),
@@ -218,10 +228,12 @@ fn is_shown(alloc: Global, first: Option<u64>, rows: &[(Option<u64>, u32, &str)]
     let terminal = Screen::new(alloc);
     let line = ProgressLine::new(&clock, &terminal);
     line.begins(0, 4);
+    let mut done = 0u32;
     for row in rows {
         let (time, writes, text) = *row;
         clock.millis.set(time);
-        line.verifies();
+        done = done.saturating_add(1);
+        line.sees(noticed(Heard::Quiet, done));
         if !terminal.has_shown(writes, text) {
             return false;
         }
@@ -340,17 +352,17 @@ fn is_talk_shown(alloc: Global, heard: u32, text: &str) -> bool {
     let line = ProgressLine::new(&clock, &terminal);
     line.begins(0, 28);
     clock.millis.set(Some(BEGINNING.saturating_add(100)));
-    line.sends(b'Z');
+    line.sees(answered(b'Z', 0, 0));
     clock.millis.set(Some(BEGINNING.saturating_add(200)));
     for _ in 0..heard {
-        line.hears();
+        line.sees(noticed(Heard::Got(b'x'), 0));
     }
     let writes = if heard > 32 { 3 } else { 2 };
     let is_so = terminal.has_shown(writes, text);
     clock.millis.set(Some(BEGINNING.saturating_add(300)));
-    line.sends(b'0');
+    line.sees(answered(b'0', 0, 0));
     clock.millis.set(Some(BEGINNING.saturating_add(400)));
-    line.verifies();
+    line.sees(answered(b'1', 1, 0));
     let writes = if heard > 32 { 5 } else { 3 };
     is_so && terminal.has_shown(writes, "1 of 28 words, 3%, 0:10 left")
 }

@@ -1,8 +1,9 @@
-//! What a load needs of the world: a line to the console, and a keeper of the progress.
+//! What a load needs of the world: a line to the console, a keeper of the progress, and who looks on.
 //!
 //! `Line` and `Keep` are devices as traits. Each tells how often it failed and whether its last call
 //! did, and where its type tells it, what was sent and heard or what is kept. `MemoryKeep` keeps in
-//! memory. The crates above bring lines and keepers of their own, and lend them to the engine.
+//! memory. The crates above bring lines and keepers of their own, and lend them to the engine. An
+//! `Onlooker` is told of each turn, and decides nothing.
 #![tactic(auto)]
 
 mod fault;
@@ -10,9 +11,11 @@ mod item;
 mod keep;
 mod line;
 mod memory_keep;
+mod onlooker;
 
 pub use fault::{KeepFault, LineFault};
 pub use item::{Item, Kept};
 pub use keep::Keep;
 pub use line::Line;
 pub use memory_keep::MemoryKeep;
+pub use onlooker::{Onlooker, Sight, Unwatched};

@@ -1,12 +1,10 @@
 -- What a load over a line in memory says.
-use Rattle.std.proofs.Common.{ℕ, ◌+◌, ◌≤◌, List, length, Some, refl, ap}
+use Rattle.std.proofs.Common.{ℕ, ◌≤◌, List, length, Some, refl, ap}
 use Rattle.host_core.specs.Core.{Core}
 use Rattle.load_devices.specs.declared.item.Item.{Item}
-use Rattle.load_devices.specs.Dialogue.{keys_of}
 use Rattle.honest_line.specs.Honest.{IsHonest}
 use Rattle.honest_line.specs.Lent.{Passed}
 use Rattle.honest_line.specs.LineTable.{LineValue}
-use Rattle.honest_line.specs.Starts.{TellsStart}
 use Rattle.honest_line.specs.Trust.{IsTrustworthy}
 use Rattle.honest_line.proofs.Wires.{moved_is_honest}
 use Rattle.load_engine.specs.declared.stop.Stop.{Stop}

@@ -14,19 +14,21 @@ ghost use Rattle.load_engine.specs.Session.{Session, KeepsMarkFirst, TellsEnd, I
 
 use crate::stop::Stop;
 use host_core::{Heard, HostCore, Progress};
-use load_devices::{Keep, KeepFault, Kept, Line, LineFault};
+use load_devices::{Keep, KeepFault, Kept, Line, LineFault, Onlooker, Sight};
 
 /// Lends the core to the line and the keeper for at most so many turns.
 ///
 /// Before each turn, and after the last, an end of the core stops the engine. In a turn one thing is
 /// heard, the core takes its step, what became verified and then the start mark are kept, and last
 /// the character that the step answered is sent. The first failure stops the engine, and nothing
-/// after it in that turn is done. The core that comes back has taken the step.
-pub fn drive<L: Line, K: Keep>(
+/// after it in that turn is done. The core that comes back has taken the step. The onlooker is told of
+/// each step, before anything comes of it.
+pub fn drive<L: Line, K: Keep, O: Onlooker>(
     mut core: HostCore,
     line: &mut L,
     keep: &mut K,
     turns: u64,
+    onlooker: &O,
 ) -> (HostCore, Stop)
     ensures turns { Session turns (Some result.1) core result.0 (L.told line.old) (L.told line.new) (K.told keep.old) (K.told keep.new) }
     ensures end { TellsEnd result.1 result.0 }
@@ -46,7 +48,7 @@ pub fn drive<L: Line, K: Keep>(
         if let Some(end) = end {
             return (core, Stop::Ended(end));
         }
-        if let Err(stop) = turn(&mut core, line, keep) {
+        if let Err(stop) = turn(&mut core, line, keep, onlooker) {
             return (core, stop);
         }
         end = core.end();
@@ -59,7 +61,12 @@ pub fn drive<L: Line, K: Keep>(
 }
 
 // One turn of a core that has no end.
-fn turn<L: Line, K: Keep>(core: &mut HostCore, line: &mut L, keep: &mut K) -> Result<(), Stop>
+fn turn<L: Line, K: Keep, O: Onlooker>(
+    core: &mut HostCore,
+    line: &mut L,
+    keep: &mut K,
+    onlooker: &O,
+) -> Result<(), Stop>
     requires goes_on { ended core.old.phase ≡ None }
     requires kept { IsHost core.old }
     ensures turn { Session 1 (fault_of result) core.old core.new (L.told line.old) (L.told line.new) (K.told keep.old) (K.told keep.new) }
@@ -70,7 +77,7 @@ fn turn<L: Line, K: Keep>(core: &mut HostCore, line: &mut L, keep: &mut K) -> Re
     ensures kept { IsHost core.new }
 {
     let heard = line.hear()?;
-    let Errands { news, key } = step(core, heard);
+    let Errands { news, key } = step(core, heard, onlooker);
     if let Some(news) = news {
         keep_news(keep, news)?;
     }
@@ -85,8 +92,8 @@ struct Errands {
     key: Option<u8>,
 }
 
-// The core takes a step.
-fn step(core: &mut HostCore, heard: Heard) -> Errands
+// The core takes a step, and the onlooker is told.
+fn step<O: Onlooker>(core: &mut HostCore, heard: Heard, onlooker: &O) -> Errands
     requires kept { IsHost core.old }
     ensures next { core.new ≡ (move core.old heard).next }
     ensures key { result.key ≡ (move core.old heard).key }
@@ -98,6 +105,12 @@ fn step(core: &mut HostCore, heard: Heard) -> Errands
     let before = core.progress();
     let key = core.step(heard);
     let Progress { verified, going } = core.progress();
+    onlooker.sees(Sight {
+        heard,
+        key,
+        done: verified,
+        spent: core.spent(),
+    });
     let news = if going && !before.going {
         Some(Kept::Go)
     } else if verified > before.verified {

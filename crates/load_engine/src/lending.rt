@@ -12,7 +12,7 @@ use crate::driving::drive;
 use crate::stop::Stop;
 use honest_line::{LentLine, MemoryLine, Opening};
 use host_core::HostCore;
-use load_devices::Keep;
+use load_devices::{Keep, Unwatched};
 use std::marker::Brand;
 
 /// Lends the core to the line and the keeper for at most so many turns, as `drive` does, and the line
@@ -64,6 +64,6 @@ fn drive_lent<E: Opening, K: Keep>(
     ensures kept { IsHost result.0.0 }
 {
     let mut lent = LentLine::<E>::lend(line);
-    let answer = drive(core, &mut lent, keep, turns);
+    let answer = drive(core, &mut lent, keep, turns, &Unwatched);
     (answer, lent.take_back())
 }

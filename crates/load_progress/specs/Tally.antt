@@ -1,31 +1,36 @@
 -- How far it is, and what is shown of it.
-use Rattle.std.specs.Prelude.{ℕ, ◌+◌, ◌-◌, ◌^◌, ◌==◌, ◌||◌, nat_lt, min, not, Bool, true, false, if◌then◌else◌, Option, Some, None}
-use Rattle.host_core.specs.Console.{resynchronise}
+use Rattle.std.specs.Prelude.{ℕ, ◌+◌, ◌-◌, ◌^◌, ◌||◌, nat_lt, min, not, Bool, true, false, if◌then◌else◌, Option, Some, None}
+use Rattle.host_core.specs.declared.heard.Heard.{Heard}
+use Rattle.host_core.specs.declared.heard.Heard.TheVariants.{Got, Quiet}
+use Rattle.load_devices.specs.declared.onlooker.Sight.{Sight}
 use Rattle.load_progress.specs.Pace.{seconds_left}
 use Rattle.load_progress.specs.declared.showing.Showing.{Showing}
 use Rattle.load_progress.specs.declared.tally.Tally.{Tally}
 
--- no word was done and no key sent since it began
+-- nothing was done and no key sent since it began
 abbrev pub beginning : ℕ → ℕ → Option ℕ → Tally
-beginning done words begun =
-    record { words = words; done_at_first = done; done = done; has_sent = false; resynchronised = 0; heard = 0; begun = begun }
+beginning done words begun = record { words = words; done_at_first = done; done = done; has_sent = false; mishaps = 0; heard = 0; begun = begun }
 
--- a count that goes up by one; at its largest, 32 bits, it stays
-abbrev pub counted_up : ℕ → ℕ
-counted_up count = min (count + 1) (2 ^ 32 - 1)
+-- how many characters were heard since the last key, where so many were before, and then this was heard and this key answered; at its
+-- largest, 32 bits, the count stays
+abbrev pub heard_behind : ℕ → Heard → Option ℕ → ℕ
+heard_behind count heard (Some key) = 0
+heard_behind count (Got character) None = min (count + 1) (2 ^ 32 - 1)
+heard_behind count Quiet None = count
 
--- one more word is done
-abbrev pub after_word : Tally → Tally
-after_word tally = record tally { done = counted_up tally.done }
+-- whether there is a key
+abbrev pub is_sent : Option ℕ → Bool
+is_sent None = false
+is_sent (Some key) = true
 
--- a key was sent: `Z` resynchronises
-abbrev pub after_key : Tally → ℕ → Tally
-after_key tally key =
-    record tally { has_sent = true; resynchronised = if key == resynchronise then counted_up tally.resynchronised else tally.resynchronised; heard = 0 }
-
--- a character was heard
-abbrev pub after_character : Tally → Tally
-after_character tally = record tally { heard = counted_up tally.heard }
+-- the host has taken a step: words and mishaps are its own
+abbrev pub after_sight : Tally → Sight → Tally
+after_sight tally sight = record tally {
+  done = sight.done;
+  has_sent = tally.has_sent || is_sent sight.key;
+  mishaps = sight.spent;
+  heard = heard_behind tally.heard sight.heard sight.key;
+}
 
 -- a console answers with no more characters than these to any key, those of its longest answer and a few that pad it (this project's
 -- choice)
@@ -42,12 +47,12 @@ time_between None now = None
 time_between (Some begun) None = None
 time_between (Some begun) (Some now) = if nat_lt now begun then None else Some (now - begun)
 
--- what is shown at a time: the first `Z` is no mishap
+-- what is shown at a time
 abbrev pub showing_of : Tally → Option ℕ → Showing
 showing_of tally now = record {
   done = tally.done;
   words = tally.words;
   is_listening = is_listening tally;
-  mishaps = tally.resynchronised - 1;
+  mishaps = tally.mishaps;
   seconds_left = seconds_left (time_between tally.begun now) (tally.done - tally.done_at_first) (tally.words - tally.done);
 }

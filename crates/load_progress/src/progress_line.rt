@@ -2,11 +2,11 @@
 ghost use Rattle.std.specs.Prelude.{◌≡◌, IfSome};
 ghost use Rattle.load_progress.specs.ProgressText.{going_on_text, on_line, showing_text};
 
-use crate::onlooker::Onlooker;
 use crate::pace::is_due;
 use crate::showing::{GoingOn, Showing};
 use crate::tally::Tally;
 use arrayvec::ArrayString;
+use load_devices::{Onlooker, Sight};
 use std::cell::Cell;
 use std::fmt::Write;
 use std::io::Print;
@@ -83,23 +83,10 @@ impl<C: Clock, E: Print> Onlooker for ProgressLine<'_, C, E> {
         }
     }
 
-    fn verifies(&self) {
-        self.keep(self.tally.get().with_word());
-    }
-
-    fn sends(&self, key: u8) {
-        let tally = self.tally.get();
-        let then = tally.with_key(key);
-        if then.is_news(tally) {
-            self.keep(then);
-        } else {
-            self.tally.set(then);
-        }
-    }
-
-    fn hears(&self) {
-        let tally = self.tally.get().with_character();
-        if tally.is_listening() {
+    fn sees(&self, sight: Sight) {
+        let earlier = self.tally.get();
+        let tally = earlier.seeing(sight);
+        if tally.is_news(earlier) {
             self.keep(tally);
         } else {
             self.tally.set(tally);

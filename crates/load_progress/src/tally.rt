@@ -1,13 +1,11 @@
 //! What is known of how far it is.
 ghost use Rattle.std.specs.Prelude.{◌≡◌, ◌≢◌, ◌⊎◌, ◌↔◌, IsTrue};
-ghost use Rattle.load_progress.specs.Tally.{after_character, after_key, after_word, beginning, is_listening, showing_of, time_between};
+ghost use Rattle.load_progress.specs.Tally.{after_sight, beginning, heard_behind, is_listening, showing_of, time_between};
 
 use crate::pace::time_left;
 use crate::showing::Showing;
-
-// The key that the host types where it has lost the thread: once at the beginning, and then once for
-// each mishap that it survives.
-const RESYNCHRONISE: u8 = b'Z';
+use host_core::Heard;
+use load_devices::Sight;
 
 // More characters than these a console answers to no key.
 const LONGEST_ANSWER: u32 = 32;
@@ -24,11 +22,11 @@ pub(crate) struct Tally {
     /// How many are done.
     pub done: u32,
 
-    /// Whether a key was sent.
+    /// Whether there was a key.
     pub has_sent: bool,
 
-    /// How often the host resynchronised.
-    pub resynchronised: u32,
+    /// How many mishaps the host has met.
+    pub mishaps: u32,
 
     /// How many characters were heard since the last key.
     pub heard: u32,
@@ -47,41 +45,21 @@ impl Tally {
             done_at_first: done,
             done,
             has_sent: false,
-            resynchronised: 0,
+            mishaps: 0,
             heard: 0,
             begun,
         }
     }
 
-    /// One more word is done; the count stays at its largest.
-    pub fn with_word(self) -> Tally
-        ensures { result ≡ after_word self }
+    /// What is known once the host has taken a step.
+    pub fn seeing(self, sight: Sight) -> Tally
+        ensures { result ≡ after_sight self sight }
     {
         Tally {
-            done: self.done.saturating_add(1),
-            ..self
-        }
-    }
-
-    /// A key was sent; the count of those that resynchronise stays at its largest.
-    pub fn with_key(self, key: u8) -> Tally
-        ensures { result ≡ after_key self key }
-    {
-        let more = u32::from(key == RESYNCHRONISE);
-        Tally {
-            has_sent: true,
-            resynchronised: self.resynchronised.saturating_add(more),
-            heard: 0,
-            ..self
-        }
-    }
-
-    /// A character was heard; the count stays at its largest.
-    pub fn with_character(self) -> Tally
-        ensures { result ≡ after_character self }
-    {
-        Tally {
-            heard: self.heard.saturating_add(1),
+            done: sight.done,
+            has_sent: self.has_sent || sight.key.is_some(),
+            mishaps: sight.spent,
+            heard: heard_behind(self.heard, sight),
             ..self
         }
     }
@@ -94,12 +72,16 @@ impl Tally {
         !self.has_sent || self.heard > LONGEST_ANSWER
     }
 
-    /// Whether a key behind an earlier tally is worth a showing: one that ends listening, and each that
-    /// resynchronises.
+    /// Whether it is worth a showing behind an earlier tally: a word more or a mishap more, and all that
+    /// happens while the line is listened to, up to the key that ends that.
     pub fn is_news(self, earlier: Tally) -> bool
-        ensures { IsTrue result ↔ (IsTrue (is_listening earlier) ⊎ (self.resynchronised ≢ earlier.resynchronised)) }
+        ensures { IsTrue result ↔ (IsTrue (is_listening earlier) ⊎ IsTrue (is_listening self) ⊎ (self.done ≢ earlier.done)
+            ⊎ (self.mishaps ≢ earlier.mishaps)) }
     {
-        earlier.is_listening() || self.resynchronised != earlier.resynchronised
+        earlier.is_listening()
+            || self.is_listening()
+            || self.done != earlier.done
+            || self.mishaps != earlier.mishaps
     }
 
     /// What is shown of it at a time, in milliseconds of the clock, where the clock has one.
@@ -112,9 +94,20 @@ impl Tally {
             done: self.done,
             words: self.words,
             is_listening: self.is_listening(),
-            mishaps: self.resynchronised.saturating_sub(1),
+            mishaps: self.mishaps,
             seconds_left: time_left(elapsed(self.begun, now), done, left),
         }
+    }
+}
+
+// How many characters were heard since the last key; the count stays at its largest.
+fn heard_behind(count: u32, sight: Sight) -> u32
+    ensures { result ≡ heard_behind count sight.heard sight.key }
+{
+    match (sight.key, sight.heard) {
+        (Some(_), _) => 0,
+        (None, Heard::Got(_)) => count.saturating_add(1),
+        (None, Heard::Quiet) => count,
     }
 }
 

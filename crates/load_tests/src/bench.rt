@@ -7,8 +7,7 @@ ghost use Rattle.record_file.specs.RecordFault.{IsUnbegun};
 
 use crate::disk_text::DiskText;
 use honest_line::MemoryLine;
-use load_devices::LineFault;
-use load_progress::Unwatched;
+use load_devices::{LineFault, Unwatched};
 use load_record::FileKeep;
 use machine_load::{LoadFault, LoadOptions, Outcome, Surroundings, load};
 use odt_machine::Odt;

@@ -4,7 +4,7 @@
 //! the life that begins, in this order, and its report is that of the core that the engine gave back:
 //! that is its contract. `Around` joins the two parts of the surroundings of a real machine: a way to its
 //! console (of the crate `console_reach`), and where its record is, in a file (of the crate `record_file`)
-//! or in memory. An `Onlooker` (of the crate `load_progress`) sees how far the load is and decides nothing.
+//! or in memory. An `Onlooker` sees how far the load is and decides nothing.
 //!
 //! The crate `requests` calls it, and its tests stand in `command_tests`.
 #![tactic(auto)]

@@ -27,9 +27,8 @@ use crate::report::put_load_report;
 use crate::surroundings::Surroundings;
 use byte_io::write_and_flush;
 use host_core::{HostCore, Progress};
-use load_devices::{Keep, Line};
+use load_devices::{Keep, Line, Onlooker};
 use load_engine::{Stop, drive};
-use load_progress::{Onlooker, WatchedKeeper, WatchedLine};
 use load_record::{RecordError, read_record};
 use record_file::holds_no_record;
 use std::alloc::Global;
@@ -246,8 +245,8 @@ fn drive_over<S: Surroundings, O: Onlooker>(
 // Drives a life that an onlooker is told of. Line and keeper come back.
 fn drive_watched<L: Line + Drop, K: Keep + Drop, O: Onlooker>(
     core: HostCore,
-    line: L,
-    keeper: K,
+    mut line: L,
+    mut keeper: K,
     onlooker: &O,
 ) -> (Driven<L>, K)
     ensures turns { Session 10000000 (Some result.0.stop) core result.0.core
@@ -264,12 +263,9 @@ fn drive_watched<L: Line + Drop, K: Keep + Drop, O: Onlooker>(
 {
     let words = core.plan().words().len() as u32;
     onlooker.begins(core.progress().verified, words);
-    let mut line = WatchedLine::new(line, onlooker);
-    let mut keeper = WatchedKeeper::new(keeper, onlooker);
-    let (core, stop) = drive(core, &mut line, &mut keeper, TURNS);
+    let (core, stop) = drive(core, &mut line, &mut keeper, TURNS, onlooker);
     onlooker.ends();
-    let line = line.into_line();
-    (Driven { core, stop, line }, keeper.into_keeper())
+    (Driven { core, stop, line }, keeper)
 }
 
 // Reports a life, in a text that has the room.

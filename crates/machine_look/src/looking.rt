@@ -10,8 +10,7 @@ ghost use Rattle.machine_look.specs.Look.{IsLook, TriesOnce};
 
 use crate::look_fault::LookFault;
 use console_reach::Reach;
-use load_devices::Line;
-use load_progress::{Onlooker, WatchedLine};
+use load_devices::{Line, Onlooker};
 use reading_core::ReadingCore;
 use reading_engine::{Stop, inquire};
 
@@ -19,10 +18,10 @@ use reading_engine::{Stop, inquire};
 const TURNS: u64 = 10_000_000;
 
 /// Lends the core to the line for at most 10,000,000 turns, as `inquire` does, and the line comes back. An
-/// onlooker is told of each key and of each word that was read.
+/// onlooker is told of each step.
 pub fn look<L: Line + Drop, O: Onlooker>(
     core: ReadingCore,
-    line: L,
+    mut line: L,
     onlooker: &O,
 ) -> ((ReadingCore, Stop), L)
     ensures turns { Inquired 10000000 (Some result.0.1) core result.0.0 (L.told line) (L.told result.1) }
@@ -36,10 +35,9 @@ pub fn look<L: Line + Drop, O: Onlooker>(
     ensures kept { IsReader result.0.0 }
 {
     onlooker.begins(0, core.addresses().len() as u32);
-    let mut watched = WatchedLine::of_reading(line, onlooker);
-    let answer = inquire(core, &mut watched, TURNS);
+    let answer = inquire(core, &mut line, TURNS, onlooker);
     onlooker.ends();
-    (answer, watched.into_line())
+    (answer, line)
 }
 
 /// Reaches the console, where the core has something to read, and looks.

@@ -14,7 +14,7 @@ use crate::saved_tape::tape_of;
 use crate::shelf::Shelf;
 use byte_io::write_and_flush;
 use console_reach::Reach;
-use load_progress::Onlooker;
+use load_devices::Onlooker;
 use reading_core::ReadingCore;
 use std::alloc::Global;
 use std::io::Write;

@@ -11,7 +11,7 @@ use crate::verify_end::VerifyEnd;
 use crate::verify_report::{longest_report, put_verify_report};
 use byte_io::write_and_flush;
 use console_reach::Reach;
-use load_progress::Onlooker;
+use load_devices::Onlooker;
 use reading_core::ReadingCore;
 use std::alloc::Global;
 use std::io::Write;

@@ -4,7 +4,7 @@ ghost use Rattle.reading_core.specs.Addresses.{IsAddress};
 ghost use Rattle.machine_probe.specs.PuttingBack.{IsDeposit, IsPlanOfWord, IsPutBack, is_loaded};
 
 use host_core::{End, HostCore, Progress};
-use load_devices::{Line, MemoryKeep};
+use load_devices::{Line, MemoryKeep, Unwatched};
 use load_engine::{Stop, drive};
 use std::alloc::{AllocError, Global};
 use tape_blocks::{Block, Memory, Tape};
@@ -52,7 +52,7 @@ pub(crate) fn put_back<L: Line>(deposit: Deposit, line: &mut L, turns: u64) -> b
         IsPutBack address old patience turns result (L.told line.old) (L.told line.new) }
 {
     let Deposit { core, mut keeper } = deposit;
-    let (_, stop) = drive(core, line, &mut keeper, turns);
+    let (_, stop) = drive(core, line, &mut keeper, turns, &Unwatched);
     is_loaded(stop)
 }
 

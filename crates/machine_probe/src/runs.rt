@@ -13,7 +13,7 @@ ghost use Rattle.machine_probe.specs.Turns.{turns_of};
 
 use crate::probe_options::ProbeOptions;
 use crate::putting_back::{Deposit, put_back};
-use load_devices::Line;
+use load_devices::{Line, Unwatched};
 use memory_end::{Search, find_end};
 use probe_report::{Attempt, Extent, Findings, Sighting, TrialEnd, Verdict, judge};
 use reading_core::{End, ReadingCore};
@@ -96,7 +96,7 @@ fn look<L: Line>(core: ReadingCore, options: ProbeOptions, line: &mut L) -> Sigh
     requires { core ≡ looker options.address options.patience }
     ensures { OnLine (One (LooksAt options result)) (L.told line.old) (L.told line.new) }
 {
-    let (core, stop) = inquire(core, line, options.turns());
+    let (core, stop) = inquire(core, line, options.turns(), &Unwatched);
     sighting_of(stop, first_of(core.values()))
 }
 

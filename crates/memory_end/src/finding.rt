@@ -8,7 +8,7 @@ ghost use Rattle.reading_engine.specs.Failing.{Counts, NamesFault};
 use crate::pieces::{LARGE, Pieces, SMALL, WORDS};
 use crate::room::Room;
 use crate::search::Search;
-use load_devices::Line;
+use load_devices::{Line, Unwatched};
 use reading_core::End;
 use reading_engine::{Stop, inquire};
 use std::alloc::{AllocError, Global};
@@ -75,7 +75,7 @@ fn pass<L: Line>(room: Room, from: u16, pieces: Pieces, limits: Limits, line: &m
     ensures fault { NamesFault (stop_in result) (L.last_fault line.new) }
 {
     let core = room.core(from, pieces, limits.patience);
-    let (core, stop) = inquire(core, line, limits.turns);
+    let (core, stop) = inquire(core, line, limits.turns, &Unwatched);
     let found = from + pieces.bytes * core.values().len() as u16;
     passed(stop, found)
 }

@@ -8,15 +8,21 @@ ghost use Rattle.reading_engine.specs.Failing.{Counts, NamesFault};
 ghost use Rattle.reading_engine.specs.Inquired.{Inquired, TellsEnd, failure_of};
 
 use crate::stop::Stop;
-use load_devices::{Line, LineFault};
+use load_devices::{Line, LineFault, Onlooker, Sight};
 use reading_core::ReadingCore;
 
 /// Lends the core to the line for at most so many turns.
 ///
 /// Before each turn, and after the last, an end of the core stops the engine. In a turn one thing is
 /// heard, the core takes its step, and the character that the step answered is sent. The first
-/// failure stops the engine. The core that comes back has taken the step.
-pub fn inquire<L: Line>(mut core: ReadingCore, line: &mut L, turns: u64) -> (ReadingCore, Stop)
+/// failure stops the engine. The core that comes back has taken the step. The onlooker is told of each
+/// step, before anything comes of it.
+pub fn inquire<L: Line, O: Onlooker>(
+    mut core: ReadingCore,
+    line: &mut L,
+    turns: u64,
+    onlooker: &O,
+) -> (ReadingCore, Stop)
     ensures turns { Inquired turns (Some result.1) core result.0 (L.told line.old) (L.told line.new) }
     ensures end { TellsEnd result.1 result.0 }
     ensures counted { Counts (Some result.1) (L.fault_count line.old) (L.fault_count line.new) }
@@ -32,7 +38,7 @@ pub fn inquire<L: Line>(mut core: ReadingCore, line: &mut L, turns: u64) -> (Rea
         if let Some(end) = end {
             return (core, Stop::Ended(end));
         }
-        if let Err(fault) = turn(&mut core, line) {
+        if let Err(fault) = turn(&mut core, line, onlooker) {
             return (core, Stop::LineFailed(fault));
         }
         end = core.end();
@@ -45,7 +51,11 @@ pub fn inquire<L: Line>(mut core: ReadingCore, line: &mut L, turns: u64) -> (Rea
 }
 
 // One turn of a core that has no end.
-fn turn<L: Line>(core: &mut ReadingCore, line: &mut L) -> Result<(), LineFault>
+fn turn<L: Line, O: Onlooker>(
+    core: &mut ReadingCore,
+    line: &mut L,
+    onlooker: &O,
+) -> Result<(), LineFault>
     requires goes_on { ended core.old.phase ≡ None }
     requires kept { IsReader core.old }
     ensures turn { Inquired 1 (failure_of result) core.old core.new (L.told line.old) (L.told line.new) }
@@ -54,7 +64,14 @@ fn turn<L: Line>(core: &mut ReadingCore, line: &mut L) -> Result<(), LineFault>
     ensures kept { IsReader core.new }
 {
     let heard = line.hear()?;
-    if let Some(key) = core.step(heard) {
+    let key = core.step(heard);
+    onlooker.sees(Sight {
+        heard,
+        key,
+        done: core.values().len() as u32,
+        spent: core.spent(),
+    });
+    if let Some(key) = key {
         line.send(key)?;
     }
     Ok(())

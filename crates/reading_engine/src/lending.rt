@@ -9,6 +9,7 @@ ghost use Rattle.reading_engine.specs.Lent.{ReadsTrue};
 use crate::inquiring::inquire;
 use crate::stop::Stop;
 use honest_line::{LentLine, MemoryLine, Opening};
+use load_devices::Unwatched;
 use reading_core::ReadingCore;
 use std::marker::Brand;
 
@@ -53,6 +54,6 @@ fn inquire_lent<E: Opening>(
     ensures kept { IsReader result.0.0 }
 {
     let mut lent: LentLine<E> = LentLine::lend(line);
-    let answer = inquire(core, &mut lent, turns);
+    let answer = inquire(core, &mut lent, turns, &Unwatched);
     (answer, lent.take_back())
 }

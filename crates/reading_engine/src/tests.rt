@@ -4,7 +4,7 @@
 
 use crate::{Stop, inquire, inquire_in_memory};
 use honest_line::{Loss, MemoryLine};
-use load_devices::{Item, Line, LineFault};
+use load_devices::{Item, Line, LineFault, Unwatched};
 use odt_machine::{Odt, Style};
 use reading_core::{End, ReadingCore};
 use std::alloc::Global;
@@ -169,7 +169,7 @@ fn keys_of(items: &[Item]) -> usize {
 
 // The engine's answer. What its contract promises of it, no test needs.
 fn inquire_on<L: Line>(core: ReadingCore, line: &mut L, turns: u64) -> (ReadingCore, Stop) {
-    inquire(core, line, turns)
+    inquire(core, line, turns, &Unwatched)
 }
 
 // The engine's answer over a line that is lent.

@@ -8,10 +8,11 @@ use crate::checks::check_that;
 use crate::tapes::{ONE_WORD, fresh_host};
 use honest_line::{Loss, MemoryLine};
 use host_core::{End, Heard, HostCore};
-use load_devices::{Item, Keep, KeepFault, Kept, Line, LineFault, MemoryKeep};
+use load_devices::{Item, Keep, KeepFault, Kept, Line, LineFault, MemoryKeep, Onlooker, Sight};
 use load_engine::{Stop, drive};
 use odt_machine::{Odt, PLAIN_STYLE};
 use std::alloc::Global;
+use std::cell::Cell;
 use std::process::Abort;
 use tape_image::Word;
 
@@ -46,6 +47,7 @@ const AMPLE: Setting = Setting {
 struct Outcome {
     stop: Stop,
     spent: u32,
+    is_seen: bool,
     line: MemoryLine,
     keep: MemoryKeep,
 }
@@ -65,14 +67,52 @@ fn line_of(alloc: Global, setting: &Setting) -> Option<MemoryLine> {
     MemoryLine::new(alloc, odt, losses, setting.room, setting.fail_at).ok()
 }
 
+// Counts the steps that it is told of, and keeps the last.
+#[derive(Drop)]
+struct Watch {
+    steps: Cell<usize>,
+    last: Cell<Option<Sight>>,
+}
+
+impl Watch {
+    fn new() -> Watch {
+        Watch {
+            steps: Cell::new(0),
+            last: Cell::new(None),
+        }
+    }
+
+    // Whether it was told of each thing heard on a line, and last of what the host came to.
+    fn has_seen(&self, heard: usize, core: &HostCore) -> bool {
+        let (verified, spent) = (core.progress().verified, core.spent());
+        let is_last = match self.last.get() {
+            Some(sight) => sight.done == verified && sight.spent == spent,
+            None => verified == 0 && spent == 0,
+        };
+        self.steps.get() == heard && is_last
+    }
+}
+
+impl Onlooker for Watch {
+    fn begins(&self, _done: u32, _words: u32) {}
+
+    fn sees(&self, sight: Sight) {
+        self.steps.set(self.steps.get().saturating_add(1));
+        self.last.set(Some(sight));
+    }
+
+    fn ends(&self) {}
+}
+
 // The engine's answer. What its contract promises of it, no test needs.
 fn drive_on<L: Line>(
     core: HostCore,
     line: &mut L,
     keep: &mut MemoryKeep,
     turns: u64,
+    watch: &Watch,
 ) -> (HostCore, Stop) {
-    drive(core, line, keep, turns)
+    drive(core, line, keep, turns, watch)
 }
 
 // How a drive by a fresh host of this patience stops, and how many mishaps there were; nothing where
@@ -84,7 +124,7 @@ fn driven_over<L: Line>(
     (patience, turns): (u32, u64),
 ) -> Option<(Stop, u32)> {
     let core = fresh_host(alloc, &ONE_WORD, patience)?;
-    let (core, stop) = drive_on(core, line, keep, turns);
+    let (core, stop) = drive_on(core, line, keep, turns, &Watch::new());
     Some((stop, core.spent()))
 }
 
@@ -92,11 +132,15 @@ fn driven_over<L: Line>(
 fn driven(alloc: Global, setting: &Setting) -> Option<Outcome> {
     let mut keep = MemoryKeep::new(alloc, setting.keep_room, setting.keep_fail_at).ok()?;
     let mut line = line_of(alloc, setting)?;
-    let effort = (setting.patience, setting.turns);
-    let (stop, spent) = driven_over(alloc, &mut line, &mut keep, effort)?;
+    let core = fresh_host(alloc, &ONE_WORD, setting.patience)?;
+    let watch = Watch::new();
+    let (core, stop) = drive_on(core, &mut line, &mut keep, setting.turns, &watch);
+    let items = line.items();
+    let heard = items.len().saturating_sub(keys_of(items));
     Some(Outcome {
         stop,
-        spent,
+        spent: core.spent(),
+        is_seen: watch.has_seen(heard, &core),
         line,
         keep,
     })
@@ -308,6 +352,7 @@ fn says_so(rt: &impl Abort, outcome: &Outcome, course: &Course, reason: &str) {
 fn came_to(rt: &impl Abort, outcome: &Outcome, course: &Course, reason: &str) {
     check_that(rt, outcome.stop == course.stop, reason);
     check_that(rt, outcome.spent == course.spent, reason);
+    check_that(rt, outcome.is_seen, reason);
     fails_so(rt, outcome, course.stop, reason);
     says_so(rt, outcome, course, reason);
 }

@@ -7,7 +7,7 @@ use Rattle.load_engine.proofs.driving.step.Goals as goal
 use Rattle.load_engine.proofs.driving.step.Goals.{then-going+then-not-before, else-going+then-verified-before, else-going-via-then-going+else-not-before, else-going-via-else-going, else-going+else-verified-before}
 
 pub returns-clause-news : goal.returns-clause-news
-returns-clause-news c =
+returns-clause-news g c =
     let old = c.args.core.now in
     let new = c.step-key.new.self in
     let words = c.step-key.ensures.verified in
@@ -29,5 +29,5 @@ returns-clause-news c =
     ]
 
 pub returns-clause-mark_with_start : goal.returns-clause-mark_with_start
-returns-clause-mark_with_start c =
-    step_start c.args.core.now c.step-key.new.self c.step-key.result c.if-going.news c.step-key.ensures.start c.step-key.ensures.verified (returns-clause-news c)
+returns-clause-mark_with_start g c =
+    step_start c.args.core.now c.step-key.new.self c.step-key.result c.if-going.news c.step-key.ensures.start c.step-key.ensures.verified (returns-clause-news g c)

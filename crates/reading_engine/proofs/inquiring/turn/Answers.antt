@@ -12,14 +12,14 @@ pub returns-in_err-send-clause-turn : goal.returns-in_err-send-clause-turn
 returns-in_err-send-clause-turn g c =
     let fault = c.in_err-send.field-0.0 in
     rw (failure_is c.from_residual-in_err-send.result fault c.from_residual-in_err-send.ensures.1)
-    (turn_unsent fault c.args.core.now c.step.new.self c.in_ok-heard.heard c.in-Some.key (g.L.Line.told c.args.line.now) (g.L.Line.told c.hear.new.self) (g.L.Line.told c.send.new.self)
-    c.requires.goes_on c.step.ensures.next (sym c.step.ensures.key ∙ c.in-Some.is) c.in_ok-heard.ensures.heard c.in_err-send.ensures.not_sent)
+    (turn_unsent fault c.args.core.now c.step-key.new.self c.in_ok-heard.heard c.in-Some.key (g.L.Line.told c.args.line.now) (g.L.Line.told c.hear.new.self) (g.L.Line.told c.send.new.self)
+    c.requires.goes_on c.step-key.ensures.next (sym c.step-key.ensures.key ∙ c.in-Some.is) c.in_ok-heard.ensures.heard c.in_err-send.ensures.not_sent)
 
 pub returns-in_ok-send-clause-turn : goal.returns-in_ok-send-clause-turn
 returns-in_ok-send-clause-turn g c =
-    turn_sent c.args.core.now c.step.new.self c.in_ok-heard.heard c.in-Some.key (g.L.Line.told c.args.line.now) (g.L.Line.told c.hear.new.self) (g.L.Line.told c.send.new.self)
-    c.requires.goes_on c.step.ensures.next (sym c.step.ensures.key ∙ c.in-Some.is) c.in_ok-heard.ensures.heard c.in_ok-send.ensures.sent
+    turn_sent c.args.core.now c.step-key.new.self c.in_ok-heard.heard c.in-Some.key (g.L.Line.told c.args.line.now) (g.L.Line.told c.hear.new.self) (g.L.Line.told c.send.new.self)
+    c.requires.goes_on c.step-key.ensures.next (sym c.step-key.ensures.key ∙ c.in-Some.is) c.in_ok-heard.ensures.heard c.in_ok-send.ensures.sent
 
 pub returns-in_default-clause-turn : goal.returns-in_default-clause-turn
 returns-in_default-clause-turn g c =
-    turn_still c.args.core.now c.step.new.self c.in_ok-heard.heard (g.L.Line.told c.args.line.now) (g.L.Line.told c.hear.new.self) c.requires.goes_on c.step.ensures.next (sym c.step.ensures.key ∙ c.in_default.is) c.in_ok-heard.ensures.heard
+    turn_still c.args.core.now c.step-key.new.self c.in_ok-heard.heard (g.L.Line.told c.args.line.now) (g.L.Line.told c.hear.new.self) c.requires.goes_on c.step-key.ensures.next (sym c.step-key.ensures.key ∙ c.in_default.is) c.in_ok-heard.ensures.heard

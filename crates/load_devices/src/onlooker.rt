@@ -1,0 +1,43 @@
+//! Who looks on.
+
+use host_core::Heard;
+
+/// What an onlooker is told of a turn of the engine.
+#[derive(Clone, Copy, Debug, PartialEq, Eq)]
+pub struct Sight {
+    /// What was heard.
+    pub heard: Heard,
+
+    /// The key that the host answered, which is about to be sent.
+    pub key: Option<u8>,
+
+    /// How many words are done: verified, or read.
+    pub done: u32,
+
+    /// How many mishaps the host has met in this life.
+    pub spent: u32,
+}
+
+/// Somebody who looks on at a load or at a reading. Nothing that happens here decides anything.
+pub trait Onlooker {
+    /// It begins with so many words done of all.
+    fn begins(&self, done: u32, words: u32);
+
+    /// The host has taken a step, and nothing came of it yet.
+    fn sees(&self, sight: Sight);
+
+    /// It is over.
+    fn ends(&self);
+}
+
+/// Nobody.
+#[derive(Clone, Copy, Debug)]
+pub struct Unwatched;
+
+impl Onlooker for Unwatched {
+    fn begins(&self, _done: u32, _words: u32) {}
+
+    fn sees(&self, _sight: Sight) {}
+
+    fn ends(&self) {}
+}

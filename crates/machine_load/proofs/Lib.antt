@@ -1,6 +1,5 @@
 mod Begun
 mod Driving
 mod Faults
-mod Kept
 mod Lives
 mod Steps

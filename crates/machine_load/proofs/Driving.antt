@@ -2,11 +2,12 @@
 use Rattle.std.proofs.Common.{◌≡◌, Bool, [], ◌∷◌, Option, option_map, refl, subst, inl, inr}
 use Rattle.std.specs.Io.KnownBytes.{Appends}
 use Rattle.tape_image.specs.Plan.{PlanValue}
+use Rattle.byte_io.specs.Output.{WritesPrefix}
 use Rattle.host_core.specs.Core.{Core}
 use Rattle.load_engine.specs.declared.stop.Stop.{Stop}
 use Rattle.machine_load.specs.Driving.{Finish, LineTold, KeeperTells, IsLived, IsLoadReported, IsLoadUntold, ending_of, finish_of}
 use Rattle.machine_load.specs.Load.{Around, Setting, Asks, KeepsRecord, IsLoadLife, IsOpening}
-use Rattle.machine_load.specs.LoadFault.{IsOpeningFault, IsDrivingFault, IsReportFault}
+use Rattle.machine_load.specs.LoadFault.{IsOpeningFault, IsDrivingFault}
 use Rattle.machine_load.specs.LoadReport.{load_report}
 use Rattle.machine_load.specs.Step.{reading}
 use Rattle.machine_load.specs.declared.fault.LoadFault.{LoadFault}
@@ -46,18 +47,16 @@ load_reported tells told_of plan options before after between first last writabl
 }
 
 -- a load whose report failed
-pub load_untold : {K : Type 0} (tells : KeeperTells K) (plan : PlanValue) (options : LoadOptions) (before after : Setting) (between : Around) (first : Core) (writable : Bool) (finish : Finish) (fault : LoadFault)
+pub load_untold : {K : Type 0} (tells : KeeperTells K) (plan : PlanValue) (options : LoadOptions) (before after : Setting) (between : Around) (first : Core) (writable : Bool) (finish : Finish)
     → Asks before.around between (reading writable ∷ []) → KeepsRecord before.around between → IsOpening before.around.record_text plan options first
-    → IsLived tells writable first between after.around finish → IsReportFault before.out after.out (load_report finish.last finish.stop) fault
-    → fault ≡ WriteOutput → IsLoadUntold tells plan options before after
-load_untold tells plan options before after between first writable finish fault read same opened lived fails is =
-    let cut = subst (IsReportFault before.out after.out (load_report finish.last finish.stop)) is fails in
-    record {
-      finish = finish;
-      lived = record { first = first; writable = writable; between = between; read_first = read; record_read = same; opened = opened; life = lived };
-      missing = cut.0;
-      reported = cut.1;
-    }
+    → IsLived tells writable first between after.around finish → WritesPrefix before.out after.out (load_report finish.last finish.stop)
+    → IsLoadUntold tells plan options before after
+load_untold tells plan options before after between first writable finish read same opened lived fails = record {
+  finish = finish;
+  lived = record { first = first; writable = writable; between = between; read_first = read; record_read = same; opened = opened; life = lived };
+  missing = fails.0;
+  reported = fails.1;
+}
 
 -- a life that does not open, or comes to no line or no record, is no report that fails
 pub unopened_told : {A : Type 0} (plan : PlanValue) (before after : Around) (fault : LoadFault) → IsOpeningFault plan before after fault → fault ≡ WriteOutput → A

@@ -2,13 +2,14 @@
 use Rattle.std.proofs.Common.{◌≡◌, ℕ, Bool, true, false, List, Option, Result, Ok, Err, IfErr, IfOk, IsErrAnd, [], ◌∷◌, inr, inl, refl, sym, subst}
 use Rattle.std.proofs.KnownBytes.{Keeps-refl, Keeps-trans}
 use Rattle.tape_image.specs.Plan.{PlanValue}
+use Rattle.byte_io.specs.Output.{WritesPrefix}
 use Rattle.host_core.specs.Core.{Core}
 use Rattle.load_engine.specs.declared.stop.Stop.{Stop}
 use Rattle.machine_load.specs.Step.{reading, Connect as Connected, begin_step}
 use Rattle.machine_load.proofs.Steps.{gains_more, gains_nothing}
 use Rattle.machine_load.specs.Load.{Around, Setting, Asks, KeepsRecord, IsLoad}
 use Rattle.machine_load.specs.LoadReport.{load_report}
-use Rattle.machine_load.specs.LoadFault.{IsLoadFault, IsOpeningFault, IsDrivingFault, IsReportFault, fault_of_record}
+use Rattle.machine_load.specs.LoadFault.{IsLoadFault, IsOpeningFault, IsDrivingFault, fault_of_record}
 use Rattle.record_file.specs.RecordFault.{IsUnbegun}
 use Rattle.machine_load.specs.declared.options.LoadOptions.{LoadOptions}
 use Rattle.record_file.specs.declared.record_fault.RecordFault.{RecordFault}
@@ -30,15 +31,9 @@ of_opening plan options before after out WriteRecord fails same = absurd fails
 of_opening plan options before after out WriteOutput fails same = absurd fails
 
 -- a report that fails is that of the load
-pub of_report : (plan : PlanValue) (options : LoadOptions) (before after : Setting) (last : Core) (stop : Stop) (fault : LoadFault)
-    → IsLoad plan options before.around after.around last stop → IsReportFault before.out after.out (load_report last stop) fault → IsLoadFault plan options before after fault
-of_report plan options before after last stop WriteOutput load fails = record { last = last; stop = stop; load = load; missing = fails.0; reported = fails.1 }
-of_report plan options before after last stop Memory load fails = inr (inr (inr (record { last = last; stop = stop; load = load; nothing_reported = fails })))
-of_report plan options before after last stop ReadRecord load fails = absurd fails
-of_report plan options before after last stop RecordInUse load fails = absurd fails
-of_report plan options before after last stop (Record why) load fails = absurd fails
-of_report plan options before after last stop Connect load fails = absurd fails
-of_report plan options before after last stop WriteRecord load fails = absurd fails
+pub of_report : (plan : PlanValue) (options : LoadOptions) (before after : Setting) (last : Core) (stop : Stop)
+    → IsLoad plan options before.around after.around last stop → WritesPrefix before.out after.out (load_report last stop) → IsLoadFault plan options before after WriteOutput
+of_report plan options before after last stop load fails = record { last = last; stop = stop; load = load; missing = fails.0; reported = fails.1 }
 
 -- an opened life over a record that may be written comes to nothing, before anything is reported
 of_busy : (plan : PlanValue) (options : LoadOptions) (before between after : Around) (out : Option (List ℕ)) (fault : LoadFault)
@@ -53,7 +48,7 @@ of_busy plan options before between after out WriteRecord read same (inl protect
 of_busy plan options before between after out WriteRecord read same (inr unbegun) =
     inr (record { steps_are = gains_more _ _ _ _ _ read unbegun.1; nothing_reported = Keeps-refl out })
 of_busy plan options before between after out Memory read same fails =
-    inr (inr (inl (record { steps_are = gains_more _ _ _ _ _ read fails.1; nothing_reported = Keeps-refl out })))
+    inr (record { steps_are = gains_more _ _ _ _ _ read fails.1; nothing_reported = Keeps-refl out })
 of_busy plan options before between after out ReadRecord read same fails = absurd fails
 of_busy plan options before between after out RecordInUse read same fails = absurd fails
 of_busy plan options before between after out (Record why) read same fails = absurd fails

@@ -1,5 +1,5 @@
 -- What a load asks of the network: its console is dialled once, or not at all.
-use Rattle.std.specs.Prelude.{◌≡◌, ◌⊎◌, List, [], ◌∷◌, Option, Some, None}
+use Rattle.std.specs.Prelude.{◌⊎◌, List, [], ◌∷◌, Option, Some, None}
 use Rattle.load_devices.specs.Told.{Gains}
 use Rattle.stream_line.specs.Dialling.{NetRequest, Call, Dialled, asked_once}
 use Rattle.machine_load.specs.declared.fault.LoadFault.{LoadFault}

@@ -5,10 +5,7 @@ use Rattle.tape_image.specs.Plan.{PlanValue}
 use Rattle.load_record.specs.declared.reader.RecordError.{RecordError}
 use Rattle.load_record.specs.Reading.{Says}
 use Rattle.load_record.specs.declared.reader.RecordError.TheVariants.{NotARecord}
-use Rattle.byte_io.specs.Output.{WritesAllBut}
-use Rattle.host_core.specs.Core.{Core}
-use Rattle.load_engine.specs.declared.stop.Stop.{Stop}
-use Rattle.machine_load.specs.Load.{Around, Setting, Asks, KeepsRecord, IsRecordText, IsLoad, IsCutShort}
+use Rattle.machine_load.specs.Load.{Around, Setting, Asks, KeepsRecord, IsRecordText, IsCutShort}
 use Rattle.record_file.specs.OldRecord.{HoldsNoRecord}
 use Rattle.machine_load.specs.Step.{Step, reading, ReadProtected, Connect, InUse, NotRead, NotConnected, NotBegun, OutOfMemory}
 use Rattle.machine_load.specs.declared.options.LoadOptions.{LoadOptions}
@@ -54,12 +51,6 @@ IsDrivingFault writable before after WriteRecord =
 IsDrivingFault writable before after Memory = (writable ≡ true) × Asks before after (Connect ∷ OutOfMemory ∷ [])
 IsDrivingFault writable before after other = ⊥
 
--- how a report fails: something of it may be missing, or there was no memory for it, and nothing was written
-abbrev pub IsReportFault : Option (List ℕ) → Option (List ℕ) → List ℕ → LoadFault → Type 0
-IsReportFault out out' report WriteOutput = (missing : List ℕ) × WritesAllBut out out' report missing
-IsReportFault out out' report Memory = Untouched out out'
-IsReportFault out out' report other = ⊥
-
 -- so far was gone, with nothing reported
 pub record StopsSilently (before after : Setting) (done : List Step) : Type 0 where
   pub steps_are : Asks before.around after.around done
@@ -75,18 +66,9 @@ pub record StopsAfter (before after : Setting) (done : List Step) : Type 0 where
 abbrev pub StopsAfterReading : Setting → Setting → Type 0
 StopsAfterReading before after = (writable : Bool) × StopsAfter before after (reading writable ∷ [])
 
--- a load whose report had no room, and was not begun
-pub record IsUnreported (plan : PlanValue) (options : LoadOptions) (before after : Setting) : Type 0 where
-  pub last : Core
-  pub stop : Stop
-  pub load : IsLoad plan options before.around after.around last stop
-  pub nothing_reported : Untouched before.out after.out
-
--- where memory may be wanting, with nothing reported: for the record, for the report's room, for the record begun anew, for the report
-abbrev pub IsWantOfMemory : PlanValue → LoadOptions → Setting → Setting → Type 0
-IsWantOfMemory plan options before after =
-    StopsAfter before after (OutOfMemory ∷ []) ⊎ StopsAfterReading before after ⊎ StopsSilently before after (reading true ∷ Connect ∷ OutOfMemory ∷ [])
-    ⊎ IsUnreported plan options before after
+-- where memory may be wanting, with nothing reported: for the record, and for the record begun anew, before the first key
+abbrev pub IsWantOfMemory : Setting → Setting → Type 0
+IsWantOfMemory before after = StopsAfter before after (OutOfMemory ∷ []) ⊎ StopsSilently before after (reading true ∷ Connect ∷ OutOfMemory ∷ [])
 
 -- how a load comes to nothing: a record that can't be read, is another load's at the time, is refused or is protected comes before the
 -- connection, a connection that can't be made before the record is touched, a record that can't be written before the first key, a report
@@ -99,4 +81,4 @@ IsLoadFault plan options before after LineNotConnected = StopsAfter before after
 IsLoadFault plan options before after WriteRecord =
     StopsAfter before after (ReadProtected ∷ []) ⊎ StopsSilently before after (reading true ∷ Connect ∷ NotBegun ∷ [])
 IsLoadFault plan options before after WriteOutput = IsCutShort plan options before after
-IsLoadFault plan options before after Memory = IsWantOfMemory plan options before after
+IsLoadFault plan options before after Memory = IsWantOfMemory before after

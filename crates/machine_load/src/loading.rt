@@ -1,5 +1,5 @@
 //! The load itself.
-ghost use Rattle.std.specs.Prelude.{◌≡◌, ◌≤◌, ◌⊎◌, true, length, [], ◌∷◌, None, Some, Ok, Err, IfOk, IfErr, IsSome, OnOk, option_map};
+ghost use Rattle.std.specs.Prelude.{◌≡◌, ◌≤◌, ◌⊎◌, true, length, [], ◌∷◌, None, Some, Ok, Err, IfOk, IfErr, IsSome, OnErr, OnOk, option_map};
 ghost use Rattle.std.specs.Io.KnownBytes.{Appends, Keeps};
 ghost use Rattle.host_core.specs.Bound.{character_bound};
 ghost use Rattle.host_core.specs.Core.{ended};
@@ -11,11 +11,12 @@ ghost use Rattle.load_engine.specs.Session.{KeepsMarkFirst, Session, TellsEnd};
 ghost use Rattle.host_core.specs.Opening.{refusal_of};
 ghost use Rattle.load_record.specs.Reading.{Says};
 ghost use Rattle.load_devices.specs.Told.{Gains};
+ghost use Rattle.byte_io.specs.Output.{WritesPrefix};
 ghost use Rattle.machine_load.specs.Called.{asked_by, IsAskedBefore};
 ghost use Rattle.stream_line.specs.Dialling.{asked_once};
 ghost use Rattle.machine_load.specs.Driving.{ending_of, finish_of, keeper_tells, line_told, IsDrivenLife, IsLived, IsLoadReported, IsLoadUntold};
 ghost use Rattle.machine_load.specs.Load.{around_of, setting, Asks, IsNeverBegun, IsOpening, IsReported, words_taken};
-ghost use Rattle.machine_load.specs.LoadFault.{IsLoadFault, IsOpeningFault, IsDrivingFault, IsReportFault};
+ghost use Rattle.machine_load.specs.LoadFault.{IsLoadFault, IsOpeningFault, IsDrivingFault};
 ghost use Rattle.machine_load.specs.LoadReport.{load_report};
 ghost use Rattle.record_file.specs.OldRecord.{HoldsNoRecord};
 ghost use Rattle.machine_load.specs.Step.{reading, Connect, BeginRecord, EndRecord};
@@ -23,9 +24,9 @@ ghost use Rattle.machine_load.specs.Step.{reading, Connect, BeginRecord, EndReco
 use crate::fault::LoadFault;
 use crate::options::LoadOptions;
 use crate::outcome::Outcome;
-use crate::report::put_load_report;
+use crate::report::load_report;
 use crate::surroundings::Surroundings;
-use byte_io::write_and_flush;
+use byte_io::{WriteFault, write_and_flush};
 use host_core::{HostCore, Progress};
 use load_devices::{Keep, Line, Onlooker};
 use load_engine::{Stop, drive};
@@ -37,9 +38,6 @@ use tape_image::Plan;
 
 // The most turns of a load.
 const TURNS: u64 = 10_000_000;
-
-// Room for the longest report, so that a load that is over needs no memory to say so.
-const REPORT_ROOM: usize = 128;
 
 /// Loads a plan through the console that the surroundings connect to, and reports how far that came.
 ///
@@ -53,7 +51,8 @@ const REPORT_ROOM: usize = 128;
 /// `ReadRecord`, `RecordInUse`, `Record` and `Connect` come with nothing reported and the record as it
 /// was, `WriteRecord` before the first key, and before the connection where the record is protected.
 /// `WriteOutput` is a report that could not be written whole. `Memory` comes only where a growth was
-/// refused.
+/// refused, for the record: before the first key, with nothing reported. From the first key on a load
+/// takes no memory.
 pub fn load<S: Surroundings, W: Write, O: Onlooker>(
     alloc: Global,
     plan: Plan,
@@ -85,9 +84,8 @@ pub fn load<S: Surroundings, W: Write, O: Onlooker>(
         (setting S.steps S.record_text W.contents around.new out.new)) }
 {
     let (core, writable) = open(alloc, plan, options, around)?;
-    let report = Vec::with_capacity(alloc, REPORT_ROOM)?;
     let lived = live(alloc, core, writable, around, onlooker)?;
-    tell(report, &lived.core, lived.stop, out)?;
+    tell(&lived.core, lived.stop, out)?;
     Ok(lived.outcome())
 }
 
@@ -268,18 +266,10 @@ fn drive_watched<L: Line + Drop, K: Keep + Drop, O: Onlooker>(
     (Driven { core, stop, line }, keeper)
 }
 
-// Reports a life, in a text that has the room.
-fn tell<W: Write>(
-    mut report: Vec<u8>,
-    core: &HostCore,
-    stop: Stop,
-    out: &mut W,
-) -> Result<(), LoadFault>
-    requires { report.items ≡ [] }
+// Reports a life.
+fn tell<W: Write>(core: &HostCore, stop: Stop, out: &mut W) -> Result<(), WriteFault>
     ensures ok { OnOk result (Appends (W.contents out.old) (W.contents out.new) (load_report core.now stop)) }
-    ensures err { IfErr result (IsReportFault (W.contents out.old) (W.contents out.new) (load_report core.now stop)) }
+    ensures err { OnErr result (WritesPrefix (W.contents out.old) (W.contents out.new) (load_report core.now stop)) }
 {
-    put_load_report(&mut report, core, stop)?;
-    write_and_flush(out, &report)?;
-    Ok(())
+    write_and_flush(out, &load_report(core, stop))
 }

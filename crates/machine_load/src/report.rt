@@ -1,54 +1,92 @@
 //! The report of a load.
-ghost use Rattle.std.specs.Prelude.{◌≡◌, ◌++◌, codes, OnOk};
+ghost use Rattle.std.specs.Prelude.{◌≡◌, ◌+◌, ◌≤◌, ◌++◌, [], codes, length};
+ghost use Rattle.arrayvec.specs.ArrayVec.{array_vec_len};
+ghost use Rattle.octal.specs.Octal.{octal_text};
+ghost use Rattle.host_core.specs.End.{end_name};
 ghost use Rattle.byte_io.specs.Text.{line};
 ghost use Rattle.machine_load.specs.LoadReport.{counts_text, load_report, stop_name};
 
-use host_core::HostCore;
+use arrayvec::ArrayVec;
+use byte_io::{push_bytes, push_decimal, push_octal};
+use host_core::{End, HostCore};
 use load_engine::Stop;
-use std::alloc::AllocError;
-use std::io::Write;
 
-/// Puts the report of a load at the end of a text: the counts of the host's life, and how the load
-/// stopped. The error is want of memory.
-pub fn put_load_report(text: &mut Vec<u8>, core: &HostCore, stop: Stop) -> Result<(), AllocError>
-    ensures { OnOk result (text.new.items ≡ text.old.items ++ load_report core.now stop) }
+// Room for the longest report: its words, four numbers of 20 digits and the longest name of an end.
+const REPORT_ROOM: usize = 127;
+
+// A report, in room of its own: a load that is over needs no memory to say so.
+type Report = ArrayVec<u8, REPORT_ROOM>;
+
+/// The report of a load: the counts of the host's life, and how the load stopped.
+pub(crate) fn load_report(core: &HostCore, stop: Stop) -> Report
+    ensures { result.items ≡ load_report core.now stop }
 {
-    put_counts(text, core)?;
-    put_stop(text, stop)
+    let mut text = Report::new();
+    push_counts(&mut text, core);
+    push_stop(&mut text, stop);
+    text
 }
 
-fn put_counts(text: &mut Vec<u8>, core: &HostCore) -> Result<(), AllocError>
-    ensures { OnOk result (text.new.items ≡ text.old.items ++ line (counts_text core.now)) }
+fn push_counts(text: &mut Report, core: &HostCore)
+    requires { text.old.items ≡ [] }
+    ensures items { text.new.items ≡ line (counts_text core.now) }
+    ensures length { array_vec_len text.new ≤ 107 }
 {
-    let (sent, spent) = (core.sent_count(), core.spent());
-    let (verified, words) = (core.progress().verified, core.plan().words().len());
-    match writeln!(
-        text,
-        "sent {sent} spent {spent} verified {verified} of {words}"
-    ) {
-        Ok(()) => Ok(()),
-        Err(_) => Err(AllocError),
-    }
+    push_bytes(text, b"sent ");
+    push_decimal(text, core.sent_count());
+    push_bytes(text, b" spent ");
+    push_decimal(text, core.spent().into());
+    push_bytes(text, b" verified ");
+    push_decimal(text, core.progress().verified.into());
+    push_bytes(text, b" of ");
+    push_decimal(text, core.plan().words().len() as u64);
+    push_bytes(text, b"\n");
 }
 
-fn put_stop(text: &mut Vec<u8>, stop: Stop) -> Result<(), AllocError>
-    ensures { OnOk result (text.new.items ≡ text.old.items ++ line (codes "end " ++ stop_name stop)) }
+fn push_stop(text: &mut Report, stop: Stop)
+    requires { array_vec_len text.old ≤ 107 }
+    ensures { text.new.items ≡ text.old.items ++ line (codes "end " ++ stop_name stop) }
 {
-    text.extend_from_slice(b"end ")?;
-    put_stop_name(text, stop)?;
-    text.extend_from_slice(b"\n")
+    push_bytes(text, b"end ");
+    push_stop_name(text, stop);
+    push_bytes(text, b"\n");
 }
 
-fn put_stop_name(text: &mut Vec<u8>, stop: Stop) -> Result<(), AllocError>
-    ensures { OnOk result (text.new.items ≡ text.old.items ++ stop_name stop) }
+fn push_stop_name(text: &mut Report, stop: Stop)
+    requires { array_vec_len text.old ≤ 111 }
+    ensures items { text.new.items ≡ text.old.items ++ stop_name stop }
+    ensures length { array_vec_len text.new ≤ array_vec_len text.old + 15 }
 {
     match stop {
-        Stop::Ended(end) => match write!(text, "{end}") {
-            Ok(()) => Ok(()),
-            Err(_) => Err(AllocError),
-        },
-        Stop::LineFailed(_) => text.extend_from_slice(b"LineFailed"),
-        Stop::KeepFailed(_) => text.extend_from_slice(b"KeepFailed"),
-        Stop::TurnsOver => text.extend_from_slice(b"TurnsOver"),
+        Stop::Ended(end) => push_end_name(text, end),
+        Stop::LineFailed(_) => push_bytes(text, b"LineFailed"),
+        Stop::KeepFailed(_) => push_bytes(text, b"KeepFailed"),
+        Stop::TurnsOver => push_bytes(text, b"TurnsOver"),
     }
+}
+
+fn push_end_name(text: &mut Report, end: End)
+    requires { array_vec_len text.old ≤ 111 }
+    ensures items { text.new.items ≡ text.old.items ++ end_name end }
+    ensures length { array_vec_len text.new ≤ array_vec_len text.old + 15 }
+{
+    match end {
+        End::Loaded => push_bytes(text, b"Loaded"),
+        End::Started => push_bytes(text, b"Started"),
+        End::Uncertain => push_bytes(text, b"Uncertain"),
+        End::MaybeStarted => push_bytes(text, b"MaybeStarted"),
+        End::GaveUp => push_bytes(text, b"GaveUp"),
+        End::NoWord(address) => push_address(text, b"NoWord ", address),
+        End::WontHold(address) => push_address(text, b"WontHold ", address),
+    }
+}
+
+// The name of an end, and the address that it has.
+fn push_address(text: &mut Report, name: &[u8], address: u16)
+    requires { array_vec_len text.old + length name.now ≤ 120 }
+    ensures items { text.new.items ≡ text.old.items ++ (name.now ++ octal_text address) }
+    ensures length { array_vec_len text.new ≡ array_vec_len text.old + length name.now + 6 }
+{
+    push_bytes(text, name);
+    push_octal(text, address);
 }

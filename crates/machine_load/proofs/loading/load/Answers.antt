@@ -1,6 +1,5 @@
-use Rattle.std.proofs.Common.{inl, inr, sym, subst, option_map}
-use Rattle.std.proofs.KnownBytes.{Keeps-refl}
-use Rattle.machine_load.specs.declared.fault.LoadFault.TheVariants.{Memory}
+use Rattle.std.proofs.Common.{sym, subst, option_map}
+use Rattle.machine_load.specs.declared.fault.LoadFault.TheVariants.{WriteOutput}
 use Rattle.machine_load.specs.Driving.{finish_of, keeper_tells, line_told}
 use Rattle.machine_load.specs.Load.{around_of, setting, IsReported}
 use Rattle.machine_load.specs.LoadFault.{IsLoadFault}
@@ -21,18 +20,6 @@ returns-in_err-core-clause-fault g c =
     c.from_residual.ensures.1
     (of_opening _ _ _ _ _ c.in_err-core.field-0.0 c.in_err-core.ensures.fault c.open.ensures.same)
 
-pub returns-in_err-report-clause-reported : goal.returns-in_err-report-clause-reported
-returns-in_err-report-clause-reported g c = no_value c.from_residual-in_err-report.result _ _ c.from_residual-in_err-report.ensures.1
-
-pub returns-in_err-report-clause-fault : goal.returns-in_err-report-clause-fault
-returns-in_err-report-clause-fault g c =
-    error_is c.from_residual-in_err-report.result Memory
-    (IsLoadFault c.args.plan c.args.options
-    (setting g.S.Surroundings.steps g.S.Surroundings.record_text g.W.Write.contents c.args.around.now c.args.out.now)
-    (setting g.S.Surroundings.steps g.S.Surroundings.record_text g.W.Write.contents c.open.new.around c.args.out.now))
-    c.from_residual-in_err-report.ensures.1
-    (inr (inl (c.in_ok-core.writable, record { steps_are = c.in_ok-core.ensures.step; record_same = c.open.ensures.same; nothing_reported = Keeps-refl (g.W.Write.contents c.args.out.now) })))
-
 pub returns-in_err-lived-clause-reported : goal.returns-in_err-lived-clause-reported
 returns-in_err-lived-clause-reported g c = no_value c.from_residual-in_err-lived.result _ _ c.from_residual-in_err-lived.ensures.1
 
@@ -50,7 +37,7 @@ returns-in_err-tell-clause-reported g c = no_value c.from_residual-in_err-tell.r
 
 pub returns-in_err-tell-clause-fault : goal.returns-in_err-tell-clause-fault
 returns-in_err-tell-clause-fault g c =
-    error_is c.from_residual-in_err-tell.result c.in_err-tell.field-0.0
+    error_is c.from_residual-in_err-tell.result WriteOutput
     (IsLoadFault c.args.plan c.args.options
     (setting g.S.Surroundings.steps g.S.Surroundings.record_text g.W.Write.contents c.args.around.now c.args.out.now)
     (setting g.S.Surroundings.steps g.S.Surroundings.record_text g.W.Write.contents c.live.new.around c.tell.new.out))
@@ -58,7 +45,7 @@ returns-in_err-tell-clause-fault g c =
     (of_report _ _
     (setting g.S.Surroundings.steps g.S.Surroundings.record_text g.W.Write.contents c.args.around.now c.args.out.now)
     (setting g.S.Surroundings.steps g.S.Surroundings.record_text g.W.Write.contents c.live.new.around c.tell.new.out)
-    c.in_ok-lived.lived.core c.in_ok-lived.lived.stop c.in_err-tell.field-0.0 (record {
+    c.in_ok-lived.lived.core c.in_ok-lived.lived.stop (record {
       first = c.in_ok-core.core;
       writable = c.in_ok-core.writable;
       between = around_of g.S.Surroundings.steps g.S.Surroundings.record_text c.open.new.around;
@@ -113,10 +100,6 @@ returns-in_err-core-clause-untold g c =
     (around_of g.S.Surroundings.steps g.S.Surroundings.record_text c.open.new.around)
     c.in_err-core.field-0.0 c.in_err-core.ensures.fault)
 
-pub returns-in_err-report-clause-untold : goal.returns-in_err-report-clause-untold
-returns-in_err-report-clause-untold g c =
-    error_is c.from_residual-in_err-report.result Memory _ c.from_residual-in_err-report.ensures.1 (λ is. absurd (cc is))
-
 pub returns-in_err-lived-clause-untold : goal.returns-in_err-lived-clause-untold
 returns-in_err-lived-clause-untold g c =
     error_is c.from_residual-in_err-lived.result c.in_err-lived.field-0.0 _ c.from_residual-in_err-lived.ensures.1
@@ -127,8 +110,8 @@ returns-in_err-lived-clause-untold g c =
 
 pub returns-in_err-tell-clause-untold : goal.returns-in_err-tell-clause-untold
 returns-in_err-tell-clause-untold g c =
-    error_is c.from_residual-in_err-tell.result c.in_err-tell.field-0.0 _ c.from_residual-in_err-tell.ensures.1
-    (load_untold
+    error_is c.from_residual-in_err-tell.result WriteOutput _ c.from_residual-in_err-tell.ensures.1
+    (λ _. load_untold
     (keeper_tells g.S.Keeper.Keep.told g.S.Keeper.Keep.fault_count g.S.Keeper.Keep.last_fault g.S.Keeper.Keep.keeps g.S.Keeper.Keep.fails g.S.Surroundings.begins g.S.Surroundings.kept_text)
     c.args.plan c.args.options
     (setting g.S.Surroundings.steps g.S.Surroundings.record_text g.W.Write.contents c.args.around.now c.args.out.now)
@@ -136,7 +119,6 @@ returns-in_err-tell-clause-untold g c =
     (around_of g.S.Surroundings.steps g.S.Surroundings.record_text c.open.new.around)
     c.in_ok-core.core c.in_ok-core.writable
     (finish_of c.in_ok-lived.lived.core c.in_ok-lived.lived.stop (option_map (line_told g.S.Line.Line.told g.S.Line.Line.fault_count g.S.Line.Line.last_fault) c.in_ok-lived.lived.line))
-    c.in_err-tell.field-0.0
     c.in_ok-core.ensures.step c.open.ensures.same c.in_ok-core.ensures.opened c.in_ok-lived.ensures.lived c.in_err-tell.ensures.err)
 
 pub returns-clause-line : goal.returns-clause-line

@@ -1,13 +1,15 @@
-"""What the pages say of endings, statuses, functions and clauses: that they say the same as one another, as the
+"""What the pages say of endings, statuses, options, functions and clauses: that they say the same as one another, as the
 program's help and as the crates. And that what they show to be pasted into a shell can be pasted."""
+import contextlib
 import glob
 import os
 import re
 import subprocess
 import unittest
+from concurrent.futures import ThreadPoolExecutor
 
 from common import Case
-from outside import HELLO, PROGRAM, TOP, run
+from outside import FIRST, HELLO, PROGRAM, TOP, run
 
 ROW = re.compile(r"^\|(.*)\|$", re.MULTILINE)
 ENDS = re.compile(r"\b(Loaded|Started|Uncertain|MaybeStarted|GaveUp|NoWord|WontHold|TurnsOver|LineFailed|KeepFailed|Same|Differs|Saved"
@@ -50,6 +52,24 @@ def commands():
 # Endings whose status a command's help gives in other words: the line or the record failed.
 NOT_IN_HELP = {"LineFailed", "KeepFailed"}
 
+# Whose endings ENDINGS has as those of `all`.
+AT_A_MACHINE = {"load", "verify", "save", "probe"}
+
+# Where the crates have how something ends.
+END_TYPES = {
+    "crates/host_core/src/phase.rt": "End",
+    "crates/load_engine/src/stop.rt": "Stop",
+    "crates/machine_look/src/verify_end.rt": "VerifyEnd",
+    "crates/machine_look/src/save_end.rt": "SaveEnd",
+    "crates/probe_report/src/probe_end.rt": "ProbeEnd",
+}
+
+
+def cases_of(file, name):
+    """The cases of an enum of the crates."""
+    body = re.search(rf"^pub enum {name} \{{\n(.*?)^\}}", text_at(file), re.MULTILINE | re.DOTALL)[1]
+    return set(re.findall(r"^    (\w+)\b", body, re.MULTILINE))
+
 
 class Endings(Case):
     """docs/ENDINGS.md has all; the others say the same in short."""
@@ -57,11 +77,12 @@ class Endings(Case):
     def setUp(self):
         super().setUp()
         self.page = text_at("docs/ENDINGS.md")
-        self.ends = {}
+        self.ends, self.commands_of = {}, {}
         for cells in rows_of(section(self.page, "## Endings")):
             name = re.match(r"`end (\w+)", cells[0])
             if name:
                 self.ends[name[1]] = int(cells[-1])
+                self.commands_of[name[1]] = AT_A_MACHINE if cells[1] == "all" else set(re.findall(r"`(\w+)`", cells[1]))
         self.statuses = {int(cells[0]): cells[1] for cells in rows_of(section(self.page, "## Statuses")) if cells[0].isdecimal()}
 
     def test_each_ending_has_a_status_that_is_one(self):
@@ -71,12 +92,18 @@ class Endings(Case):
             for end in ENDS.findall(when):
                 self.is_so((end, self.ends[end]), (end, status))
 
+    def test_each_ending_of_the_crates_is_one(self):
+        cases = set().union(*(cases_of(file, name) for file, name in END_TYPES.items()))
+        self.is_so(cases - {"Ended"}, set(self.ends) - {"none"})
+
     def test_help_says_the_same(self):
         named = set()
         for command in commands():
             with self.subTest(command):
                 said = statuses_in(run([command, "--help"]).out)
                 self.is_so(said, {end: self.ends.get(end) for end in said})
+                if command in AT_A_MACHINE:
+                    self.is_so(set(said), {end for end, its in self.commands_of.items() if command in its} - NOT_IN_HELP)
                 named |= set(said)
         self.is_so(named, set(self.ends) - {"none"} - NOT_IN_HELP)
         whole = run(["--help"]).out
@@ -115,9 +142,58 @@ class Endings(Case):
         page = text_at("docs/ldaodt.1")
         told = re.findall(r"`(ldaodt: [^`]*)`", "\n".join(cells[0] for cells in rows_of(section(self.page, "## Faults"))))
         self.assertGreater(len(told), 12)
-        for fault in told:
-            if not fault.startswith("ldaodt: tape K"):
-                self.assertIn(f'.It Li "{fault}"\n', page)
+        self.is_so(set(re.findall(r'^\.It Li "(ldaodt: .*)"$', page, re.MULTILINE)), {it for it in told if not it.startswith("ldaodt: tape K")})
+
+
+class Options(Case):
+    """What README, help and the manual page say of each command's words and options."""
+
+    def setUp(self):
+        super().setUp()
+        self.helps = {command: run([command, "--help"]).out for command in commands()}
+
+    def words_and_options(self):
+        """Of each command, as its help has them: the words behind its name, and what each option takes, in capitals."""
+        found = {}
+        for command, text in self.helps.items():
+            words = re.search(rf"^Usage: ldaodt {command}(.*)$", text, re.MULTILINE)[1].replace("[OPTIONS]", "")
+            options = re.findall(r"^ +(?:-\w, )?--([\w-]+)(?: <(\w+)>)?", text.split("Options:\n")[1].split("\n\n")[0], re.MULTILINE)
+            found[command] = re.findall(r"\w+", words), {name: value for name, value in options if name != "help"}
+        return found
+
+    def test_readme_says_the_same(self):
+        found = {}
+        for cells in rows_of(text_at("README.md")):
+            command = re.fullmatch(r"`ldaodt (\w+)(.*)`", cells[0])
+            if command:
+                found[command[1]] = re.findall(r"\w+", command[2]), dict(re.findall(r"`--([\w-]+)(?: (\w+))?`", cells[1]))
+        self.is_so(found, self.words_and_options())
+
+    def test_the_manual_page_says_the_same(self):
+        page = text_at("docs/ldaodt.1").split(".Sh SYNOPSIS")[1].split(".Sh ")[0]
+        found = {}
+        for command, text in re.findall(r"^\.Cm (\w+)\n(.*?)(?=^\.Nm|\Z)", page, re.MULTILINE | re.DOTALL):
+            options = re.findall(r"Fl -([\w-]+)(?: Ar (\w+))?", text)
+            words = re.findall(r"^\.(?:Ar|Op Ar) (\w+)", text, re.MULTILINE)
+            found[command] = [it.upper() for it in words], {name: value.upper() for name, value in options}
+        self.is_so(found, self.words_and_options())
+
+    def test_the_manual_page_has_the_same_ranges(self):
+        page = text_at("docs/ldaodt.1").split(".Sh DESCRIPTION")[1].split(".Sh ")[0]
+        entries = re.findall(r"^\.It Fl -([\w-]+).*\n((?:(?!\.It|\.El).*\n)*)", page, re.MULTILINE)
+        compared = 0
+        for command, text in self.helps.items():
+            for name, said in re.findall(r"^ +--([\w-]+)(.*\n(?: {12,}.*\n)*)", text, re.MULTILINE):
+                flat = " ".join(said.split())
+                bounds = re.findall(r"(\d+) to (\d+)", flat)
+                default = re.findall(r"\[default: (\d+)\]", flat)
+                told = [" ".join(it.split()) for its_name, it in entries if its_name == name]
+                for low, high in bounds:
+                    self.assertTrue(any(re.search(rf"\b{low} to {high}\b", it) for it in told), f"{command} --{name}: {low} to {high}")
+                for it in default:
+                    self.assertTrue(any(re.search(rf"\b[Bb]y default (?:it is |all )?{it}\b", one) for one in told), f"{command} --{name}: {it}")
+                compared += len(bounds) + len(default)
+        self.assertGreater(compared, 15)
 
 
 class Crates(Case):
@@ -192,56 +268,81 @@ class Links(unittest.TestCase):
                     with self.subTest(os.path.relpath(page, TOP), target=target):
                         self.assertTrue(os.path.exists(os.path.join(os.path.dirname(page), target)))
 
+    def test_each_step_and_heading_that_is_named_behind_a_link_is_there(self):
+        """As `[LINE.md](LINE.md), "The bridge"`, and `step 4`."""
+        named = 0
+        for page in glob.glob(f"{TOP}/docs/*.md"):
+            with open(page, encoding="utf-8") as file:
+                text = file.read()
+            for target, step, heading in re.findall(r'\]\(([\w-]+\.md)\),? \(?(?:step (\d+)|"([^"\n]+)")', text):
+                named += 1
+                wanted = rf"^##+ {step}\. " if step else rf"^##+ (?:\d+\. )?{re.escape(heading)}$"
+                with self.subTest(os.path.relpath(page, TOP), target=target):
+                    self.assertRegex(text_at(f"docs/{target}"), re.compile(wanted, re.MULTILINE))
+        self.assertGreater(named, 10)
+
 
 class Pasting(Case):
-    """Blocks that are shown to be pasted into a shell, as they stand, with a simulated machine for the device."""
+    """Blocks that are shown to be pasted into a shell, as they stand, with a simulated machine for the device. They are
+    pasted side by side, each in a folder of its own."""
 
-    def setUp(self):
-        super().setUp()
-        self.put_tapes("first.lda")
+    def folder(self, number):
+        """A folder that has what a block names: the program, by its name alone too, the tapes, and a machine's console."""
+        room = self.path(str(number))
+        os.makedirs(f"{room}/bin")
         for name in ("ldaodt", "examples", "tools"):
-            os.symlink(f"{TOP}/{name}", self.path(name))
-        os.symlink(HELLO, self.path("program.lda"))
-        os.mkdir(self.path("bin"))
-        os.symlink(PROGRAM, self.path("bin/ldaodt"))
+            os.symlink(f"{TOP}/{name}", f"{room}/{name}")
+        os.symlink(PROGRAM, f"{room}/bin/ldaodt")
+        os.symlink(HELLO, f"{room}/program.lda")
+        os.symlink(FIRST, f"{room}/first.lda")
+        subprocess.run(["tools/machine", "./ttyUSB0"], cwd=room, check=True, stdout=subprocess.DEVNULL)
+        self.addCleanup(self.switch_off, room)
+        return room
 
-    def pastes(self, block):
-        """Asserts that each command of a block ends well and says nothing of a fault. What is only looked at was
-        loaded before."""
-        subprocess.run(["tools/machine", "./ttyUSB0"], cwd=self.room, check=True, stdout=subprocess.DEVNULL)
+    def switch_off(self, room):
+        """Ends the machines of a folder, which go with their links."""
+        for name in ("ttyUSB0", "lsi11"):
+            with contextlib.suppress(FileNotFoundError):
+                os.remove(f"{room}/{name}")
+
+    def paste(self, row):
+        """Pastes a block; returns its status and what it said on standard error. What is only looked at was loaded before."""
+        number, block = row
+        room = self.folder(number)
         if "verify" in block and "load" not in block:
-            loaded = self.ldaodt("load first.lda ./ttyUSB0 --no-start --quiet 200")
+            loaded = run("load first.lda ./ttyUSB0 --no-start --quiet 300".split(), cwd=room)
             self.is_so((loaded.status, loaded.err), (0, ""))
         text = block.replace("/dev/ttyUSB0", "./ttyUSB0").replace("--listen 10", "--listen 1")
-        env = {**os.environ, "PATH": f"{self.room}/bin:{os.environ['PATH']}"}
-        ran = subprocess.run(["bash", "-e"], input=text, text=True, cwd=self.room, env=env, capture_output=True, timeout=120)
-        self.is_so((block, ran.returncode, ran.stderr), (block, 0, ""))
-        for name in ("ttyUSB0", "lsi11", "before.lda", "memory.lda", *glob.glob(self.path("*.record"))):
-            if os.path.lexists(self.path(name)):
-                os.remove(self.path(name))
+        env = {**os.environ, "PATH": f"{room}/bin:{os.environ['PATH']}"}
+        ran = subprocess.run(["bash", "-e"], input=text, text=True, cwd=room, env=env, capture_output=True, timeout=120)
+        return ran.returncode, ran.stderr
+
+    def paste_all(self, blocks):
+        """Asserts that each command of each block ends well and says nothing of a fault."""
+        with ThreadPoolExecutor(len(blocks)) as pool:
+            for block, ended in zip(blocks, pool.map(self.paste, enumerate(blocks))):
+                with self.subTest(block):
+                    self.is_so(ended, (0, ""))
 
     def test_the_blocks_of_the_pages(self):
         blocks = re.findall(r"^```sh\n(.*?)^```$", "".join(map(text_at, ("README.md", "docs/REAL-MACHINE.md", "examples/README.md"))),
                             re.MULTILINE | re.DOTALL)
         self.assertGreaterEqual(len(blocks), 4)
-        for block in blocks:
-            self.pastes(block)
+        self.paste_all(blocks)
 
     def test_the_examples_of_help(self):
+        blocks = []
         for command in ["", *commands()]:
             examples = run([*command.split(), "--help"]).out.split("Example")[1:]
             self.assertTrue(examples, command)
-            for text in examples:
-                with self.subTest(command):
-                    self.pastes("".join(f"{it[2:]}\n" for it in text.split("\n")[1:] if it.startswith("  ")))
+            blocks.extend("".join(f"{it[2:]}\n" for it in text.split("\n")[1:] if it.startswith("  ")) for text in examples)
+        self.paste_all(blocks)
 
     def test_the_examples_of_the_manual_page(self):
         page = text_at("docs/ldaodt.1").split(".Sh EXAMPLES")[1].split(".Sh DIAGNOSTICS")[0].replace("\\e", "\\")
         blocks = re.findall(r"^\.Dl (\$ .*\n)", page, re.MULTILINE) + re.findall(r"^\.Bd -literal.*?\n(.*?)^\.Ed", page, re.MULTILINE | re.DOTALL)
         self.assertGreaterEqual(len(blocks), 4)
-        for block in blocks:
-            with self.subTest(block):
-                self.pastes(re.sub(r"^\$ ", "", block, flags=re.MULTILINE).replace("0 157776", "0 176"))
+        self.paste_all([re.sub(r"^\$ ", "", it, flags=re.MULTILINE).replace("0 157776", "0 176") for it in blocks])
 
 
 if __name__ == "__main__":

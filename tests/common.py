@@ -180,7 +180,7 @@ class Case(unittest.TestCase):
     def ldaodt(self, words, keys=b"", **more):
         """Runs the program in the test's folder; words that stand in one text have no spaces in them."""
         words = words.split() if isinstance(words, str) else words
-        return run(words, keys, cwd=self.room, seconds=60, **more)
+        return run(words, keys, cwd=self.room, seconds=300, **more)
 
     def is_so(self, given, wanted):
         """Asserts that what came is what was wanted, and shows no more of either than a person would read: unittest

@@ -2,6 +2,8 @@
 said what is read."""
 import os
 import pty
+import re
+import signal
 import subprocess
 import time
 import unittest
@@ -15,6 +17,7 @@ SHOWN = "\r\x1b[?7l{}\x1b[K\x1b[?7h"
 LISTENING = SHOWN.format("0 of 1 words, 0%, listening")
 NO_WORD = SHOWN.format("0 of 1 words, 0%")
 CLEARED = "\r\x1b[K"
+GOING_ON = "going on behind 1 of 2 words, listening; power lost? use --recheck"
 STARTED = "sent 30 spent 0 verified 1 of 1\nend Started\n"
 
 
@@ -30,6 +33,36 @@ class SlowConsole(Console):
         if len(self.typed) > self.keys:
             time.sleep(0.15)
         return answer
+
+
+class Screen:
+    """A terminal of so many columns, as far as it is used here: which line the cursor is in, and what that shows."""
+
+    def __init__(self, columns):
+        self.columns, self.row, self.column, self.wraps = columns, 0, 0, True
+        self.line = ""
+
+    def show(self, text):
+        """Shows a text, of which each escape is one that is known here."""
+        for piece in re.findall(r"\x1b\[\??\d*[A-Za-z]|.", text, re.DOTALL):
+            if piece in ("\x1b[?7l", "\x1b[?7h"):
+                self.wraps = piece.endswith("h")
+            elif piece == "\x1b[K":
+                self.line = self.line[:self.column]
+            elif piece == "\r":
+                self.column = 0
+            elif piece >= " ":
+                self.print(piece)
+            else:
+                raise ValueError(repr(piece))
+
+    def print(self, character):
+        """Prints a character: behind the last column in the next line, or without that in the last column again."""
+        if self.column == self.columns and self.wraps:
+            self.row, self.column, self.line = self.row + 1, 0, ""
+        place = min(self.column, self.columns - 1)
+        self.line = self.line[:place] + character + self.line[place + 1:]
+        self.column = place + 1
 
 
 class Terminal(Case):
@@ -48,6 +81,43 @@ class Terminal(Case):
         self.assertTrue(shown.startswith(LISTENING), repr(shown))
         self.assertTrue(shown.endswith("\x1b[?7h" + CLEARED), repr(shown))
         self.assertNotIn("\n", shown)
+
+    def test_a_narrow_terminal(self):
+        """Whatever is shown stays in one line, nothing is left of it, and what is printed then wraps as before."""
+        self.put("a.record", b"LDAODT 2\n001000 031421")
+        machine = SlowConsole(6, memory={0o1002: 0o104})
+        given, shown = self.load_at_a_terminal(machine, "two-words.lda --record a.record", quiet=1000)
+        self.is_so(given.status, 0)
+        for columns, seen in ((20, "going on behind 1 of"), (40, "going on behind 1 of 2 words, listening"), (80, GOING_ON)):
+            screen, lines = Screen(columns), []
+            for one in shown.split("\r")[1:]:
+                screen.show(f"\r{one}")
+                lines.append(screen.line)
+            with self.subTest(columns):
+                self.assertEqual((screen.row, screen.line, screen.wraps), (0, "", True))
+                self.assertEqual(lines[0][:len(seen) - 1], seen[:-1])
+                self.assertLessEqual(max(map(len, lines)), columns)
+
+    def test_what_an_interrupt_leaves(self):
+        """One line, behind which a shell's prompt stands, and a terminal that wraps. It comes once the first key was typed."""
+        self.put_tapes("first.lda")
+        peer = self.console_at(DeafConsole())
+
+        def interrupted(terminal):
+            process = subprocess.Popen([PROGRAM, "load", "first.lda", peer.address, "--quiet", str(self.quiet)], cwd=self.room, stderr=terminal,
+                                       stdout=subprocess.PIPE, preexec_fn=lambda: signal.signal(signal.SIGINT, signal.SIG_DFL))
+            while not peer.machine.typed and process.poll() is None:
+                time.sleep(0.01)
+            process.send_signal(signal.SIGINT)
+            out, _ = process.communicate(timeout=60)
+            return process.returncode, out
+
+        ended, shown = self.at_a_terminal(interrupted)
+        self.is_so(ended, (-signal.SIGINT, b""))
+        self.assertTrue(shown.startswith(LISTENING), repr(shown))
+        screen = Screen(80)
+        screen.show(shown)
+        self.is_so((screen.row, screen.wraps), (0, True))
 
     def test_a_fault_stands_on_a_cleared_line(self):
         """The machine hangs up after `Z` and two characters of its answer."""
@@ -70,9 +140,8 @@ class Terminal(Case):
         machine = SlowConsole(6, memory={0o1002: 0o104})
         given, shown = self.load_at_a_terminal(machine, "two-words.lda --record a.record", quiet=1000)
         self.is_so((given.status, given.out), (0, "sent 16 spent 0 verified 2 of 2\nend Started\n"))
-        going_on = "going on behind 1 of 2 words, listening; power lost? use --recheck"
-        self.assertTrue(shown.startswith(SHOWN.format(going_on)), repr(shown))
-        self.is_so(shown.count(going_on), 1)
+        self.assertTrue(shown.startswith(SHOWN.format(GOING_ON)), repr(shown))
+        self.is_so(shown.count(GOING_ON), 1)
         self.assertTrue(shown.endswith(SHOWN.format("2 of 2 words, 100%, 0:00 left") + CLEARED), repr(shown))
 
     def test_a_word_that_can_not_be_kept_does_not_count(self):

@@ -269,7 +269,10 @@ class Device(Line):
     """A machine at a serial device: a pseudo-terminal, set by stty. A line that breaks is one that is hung up, as
     that of an adapter which is pulled out; the device is then gone."""
 
-    # How long the system may take to bring what was written at one end to the other.
+    # A character that no host types: what was typed before it has come when it comes.
+    LAST = b"\xff"
+
+    # Where that can't be typed: how long the system may take to bring what was written at one end to the other.
     TRANSIT = 0.05
 
     def __init__(self, machine, settings="raw -echo", **named):
@@ -279,6 +282,7 @@ class Device(Line):
         self.name = os.ttyname(self.theirs)
         self.set(settings)
         self.asks, self.asked = os.pipe()
+        self.is_last = False
         self.is_settled = threading.Event()
         self.is_gone = threading.Event()
         threading.Thread(target=self.serve, daemon=True).start()
@@ -300,12 +304,20 @@ class Device(Line):
     def receive(self, size):
         """Waits for keys; answers whoever asks whether there are none left; nothing once it is closed."""
         while True:
+            if self.is_last:
+                self.is_last = False
+                self.is_settled.set()
             ready, _, _ = select.select([self.ours, self.asks], [], [])
             if self.ours in ready:
-                return os.read(self.ours, size)
-            if os.read(self.asks, 1) == b"c":
+                keys = os.read(self.ours, size)
+                self.is_last = self.LAST in keys
+                keys = keys.replace(self.LAST, b"")
+                if keys or not self.is_last:
+                    return keys
+            elif os.read(self.asks, 1) == b"c":
                 return b""
-            self.is_settled.set()
+            else:
+                self.is_settled.set()
 
     def send(self, text):
         """Sends; a device at which nobody reads holds only so much, and the rest is lost, as on a real line."""
@@ -315,11 +327,26 @@ class Device(Line):
 
     def settle(self, seconds=60):
         """Waits until what was typed is taken and answered."""
-        time.sleep(self.TRANSIT)
         self.is_settled.clear()
-        if not self.is_gone.is_set():
+        if self.is_gone.is_set():
+            return
+        if not self.type_last():
+            time.sleep(self.TRANSIT)
             os.write(self.asked, b"s")
-            self.is_settled.wait(seconds)
+        self.is_settled.wait(seconds)
+
+    def type_last(self):
+        """Types that character, behind all that was typed; returns whether it could, since output may be stopped."""
+        try:
+            end = os.open(self.name, os.O_WRONLY | os.O_NOCTTY | os.O_NONBLOCK)
+        except OSError:
+            return False
+        try:
+            return os.write(end, self.LAST) == 1
+        except OSError:
+            return False
+        finally:
+            os.close(end)
 
     def hang_up(self):
         """Hangs up: the device is gone for whoever has it open."""

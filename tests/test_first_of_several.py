@@ -1,20 +1,15 @@
-"""Of several files that are missing, can't be read or are refused, which is named; of several addresses of a name,
-which is used.
+"""Of several files that are missing, can't be read or are refused, which is named.
 
 All files that the words name are opened in the order of the words, before any is read; then the tapes are read in
 their order, and last a script. The first fault of this row is the one that is told.
 """
 import os
-import subprocess
 import unittest
 
-from common import Case, Console
-from outside import PROGRAM, Answer, bytes_of
-
-import odt_peer
+from common import Case
+from outside import Answer
 
 GOOD, OTHER, BAD = "first.lda", "no-word.lda", "bad-sum.lda"
-STARTED = "sent 30 spent 0 verified 1 of 1\nend Started\n"
 BAD_SUM = "refused at 9: BadSum"
 
 # Words that name files, and what is told of them. `folder` opens, and then can't be read; m1 to m3 are not there.
@@ -85,40 +80,6 @@ class Files(Several):
     def test_rehearsals(self):
         for words, fault in REHEARSALS:
             self.told(f"rehearse {words}", fault)
-
-
-class Addresses(Several):
-    """Addresses."""
-
-    def loaded(self, address):
-        self.ends(self.ldaodt(f"load {GOOD} {address} --quiet {self.quiet}"), 0, STARTED)
-
-    def test_version_6(self):
-        try:
-            peer = odt_peer.Peer(Console(), host="::1")
-        except OSError as none:
-            self.skipTest(f"this computer has no ::1: {none}")
-        self.addCleanup(peer.close)
-        self.loaded(f"[::1]:{peer.port}")
-        self.assertEqual(peer.connections, 1)
-        self.ends(self.ldaodt(f"load {GOOD} 127.0.0.1:{peer.port}"), 4, "", f"ldaodt: cannot connect to 127.0.0.1:{peer.port}\n")
-
-    def test_an_unknown_name(self):
-        for name in ("no-such-name.invalid:23", "[::1]", "[::1:23", "256.0.0.1:23"):
-            self.ends(self.ldaodt(f"load {GOOD} {name}"), 4, "", f"ldaodt: cannot connect to {name}\n")
-
-    def test_a_name_with_several_addresses(self):
-        """Each is tried: a machine that listens at one of them is found, wherever that stands among them."""
-        self.put("hosts", b"127.0.0.1 localhost\n127.0.0.1 several\n127.0.0.2 several\n")
-        inside = ["unshare", "--user", "--map-root-user", "--mount", "sh", "-c", 'mount --bind hosts /etc/hosts && exec "$@"', "sh"]
-        if subprocess.run([*inside, "true"], cwd=self.room, capture_output=True).returncode:
-            self.skipTest("no name can be made here: unshare is not allowed")
-        for host in ("127.0.0.1", "127.0.0.2"):
-            peer = odt_peer.Peer(Console(), host=host)
-            self.addCleanup(peer.close)
-            words = [PROGRAM, "load", GOOD, f"several:{peer.port}", "--quiet", str(self.quiet)]
-            given = subprocess.run([*inside, *words], cwd=self.room, capture_output=True, text=True)
-            self.is_so((given.returncode, given.stdout, given.stderr, peer.connections), (0, STARTED, "", 1))
 
 
 if __name__ == "__main__":

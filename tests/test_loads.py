@@ -220,15 +220,6 @@ class Words(Loads):
             given = self.ldaodt(f"load first.lda 127.0.0.1:1 --record a.record {option}")
             self.ends(given, 6, "sent 0 spent 0 verified 1 of 1\nend MaybeStarted\n")
 
-    def test_a_name_in_place_of_the_address(self):
-        peer = self.console_at(Console())
-        given = self.ldaodt(f"load first.lda localhost:{peer.port} --quiet {self.quiet}")
-        self.ends(given, 0, STARTED)
-
-    def test_no_address(self):
-        for address in ("127.0.0.1:", ":", "127.0.0.1:65536", "127.0.0.1:x"):
-            self.ends(self.ldaodt(f"load first.lda {address}"), 4, "", f"ldaodt: cannot connect to {address}\n")
-
     def test_no_line(self):
         """What has neither `:` nor `/` is none, and nothing is opened."""
         for line in ("127.0.0.1", "ttyUSB0", "first.lda", "-"):

@@ -22,13 +22,13 @@ fault_of_shelf shelf_fault.IsThere = IsThere
 fault_of_shelf shelf_fault.Write = WriteTape
 fault_of_shelf shelf_fault.Memory = Memory
 
--- how `verify` comes to nothing: a console that can't be reached and want of memory before anything is written, a report that can't be
--- written whole last
+-- how `verify` comes to nothing: want of memory before the console is reached, a console that can't be reached before anything is written,
+-- a report that can't be written whole last
 abbrev pub IsVerifyFault : PlanValue → ℕ → LookTold → LookTold → LookFault → Type 0
 IsVerifyFault plan patience before after Connect =
     (ended (begun (addresses_of plan.words) [] patience).phase ≡ None) × TriesOnce None before.tries after.tries × Keeps before.out after.out
 IsVerifyFault plan patience before after WriteOutput = IsCutShort plan patience before after
-IsVerifyFault plan patience before after Memory = Keeps before.out after.out
+IsVerifyFault plan patience before after Memory = (after.tries ≡ before.tries) × Keeps before.out after.out
 IsVerifyFault plan patience before after other = ⊥
 
 -- room for the tape was refused, and nothing else was done

@@ -1,26 +1,23 @@
 //! The report of `save`.
-ghost use Rattle.std.specs.Prelude.{◌≡◌, ◌++◌, codes, OnOk};
+ghost use Rattle.std.specs.Prelude.{◌≡◌, ◌+◌, ◌≤◌, ◌++◌, [], codes};
+ghost use Rattle.arrayvec.specs.ArrayVec.{array_vec_len};
 ghost use Rattle.byte_io.specs.Text.{line};
 ghost use Rattle.machine_look.specs.SaveReport.{counts_text, end_name, save_end, save_report};
 
 use crate::save_end::SaveEnd;
-use crate::verify_report::{put_life, put_no_word};
+use crate::verify_report::{LastLines, push_life, push_no_word};
+use byte_io::{push_bytes, push_decimal};
 use reading_core::{End, ReadingCore};
 use reading_engine::Stop;
-use std::alloc::AllocError;
-use std::io::Write;
 
-/// Puts the report of a reading at the end of a text: the counts of the host's life, and how the reading
-/// ended. The error is want of memory.
-pub(crate) fn put_save_report(
-    text: &mut Vec<u8>,
-    core: &ReadingCore,
-    stop: Stop,
-) -> Result<(), AllocError>
-    ensures { OnOk result (text.new.items ≡ text.old.items ++ save_report core.now stop) }
+/// The report of a reading: the counts of the host's life, and how the reading ended.
+pub(crate) fn save_report(core: &ReadingCore, stop: Stop) -> LastLines
+    ensures { result.items ≡ save_report core.now stop }
 {
-    put_counts(text, core)?;
-    put_end(text, save_end(stop))
+    let mut text = LastLines::new();
+    push_counts(&mut text, core);
+    push_end(&mut text, save_end(stop));
+    text
 }
 
 /// How a reading ends whose words are saved.
@@ -36,33 +33,38 @@ pub(crate) fn save_end(stop: Stop) -> SaveEnd
     }
 }
 
-fn put_counts(text: &mut Vec<u8>, core: &ReadingCore) -> Result<(), AllocError>
-    ensures { OnOk result (text.new.items ≡ text.old.items ++ line (counts_text core.now)) }
+fn push_counts(text: &mut LastLines, core: &ReadingCore)
+    requires { text.old.items ≡ [] }
+    ensures items { text.new.items ≡ line (counts_text core.now) }
+    ensures length { array_vec_len text.new ≤ 103 }
 {
-    put_life(text, core)?;
-    let (read, words) = (core.values().len(), core.addresses().len());
-    match writeln!(text, " read {read} of {words}") {
-        Ok(()) => Ok(()),
-        Err(_) => Err(AllocError),
-    }
+    push_life(text, core);
+    push_bytes(text, b" read ");
+    push_decimal(text, core.values().len() as u64);
+    push_bytes(text, b" of ");
+    push_decimal(text, core.addresses().len() as u64);
+    push_bytes(text, b"\n");
 }
 
-fn put_end(text: &mut Vec<u8>, end: SaveEnd) -> Result<(), AllocError>
-    ensures { OnOk result (text.new.items ≡ text.old.items ++ line (codes "end " ++ end_name end)) }
+fn push_end(text: &mut LastLines, end: SaveEnd)
+    requires { array_vec_len text.old ≤ 103 }
+    ensures { text.new.items ≡ text.old.items ++ line (codes "end " ++ end_name end) }
 {
-    text.extend_from_slice(b"end ")?;
-    put_end_name(text, end)?;
-    text.extend_from_slice(b"\n")
+    push_bytes(text, b"end ");
+    push_end_name(text, end);
+    push_bytes(text, b"\n");
 }
 
-fn put_end_name(text: &mut Vec<u8>, end: SaveEnd) -> Result<(), AllocError>
-    ensures { OnOk result (text.new.items ≡ text.old.items ++ end_name end) }
+fn push_end_name(text: &mut LastLines, end: SaveEnd)
+    requires { array_vec_len text.old ≤ 107 }
+    ensures items { text.new.items ≡ text.old.items ++ end_name end }
+    ensures length { array_vec_len text.new ≤ array_vec_len text.old + 13 }
 {
     match end {
-        SaveEnd::Saved => text.extend_from_slice(b"Saved"),
-        SaveEnd::NoWord(address) => put_no_word(text, address),
-        SaveEnd::GaveUp => text.extend_from_slice(b"GaveUp"),
-        SaveEnd::TurnsOver => text.extend_from_slice(b"TurnsOver"),
-        SaveEnd::LineFailed(_) => text.extend_from_slice(b"LineFailed"),
+        SaveEnd::Saved => push_bytes(text, b"Saved"),
+        SaveEnd::NoWord(address) => push_no_word(text, address),
+        SaveEnd::GaveUp => push_bytes(text, b"GaveUp"),
+        SaveEnd::TurnsOver => push_bytes(text, b"TurnsOver"),
+        SaveEnd::LineFailed(_) => push_bytes(text, b"LineFailed"),
     }
 }

@@ -9,7 +9,7 @@ use crate::look_fault::LookFault;
 use crate::looking::look_over;
 use crate::range::AddressRange;
 use crate::save_end::SaveEnd;
-use crate::save_report::{put_save_report, save_end};
+use crate::save_report::{save_end, save_report};
 use crate::saved_tape::tape_of;
 use crate::shelf::Shelf;
 use byte_io::write_and_flush;
@@ -19,9 +19,6 @@ use reading_core::ReadingCore;
 use std::alloc::Global;
 use std::io::Write;
 use tape_blocks::write_tape;
-
-// Room for the longest report.
-const REPORT_ROOM: usize = 160;
 
 /// What is to be saved, and how.
 #[derive(Clone, Copy, Debug, PartialEq, Eq)]
@@ -44,8 +41,8 @@ pub struct SaveOptions {
 ///
 /// `IsThere` and `WriteTape` come before the console is reached, or where the tape can't be put there at
 /// the end. `Connect` comes before anything was sent. `WriteOutput` is a report that could not be written
-/// whole; the tape is where it belongs. `Memory` comes only where a growth was refused, with no tape put
-/// and nothing reported.
+/// whole; the tape is where it belongs. `Memory` comes only where a growth was refused, for the host, for the
+/// shelf or for the tape, with no tape put and nothing reported.
 pub fn save<S: Shelf, R: Reach, W: Write, O: Onlooker>(
     alloc: Global,
     options: SaveOptions,
@@ -63,12 +60,10 @@ pub fn save<S: Shelf, R: Reach, W: Write, O: Onlooker>(
 {
     let (from, to) = (options.range.from(), options.range.to());
     let core = ReadingCore::of_range(alloc, from, to, options.patience)?;
-    let mut report = Vec::with_capacity(alloc, REPORT_ROOM)?;
     shelf.reserve(alloc)?;
     let (core, stop) = look_over(core, console, onlooker)?;
-    put_save_report(&mut report, &core, stop)?;
     keep(alloc, from, core.values(), options.start, shelf)?;
-    write_and_flush(out, &report)?;
+    write_and_flush(out, &save_report(&core, stop))?;
     Ok(save_end(stop))
 }
 

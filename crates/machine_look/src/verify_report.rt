@@ -1,6 +1,8 @@
 //! The report of `verify`.
-ghost use Rattle.std.specs.Prelude.{◌≡◌, ◌≤◌, ◌++◌, ℕ, length, codes, IfOk, OnOk};
+ghost use Rattle.std.specs.Prelude.{◌≡◌, ◌+◌, ◌*◌, ◌≤◌, ◌++◌, [], length, codes};
 ghost use Rattle.std.specs.List.{flat_map};
+ghost use Rattle.std.specs.Vec.{vec_len, vec_capacity};
+ghost use Rattle.arrayvec.specs.ArrayVec.{array_vec_len};
 ghost use Rattle.octal.specs.Octal.{octal_text};
 ghost use Rattle.tape_image.specs.Memory.{most_words};
 ghost use Rattle.byte_io.specs.Text.{line};
@@ -8,42 +10,44 @@ ghost use Rattle.machine_look.specs.VerifyReport.{counts_text, difference_text, 
 
 use crate::difference::Difference;
 use crate::verify_end::VerifyEnd;
-use byte_io::put_octal;
-use octal::Octal;
+use arrayvec::ArrayVec;
+use byte_io::{push_bytes, push_decimal, push_octal, put_into_room};
 use reading_core::{End, ReadingCore};
 use reading_engine::Stop;
-use std::alloc::AllocError;
-use std::io::Write;
 
-// Room for a line of the longest report.
-const LINE_ROOM: usize = 37;
+// Room for the line of a difference: four words of six digits, what stands between them, and its end.
+const LINE_ROOM: usize = 36;
 
-// Room for its last two lines.
-const COUNTS_ROOM: usize = 160;
+// Room for the last two lines of a report: their words, five numbers of 20 digits and the longest name of an end.
+const LAST_ROOM: usize = 151;
+
+/// The last two lines of a report, in room of their own.
+pub(crate) type LastLines = ArrayVec<u8, LAST_ROOM>;
 
 /// How many bytes the report of so many words has at most.
 pub(crate) fn longest_report(words: usize) -> usize
     requires { words ≤ most_words }
+    ensures { result ≡ 36 * words + 151 }
 {
-    LINE_ROOM * words + COUNTS_ROOM
+    LINE_ROOM * words + LAST_ROOM
 }
 
-/// Puts the report of a reading that found these differences at the end of a text: a line for each, the
-/// counts of the host's life, and how it ended, which is answered. The error is want of memory.
+/// Puts the report of a reading that found these differences at the end of a text that has room for it: a
+/// line for each, the counts of the host's life, and how it ended, which is answered.
 pub(crate) fn put_verify_report(
     text: &mut Vec<u8>,
     found: &[Difference],
     core: &ReadingCore,
     stop: Stop,
-) -> Result<VerifyEnd, AllocError>
-    ensures text { OnOk result (text.new.items ≡ text.old.items ++ report_text found.now (length core.now.addresses) core.now stop) }
-    ensures end { IfOk result (λ end. end ≡ verify_end (length found.now) stop) }
+) -> VerifyEnd
+    requires room { vec_len text.old + 36 * length found.now + 151 ≤ vec_capacity text.old }
+    ensures text { text.new.items ≡ text.old.items ++ report_text found.now (length core.now.addresses) core.now stop }
+    ensures end { result ≡ verify_end (length found.now) stop }
 {
-    put_differences(text, found)?;
-    put_counts(text, core, found.len())?;
+    put_differences(text, found);
     let end = verify_end(found.len(), stop);
-    put_end(text, end)?;
-    Ok(end)
+    put_into_room(text, &last_lines(core, found.len(), end));
+    end
 }
 
 // How a reading ends with which so many words differ.
@@ -60,80 +64,102 @@ fn verify_end(differ: usize, stop: Stop) -> VerifyEnd
     }
 }
 
-fn put_differences(text: &mut Vec<u8>, found: &[Difference]) -> Result<(), AllocError>
-    ensures { OnOk result (text.new.items ≡ text.old.items ++ flat_map (λ d. line (difference_text d)) found.now) }
+fn put_differences(text: &mut Vec<u8>, found: &[Difference])
+    requires room { vec_len text.old + 36 * length found.now + 151 ≤ vec_capacity text.old }
+    ensures text { text.new.items ≡ text.old.items ++ flat_map (λ d. line (difference_text d)) found.now }
+    ensures room { vec_len text.new + 151 ≤ vec_capacity text.new }
 {
     for difference in found {
-        put_difference(text, *difference)?;
+        put_into_room(text, &difference_line(*difference));
     }
-    Ok(())
 }
 
-fn put_difference(text: &mut Vec<u8>, difference: Difference) -> Result<(), AllocError>
-    ensures { OnOk result (text.new.items ≡ text.old.items ++ line (difference_text difference)) }
+fn difference_line(difference: Difference) -> ArrayVec<u8, LINE_ROOM>
+    ensures items { result.items ≡ line (difference_text difference) }
+    ensures length { array_vec_len result ≡ 36 }
 {
     let Difference { word, now } = difference;
-    let (address, mask, value) = (word.address(), word.mask(), word.value());
-    match writeln!(
-        text,
-        "{} {} {} differs {}",
-        Octal(address),
-        Octal(mask),
-        Octal(value),
-        Octal(now)
-    ) {
-        Ok(()) => Ok(()),
-        Err(_) => Err(AllocError),
-    }
+    let mut text = ArrayVec::new();
+    push_octal(&mut text, word.address());
+    push_bytes(&mut text, b" ");
+    push_octal(&mut text, word.mask());
+    push_bytes(&mut text, b" ");
+    push_octal(&mut text, word.value());
+    push_bytes(&mut text, b" differs ");
+    push_octal(&mut text, now);
+    push_bytes(&mut text, b"\n");
+    text
 }
 
-fn put_counts(text: &mut Vec<u8>, core: &ReadingCore, differ: usize) -> Result<(), AllocError>
-    ensures { OnOk result (text.new.items ≡ text.old.items ++ line (counts_text (length core.now.addresses) core.now differ)) }
+// The counts of the host's life, and how it ended.
+fn last_lines(core: &ReadingCore, differ: usize, end: VerifyEnd) -> LastLines
+    ensures items { result.items ≡ line (counts_text (length core.now.addresses) core.now differ) ++ line (codes "end " ++ end_name end) }
+    ensures length { array_vec_len result ≤ 151 }
 {
-    put_life(text, core)?;
-    let (looked, words) = (core.values().len(), core.addresses().len());
-    match writeln!(text, " looked {looked} of {words} differ {differ}") {
-        Ok(()) => Ok(()),
-        Err(_) => Err(AllocError),
-    }
+    let mut text = LastLines::new();
+    push_counts(&mut text, core, differ);
+    push_end(&mut text, end);
+    text
+}
+
+fn push_counts(text: &mut LastLines, core: &ReadingCore, differ: usize)
+    requires { text.old.items ≡ [] }
+    ensures items { text.new.items ≡ line (counts_text (length core.now.addresses) core.now differ) }
+    ensures length { array_vec_len text.new ≤ 133 }
+{
+    push_life(text, core);
+    push_bytes(text, b" looked ");
+    push_decimal(text, core.values().len() as u64);
+    push_bytes(text, b" of ");
+    push_decimal(text, core.addresses().len() as u64);
+    push_bytes(text, b" differ ");
+    push_decimal(text, differ as u64);
+    push_bytes(text, b"\n");
 }
 
 /// Puts the counts of the host's life.
-pub(crate) fn put_life(text: &mut Vec<u8>, core: &ReadingCore) -> Result<(), AllocError>
-    ensures { OnOk result (text.new.items ≡ text.old.items ++ life_text core.now) }
+pub(crate) fn push_life(text: &mut LastLines, core: &ReadingCore)
+    requires { text.old.items ≡ [] }
+    ensures items { text.new.items ≡ life_text core.now }
+    ensures length { array_vec_len text.new ≤ 52 }
 {
-    let (sent, spent) = (core.sent_count(), core.spent());
-    match write!(text, "sent {sent} spent {spent}") {
-        Ok(()) => Ok(()),
-        Err(_) => Err(AllocError),
-    }
+    push_bytes(text, b"sent ");
+    push_decimal(text, core.sent_count());
+    push_bytes(text, b" spent ");
+    push_decimal(text, core.spent().into());
 }
 
-fn put_end(text: &mut Vec<u8>, end: VerifyEnd) -> Result<(), AllocError>
-    ensures { OnOk result (text.new.items ≡ text.old.items ++ line (codes "end " ++ end_name end)) }
+fn push_end(text: &mut LastLines, end: VerifyEnd)
+    requires { array_vec_len text.old ≤ 133 }
+    ensures items { text.new.items ≡ text.old.items ++ line (codes "end " ++ end_name end) }
+    ensures length { array_vec_len text.new ≤ 151 }
 {
-    text.extend_from_slice(b"end ")?;
-    put_end_name(text, end)?;
-    text.extend_from_slice(b"\n")
+    push_bytes(text, b"end ");
+    push_end_name(text, end);
+    push_bytes(text, b"\n");
 }
 
-fn put_end_name(text: &mut Vec<u8>, end: VerifyEnd) -> Result<(), AllocError>
-    ensures { OnOk result (text.new.items ≡ text.old.items ++ end_name end) }
+fn push_end_name(text: &mut LastLines, end: VerifyEnd)
+    requires { array_vec_len text.old ≤ 137 }
+    ensures items { text.new.items ≡ text.old.items ++ end_name end }
+    ensures length { array_vec_len text.new ≤ array_vec_len text.old + 13 }
 {
     match end {
-        VerifyEnd::Same => text.extend_from_slice(b"Same"),
-        VerifyEnd::Differs => text.extend_from_slice(b"Differs"),
-        VerifyEnd::NoWord(address) => put_no_word(text, address),
-        VerifyEnd::GaveUp => text.extend_from_slice(b"GaveUp"),
-        VerifyEnd::TurnsOver => text.extend_from_slice(b"TurnsOver"),
-        VerifyEnd::LineFailed(_) => text.extend_from_slice(b"LineFailed"),
+        VerifyEnd::Same => push_bytes(text, b"Same"),
+        VerifyEnd::Differs => push_bytes(text, b"Differs"),
+        VerifyEnd::NoWord(address) => push_no_word(text, address),
+        VerifyEnd::GaveUp => push_bytes(text, b"GaveUp"),
+        VerifyEnd::TurnsOver => push_bytes(text, b"TurnsOver"),
+        VerifyEnd::LineFailed(_) => push_bytes(text, b"LineFailed"),
     }
 }
 
 /// Puts that memory has no word at an address.
-pub(crate) fn put_no_word(text: &mut Vec<u8>, address: u16) -> Result<(), AllocError>
-    ensures { OnOk result (text.new.items ≡ text.old.items ++ (codes "NoWord " ++ octal_text address)) }
+pub(crate) fn push_no_word(text: &mut LastLines, address: u16)
+    requires { array_vec_len text.old ≤ 137 }
+    ensures items { text.new.items ≡ text.old.items ++ (codes "NoWord " ++ octal_text address) }
+    ensures length { array_vec_len text.new ≡ array_vec_len text.old + 13 }
 {
-    text.extend_from_slice(b"NoWord ")?;
-    put_octal(text, address)
+    push_bytes(text, b"NoWord ");
+    push_octal(text, address);
 }

@@ -23,7 +23,7 @@ use tape_image::Plan;
 /// A plan without words needs no console: it ends as `Same`.
 ///
 /// `Connect` comes before anything was sent. `WriteOutput` is a report that could not be written whole.
-/// `Memory` comes only where a growth was refused, with nothing reported.
+/// `Memory` comes only where a growth was refused, before the console is reached, with nothing reported.
 pub fn verify<R: Reach, W: Write, O: Onlooker>(
     alloc: Global,
     plan: &Plan,
@@ -45,8 +45,8 @@ pub fn verify<R: Reach, W: Write, O: Onlooker>(
     let mut found = Vec::with_capacity(alloc, words.len())?;
     let mut report = Vec::with_capacity(alloc, longest_report(words.len()))?;
     let (core, stop) = look_over(core, console, onlooker)?;
-    differences(&mut found, words, core.values())?;
-    let end = put_verify_report(&mut report, &found, &core, stop)?;
+    differences(&mut found, words, core.values());
+    let end = put_verify_report(&mut report, &found, &core, stop);
     write_and_flush(out, &report)?;
     Ok(end)
 }

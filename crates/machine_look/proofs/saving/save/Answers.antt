@@ -1,4 +1,4 @@
-use Rattle.std.proofs.Common.{◌≡◌, ℕ, List, [], ◌∷◌, ◌++◌, length, refl, ap, sym, subst, ◌∙◌, arith, inl, inr}
+use Rattle.std.proofs.Common.{◌≡◌, ℕ, List, [], ◌∷◌, length, refl, ap, sym, subst, ◌∙◌, arith, inl}
 use Rattle.std.specs.Io.KnownBytes.{Appends}
 use Rattle.std.proofs.KnownBytes.{Keeps-refl}
 use Rattle.byte_io.specs.Output.{WritesAllBut}
@@ -10,7 +10,6 @@ use Rattle.machine_look.specs.Look.{TriesOnce}
 use Rattle.machine_look.specs.LookFault.{IsKeepFault, IsSaveFault, fault_of_shelf}
 use Rattle.machine_look.specs.Save.{puts, save_told}
 use Rattle.machine_look.specs.SavedTape.{saved_tape}
-use Rattle.machine_look.specs.SaveReport.{save_report}
 use Rattle.machine_look.specs.Shelf.{Reserve}
 use Rattle.machine_look.proofs.Faults.{error_is, gains_none, gains_then, no_value, not_kept, not_reserved}
 use Rattle.machine_look.proofs.SavedMemory.{read_of, reads_low}
@@ -28,15 +27,6 @@ returns-in_err-core-clause-fault g c =
     error_is c.from_residual.result Memory
     (IsSaveFault c.args.options (save_told g.S.Shelf.steps g.R.Reach.tries g.W.Write.contents c.args.shelf.now c.args.console.now c.args.out.now) (save_told g.S.Shelf.steps g.R.Reach.tries g.W.Write.contents c.args.shelf.now c.args.console.now c.args.out.now))
     c.from_residual.ensures.1 (inl (gains_none (g.S.Shelf.steps c.args.shelf.now)), Keeps-refl (g.W.Write.contents c.args.out.now))
-
-pub returns-in_err-report-clause-reported : goal.returns-in_err-report-clause-reported
-returns-in_err-report-clause-reported g c = no_value c.from_residual-in_err-report.result _ _ c.from_residual-in_err-report.ensures.1
-
-pub returns-in_err-report-clause-fault : goal.returns-in_err-report-clause-fault
-returns-in_err-report-clause-fault g c =
-    error_is c.from_residual-in_err-report.result Memory
-    (IsSaveFault c.args.options (save_told g.S.Shelf.steps g.R.Reach.tries g.W.Write.contents c.args.shelf.now c.args.console.now c.args.out.now) (save_told g.S.Shelf.steps g.R.Reach.tries g.W.Write.contents c.args.shelf.now c.args.console.now c.args.out.now))
-    c.from_residual-in_err-report.ensures.1 (inl (gains_none (g.S.Shelf.steps c.args.shelf.now)), Keeps-refl (g.W.Write.contents c.args.out.now))
 
 pub returns-in_err-reserve-clause-reported : goal.returns-in_err-reserve-clause-reported
 returns-in_err-reserve-clause-reported g c = no_value c.from_residual-in_err-reserve.result _ _ c.from_residual-in_err-reserve.ensures.1
@@ -58,15 +48,6 @@ returns-in_err-core-2-clause-fault g c =
     c.from_residual-in_err-core-2.ensures.1
     (subst (IsSaveFault c.args.options (save_told g.S.Shelf.steps g.R.Reach.tries g.W.Write.contents c.args.shelf.now c.args.console.now c.args.out.now) (save_told g.S.Shelf.steps g.R.Reach.tries g.W.Write.contents c.reserve.new.self c.look_over.new.console c.args.out.now)) (sym fails.0)
     (c.in_ok-reserve.ensures.step, subst (λ o. TriesOnce o (g.R.Reach.tries c.args.console.now) (g.R.Reach.tries c.look_over.new.console)) fails.1 c.look_over.ensures.tried, Keeps-refl (g.W.Write.contents c.args.out.now)))
-
-pub returns-in_err-put_save_report-clause-reported : goal.returns-in_err-put_save_report-clause-reported
-returns-in_err-put_save_report-clause-reported g c = no_value c.from_residual-in_err-put_save_report.result _ _ c.from_residual-in_err-put_save_report.ensures.1
-
-pub returns-in_err-put_save_report-clause-fault : goal.returns-in_err-put_save_report-clause-fault
-returns-in_err-put_save_report-clause-fault g c =
-    error_is c.from_residual-in_err-put_save_report.result Memory
-    (IsSaveFault c.args.options (save_told g.S.Shelf.steps g.R.Reach.tries g.W.Write.contents c.args.shelf.now c.args.console.now c.args.out.now) (save_told g.S.Shelf.steps g.R.Reach.tries g.W.Write.contents c.reserve.new.self c.look_over.new.console c.args.out.now))
-    c.from_residual-in_err-put_save_report.ensures.1 (inr (inr c.in_ok-reserve.ensures.step), Keeps-refl (g.W.Write.contents c.args.out.now))
 
 pub returns-in_err-keep-clause-reported : goal.returns-in_err-keep-clause-reported
 returns-in_err-keep-clause-reported g c = no_value c.from_residual-in_err-keep.result _ _ c.from_residual-in_err-keep.ensures.1
@@ -93,7 +74,7 @@ returns-in_err-write_and_flush-clause-fault g c =
     let read = read_of c.args.options (save_told g.S.Shelf.steps g.R.Reach.tries g.W.Write.contents c.args.shelf.now c.args.console.now c.args.out.now) (save_told g.S.Shelf.steps g.R.Reach.tries g.W.Write.contents c.keep.new.shelf c.look_over.new.console c.write_and_flush.new.out) c.in_ok-core.core c.in_ok-core-2.core c.in_ok-core-2.stop range c.keep.ensures.fits begins c.in_ok-core-2.ensures.look c.look_over.ensures.tried in
     let kept = subst (λ a. Gains (g.S.Shelf.steps c.reserve.new.self) (g.S.Shelf.steps c.keep.new.shelf) (puts a c.in_ok-core-2.core.values c.args.options.start)) c.from-from.ensures.value
     (subst (λ (numbers : List ℕ). Gains (g.S.Shelf.steps c.reserve.new.self) (g.S.Shelf.steps c.keep.new.shelf) (puts c.from-from.result numbers c.args.options.start)) c.values.ensures.value c.in_ok-keep.ensures.ok) in
-    let text = c.deref.ensures.value ∙ (c.in_ok-put_save_report.ensures ∙ ap (λ (start : List ℕ). start ++ save_report c.in_ok-core-2.core c.in_ok-core-2.stop) c.in_ok-report.ensures.items) in
+    let text = c.deref.ensures.0 ∙ c.save_report.ensures in
     error_is c.from_residual-in_err-write_and_flush.result WriteOutput
     (IsSaveFault c.args.options (save_told g.S.Shelf.steps g.R.Reach.tries g.W.Write.contents c.args.shelf.now c.args.console.now c.args.out.now) (save_told g.S.Shelf.steps g.R.Reach.tries g.W.Write.contents c.keep.new.shelf c.look_over.new.console c.write_and_flush.new.out))
     c.from_residual-in_err-write_and_flush.ensures.1 (record {
@@ -124,7 +105,7 @@ returns-clause-reported g c =
     let read = read_of c.args.options (save_told g.S.Shelf.steps g.R.Reach.tries g.W.Write.contents c.args.shelf.now c.args.console.now c.args.out.now) (save_told g.S.Shelf.steps g.R.Reach.tries g.W.Write.contents c.keep.new.shelf c.look_over.new.console c.write_and_flush.new.out) c.in_ok-core.core c.in_ok-core-2.core c.in_ok-core-2.stop range c.keep.ensures.fits begins c.in_ok-core-2.ensures.look c.look_over.ensures.tried in
     let kept = subst (λ a. Gains (g.S.Shelf.steps c.reserve.new.self) (g.S.Shelf.steps c.keep.new.shelf) (puts a c.in_ok-core-2.core.values c.args.options.start)) c.from-from.ensures.value
     (subst (λ (numbers : List ℕ). Gains (g.S.Shelf.steps c.reserve.new.self) (g.S.Shelf.steps c.keep.new.shelf) (puts c.from-from.result numbers c.args.options.start)) c.values.ensures.value c.in_ok-keep.ensures.ok) in
-    let text = c.deref.ensures.value ∙ (c.in_ok-put_save_report.ensures ∙ ap (λ (start : List ℕ). start ++ save_report c.in_ok-core-2.core c.in_ok-core-2.stop) c.in_ok-report.ensures.items) in
+    let text = c.deref.ensures.0 ∙ c.save_report.ensures in
     record {
       last = c.in_ok-core-2.core;
       stop = c.in_ok-core-2.stop;

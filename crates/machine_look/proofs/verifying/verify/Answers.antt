@@ -20,7 +20,7 @@ pub returns-in_err-core-clause-fault : goal.returns-in_err-core-clause-fault
 returns-in_err-core-clause-fault g c =
     error_is c.from_residual.result Memory
     (IsVerifyFault c.args.plan.now c.args.patience (look_told g.R.Reach.tries g.W.Write.contents c.args.console.now c.args.out.now) (look_told g.R.Reach.tries g.W.Write.contents c.args.console.now c.args.out.now))
-    c.from_residual.ensures.1 (Keeps-refl (g.W.Write.contents c.args.out.now))
+    c.from_residual.ensures.1 (refl, Keeps-refl (g.W.Write.contents c.args.out.now))
 
 pub returns-in_err-found-clause-reported : goal.returns-in_err-found-clause-reported
 returns-in_err-found-clause-reported g c = no_value c.from_residual-in_err-found.result _ _ c.from_residual-in_err-found.ensures.1
@@ -29,7 +29,7 @@ pub returns-in_err-found-clause-fault : goal.returns-in_err-found-clause-fault
 returns-in_err-found-clause-fault g c =
     error_is c.from_residual-in_err-found.result Memory
     (IsVerifyFault c.args.plan.now c.args.patience (look_told g.R.Reach.tries g.W.Write.contents c.args.console.now c.args.out.now) (look_told g.R.Reach.tries g.W.Write.contents c.args.console.now c.args.out.now))
-    c.from_residual-in_err-found.ensures.1 (Keeps-refl (g.W.Write.contents c.args.out.now))
+    c.from_residual-in_err-found.ensures.1 (refl, Keeps-refl (g.W.Write.contents c.args.out.now))
 
 pub returns-in_err-report-clause-reported : goal.returns-in_err-report-clause-reported
 returns-in_err-report-clause-reported g c = no_value c.from_residual-in_err-report.result _ _ c.from_residual-in_err-report.ensures.1
@@ -38,7 +38,7 @@ pub returns-in_err-report-clause-fault : goal.returns-in_err-report-clause-fault
 returns-in_err-report-clause-fault g c =
     error_is c.from_residual-in_err-report.result Memory
     (IsVerifyFault c.args.plan.now c.args.patience (look_told g.R.Reach.tries g.W.Write.contents c.args.console.now c.args.out.now) (look_told g.R.Reach.tries g.W.Write.contents c.args.console.now c.args.out.now))
-    c.from_residual-in_err-report.ensures.1 (Keeps-refl (g.W.Write.contents c.args.out.now))
+    c.from_residual-in_err-report.ensures.1 (refl, Keeps-refl (g.W.Write.contents c.args.out.now))
 
 pub returns-in_err-core-2-clause-reported : goal.returns-in_err-core-2-clause-reported
 returns-in_err-core-2-clause-reported g c = no_value c.from_residual-in_err-core-2.result _ _ c.from_residual-in_err-core-2.ensures.1
@@ -55,24 +55,6 @@ returns-in_err-core-2-clause-fault g c =
       Keeps-refl (g.W.Write.contents c.args.out.now),
     ))
 
-pub returns-in_err-differences-clause-reported : goal.returns-in_err-differences-clause-reported
-returns-in_err-differences-clause-reported g c = no_value c.from_residual-in_err-differences.result _ _ c.from_residual-in_err-differences.ensures.1
-
-pub returns-in_err-differences-clause-fault : goal.returns-in_err-differences-clause-fault
-returns-in_err-differences-clause-fault g c =
-    error_is c.from_residual-in_err-differences.result Memory
-    (IsVerifyFault c.args.plan.now c.args.patience (look_told g.R.Reach.tries g.W.Write.contents c.args.console.now c.args.out.now) (look_told g.R.Reach.tries g.W.Write.contents c.look_over.new.console c.args.out.now))
-    c.from_residual-in_err-differences.ensures.1 (Keeps-refl (g.W.Write.contents c.args.out.now))
-
-pub returns-in_err-end-clause-reported : goal.returns-in_err-end-clause-reported
-returns-in_err-end-clause-reported g c = no_value c.from_residual-in_err-end.result _ _ c.from_residual-in_err-end.ensures.1
-
-pub returns-in_err-end-clause-fault : goal.returns-in_err-end-clause-fault
-returns-in_err-end-clause-fault g c =
-    error_is c.from_residual-in_err-end.result Memory
-    (IsVerifyFault c.args.plan.now c.args.patience (look_told g.R.Reach.tries g.W.Write.contents c.args.console.now c.args.out.now) (look_told g.R.Reach.tries g.W.Write.contents c.look_over.new.console c.args.out.now))
-    c.from_residual-in_err-end.ensures.1 (Keeps-refl (g.W.Write.contents c.args.out.now))
-
 pub returns-in_err-write_and_flush-clause-reported : goal.returns-in_err-write_and_flush-clause-reported
 returns-in_err-write_and_flush-clause-reported g c = no_value c.from_residual-in_err-write_and_flush.result _ _ c.from_residual-in_err-write_and_flush.ensures.1
 
@@ -82,9 +64,9 @@ returns-in_err-write_and_flush-clause-fault g c =
     let begun_is = c.in_ok-core.ensures.begun in
     let addresses = look.addresses ∙ ap (λ r. r.addresses) begun_is in
     let found = found_is c.args.plan.now.words c.words-words.result.now c.in_ok-core-2.core.values c.values.result.now c.in_ok-found.found.items c.differences.new.found.items
-    c.words-words.ensures.value c.values.ensures.value c.in_ok-found.ensures.items c.in_ok-differences.ensures in
-    let text = c.deref-2.ensures.value ∙ report_is c.args.plan.now.words c.in_ok-core-2.core c.in_ok-core-2.stop c.deref.result.now c.in_ok-report.report.items c.put_verify_report.new.text.items
-    addresses (c.deref.ensures.value ∙ found) c.in_ok-report.ensures.items c.in_ok-end.ensures.text in
+    c.words-words.ensures.value c.values.ensures.value c.in_ok-found.ensures.items c.differences.ensures.items in
+    let text = c.deref-2.ensures.value ∙ report_is c.args.plan.now.words c.in_ok-core-2.core c.in_ok-core-2.stop c.deref.result.now c.in_ok-report.report.items c.put_verify_report-end.new.text.items
+    addresses (c.deref.ensures.value ∙ found) c.in_ok-report.ensures.items c.put_verify_report-end.ensures.text in
     error_is c.from_residual-in_err-write_and_flush.result WriteOutput
     (IsVerifyFault c.args.plan.now c.args.patience (look_told g.R.Reach.tries g.W.Write.contents c.args.console.now c.args.out.now) (look_told g.R.Reach.tries g.W.Write.contents c.look_over.new.console c.write_and_flush.new.out))
     c.from_residual-in_err-write_and_flush.ensures.1 (record {
@@ -96,10 +78,15 @@ returns-in_err-write_and_flush-clause-fault g c =
       reported = subst (λ t. WritesAllBut (g.W.Write.contents c.args.out.now) (g.W.Write.contents c.write_and_flush.new.out) t c.in_err-write_and_flush.ensures.err.0) text c.in_err-write_and_flush.ensures.err.1;
     })
 
-pub differences-requires : goal.differences-requires
-differences-requires g c =
+pub differences-requires-clause-few : goal.differences-requires-clause-few
+differences-requires-clause-few g c =
     let addresses = c.in_ok-core-2.ensures.look.addresses ∙ ap (λ r. r.addresses) c.in_ok-core.ensures.begun in
     omega (arith, c.in_ok-core-2.ensures.look.kept.within, words_count c.args.plan.now.words c.in_ok-core-2.core addresses, ap length c.values.ensures.value, ap length c.words-words.ensures.value)
+
+pub differences-requires-clause-room : goal.differences-requires-clause-room
+differences-requires-clause-room g c =
+    let addresses = c.in_ok-core-2.ensures.look.addresses ∙ ap (λ r. r.addresses) c.in_ok-core.ensures.begun in
+    omega (arith, c.in_ok-core-2.ensures.look.kept.within, words_count c.args.plan.now.words c.in_ok-core-2.core addresses, ap length c.values.ensures.value, ap length c.words-words.ensures.value, c.in_ok-found.ensures.len, c.in_ok-found.ensures.exact)
 
 pub longest_report-requires : goal.longest_report-requires
 longest_report-requires g c = omega (arith, c.words-words.ensures.sound.few, ap length c.words-words.ensures.value)
@@ -110,13 +97,13 @@ returns-clause-reported g c =
     let begun_is = c.in_ok-core.ensures.begun in
     let addresses = look.addresses ∙ ap (λ r. r.addresses) begun_is in
     let found = found_is c.args.plan.now.words c.words-words.result.now c.in_ok-core-2.core.values c.values.result.now c.in_ok-found.found.items c.differences.new.found.items
-    c.words-words.ensures.value c.values.ensures.value c.in_ok-found.ensures.items c.in_ok-differences.ensures in
-    let text = c.deref-2.ensures.value ∙ report_is c.args.plan.now.words c.in_ok-core-2.core c.in_ok-core-2.stop c.deref.result.now c.in_ok-report.report.items c.put_verify_report.new.text.items
-    addresses (c.deref.ensures.value ∙ found) c.in_ok-report.ensures.items c.in_ok-end.ensures.text in
+    c.words-words.ensures.value c.values.ensures.value c.in_ok-found.ensures.items c.differences.ensures.items in
+    let text = c.deref-2.ensures.value ∙ report_is c.args.plan.now.words c.in_ok-core-2.core c.in_ok-core-2.stop c.deref.result.now c.in_ok-report.report.items c.put_verify_report-end.new.text.items
+    addresses (c.deref.ensures.value ∙ found) c.in_ok-report.ensures.items c.put_verify_report-end.ensures.text in
     record {
       last = c.in_ok-core-2.core;
       stop = c.in_ok-core-2.stop;
-      verified = verified_of c.args.plan.now c.args.patience (look_told g.R.Reach.tries g.W.Write.contents c.args.console.now c.args.out.now) (look_told g.R.Reach.tries g.W.Write.contents c.look_over.new.console c.write_and_flush.new.out) c.in_ok-core.core c.in_ok-core-2.core c.in_ok-core-2.stop c.in_ok-end.end begun_is look c.look_over.ensures.tried (c.in_ok-end.ensures.end ∙ ap (λ (list : List Difference). verify_end (length list) c.in_ok-core-2.stop) (c.deref.ensures.value ∙ found));
+      verified = verified_of c.args.plan.now c.args.patience (look_told g.R.Reach.tries g.W.Write.contents c.args.console.now c.args.out.now) (look_told g.R.Reach.tries g.W.Write.contents c.look_over.new.console c.write_and_flush.new.out) c.in_ok-core.core c.in_ok-core-2.core c.in_ok-core-2.stop c.put_verify_report-end.result begun_is look c.look_over.ensures.tried (c.put_verify_report-end.ensures.end ∙ ap (λ (list : List Difference). verify_end (length list) c.in_ok-core-2.stop) (c.deref.ensures.value ∙ found));
       reported = subst (Appends (g.W.Write.contents c.args.out.now) (g.W.Write.contents c.write_and_flush.new.out)) text c.in_ok-write_and_flush.ensures.ok;
     }
 

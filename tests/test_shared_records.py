@@ -51,7 +51,7 @@ NAMES = {
 
 # Silence on a computer that is busy with ten loads and their machines.
 BUSY_QUIET = 1000
-ROUNDS_AT_ONCE = 6
+ROUNDS_AT_ONCE = 12
 
 
 class HeldConsole(Console):

@@ -4,10 +4,12 @@ A full image has 28,672 words: all of memory. How many characters a load sends i
 """
 import os
 import unittest
-from concurrent.futures import ThreadPoolExecutor
+from concurrent.futures import ProcessPoolExecutor, ThreadPoolExecutor
 
 from common import BabblingPeer, Case, Console
-from outside import block
+from outside import Answer, block, bytes_of, run, tape_of
+
+import odt_peer
 
 WORDS = 28672
 # Twenty-eight words in each block, none of them zero, since addresses end below 177777.
@@ -91,6 +93,83 @@ class FullImage(Case):
         self.is_so(left, record_of(IMAGE, 2) + "\nG\n")
         self.is_so([(address, peer.machine.word(address)) for address, _ in due], due)
         self.is_so((set(peer.machine.words[:len(done)]), peer.machine.starts), ({0}, [0]))
+
+
+# How many words the plans of `Sizes` have.
+SIZES = (1, 8191, 8192, 20000, WORDS)
+
+# How many of them no record has.
+LEFT = 20
+
+
+def at_a_console(room, memory, words):
+    """Runs a command at a console of its own that has these words, in a process of its own, since four are faster so;
+    the quiet time is far above what a busy computer needs. Returns the answer and the starts."""
+    peer = odt_peer.Peer(Console(memory=memory))
+    given = run([word.replace("LINE", peer.name) for word in words.split()] + ["--quiet", "2000"], cwd=room, seconds=600)
+    peer.close()
+    return given, peer.machine.starts
+
+
+class Sizes(Case):
+    """Plans of many sizes, of words that stand: each has 8 keys. Before the first there is a `Z`, and 7 are the start's."""
+
+    def setUp(self):
+        super().setUp()
+        for words in SIZES:
+            plan = IMAGE[:words]
+            pieces = [plan[first:first + 28] for first in range(0, words, 28)]
+            self.put(f"{words}.lda", tape_of([(piece[0][0], b"".join(value.to_bytes(2, "little") for _, value in piece)) for piece in pieces], 0))
+            self.put(f"{words}.record", record_of(plan[:-LEFT], 2).encode())
+
+    def all_end(self, rows):
+        """Runs commands, each at a memory; asserts how each ended, and where it started the machine."""
+        with ProcessPoolExecutor(4) as pool:
+            given = list(pool.map(at_a_console, [self.room] * len(rows), [memory for memory, *_ in rows], [words for _, words, *_ in rows]))
+        for (_, words, *wanted), came in zip(rows, given):
+            with self.subTest(words):
+                self.is_so(came, tuple(wanted))
+
+    def test_loads(self):
+        """Without a record, and with one of all words but the last, of which each is looked at; and with one that is made."""
+        started = lambda keys, words: Answer(0, f"sent {keys + 8} spent 0 verified {words} of {words}\nend Started\n", "")
+        rows = [(dict(IMAGE[:words]), f"load {words}.lda LINE", started(8 * words, words), [0]) for words in SIZES]
+        for words in SIZES:
+            keys = 8 * min(words, LEFT)
+            rows.append((dict(IMAGE[:words]), f"load {words}.lda LINE --record {words}.record", started(keys, words), [0]))
+        rows.append((dict(IMAGE[:8192]), "load 8192.lda LINE --record made.record", started(8 * 8192, 8192), [0]))
+        self.all_end(sorted(rows, key=lambda row: -len(row[0])))
+        for words in SIZES:
+            self.is_so(bytes_of(self.path(f"{words}.record")).decode(), record_of(IMAGE[:words], 2) + "\nG\n")
+        self.is_so(bytes_of(self.path("made.record")), bytes_of(self.path("8192.record")))
+
+    def test_looks(self):
+        """All words differ from memory, which is zero; all of it is saved."""
+        differs = "".join(f"{address:06o} 177777 {value:06o} differs 000000\n" for address, value in IMAGE[:8192])
+        report = f"sent {1 + 8 * 8192} spent 0 looked 8192 of 8192 differ 8192\nend Differs\n"
+        saved = Answer(0, f"sent {1 + 8 * 8192} spent 0 read 8192 of 8192\nend Saved\n", "")
+        self.all_end([
+            ({}, "verify 8192.lda LINE", Answer(1, differs + report, ""), []),
+            (dict(IMAGE), "save saved.lda LINE 0 37776", saved, []),
+        ])
+        words = "".join(f"{address:06o} 177777 {value:06o}\n" for address, value in IMAGE[:8192])
+        self.is_so(self.ldaodt("check saved.lda").out.split("words ", 1)[1], "8192\n" + words)
+
+
+class SmallBlocks(Case):
+    """Tapes that have as many blocks as may be."""
+
+    def test_blocks_of_a_byte(self):
+        """One for each byte of memory; and all at 001000, of which the last one counts, up to a tape's limit."""
+        every = tape_of([(address, bytes([address % 256])) for address in range(2 * WORDS)])
+        lines = "".join(f"{low:06o} 177777 {low % 256 + (low + 1) % 256 * 256:06o}\n" for low in range(0, 2 * WORDS, 2))
+        self.put("every.lda", every)
+        report = f"blocks {2 * WORDS} data {2 * WORDS} read {len(every)}\nno start 000001\ncanonical yes\n"
+        self.ends(self.ldaodt("check every.lda"), 0, f"{report}words {WORDS}\n{lines}")
+        count = ((1 << 20) - 7) // 8
+        self.put("same.lda", tape_of([(0o1000, bytes([number % 251])) for number in range(count)]))
+        report = f"blocks {count} data {count} read {8 * count + 6 + 1}\nno start 000001\ncanonical yes\n"
+        self.ends(self.ldaodt("check same.lda"), 0, f"{report}words 1\n001000 000377 {(count - 1) % 251:06o}\n")
 
 
 class Turns(Case):

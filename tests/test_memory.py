@@ -103,8 +103,9 @@ class Starving(Console):
 
 
 class BehindTheConnection(Case):
-    """Looks and probes that get no more memory once they have begun to type: a whole answer, or the line that memory is
-    wanting, and a tape that is whole or not there. The machine's memory is what it was."""
+    """Loads, looks and probes that get no more memory once they have begun to type. A load and a `verify` need none; else
+    there is a whole answer, or the line that memory is wanting, and a tape that is whole or not there. The machine's memory
+    is what it was."""
 
     WORDS = 1024
 
@@ -116,7 +117,7 @@ class BehindTheConnection(Case):
         self.put("a.lda", self.tape)
 
     def look(self, words, spare=1 << 30, at_key=0):
-        """Looks or probes, with so much memory more from one key on."""
+        """Loads, looks or probes, with so much memory more from one key on."""
         machine = Starving(spare, at_key, words=self.WORDS, memory=self.memory)
         before, line = list(machine.words), self.console_at(machine)
         command = [PROGRAM, *(line.address if it == "LINE" else it for it in words), "--quiet", str(self.quiet)]
@@ -127,7 +128,7 @@ class BehindTheConnection(Case):
         return Answer(machine.process.returncode, timeless(out), err)
 
     def each(self, words):
-        """Such looks with nothing more from the first key on, from one in the middle, and from the last."""
+        """Such runs with nothing more from the first key on, from one in the middle, and from the last."""
         rows = [(0, at_key) for at_key in (0, 4 * self.WORDS, 8 * self.WORDS)]
         with ThreadPoolExecutor(len(rows)) as pool:
             yield from zip(rows, pool.map(lambda row: self.look([it.format(*row) for it in words], *row), rows))
@@ -137,7 +138,16 @@ class BehindTheConnection(Case):
         self.is_so((ample.status, ample.out.count(" differs ")), (1, self.WORDS))
         for row, given in self.each(["verify", "a.lda", "LINE"]):
             with self.subTest(row):
-                self.assertTrue(given == ample or is_want(given, ample), f"{given!r:.2000}")
+                self.is_so(given, ample)
+
+    def test_load(self):
+        """Its words stand, so that each has 8 keys, with a record that it makes and without one."""
+        self.memory = {address: value ^ 1 for address, value in self.memory.items()}
+        loaded = Answer(0, f"sent {1 + 8 * self.WORDS} spent 0 verified {self.WORDS} of {self.WORDS}\nend Loaded\n", "")
+        for record in ([], ["--record", "{}-{}.record"]):
+            for row, given in self.each(["load", "a.lda", "LINE", *record]):
+                with self.subTest(row, record=record):
+                    self.is_so(given, loaded)
 
     def test_probe(self):
         """With nothing more from its first key on, from its trial, and from its search."""

@@ -262,6 +262,24 @@ class Readings(Compared):
             if 0 <= end - length < 65536
         )
 
+    def test_a_block_of_each_length(self):
+        """At an even address and at an odd one, behind as many bytes of blank tape or none."""
+        self.agree(
+            [zeros_and(blank, tape_of([(address, bytes(place % 251 for place in range(length)))]))]
+            for length in range(1, 530)
+            for address, blank in ((0o1000, 0), (0o1001, length))
+        )
+
+    def test_blocks_of_one_length(self):
+        """As many as have 57,344 bytes, or 300: one behind another, with a byte between them, and all at one address."""
+        powers = (power + more for power in (4, 16, 64, 256, 1024, 8192, 28672) for more in (-1, 0, 1))
+        self.agree(
+            [tape_of([(place * step, bytes([place % 256]) * length) for place in range(count)])]
+            for length in (1, 2, *powers, 20000, 57343, 57344)
+            for step in (length, length + 1, 0)
+            for count in [min(300, MEMORY_END // length, (MEMORY_END - length) // (step or 1) + 1)]
+        )
+
     def test_starts(self):
         starts = {(power + more) % 65536 for power in (1 << bit for bit in range(17)) for more in (-2, -1, 0, 1)}
         self.agree([[tape_of([(0o1000, b"\x34\x12")], start) for start in sorted(starts | {MEMORY_END, 0o173000})]])

@@ -5,7 +5,7 @@ ghost use Rattle.record_file.specs.RecordFault.{IsUnbegun, IsUnread};
 ghost use Rattle.tape_image.specs.Plan.{PlanValue};
 
 use load_devices::{Keep, MemoryKeep};
-use record_file::{DiskRecord, Locks, OldRecord, RecordFault, RecordFile};
+use record_file::{Disk, DiskRecord, OldRecord, RecordFault, RecordFile};
 use std::alloc::Global;
 use tape_image::Plan;
 
@@ -32,8 +32,8 @@ pub trait Records {
         ensures fault { IfErr result IsUnbegun };
 }
 
-impl<F: Locks> Records for RecordFile<'_, F> {
-    type Keeper = DiskRecord<F::File>;
+impl<D: Disk + Drop> Records for RecordFile<'_, D> {
+    type Keeper = DiskRecord<D::File>;
 
     ghost begins = { λ keeper plan count. HasBegun plan count keeper };
 
@@ -46,7 +46,7 @@ impl<F: Locks> Records for RecordFile<'_, F> {
         alloc: Global,
         plan: &Plan,
         verified: u32,
-    ) -> Result<DiskRecord<F::File>, RecordFault> {
+    ) -> Result<DiskRecord<D::File>, RecordFault> {
         RecordFile::begin(self, alloc, plan, verified)
     }
 }

@@ -1,1 +1,5 @@
+mod Asking
+mod Begun
+mod Folders
 mod OldRecords
+mod Rows

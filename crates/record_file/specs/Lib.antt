@@ -1,3 +1,10 @@
+pub mod Beginning
+pub mod Course
 pub mod DiskRecord
+pub mod DiskStep
+pub mod Folder
+pub mod Holding
 pub mod OldRecord
+pub mod Reading
 pub mod RecordFault
+pub mod Taking

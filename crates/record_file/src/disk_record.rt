@@ -1,22 +1,28 @@
 //! A record that is begun anew: the old one is replaced whole, or written over where it is.
-ghost use Rattle.std.specs.Prelude.{◌≡◌, false, IfOk, IfErr, IfSome};
+ghost use Rattle.std.specs.Prelude.{◌≡◌, ◌∷◌, true, false, Bool, List, ℕ, IfOk, IfErr, IfSome};
 ghost use Rattle.std.specs.Io.KnownBytes.{Appends};
 ghost use Rattle.load_devices.specs.declared.fault.KeepFault.TheVariants as keep;
 ghost use Rattle.load_record.specs.declared.version.Version.TheVariants.{Second};
 ghost use Rattle.load_record.specs.RecordText.{record_text};
+ghost use Rattle.record_file.specs.Beginning.{course, IsLeft, IsMaking, IsMakingHeld, IsRenaming, IsWriting, IsBeside, IsFolderSync, IsMakingSynced};
+ghost use Rattle.record_file.specs.Beginning.{IsCut, IsWrittenOver, IsNotWrittenOver};
+ghost use Rattle.record_file.specs.Course.{is_done, is_some, renamed};
 ghost use Rattle.record_file.specs.DiskRecord.{HasBegun};
+ghost use Rattle.record_file.specs.DiskStep.{HasAsked, IsLookAtName, Failed, Open};
+ghost use Rattle.record_file.specs.Folder.{IsFolderOf};
 ghost use Rattle.record_file.specs.RecordFault.{IsUnbegun};
 
+use crate::disk::{Access, Disk};
 use crate::durable::DurableWriter;
-use crate::held_file::{HeldFile, Made};
-use crate::locks::Locks;
+use crate::held_file::{HeldFile, is_named, let_go};
+use crate::made::Made;
 use crate::record_fault::RecordFault;
 use load_devices::KeepFault;
 use load_record::FileKeep;
 use std::alloc::Global;
-use std::fs;
-use std::fs::{File, OpenFile};
-use std::io::{ErrorKind, Seek, SeekFrom, Write};
+use std::fs::OpenFile;
+use std::io;
+use std::io::{ErrorKind, Write};
 use tape_image::Plan;
 
 // What the name of the new file has more than that of the record.
@@ -25,144 +31,205 @@ const BESIDE: &str = ".ldaodt-new";
 /// A record on the disk: what its keeper has flushed survives a loss of power.
 pub type DiskRecord<F> = FileKeep<DurableWriter<F>>;
 
-impl<F: Locks> HeldFile<'_, F> {
-    /// Begins the record in this file anew, with the first verified words of a plan.
-    ///
-    /// The new record is written to a file beside it, held, synced, and renamed over it; so whatever
-    /// happens meanwhile, its name leads to the old record or to the new one, and to one that this load
-    /// holds. None where that can't be done: no file can be made there or be renamed, its folder can't be
-    /// synced, or the file has a second name, is behind a link or is a device, which a rename would not
-    /// reach.
-    ///
-    /// The fault is `Write`, where the new record can't be written, or `Memory`.
-    pub(crate) fn begin_beside(
-        &mut self,
-        alloc: Global,
-        plan: &Plan,
-        verified: u32,
-    ) -> Result<Option<DiskRecord<F::File>>, RecordFault>
-        ensures begun { IfOk result (λ kept. IfSome kept (HasBegun plan.now verified)) }
-        ensures fault { IfErr result IsUnbegun }
-    {
-        if !self.is_replaceable() {
-            return Ok(None);
+/// Begins a record anew, with the first verified words of a plan, in the place of a file that is held.
+///
+/// The new record is written to a file beside it, held, synced, and renamed over it; so whatever happens
+/// meanwhile, its name leads to the old record or to the new one, and to one that this load holds. None
+/// where that can't be done: no file can be made there or be renamed, its folder can't be opened, or the
+/// file has a second name, is behind a link or is a device, which a rename would not reach.
+///
+/// The fault is `Write`, where the new record can't be written, or `Memory`.
+pub(crate) fn begin_beside<D: Disk>(
+    disk: &mut D,
+    name: &str,
+    held: &mut HeldFile<D::File>,
+    alloc: Global,
+    plan: &Plan,
+    verified: u32,
+) -> Result<Option<DiskRecord<D::File>>, RecordFault>
+    ensures begun { IfOk result (λ kept. IfSome kept (HasBegun plan.now verified)) }
+    ensures fault { IfErr result IsUnbegun }
+    ensures device { held.new.device ≡ held.old.device }
+    ensures asked { HasAsked (D.asked disk.old) (D.asked disk.new) (IsBeside name.now held.old.made (course result) held.new.made) }
+{
+    // A rename does not reach what a link leads to, and leaves the old record under another name.
+    if !disk.is_sole_file(name) {
+        return Ok(None);
+    }
+    let text = format!(in alloc; "{name}{BESIDE}")?;
+    let beside = text.as_str();
+    let Ok(folder) = disk.open(Access::ReadOnly, folder_of(name)) else {
+        return Ok(None);
+    };
+    let Some(file) = make_beside(disk, beside)? else {
+        return Ok(None);
+    };
+    if let Ok(metadata) = held.file.metadata() {
+        let _ = file.set_permissions(metadata.permissions());
+    }
+    match begun(file, plan, verified) {
+        Ok(keeper) => {
+            let replaced = replace(disk, name, held, beside, &folder)?;
+            Ok(replaced.then_some(keeper))
         }
-        let name = self.name;
-        let beside = format!(in alloc; "{name}{BESIDE}")?;
-        let Ok(folder) = fs::open(self.files, folder_of(name)) else {
-            return Ok(None);
-        };
-        let Some(file) = make_beside(self.files, &beside)? else {
-            return Ok(None);
-        };
-        if let Ok(metadata) = self.file.metadata() {
-            let _ = file.set_permissions(metadata.permissions());
-        }
-        match begun(file, plan, verified) {
-            Ok(keeper) => {
-                let replaced = self.replace(&beside, &folder)?;
-                Ok(replaced.then_some(keeper))
-            }
-            Err(fault) => {
-                let _ = fs::remove_file(self.files, &beside);
-                Err(RecordFault::from(fault))
-            }
+        Err(fault) => {
+            let _ = disk.remove(beside);
+            Err(RecordFault::from(fault))
         }
     }
+}
 
-    // Renames the new record over this file, and brings that to the disk. False where it can't be renamed.
-    fn replace(&mut self, beside: &str, folder: &F::File) -> Result<bool, RecordFault>
-        ensures fault { IfErr result IsUnbegun }
-    {
-        if !self.is_named() {
-            let _ = fs::remove_file(self.files, beside);
-            return Err(RecordFault::Write);
-        }
-        if fs::rename(self.files, beside, self.name).is_err() {
-            let _ = fs::remove_file(self.files, beside);
-            return Ok(false);
-        }
-        self.keep();
-        sync(folder)?;
-        Ok(true)
+// Renames the new record over the old one, and brings that to the disk. False where it can't be renamed.
+// From the rename on the old file stays, also where this load made it.
+fn replace<D: Disk>(
+    disk: &mut D,
+    name: &str,
+    held: &mut HeldFile<D::File>,
+    beside: &str,
+    folder: &D::File,
+) -> Result<bool, RecordFault>
+    ensures fault { IfErr result IsUnbegun }
+    ensures device { held.new.device ≡ held.old.device }
+    ensures asked { (dir : List ℕ) → D.is_opened_as folder.now dir
+        → HasAsked (D.asked disk.old) (D.asked disk.new) (IsRenaming name.now beside.now dir held.old.made (renamed result) held.new.made) }
+{
+    if !is_named(disk, name, held) {
+        let _ = disk.remove(beside);
+        return Err(RecordFault::Write);
     }
-
-    /// Begins the record in this file anew, with the first verified words of a plan, where it is.
-    ///
-    /// What is written over a record of the same version changes none of its words; what that has more is
-    /// cut off last. The fault is `Write`, also for a record of version 1, or `Memory`.
-    pub(crate) fn begin_in_place(
-        mut self,
-        alloc: Global,
-        plan: &Plan,
-        verified: u32,
-    ) -> Result<DiskRecord<F::File>, RecordFault>
-        ensures begun { IfOk result (HasBegun plan.now verified) }
-        ensures fault { IfErr result IsUnbegun }
-    {
-        self.sync_making(alloc)?;
-        if self.is_device() {
-            return Ok(begun(self.into_file(), plan, verified)?);
-        }
-        self.rewind()?;
-        let keeper = begun(self.into_file(), plan, verified)?;
-        cut_behind(keeper.writer())?;
-        Ok(keeper)
+    if disk.rename(beside, name).is_err() {
+        let _ = disk.remove(beside);
+        return Ok(false);
     }
-
-    // Brings to the disk that the file was made, where this load made it.
-    fn sync_making(&self, alloc: Global) -> Result<(), RecordFault>
-        ensures fault { IfErr result IsUnbegun }
-    {
-        match self.made() {
-            Made::Before => Ok(()),
-            Made::Here => sync_folder(self.files, self.name),
-            Made::BehindLink => match self.files.canonicalize(alloc, self.name) {
-                Ok(target) => sync_folder(self.files, target.as_str()),
-                Err(_) => Err(RecordFault::Write),
-            },
-        }
+    held.made = Made::Before;
+    match disk.sync_folder(folder) {
+        Ok(()) => Ok(true),
+        Err(_) => Err(RecordFault::Write),
     }
+}
 
-    // Goes back to the beginning, to write there. A record of version 1 is not written over: its lines are
-    // others, and where a write failed it would be neither the old record nor the new one.
-    fn rewind(&mut self) -> Result<(), RecordFault>
-        ensures fault { IfErr result IsUnbegun }
-    {
-        if !self.is_current() {
-            return Err(RecordFault::Write);
-        }
-        match self.file.seek(SeekFrom::Start(0)) {
-            Ok(_) => Ok(()),
+/// Begins a record anew, with the first verified words of a plan, in the file that is held.
+///
+/// What is written over a record of the same version changes none of its words; what that has more is cut
+/// off last. The fault is `Write`, also for a record of version 1, or `Memory`.
+pub(crate) fn begin_in_place<D: Disk>(
+    disk: &mut D,
+    name: &str,
+    mut held: HeldFile<D::File>,
+    alloc: Global,
+    plan: &Plan,
+    verified: u32,
+) -> Result<DiskRecord<D::File>, RecordFault>
+    ensures begun { IfOk result (HasBegun plan.now verified) }
+    ensures fault { IfErr result IsUnbegun }
+    ensures asked { IfOk result (λ keeper. HasAsked (D.asked disk.old) (D.asked disk.new) (IsWrittenOver name.now held.made keeper.text held.device)) }
+    ensures failed { IfErr result (λ _. HasAsked (D.asked disk.old) (D.asked disk.new) (IsNotWrittenOver name.now held.made)) }
+{
+    if let Err(fault) = make_ready(disk, name, alloc, &mut held) {
+        let_go(disk, name, held);
+        return Err(fault);
+    }
+    let device = held.device;
+    let keeper = begun(held.file, plan, verified)?;
+    if device {
+        return Ok(keeper);
+    }
+    cut_behind(disk, keeper.writer())?;
+    Ok(keeper)
+}
+
+// Brings to the disk that the file was made, where this load made it, and goes back to its beginning.
+fn make_ready<D: Disk>(
+    disk: &mut D,
+    name: &str,
+    alloc: Global,
+    held: &mut HeldFile<D::File>,
+) -> Result<(), RecordFault>
+    ensures fault { IfErr result IsUnbegun }
+    ensures made { held.new.made ≡ held.old.made }
+    ensures device { held.new.device ≡ held.old.device }
+    ensures asked { IfOk result (λ _. HasAsked (D.asked disk.old) (D.asked disk.new) (IsMakingSynced name.now held.old.made true)) }
+    ensures failed { IfErr result (λ _. HasAsked (D.asked disk.old) (D.asked disk.new)
+        (λ steps. (synced : Bool) × IsMakingSynced name.now held.old.made synced steps)) }
+{
+    sync_making(disk, name, alloc, held.made)?;
+    if held.device || held.rewind() {
+        Ok(())
+    } else {
+        Err(RecordFault::Write)
+    }
+}
+
+// Brings to the disk that the file was made, where this load made it.
+fn sync_making<D: Disk>(
+    disk: &mut D,
+    name: &str,
+    alloc: Global,
+    made: Made,
+) -> Result<(), RecordFault>
+    ensures fault { IfErr result IsUnbegun }
+    ensures asked { HasAsked (D.asked disk.old) (D.asked disk.new) (IsMakingSynced name.now made (is_done result)) }
+{
+    match made {
+        Made::Before => Ok(()),
+        Made::Here => sync_folder(disk, name),
+        Made::BehindLink => match disk.resolve(alloc, name) {
+            Ok(target) => sync_folder(disk, target.as_str()),
             Err(_) => Err(RecordFault::Write),
-        }
+        },
     }
 }
 
 // Makes a file beside the record, and holds it. None where none can be made there, or somebody holds one
-// of that name. One that a load left which was killed between the making and the renaming goes.
-fn make_beside<F: Locks>(files: &F, name: &str) -> Result<Option<F::File>, RecordFault>
+// of that name.
+fn make_beside<D: Disk>(disk: &mut D, name: &str) -> Result<Option<D::File>, RecordFault>
     ensures fault { IfErr result IsUnbegun }
+    ensures asked { HasAsked (D.asked disk.old) (D.asked disk.new) (IsMakingHeld name.now (is_some result)) }
 {
-    let made = match File::create_new(files, name) {
-        Err(error) if error.kind() == ErrorKind::AlreadyExists && is_left(files, name) => {
-            let _ = fs::remove_file(files, name);
-            File::create_new(files, name)
+    match make_new(disk, name) {
+        Ok(file) => {
+            if disk.hold(&file) {
+                Ok(Some(file))
+            } else {
+                Ok(None)
+            }
         }
-        made => made,
-    };
-    match made {
-        Ok(file) if files.hold(&file) => Ok(Some(file)),
         Err(error) if error.kind() == ErrorKind::StorageFull => Err(RecordFault::Write),
-        _ => Ok(None),
+        Err(_) => Ok(None),
     }
 }
 
+// Makes a file that is not there.
+fn make_new<D: Disk>(disk: &mut D, name: &str) -> io::Result<D::File>
+    ensures named { IfOk result (λ file. D.is_opened_as file name.now) }
+    ensures asked { HasAsked (D.asked disk.old) (D.asked disk.new) (IsMaking name.now (is_done result)) }
+{
+    match disk.open(Access::New, name) {
+        Err(error) if error.kind() == ErrorKind::AlreadyExists => make_again(disk, name, error),
+        made => made,
+    }
+}
+
+// Makes a file in the place of one that a load left which was killed between the making and the renaming.
+// Where it was not left so, it stays, and the error is the given one.
+fn make_again<D: Disk>(disk: &mut D, name: &str, error: io::Error) -> io::Result<D::File>
+    ensures named { IfOk result (λ file. D.is_opened_as file name.now) }
+    ensures asked { HasAsked (D.asked disk.old) (D.asked disk.new) (λ steps. IsMaking name.now (is_done result) (Failed (Open Access.New name.now) ∷ steps)) }
+{
+    if !is_left(disk, name) {
+        return Err(error);
+    }
+    let _ = disk.remove(name);
+    disk.open(Access::New, name)
+}
+
 // Whether a file beside the record was left by a load that is over: nobody holds it.
-fn is_left<F: Locks>(files: &F, name: &str) -> bool {
-    match fs::symlink_metadata(files, name) {
-        Ok(metadata) if metadata.is_file() => match fs::open(files, name) {
-            Ok(file) => files.hold(&file),
+fn is_left<D: Disk>(disk: &mut D, name: &str) -> bool
+    ensures asked { HasAsked (D.asked disk.old) (D.asked disk.new) (IsLeft name.now result) }
+{
+    match disk.look_at_name(name) {
+        Ok(metadata) if metadata.is_file() => match disk.open(Access::ReadOnly, name) {
+            Ok(file) => disk.hold(&file),
             Err(_) => false,
         },
         _ => false,
@@ -184,40 +251,40 @@ fn begun<T: OpenFile + Write + Drop>(
 }
 
 // Cuts off what stands behind that which was written, and brings that to the disk.
-fn cut_behind<T: OpenFile + Write + Drop>(writer: &DurableWriter<T>) -> Result<(), RecordFault>
+fn cut_behind<D: Disk>(disk: &mut D, writer: &DurableWriter<D::File>) -> Result<(), RecordFault>
     ensures fault { IfErr result IsUnbegun }
+    ensures asked { HasAsked (D.asked disk.old) (D.asked disk.new) (IsCut (D.File.contents writer.now.file) (is_done result)) }
 {
-    match writer.file.set_len(writer.length) {
-        Ok(()) => sync(&writer.file),
+    if disk.cut(&writer.file, writer.length).is_err() {
+        return Err(RecordFault::Write);
+    }
+    match disk.sync_file(&writer.file) {
+        Ok(()) => Ok(()),
         Err(_) => Err(RecordFault::Write),
     }
 }
 
 // The folder in which a file of this name is.
-fn folder_of(name: &str) -> &str {
+fn folder_of(name: &str) -> &str
+    ensures { IsFolderOf name.now result.now }
+{
     match name.rsplit_once('/') {
         None => ".",
-        Some(("", _)) => "/",
+        Some((folder, _)) if folder.is_empty() => "/",
         Some((folder, _)) => folder,
     }
 }
 
 // Brings to the disk which files are in the folder of this name.
-fn sync_folder<F: Locks>(files: &F, name: &str) -> Result<(), RecordFault>
+fn sync_folder<D: Disk>(disk: &mut D, name: &str) -> Result<(), RecordFault>
     ensures fault { IfErr result IsUnbegun }
+    ensures asked { HasAsked (D.asked disk.old) (D.asked disk.new) (IsFolderSync name.now (is_done result)) }
 {
-    match fs::open(files, folder_of(name)) {
-        Ok(folder) => sync(&folder),
+    let Ok(folder) = disk.open(Access::ReadOnly, folder_of(name)) else {
+        return Err(RecordFault::Write);
+    };
+    match disk.sync_folder(&folder) {
+        Ok(()) => Ok(()),
         Err(_) => Err(RecordFault::Write),
-    }
-}
-
-// Brings a file or a folder to the disk. One that has no disk behind it is taken as synced.
-fn sync<T: OpenFile>(file: &T) -> Result<(), RecordFault>
-    ensures fault { IfErr result IsUnbegun }
-{
-    match file.sync_all() {
-        Err(error) if error.kind() != ErrorKind::InvalidInput => Err(RecordFault::Write),
-        _ => Ok(()),
     }
 }

@@ -1,16 +1,21 @@
 //! The file of a record, which one load at a time holds.
-ghost use Rattle.std.specs.Prelude.{IfErr};
+ghost use Rattle.std.specs.Prelude.{◌≡◌, OnErr, ◌∷◌, IfErr, IfOk, None, Some, option_map, true, false, Bool};
+ghost use Rattle.record_file.specs.Beginning.{IsLetGo};
+ghost use Rattle.record_file.specs.DiskStep.{HasAsked, Tells, IsLook, IsLookAtName, Failed, Open};
+ghost use Rattle.record_file.specs.Holding.{IsFound, IsMade, IsOpened, hold_steps, IsHeld, IsTry, IsHolding, IsNotHeld};
+ghost use Rattle.record_file.specs.Taking.{made_of, IsOpenedAs, kind_of, tried, device_of, IsMadeSo};
+ghost use Rattle.record_file.specs.Reading.{kind_after};
 ghost use Rattle.record_file.specs.RecordFault.{IsUnread};
 
-use crate::locks::Locks;
+use crate::disk::{Access, Disk};
+use crate::made::Made;
 use crate::old_record::has_line;
 use crate::record_fault::RecordFault;
 use byte_io::read_up_to;
 use load_record::{RECORD_LIMIT, Version};
 use std::alloc::Global;
-use std::fs;
-use std::fs::{File, Metadata, OpenFile};
-use std::io::ErrorKind;
+use std::fs::{Metadata, OpenFile};
+use std::io::{ErrorKind, Read, Seek, SeekFrom};
 use std::os::unix::fs::{FileTypeExt, MetadataExt};
 
 // How often a file is opened again that somebody replaces between its opening and its lock.
@@ -32,22 +37,9 @@ impl FileId {
     }
 }
 
-/// Whether a load made the file of its record.
-#[derive(Clone, Copy, PartialEq, Eq)]
-pub(crate) enum Made {
-    /// It was there before.
-    Before,
-
-    /// The load made it, in the folder of its name.
-    Here,
-
-    /// The load made it where a link of its name leads to.
-    BehindLink,
-}
-
 // A file that was opened and is not held yet.
 #[derive(Drop)]
-struct Opened<T: Drop> {
+pub(crate) struct Opened<T: Drop> {
     file: T,
     made: Made,
     writable: bool,
@@ -55,7 +47,7 @@ struct Opened<T: Drop> {
 
 // What came of opening a record's file.
 #[derive(Drop)]
-enum Opening<T: Drop> {
+pub(crate) enum Opening<T: Drop> {
     Opened(Opened<T>),
 
     /// Somebody made or removed the file at the same time.
@@ -66,201 +58,206 @@ enum Opening<T: Drop> {
 }
 
 /// The file of a record, which is held until this value goes: no other load can hold it.
-///
-/// Where the load made the file under this very name, and nothing was written to it, it goes with this
-/// value, while it is held. One that was made where a link leads to stays, empty.
-pub struct HeldFile<'a, F: Locks> {
-    pub(crate) files: &'a F,
-    pub(crate) name: &'a str,
-    pub(crate) file: F::File,
-    state: State,
-}
-
-// What is known of a file that is held.
-#[derive(Clone, Copy)]
-struct State {
+#[derive(Drop)]
+pub(crate) struct HeldFile<T: Drop> {
+    pub(crate) file: T,
     id: FileId,
 
-    /// Whether it is a device.
-    device: bool,
+    /// Whether it is a device, which has no length and nothing to go back to.
+    pub(crate) device: bool,
 
-    /// Whether it held a record of the version that is written, or none.
+    /// Whether it held a record of the version that is written, or none, so that what is written over it
+    /// takes none of its words away.
     current: bool,
 
-    made: Made,
-    writable: bool,
+    /// Whether this load made it.
+    pub(crate) made: Made,
+
+    /// Whether it may be written.
+    pub(crate) writable: bool,
 }
 
-impl<'a, F: Locks> HeldFile<'a, F> {
-    /// Opens and holds the file of this name, which is made where there is none. None where it is not
-    /// there and can't be made.
-    ///
-    /// `Read` comes where it can't be read, or is neither a plain file nor a character device, and
-    /// `InUse` where somebody else holds it.
-    pub fn hold(files: &'a F, name: &'a str) -> Result<Option<HeldFile<'a, F>>, RecordFault>
-        ensures fault { IfErr result IsUnread }
-    {
-        for _ in 0..ATTEMPTS {
-            match open(files, name)? {
-                Opening::Nothing => return Ok(None),
-                Opening::Changed => {}
-                Opening::Opened(opened) => {
-                    if let Some(held) = hold_opened(files, name, opened)? {
-                        return Ok(Some(held));
-                    }
-                }
-            }
-        }
-        Err(RecordFault::InUse)
-    }
+// What came of one try to hold a record's file.
+#[derive(Drop)]
+pub(crate) enum Try<T: Drop> {
+    Held(HeldFile<T>),
 
+    /// Somebody made, removed or replaced the file at the same time.
+    Changed,
+
+    /// It is not there, and can't be made.
+    Nothing,
+}
+
+impl<T: Read + Seek + OpenFile + Drop> HeldFile<T> {
     /// All that it holds, or so much that it is too long for a record.
     ///
     /// `Read` comes where reading fails, `Memory` where a growth is refused.
-    pub fn read(&mut self, alloc: Global) -> Result<Vec<u8>, RecordFault>
+    pub(crate) fn read(&mut self, alloc: Global) -> Result<Vec<u8>, RecordFault>
         ensures fault { IfErr result IsUnread }
+        ensures kind { IfOk result (λ text. kind_of self.new ≡ kind_after text.items (kind_of self.old)) }
+        ensures same { OnErr result (kind_of self.new ≡ kind_of self.old) }
     {
         let text = read_up_to(alloc, &mut self.file, RECORD_LIMIT + 1)?;
-        self.state.current = !has_line(&text) || text.starts_with(Version::Second.header());
+        self.current = !has_line(&text) || text.starts_with(Version::Second.header());
         // Another load may have written to it between its making and its lock.
         if !text.is_empty() {
-            self.keep();
+            self.made = Made::Before;
         }
         Ok(text)
     }
 
-    /// Whether it may be written.
-    pub fn is_writable(&self) -> bool {
-        self.state.writable
-    }
-
-    /// Whether its name still leads to it.
-    pub(crate) fn is_named(&self) -> bool {
-        match fs::metadata(self.files, self.name) {
-            Ok(metadata) => FileId::of(&metadata) == self.state.id,
-            Err(_) => false,
-        }
-    }
-
-    /// Whether a rename over its name replaces this file, whole and nothing else: it is a plain file, and
-    /// has no other name, under which the old record would stay.
-    pub(crate) fn is_replaceable(&self) -> bool {
-        let Ok(named) = fs::symlink_metadata(self.files, self.name) else {
-            return false;
-        };
-        named.is_file() && named.nlink() == 1
-    }
-
-    /// Whether this load made it.
-    pub(crate) fn made(&self) -> Made {
-        self.state.made
-    }
-
-    /// Whether it is a device, which has no length and nothing to go back to.
-    pub(crate) fn is_device(&self) -> bool {
-        self.state.device
-    }
-
-    /// Whether it held a record of the version that is written, or none, so that what is written over it
-    /// takes none of its words away.
-    pub(crate) fn is_current(&self) -> bool {
-        self.state.current
-    }
-
-    /// From here on it stays, also where this load made it.
-    pub(crate) fn keep(&mut self) {
-        self.state.made = Made::Before;
-    }
-
-    /// The open file alone, which stays held until it is closed.
-    pub(crate) fn into_file(self) -> F::File {
-        let HeldFile {
-            files: _,
-            name: _,
-            file,
-            state: _,
-        } = self;
-        file
+    /// Goes back to the beginning, to write there. A record of version 1 is not written over: its lines
+    /// are others, and where a write failed it would be neither the old record nor the new one.
+    pub(crate) fn rewind(&mut self) -> bool
+        ensures { kind_of self.new ≡ kind_of self.old }
+    {
+        self.current && self.file.seek(SeekFrom::Start(0)).is_ok()
     }
 }
 
-impl<F: Locks> Drop for HeldFile<'_, F> {
-    fn drop(self) {
-        let goes = self.state.made == Made::Here && self.is_named();
-        let HeldFile {
-            files,
-            name,
-            file: _held,
-            state: _,
-        } = self;
-        if goes {
-            let _ = fs::remove_file(files, name);
-        }
-    }
-}
-
-// Holds a file that was opened. None where its name leads to another file by now, whose load may have
-// ended between the opening and the lock.
-fn hold_opened<'a, F: Locks>(
-    files: &'a F,
-    name: &'a str,
-    opened: Opened<F::File>,
-) -> Result<Option<HeldFile<'a, F>>, RecordFault>
+/// Opens and holds the file of this name, which is made where there is none. None where it is not there
+/// and can't be made.
+///
+/// `Read` comes where it can't be read, or is neither a plain file nor a character device, and `InUse`
+/// where somebody else holds it.
+pub(crate) fn hold<D: Disk>(
+    disk: &mut D,
+    name: &str,
+) -> Result<Option<HeldFile<D::File>>, RecordFault>
     ensures fault { IfErr result IsUnread }
+    ensures asked { IfOk result (λ found. HasAsked (D.asked disk.old) (D.asked disk.new) (IsHolding name.now (option_map kind_of found))) }
+    ensures failed { IfErr result (λ _. HasAsked (D.asked disk.old) (D.asked disk.new) (IsNotHeld name.now)) }
+{
+    for _ in 0..ATTEMPTS {
+        match try_hold(disk, name)? {
+            Try::Held(held) => return Ok(Some(held)),
+            Try::Nothing => return Ok(None),
+            Try::Changed => {}
+        }
+    }
+    Err(RecordFault::InUse)
+}
+
+// Tries once to open and hold the file of this name.
+fn try_hold<D: Disk>(disk: &mut D, name: &str) -> Result<Try<D::File>, RecordFault>
+    ensures fault { IfErr result IsUnread }
+    ensures asked { IfOk result (λ outcome. HasAsked (D.asked disk.old) (D.asked disk.new) (IsTry name.now (tried outcome))) }
+    ensures failed { IfErr result (λ _. HasAsked (D.asked disk.old) (D.asked disk.new) (IsTry name.now None)) }
+{
+    match open(disk, name)? {
+        Opening::Opened(opened) => hold_opened(disk, name, opened),
+        Opening::Changed => Ok(Try::Changed),
+        Opening::Nothing => Ok(Try::Nothing),
+    }
+}
+
+// Holds a file that was opened. It has changed where its name leads to another file by now, whose load may
+// have ended between the opening and the lock.
+fn hold_opened<D: Disk>(
+    disk: &mut D,
+    name: &str,
+    opened: Opened<D::File>,
+) -> Result<Try<D::File>, RecordFault>
+    requires { D.is_opened_as opened.file name.now }
+    ensures fault { IfErr result IsUnread }
+    ensures made { IfOk result (IsMadeSo opened.made) }
+    ensures asked { IfOk result (λ outcome. HasAsked (D.asked disk.old) (D.asked disk.new) (IsHeld name.now (device_of outcome))) }
+    ensures failed { IfErr result (λ _. HasAsked (D.asked disk.old) (D.asked disk.new) (IsHeld name.now None)) }
 {
     let Ok(metadata) = opened.file.metadata() else {
         return Err(RecordFault::Read);
     };
     let device = metadata.file_type().is_char_device();
-    if !device && !files.hold(&opened.file) {
+    if !is_free(disk, name, &opened.file, device) {
         return Err(RecordFault::InUse);
     }
     let id = FileId::of(&metadata);
-    match fs::metadata(files, name) {
-        Ok(named) if FileId::of(&named) == id => Ok(Some(HeldFile {
-            files,
-            name,
+    match disk.look(name) {
+        Ok(named) if FileId::of(&named) == id => Ok(Try::Held(HeldFile {
             file: opened.file,
-            state: State {
-                id,
-                device,
-                current: false,
-                made: opened.made,
-                writable: opened.writable,
-            },
+            id,
+            device,
+            current: false,
+            made: opened.made,
+            writable: opened.writable,
         })),
-        _ => Ok(None),
+        _ => Ok(Try::Changed),
+    }
+}
+
+// Holds an open file, but for a device, which nobody holds. False where somebody else holds it.
+fn is_free<D: Disk>(disk: &mut D, name: &str, file: &D::File, device: bool) -> bool
+    requires { D.is_opened_as file.now name.now }
+    ensures asked { Tells (D.asked disk.old) (D.asked disk.new) (hold_steps name.now device result) }
+{
+    if device {
+        return true;
+    }
+    disk.hold(file)
+}
+
+/// Whether a name leads to a file that is held.
+pub(crate) fn is_named<D: Disk>(disk: &mut D, name: &str, held: &HeldFile<D::File>) -> bool
+    ensures asked { HasAsked (D.asked disk.old) (D.asked disk.new) (IsLook name.now result) }
+{
+    match disk.look(name) {
+        Ok(metadata) => FileId::of(&metadata) == held.id,
+        Err(_) => false,
+    }
+}
+
+/// Lets a file go. One that this load made under this very name, and to which nothing was written, goes
+/// with it, while it is held. One that was made where a link leads to stays, empty.
+pub(crate) fn let_go<D: Disk>(disk: &mut D, name: &str, held: HeldFile<D::File>)
+    ensures asked { HasAsked (D.asked disk.old) (D.asked disk.new) (IsLetGo name.now held.made) }
+{
+    match held.made {
+        Made::Here => {
+            if is_named(disk, name, &held) {
+                let _ = disk.remove(name);
+            }
+        }
+        Made::Before | Made::BehindLink => {}
     }
 }
 
 // Opens the file of this name, or makes it where there is none. Nothing but a plain file or a character
 // device is opened: a pipe would wait for its writer.
-fn open<F: Locks>(files: &F, name: &str) -> Result<Opening<F::File>, RecordFault>
+fn open<D: Disk>(disk: &mut D, name: &str) -> Result<Opening<D::File>, RecordFault>
     ensures fault { IfErr result IsUnread }
+    ensures asked { IfOk result (λ opening. HasAsked (D.asked disk.old) (D.asked disk.new) (IsOpened name.now (made_of opening))) }
+    ensures named { IfOk result (IsOpenedAs D.is_opened_as name.now) }
+    ensures failed { IfErr result (λ _. HasAsked (D.asked disk.old) (D.asked disk.new) (IsOpened name.now None)) }
 {
-    match fs::metadata(files, name) {
+    match disk.look(name) {
         Ok(metadata) if metadata.is_file() || metadata.file_type().is_char_device() => {
-            open_found(files, name)
+            open_found(disk, name)
         }
-        Err(error) if error.kind() == ErrorKind::NotFound => Ok(make(files, name)),
+        Err(error) if error.kind() == ErrorKind::NotFound => Ok(make(disk, name)),
         _ => Err(RecordFault::Read),
     }
 }
 
 // Opens a file that was there a moment ago, to be written if it may be.
-fn open_found<F: Locks>(files: &F, name: &str) -> Result<Opening<F::File>, RecordFault>
+fn open_found<D: Disk>(disk: &mut D, name: &str) -> Result<Opening<D::File>, RecordFault>
     ensures fault { IfErr result IsUnread }
+    ensures asked { IfOk result (λ opening. HasAsked (D.asked disk.old) (D.asked disk.new) (IsFound name.now (made_of opening))) }
+    ensures named { IfOk result (IsOpenedAs D.is_opened_as name.now) }
+    ensures failed { IfErr result (λ _. HasAsked (D.asked disk.old) (D.asked disk.new) (IsFound name.now None)) }
 {
-    let both = File::options().read(true).write(true).open(files, name);
-    let (file, writable) = match both {
-        Ok(file) => (Ok(file), true),
-        Err(_) => (fs::open(files, name), false),
-    };
-    match file {
+    if let Ok(file) = disk.open(Access::ReadWrite, name) {
+        return Ok(Opening::Opened(Opened {
+            file,
+            made: Made::Before,
+            writable: true,
+        }));
+    }
+    match disk.open(Access::ReadOnly, name) {
         Ok(file) => Ok(Opening::Opened(Opened {
             file,
             made: Made::Before,
-            writable,
+            writable: false,
         })),
         Err(error) if error.kind() == ErrorKind::NotFound => Ok(Opening::Changed),
         Err(_) => Err(RecordFault::Read),
@@ -268,29 +265,30 @@ fn open_found<F: Locks>(files: &F, name: &str) -> Result<Opening<F::File>, Recor
 }
 
 // Makes a file, also where a link leads to, if it can be made.
-fn make<F: Locks>(files: &F, name: &str) -> Opening<F::File> {
-    match File::create_new(files, name) {
+fn make<D: Disk>(disk: &mut D, name: &str) -> Opening<D::File>
+    ensures asked { HasAsked (D.asked disk.old) (D.asked disk.new) (IsMade name.now (made_of result)) }
+    ensures named { IsOpenedAs D.is_opened_as name.now result }
+{
+    match disk.open(Access::New, name) {
         Ok(file) => Opening::Opened(Opened {
             file,
             made: Made::Here,
             writable: true,
         }),
-        Err(error) if error.kind() == ErrorKind::AlreadyExists => make_behind_link(files, name),
+        Err(error) if error.kind() == ErrorKind::AlreadyExists => make_behind_link(disk, name),
         Err(_) => Opening::Nothing,
     }
 }
 
 // Makes the file that a link leads to. Where the name is no link, somebody has made the file just now.
-fn make_behind_link<F: Locks>(files: &F, name: &str) -> Opening<F::File> {
-    if !is_link(files, name) {
+fn make_behind_link<D: Disk>(disk: &mut D, name: &str) -> Opening<D::File>
+    ensures asked { HasAsked (D.asked disk.old) (D.asked disk.new) (λ steps. IsMade name.now (made_of result) (Failed (Open Access.New name.now) ∷ steps)) }
+    ensures named { IsOpenedAs D.is_opened_as name.now result }
+{
+    if !is_link(disk, name) {
         return Opening::Changed;
     }
-    let opened = File::options()
-        .read(true)
-        .write(true)
-        .create(true)
-        .open(files, name);
-    match opened {
+    match disk.open(Access::Created, name) {
         Ok(file) => Opening::Opened(Opened {
             file,
             made: Made::BehindLink,
@@ -300,8 +298,10 @@ fn make_behind_link<F: Locks>(files: &F, name: &str) -> Opening<F::File> {
     }
 }
 
-fn is_link<F: Locks>(files: &F, name: &str) -> bool {
-    match fs::symlink_metadata(files, name) {
+fn is_link<D: Disk>(disk: &mut D, name: &str) -> bool
+    ensures asked { HasAsked (D.asked disk.old) (D.asked disk.new) (IsLookAtName name.now result) }
+{
+    match disk.look_at_name(name) {
         Ok(metadata) => metadata.is_symlink(),
         Err(_) => false,
     }

@@ -1,24 +1,27 @@
 //! The record of a load as a file on the disk.
 //!
-//! One load at a time has it: `RecordFile` holds its file from its reading on (`HeldFile`, over a system
-//! that `Locks`). What the file held is read whole; a record that is begun anew replaces it whole, or is
-//! written over it where a rename would not reach it (`DiskRecord`); and what was kept in it is on the
-//! disk (`DurableWriter`).
+//! One load at a time has it: `RecordFile` holds its file from its reading on. What the file held is read
+//! whole; a record that is begun anew replaces it whole, or is written over it where a rename would not
+//! reach it (`DiskRecord`); and what was kept in it is on the disk (`DurableWriter`). Where the system of
+//! files tells what was asked of it (`Disk`), the contracts say that, step by step. Every system that
+//! `Locks` is such a one, and tells nothing.
 //!
 //! The crate `machine_load` uses it, and its tests stand in `command_tests`.
 #![tactic(auto)]
 
+mod disk;
 mod disk_record;
 mod durable;
 mod held_file;
 mod locks;
+mod made;
 mod old_record;
 mod record_fault;
 mod record_file;
 
+pub use disk::{Access, Disk};
 pub use disk_record::DiskRecord;
 pub use durable::{DurableWriter, SyncWrite};
-pub use held_file::HeldFile;
 pub use locks::Locks;
 pub use old_record::{OldRecord, holds_no_record};
 pub use record_fault::RecordFault;

@@ -1,29 +1,39 @@
 //! The record's file over a whole load.
-ghost use Rattle.std.specs.Prelude.{IfErr, IfOk};
+ghost use Rattle.std.specs.Prelude.{◌≡◌, Bool, Option, IfErr, IfOk, MatchOption, option_map};
+ghost use Rattle.load_devices.specs.Told.{Keeps};
+ghost use Rattle.record_file.specs.Beginning.{IsBegun, IsNotBegun};
 ghost use Rattle.record_file.specs.DiskRecord.{HasBegun};
+ghost use Rattle.record_file.specs.DiskStep.{HasAsked};
+ghost use Rattle.record_file.specs.Reading.{IsRead, IsNotRead};
 ghost use Rattle.record_file.specs.RecordFault.{IsUnbegun, IsUnread};
+ghost use Rattle.record_file.specs.Taking.{kind_of};
 
-use crate::disk_record::DiskRecord;
-use crate::held_file::HeldFile;
-use crate::locks::Locks;
+use crate::disk::Disk;
+use crate::disk_record::{DiskRecord, begin_beside, begin_in_place};
+use crate::held_file::{HeldFile, hold, let_go};
 use crate::old_record::OldRecord;
 use crate::record_fault::RecordFault;
 use std::alloc::Global;
 use tape_image::Plan;
 
 /// A record in a file, which is held from its reading on until this value goes.
-#[derive(Drop)]
-pub struct RecordFile<'a, F: Locks> {
-    files: &'a F,
+///
+/// Where the load made the file under this very name, and nothing was written to it, it goes with this
+/// value, while it is held. One that was made where a link leads to stays, empty.
+pub struct RecordFile<'a, D: Disk + Drop> {
+    disk: D,
     name: &'a str,
-    held: Option<HeldFile<'a, F>>,
+    held: Option<HeldFile<D::File>>,
 }
 
-impl<'a, F: Locks> RecordFile<'a, F> {
+impl<'a, D: Disk + Drop> RecordFile<'a, D> {
     /// The record in the file of this name.
-    pub fn new(files: &'a F, name: &'a str) -> RecordFile<'a, F> {
+    pub fn new(disk: D, name: &'a str) -> RecordFile<'a, D>
+        ensures disk { result.disk ≡ disk }
+        ensures name { result.name.now ≡ name.now }
+    {
         RecordFile {
-            files,
+            disk,
             name,
             held: None,
         }
@@ -36,17 +46,28 @@ impl<'a, F: Locks> RecordFile<'a, F> {
     /// where another load holds it, `Memory` where a growth is refused.
     pub fn read(&mut self, alloc: Global) -> Result<OldRecord, RecordFault>
         ensures fault { IfErr result IsUnread }
+        ensures name { self.new.name.now ≡ self.old.name.now }
+        ensures asked { IfOk result (λ old. HasAsked (D.asked self.old.disk) (D.asked self.new.disk)
+            (IsRead self.old.name.now old.text.items (option_map kind_of self.old.held) (option_map kind_of self.new.held))) }
+        ensures failed { IfErr result (λ _. HasAsked (D.asked self.old.disk) (D.asked self.new.disk) (IsNotRead self.old.name.now)) }
     {
-        let Some(mut held) = HeldFile::hold(self.files, self.name)? else {
+        let Some(mut held) = hold(&mut self.disk, self.name)? else {
             return Ok(OldRecord {
                 text: Vec::new(alloc),
                 writable: false,
             });
         };
-        let text = held.read(alloc)?;
-        let writable = held.is_writable();
-        self.held = Some(held);
-        Ok(OldRecord { text, writable })
+        match held.read(alloc) {
+            Ok(text) => {
+                let writable = held.writable;
+                self.held = Some(held);
+                Ok(OldRecord { text, writable })
+            }
+            Err(fault) => {
+                let_go(&mut self.disk, self.name, held);
+                Err(fault)
+            }
+        }
     }
 
     /// Begins the record anew, with the first verified words of a plan: beside the file that was read,
@@ -59,19 +80,40 @@ impl<'a, F: Locks> RecordFile<'a, F> {
         alloc: Global,
         plan: &Plan,
         verified: u32,
-    ) -> Result<DiskRecord<F::File>, RecordFault>
+    ) -> Result<DiskRecord<D::File>, RecordFault>
         ensures begun { IfOk result (HasBegun plan.now verified) }
         ensures fault { IfErr result IsUnbegun }
+        ensures asked { IfOk result (λ keeper. MatchOption (option_map kind_of self.old.held) ⊥ (λ kind.
+            HasAsked (D.asked self.old.disk) (D.asked self.new.disk) (IsBegun self.old.name.now kind.0 kind.1 keeper.text))) }
+        ensures failed { IfErr result (λ _. MatchOption (option_map kind_of self.old.held) (Keeps (D.asked self.old.disk) (D.asked self.new.disk)) (λ kind.
+            HasAsked (D.asked self.old.disk) (D.asked self.new.disk) (IsNotBegun self.old.name.now kind.0))) }
     {
         let Some(mut held) = self.held.take() else {
             return Err(RecordFault::Write);
         };
-        match held.begin_beside(alloc, plan, verified)? {
-            Some(keeper) => {
+        match begin_beside(&mut self.disk, self.name, &mut held, alloc, plan, verified) {
+            Ok(Some(keeper)) => {
                 self.held = Some(held);
                 Ok(keeper)
             }
-            None => held.begin_in_place(alloc, plan, verified),
+            Ok(None) => begin_in_place(&mut self.disk, self.name, held, alloc, plan, verified),
+            Err(fault) => {
+                let_go(&mut self.disk, self.name, held);
+                Err(fault)
+            }
+        }
+    }
+}
+
+impl<D: Disk + Drop> Drop for RecordFile<'_, D> {
+    fn drop(self) {
+        let RecordFile {
+            mut disk,
+            name,
+            held,
+        } = self;
+        if let Some(held) = held {
+            let_go(&mut disk, name, held);
         }
     }
 }

@@ -1,0 +1,80 @@
+-- The two ways to begin a record, one behind the other, and what the file is let go by.
+use Rattle.std.proofs.Common.{◌≡◌, ℕ, List, [], ◌++◌, Bool, Option, Some, None, Result, Ok, Err, subst, sym, refl}
+use Rattle.std.specs.Prelude.{MatchOption, option_map}
+use Rattle.std.specs.Result.{IfOk, IfErr}
+use Rattle.load_devices.specs.Told.{Keeps}
+use Rattle.record_file.proofs.Asking.{tells_join}
+use Rattle.record_file.specs.Beginning.{GivenUp, course, IsBeside, IsLetGo, IsWrittenOver, IsNotWrittenOver, IsBegun, Beside, InPlace, IsNotBegun, NotBeside, NotInPlace}
+use Rattle.record_file.specs.DiskStep.{DiskStep, HasAsked}
+use Rattle.record_file.specs.Holding.{IsHolding}
+use Rattle.record_file.specs.Reading.{kind_after, IsRead, Held, Absent, IsNotRead, LetGo}
+use Rattle.record_file.specs.Taking.{kind_of}
+use Rattle.record_file.specs.declared.held_file.HeldFile.{HeldFile}
+use Rattle.record_file.specs.declared.made.Made.{Made}
+use Rattle.record_file.specs.declared.record_fault.RecordFault.{RecordFault}
+
+-- what is known of a file that is held, where one is
+pub known : {T : Type 0} (P : Made × Bool → Type 0) (Q : Type 0) (before : Option (HeldFile T)) (held : HeldFile T) → Some held ≡ before → P (kind_of held)
+    → MatchOption (option_map kind_of before) Q P
+known P Q before held is p = subst (λ b. MatchOption (option_map kind_of b) Q P) is p
+
+pub begun_beside : {K : Type 0} (name : List ℕ) (made after : Made) (device : Bool) (text : Option (List ℕ)) (a b : Option (List DiskStep)) (kept : Option K) (keeper : K)
+    → kept ≡ Some keeper → HasAsked a b (IsBeside name made (course {E = RecordFault} (Ok kept)) after) → HasAsked a b (IsBegun name made device text)
+begun_beside name made after device text a b kept keeper is h =
+    (h.0, h.1, Beside after h.0 (subst (λ k. IsBeside name made (course {E = RecordFault} (Ok k)) after h.0) is h.2))
+
+pub begun_in_place : {K : Type 0} (name : List ℕ) (made after : Made) (device device' : Bool) (text : Option (List ℕ)) (a b c : Option (List DiskStep)) (kept : Option K)
+    → kept ≡ None → device' ≡ device → HasAsked a b (IsBeside name made (course {E = RecordFault} (Ok kept)) after) → HasAsked b c (IsWrittenOver name after text device')
+    → HasAsked a c (IsBegun name made device text)
+begun_in_place name made after device device' text a b c kept is same h w = (
+  h.0 ++ w.0,
+  tells_join a b c h.0 w.0 h.1 w.1,
+  InPlace after h.0 w.0 (subst (λ k. IsBeside name made (course {E = RecordFault} (Ok k)) after h.0) is h.2)
+      (subst (λ d. IsWrittenOver name after text d w.0) same w.2),
+)
+
+pub not_begun_in_place : {K : Type 0} (name : List ℕ) (made after : Made) (a b c : Option (List DiskStep)) (kept : Option K)
+    → kept ≡ None → HasAsked a b (IsBeside name made (course {E = RecordFault} (Ok kept)) after) → HasAsked b c (IsNotWrittenOver name after) → HasAsked a c (IsNotBegun name made)
+not_begun_in_place name made after a b c kept is h w =
+    (h.0 ++ w.0, tells_join a b c h.0 w.0 h.1 w.1, NotInPlace after h.0 w.0 (subst (λ k. IsBeside name made (course {E = RecordFault} (Ok k)) after h.0) is h.2) w.2)
+
+pub not_begun_beside : (name : List ℕ) (made after : Made) (a b c : Option (List DiskStep)) → HasAsked a b (IsBeside name made GivenUp after)
+    → HasAsked b c (IsLetGo name after) → HasAsked a c (IsNotBegun name made)
+not_begun_beside name made after a b c h l = (h.0 ++ l.0, tells_join a b c h.0 l.0 h.1 l.1, NotBeside after h.0 l.0 h.2 l.2)
+
+-- what holds of each outcome of a part holds of it with what is known of the file
+pub each_ok : {A E : Type 0} (P Q : A → Type 0) (result : Result A E) → ((value : A) → P value → Q value) → IfOk result P → IfOk result Q
+each_ok P Q (Ok value) f p = f value p
+each_ok P Q (Err fault) f p = tt
+
+pub each_err : {A E X Y : Type 0} (result : Result A E) → (X → Y) → IfErr result (λ _. X) → IfErr result (λ _. Y)
+each_err (Ok value) f x = tt
+each_err (Err fault) f x = f x
+
+-- ---- reading
+
+pub none_known : {T : Type 0} (P : Made × Bool → Type 0) (Q : Type 0) (before : Option (HeldFile T)) → None ≡ before → Q → MatchOption (option_map kind_of before) Q P
+none_known P Q before is q = subst (λ b. MatchOption (option_map kind_of b) Q P) is q
+
+pub keeps_same : {A : Type 0} (a : Option (List A)) → Keeps a a
+keeps_same None = tt
+keeps_same (Some items) = refl
+
+pub read_none : {T : Type 0} (name text : List ℕ) (a b : Option (List DiskStep)) (found before : Option (HeldFile T)) → found ≡ None → text ≡ []
+    → HasAsked a b (IsHolding name (option_map kind_of found)) → HasAsked a b (IsRead name text (option_map kind_of before) (option_map kind_of before))
+read_none name text a b found before is empty h = (h.0, h.1, Absent h.0 (subst (λ f. IsHolding name (option_map kind_of f) h.0) is h.2) empty)
+
+pub read_some : {T : Type 0} (name text : List ℕ) (a b : Option (List DiskStep)) (found before : Option (HeldFile T)) (held after : HeldFile T) → found ≡ Some held
+    → kind_of after ≡ kind_after text (kind_of held) → HasAsked a b (IsHolding name (option_map kind_of found))
+    → HasAsked a b (IsRead name text (option_map kind_of before) (Some (kind_of after)))
+read_some name text a b found before held after is kind h =
+    (h.0, h.1, subst (λ k. IsRead name text (option_map kind_of before) (Some k) h.0) (sym kind) (Held (kind_of held) h.0 (subst (λ f. IsHolding name (option_map kind_of f) h.0) is h.2)))
+
+pub unread : {T : Type 0} (name : List ℕ) (a b c : Option (List DiskStep)) (found : Option (HeldFile T)) (held after : HeldFile T) → found ≡ Some held
+    → kind_of after ≡ kind_of held → HasAsked a b (IsHolding name (option_map kind_of found)) → HasAsked b c (IsLetGo name after.made) → HasAsked a c (IsNotRead name)
+unread name a b c found held after is kind h l = (
+  h.0 ++ l.0,
+  tells_join a b c h.0 l.0 h.1 l.1,
+  LetGo (kind_of held) h.0 l.0 (subst (λ f. IsHolding name (option_map kind_of f) h.0) is h.2)
+      (subst (λ k. IsLetGo name k.0 l.0) kind l.2),
+)

@@ -1,0 +1,7 @@
+-- All tries so far held nothing.
+use Rattle.record_file.specs.DiskStep.{HasAsked}
+use Rattle.record_file.specs.Holding.{AreVain}
+use Rattle.record_file.proofs.held_file.hold.Given as goal
+
+abbrev pub invariant-loop : goal.invariant-loop
+invariant-loop g l = HasAsked (g.D.Disk.asked l.fn.disk) (g.D.Disk.asked l.disk) (AreVain l.fn.name l.counter)

@@ -1,0 +1,129 @@
+-- What is asked of a system of files to begin a record anew.
+use Rattle.std.specs.Prelude.{ℕ, List, [], ◌∷◌, ◌++◌, Bool, true, false, Option, Some, None, Result, Ok, Err, codes}
+use Rattle.record_file.specs.DiskStep.{Look, LookAtName, FindSoleFile, Resolve, Open, Hold, Rename, Remove, SyncFolder, Cut, SyncFile}
+use Rattle.record_file.specs.DiskStep.{DiskStep, Did, Failed, LedTo, told}
+use Rattle.record_file.specs.Folder.{IsFolderOf}
+use Rattle.record_file.specs.declared.disk.Access.TheVariants.{ReadOnly, New}
+use Rattle.record_file.specs.declared.made.Made.{Made}
+use Rattle.record_file.specs.declared.made.Made.TheVariants.{Before, Here, BehindLink}
+
+-- ---- the new file
+
+-- the name of the new file
+abbrev pub new_name : List ℕ → List ℕ
+new_name name = name ++ codes ".ldaodt-new"
+
+-- a file of this name was left by a load that is over, since nobody holds it; or that is not so, or can't be found out
+pub data IsLeft (new : List ℕ) : Bool → List DiskStep → Type 0 where
+  Left : IsLeft new true (Did (LookAtName new) ∷ Did (Open ReadOnly new) ∷ Did (Hold new) ∷ [])
+  Strange : (found : Bool) → IsLeft new false (told (LookAtName new) found ∷ [])
+  Closed : IsLeft new false (Did (LookAtName new) ∷ Failed (Open ReadOnly new) ∷ [])
+  Taken : IsLeft new false (Did (LookAtName new) ∷ Did (Open ReadOnly new) ∷ Failed (Hold new) ∷ [])
+
+-- the new file is made, or not; one that was left goes before
+pub data IsMaking (new : List ℕ) : Bool → List DiskStep → Type 0 where
+  Fresh : (made : Bool) → IsMaking new made (told (Open New new) made ∷ [])
+  Kept : (steps : List DiskStep) → IsLeft new false steps → IsMaking new false (Failed (Open New new) ∷ steps)
+  Again : (steps : List DiskStep) (removed made : Bool) → IsLeft new true steps
+      → IsMaking new made (Failed (Open New new) ∷ (steps ++ told (Remove new) removed ∷ told (Open New new) made ∷ []))
+
+-- and it is held, or not
+pub data IsMakingHeld (new : List ℕ) : Bool → List DiskStep → Type 0 where
+  NotMade : (steps : List DiskStep) → IsMaking new false steps → IsMakingHeld new false steps
+  IsThere : (steps : List DiskStep) (held : Bool) → IsMaking new true steps → IsMakingHeld new held (steps ++ told (Hold new) held ∷ [])
+
+-- ---- the new record in the old one's place
+
+-- what comes of it: it has the old one's name, and that is on the disk; or the record is to be written where it is; or the load gives up
+pub data Course : Type 0 where
+  Replaced : Course
+  NotReplaced : Course
+  GivenUp : Course
+
+abbrev pub course : {A E : Type 0} → Result (Option A) E → Course
+course (Ok (Some keeper)) = Replaced
+course (Ok None) = NotReplaced
+course (Err fault) = GivenUp
+
+-- the new record that was written is renamed over the old one, while the name still leads to that, and the folder is synced. From the
+-- rename on the old file is none that this load made; the new one goes where it was not renamed
+pub data IsRenaming (name new folder : List ℕ) (made : Made) : Course → Made → List DiskStep → Type 0 where
+  Whole : IsRenaming name new folder made Replaced Before (Did (Look name) ∷ Did (Rename new name) ∷ Did (SyncFolder folder) ∷ [])
+  Unsynced : IsRenaming name new folder made GivenUp Before (Did (Look name) ∷ Did (Rename new name) ∷ Failed (SyncFolder folder) ∷ [])
+  NotRenamed : (removed : Bool) → IsRenaming name new folder made NotReplaced made (Did (Look name) ∷ Failed (Rename new name) ∷ told (Remove new) removed ∷ [])
+  Moved : (found removed : Bool) → IsRenaming name new folder made GivenUp made (told (Look name) found ∷ told (Remove new) removed ∷ [])
+
+-- the new file is made, held and written, and then renamed; one that can't be written goes
+pub data IsWriting (name folder : List ℕ) (made : Made) : Course → Made → List DiskStep → Type 0 where
+  NotHeld : (steps : List DiskStep) → IsMakingHeld (new_name name) false steps → IsWriting name folder made NotReplaced made steps
+  NoRoom : (steps : List DiskStep) → IsMakingHeld (new_name name) false steps → IsWriting name folder made GivenUp made steps
+  NotWritten : (steps : List DiskStep) (removed : Bool) → IsMakingHeld (new_name name) true steps
+      → IsWriting name folder made GivenUp made (steps ++ told (Remove (new_name name)) removed ∷ [])
+  Written : (course : Course) (after : Made) (steps renaming : List DiskStep) → IsMakingHeld (new_name name) true steps
+      → IsRenaming name (new_name name) folder made course after renaming → IsWriting name folder made course after (steps ++ renaming)
+
+-- before that it is found out whether a rename would reach the old record, and its folder is opened
+pub data IsBeside (name : List ℕ) (made : Made) : Course → Made → List DiskStep → Type 0 where
+  OutOfReach : IsBeside name made NotReplaced made (Failed (FindSoleFile name) ∷ [])
+  NoMemory : IsBeside name made GivenUp made (Did (FindSoleFile name) ∷ [])
+  NoFolder : (folder : List ℕ) → IsFolderOf name folder → IsBeside name made NotReplaced made (Did (FindSoleFile name) ∷ Failed (Open ReadOnly folder) ∷ [])
+  AtFolder : (folder : List ℕ) (course : Course) (after : Made) (steps : List DiskStep) → IsFolderOf name folder
+      → IsWriting name folder made course after steps → IsBeside name made course after (Did (FindSoleFile name) ∷ Did (Open ReadOnly folder) ∷ steps)
+
+-- ---- the record written where it is
+
+-- the folder of a name is opened and synced, or one of these fails
+pub data IsFolderSync (name : List ℕ) : Bool → List DiskStep → Type 0 where
+  FolderOpened : (folder : List ℕ) (synced : Bool) → IsFolderOf name folder
+      → IsFolderSync name synced (Did (Open ReadOnly folder) ∷ told (SyncFolder folder) synced ∷ [])
+  NotOpened : (folder : List ℕ) → IsFolderOf name folder → IsFolderSync name false (Failed (Open ReadOnly folder) ∷ [])
+
+-- where this load made the file, that is brought to the disk; behind a link it is the folder of the name to which that leads
+pub data IsMakingSynced (name : List ℕ) : Made → Bool → List DiskStep → Type 0 where
+  OldFile : IsMakingSynced name Before true []
+  NewFile : (synced : Bool) (steps : List DiskStep) → IsFolderSync name synced steps → IsMakingSynced name Here synced steps
+  NewBehindLink : (target : List ℕ) (synced : Bool) (steps : List DiskStep) → IsFolderSync target synced steps
+      → IsMakingSynced name BehindLink synced (LedTo name target ∷ steps)
+  Unresolved : IsMakingSynced name BehindLink false (Failed (Resolve name) ∷ [])
+
+-- a file of which this was written is cut behind that, and synced
+pub data IsCut (text : Option (List ℕ)) : Bool → List DiskStep → Type 0 where
+  CutAndSynced : (synced : Bool) → IsCut text synced (Did (Cut text) ∷ told (SyncFile text) synced ∷ [])
+  NotCut : IsCut text false (Failed (Cut text) ∷ [])
+
+-- a file that this load made under this very name goes with it, where the name still leads to it
+pub data IsLetGo (name : List ℕ) : Made → List DiskStep → Type 0 where
+  Stays : IsLetGo name Before []
+  StaysBehindLink : IsLetGo name BehindLink []
+  LeadsElsewhere : (found : Bool) → IsLetGo name Here (told (Look name) found ∷ [])
+  Goes : (removed : Bool) → IsLetGo name Here (Did (Look name) ∷ told (Remove name) removed ∷ [])
+
+-- the record was written where it is; a device is not cut
+pub data IsWrittenOver (name : List ℕ) (made : Made) (text : Option (List ℕ)) : Bool → List DiskStep → Type 0 where
+  Device : (steps : List DiskStep) → IsMakingSynced name made true steps → IsWrittenOver name made text true steps
+  PlainFile : (steps cutting : List DiskStep) → IsMakingSynced name made true steps → IsCut text true cutting
+      → IsWrittenOver name made text false (steps ++ cutting)
+
+-- it was not: the file is let go before anything is written to it, and stays behind that
+pub data IsNotWrittenOver (name : List ℕ) (made : Made) : List DiskStep → Type 0 where
+  Unready : (synced : Bool) (steps going : List DiskStep) → IsMakingSynced name made synced steps → IsLetGo name made going
+      → IsNotWrittenOver name made (steps ++ going)
+  Unwritten : (steps : List DiskStep) → IsMakingSynced name made true steps → IsNotWrittenOver name made steps
+  Uncut : (text : Option (List ℕ)) (steps cutting : List DiskStep) → IsMakingSynced name made true steps → IsCut text false cutting
+      → IsNotWrittenOver name made (steps ++ cutting)
+
+-- ---- the whole
+
+-- a record is begun, of whose file this load knows whether it made it and whether it is a device, and of which this was written: the new one
+-- has the old one's name; or that can't be, and it was written where it is
+pub data IsBegun (name : List ℕ) (made : Made) (device : Bool) (text : Option (List ℕ)) : List DiskStep → Type 0 where
+  Beside : (after : Made) (steps : List DiskStep) → IsBeside name made Replaced after steps → IsBegun name made device text steps
+  InPlace : (after : Made) (before writing : List DiskStep) → IsBeside name made NotReplaced after before → IsWrittenOver name after text device writing
+      → IsBegun name made device text (before ++ writing)
+
+-- it is not begun
+pub data IsNotBegun (name : List ℕ) (made : Made) : List DiskStep → Type 0 where
+  NotBeside : (after : Made) (before going : List DiskStep) → IsBeside name made GivenUp after before → IsLetGo name after going
+      → IsNotBegun name made (before ++ going)
+  NotInPlace : (after : Made) (before writing : List DiskStep) → IsBeside name made NotReplaced after before → IsNotWrittenOver name after writing
+      → IsNotBegun name made (before ++ writing)

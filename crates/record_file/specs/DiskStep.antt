@@ -1,0 +1,59 @@
+-- What is asked of a system of files for a record.
+use Rattle.std.specs.Prelude.{◌≡◌, ℕ, List, [], ◌∷◌, ◌++◌, Bool, true, false, Option, Some, None, Result, Ok, Err, ⊤}
+use Rattle.std.specs.Path.{path_buf_bytes}
+use Rattle.std.specs.declared.path.buf.PathBuf.{PathBuf}
+use Rattle.record_file.specs.declared.disk.Access.{Access}
+
+-- what a name leads to is looked at, or what stands under it, or whether that is a plain file without another name, or which name it leads
+-- to; a file is opened or made; it is held by this load alone, or renamed, or its name taken away; the folder of a name is brought to the
+-- disk; or a file of which this much was written is cut behind that, or brought to the disk
+pub data Request : Type 0 where
+  Look : List ℕ → Request
+  LookAtName : List ℕ → Request
+  FindSoleFile : List ℕ → Request
+  Resolve : List ℕ → Request
+  Open : Access → List ℕ → Request
+  Hold : List ℕ → Request
+  Rename : List ℕ → List ℕ → Request
+  Remove : List ℕ → Request
+  SyncFolder : List ℕ → Request
+  Cut : Option (List ℕ) → Request
+  SyncFile : Option (List ℕ) → Request
+
+-- something was asked, and done, or it failed; a name led to another
+pub data DiskStep : Type 0 where
+  Did : Request → DiskStep
+  Failed : Request → DiskStep
+  LedTo : List ℕ → List ℕ → DiskStep
+
+abbrev pub told : Request → Bool → DiskStep
+told request true = Did request
+told request false = Failed request
+
+abbrev pub answered : {A E : Type 0} → Request → Result A E → DiskStep
+answered request (Ok value) = Did request
+answered request (Err error) = Failed request
+
+abbrev pub resolved : {A E : Type 0} → List ℕ → Result (PathBuf A) E → DiskStep
+resolved name (Ok target) = LedTo name (path_buf_bytes target)
+resolved name (Err error) = Failed (Resolve name)
+
+-- a list that somebody tells has grown by these; who tells may stop, and does not begin again
+abbrev pub Tells : {A : Type 0} → Option (List A) → Option (List A) → List A → Type 0
+Tells None None more = ⊤
+Tells None (Some told) more = ⊥
+Tells (Some items) None more = ⊤
+Tells (Some items) (Some grown) more = grown ≡ items ++ more
+
+-- where a system of files tells what it was asked, that has grown by steps of which this holds
+abbrev pub HasAsked : Option (List DiskStep) → Option (List DiskStep) → (List DiskStep → Type 0) → Type 0
+HasAsked old new P = (steps : List DiskStep) × Tells old new steps × P steps
+
+-- a name was looked at, and found to be as it should be only where something is there
+pub data IsLook (name : List ℕ) : Bool → List DiskStep → Type 0 where
+  Seen : IsLook name true (Did (Look name) ∷ [])
+  Unseen : (found : Bool) → IsLook name false (told (Look name) found ∷ [])
+
+pub data IsLookAtName (name : List ℕ) : Bool → List DiskStep → Type 0 where
+  SeenThere : IsLookAtName name true (Did (LookAtName name) ∷ [])
+  UnseenThere : (found : Bool) → IsLookAtName name false (told (LookAtName name) found ∷ [])

@@ -1,0 +1,169 @@
+//! Where the record's file is: what a load asks of the system for it.
+ghost use Rattle.std.specs.Prelude.{[], ◌∷◌, ℕ, List, Option, None, IfOk, ⊤};
+ghost use Rattle.record_file.specs.DiskStep.{Look, LookAtName, FindSoleFile, Open, Hold, Rename, Remove, SyncFolder, Cut, SyncFile};
+ghost use Rattle.record_file.specs.DiskStep.{DiskStep, Tells, answered, resolved, told};
+
+use crate::locks::Locks;
+use std::alloc::Global;
+use std::fs::{File, Metadata, OpenFile, OpenOptions};
+use std::io::{ErrorKind, Read, Seek, Write};
+use std::os::unix::fs::MetadataExt;
+use std::path::PathBuf;
+use std::{fs, io};
+
+/// How a file is opened.
+#[derive(Clone, Copy)]
+pub enum Access {
+    /// To be read.
+    ReadOnly,
+
+    /// To be read and written.
+    ReadWrite,
+
+    /// The same, and it is made, where nothing has its name.
+    New,
+
+    /// The same, and it is made where it is not there, also where a link leads to.
+    Created,
+}
+
+impl Access {
+    // The options of the system.
+    fn options(self) -> OpenOptions {
+        let mut options = File::options();
+        options.read(true);
+        match self {
+            Access::ReadOnly => {}
+            Access::ReadWrite => {
+                options.write(true);
+            }
+            Access::New => {
+                options.write(true).create_new(true);
+            }
+            Access::Created => {
+                options.write(true).create(true);
+            }
+        }
+        options
+    }
+}
+
+/// A system of files, as far as a record needs it.
+///
+/// A reference to any system that locks files is one, and tells nothing of what was asked of it.
+pub trait Disk {
+    /// An open file.
+    type File: Read + Write + Seek + OpenFile + Drop;
+
+    /// What was asked so far, in its order, with whether it went well; None where the type doesn't tell, or
+    /// does so no longer.
+    ghost asked: { Self → Option (List DiskStep) } = { λ _. None };
+
+    /// Whether a file was opened under a name, and nothing was done with it since.
+    ghost is_opened_as: { Self.File → List ℕ → Type 0 } = { λ _ _. ⊤ };
+
+    /// What a name leads to.
+    fn look(&mut self, name: &str) -> io::Result<Metadata>
+        ensures asked { Tells (asked self.old) (asked self.new) (answered (Look name.now) result ∷ []) };
+
+    /// What stands under the name itself, which may be a link.
+    fn look_at_name(&mut self, name: &str) -> io::Result<Metadata>
+        ensures asked { Tells (asked self.old) (asked self.new) (answered (LookAtName name.now) result ∷ []) };
+
+    /// Whether a plain file stands under the name itself, which has no other name.
+    fn is_sole_file(&mut self, name: &str) -> bool
+        ensures asked { Tells (asked self.old) (asked self.new) (told (FindSoleFile name.now) result ∷ []) };
+
+    /// The name without links to which this one leads.
+    fn resolve(&mut self, alloc: Global, name: &str) -> io::Result<PathBuf<Global>>
+        ensures asked { Tells (asked self.old) (asked self.new) (resolved name.now result ∷ []) };
+
+    /// Opens a file.
+    fn open(&mut self, access: Access, name: &str) -> io::Result<Self::File>
+        ensures asked { Tells (asked self.old) (asked self.new) (answered (Open access name.now) result ∷ []) }
+        ensures opened { IfOk result (λ file. is_opened_as file name.now) };
+
+    /// Holds an open file until it is closed, which the program's death does, too. False where somebody
+    /// else holds it. Where the file system knows no locks nobody can hold it, and it counts as held.
+    fn hold(&mut self, file: &Self::File) -> bool
+        ensures asked { (name : List ℕ) → is_opened_as file.now name → Tells (asked self.old) (asked self.new) (told (Hold name) result ∷ []) };
+
+    /// Gives a file another name, whatever has it.
+    fn rename(&mut self, from: &str, to: &str) -> io::Result<()>
+        ensures asked { Tells (asked self.old) (asked self.new) (answered (Rename from.now to.now) result ∷ []) };
+
+    /// Takes a name away.
+    fn remove(&mut self, name: &str) -> io::Result<()>
+        ensures asked { Tells (asked self.old) (asked self.new) (answered (Remove name.now) result ∷ []) };
+
+    /// Brings to the disk which files are in an open folder. One that has no disk behind it counts as synced.
+    fn sync_folder(&mut self, folder: &Self::File) -> io::Result<()>
+        ensures asked { (name : List ℕ) → is_opened_as folder.now name → Tells (asked self.old) (asked self.new) (answered (SyncFolder name) result ∷ []) };
+
+    /// Cuts off what stands in a file behind this length, in bytes.
+    fn cut(&mut self, file: &Self::File, length: u64) -> io::Result<()>
+        ensures asked { Tells (asked self.old) (asked self.new) (answered (Cut (Self.File.contents file.now)) result ∷ []) };
+
+    /// Brings a file to the disk. One that has no disk behind it counts as synced.
+    fn sync_file(&mut self, file: &Self::File) -> io::Result<()>
+        ensures asked { Tells (asked self.old) (asked self.new) (answered (SyncFile (Self.File.contents file.now)) result ∷ []) };
+}
+
+impl<F: Locks> Disk for &F {
+    type File = F::File;
+
+    fn look(&mut self, name: &str) -> io::Result<Metadata> {
+        fs::metadata(*self, name)
+    }
+
+    fn look_at_name(&mut self, name: &str) -> io::Result<Metadata> {
+        fs::symlink_metadata(*self, name)
+    }
+
+    fn is_sole_file(&mut self, name: &str) -> bool {
+        match fs::symlink_metadata(*self, name) {
+            Ok(metadata) => metadata.is_file() && metadata.nlink() == 1,
+            Err(_) => false,
+        }
+    }
+
+    fn resolve(&mut self, alloc: Global, name: &str) -> io::Result<PathBuf<Global>> {
+        self.canonicalize(alloc, name)
+    }
+
+    fn open(&mut self, access: Access, name: &str) -> io::Result<F::File> {
+        access.options().open(*self, name)
+    }
+
+    fn hold(&mut self, file: &F::File) -> bool {
+        Locks::hold(*self, file)
+    }
+
+    fn rename(&mut self, from: &str, to: &str) -> io::Result<()> {
+        fs::rename(*self, from, to)
+    }
+
+    fn remove(&mut self, name: &str) -> io::Result<()> {
+        fs::remove_file(*self, name)
+    }
+
+    fn sync_folder(&mut self, folder: &F::File) -> io::Result<()> {
+        sync(folder)
+    }
+
+    fn cut(&mut self, file: &F::File, length: u64) -> io::Result<()> {
+        file.set_len(length)
+    }
+
+    fn sync_file(&mut self, file: &F::File) -> io::Result<()> {
+        sync(file)
+    }
+}
+
+// A pipe, a terminal or a device has no disk behind it, and says so.
+fn sync<T: OpenFile>(file: &T) -> io::Result<()> {
+    match file.sync_all() {
+        Err(error) if error.kind() == ErrorKind::InvalidInput => Ok(()),
+        outcome => outcome,
+    }
+}

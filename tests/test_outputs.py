@@ -7,7 +7,7 @@ import subprocess
 import unittest
 
 from common import Case, Console
-from outside import HELLO, LOST_DIGIT, NO_OUTPUT, PROGRAM, bytes_of
+from outside import HELLO, LOST_DIGIT, NO_OUTPUT, PROGRAM, Answer, bytes_of, tape_of, text_of
 
 NO_INPUT = "ldaodt: cannot read standard input\n"
 
@@ -61,14 +61,6 @@ class Outputs(Case):
                     for more in ("2> /dev/full", "2>&-"):
                         self.ends(self.ldaodt(words, keys, before=f"{before} {more}"), 4)
 
-    def test_standard_output_that_nobody_reads(self):
-        for words, keys in PRINTING.items():
-            with self.subTest(words):
-                ours, theirs = os.pipe()
-                os.close(ours)
-                self.ends(self.ldaodt(words, keys, stdout=theirs), 4, "", NO_OUTPUT)
-                os.close(theirs)
-
     def test_a_load_without_standard_output(self):
         """The machine is loaded and started, whatever becomes of the report."""
         for before in ("> /dev/full", ">&-"):
@@ -91,6 +83,60 @@ class Outputs(Case):
         for words, (status, text) in TOLD.items():
             with self.subTest(words):
                 self.ends(self.ldaodt(words), status, "", text)
+
+
+class Readers(Case):
+    """Whoever read the output has gone. Of what only prints nothing is said: nobody waits for the rest."""
+
+    def unread(self, words, keys=b""):
+        """Runs the program with an output whose reader has gone before it begins."""
+        ours, theirs = os.pipe()
+        os.close(ours)
+        given = self.ldaodt(words, keys, stdout=theirs)
+        os.close(theirs)
+        return given
+
+    def left(self, words, text, keys=b"", more=b""):
+        """Runs the program with an output whose reader goes once it has as much as this text; then more keys come.
+        Asserts that the text was read, and that nothing is said of the rest."""
+        process = subprocess.Popen([PROGRAM, *words.split()], cwd=self.room, stdin=subprocess.PIPE, stdout=subprocess.PIPE, stderr=subprocess.PIPE)
+        with process:
+            process.stdin.write(keys)
+            process.stdin.flush()
+            read = process.stdout.read(len(text))
+            process.stdout.close()
+            process.stdin.write(more)
+            process.stdin.close()
+            told = process.stderr.read()
+        self.ends(Answer(process.returncode, text_of(read), text_of(told)), 4, text)
+
+    def test_nobody_has_read_anything(self):
+        put_files(self)
+        for words, keys in PRINTING.items():
+            with self.subTest(words):
+                self.ends(self.unread(words, keys), 4)
+
+    def test_somebody_has_read_the_beginning(self):
+        """A dialogue of more than a pipe takes, and keys that come behind the reader's leaving."""
+        self.put("long.lda", tape_of([(0o1000, b"\x01" * 20000)]))
+        self.left("dialogue long.lda", "Z -> ?<CR><LF>@\n")
+        self.left("type", "001000/000000 ", b"001000/", b"011064\n")
+
+    def test_a_fault_is_told_all_the_same(self):
+        put_files(self)
+        for words, (status, text) in TOLD.items():
+            with self.subTest(words):
+                self.ends(self.unread(words), status, "", text)
+
+    def test_what_was_done_at_a_machine(self):
+        """The report of a load, a look or a probe is missed by whoever sits there: that it is lost is told."""
+        self.put_tapes("first.lda")
+        for words in ("load first.lda LINE", "verify first.lda LINE", "save a.lda LINE 1000 1000", "probe LINE"):
+            with self.subTest(words):
+                peer = self.console_at(Console())
+                given = self.unread(f"{words.replace('LINE', peer.address)} --quiet {self.quiet}")
+                peer.settle()
+                self.ends(given, 4, "", NO_OUTPUT)
 
 
 class Descriptors(Case):

@@ -4,7 +4,9 @@
 //! few bytes a write and fails at one of them; `UnflushedOutput` takes everything and fails to
 //! flush. Each fails with the error that a hidden second try would cover up, and counts how often it
 //! was asked after that: so a test sees whether a command asks a failed device again.
+ghost use Rattle.std.specs.Prelude.{false};
 
+use endings::Output;
 use std::io;
 use std::io::{ErrorKind, Read, Write};
 
@@ -119,6 +121,15 @@ impl Write for BrokenOutput {
     }
 }
 
+// Its reader is there.
+impl Output for BrokenOutput {
+    ghost unread = { λ _. false };
+
+    fn is_unread(&self) -> bool {
+        false
+    }
+}
+
 /// Takes each write, and fails to flush.
 #[derive(Drop)]
 pub struct UnflushedOutput;
@@ -130,5 +141,14 @@ impl Write for UnflushedOutput {
 
     fn flush(&mut self) -> io::Result<()> {
         Err(io::Error::from(ErrorKind::Other))
+    }
+}
+
+// Its reader is there.
+impl Output for UnflushedOutput {
+    ghost unread = { λ _. false };
+
+    fn is_unread(&self) -> bool {
+        false
     }
 }

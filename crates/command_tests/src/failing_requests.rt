@@ -4,7 +4,7 @@ use crate::attempts::{NOBODY, load_of};
 use crate::failing_devices::{BrokenInput, BrokenOutput, NOWHERE, UnflushedOutput};
 use crate::simulated_system::{AMPLE, Setting, System};
 use crate::tapes::ONE_WORD;
-use endings::{Status, Streams};
+use endings::{Output, Status, Streams};
 use odt_machine::{LARGEST_WORDS, PLAIN_STYLE};
 use requests::{Console, Request, attempt};
 use std::alloc::{AllocError, Global};
@@ -46,7 +46,7 @@ const OUTPUT_FAILED: &[u8] = b"ldaodt: cannot write output\n";
 
 // Whether a request ends with a device that failed and says just this, where the console behind the port answers
 // so many reads.
-fn is_told_alone<W: Write>(
+fn is_told_alone<W: Output>(
     rt: &HostRuntime,
     (asked, reads): (Asked, u32),
     streams: &mut Streams<BrokenInput<'_>, W, Vec<u8>>,
@@ -108,7 +108,7 @@ fn streams_with<W: Write>(
 }
 
 // Whether a request says that its output fails, and nothing else.
-fn output_stops<W: Write>(
+fn output_stops<W: Output>(
     rt: &HostRuntime,
     row: &Row,
     streams: &mut Streams<BrokenInput<'_>, W, Vec<u8>>,

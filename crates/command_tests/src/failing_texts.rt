@@ -1,7 +1,7 @@
 //! Lines of faults and texts that explain, help and refusals, over outputs that fail once.
 
 use crate::failing_devices::{BrokenOutput, UnflushedOutput};
-use endings::{Failure, Status, Streams, refuse, show, tell};
+use endings::{Failure, Output, Status, Streams, refuse, show, tell};
 use std::alloc::Global;
 use std::io::Write;
 
@@ -21,7 +21,7 @@ fn streams_of<W: Write, E: Write>(out: W, err: E) -> Streams<&'static [u8], W, E
 }
 
 // Whether a text that can't be shown on an output is told on standard error.
-fn is_told<W: Write>(alloc: Global, streams: &mut Streams<&[u8], W, Vec<u8>>) -> bool {
+fn is_told<W: Output>(alloc: Global, streams: &mut Streams<&[u8], W, Vec<u8>>) -> bool {
     let status = show(alloc, TEXT, streams);
     status == Status::DeviceFailed && streams.err.as_slice() == CANNOT_WRITE
 }

@@ -1,5 +1,5 @@
 -- How the program's failures are named, told and ended with (this project's own).
-use Rattle.std.specs.Prelude.{◌≡◌, ◌⊎◌, ℕ, Bool, ◌-◌, nat_lt, if◌then◌else◌, List, [], ◌∷◌, ◌++◌, length, slice_get}
+use Rattle.std.specs.Prelude.{◌≡◌, ◌⊎◌, ℕ, Bool, true, false, ◌-◌, nat_lt, if◌then◌else◌, List, [], ◌∷◌, ◌++◌, length, slice_get}
 use Rattle.std.specs.Prelude.{Option, Some, None, codes, decimal, encode_utf8}
 use Rattle.std.specs.Borrow.{Bor}
 use Rattle.std.specs.Char.{is_control}
@@ -99,6 +99,11 @@ fault_line failure = codes "ldaodt: " ++ (failure_words failure ++ (failure_name
 -- standard error tells of a failure: its line was written there and nothing else; or, where that output fails, a prefix of the line
 abbrev pub IsTold : Option (List ℕ) → Option (List ℕ) → Failure → Type 0
 IsTold err err' failure = Appends err err' (fault_line failure) ⊎ WritesProperPrefix err err' (fault_line failure)
+
+-- standard error tells of a failure, unless nobody is to hear of it: then it is as it was
+abbrev pub IsToldUnless : Bool → Option (List ℕ) → Option (List ℕ) → Failure → Type 0
+IsToldUnless true err err' failure = err' ≡ err
+IsToldUnless false err err' failure = IsTold err err' failure
 
 -- the failure is that a file of this name can't be read
 abbrev pub NamesFile : List ℕ → Failure → Type 0

@@ -1,4 +1,5 @@
 pub mod Explained
 pub mod Failure
+pub mod Output
 pub mod Status
 pub mod Streams

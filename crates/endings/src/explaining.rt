@@ -4,29 +4,29 @@ ghost use Rattle.byte_io.specs.Output.{WritesPrefix};
 ghost use Rattle.endings.specs.Explained.{IsShown};
 ghost use Rattle.endings.specs.Streams.{held};
 
-use crate::failure::Failure;
+use crate::output::Output;
 use crate::status::Status;
 use crate::streams::Streams;
-use crate::telling::tell;
+use crate::telling::tell_unwritten;
 use byte_io::{write_and_flush, write_whole};
 use std::alloc::Global;
 use std::io::{Read, Write};
 
 /// Prints a text that was asked for, in one write, and flushes it. Where that fails, standard error says
-/// so.
-pub fn show<R: Read, W: Write, E: Write>(
+/// so, unless nobody reads the output any more.
+pub fn show<R: Read, W: Output, E: Write>(
     alloc: Global,
     text: &str,
     streams: &mut Streams<R, W, E>,
 ) -> Status
-    ensures { IsShown text.now
+    ensures { IsShown text.now (W.unread streams.new.out)
         (held R.remaining W.contents E.contents streams.old)
         (held R.remaining W.contents E.contents streams.new)
         result }
 {
     match write_and_flush(&mut streams.out, text.as_bytes()) {
         Ok(()) => Status::Done,
-        Err(_) => tell(alloc, Failure::CannotWrite, &mut streams.err),
+        Err(_) => tell_unwritten(alloc, &streams.out, &mut streams.err),
     }
 }
 

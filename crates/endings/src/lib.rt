@@ -3,18 +3,21 @@
 //! A `Failure` has one line on standard error and one status. `tell` prints the line, in one write, and
 //! answers the status; a file's name in it can't break the line. Words of the command line that ask for
 //! nothing to be done are explained: `show` prints help to standard output, `refuse` says on standard
-//! error what is wrong with them. `Streams` are the three standard streams, as one value.
+//! error what is wrong with them. `Streams` are the three standard streams, as one value; an `Output` knows
+//! whether nobody reads it any more, and then nothing is said of what can't be written there.
 #![tactic(auto)]
 
 mod explaining;
 mod failure;
 mod line_words;
+mod output;
 mod status;
 mod streams;
 mod telling;
 
 pub use explaining::{refuse, show};
 pub use failure::{Failure, OneTape, STANDARD_INPUT};
+pub use output::{Output, PipedOutput};
 pub use status::Status;
 pub use streams::Streams;
-pub use telling::tell;
+pub use telling::{tell, tell_unwritten};

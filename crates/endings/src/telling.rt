@@ -6,10 +6,11 @@ ghost use Rattle.std.specs.Char.{is_control, digit_char};
 ghost use Rattle.std.specs.Char.Escape.{escape_default};
 ghost use Rattle.std.specs.Io.KnownBytes.{Appends};
 ghost use Rattle.byte_io.specs.Output.{WritesProperPrefix};
-ghost use Rattle.endings.specs.Failure.{status_of, failure_end, failure_name, fault_line, shown_char, shown_name, IsTold};
+ghost use Rattle.endings.specs.Failure.{status_of, failure_end, failure_name, fault_line, shown_char, shown_name, IsTold, IsToldUnless};
 
 use crate::failure::Failure;
 use crate::line_words::line_words;
+use crate::output::Output;
 use crate::status::Status;
 use arrayvec::ArrayVec;
 use byte_io::{WriteFault, write_whole};
@@ -29,6 +30,19 @@ pub fn tell<E: Write>(alloc: Global, failure: Failure<'_>, err: &mut E) -> Statu
 {
     let _ = write_at_once(alloc, failure, err);
     failure.status()
+}
+
+/// Tells that an output can't be written, unless nobody reads it any more: whoever left doesn't wait for
+/// the rest. The status tells of it in either case.
+pub fn tell_unwritten<W: Output, E: Write>(alloc: Global, out: &W, err: &mut E) -> Status
+    ensures status { result ≡ Status.DeviceFailed }
+    ensures told { IsToldUnless (W.unread out.now) (E.contents err.old) (E.contents err.new) Failure.CannotWrite }
+{
+    if out.is_unread() {
+        Status::DeviceFailed
+    } else {
+        tell(alloc, Failure::CannotWrite, err)
+    }
 }
 
 // Writes a failure's line, in one write where there is memory to gather it in. The line that says there

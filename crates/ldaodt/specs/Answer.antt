@@ -1,5 +1,5 @@
 -- What becomes of the words of a command line (this project's own).
-use Rattle.std.specs.Prelude.{◌≡◌, ◌⊎◌, ⊤, ℕ, List}
+use Rattle.std.specs.Prelude.{◌≡◌, ◌⊎◌, ⊤, ℕ, Bool, List}
 use Rattle.std.specs.String.{string_bytes}
 use Rattle.clap.specs.declared.error.kind.ErrorKind.{ErrorKind}
 use Rattle.clap.specs.declared.error.kind.ErrorKind.TheVariants as kind
@@ -48,14 +48,15 @@ pub record IsMemoryWanting (before after : Held) (ended : Status) : Type 0 where
 
 -- words that ask for nothing to be done are explained: a text that was asked for is shown, or the words are refused, or memory was
 -- wanting
-abbrev pub IsExplained : NoRequest → Held → Held → Status → Type 0
-IsExplained (Help text) before after ended = IsShown (string_bytes text) before after ended
-IsExplained (Refused text) before after ended = AreWordsRefused (string_bytes text) before after ended
-IsExplained Meaningless before after ended = (text : List ℕ) × AreWordsRefused text before after ended
-IsExplained NoMemory before after ended = IsMemoryWanting before after ended
+abbrev pub IsExplained : NoRequest → Bool → Held → Held → Status → Type 0
+IsExplained (Help text) unread before after ended = IsShown (string_bytes text) unread before after ended
+IsExplained (Refused text) unread before after ended = AreWordsRefused (string_bytes text) before after ended
+IsExplained Meaningless unread before after ended = (text : List ℕ) × AreWordsRefused text before after ended
+IsExplained NoMemory unread before after ended = IsMemoryWanting before after ended
 
--- something was asked for and attempted, the check of the input only where there were no words; or the words were explained
-abbrev pub IsAnswered : Type 0 → Held → Held → Status → Type 0
-IsAnswered no_words before after ended =
-    ((request : Request) × ((request ≡ CheckInput → no_words) × IsAttempted request before after ended))
-    ⊎ ((answer : NoRequest) × IsExplained answer before after ended)
+-- something was asked for and attempted, the check of the input only where there were no words; or the words were explained. By then the
+-- output was found unread, or not
+abbrev pub IsAnswered : Type 0 → Bool → Held → Held → Status → Type 0
+IsAnswered no_words unread before after ended =
+    ((request : Request) × ((request ≡ CheckInput → no_words) × IsAttempted request unread before after ended))
+    ⊎ ((answer : NoRequest) × IsExplained answer unread before after ended)

@@ -7,7 +7,7 @@ mod command_line;
 mod process_words;
 mod program;
 
-use endings::{Streams, tell};
+use endings::{PipedOutput, Streams, tell};
 use process_words::words_of;
 use std::fs;
 use std::fs::File;
@@ -20,7 +20,7 @@ fn main(rt: HostRuntime) -> ExitCode {
     let alloc = rt.alloc();
     let mut streams = Streams {
         input: rt.stdin(),
-        out: rt.stdout(),
+        out: PipedOutput::new(rt.stdout()),
         err: rt.stderr(),
     };
     let words = match words_of(&rt) {

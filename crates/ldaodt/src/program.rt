@@ -9,7 +9,7 @@ ghost use Rattle.requests.specs.Attempt.{IsAttempted};
 ghost use Rattle.ldaodt.specs.Answer.{IsAnswered, IsExplained};
 
 use crate::command_line::{NoRequest, parse};
-use endings::{Failure, Status, Streams, refuse, show, tell};
+use endings::{Failure, Output, Status, Streams, refuse, show, tell};
 use record_file::Locks;
 use requests::attempt;
 use serial_line::Devices;
@@ -24,9 +24,9 @@ const MEANINGLESS: &str = "ldaodt: the command line is not understood\n";
 /// Does what the words after the program's name ask for, and answers the exit status.
 ///
 /// Reports and help go to standard output, which is flushed; refused command lines and faults go to
-/// standard error, a fault as one line. What can't be written there is not told. A load shows on the
-/// terminal, where there is one, how far it is.
-pub(crate) fn program<F: Locks + Devices + Net + Clock, R: Read, W: Write, E: Write, T: Print>(
+/// standard error, a fault as one line. What can't be written there is not told, nor that nobody reads
+/// any more what only prints. A load shows on the terminal, where there is one, how far it is.
+pub(crate) fn program<F: Locks + Devices + Net + Clock, R: Read, W: Output, E: Write, T: Print>(
     rt: &F,
     alloc: Global,
     words: &[String],
@@ -35,13 +35,13 @@ pub(crate) fn program<F: Locks + Devices + Net + Clock, R: Read, W: Write, E: Wr
 ) -> u8
     requires { FitsInMemory R.row }
     // With no words, the tape on the input is checked.
-    ensures checked { words.now ≡ [] → (status : Status) × IsAttempted Request.CheckInput
+    ensures checked { words.now ≡ [] → (status : Status) × IsAttempted Request.CheckInput (W.unread streams.new.out)
         (held R.remaining W.contents E.contents streams.old)
         (held R.remaining W.contents E.contents streams.new)
         status × (result ≡ status_code status) }
     // Whatever the words are, they ask for something that is then attempted, or they are explained. Only where
     // there are none, the input is checked.
-    ensures answered { (status : Status) × IsAnswered (words.now ≡ [])
+    ensures answered { (status : Status) × IsAnswered (words.now ≡ []) (W.unread streams.new.out)
         (held R.remaining W.contents E.contents streams.old)
         (held R.remaining W.contents E.contents streams.new)
         status × (result ≡ status_code status) }
@@ -50,7 +50,7 @@ pub(crate) fn program<F: Locks + Devices + Net + Clock, R: Read, W: Write, E: Wr
 }
 
 // Does what the words ask for, or explains them.
-fn answer<F: Locks + Devices + Net + Clock, R: Read, W: Write, E: Write, T: Print>(
+fn answer<F: Locks + Devices + Net + Clock, R: Read, W: Output, E: Write, T: Print>(
     rt: &F,
     alloc: Global,
     words: &[String],
@@ -58,11 +58,11 @@ fn answer<F: Locks + Devices + Net + Clock, R: Read, W: Write, E: Write, T: Prin
     terminal: Option<&T>,
 ) -> Status
     requires { FitsInMemory R.row }
-    ensures checked { words.now ≡ [] → IsAttempted Request.CheckInput
+    ensures checked { words.now ≡ [] → IsAttempted Request.CheckInput (W.unread streams.new.out)
         (held R.remaining W.contents E.contents streams.old)
         (held R.remaining W.contents E.contents streams.new)
         result }
-    ensures answered { IsAnswered (words.now ≡ [])
+    ensures answered { IsAnswered (words.now ≡ []) (W.unread streams.new.out)
         (held R.remaining W.contents E.contents streams.old)
         (held R.remaining W.contents E.contents streams.new)
         result }
@@ -74,12 +74,12 @@ fn answer<F: Locks + Devices + Net + Clock, R: Read, W: Write, E: Write, T: Prin
 }
 
 // Says why there was nothing to do: help, the version, or what is wrong with the words.
-fn explain<R: Read, W: Write, E: Write>(
+fn explain<R: Read, W: Output, E: Write>(
     alloc: Global,
     answer: NoRequest,
     streams: &mut Streams<R, W, E>,
 ) -> Status
-    ensures { IsExplained answer
+    ensures { IsExplained answer (W.unread streams.new.out)
         (held R.remaining W.contents E.contents streams.old)
         (held R.remaining W.contents E.contents streams.new)
         result }

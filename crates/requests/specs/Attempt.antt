@@ -1,10 +1,11 @@
 -- What becomes of each request: what the files that it names and standard input held decides what is written, the status, and the line
 -- on standard error.
-use Rattle.std.specs.Prelude.{◌≡◌, ◌⊎◌, ◌∷◌}
+use Rattle.std.specs.Prelude.{◌≡◌, ◌⊎◌, Bool, true, false, ◌∷◌}
 use Rattle.endings.specs.declared.failure.Failure.{Failure}
+use Rattle.endings.specs.declared.failure.Failure.TheVariants.{CannotWrite}
 use Rattle.endings.specs.declared.status.Status.{Status}
 use Rattle.endings.specs.declared.status.Status.TheVariants.{Done}
-use Rattle.endings.specs.Failure.{status_of, IsTold}
+use Rattle.endings.specs.Failure.{status_of, IsToldUnless}
 use Rattle.endings.specs.Streams.{Held}
 use Rattle.requests.specs.declared.request.Request.{Request}
 use Rattle.requests.specs.declared.request.Request.TheVariants.{CheckInput, Check, Dialogue, Rehearse, «Type» as TypeKeys, Load, Verify, Save, Probe}
@@ -45,13 +46,27 @@ pub record IsDoneQuietly (request : Request) (before after : Held) (status : Sta
   pub done : IsDone request before after status
   pub quiet : after.err ≡ before.err
 
--- it failed, standard error tells why, and the status says so
-pub record IsFailedAloud (request : Request) (before after : Held) (status : Status) : Type 0 where
+-- the request does nothing but print: it is about no machine
+abbrev pub only_prints : Request → Bool
+only_prints (Load names load) = false
+only_prints (Verify names look) = false
+only_prints (Save name save) = false
+only_prints (Probe request) = false
+only_prints other = true
+
+-- nobody is to hear of this failure, of a request that only prints or does more: output that nobody reads any more can't be written
+abbrev pub is_unheard : Bool → Bool → Failure → Bool
+is_unheard true true CannotWrite = true
+is_unheard prints unread failure = false
+
+-- it failed, standard error tells why where somebody is to hear of it, and the status says so
+pub record IsFailedAloud (request : Request) (unread : Bool) (before after : Held) (status : Status) : Type 0 where
   pub failure : Failure
   pub failed : IsFailed request before after failure
-  pub told : IsTold before.err after.err failure
+  pub told : IsToldUnless (is_unheard (only_prints request) unread failure) before.err after.err failure
   pub status_is : status ≡ status_of failure
 
--- a request was attempted, with this on the standard streams before and after, and the program ends so
-abbrev pub IsAttempted : Request → Held → Held → Status → Type 0
-IsAttempted request before after status = IsDoneQuietly request before after status ⊎ IsFailedAloud request before after status
+-- a request was attempted, with this on the standard streams before and after, and by then the output was found unread or not; the
+-- program ends so
+abbrev pub IsAttempted : Request → Bool → Held → Held → Status → Type 0
+IsAttempted request unread before after status = IsDoneQuietly request before after status ⊎ IsFailedAloud request unread before after status

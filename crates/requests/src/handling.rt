@@ -1,8 +1,9 @@
 //! Doing a request, and telling how it ended.
 ghost use Rattle.std.specs.Prelude.{◌≡◌, IfOk, IfErr};
 ghost use Rattle.std.specs.Mem.{FitsInMemory};
+ghost use Rattle.endings.specs.Failure.{status_of, IsToldUnless};
 ghost use Rattle.endings.specs.Streams.{held};
-ghost use Rattle.requests.specs.Attempt.{IsDone, IsFailed, IsAttempted};
+ghost use Rattle.requests.specs.Attempt.{IsDone, IsFailed, IsAttempted, is_unheard, only_prints};
 
 use crate::checking::{check_input, check_tapes};
 use crate::loading::load_tapes;
@@ -13,7 +14,7 @@ use crate::saving::save_words;
 use crate::showing::show_dialogue;
 use crate::typing::type_input;
 use crate::verifying::verify_tapes;
-use endings::{Failure, Status, Streams, tell};
+use endings::{Failure, Output, Status, Streams, tell, tell_unwritten};
 use record_file::Locks;
 use serial_line::Devices;
 use std::alloc::Global;
@@ -24,13 +25,14 @@ use std::time::Clock;
 /// Does a request and answers the exit status, or tells why not, with the status that says so.
 ///
 /// Reports go to standard output, which is flushed; a fault goes to standard error as one line, in one
-/// write. What can't be written there is not told. A load of a machine and a look at it show on the
-/// terminal, where there is one, how far they are.
+/// write. What can't be written there is not told. Nor is that standard output can't be written, where
+/// the request does nothing but print and nobody reads any more. A load of a machine and a look at it show
+/// on the terminal, where there is one, how far they are.
 ///
 /// What is asked of the caller is only that a value of the input's type fits into memory, as each type
 /// of a program does. It has to be said where the type is not known, since the input is lent as a slice of
 /// one.
-pub fn attempt<F: Locks + Devices + Net + Clock, R: Read, W: Write, E: Write, T: Print>(
+pub fn attempt<F: Locks + Devices + Net + Clock, R: Read, W: Output, E: Write, T: Print>(
     rt: &F,
     alloc: Global,
     request: Request<'_>,
@@ -38,14 +40,32 @@ pub fn attempt<F: Locks + Devices + Net + Clock, R: Read, W: Write, E: Write, T:
     terminal: Option<&T>,
 ) -> Status
     requires { FitsInMemory R.row }
-    ensures { IsAttempted request.entry
+    ensures { IsAttempted request.entry (W.unread streams.new.out)
         (held R.remaining W.contents E.contents streams.old)
         (held R.remaining W.contents E.contents streams.new)
         result }
 {
+    let only_prints = request.only_prints();
     match perform(rt, alloc, request, streams, terminal) {
         Ok(status) => status,
-        Err(failure) => tell(alloc, failure, &mut streams.err),
+        Err(failure) => report(alloc, only_prints, failure, &streams.out, &mut streams.err),
+    }
+}
+
+// Tells a failure of a request, which does nothing but print or more than that.
+fn report<W: Output, E: Write>(
+    alloc: Global,
+    only_prints: bool,
+    failure: Failure<'_>,
+    out: &W,
+    err: &mut E,
+) -> Status
+    ensures status { result ≡ status_of failure.entry }
+    ensures told { IsToldUnless (is_unheard only_prints (W.unread out.now) failure.entry) (E.contents err.old) (E.contents err.new) failure.entry }
+{
+    match failure {
+        Failure::CannotWrite if only_prints => tell_unwritten(alloc, out, err),
+        _ => tell(alloc, failure, err),
     }
 }
 

@@ -39,6 +39,27 @@ pub enum Request<'a> {
     Probe(Probe<'a>),
 }
 
+impl Request<'_> {
+    ghost use Rattle.std.specs.Prelude.{◌≡◌};
+    ghost use Rattle.requests.specs.Attempt.{only_prints};
+
+    // Whether it does nothing but print: it is about no machine.
+    pub(crate) fn only_prints(&self) -> bool
+        ensures { result ≡ only_prints self.now }
+    {
+        match self {
+            Request::CheckInput
+            | Request::Check(_)
+            | Request::Dialogue(..)
+            | Request::Rehearse(..)
+            | Request::Type(_) => true,
+            Request::Load(..) | Request::Verify(..) | Request::Save(..) | Request::Probe(_) => {
+                false
+            }
+        }
+    }
+}
+
 /// A simulated console: how many words its machine has, and how it answers.
 #[derive(Clone, Copy, Debug, PartialEq, Eq)]
 pub struct Console {

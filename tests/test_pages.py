@@ -314,7 +314,7 @@ class Pasting(Case):
             self.is_so((loaded.status, loaded.err), (0, ""))
         text = block.replace("/dev/ttyUSB0", "./ttyUSB0").replace("--listen 10", "--listen 1")
         env = {**os.environ, "PATH": f"{room}/bin:{os.environ['PATH']}"}
-        ran = subprocess.run(["bash", "-e"], input=text, text=True, cwd=room, env=env, capture_output=True, timeout=120)
+        ran = subprocess.run(["bash", "-e"], input=text, text=True, cwd=room, env=env, capture_output=True, timeout=600)
         return ran.returncode, ran.stderr
 
     def paste_all(self, blocks):

@@ -2,6 +2,7 @@
 what a hang-up, a stopped output and a process that was held for a while are heard as, and listening."""
 import fcntl
 import os
+import select
 import shutil
 import signal
 import subprocess
@@ -117,6 +118,13 @@ class Loads(Devices):
         self.assertGreaterEqual(time.monotonic() - began, 4 * self.quiet / 1000)
         self.was_typed(device, "ZZZZ")
 
+    def test_a_long_quiet_time(self):
+        """It passes before the only key and behind it."""
+        device = self.device_at(DeafConsole())
+        began = time.monotonic()
+        self.ends(self.load(device, "first.lda --patience 0", quiet=2500), 5, "sent 1 spent 0 verified 0 of 1\nend GaveUp\n")
+        self.assertGreaterEqual(time.monotonic() - began, 2 * 2.5)
+
     def test_seven_bits_and_no_padding(self):
         """The console sends a parity bit with each character, and a 000 behind it."""
         class Parity(Console):
@@ -151,12 +159,21 @@ class Refusals(Devices):
         self.is_so(bytes_of(self.path("a.record")), b"LDAODT 2\n")
 
     def test_names_that_are_no_device(self):
-        """A pipe is not opened either: nobody is at its other end, so that this would wait for ever."""
         self.put("plain", b"")
         os.mkfifo(self.path("pipe"))
         for name in ("./nothing", "./plain", "./pipe", "./nothing/device", ".", "/", "/dev", "/dev/null", "/dev/zero", "/dev/full"):
             with self.subTest(name):
                 self.is_refused("./" if name == "." else name)
+
+    def test_a_pipe_is_not_even_opened(self):
+        """Who reads it would find out that somebody had come and gone."""
+        os.mkfifo(self.path("pipe"))
+        reader = os.open(self.path("pipe"), os.O_RDONLY | os.O_NONBLOCK)
+        self.addCleanup(os.close, reader)
+        self.is_refused("./pipe")
+        waiting = select.poll()
+        waiting.register(reader, 0)
+        self.is_so(waiting.poll(0), [])
 
     def test_a_device_that_may_not_be_opened(self):
         """The superuser may open each, so that another user tries it then."""

@@ -65,13 +65,21 @@ class Screen:
         self.column = place + 1
 
 
+class BabblingConsole(Console):
+    """Before it answers its first key it says far more than any console."""
+
+    def take(self, key):
+        answer = super().take(key)
+        return answer if len(self.typed) > 1 else "x" * 400 + answer
+
+
 class Terminal(Case):
     """A load whose standard error is a terminal."""
 
-    def load_at_a_terminal(self, machine=None, words="first.lda", quiet=None, close_after=None, **more):
+    def load_at_a_terminal(self, machine=None, words="first.lda", quiet=None, close_after=None, baud=None, **more):
         self.put_tapes("first.lda", "two-words.lda")
         tape, *rest = words.split()
-        peer = self.console_at(machine or Console(), close_after=close_after)
+        peer = self.console_at(machine or Console(), close_after=close_after, baud=baud)
         words = ["load", tape, peer.address, "--quiet", str(quiet or self.quiet), *rest]
         return self.at_a_terminal(lambda terminal: self.ldaodt(words, stderr=terminal, **more))
 
@@ -134,6 +142,12 @@ class Terminal(Case):
         mishaps = "".join(SHOWN.format(f"0 of 1 words, 0%, {text}") for text in ("1 mishap", "2 mishaps", "3 mishaps"))
         self.is_so(shown, LISTENING + NO_WORD + mishaps + CLEARED)
 
+    def test_a_line_that_talks_is_listened_to(self):
+        """Until its first key, and again for the four tenths of a second that the babble takes behind that."""
+        given, shown = self.load_at_a_terminal(BabblingConsole(), quiet=1000, baud=9600)
+        self.is_so((given.status, given.out.split("\n")[1]), (0, "end Started"))
+        self.assertTrue(shown.startswith(LISTENING + NO_WORD + LISTENING), repr(shown))
+
     def test_words_of_the_record_count(self):
         """Of the second word's eight keys and the start's seven the last ten are slow."""
         self.put("a.record", b"LDAODT 2\n001000 031421")
@@ -150,6 +164,31 @@ class Terminal(Case):
         self.is_so((given.status, given.out), (4, "sent 23 spent 0 verified 1 of 1\nend KeepFailed\n"))
         self.assertTrue(shown.endswith(f"{CLEARED}ldaodt: cannot write a.record\r\n"), repr(shown))
         self.is_so(set(shown[:shown.index(CLEARED)].split("\r")), {"", LISTENING[1:], NO_WORD[1:]})
+
+
+class Looks(Case):
+    """A look whose standard error is a terminal."""
+
+    def look_at_a_terminal(self, machine, words, quiet=None):
+        self.put_tapes("first.lda", "two-words.lda")
+        tape, *rest = words.split()
+        words = ["verify", tape, self.console_at(machine).address, "--quiet", str(quiet or self.quiet), *rest]
+        return self.at_a_terminal(lambda terminal: self.ldaodt(words, stderr=terminal))
+
+    def test_each_word_that_was_read_counts(self):
+        """Each key is slow, so that a line is shown with each word; how long the rest takes is the computer's."""
+        given, shown = self.look_at_a_terminal(SlowConsole(0, memory={0o1000: 0o031421, 0o1002: 0o104}), "two-words.lda", quiet=1000)
+        self.is_so((given.status, given.out), (0, "sent 17 spent 0 looked 2 of 2 differ 0\nend Same\n"))
+        texts = re.findall(re.escape(SHOWN).replace(r"\{\}", "(.*?)"), shown)
+        self.is_so([re.sub(r", 0:\d\d left$", "", it) for it in texts],
+                   ["0 of 2 words, 0%, listening", "0 of 2 words, 0%", "1 of 2 words, 50%", "2 of 2 words, 100%"])
+
+    def test_mishaps_are_counted(self):
+        """As those of a load."""
+        given, shown = self.look_at_a_terminal(DeafConsole(), "first.lda --patience 2")
+        self.is_so((given.status, given.out), (5, "sent 3 spent 2 looked 0 of 1 differ 0\nend GaveUp\n"))
+        mishaps = "".join(SHOWN.format(f"0 of 1 words, 0%, {text}") for text in ("1 mishap", "2 mishaps"))
+        self.is_so(shown, LISTENING + NO_WORD + mishaps + CLEARED)
 
 
 class Input(Case):

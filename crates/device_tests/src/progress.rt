@@ -216,10 +216,11 @@ const STUMBLING: [(Option<u64>, u32, &str); 4] = [
 ];
 
 // The same for a clock that had a time at first, 1,000, and then goes back.
-const GOING_BACK: [(Option<u64>, u32, &str); 3] = [
+const GOING_BACK: [(Option<u64>, u32, &str); 4] = [
     (Some(500), 1, "0 of 4 words, 0%, listening"),
     (Some(1099), 1, "0 of 4 words, 0%, listening"),
     (Some(4000), 2, "3 of 4 words, 75%, listening, 0:01 left"),
+    (Some(4100), 3, "4 of 4 words, 100%, listening, 0:00 left"),
 ];
 
 // Whether a load of four words that begins at this time is shown so.
@@ -335,6 +336,27 @@ fn the_text_says_words_mishaps_and_time(rt: HostRuntime) {
         };
         assert!(rt; is_text(rt.alloc(), showing, text), "{text}");
     }
+}
+
+// The longest line that a load can have, with more words than memory: each thing that a line may say, the most
+// mishaps that are counted, and the longest time that a clock can tell.
+const LONGEST: &str =
+    "1 of 4294967295 words, 0%, listening, 4294967295 mishaps, 5124095576030:25:51 left";
+
+#[test]
+fn the_longest_line_has_room(rt: HostRuntime) {
+    let clock = SetClock::new(Some(0));
+    let terminal = Screen::new(rt.alloc());
+    let line = ProgressLine::new(&clock, &terminal);
+    line.begins(0, u32::MAX);
+    clock.millis.set(Some(u64::MAX));
+    line.sees(Sight {
+        heard: Heard::Quiet,
+        key: None,
+        done: 1,
+        spent: u32::MAX,
+    });
+    assert!(rt; terminal.has_shown(2, LONGEST));
 }
 
 // How many characters are heard behind the first key of a load of 28 words, and what is then shown of it: a console

@@ -39,7 +39,13 @@ mod machines;
 #[cfg(test)]
 mod old_records;
 #[cfg(test)]
+mod reading;
+#[cfg(test)]
+mod record_steps;
+#[cfg(test)]
 mod replacing;
+#[cfg(test)]
+mod saving;
 #[cfg(test)]
 mod scarce_calls;
 #[cfg(test)]
@@ -50,3 +56,5 @@ mod scarce_requests;
 mod simulated_system;
 #[cfg(test)]
 mod tapes;
+#[cfg(test)]
+mod writing_over;

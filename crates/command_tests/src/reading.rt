@@ -1,0 +1,290 @@
+//! What a load asks of the system to read its record and hold it, and what comes of each step that fails.
+
+use crate::record_steps::{
+    BEGUN, Before, CURRENT, Course, NO_FAULT, OLD, OTHER, READ, RECORD, Row, Task, UNMADE, clear,
+    held, is_left_so, is_row_so, is_taken_so, put, take,
+};
+use crate::simulated_system::{AMPLE, Failing, Step, System};
+use crate::tapes::plan_of_one_word;
+use record_file::{RecordFault, RecordFile};
+use std::fs;
+use std::fs::File;
+use std::io::ErrorKind;
+use std::test::Fail;
+
+// A record that is there, or not, and steps of its reading fail; or it is read and let go again.
+const UNREAD: [Row; 16] = [
+    (
+        Before::Holds(OLD),
+        &[(Step::Look, 1, ErrorKind::PermissionDenied)],
+        Course::Unread(RecordFault::Read),
+        1,
+        &[],
+        Some(OLD),
+    ),
+    // It is there after all, so it is looked at again.
+    (
+        Before::Holds(OLD),
+        &[(Step::Look, 1, ErrorKind::NotFound)],
+        Course::LetGo,
+        2,
+        &[Step::Look, Step::Open, Step::Hold, Step::Look],
+        Some(OLD),
+    ),
+    // It may be read alone.
+    (
+        Before::Holds(OLD),
+        &[(Step::Open, 1, ErrorKind::PermissionDenied)],
+        Course::Protected,
+        2,
+        &[Step::Open, Step::Hold, Step::Look],
+        Some(OLD),
+    ),
+    (
+        Before::Holds(OLD),
+        &[
+            (Step::Open, 1, ErrorKind::PermissionDenied),
+            (Step::Open, 2, ErrorKind::PermissionDenied),
+        ],
+        Course::Unread(RecordFault::Read),
+        2,
+        &[Step::Open],
+        Some(OLD),
+    ),
+    // It went before it was opened, and came again.
+    (
+        Before::Holds(OLD),
+        &[
+            (Step::Open, 1, ErrorKind::NotFound),
+            (Step::Open, 2, ErrorKind::NotFound),
+        ],
+        Course::LetGo,
+        2,
+        &[Step::Open, Step::Look, Step::Open, Step::Hold, Step::Look],
+        Some(OLD),
+    ),
+    (
+        Before::Holds(OLD),
+        &[(Step::Hold, 1, ErrorKind::Other)],
+        Course::Unread(RecordFault::InUse),
+        3,
+        &[],
+        Some(OLD),
+    ),
+    // Its name no longer leads to it, so the next one is opened.
+    (
+        Before::Holds(OLD),
+        &[(Step::Look, 2, ErrorKind::Other)],
+        Course::LetGo,
+        READ,
+        &[Step::Look, Step::Open, Step::Hold, Step::Look],
+        Some(OLD),
+    ),
+    // Somebody holds the next one.
+    (
+        Before::Holds(OLD),
+        &[
+            (Step::Look, 2, ErrorKind::Other),
+            (Step::Hold, 2, ErrorKind::Other),
+        ],
+        Course::Unread(RecordFault::InUse),
+        READ,
+        &[Step::Look, Step::Open, Step::Hold],
+        Some(OLD),
+    ),
+    // None can be made.
+    (
+        Before::Nothing,
+        &[(Step::Open, 1, ErrorKind::PermissionDenied)],
+        Course::Protected,
+        2,
+        &[],
+        None,
+    ),
+    (
+        Before::Dangling,
+        &[(Step::Open, 2, ErrorKind::PermissionDenied)],
+        Course::Protected,
+        2,
+        &[Step::Open],
+        None,
+    ),
+    // One was made, and somebody held it before.
+    (
+        Before::Nothing,
+        &[(Step::Hold, 1, ErrorKind::Other)],
+        Course::Unread(RecordFault::InUse),
+        3,
+        &[],
+        Some(""),
+    ),
+    // Somebody made one in the meantime, which is gone again.
+    (
+        Before::Nothing,
+        &[(Step::Open, 1, ErrorKind::AlreadyExists)],
+        Course::LetGo,
+        2,
+        &[
+            Step::Look,
+            Step::Open,
+            Step::Hold,
+            Step::Look,
+            Step::Look,
+            Step::Remove,
+        ],
+        None,
+    ),
+    // What was made and let go again goes, and what was there stays.
+    (Before::Nothing, NO_FAULT, Course::LetGo, READ, UNMADE, None),
+    (
+        Before::Holds(""),
+        NO_FAULT,
+        Course::LetGo,
+        READ,
+        &[],
+        Some(""),
+    ),
+    (
+        Before::Link(OLD),
+        NO_FAULT,
+        Course::LetGo,
+        READ,
+        &[],
+        Some(OLD),
+    ),
+    // What was made and has lost its name by then stays.
+    (
+        Before::Nothing,
+        &[(Step::Look, 3, ErrorKind::Other)],
+        Course::LetGo,
+        READ,
+        &[Step::Look],
+        Some(""),
+    ),
+];
+
+#[test]
+fn a_record_is_held_before_it_is_read(rt: HostRuntime) {
+    for (place, row) in UNREAD.iter().enumerate() {
+        assert!(rt; is_row_so(&rt, Task::LetGo, row), "row {place}");
+    }
+    clear(&rt);
+}
+
+// All steps of reading, eight times: each time the name leads to another file by then.
+const EIGHT_TIMES: [Step; 28] = [
+    Step::Look,
+    Step::Open,
+    Step::Hold,
+    Step::Look,
+    Step::Look,
+    Step::Open,
+    Step::Hold,
+    Step::Look,
+    Step::Look,
+    Step::Open,
+    Step::Hold,
+    Step::Look,
+    Step::Look,
+    Step::Open,
+    Step::Hold,
+    Step::Look,
+    Step::Look,
+    Step::Open,
+    Step::Hold,
+    Step::Look,
+    Step::Look,
+    Step::Open,
+    Step::Hold,
+    Step::Look,
+    Step::Look,
+    Step::Open,
+    Step::Hold,
+    Step::Look,
+];
+
+#[test]
+fn a_record_that_is_always_replaced_is_in_use(rt: HostRuntime) {
+    let failing: Failing = &[
+        (Step::Look, 2, ErrorKind::Other),
+        (Step::Look, 4, ErrorKind::Other),
+        (Step::Look, 6, ErrorKind::Other),
+        (Step::Look, 8, ErrorKind::Other),
+        (Step::Look, 10, ErrorKind::Other),
+        (Step::Look, 12, ErrorKind::Other),
+        (Step::Look, 14, ErrorKind::Other),
+        (Step::Look, 16, ErrorKind::Other),
+    ];
+    let wanted = Course::Unread(RecordFault::InUse);
+    let row: Row = (
+        Before::Holds(OLD),
+        failing,
+        wanted,
+        READ,
+        &EIGHT_TIMES,
+        Some(OLD),
+    );
+    assert!(rt; is_row_so(&rt, Task::LetGo, &row));
+    clear(&rt);
+}
+
+// Whether a record is in use while somebody holds the file of a name, changed in nothing, and begun once it is
+// let go.
+fn is_in_use(rt: &HostRuntime, before: Before, name: &str) -> bool {
+    clear(rt);
+    let Ok(()) = put(rt, before) else {
+        return false;
+    };
+    let file = held(rt, name);
+    let wanted = Course::Unread(RecordFault::InUse);
+    let is_refused = file.is_some()
+        && is_taken_so(rt, (RECORD, ".", Task::Begin), NO_FAULT, wanted, (3, &[]))
+        && is_left_so(rt, before, Some(CURRENT));
+    drop(file);
+    let system = System::new(rt, AMPLE);
+    is_refused
+        && take(&system, rt.alloc(), RECORD, Task::Begin) == Some(Course::Begun)
+        && is_left_so(rt, before, Some(BEGUN))
+}
+
+#[test]
+fn a_record_that_somebody_holds_is_in_use(rt: HostRuntime) {
+    assert!(rt; is_in_use(&rt, Before::Holds(CURRENT), RECORD));
+    assert!(rt; is_in_use(&rt, Before::Link(CURRENT), OTHER));
+    assert!(rt; is_in_use(&rt, Before::Named(CURRENT), OTHER));
+    clear(&rt);
+}
+
+// Whether the old file and the new one are held until the load lets go.
+fn is_held_to_the_end(rt: &HostRuntime) -> Option<bool> {
+    let plan = plan_of_one_word(rt.alloc())?;
+    let system = System::new(rt, AMPLE);
+    let mut record = RecordFile::new(&system, RECORD);
+    let old = File::options().read(true).open(rt, RECORD).ok()?;
+    record.read(rt.alloc()).ok()?;
+    let held_first = old.try_lock().is_err();
+    let keeper = record.begin(rt.alloc(), &plan, 1).ok()?;
+    let held_then = held(rt, RECORD).is_none() && old.try_lock().is_err();
+    drop(keeper);
+    drop(record);
+    Some(held_first && held_then && held(rt, RECORD).is_some() && old.try_lock().is_ok())
+}
+
+#[test]
+fn a_record_is_held_to_the_end(rt: HostRuntime) -> Result<(), Fail> {
+    clear(&rt);
+    fs::write(&rt, RECORD, OLD)?;
+    assert!(rt; is_held_to_the_end(&rt) == Some(true));
+    clear(&rt);
+    Ok(())
+}
+
+// A folder is no record.
+#[test]
+fn a_folder_is_not_opened(rt: HostRuntime) -> Result<(), Fail> {
+    fs::create_dir(&rt, "d.folder")?;
+    let wanted = Course::Unread(RecordFault::Read);
+    let place = ("d.folder", ".", Task::Begin);
+    assert!(rt; is_taken_so(&rt, place, NO_FAULT, wanted, (1, &[])));
+    Ok(fs::remove_dir(&rt, "d.folder")?)
+}

@@ -1,0 +1,225 @@
+//! Records over a system that notes what is asked of it: what stands there, which steps fail, and what comes of it.
+
+use crate::simulated_system::{AMPLE, Failing, Notes, Step, System};
+use crate::tapes::plan_of_one_word;
+use record_file::{RecordFault, RecordFile};
+use std::alloc::Global;
+use std::fs::File;
+use std::os::unix::fs::symlink;
+use std::{fs, io};
+
+/// The record.
+pub(crate) const RECORD: &str = "d.record";
+
+/// Another name of it, or what it leads to.
+pub(crate) const OTHER: &str = "d.other";
+
+/// The file beside it.
+pub(crate) const BESIDE: &str = "d.record.ldaodt-new";
+
+/// A record of version 1, which has other lines than one that is written.
+pub(crate) const OLD: &str = "LDAODT 1\n001000 177777 011064\n";
+
+/// A record of version 2, with an LF more than one that is begun with the smallest tape's word.
+pub(crate) const CURRENT: &str = "LDAODT 2\n001000 011064\n";
+
+/// One that is begun so.
+pub(crate) const BEGUN: &str = "LDAODT 2\n001000 011064";
+
+// The record is looked at, opened, held and looked at again before it is read. Then a new one is made beside
+// it and held, with the header and the word on the disk before it takes the old one's place; and then that,
+// too.
+const REPLACED: [Step; 14] = [
+    Step::Look,
+    Step::Open,
+    Step::Hold,
+    Step::Look,
+    Step::OpenFolder,
+    Step::OpenBeside,
+    Step::HoldBeside,
+    Step::Write,
+    Step::Write,
+    Step::Flush,
+    Step::SyncData,
+    Step::Look,
+    Step::Rename,
+    Step::SyncAll,
+];
+
+/// How many of these steps come before the record is read.
+pub(crate) const READ: usize = 4;
+
+/// The record itself is written over, and what it has more is cut off last.
+pub(crate) const IN_PLACE: &[Step] = &[
+    Step::Write,
+    Step::Write,
+    Step::Flush,
+    Step::SyncData,
+    Step::Cut,
+    Step::SyncAll,
+];
+
+/// A record that was made goes, where its name still leads to it.
+pub(crate) const UNMADE: &[Step] = &[Step::Look, Step::Remove];
+
+/// What stands under the record's name beforehand.
+#[derive(Clone, Copy)]
+pub(crate) enum Before {
+    Nothing,
+
+    /// A file.
+    Holds(&'static str),
+
+    /// A link to a file.
+    Link(&'static str),
+
+    /// A link that leads nowhere.
+    Dangling,
+
+    /// A file with a second name.
+    Named(&'static str),
+}
+
+/// What came of a record.
+#[derive(Clone, Copy, PartialEq)]
+pub(crate) enum Course {
+    Unread(RecordFault),
+    Protected,
+    Unbegun(RecordFault),
+    Begun,
+
+    /// It was read, and nothing else.
+    LetGo,
+}
+
+/// What a load is to do with a record.
+#[derive(Clone, Copy, PartialEq)]
+pub(crate) enum Task {
+    Begin,
+    LetGo,
+}
+
+/// No step fails.
+pub(crate) const NO_FAULT: Failing = &[];
+
+/// The record could not be begun.
+pub(crate) const UNBEGUN: Course = Course::Unbegun(RecordFault::Write);
+
+/// What stands there, which steps fail, what comes of it, how many steps of a replacing are asked of the system, which
+/// then, and what the record then holds, where it is there.
+pub(crate) type Row = (
+    Before,
+    Failing,
+    Course,
+    usize,
+    &'static [Step],
+    Option<&'static str>,
+);
+
+/// Reads a record, and begins it anew with the smallest tape's word; None where there is no memory for the tape.
+pub(crate) fn take<'x>(
+    system: &'x System<'x>,
+    alloc: Global,
+    name: &'x str,
+    task: Task,
+) -> Option<Course> {
+    let plan = plan_of_one_word(alloc)?;
+    let mut record = RecordFile::new(system, name);
+    Some(match record.read(alloc) {
+        Err(fault) => Course::Unread(fault),
+        Ok(old) if !old.writable => Course::Protected,
+        Ok(_) if task == Task::LetGo => Course::LetGo,
+        Ok(_) => match record.begin(alloc, &plan, 1) {
+            Ok(_) => Course::Begun,
+            Err(fault) => Course::Unbegun(fault),
+        },
+    })
+}
+
+// Whether just these steps were asked for, in this order: so many of a replacing, and then these.
+fn are_noted(notes: &Notes<'_>, count: usize, then: &[Step]) -> bool {
+    let (Ok(steps), Some(front)) = (notes.steps.try_borrow(), REPLACED.get(..count)) else {
+        return false;
+    };
+    steps.strip_prefix(front) == Some(then)
+}
+
+/// Takes a record in a folder, where steps may fail, and answers whether that and what was asked is as it
+/// should be.
+pub(crate) fn is_taken_so(
+    rt: &HostRuntime,
+    (name, folder, task): (&str, &str, Task),
+    failing: Failing,
+    wanted: Course,
+    (count, then): (usize, &[Step]),
+) -> bool {
+    let notes = Notes::new(rt.alloc(), failing, folder);
+    let system = System::new(rt, AMPLE).noted(&notes);
+    let course = take(&system, rt.alloc(), name, task);
+    course == Some(wanted) && are_noted(&notes, count, then)
+}
+
+/// Puts a record there.
+pub(crate) fn put(rt: &HostRuntime, before: Before) -> io::Result<()> {
+    match before {
+        Before::Nothing => Ok(()),
+        Before::Holds(text) => fs::write(rt, RECORD, text),
+        Before::Link(text) => {
+            fs::write(rt, OTHER, text)?;
+            symlink(rt, OTHER, RECORD)
+        }
+        Before::Dangling => symlink(rt, OTHER, RECORD),
+        Before::Named(text) => {
+            fs::write(rt, OTHER, text)?;
+            fs::hard_link(rt, OTHER, RECORD)
+        }
+    }
+}
+
+/// Whether a file holds this, or is not there.
+pub(crate) fn holds(rt: &HostRuntime, name: &str, text: Option<&str>) -> bool {
+    match (fs::read(rt, name), text) {
+        (Ok(held), Some(text)) => held.as_slice() == text.as_bytes(),
+        (Err(_), None) => true,
+        _ => false,
+    }
+}
+
+/// Whether the record holds this, its other name the same where it has one, and none is beside it.
+pub(crate) fn is_left_so(rt: &HostRuntime, before: Before, text: Option<&str>) -> bool {
+    let other = match before {
+        Before::Nothing | Before::Holds(_) => None,
+        Before::Link(_) | Before::Dangling | Before::Named(_) => text,
+    };
+    holds(rt, RECORD, text) && holds(rt, OTHER, other) && holds(rt, BESIDE, None)
+}
+
+/// Removes whatever is there.
+pub(crate) fn clear(rt: &HostRuntime) {
+    let _ = fs::remove_file(rt, RECORD);
+    let _ = fs::remove_file(rt, OTHER);
+    let _ = fs::remove_file(rt, BESIDE);
+}
+
+/// Whether a row is as it should be. What is made behind a link is made in the folder of its whole name.
+pub(crate) fn is_row_so(rt: &HostRuntime, task: Task, row: &Row) -> bool {
+    let (before, failing, wanted, count, then, text) = *row;
+    clear(rt);
+    let Ok(here) = fs::canonicalize(rt, ".") else {
+        return false;
+    };
+    let folder = match before {
+        Before::Dangling => here.as_str(),
+        _ => ".",
+    };
+    put(rt, before).is_ok()
+        && is_taken_so(rt, (RECORD, folder, task), failing, wanted, (count, then))
+        && is_left_so(rt, before, text)
+}
+
+/// Opens a file, and holds it as another program does.
+pub(crate) fn held(rt: &HostRuntime, name: &str) -> Option<File> {
+    let file = File::options().read(true).write(true).open(rt, name).ok()?;
+    file.try_lock().ok()?;
+    Some(file)
+}

@@ -1,0 +1,233 @@
+//! What a save asks of the system for its tape, in which order, and what comes of each step that fails. The
+//! system gives no file a second name, so that the tape is renamed.
+
+use crate::record_steps::holds;
+use crate::simulated_system::{AMPLE, Failing, Notes, Step, System};
+use machine_look::{NewFile, Shelf, ShelfFault};
+use std::fs;
+use std::io::ErrorKind;
+
+// The file of a save, the one beside it, and what is put there.
+const SAVED: &str = "shelf.lda";
+
+const BESIDE: &str = "shelf.lda.ldaodt-new";
+
+const TEXT: &str = "a tape";
+
+// What somebody else's file has.
+const OTHERS: &str = "hello";
+
+// The file is made and held; the tape is on the disk before it gets its name, and then that is, too.
+const WHOLE: [Step; 8] = [
+    Step::OpenFolder,
+    Step::OpenBeside,
+    Step::HoldBeside,
+    Step::Write,
+    Step::Flush,
+    Step::SyncAll,
+    Step::Rename,
+    Step::SyncAll,
+];
+
+// The file that was made goes.
+const GIVEN_UP: &[Step] = &[Step::RemoveBeside];
+
+// What somebody else does once there is room.
+#[derive(Clone, Copy)]
+enum Meanwhile {
+    Nothing,
+
+    /// A file of the tape's name.
+    Named,
+
+    /// Another file in place of the one beside it.
+    Replaced,
+}
+
+const NO_FAULT: Failing = &[];
+
+// Which steps fail, what somebody else does, what comes of it, how many steps of a whole save are asked of the
+// system, which then, and what the file and the one beside it then hold, where they are there.
+type Row = (
+    Failing,
+    Meanwhile,
+    Result<(), ShelfFault>,
+    usize,
+    &'static [Step],
+    Option<&'static str>,
+    Option<&'static str>,
+);
+
+const ROWS: [Row; 11] = [
+    (
+        NO_FAULT,
+        Meanwhile::Nothing,
+        Ok(()),
+        8,
+        &[],
+        Some(TEXT),
+        None,
+    ),
+    // Nothing is made where the folder can't be opened; and what somebody else holds is left.
+    (
+        &[(Step::OpenFolder, 1, ErrorKind::PermissionDenied)],
+        Meanwhile::Nothing,
+        Err(ShelfFault::Write),
+        1,
+        &[],
+        None,
+        None,
+    ),
+    (
+        &[(Step::HoldBeside, 1, ErrorKind::Other)],
+        Meanwhile::Nothing,
+        Err(ShelfFault::Write),
+        3,
+        &[],
+        None,
+        Some(""),
+    ),
+    (
+        &[(Step::Write, 1, ErrorKind::StorageFull)],
+        Meanwhile::Nothing,
+        Err(ShelfFault::Write),
+        4,
+        GIVEN_UP,
+        None,
+        None,
+    ),
+    (
+        &[(Step::Flush, 1, ErrorKind::Other)],
+        Meanwhile::Nothing,
+        Err(ShelfFault::Write),
+        5,
+        GIVEN_UP,
+        None,
+        None,
+    ),
+    // A tape that is not on the disk gets no name; one with no disk behind it does.
+    (
+        &[(Step::SyncAll, 1, ErrorKind::Other)],
+        Meanwhile::Nothing,
+        Err(ShelfFault::Write),
+        6,
+        GIVEN_UP,
+        None,
+        None,
+    ),
+    (
+        &[(Step::SyncAll, 1, ErrorKind::InvalidInput)],
+        Meanwhile::Nothing,
+        Ok(()),
+        8,
+        &[],
+        Some(TEXT),
+        None,
+    ),
+    (
+        &[(Step::Rename, 1, ErrorKind::PermissionDenied)],
+        Meanwhile::Nothing,
+        Err(ShelfFault::Write),
+        7,
+        GIVEN_UP,
+        None,
+        None,
+    ),
+    // A name that is not on the disk goes again.
+    (
+        &[(Step::SyncAll, 2, ErrorKind::Other)],
+        Meanwhile::Nothing,
+        Err(ShelfFault::Write),
+        8,
+        &[Step::Remove],
+        None,
+        None,
+    ),
+    // Somebody else's file is as it was, and gets no other name.
+    (
+        NO_FAULT,
+        Meanwhile::Named,
+        Err(ShelfFault::IsThere),
+        6,
+        GIVEN_UP,
+        Some(OTHERS),
+        None,
+    ),
+    (
+        NO_FAULT,
+        Meanwhile::Replaced,
+        Err(ShelfFault::Write),
+        6,
+        &[],
+        None,
+        Some(OTHERS),
+    ),
+];
+
+// Somebody else does this.
+fn meddle(rt: &HostRuntime, meanwhile: Meanwhile) {
+    let _ = match meanwhile {
+        Meanwhile::Nothing => Ok(()),
+        Meanwhile::Named => fs::write(rt, SAVED, OTHERS),
+        Meanwhile::Replaced => {
+            let _ = fs::remove_file(rt, BESIDE);
+            fs::write(rt, BESIDE, OTHERS)
+        }
+    };
+}
+
+// Makes room for a tape and puts it there.
+fn put<'x>(
+    rt: &HostRuntime,
+    system: &'x System<'x>,
+    meanwhile: Meanwhile,
+) -> Result<(), ShelfFault> {
+    let mut file = NewFile::new(system, SAVED);
+    file.reserve(rt.alloc())?;
+    meddle(rt, meanwhile);
+    file.put(TEXT.as_bytes())
+}
+
+// Whether just these steps were asked for, in this order: so many of a whole save, and then these.
+fn are_noted(notes: &Notes<'_>, count: usize, then: &[Step]) -> bool {
+    let (Ok(steps), Some(front)) = (notes.steps.try_borrow(), WHOLE.get(..count)) else {
+        return false;
+    };
+    steps.strip_prefix(front) == Some(then)
+}
+
+// Whether a save comes to this, by so many steps and these.
+fn is_put_so(
+    rt: &HostRuntime,
+    failing: Failing,
+    meanwhile: Meanwhile,
+    wanted: Result<(), ShelfFault>,
+    (count, then): (usize, &[Step]),
+) -> bool {
+    let notes = Notes::new(rt.alloc(), failing, ".");
+    let system = System::new(rt, AMPLE).noted(&notes);
+    put(rt, &system, meanwhile) == wanted && are_noted(&notes, count, then)
+}
+
+// Removes whatever is there.
+fn clear(rt: &HostRuntime) {
+    let _ = fs::remove_file(rt, SAVED);
+    let _ = fs::remove_file(rt, BESIDE);
+}
+
+// Whether a row is as it should be.
+fn is_row_so(rt: &HostRuntime, row: &Row) -> bool {
+    let (failing, meanwhile, wanted, count, then, text, beside) = *row;
+    clear(rt);
+    is_put_so(rt, failing, meanwhile, wanted, (count, then))
+        && holds(rt, SAVED, text)
+        && holds(rt, BESIDE, beside)
+}
+
+#[test]
+fn a_tape_is_on_the_disk_before_it_has_its_name(rt: HostRuntime) {
+    for (place, row) in ROWS.iter().enumerate() {
+        assert!(rt; is_row_so(&rt, row), "row {place}");
+    }
+    clear(&rt);
+}

@@ -1,0 +1,128 @@
+//! What a load asks of the system to write over a record that it can not replace, and what comes of each step that fails.
+
+use crate::record_steps::{
+    BEGUN, Before, CURRENT, Course, IN_PLACE, NO_FAULT, READ, Row, Task, UNBEGUN, clear, is_row_so,
+};
+use crate::simulated_system::Step;
+use std::io::ErrorKind;
+
+// A record that is written where it is, and each step fails in turn. It is never less
+// than it was: one of version 1 is not written over.
+const WRITTEN_OVER: [Row; 12] = [
+    (
+        Before::Link(CURRENT),
+        &[(Step::Write, 1, ErrorKind::Other)],
+        UNBEGUN,
+        READ,
+        &[Step::Write],
+        Some(CURRENT),
+    ),
+    (
+        Before::Link(CURRENT),
+        &[(Step::Write, 2, ErrorKind::Other)],
+        UNBEGUN,
+        READ,
+        &[Step::Write, Step::Write],
+        Some(CURRENT),
+    ),
+    (
+        Before::Link(CURRENT),
+        &[(Step::Flush, 1, ErrorKind::Other)],
+        UNBEGUN,
+        READ,
+        &[Step::Write, Step::Write, Step::Flush],
+        Some(CURRENT),
+    ),
+    (
+        Before::Link(CURRENT),
+        &[(Step::SyncData, 1, ErrorKind::Other)],
+        UNBEGUN,
+        READ,
+        &[Step::Write, Step::Write, Step::Flush, Step::SyncData],
+        Some(CURRENT),
+    ),
+    (
+        Before::Link(CURRENT),
+        &[(Step::Cut, 1, ErrorKind::Other)],
+        UNBEGUN,
+        READ,
+        &[
+            Step::Write,
+            Step::Write,
+            Step::Flush,
+            Step::SyncData,
+            Step::Cut,
+        ],
+        Some(CURRENT),
+    ),
+    (
+        Before::Link(CURRENT),
+        &[(Step::SyncAll, 1, ErrorKind::Other)],
+        UNBEGUN,
+        READ,
+        IN_PLACE,
+        Some(BEGUN),
+    ),
+    (
+        Before::Link(""),
+        &[(Step::Cut, 1, ErrorKind::Other)],
+        UNBEGUN,
+        READ,
+        &[
+            Step::Write,
+            Step::Write,
+            Step::Flush,
+            Step::SyncData,
+            Step::Cut,
+        ],
+        Some(BEGUN),
+    ),
+    (
+        Before::Link(""),
+        &[(Step::Flush, 1, ErrorKind::Other)],
+        UNBEGUN,
+        READ,
+        &[Step::Write, Step::Write, Step::Flush],
+        Some(BEGUN),
+    ),
+    (
+        Before::Link("LDAODT 1"),
+        &[(Step::SyncAll, 1, ErrorKind::Other)],
+        UNBEGUN,
+        READ,
+        IN_PLACE,
+        Some(BEGUN),
+    ),
+    (
+        Before::Named(CURRENT),
+        NO_FAULT,
+        Course::Begun,
+        READ,
+        IN_PLACE,
+        Some(BEGUN),
+    ),
+    (
+        Before::Named(CURRENT),
+        &[(Step::Write, 1, ErrorKind::Other)],
+        UNBEGUN,
+        READ,
+        &[Step::Write],
+        Some(CURRENT),
+    ),
+    (
+        Before::Holds(CURRENT),
+        &[(Step::OpenBeside, 1, ErrorKind::PermissionDenied)],
+        Course::Begun,
+        6,
+        IN_PLACE,
+        Some(BEGUN),
+    ),
+];
+
+#[test]
+fn each_step_of_a_writing_over_fails(rt: HostRuntime) {
+    for (place, row) in WRITTEN_OVER.iter().enumerate() {
+        assert!(rt; is_row_so(&rt, Task::Begin, row), "row {place}");
+    }
+    clear(&rt);
+}

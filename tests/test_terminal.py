@@ -143,10 +143,12 @@ class Terminal(Case):
         self.is_so(shown, LISTENING + NO_WORD + mishaps + CLEARED)
 
     def test_a_line_that_talks_is_listened_to(self):
-        """Until its first key, and again for the four tenths of a second that the babble takes behind that."""
+        """Until its first key, and again for the four tenths of a second that the babble takes behind that: its first
+        character is no answer to `Z`, and so a mishap."""
         given, shown = self.load_at_a_terminal(BabblingConsole(), quiet=1000, baud=9600)
         self.is_so((given.status, given.out.split("\n")[1]), (0, "end Started"))
-        self.assertTrue(shown.startswith(LISTENING + NO_WORD + LISTENING), repr(shown))
+        babble = SHOWN.format("0 of 1 words, 0%, listening, 1 mishap")
+        self.assertTrue(shown.startswith(LISTENING + NO_WORD + babble), repr(shown))
 
     def test_words_of_the_record_count(self):
         """Of the second word's eight keys and the start's seven the last ten are slow."""
@@ -158,12 +160,14 @@ class Terminal(Case):
         self.is_so(shown.count(GOING_ON), 1)
         self.assertTrue(shown.endswith(SHOWN.format("2 of 2 words, 100%, 0:00 left") + CLEARED), repr(shown))
 
-    def test_a_word_that_can_not_be_kept_does_not_count(self):
-        """The record has room for its header alone. The keys that look at the word again are slow."""
+    def test_a_verified_word_is_shown_also_where_it_can_not_be_kept(self):
+        """The report counts it, too. The record has room for its header alone, and the keys that look at the word again
+        are slow."""
         given, shown = self.load_at_a_terminal(SlowConsole(19), "first.lda --record a.record", quiet=1000, file_size=9)
         self.is_so((given.status, given.out), (4, "sent 23 spent 0 verified 1 of 1\nend KeepFailed\n"))
         self.assertTrue(shown.endswith(f"{CLEARED}ldaodt: cannot write a.record\r\n"), repr(shown))
-        self.is_so(set(shown[:shown.index(CLEARED)].split("\r")), {"", LISTENING[1:], NO_WORD[1:]})
+        verified = SHOWN.format("1 of 1 words, 100%, 0:00 left")
+        self.is_so(set(shown[:shown.index(CLEARED)].split("\r")), {"", LISTENING[1:], NO_WORD[1:], verified[1:]})
 
 
 class Looks(Case):

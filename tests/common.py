@@ -1,10 +1,10 @@
 """What the tests share: a folder for each test, the program run in it, and a machine to load."""
+import io
 import os
 import pty
 import re
 import shutil
 import socket
-import subprocess
 import sys
 import tempfile
 import time
@@ -13,7 +13,7 @@ from concurrent.futures import ThreadPoolExecutor
 
 sys.path.insert(0, os.path.join(os.path.dirname(os.path.dirname(os.path.realpath(__file__))), "tools"))
 import odt_peer
-from outside import FIRST, PROGRAM, TOP, Answer, HeldUp, bytes_of, run, text_of
+from outside import FIRST, TOP, Answer, HeldUp, bytes_of, run, run_often
 
 # The tapes that the tests name, by the names that they have in a test's folder.
 TAPES = {
@@ -28,19 +28,29 @@ QUIET, LONG_QUIET = 200, 3000
 
 
 class Keeping:
-    """A machine that keeps which keys were typed at it, and when, and what it answered."""
+    """A machine that keeps which keys were typed at it, and when, and how many characters it answered."""
 
     def __init__(self, words=28672, memory=None, style=0, says=()):
         super().__init__(words, style, says)
-        self.typed, self.times, self.said = "", [], ""
+        self.typed, self.times, self.answered = "", [], 0
         for address, value in (memory or {}).items():
             self.words[address // 2] = value
 
+    # A text that grows by a key would be copied for each of a load's two hundred thousand.
+    @property
+    def typed(self):
+        return self.kept.getvalue()
+
+    @typed.setter
+    def typed(self, text):
+        self.kept = io.StringIO()
+        self.kept.write(text)
+
     def take(self, key):
-        self.typed += key
+        self.kept.write(key)
         self.times.append(time.monotonic())
         answer = super().take(key)
-        self.said += answer
+        self.answered += len(answer)
         return answer
 
 
@@ -55,7 +65,7 @@ class Losing:
         if len(self.typed) == self.lost_key:
             self.typed += key
             return ""
-        place = None if self.lost_answer is None else self.lost_answer - len(self.said)
+        place = None if self.lost_answer is None else self.lost_answer - self.answered
         answer = super().take(key)
         return answer if place is None or not 0 <= place < len(answer) else answer[:place] + answer[place + 1:]
 
@@ -241,28 +251,13 @@ class Case(unittest.TestCase):
         self.is_so(there, files)
 
 
-# Runs a command for each name on its input, with the name as its last word, and keeps beside that file what it
-# printed and how it ended.
-EACH_NAME = """
-while IFS= read -r name; do
-    "$@" "$name" < /dev/null > "$name.out" 2> "$name.err"
-    echo $? > "$name.status"
-done
-"""
-SHELLS = 4
+AT_ONCE = 4
 
 
 def each_file(room, words, names):
-    """Runs the program once for each of these files in a folder, with its name behind these words; returns the
-    answers. Shells start it, some at a time, so that thousands of runs take seconds."""
-    command = ["bash", "-c", EACH_NAME, "bash", PROGRAM, *words]
-    share = lambda first: "".join(f"{name}\n" for name in names[first::SHELLS])
-    with ThreadPoolExecutor(SHELLS) as pool:
-        ran = [pool.submit(subprocess.run, command, input=share(first), text=True, cwd=room, check=True) for first in range(SHELLS)]
-        for shell in ran:
-            shell.result()
-    kept = lambda name, what: text_of(bytes_of(os.path.join(room, f"{name}.{what}")))
-    return [Answer(int(kept(name, "status")), kept(name, "out"), kept(name, "err")) for name in names]
+    """Runs the program once for each of these files in a folder, with its path behind these words; returns the answers."""
+    with ThreadPoolExecutor(AT_ONCE) as pool:
+        return list(pool.map(lambda name: run_often([*words, os.path.join(room, name)]), names))
 
 
 def changes(text, others):

@@ -113,7 +113,7 @@ class Changed(Case):
             for name, text in zip(names, texts):
                 self.put(name, text)
             taken = 0
-            for text, given in zip(texts, each_file(self.room, ["rehearse", "first.lda"], names)):
+            for text, given in zip(texts, each_file(self.room, ["rehearse", self.path("first.lda")], names)):
                 with self.subTest(text):
                     line, saying = read(text)
                     if line is None:

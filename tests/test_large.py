@@ -105,7 +105,7 @@ LEFT = 20
 def at_a_console(room, memory, words):
     """Runs a command at a console of its own that has these words, in a process of its own, since four are faster so;
     the quiet time is far above what a busy computer needs. Returns the answer and the starts."""
-    peer = odt_peer.Peer(Console(memory=memory))
+    peer = odt_peer.Peer(Console(memory=memory), at_once=True)
     given = run([word.replace("LINE", peer.name) for word in words.split()] + ["--quiet", "2000"], cwd=room, seconds=600)
     peer.close()
     return given, peer.machine.starts

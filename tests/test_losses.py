@@ -31,7 +31,7 @@ from concurrent.futures import ProcessPoolExecutor
 from functools import lru_cache
 
 from common import TAPES, Case
-from outside import TOP, Answer, block, run
+from outside import TOP, Answer, block, run_often
 
 # ---------------------------------------------------------------- the model
 
@@ -409,7 +409,7 @@ def tried(story):
 
 
 def rehearsed(script, tape=TAPE):
-    return run(["rehearse", tape, "/dev/stdin"], text(script).encode(), seconds=60)
+    return run_often(["rehearse", tape, "/dev/stdin"], keys=text(script).encode(), seconds=60)
 
 
 def text(lines):

@@ -77,7 +77,7 @@ class Memory(Case):
     """Processes of their own try the command lines, since a limit is set between a fork and the program's start."""
 
     def test_each_command_with_more_and_more_memory(self):
-        with ProcessPoolExecutor(PROCESSES, multiprocessing.get_context("spawn")) as pool:
+        with ProcessPoolExecutor(PROCESSES, multiprocessing.get_context("fork")) as pool:
             for line, (wanting, wrong) in zip(LINES, pool.map(swept, LINES)):
                 with self.subTest(line[0][:40]):
                     self.assertIsNone(wrong)

@@ -104,7 +104,7 @@ class Records(Case):
         names = [f"{number}.record" for number in range(len(records))]
         for name, record in zip(names, records):
             self.put(name, record)
-        answers = each_file(self.room, ["load", "tape.lda", peer.address, "--quiet", "60000", "--record"], names)
+        answers = each_file(self.room, ["load", self.path("tape.lda"), peer.address, "--quiet", "60000", "--record"], names)
         counts = [0, 0, 0]
         for name, record, given in zip(names, records, answers):
             with self.subTest(record[:200]):

@@ -14,7 +14,7 @@ import unittest
 from concurrent.futures import ProcessPoolExecutor
 
 from common import Case
-from outside import FIRST, HELLO, PROGRAM, TOP, Answer, block, bytes_of, run, tape_of, text_of
+from outside import FIRST, HELLO, PROGRAM, TOP, Answer, block, bytes_of, run_often, tape_of, text_of
 
 # ---------------------------------------------------------------- the second reader
 
@@ -110,7 +110,7 @@ def judge_files(room, inputs):
     for name, data in zip(names, inputs):
         with open(name, "wb") as file:
             file.write(data)
-    given, wanted = run(["check", *names]), checked(inputs)
+    given, wanted = run_often(["check", *names]), checked(inputs)
     return None if given == wanted else WRONG.format(shown(inputs), given, wanted)
 
 
@@ -119,7 +119,7 @@ def judge_input(room, inputs):
     with open(os.path.join(room, f"{os.getpid()}.input"), "w+b", buffering=0) as file:
         file.write(inputs[0])
         file.seek(0)
-        given, wanted = run([], stdin=file), checked(inputs)
+        given, wanted = run_often([], stdin=file), checked(inputs)
         taken = file.tell()
     if given == wanted and wanted.status == 0:
         given, wanted = taken, read(inputs[0]).size
@@ -131,7 +131,7 @@ class Compared(Case):
 
     @classmethod
     def setUpClass(cls):
-        cls.pool = ProcessPoolExecutor(PROCESSES, multiprocessing.get_context("spawn"))
+        cls.pool = ProcessPoolExecutor(PROCESSES, multiprocessing.get_context("fork"))
         cls.addClassCleanup(cls.pool.shutdown)
 
     def agree(self, lists, judge=judge_files):

@@ -133,13 +133,16 @@ CONSOLES = {
 class Line:
     """A machine, and the line to it: subclasses say what the line is made of."""
 
-    def __init__(self, machine, loss=0.0, seed=0, close_after=None, takes_last=False, baud=None, tell=None):
+    def __init__(self, machine, loss=0.0, seed=0, close_after=None, takes_last=False, baud=None, tell=None, at_once=False):
         self.machine, self.loss, self.baud = machine, loss, baud
         self.chance = random.Random(seed)
         # How many characters, keys and answers together, pass before the line breaks (None: it holds),
         # and whether a key that is the last of them still reaches the machine.
         self.close_after, self.takes_last = close_after, takes_last
         self.keys = self.answered = self.lost = 0
+        # Whether an answer is sent at once, as a bridge may do it, and not character by character. For lines that hold, lose nothing
+        # and have no baud.
+        self.at_once = at_once
         self.tell = tell or (lambda _text: None)
         self.is_hung_up = threading.Event()
 
@@ -172,11 +175,14 @@ class Line:
     @contextlib.contextmanager
     def chattering(self, send):
         """Lets the machine print meanwhile what it prints unasked."""
+        if not self.machine.chatter:
+            yield
+            return
         is_over = threading.Event()
 
         def chatter():
             with contextlib.suppress(OSError):
-                while self.machine.chatter and not is_over.wait(0.001) and self.say(self.machine.chatter, send):
+                while not is_over.wait(0.001) and self.say(self.machine.chatter, send):
                     pass
 
         chatterer = threading.Thread(target=chatter)
@@ -189,6 +195,10 @@ class Line:
 
     def say(self, text, send):
         """Sends what the machine prints; returns whether the line still holds."""
+        if self.at_once:
+            send(text.encode("latin-1"))
+            self.answered += len(text)
+            return True
         for character in text:
             self.wait_a_character()
             if self.loses():

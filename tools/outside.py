@@ -3,7 +3,9 @@ import collections
 import glob
 import os
 import resource
+import select
 import shutil
+import signal
 import subprocess
 import sys
 import tempfile
@@ -52,6 +54,36 @@ def run(words, keys=b"", before="", file_size=None, name=PROGRAM, setup=None, se
     except subprocess.TimeoutExpired:
         return Answer(None, "", f"it did not end within {seconds} seconds")
     return Answer(ran.returncode, text_of(ran.stdout or b""), text_of(ran.stderr or b""))
+
+
+def run_often(words, stdin=None, keys=b"", seconds=120):
+    """The same for who runs ldaodt thousands of times, in half the time: its streams are files in memory, but for a
+    standard input that is given."""
+    files = [os.memfd_create(name) for name in ("stdin", "stdout", "stderr")]
+    try:
+        os.write(files[0], keys)
+        os.lseek(files[0], 0, os.SEEK_SET)
+        streams = [files[0] if stdin is None else stdin.fileno(), *files[1:]]
+        actions = [(os.POSIX_SPAWN_DUP2, file, number) for number, file in enumerate(streams)]
+        status = status_of(os.posix_spawn(PROGRAM, [PROGRAM, *words], os.environ, file_actions=actions), seconds)
+        if status is None:
+            return Answer(None, "", f"it did not end within {seconds} seconds")
+        return Answer(status, *(text_of(os.pread(file, os.fstat(file).st_size, 0)) for file in files[1:]))
+    finally:
+        for file in files:
+            os.close(file)
+
+
+def status_of(process, seconds):
+    """The status with which a process ends; none where it had to be killed after so many seconds."""
+    waiting, told = select.poll(), os.pidfd_open(process)
+    waiting.register(told, select.POLLIN)
+    has_ended = bool(waiting.poll(seconds * 1000))
+    os.close(told)
+    if not has_ended:
+        os.kill(process, signal.SIGKILL)
+    status = os.waitstatus_to_exitcode(os.waitpid(process, 0)[1])
+    return status if has_ended else None
 
 
 def block(address, data):

@@ -39,6 +39,13 @@ impl<'a, D: Disk + Drop> RecordFile<'a, D> {
         }
     }
 
+    /// The disk, with what it was asked so far.
+    pub fn disk(&self) -> &D
+        ensures { result.now ≡ self.now.disk }
+    {
+        &self.disk
+    }
+
     /// What the file holds, which is held from there on. One that is not there is made, and is an empty
     /// record; one that can't be made is an empty record that may not be written.
     ///

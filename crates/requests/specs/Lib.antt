@@ -7,4 +7,5 @@ pub mod Looking
 pub mod Probing
 pub mod Rehearsing
 pub mod Showing
+pub mod Source
 pub mod Typing

@@ -3,11 +3,17 @@ ghost use Rattle.std.specs.Prelude.{◌≡◌, ◌+◌, ◌∷◌, [], length, I
 ghost use Rattle.std.specs.Io.KnownBytes.{Keeps};
 ghost use Rattle.requests.specs.Files.{IsUnopened, means_input};
 
+use crate::source::{Role, Source};
 use endings::{Failure, Status};
-use std::alloc::Global;
-use std::fs;
-use std::io::{BufReader, Write};
+use std::alloc::{AllocError, Global};
+use std::io::{BufReader, Read, Write};
 use std::rt::Files;
+use std::{fs, io};
+
+// Linux's numbers of these two errors, ENFILE and EMFILE.
+const SYSTEM_HAS_TOO_MANY: i32 = 23;
+
+const PROCESS_HAS_TOO_MANY: i32 = 24;
 
 /// Whether the names of tapes mean standard input: it has one, and that is `-`.
 pub(crate) fn is_input(names: &[&str]) -> bool
@@ -24,26 +30,20 @@ pub(crate) fn open<'a, F: Files>(
 ) -> Result<BufReader<F::File>, Failure<'a>>
     ensures { IfErr result (IsUnopened (name.entry ∷ [])) }
 {
-    let Ok(file) = fs::open(rt, name) else {
-        return Err(Failure::CannotRead(name));
-    };
-    match BufReader::new(alloc, file) {
-        Ok(reader) => Ok(reader),
-        Err(_) => Err(Failure::NoMemory),
-    }
+    buffered(alloc, name, fs::open(rt, name))
 }
 
-/// Opens files in the order of their names. The first that can't be opened decides.
+/// Opens files of tapes in the order of their names. The first that can't be opened decides.
 pub(crate) fn open_all<'a, F: Files>(
     rt: &F,
     alloc: Global,
     names: &[&'a str],
-) -> Result<Vec<BufReader<F::File>>, Failure<'a>>
+) -> Result<Vec<Source<F::File>>, Failure<'a>>
     ensures ok { IfOk result (λ files. length files.items ≡ length names.now) }
     ensures err { IfErr result (IsUnopened names.now) }
 {
     let mut files = Vec::new(alloc);
-    open_more(rt, alloc, names, &mut files)?;
+    open_more(rt, alloc, names, Role::Tape, &mut files)?;
     Ok(files)
 }
 
@@ -52,16 +52,76 @@ pub(crate) fn open_more<'a, F: Files>(
     rt: &F,
     alloc: Global,
     names: &[&'a str],
-    files: &mut Vec<BufReader<F::File>>,
+    role: Role,
+    files: &mut Vec<Source<F::File>>,
 ) -> Result<(), Failure<'a>>
     ensures ok { OnOk result (length files.new.items ≡ length files.old.items + length names.now) }
     ensures err { IfErr result (IsUnopened names.now) }
 {
     for name in names {
-        let file = open(rt, alloc, name)?;
-        if files.push(file).is_err() {
+        let file = open_beside(rt, alloc, name, files)?;
+        if files.push(Source::Open(role, file)).is_err() {
             return Err(Failure::NoMemory);
         }
+    }
+    Ok(())
+}
+
+// Opens a file beside others. Where the system has no descriptor left, these are read ahead and closed, and the
+// file is opened then.
+fn open_beside<'a, F: Files>(
+    rt: &F,
+    alloc: Global,
+    name: &'a str,
+    others: &mut [Source<F::File>],
+) -> Result<BufReader<F::File>, Failure<'a>>
+    ensures { IfErr result (IsUnopened (name.entry ∷ [])) }
+{
+    let mut opened = fs::open(rt, name);
+    if lacks_descriptor(&opened) {
+        if read_all_ahead(alloc, others).is_err() {
+            return Err(Failure::NoMemory);
+        }
+        opened = fs::open(rt, name);
+    }
+    buffered(alloc, name, opened)
+}
+
+// Puts a buffer before a file, if it was opened by this name.
+fn buffered<'a, T: Read + Drop>(
+    alloc: Global,
+    name: &'a str,
+    opened: io::Result<T>,
+) -> Result<BufReader<T>, Failure<'a>>
+    ensures { IfErr result (IsUnopened (name.entry ∷ [])) }
+{
+    let Ok(file) = opened else {
+        return Err(Failure::CannotRead(name));
+    };
+    match BufReader::new(alloc, file) {
+        Ok(reader) => Ok(reader),
+        Err(_) => Err(Failure::NoMemory),
+    }
+}
+
+// Whether a file was not opened since this process, or the whole system, has no descriptor left.
+fn lacks_descriptor<T>(opened: &io::Result<T>) -> bool {
+    match opened {
+        Ok(_) => false,
+        Err(error) => matches!(
+            error.raw_os_error(),
+            Some(SYSTEM_HAS_TOO_MANY | PROCESS_HAS_TOO_MANY)
+        ),
+    }
+}
+
+// Reads files ahead and closes them.
+fn read_all_ahead<F: Read + Drop>(
+    alloc: Global,
+    files: &mut [Source<F>],
+) -> Result<(), AllocError> {
+    for file in files {
+        file.read_ahead(alloc)?;
     }
     Ok(())
 }

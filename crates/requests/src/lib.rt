@@ -21,6 +21,7 @@ mod rehearsing;
 mod request;
 mod saving;
 mod showing;
+mod source;
 mod typing;
 mod verifying;
 

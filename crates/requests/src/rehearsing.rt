@@ -6,6 +6,7 @@ ghost use Rattle.requests.specs.Files.{means_input, IsUnopened, OfFiles};
 ghost use Rattle.requests.specs.Rehearsing.{AreRehearsed, AreUnrehearsed, IsInputRehearsed, IsInputUnrehearsed, IsRehearsalFailure, IsRehearsedInto};
 
 use crate::files::{flushed, joined, open, open_all, open_more};
+use crate::source::Role;
 use endings::{Failure, Status, Streams};
 use rehearsals::rehearse_to;
 use std::alloc::Global;
@@ -86,8 +87,9 @@ fn rehearse_files<'a, F: Files, W: Write>(
         (λ inputs. IsRehearsalFailure script.entry.now inputs (W.contents out.old) (W.contents out.new) failure)) }
 {
     let mut tapes = open_all(rt, alloc, &[tape])?;
-    let mut script_file = open(rt, alloc, script)?;
-    open_more(rt, alloc, more, &mut tapes)?;
+    open_more(rt, alloc, &[script], Role::Script, &mut tapes)?;
+    open_more(rt, alloc, more, Role::Tape, &mut tapes)?;
+    let mut script_file = tapes.remove(1);
     let names = joined(alloc, tape, more)?;
     match rehearse_to(alloc, &mut tapes, &mut script_file, out) {
         Ok(()) => flushed(out, Status::Done),

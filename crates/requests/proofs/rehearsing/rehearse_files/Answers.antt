@@ -1,16 +1,21 @@
-use Rattle.std.proofs.Common.{◌∷◌, ◌∙◌, length, inl, inr, refl, subst, ap, arith}
+use Rattle.std.proofs.Common.{◌∷◌, ◌∙◌, length, inl, inr, refl, subst, ap}
 use Rattle.std.proofs.KnownBytes.{Appends-kept}
 use Rattle.std.proofs.lemmas.Result.{IfOk-weaker, IfErr-weaker}
 use Rattle.endings.specs.Failure.{IsFailureOf}
 use Rattle.requests.specs.Rehearsing.{IsRehearsedInto, IsRehearsalFailure}
 use Rattle.requests.proofs.Errors.{error_is}
-use Rattle.requests.proofs.Unopened.{more_unopened, of_files}
+use Rattle.requests.proofs.Unopened.{script_unopened, more_unopened, tapes_left, of_files}
 use Rattle.requests.proofs.rehearsing.rehearse_files.Goals as goal
 
 pub returns-in_err-open_more-clause-err : goal.returns-in_err-open_more-clause-err
 returns-in_err-open_more-clause-err g c =
     error_is c.from_residual-in_err-open_more.result c.in_err-open_more.field-0.0 _ c.from_residual-in_err-open_more.ensures.1
-    (inl (more_unopened c.args.tape c.args.script c.args.more.now c.in_err-open_more.field-0.0 c.in_err-open_more.ensures.err, refl))
+    (inl (script_unopened c.args.tape c.args.script c.args.more.now c.in_err-open_more.field-0.0 c.in_err-open_more.ensures.err, refl))
+
+pub returns-in_err-open_more-2-clause-err : goal.returns-in_err-open_more-2-clause-err
+returns-in_err-open_more-2-clause-err g c =
+    error_is c.from_residual-in_err-open_more-2.result c.in_err-open_more-2.field-0.0 _ c.from_residual-in_err-open_more-2.ensures.1
+    (inl (more_unopened c.args.tape c.args.script c.args.more.now c.in_err-open_more-2.field-0.0 c.in_err-open_more-2.ensures.err, refl))
 
 pub returns-in-Ok-clause-ok : goal.returns-in-Ok-clause-ok
 returns-in-Ok-clause-ok g c =
@@ -18,7 +23,7 @@ returns-in-Ok-clause-ok g c =
     (λ status is. (
       of_files _ (c.args.tape ∷ c.args.more.now) c.deref_mut.result.now c.rehearse_to.new.tapes
           (λ inputs. IsRehearsedInto inputs (g.W.Write.contents c.args.out.now) (g.W.Write.contents c.flushed.new.out))
-          (let same = ap length c.deref_mut.ensures.value in let more = c.in_ok-open_more.ensures.ok in let one = c.in_ok-tapes.ensures.ok in omega arith)
+          (ap length c.deref_mut.ensures.value ∙ tapes_left _ _ _ _ (length c.args.more.now) c.in_ok-tapes.ensures.ok c.in_ok-open_more.ensures.ok c.in_ok-open_more-2.ensures.ok c.remove-script_file.ensures.items)
           (record {
             script_held = _;
             text = c.in-Ok.ensures.ok.0;
@@ -34,7 +39,7 @@ returns-in-Ok-clause-err g c =
     IfErr-weaker c.flushed.result _ _
     (λ failure is. inr (of_files _ (c.args.tape ∷ c.args.more.now) c.deref_mut.result.now c.rehearse_to.new.tapes
     (λ inputs. IsRehearsalFailure c.args.script.now inputs (g.W.Write.contents c.args.out.now) (g.W.Write.contents c.flushed.new.out) failure)
-    (let same = ap length c.deref_mut.ensures.value in let more = c.in_ok-open_more.ensures.ok in let one = c.in_ok-tapes.ensures.ok in omega arith)
+    (ap length c.deref_mut.ensures.value ∙ tapes_left _ _ _ _ (length c.args.more.now) c.in_ok-tapes.ensures.ok c.in_ok-open_more.ensures.ok c.in_ok-open_more-2.ensures.ok c.remove-script_file.ensures.items)
     (inr (
       is,
       record {
@@ -50,7 +55,7 @@ pub returns-clause-err : goal.returns-clause-err
 returns-clause-err g c =
     inr (of_files _ (c.args.tape ∷ c.args.more.now) c.deref_mut.result.now c.rehearse_to.new.tapes
     (λ inputs. IsRehearsalFailure c.args.script.now inputs (g.W.Write.contents c.args.out.now) (g.W.Write.contents c.rehearse_to.new.out) c.of.result)
-    (let same = ap length c.deref_mut.ensures.value in let more = c.in_ok-open_more.ensures.ok in let one = c.in_ok-tapes.ensures.ok in omega arith)
+    (ap length c.deref_mut.ensures.value ∙ tapes_left _ _ _ _ (length c.args.more.now) c.in_ok-tapes.ensures.ok c.in_ok-open_more.ensures.ok c.in_ok-open_more-2.ensures.ok c.remove-script_file.ensures.items)
     (inl (
       _,
       record {

@@ -1,5 +1,7 @@
 """What the tests share: a folder for each test, the program run in it, and a machine to load."""
+import functools
 import io
+import multiprocessing
 import os
 import pty
 import re
@@ -9,7 +11,7 @@ import sys
 import tempfile
 import time
 import unittest
-from concurrent.futures import ThreadPoolExecutor
+from concurrent.futures import ProcessPoolExecutor
 
 sys.path.insert(0, os.path.join(os.path.dirname(os.path.dirname(os.path.realpath(__file__))), "tools"))
 import odt_peer
@@ -251,13 +253,18 @@ class Case(unittest.TestCase):
         self.is_so(there, files)
 
 
-AT_ONCE = 4
+PROCESSES = 4
+
+
+def answer_at(words, path):
+    return run_often([*words, path])
 
 
 def each_file(room, words, names):
-    """Runs the program once for each of these files in a folder, with its path behind these words; returns the answers."""
-    with ThreadPoolExecutor(AT_ONCE) as pool:
-        return list(pool.map(lambda name: run_often([*words, os.path.join(room, name)]), names))
+    """Runs the program once for each of these files in a folder, with its path behind these words; returns the answers.
+    Processes of their own start it, so that thousands of runs take seconds."""
+    with ProcessPoolExecutor(PROCESSES, multiprocessing.get_context("fork")) as pool:
+        return list(pool.map(functools.partial(answer_at, words), [os.path.join(room, name) for name in names], chunksize=16))
 
 
 def changes(text, others):

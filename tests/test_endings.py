@@ -166,17 +166,20 @@ class Numbers(Case):
     def test_a_patience_is_used_up(self):
         """A console that answers nothing gets one key, and one for each mishap."""
         values = sorted({0, 1000, *range(13), *(power + by for power in (16, 32, 64, 100, 128, 256, 512) for by in (-1, 0, 1)), 500, 999})
-        def given(value, words):
+        counts = {"load first.lda LINE": "verified 0 of 1", "verify first.lda LINE": "looked 0 of 1 differ 0"}
+        rows = [(value, words) for value in reversed(values) for words in counts]
+
+        def given(row):
+            value, words = row
             peer = self.console_at(DeafConsole())
             answer = self.ldaodt(words.replace("LINE", peer.address) + f" --quiet 1 --patience {value}")
             peer.settle()
             return answer, peer.machine.typed
-        for words, counts in (("load first.lda LINE", "verified 0 of 1"), ("verify first.lda LINE", "looked 0 of 1 differ 0")):
-            with ThreadPoolExecutor(8) as pool:
-                answers = list(pool.map(lambda value: given(value, words), values))
-            for value, answer in zip(values, answers):
+
+        with ThreadPoolExecutor(16) as pool:
+            for (value, words), answer in zip(rows, pool.map(given, rows)):
                 with self.subTest(words, patience=value):
-                    report = f"sent {value + 1} spent {value} {counts}\nend GaveUp\n"
+                    report = f"sent {value + 1} spent {value} {counts[words]}\nend GaveUp\n"
                     self.is_so(answer, (Answer(5, report, ""), "Z" * (value + 1)))
 
     def test_every_number_is_taken_and_no_other(self):

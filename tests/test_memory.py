@@ -66,7 +66,7 @@ def swept(line):
         for name, data in FILES.items():
             with open(os.path.join(room, name), "wb") as file:
                 file.write(data)
-        once = lambda setup=None, env=None: run(words.split(), keys, setup=setup, env=env, cwd=room, seconds=60)
+        once = lambda starter=(): run(words.split(), keys, starter=starter, cwd=room, seconds=60)
         whole = once()
         if whole.status != status:
             return 0, f"with no limit: {whole}"
@@ -74,7 +74,7 @@ def swept(line):
 
 
 class Memory(Case):
-    """Processes of their own try the command lines, since a limit is set between a fork and the program's start."""
+    """Several processes try the command lines."""
 
     def test_each_command_with_more_and_more_memory(self):
         with ProcessPoolExecutor(PROCESSES, multiprocessing.get_context("fork")) as pool:

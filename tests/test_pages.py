@@ -1,5 +1,6 @@
 """What the pages say of endings, statuses, options, functions and clauses: that they say the same as one another, as the
 program's help and as the crates. And that what they show to be pasted into a shell can be pasted."""
+import collections
 import contextlib
 import glob
 import os
@@ -235,18 +236,20 @@ class Crates(Case):
 
     def test_each_function_and_clause_that_is_named_is_there(self):
         crates = [it for it in glob.glob(f"{TOP}/crates/*/src") if "_tests/" not in it]
-        sources = {os.path.basename(os.path.dirname(it)): "\n".join(
-            text_at(os.path.relpath(file, TOP)) for file in sorted(glob.glob(f"{it}/**/*.rt", recursive=True))) for it in crates}
+        bodies = collections.defaultdict(list)
+        for crate in crates:
+            text = "\n".join(text_at(os.path.relpath(file, TOP)) for file in sorted(glob.glob(f"{crate}/**/*.rt", recursive=True)))
+            for body in re.split(r"\bfn (?=\w)", text)[1:]:
+                bodies[re.match(r"\w+", body)[0]].append(body)
         named = 0
         for cells in rows_of(text_at("docs/PROVED.md")):
             if len(cells) != 3 or not re.fullmatch(r"`[\w:]+`", cells[1]):
                 continue
             named += 1
-            function = cells[1].strip("`").split("::")[-1]
             clauses = re.findall(r"`(\w+)`", cells[2])
-            bodies = [it for text in sources.values() for it in re.findall(rf"\bfn {function}\b.*?(?=\bfn \w|\Z)", text, re.DOTALL)]
             wanted = [rf"ensures {it} \{{" for it in clauses] or [r"ensures"]
-            self.assertTrue(any(all(re.search(it, body) for it in wanted) for body in bodies), f"{cells[1]} has no {cells[2]}")
+            its_bodies = bodies[cells[1].strip("`").split("::")[-1]]
+            self.assertTrue(any(all(re.search(it, body) for it in wanted) for body in its_bodies), f"{cells[1]} has no {cells[2]}")
         self.assertGreater(named, 60)
 
     def test_no_page_names_a_crate_that_is_gone(self):

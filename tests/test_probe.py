@@ -5,6 +5,7 @@ On a line that loses nothing a probe types `Z001000/` and CR, which is 9 keys an
 `Z001000/123Z`, 12 keys and 25 characters; and the first again. So the first look is over behind 30 characters, the trial
 behind 67, the second look behind 97. Behind these the search begins, or the old number is put back.
 """
+import functools
 import random
 import re
 import signal
@@ -109,6 +110,7 @@ class HoledConsole(Console):
         return super().take(key)
 
 
+@functools.lru_cache(None)
 def numbers(words):
     """A memory of so many words, the same ones each time."""
     chance = random.Random(words)

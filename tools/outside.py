@@ -2,7 +2,6 @@
 import collections
 import glob
 import os
-import resource
 import select
 import shutil
 import signal
@@ -38,10 +37,10 @@ os.execv(sys.argv[2], sys.argv[2:])
 """
 
 
-def run(words, keys=b"", before="", file_size=None, name=PROGRAM, setup=None, seconds=120, **more):
+def run(words, keys=b"", before="", file_size=None, name=PROGRAM, starter=(), setup=None, seconds=120, **more):
     """Runs ldaodt on these words and keys: after redirections by a shell, with a limit to how long a file may get,
-    under another name, or after a setup of the process."""
-    command = [name, *(it if isinstance(it, bytes) else it.encode() for it in words)]
+    under another name, by another command that starts it, or after a setup of the process."""
+    command = [*starter, name, *(it if isinstance(it, bytes) else it.encode() for it in words)]
     if before:
         command = ["bash", "-c", f'exec "$@" {before}', "bash", *command]
     elif file_size is not None:
@@ -132,6 +131,10 @@ PAGE = 4 << 10
 MOST = 256 << 20
 
 
+# Starts a program that has so many KiB of address space, and whose loader tells in a file what it does.
+LITTLE_MEMORY = 'LD_DEBUG=files LD_DEBUG_OUTPUT="$1"; export LD_DEBUG LD_DEBUG_OUTPUT; ulimit -v "$2"; shift 2; exec "$@"'
+
+
 class Loader:
     """The system's loader, which tells in a file whether it gave the program control.
 
@@ -143,10 +146,8 @@ class Loader:
 
     def start(self, once, size):
         """Runs the program once with so many bytes of address space; returns whether it began, and its answer."""
-        env = {**os.environ, "LD_DEBUG": "files", "LD_DEBUG_OUTPUT": f"{self.room}/told"}
-        setup = None if size is None else lambda: resource.setrlimit(resource.RLIMIT_AS, (size, size))
         try:
-            given = once(setup, env)
+            given = once(["sh", "-c", LITTLE_MEMORY, "sh", f"{self.room}/told", "unlimited" if size is None else str(size >> 10)])
         except subprocess.SubprocessError:
             given = None
         has_begun = False
@@ -175,7 +176,7 @@ def is_want(given, whole):
 
 
 def sweep(once, whole, step=PAGE, enough=64):
-    """Runs the program with more and more memory: `once` does it, with a setup and an environment.
+    """Runs the program with more and more memory: `once` does it, with a command that starts it.
 
     From the least with which it begins at all, until it has ended as with ample memory so many times in
     turn. In between nothing is right but status 7 with its line, and a front of the output. Returns how often

@@ -216,6 +216,14 @@ class Crates(Case):
             for below in re.findall(r"`(\w+)`", cells[2]):
                 self.assertIn(below, self.crates[name], f"{name} does not stand on {below}")
 
+    def test_each_crate_names_what_it_is_said_to_stand_on(self):
+        """A library that is listed and not named would be one more that is walked before each check."""
+        for name, libraries in self.crates.items():
+            files = [it for part in ("src", "specs", "proofs") for it in glob.glob(f"{TOP}/crates/{name}/{part}/**/*.*t", recursive=True)]
+            text = "\n".join(text_at(os.path.relpath(it, TOP)) for it in files)
+            for library in libraries:
+                self.assertTrue(re.search(rf"\b{library}::|Rattle\.{library}\b", text), f"{name} does not name {library}")
+
     def test_each_crate_stands_on_lower_floors_alone(self):
         floors = re.findall(r"^ +(\d+)   (\w.*)$", section(text_at("docs/MAP.md"), "## How the crates stand on one another"), re.MULTILINE)
         floor_of = {name: int(number) for number, names in floors for name in names.split(" · ")}

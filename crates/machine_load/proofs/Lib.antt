@@ -2,4 +2,5 @@ mod Begun
 mod Driving
 mod Faults
 mod Lives
+mod OnDisk
 mod Steps

@@ -29,6 +29,8 @@ impl<C: Reach, R: Records> Surroundings for Around<C, R> {
 
     ghost begins = { λ keeper plan count. R.begins keeper plan count };
 
+    ghost disk = { λ around. R.disk around.records };
+
     fn read_record(&mut self, alloc: Global) -> Result<OldRecord, RecordFault> {
         self.records.read(alloc)
     }

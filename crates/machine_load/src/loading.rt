@@ -18,6 +18,7 @@ ghost use Rattle.machine_load.specs.Driving.{ending_of, finish_of, keeper_tells,
 ghost use Rattle.machine_load.specs.Load.{around_of, setting, Asks, IsNeverBegun, IsOpening, IsReported, words_taken};
 ghost use Rattle.machine_load.specs.LoadFault.{IsLoadFault, IsOpeningFault, IsDrivingFault};
 ghost use Rattle.machine_load.specs.LoadReport.{load_report};
+ghost use Rattle.machine_load.specs.RecordDisk.{DiskAsked, disk_asked_by, disk_asked_before, IsBegunOn, IsOpenedOn, IsLivedOn, IsNotLivedOn};
 ghost use Rattle.record_file.specs.OldRecord.{HoldsNoRecord};
 ghost use Rattle.machine_load.specs.Step.{reading, Connect, BeginRecord, EndRecord};
 
@@ -79,6 +80,8 @@ pub fn load<S: Surroundings, W: Write, O: Onlooker>(
     ensures line { IfOk result (λ outcome. IsSome outcome.line ⊎ IsNeverBegun outcome.stop) }
     ensures asked { IfOk result (λ outcome. Gains (S.asked around.old) (S.asked around.new) (asked_by (S.call around.old) outcome.line)) }
     ensures asked_in_vain { IfErr result (IsAskedBefore (S.call around.old) (S.asked around.old) (S.asked around.new)) }
+    ensures disk { IfOk result (λ outcome. DiskAsked (S.disk around.old) (S.disk around.new) (disk_asked_by outcome.line)) }
+    ensures disk_in_vain { IfErr result (λ fault. DiskAsked (S.disk around.old) (S.disk around.new) (disk_asked_before fault)) }
     ensures fault { IfErr result (IsLoadFault plan options
         (setting S.steps S.record_text W.contents around.old out.old)
         (setting S.steps S.record_text W.contents around.new out.new)) }
@@ -130,6 +133,8 @@ fn open<S: Surroundings>(
     ensures same { Keeps (S.record_text around.old) (S.record_text around.new) }
     ensures asked { S.asked around.new ≡ S.asked around.old }
     ensures call { S.call around.new ≡ S.call around.old }
+    ensures disk { OnOk result (IsOpenedOn (S.disk around.old) (S.disk around.new)) }
+    ensures disk_in_vain { IfErr result (λ fault. DiskAsked (S.disk around.old) (S.disk around.new) (disk_asked_before fault)) }
 {
     let record = around.read_record(alloc)?;
     let said = what_is_said(&record.text, &plan)?;
@@ -186,6 +191,8 @@ fn live<S: Surroundings, O: Onlooker>(
         (around_of S.steps S.record_text around.new)) }
     ensures asked { IfOk result (λ lived. Gains (S.asked around.old) (S.asked around.new) (asked_by (S.call around.old) lived.line)) }
     ensures asked_in_vain { IfErr result (IsAskedBefore (S.call around.old) (S.asked around.old) (S.asked around.new)) }
+    ensures disk { IfOk result (λ lived. IsLivedOn (S.disk around.old) (S.disk around.new) lived.line) }
+    ensures disk_in_vain { IfErr result (IsNotLivedOn (S.disk around.old) (S.disk around.new)) }
 {
     match core.end() {
         Some(end) => Ok(Lived {
@@ -231,6 +238,8 @@ fn drive_over<S: Surroundings, O: Onlooker>(
         (around_of S.steps S.record_text around.new)) }
     ensures asked { IfOk result (λ driven. Gains (S.asked around.old) (S.asked around.new) (asked_once (S.call around.old))) }
     ensures asked_in_vain { IfErr result (IsAskedBefore (S.call around.old) (S.asked around.old) (S.asked around.new)) }
+    ensures disk { OnOk result (DiskAsked (S.disk around.old) (S.disk around.new) IsBegunOn) }
+    ensures disk_in_vain { IfErr result (IsNotLivedOn (S.disk around.old) (S.disk around.new)) }
 {
     let line = around.connect()?;
     let verified = core.progress().verified;

@@ -1,7 +1,9 @@
 //! Where the record of a load is: in a file, or in memory alone.
-ghost use Rattle.std.specs.Prelude.{ℕ, IfErr, IfOk, ⊤};
+ghost use Rattle.std.specs.Prelude.{ℕ, IfErr, IfOk, ⊤, Option, Some, None, option_map};
+ghost use Rattle.machine_load.specs.RecordDisk.{RecordDisk, IsReadAnswered, IsBeginAnswered};
 ghost use Rattle.record_file.specs.DiskRecord.{HasBegun};
 ghost use Rattle.record_file.specs.RecordFault.{IsUnbegun, IsUnread};
+ghost use Rattle.record_file.specs.Taking.{kind_of};
 ghost use Rattle.tape_image.specs.Plan.{PlanValue};
 
 use load_devices::{Keep, MemoryKeep};
@@ -17,9 +19,13 @@ pub trait Records {
     /// What a keeper is that was begun with so many words of a plan, where the type says it.
     ghost begins: { Self.Keeper → PlanValue → ℕ → Type 0 } = { λ _ _ _. ⊤ };
 
+    /// The disk on which the record is; None where it is on none, or the type doesn't say.
+    ghost disk: { Self → Option RecordDisk } = { λ _. None };
+
     /// The record of earlier lives, which from there on is held. It is changed in nothing.
     fn read(&mut self, alloc: Global) -> Result<OldRecord, RecordFault>
-        ensures fault { IfErr result IsUnread };
+        ensures fault { IfErr result IsUnread }
+        ensures disk { IsReadAnswered (disk self.old) (disk self.new) result };
 
     /// Writes the record anew, with the first verified words of the plan, and keeps it from there on.
     fn begin(
@@ -29,13 +35,16 @@ pub trait Records {
         verified: u32,
     ) -> Result<Self::Keeper, RecordFault>
         ensures keeper { IfOk result (λ keeper. begins keeper plan.now verified) }
-        ensures fault { IfErr result IsUnbegun };
+        ensures fault { IfErr result IsUnbegun }
+        ensures disk { IsBeginAnswered (disk self.old) (disk self.new) result };
 }
 
 impl<D: Disk + Drop> Records for RecordFile<'_, D> {
     type Keeper = DiskRecord<D::File>;
 
     ghost begins = { λ keeper plan count. HasBegun plan count keeper };
+
+    ghost disk = { λ file. Some (record { asked = D.asked file.disk; name = file.name.now; known = option_map kind_of file.held }) };
 
     fn read(&mut self, alloc: Global) -> Result<OldRecord, RecordFault> {
         RecordFile::read(self, alloc)

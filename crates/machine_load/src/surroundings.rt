@@ -2,6 +2,7 @@ ghost use Rattle.std.specs.Prelude.{◌≡◌, ℕ, List, [], ◌∷◌, Option,
 ghost use Rattle.std.specs.Io.KnownBytes.{Keeps};
 ghost use Rattle.load_devices.specs.Told.{Gains};
 ghost use Rattle.machine_load.specs.Load.{IsBegun, IsRecordText};
+ghost use Rattle.machine_load.specs.RecordDisk.{RecordDisk, IsReadAnswered, IsBeginAnswered};
 ghost use Rattle.record_file.specs.RecordFault.{IsUnread, IsUnbegun};
 ghost use Rattle.console_reach.specs.Reached.{IsFresh};
 ghost use Rattle.stream_line.specs.Dialling.{NetRequest, Call, asked_for};
@@ -40,6 +41,9 @@ pub trait Surroundings {
     /// What a keeper is that was begun with so many words of a plan, where the type says it.
     ghost begins: { Self.Keeper → PlanValue → ℕ → Type 0 } = { λ _ _ _. ⊤ };
 
+    /// The disk on which the record is; None where it is on none, or the type doesn't say.
+    ghost disk: { Self → Option RecordDisk } = { λ _. None };
+
     /// The record of earlier lives, which from there on is held: no other load has it until this one is
     /// over. It is changed in nothing.
     fn read_record(&mut self, alloc: Global) -> Result<OldRecord, RecordFault>
@@ -48,14 +52,16 @@ pub trait Surroundings {
         ensures fault { IfErr result IsUnread }
         ensures same { Keeps (record_text self.old) (record_text self.new) }
         ensures asked { asked self.new ≡ asked self.old }
-        ensures call { call self.new ≡ call self.old };
+        ensures call { call self.new ≡ call self.old }
+        ensures disk { IsReadAnswered (disk self.old) (disk self.new) result };
 
     /// A connection to the console, on which nothing was said.
     fn connect(&mut self) -> Result<Self::Line, LineFault>
         ensures step { Gains (steps self.old) (steps self.new) (connect_step result ∷ []) }
         ensures fresh { IfOk result (λ line. IsFresh (Self.Line.told line) (Self.Line.fault_count line) (Self.Line.last_fault line)) }
         ensures same { Keeps (record_text self.old) (record_text self.new) }
-        ensures asked { Gains (asked self.old) (asked self.new) (asked_for (call self.old) result) };
+        ensures asked { Gains (asked self.old) (asked self.new) (asked_for (call self.old) result) }
+        ensures disk { disk self.new ≡ disk self.old };
 
     /// Writes the record anew, with the first verified words of the plan, and keeps it from there on.
     fn begin_record(
@@ -68,11 +74,13 @@ pub trait Surroundings {
         ensures fault { IfErr result IsUnbegun }
         ensures begun { OnOk result (IsBegun (record_text self.new) plan.now verified) }
         ensures keeper { IfOk result (λ keeper. begins keeper plan.now verified) }
-        ensures asked { asked self.new ≡ asked self.old };
+        ensures asked { asked self.new ≡ asked self.old }
+        ensures disk { IsBeginAnswered (disk self.old) (disk self.new) result };
 
     /// Takes back the keeper of a life that is over: the record is what it has kept.
     fn end_record(&mut self, keeper: Self::Keeper)
         ensures step { Gains (steps self.old) (steps self.new) (EndRecord ∷ []) }
         ensures text { record_text self.new ≡ kept_text keeper }
-        ensures asked { asked self.new ≡ asked self.old };
+        ensures asked { asked self.new ≡ asked self.old }
+        ensures disk { disk self.new ≡ disk self.old };
 }

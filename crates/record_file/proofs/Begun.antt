@@ -1,8 +1,7 @@
 -- The two ways to begin a record, one behind the other, and what the file is let go by.
-use Rattle.std.proofs.Common.{◌≡◌, ℕ, List, [], ◌++◌, Bool, Option, Some, None, Result, Ok, Err, subst, sym, refl}
+use Rattle.std.proofs.Common.{◌≡◌, ℕ, List, [], ◌++◌, Bool, Option, Some, None, Result, Ok, Err, subst, sym}
 use Rattle.std.specs.Prelude.{MatchOption, option_map}
 use Rattle.std.specs.Result.{IfOk, IfErr}
-use Rattle.load_devices.specs.Told.{Keeps}
 use Rattle.record_file.proofs.Asking.{tells_join}
 use Rattle.record_file.specs.Beginning.{GivenUp, course, IsBeside, IsLetGo, IsWrittenOver, IsNotWrittenOver, IsBegun, Beside, InPlace, IsNotBegun, NotBeside, NotInPlace}
 use Rattle.record_file.specs.DiskStep.{DiskStep, HasAsked}
@@ -55,10 +54,6 @@ each_err (Err fault) f x = f x
 
 pub none_known : {T : Type 0} (P : Made × Bool → Type 0) (Q : Type 0) (before : Option (HeldFile T)) → None ≡ before → Q → MatchOption (option_map kind_of before) Q P
 none_known P Q before is q = subst (λ b. MatchOption (option_map kind_of b) Q P) is q
-
-pub keeps_same : {A : Type 0} (a : Option (List A)) → Keeps a a
-keeps_same None = tt
-keeps_same (Some items) = refl
 
 pub read_none : {T : Type 0} (name text : List ℕ) (a b : Option (List DiskStep)) (found before : Option (HeldFile T)) → found ≡ None → text ≡ []
     → HasAsked a b (IsHolding name (option_map kind_of found)) → HasAsked a b (IsRead name text (option_map kind_of before) (option_map kind_of before))

@@ -1,4 +1,4 @@
-mod Asking
+pub mod Asking
 mod Begun
 mod Folders
 mod OldRecords

@@ -1,6 +1,6 @@
 -- Rows of the tables of what is asked, by what came of a call.
 use Rattle.std.proofs.Common.{◌≡◌, ℕ, ◌+◌, ◌<◌, ◌≤◌, ◌⊎◌, inl, inr, ◌∙◌, sym, subst, refl, List, [], ◌∷◌, ◌++◌, Bool, true, false, Option, Some, None, Result, Ok, Err}
-use Rattle.record_file.specs.Beginning.{IsLeft, Left, Strange as StrangeNew, Taken, IsMaking, Fresh, Again, IsMakingHeld, new_name, Course, NotReplaced, GivenUp, Replaced, IsRenaming, Whole, Unsynced, NotRenamed, Moved, IsFolderSync, IsCut, IsLetGo, Goes, LeadsElsewhere, Stays, StaysBehindLink, IsWriting, NotHeld as NotHeldNew, NoRoom, NotWritten, Written, IsBeside, IsWrittenOver, Device as OverDevice, PlainFile as OverFile, OutOfReach, NoMemory, NoFolder, AtFolder, course, IsMakingSynced, OldFile, NewFile, NewBehindLink, Unresolved}
+use Rattle.record_file.specs.Beginning.{IsLeft, Left, Strange as StrangeNew, Taken, IsMaking, Fresh, Again, IsMakingHeld, new_name, Course, NotReplaced, GivenUp, Replaced, IsRenaming, Whole, Unsynced, NotRenamed, Moved, IsFolderSync, IsCut, IsLetGo, Goes, LeadsElsewhere, Stays, StaysBehindLink, IsWriting, NotHeld as NotHeldNew, NoRoom, NotWritten, Written, IsBeside, IsWrittenOver, Device as OverDevice, PlainFile as OverFile, AtFolder, course, IsMakingSynced, OldFile, NewFile, NewBehindLink, Unresolved}
 use Rattle.record_file.specs.Course.{is_done, is_some, renamed}
 use Rattle.record_file.proofs.Asking.{tells_join}
 use Rattle.record_file.specs.DiskStep.{DiskStep, HasAsked, Tells, LedTo, Resolve, Look, LookAtName, FindSoleFile, Open, Hold, Rename, Remove, SyncFolder, Did, Failed, told, answered, IsLook, Seen, Unseen, IsLookAtName, SeenThere, UnseenThere}

@@ -1,6 +1,5 @@
 //! The record's file over a whole load.
 ghost use Rattle.std.specs.Prelude.{◌≡◌, Bool, Option, IfErr, IfOk, MatchOption, option_map};
-ghost use Rattle.load_devices.specs.Told.{Keeps};
 ghost use Rattle.record_file.specs.Beginning.{IsBegun, IsNotBegun};
 ghost use Rattle.record_file.specs.DiskRecord.{HasBegun};
 ghost use Rattle.record_file.specs.DiskStep.{HasAsked};
@@ -92,7 +91,7 @@ impl<'a, D: Disk + Drop> RecordFile<'a, D> {
         ensures fault { IfErr result IsUnbegun }
         ensures asked { IfOk result (λ keeper. MatchOption (option_map kind_of self.old.held) ⊥ (λ kind.
             HasAsked (D.asked self.old.disk) (D.asked self.new.disk) (IsBegun self.old.name.now kind.0 kind.1 keeper.text))) }
-        ensures failed { IfErr result (λ _. MatchOption (option_map kind_of self.old.held) (Keeps (D.asked self.old.disk) (D.asked self.new.disk)) (λ kind.
+        ensures failed { IfErr result (λ _. MatchOption (option_map kind_of self.old.held) (D.asked self.new.disk ≡ D.asked self.old.disk) (λ kind.
             HasAsked (D.asked self.old.disk) (D.asked self.new.disk) (IsNotBegun self.old.name.now kind.0))) }
     {
         let Some(mut held) = self.held.take() else {

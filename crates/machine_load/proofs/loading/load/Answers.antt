@@ -6,6 +6,8 @@ use Rattle.machine_load.specs.LoadFault.{IsLoadFault}
 use Rattle.machine_load.proofs.Begun.{line_or_never, line_or_over, never_begun}
 use Rattle.machine_load.proofs.Driving.{is_life, load_reported, load_untold, undriven_told, unopened_told}
 use Rattle.machine_load.proofs.Faults.{of_opening, of_driving, of_report, error_is, no_value}
+use Rattle.machine_load.proofs.OnDisk.{lived_on, not_lived_on, untold_on}
+use Rattle.machine_load.specs.RecordDisk.{DiskAsked, disk_asked_by, disk_asked_before}
 use Rattle.machine_load.proofs.loading.load.Goals as goal
 
 pub returns-in_err-core-clause-reported : goal.returns-in_err-core-clause-reported
@@ -131,3 +133,23 @@ returns-clause-line g c = rw (sym c.outcome.ensures.stop, sym c.outcome.ensures.
     (around_of g.S.Surroundings.steps g.S.Surroundings.record_text c.open.new.around)
     (around_of g.S.Surroundings.steps g.S.Surroundings.record_text c.live.new.around)
     c.in_ok-lived.lived.stop c.in_ok-lived.lived.line c.in_ok-lived.ensures.lived))
+
+pub returns-in_err-lived-clause-disk_in_vain : goal.returns-in_err-lived-clause-disk_in_vain
+returns-in_err-lived-clause-disk_in_vain g c =
+    error_is c.from_residual-in_err-lived.result c.in_err-lived.field-0.0
+    (λ fault. DiskAsked (g.S.Surroundings.disk c.args.around.now) (g.S.Surroundings.disk c.live.new.around) (disk_asked_before fault))
+    c.from_residual-in_err-lived.ensures.1
+    (not_lived_on _ (g.S.Surroundings.disk c.open.new.around) _ c.in_err-lived.field-0.0 c.in_ok-core.ensures.disk c.in_err-lived.ensures.disk_in_vain)
+
+pub returns-in_err-tell-clause-disk_in_vain : goal.returns-in_err-tell-clause-disk_in_vain
+returns-in_err-tell-clause-disk_in_vain g c =
+    error_is c.from_residual-in_err-tell.result WriteOutput
+    (λ fault. DiskAsked (g.S.Surroundings.disk c.args.around.now) (g.S.Surroundings.disk c.live.new.around) (disk_asked_before fault))
+    c.from_residual-in_err-tell.ensures.1
+    (untold_on _ (g.S.Surroundings.disk c.open.new.around) _ c.in_ok-lived.lived.line c.in_ok-core.ensures.disk c.in_ok-lived.ensures.disk)
+
+pub returns-clause-disk : goal.returns-clause-disk
+returns-clause-disk g c =
+    subst (λ line. DiskAsked (g.S.Surroundings.disk c.args.around.now) (g.S.Surroundings.disk c.live.new.around) (disk_asked_by line))
+    (sym c.outcome.ensures.line)
+    (lived_on _ (g.S.Surroundings.disk c.open.new.around) _ c.in_ok-lived.lived.line c.in_ok-core.ensures.disk c.in_ok-lived.ensures.disk)

@@ -1,8 +1,9 @@
-use Rattle.record_file.proofs.Begun.{known, none_known, keeps_same, begun_beside, begun_in_place, not_begun_in_place, not_begun_beside, each_ok, each_err}
+use Rattle.std.proofs.Common.{refl}
+use Rattle.record_file.proofs.Begun.{known, none_known, begun_beside, begun_in_place, not_begun_in_place, not_begun_beside, each_ok, each_err}
 use Rattle.record_file.proofs.record_file.RecordFile.begin.Goals as goal
 
 pub returns-in_default-clause-failed : goal.returns-in_default-clause-failed
-returns-in_default-clause-failed g c = none_known _ _ _ c.in_default.ensures.value (keeps_same _)
+returns-in_default-clause-failed g c = none_known _ _ _ c.in_default.ensures.value refl
 
 pub returns-in-Ok-Some-clause-asked : goal.returns-in-Ok-Some-clause-asked
 returns-in-Ok-Some-clause-asked g c = known _ _ _ c.in-Some.held c.in-Some.ensures.value (begun_beside _ _ _ _ _ _ _ _ _ c.in-Ok-Some.field-0-is c.in-Ok-Some.ensures.asked)

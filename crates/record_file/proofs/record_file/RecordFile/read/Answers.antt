@@ -1,4 +1,4 @@
-use Rattle.record_file.proofs.Asking.{on_err, not_ok}
+use Rattle.record_file.proofs.Asking.{on_err}
 use Rattle.record_file.proofs.Begun.{read_none, read_some, unread}
 use Rattle.record_file.specs.Reading.{NotHeld}
 use Rattle.record_file.proofs.record_file.RecordFile.read.Goals as goal

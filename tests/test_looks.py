@@ -8,6 +8,7 @@ import os
 import random
 import re
 import signal
+import stat
 import subprocess
 import time
 import unittest
@@ -296,7 +297,8 @@ class Files(Looks):
         self.is_so(line.connections, 0)
 
     def test_what_stands_beside(self):
-        """What a save left that was killed goes; a folder of that name stays, and then none can be made."""
+        """What a save left that was killed goes; a folder or a pipe of that name stays, and then none can be made. Who
+        opened the pipe would wait for somebody to write to it."""
         self.put(f"a.lda{BESIDE}", b"left")
         line = self.console_at(Console())
         self.ends(self.look(line, "save a.lda LINE 1000 1000"), 0, "sent 9 spent 0 read 1 of 1\nend Saved\n")
@@ -304,6 +306,9 @@ class Files(Looks):
         os.mkdir(self.path(f"b.lda{BESIDE}"))
         self.is_refused("b.lda", "cannot write b.lda")
         self.is_so(os.listdir(self.path(f"b.lda{BESIDE}")), [])
+        os.mkfifo(self.path(f"c.lda{BESIDE}"))
+        self.is_refused("c.lda", "cannot write c.lda")
+        self.assertTrue(stat.S_ISFIFO(os.lstat(self.path(f"c.lda{BESIDE}")).st_mode))
 
     def test_a_console_that_is_not_there(self):
         """No file is left."""

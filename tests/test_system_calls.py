@@ -69,6 +69,19 @@ class Between(Calls):
             self.holds({"a.record": "hello"})
             self.is_so(line.machine.typed, "")
 
+    def test_a_record_that_somebody_makes_behind_a_link(self):
+        """The link led nowhere a moment ago. What is there now is the record, and is read."""
+        line = self.console_at(Console(memory={0o1000: 0o011064}))
+        os.symlink("b.record", self.path("a.record"))
+
+        def before(call):
+            is_making = call.opened() == "a.record" and call.arguments[call.name == "openat" and 2 or 1] & (os.O_CREAT | os.O_EXCL) == os.O_CREAT
+            if is_making:
+                self.put("b.record", VERIFIED.encode())
+
+        self.ends(self.load(line, before), 0, STOOD)
+        self.is_so((os.readlink(self.path("a.record")), bytes_of(self.path("b.record")).decode()), ("b.record", MARKED))
+
     def test_another_file_in_the_place_of_one_that_was_made(self):
         """Nobody listens, and the load takes the FILE away that it made, but not somebody else's."""
         line = self.console_at(Console())
@@ -119,6 +132,15 @@ class Answers(Calls):
         given = self.ask(self.console_at(Console(memory={0o1000: 0o011064})), "save a.lda LINE 1000 1000", before)
         self.ends(given, 0, "sent 9 spent 0 read 1 of 1\nend Saved\n")
         self.is_so(bytes_of(self.path("a.lda")), tape_of([(0o1000, b"\x34\x12")]))
+
+    def test_a_record_that_can_not_be_gone_back_in(self):
+        """Behind a link it would be written over: what is written behind it instead would be a part of it."""
+        line = self.console_at(Console())
+        self.put("b.record", VERIFIED.encode())
+        os.symlink("b.record", self.path("a.record"))
+        given = self.load(line, lambda call: call.fails(errno.EIO) if call.name == "lseek" and call.file() == "b.record" else None)
+        self.ends(given, 4, "", NO_RECORD)
+        self.is_so((bytes_of(self.path("b.record")).decode(), line.machine.typed), (VERIFIED, ""))
 
     def test_a_line_that_takes_no_time_limit(self):
         """A socket whose reads can't be limited, and a device that can't be made to answer at once: a load could wait at them

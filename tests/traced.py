@@ -11,7 +11,7 @@ import subprocess
 import outside
 
 # The calls that tests know by name, by their numbers.
-NAMES = {1: "write", 2: "open", 16: "ioctl", 42: "connect", 44: "sendto", 54: "setsockopt", 72: "fcntl", 73: "flock", 74: "fsync",
+NAMES = {1: "write", 2: "open", 8: "lseek", 16: "ioctl", 42: "connect", 44: "sendto", 54: "setsockopt", 72: "fcntl", 73: "flock", 74: "fsync",
          75: "fdatasync", 77: "ftruncate", 82: "rename", 257: "openat", 264: "renameat", 316: "renameat2"}
 
 # Where the system keeps a process's registers: a call's number, its answer, and its first arguments.

@@ -211,6 +211,11 @@ class Refusals(Devices):
         self.was_typed(device, "")
         device.address = "./ttyUSB0"
         self.ends(self.load(device), 0, STARTED)
+        for words, end in (("verify first.lda LINE", "Same"), ("save a.lda LINE 1000 1000", "Saved"), ("probe LINE", "Probed")):
+            device.machine = Console(memory={0o1000: 0o011064})
+            given = self.ldaodt(f"{words.replace('LINE', device.address)} --quiet {self.quiet}")
+            device.settle()
+            self.is_so((given.status, given.out.split("\n")[-2], given.err), (0, f"end {end}", ""))
 
 
 def is_locked(device):

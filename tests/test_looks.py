@@ -7,7 +7,9 @@ A look types `Z` first, which is answered by four characters, and then eight key
 import os
 import random
 import re
+import shutil
 import signal
+import stat
 import subprocess
 import time
 import unittest
@@ -17,6 +19,9 @@ from common import Case, Console, DeafConsole, LossyConsole, SlowConsole
 from outside import NO_OUTPUT, PROGRAM, Answer, bytes_of, tape_of
 
 FAILED = "ldaodt: line failed\n"
+
+# Runs a command where this folder is the root, with the system's libraries in it.
+IN_A_ROOT = 'for it in lib lib64 usr; do [ -e /$it ] && mkdir -p $it && mount --rbind /$it $it || exit; done; exec chroot . "$@"'
 BESIDE = ".ldaodt-new"
 
 # What passes at a look at two words of a machine of zeroed memory, keys and answers in their order, and which of these
@@ -296,7 +301,8 @@ class Files(Looks):
         self.is_so(line.connections, 0)
 
     def test_what_stands_beside(self):
-        """What a save left that was killed goes; a folder of that name stays, and then none can be made."""
+        """What a save left that was killed goes; a folder or a pipe of that name stays, and then none can be made. Who
+        opened the pipe would wait for somebody to write to it."""
         self.put(f"a.lda{BESIDE}", b"left")
         line = self.console_at(Console())
         self.ends(self.look(line, "save a.lda LINE 1000 1000"), 0, "sent 9 spent 0 read 1 of 1\nend Saved\n")
@@ -304,6 +310,21 @@ class Files(Looks):
         os.mkdir(self.path(f"b.lda{BESIDE}"))
         self.is_refused("b.lda", "cannot write b.lda")
         self.is_so(os.listdir(self.path(f"b.lda{BESIDE}")), [])
+        os.mkfifo(self.path(f"c.lda{BESIDE}"))
+        self.is_refused("c.lda", "cannot write c.lda")
+        self.assertTrue(stat.S_ISFIFO(os.lstat(self.path(f"c.lda{BESIDE}")).st_mode))
+
+    def test_a_file_in_the_root_folder(self):
+        """That of a test's own root: its folder has no name but the slash."""
+        rooted = ["unshare", "--user", "--map-root-user", "--mount", "sh", "-c", IN_A_ROOT, "sh"]
+        shutil.copy(PROGRAM, self.path("program"))
+        if subprocess.run([*rooted, "/program", "--version"], cwd=self.room, capture_output=True, check=False).returncode:
+            self.skipTest("no root can be made here: unshare is not allowed")
+        line = self.console_at(Console(memory={0o1000: 0o011064}))
+        words = ["/program", "save", "/a.lda", line.address, "1000", "1000", "--quiet", str(self.quiet)]
+        given = subprocess.run([*rooted, *words], cwd=self.room, capture_output=True, text=True, check=False)
+        self.is_so((given.returncode, given.stdout, given.stderr), (0, "sent 9 spent 0 read 1 of 1\nend Saved\n", ""))
+        self.is_so(bytes_of(self.path("a.lda")), as_tape(0o1000, [0o011064]))
 
     def test_a_console_that_is_not_there(self):
         """No file is left."""

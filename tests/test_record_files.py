@@ -308,6 +308,16 @@ class Made(Files):
         self.is_so(os.lstat(self.path("a.record")).st_ino, before.st_ino)
         os.rmdir(self.path("a.record.ldaodt-new"))
 
+    def test_a_pipe_in_the_new_files_place(self):
+        """It is not opened, since nobody may ever write to it: the record is written in place."""
+        self.put("a.record", b"")
+        os.mkfifo(self.path("a.record.ldaodt-new"))
+        before = os.lstat(self.path("a.record"))
+        self.ends(self.load("a.record"), 0, STARTED)
+        self.is_so(bytes_of(self.path("a.record")).decode(), MARKED)
+        self.is_so(os.lstat(self.path("a.record")).st_ino, before.st_ino)
+        self.assertTrue(stat.S_ISFIFO(os.lstat(self.path("a.record.ldaodt-new")).st_mode))
+
 
 if __name__ == "__main__":
     unittest.main()

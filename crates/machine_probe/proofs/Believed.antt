@@ -1,12 +1,10 @@
 -- What the runs of a probe leave, over honest lines.
-use Rattle.std.proofs.Common.{◌≡◌, ℕ, ◌+◌, ◌^◌, ◌<◌, Bool, true, false, eqb, List, [], ◌∷◌, ◌++◌, length, get_or, Option, Some, None, inl, inr, refl, arith, ap, sym, subst, ◌∙◌}
-use Rattle.std.specs.Prelude.{All}
+use Rattle.std.proofs.Common.{◌≡◌, ℕ, ◌+◌, ◌^◌, ◌<◌, Bool, true, false, List, [], ◌∷◌, ◌++◌, length, get_or, Option, Some, None, inl, inr, refl, arith, ap, sym, subst, ◌∙◌}
 use Rattle.std.proofs.lemmas.Bool.{eq-eqb}
 use Rattle.std.proofs.lemmas.List.Elements.{All-nil, All-cons}
 use Rattle.tape_image.specs.Memory.{top_of}
 use Rattle.odt_machine.specs.Machine.{Machine, word_at}
 use Rattle.load_devices.specs.declared.item.Item.{Item}
-use Rattle.load_devices.specs.Told.{Gains}
 use Rattle.honest_line.specs.Honest.{IsHonest}
 use Rattle.memory_end.specs.declared.search.Search.{Search}
 use Rattle.memory_end.specs.declared.search.Search.TheVariants as search
@@ -26,21 +24,20 @@ use Rattle.reading_core.specs.Addresses.{AreAddresses, IsAddress}
 use Rattle.reading_core.specs.Laws.{led}
 use Rattle.reading_core.specs.Reader.{Reader}
 use Rattle.reading_core.proofs.Lives.{led_addresses}
-use Rattle.reading_law.specs.Belief.{IsReadyMachine, dialogue}
+use Rattle.reading_law.specs.Belief.{IsReadyMachine}
 use Rattle.reading_engine.specs.declared.stop.Stop.{Stop as LookStop}
 use Rattle.reading_engine.specs.declared.stop.Stop.TheVariants.{Ended, LineFailed, TurnsOver}
 use Rattle.reading_engine.specs.Inquired.{IsSaid}
-use Rattle.trial_core.specs.Trial.{begun_trial}
 use Rattle.trial_engine.specs.declared.stop.Stop.{Stop as TrialStop}
 use Rattle.trial_engine.specs.declared.stop.Stop.TheVariants as stopped
 use Rattle.trial_engine.specs.Attempted.{IsSaid as IsSaidOfTrial}
 use Rattle.trial_law.specs.Again.{looker}
-use Rattle.trial_law.specs.Runs.{Look, Run, Try, dialogue_of, MayBeSuchAHost}
-use Rattle.trial_law.specs.Trying.{IsToldOf, trial_dialogue}
+use Rattle.trial_law.specs.Runs.{Look, Run, Try, dialogue_of}
+use Rattle.trial_law.specs.Trying.{IsToldOf}
 use Rattle.trial_law.proofs.Runs.{IsHarmless, run_harmless}
 use Rattle.trial_law.proofs.Told.{told_honest}
 use Rattle.machine_probe.specs.declared.probe_options.ProbeOptions.{ProbeOptions}
-use Rattle.machine_probe.specs.Belief.{IsBelievable, IsRight}
+use Rattle.machine_probe.specs.Belief.{IsBelievable}
 use Rattle.machine_probe.specs.Came.{extent_of, first_of, sighting_of}
 use Rattle.machine_probe.specs.Follow.{IsProbe, Made, forgets, goes_on, is_number, number_in, stores}
 use Rattle.machine_probe.specs.Runs.{LooksAt, IsSearch, IsTrialOf, One}

@@ -1,8 +1,8 @@
 -- How the runs of a probe come to stand one behind another.
-use Rattle.std.proofs.Common.{◌≡◌, ℕ, ◌+◌, ◌-◌, ◌*◌, ◌/◌, true, false, Bool, List, [], ◌∷◌, ◌++◌, length, Option, Some, None, refl, arith, ap, sym, subst, ◌∙◌, append_assoc, append-nil}
+use Rattle.std.proofs.Common.{◌≡◌, ℕ, ◌+◌, ◌-◌, ◌*◌, ◌/◌, true, false, Bool, List, [], ◌∷◌, ◌++◌, Option, Some, None, inl, inr, refl, arith, ap, sym, subst, ◌∙◌, append_assoc, append-nil}
 use Rattle.load_devices.specs.declared.item.Item.{Item}
-use Rattle.load_devices.specs.Told.{Gains}
-use Rattle.load_engine.proofs.Sessions.{gains_join, gains_none}
+use Rattle.load_devices.specs.Told.{Gains, Keeps}
+use Rattle.load_engine.proofs.Sessions.{gains_join, gains_kept, gains_none}
 use Rattle.memory_end.specs.declared.search.Search.{Search}
 use Rattle.memory_end.specs.Ending.{FindsEnd}
 use Rattle.memory_end.specs.Passes.{Searches, three_passes}
@@ -12,11 +12,9 @@ use Rattle.probe_report.specs.declared.findings.Extent.{Extent}
 use Rattle.probe_report.specs.declared.findings.Findings.{Findings}
 use Rattle.probe_report.specs.declared.findings.Sighting.{Sighting}
 use Rattle.probe_report.specs.declared.findings.Sighting.TheVariants.{Number, NoWord, GaveUp, TurnsOver, LineFailed}
-use Rattle.probe_report.specs.declared.findings.TrialEnd.{TrialEnd}
-use Rattle.probe_report.specs.declared.findings.TrialEnd.TheVariants as trial
 use Rattle.probe_report.specs.declared.judging.Verdict.{Verdict}
 use Rattle.probe_report.specs.declared.judging.Verdict.TheVariants.{Forgets, Stores, Unknown}
-use Rattle.probe_report.specs.Judging.{on_looks, on_numbers, on_same_number, verdict_of}
+use Rattle.probe_report.specs.Judging.{on_looks, verdict_of}
 use Rattle.reading_core.specs.Addresses.{addresses_between, addresses_from}
 use Rattle.reading_core.specs.Reader.{Reader}
 use Rattle.reading_engine.specs.declared.stop.Stop.{Stop as LookStop}
@@ -29,7 +27,7 @@ use Rattle.trial_law.specs.Again.{looker}
 use Rattle.machine_probe.specs.declared.probe_options.ProbeOptions.{ProbeOptions}
 use Rattle.machine_probe.specs.declared.putting_back.Deposit.{Deposit}
 use Rattle.machine_probe.specs.Came.{attempt_of, extent_of, first_of, sighting_of}
-use Rattle.machine_probe.specs.Follow.{IsProbe, Made, forgets, goes_on, is_number, number_in, stores}
+use Rattle.machine_probe.specs.Follow.{IsBrokenOff, IsProbe, Made, forgets, goes_on, is_number, number_in, stores}
 use Rattle.machine_probe.specs.PuttingBack.{IsPutBack, PutsBack}
 use Rattle.machine_probe.specs.Rooms.{HasDeposit}
 use Rattle.machine_probe.specs.Runs.{LooksAt, IsSearch, IsTrialOf, OnLine, One}
@@ -183,3 +181,41 @@ all_runs options f verdict l0 l1 l2 l3 l4 l5 address a b c d judged e = record {
       (rows_join l1 l2 l5 b.parts (c.parts ++ (d.parts ++ e.parts)) b.on_line
       (rows_join l2 l3 l5 c.parts (d.parts ++ e.parts) c.on_line (rows_join l3 l4 l5 d.parts e.parts d.on_line e.on_line)));
 }
+
+-- a probe that was broken off before its search, for want of memory
+
+nothing_made : {A : Type 0} (wanted : Bool) (run : A → List (List Item) → Type 0) (found : Option A) (line line' : Option (List Item)) → wanted ≡ false → OnLine (Made wanted run found) line line' → Gains line line' []
+nothing_made {A} true run found line line' is o = absurd (cc is)
+nothing_made {A} false run None line line' is o = subst (λ (parts : List (List Item)). Gains line line' (in_a_row parts)) o.are o.on_line
+nothing_made {A} false run (Some made) line line' is o = absurd o.are
+
+forgets_not_stores : (verdict : Verdict) → forgets verdict ≡ true → stores verdict ≡ false
+forgets_not_stores Forgets is = refl
+forgets_not_stores Stores is = absurd (cc is)
+forgets_not_stores Unknown is = absurd (cc is)
+
+pub unsearched : (options : ProbeOptions) (f : Findings) (put_back : Option Bool) (verdict : Verdict) (l0 l1 l2 l3 l4 l5 : Option (List Item)) →
+    OnLine (One (LooksAt options f.first)) l0 l1 →
+    OnLine (Made (is_number f.first) (λ attempt. One (IsTrialOf options (number_in f.first) attempt)) f.trial) l1 l2 →
+    OnLine (Made (goes_on f.trial) (λ sighting. One (LooksAt options sighting)) f.second) l2 l3 →
+    OnLine (Made (stores (verdict_of f)) (λ is_back. One (PutsBack options.address (number_in f.first) options.patience (turns_of options.patience) is_back)) put_back) l3 l4 →
+    verdict ≡ verdict_of f → forgets verdict ≡ true → Keeps l4 l5 → OnLine (IsBrokenOff options) l0 l5
+unsearched options f put_back verdict l0 l1 l2 l3 l4 l5 a b c d judged is kept =
+    let same = ap forgets (sym judged) ∙ is in
+    let rest = gains_join l3 l4 l5 [] [] (nothing_made _ _ put_back l3 l4 (forgets_not_stores (verdict_of f) same) d) (gains_kept l4 l5 kept) in
+    record {
+      parts = a.parts ++ (b.parts ++ c.parts);
+      are = inr (inl (record {
+        f = f;
+        same = same;
+        in_first = a.parts;
+        in_trial = b.parts;
+        in_second = c.parts;
+        parts_are = refl;
+        looked = a.are;
+        tried = b.are;
+        looked_again = c.are;
+      }));
+      on_line = rows_join l0 l1 l5 a.parts (b.parts ++ c.parts) a.on_line (rows_join l1 l2 l5 b.parts c.parts b.on_line
+          (subst (Gains l2 l5) (append-nil (in_a_row c.parts)) (gains_join l2 l3 l5 (in_a_row c.parts) [] c.on_line rest)));
+    }

@@ -1,5 +1,5 @@
 -- How the report of a probe comes to be.
-use Rattle.std.proofs.Common.{◌≡◌, ℕ, ◌^◌, ◌<◌, List, [], ◌++◌, Option, Result, Ok, Err, IfOk, OnOk, ap, sym, subst, ◌∙◌}
+use Rattle.std.proofs.Common.{◌≡◌, ℕ, ◌^◌, ◌<◌, List, [], ◌++◌, Option, Result, Ok, Err, IfOk, OnOk, inr, ap, sym, subst, ◌∙◌}
 use Rattle.std.specs.Io.KnownBytes.{Appends}
 use Rattle.std.proofs.KnownBytes.{Keeps-refl}
 use Rattle.byte_io.specs.Output.{WritesAllBut, WritesPrefix}
@@ -14,10 +14,10 @@ use Rattle.probe_report.specs.ProbeText.{probe_text}
 use Rattle.reading_core.specs.Addresses.{IsAddress}
 use Rattle.tape_blocks.specs.Told.{IsAsTold}
 use Rattle.machine_probe.specs.declared.probe_options.ProbeOptions.{ProbeOptions}
-use Rattle.machine_probe.specs.Follow.{IsProbe}
+use Rattle.machine_probe.specs.Follow.{IsBrokenOff, IsProbe}
 use Rattle.machine_probe.specs.Noted.{AreNotesSince}
 use Rattle.machine_probe.specs.Probe.{IsCutShort, IsReport, IsReportFrom, IsReportOver, IsReported, IsReportedOver, ProbeTold}
-use Rattle.machine_probe.specs.ProbeFault.{IsProbeFault, IsUnreported}
+use Rattle.machine_probe.specs.ProbeFault.{IsBrokenOffFrom, IsProbeFault, IsUnreported}
 use Rattle.machine_probe.specs.declared.probe_fault.ProbeFault.{ProbeFault}
 use Rattle.machine_probe.specs.declared.probe_fault.ProbeFault.TheVariants.{Connect, WriteOutput, Memory}
 use Rattle.machine_probe.specs.Runs.{OnLine}
@@ -82,3 +82,14 @@ pub unreported_is : (options : ProbeOptions) (tries tries' : Option ℕ) (out : 
 unreported_is options tries tries' out Connect is = (is, Keeps-refl out)
 unreported_is options tries tries' out WriteOutput is = absurd is
 unreported_is options tries tries' out Memory is = Keeps-refl out
+
+-- ---- where memory is wanting
+
+-- a probe over a line that was noted was broken off
+pub broken_off_from : {L : Type 0} (told : L → Option (List Item)) (options : ProbeOptions) (line opened line' : L) → opened ≡ line →
+    OnLine (IsBrokenOff options) (told opened) (told line') → IsBrokenOffFrom told options line
+broken_off_from {L} told options line opened line' same runs = (line', subst (λ (l : L). OnLine (IsBrokenOff options) (told l) (told line')) same runs)
+
+-- also where all of its runs were made
+pub broken_off_behind : (options : ProbeOptions) (f : Findings) (line line' : Option (List Item)) → OnLine (IsProbe options f) line line' → OnLine (IsBrokenOff options) line line'
+broken_off_behind options f line line' runs = record { parts = runs.parts; are = inr (inr (f, runs.are)); on_line = runs.on_line }

@@ -1,5 +1,5 @@
 -- Which runs a probe makes.
-use Rattle.std.specs.Prelude.{◌≡◌, ℕ, Bool, true, false, List, [], ◌++◌, Option, Some, None}
+use Rattle.std.specs.Prelude.{◌≡◌, ◌⊎◌, ℕ, Bool, true, false, List, [], ◌++◌, Option, Some, None}
 use Rattle.load_devices.specs.declared.item.Item.{Item}
 use Rattle.probe_report.specs.declared.findings.Attempt.{Attempt}
 use Rattle.probe_report.specs.declared.findings.Findings.{Findings}
@@ -8,7 +8,7 @@ use Rattle.probe_report.specs.declared.findings.Sighting.TheVariants as look
 use Rattle.probe_report.specs.declared.findings.TrialEnd.{TrialEnd}
 use Rattle.probe_report.specs.declared.findings.TrialEnd.TheVariants as trial
 use Rattle.probe_report.specs.declared.judging.Verdict.{Verdict}
-use Rattle.probe_report.specs.declared.judging.Verdict.TheVariants.{Forgets, Stores, Unknown}
+use Rattle.probe_report.specs.declared.judging.Verdict.TheVariants.{Forgets, Stores}
 use Rattle.probe_report.specs.Judging.{verdict_of}
 use Rattle.machine_probe.specs.declared.probe_options.ProbeOptions.{ProbeOptions}
 use Rattle.machine_probe.specs.PuttingBack.{PutsBack}
@@ -70,3 +70,21 @@ pub record IsProbe (options : ProbeOptions) (f : Findings) (parts : List (List I
       Made (stores (verdict_of f))
       (λ is_back. One (PutsBack options.address (number_in f.first) options.patience (turns_of options.patience) is_back)) f.put_back in_deposit
   pub searched : Made (forgets (verdict_of f)) (IsSearch options) f.search in_search
+
+-- a probe that found the same number again, and did not search memory's end
+pub record IsUnsearched (options : ProbeOptions) (parts : List (List Item)) : Type 0 where
+  pub f : Findings
+  pub same : forgets (verdict_of f) ≡ true
+  pub in_first : List (List Item)
+  pub in_trial : List (List Item)
+  pub in_second : List (List Item)
+  pub parts_are : parts ≡ in_first ++ (in_trial ++ in_second)
+  pub looked : One (LooksAt options f.first) in_first
+  pub tried : Made (is_number f.first) (λ attempt. One (IsTrialOf options (number_in f.first) attempt)) f.trial in_trial
+  pub looked_again : Made (goes_on f.trial) (λ sighting. One (LooksAt options sighting)) f.second in_second
+
+-- where a probe may be broken off: behind its first look, with no digit typed; behind a second look that read the same number; or
+-- behind all of its runs
+abbrev pub IsBrokenOff : ProbeOptions → List (List Item) → Type 0
+IsBrokenOff options parts =
+    ((sighting : Sighting) × One (LooksAt options sighting) parts) ⊎ (IsUnsearched options parts ⊎ ((f : Findings) × IsProbe options f parts))

@@ -1,10 +1,10 @@
 //! The command `probe`.
-ghost use Rattle.std.specs.Prelude.{◌≡◌, [], IfErr, IfOk, OnOk};
+ghost use Rattle.std.specs.Prelude.{◌≡◌, [], IfErr, IfOk, OnErr, OnOk};
 ghost use Rattle.console_reach.specs.Reached.{OneMoreTime};
 ghost use Rattle.tape_blocks.specs.Told.{IsAsTold};
 ghost use Rattle.reading_core.specs.Addresses.{IsAddress};
 ghost use Rattle.machine_probe.specs.Probe.{IsReportFrom, IsReportOver, IsReported, IsReportedOver, probe_told};
-ghost use Rattle.machine_probe.specs.ProbeFault.{IsProbeFault, IsUnreported};
+ghost use Rattle.machine_probe.specs.ProbeFault.{IsBrokenOffFrom, IsProbeFault, IsUnreported, IsWanting};
 ghost use Rattle.machine_probe.specs.Rooms.{AreLookers};
 
 use crate::noted_line::{NotedLine, Opening};
@@ -49,6 +49,7 @@ pub fn probe<R: Reach, W: Write, C: Clock>(
     ensures fault { IfErr result (IsProbeFault options
         (probe_told R.tries W.contents console.old out.old)
         (probe_told R.tries W.contents console.new out.new)) }
+    ensures wanting { IfErr result (λ fault. fault ≡ ProbeFault.Memory → IsWanting R.Line.told options (R.tries console.old) (R.tries console.new)) }
 {
     let mut report = Vec::with_capacity(alloc, LONGEST_REPORT)?;
     let end = gather(alloc, options, console, clock, &mut report)?;
@@ -70,6 +71,7 @@ fn gather<R: Reach, C: Clock>(
     ensures report { IfOk result (IsReportOver R.Line.told options report.new.items) }
     ensures tried { OnOk result (OneMoreTime (R.tries console.old) (R.tries console.new)) }
     ensures fault { IfErr result (IsUnreported (R.tries console.old) (R.tries console.new)) }
+    ensures wanting { IfErr result (λ fault. fault ≡ ProbeFault.Memory → IsWanting R.Line.told options (R.tries console.old) (R.tries console.new)) }
 {
     let lookers = Lookers::new(alloc, options)?;
     let line = console.reach()?;
@@ -90,7 +92,8 @@ fn report_runs<L: Line + Drop, C: Clock>(
     requires lookers { AreLookers options lookers }
     requires fresh { IsAsTold (L.told line) [] }
     requires empty { report.old.items ≡ [] }
-    ensures { IfOk result (IsReportFrom L.told options line report.new.items) }
+    ensures report { IfOk result (IsReportFrom L.told options line report.new.items) }
+    ensures wanting { OnErr result (IsBrokenOffFrom L.told options line) }
 {
     report_noted::<L, C, Brand>(alloc, lookers, options, line, clock, report)
 }
@@ -109,7 +112,8 @@ fn report_noted<L: Line + Drop, C: Clock, E: Opening>(
     requires opening { L.told line ≡ E.told }
     requires fresh { IsAsTold (L.told line) [] }
     requires empty { report.old.items ≡ [] }
-    ensures { IfOk result (IsReportFrom L.told options line report.new.items) }
+    ensures report { IfOk result (IsReportFrom L.told options line report.new.items) }
+    ensures wanting { OnErr result (IsBrokenOffFrom L.told options line) }
 {
     let mut line: NotedLine<'_, L, C, E> = NotedLine::new(line, clock);
     let findings = make_runs(alloc, lookers, options, &mut line)?;

@@ -1,11 +1,12 @@
 //! The runs of a probe, one after another over one line.
-ghost use Rattle.std.specs.Prelude.{◌≡◌, IfOk};
+ghost use Rattle.std.specs.Prelude.{◌≡◌, true, IfOk, OnErr};
 ghost use Rattle.reading_core.specs.Addresses.{IsAddress};
 ghost use Rattle.reading_core.specs.Invariant.{IsReader};
+ghost use Rattle.load_devices.specs.Told.{Keeps};
 ghost use Rattle.trial_law.specs.Again.{looker};
 ghost use Rattle.probe_report.specs.Judging.{verdict_of};
 ghost use Rattle.machine_probe.specs.Came.{attempt_of, extent_of, first_of, sighting_of, trial_end_of};
-ghost use Rattle.machine_probe.specs.Follow.{IsProbe, Made, forgets, goes_on, is_number, number_in, stores};
+ghost use Rattle.machine_probe.specs.Follow.{IsBrokenOff, IsProbe, Made, forgets, goes_on, is_number, number_in, stores};
 ghost use Rattle.machine_probe.specs.PuttingBack.{PutsBack};
 ghost use Rattle.machine_probe.specs.Rooms.{AreLookers, HasDeposit};
 ghost use Rattle.machine_probe.specs.Runs.{LooksAt, IsSearch, IsTrialOf, OnLine, One};
@@ -64,7 +65,8 @@ pub(crate) fn make_runs<L: Line>(
 ) -> Result<Findings, AllocError>
     requires address { IsAddress options.address }
     requires lookers { AreLookers options lookers }
-    ensures { IfOk result (λ found. OnLine (IsProbe options found) (L.told line.old) (L.told line.new)) }
+    ensures made { IfOk result (λ found. OnLine (IsProbe options found) (L.told line.old) (L.told line.new)) }
+    ensures wanting { OnErr result (OnLine (IsBrokenOff options) (L.told line.old) (L.told line.new)) }
 {
     let Lookers {
         first: first_core,
@@ -234,7 +236,8 @@ fn find_memory<L: Line>(
     options: ProbeOptions,
     line: &mut L,
 ) -> Result<Option<Extent>, AllocError>
-    ensures { IfOk result (λ search. OnLine (Made (forgets verdict) (IsSearch options) search) (L.told line.old) (L.told line.new)) }
+    ensures searched { IfOk result (λ search. OnLine (Made (forgets verdict) (IsSearch options) search) (L.told line.old) (L.told line.new)) }
+    ensures wanting { OnErr result ((forgets verdict ≡ true) × Keeps (L.told line.old) (L.told line.new)) }
 {
     match verdict {
         Verdict::Forgets => {

@@ -1,5 +1,7 @@
+use Rattle.std.proofs.Common.{◌≡◌, inl, inr, refl}
+use Rattle.machine_probe.specs.declared.probe_fault.ProbeFault.{ProbeFault}
 use Rattle.machine_probe.specs.declared.probe_fault.ProbeFault.TheVariants.{Connect, Memory}
-use Rattle.machine_probe.specs.ProbeFault.{IsUnreported}
+use Rattle.machine_probe.specs.ProbeFault.{IsUnreported, IsWanting}
 use Rattle.machine_probe.proofs.Faults.{error_is, no_ok, no_value}
 use Rattle.machine_probe.proofs.probing.gather.Goals as goal
 
@@ -31,4 +33,22 @@ pub returns-in_err-end-clause-fault : goal.returns-in_err-end-clause-fault
 returns-in_err-end-clause-fault g c = error_is c.from_residual-in_err-end.result Memory (IsUnreported (g.R.Reach.tries c.args.console.now) (g.R.Reach.tries c.reach.new.self)) c.from_residual-in_err-end.ensures.1 tt
 
 pub returns-clause-report : goal.returns-clause-report
-returns-clause-report g c = (c.in_ok-line.line, c.in_ok-end.ensures.0, c.in_ok-end.ensures.1)
+returns-clause-report g c = (c.in_ok-line.line, c.in_ok-end.ensures.report.0, c.in_ok-end.ensures.report.1)
+
+pub returns-in_err-lookers-clause-wanting : goal.returns-in_err-lookers-clause-wanting
+returns-in_err-lookers-clause-wanting g c =
+    error_is c.from_residual.result Memory
+    (λ (fault : ProbeFault). fault ≡ Memory → IsWanting g.R.Line.Line.told c.args.options (g.R.Reach.tries c.args.console.now) (g.R.Reach.tries c.args.console.now))
+    c.from_residual.ensures.1 (λ _. inl refl)
+
+pub returns-in_err-line-clause-wanting : goal.returns-in_err-line-clause-wanting
+returns-in_err-line-clause-wanting g c =
+    error_is c.from_residual-in_err-line.result Connect
+    (λ (fault : ProbeFault). fault ≡ Memory → IsWanting g.R.Line.Line.told c.args.options (g.R.Reach.tries c.args.console.now) (g.R.Reach.tries c.reach.new.self))
+    c.from_residual-in_err-line.ensures.1 (λ is. absurd (cc is))
+
+pub returns-in_err-end-clause-wanting : goal.returns-in_err-end-clause-wanting
+returns-in_err-end-clause-wanting g c =
+    error_is c.from_residual-in_err-end.result Memory
+    (λ (fault : ProbeFault). fault ≡ Memory → IsWanting g.R.Line.Line.told c.args.options (g.R.Reach.tries c.args.console.now) (g.R.Reach.tries c.reach.new.self))
+    c.from_residual-in_err-end.ensures.1 (λ _. inr (c.in_ok-line.line, c.in_ok-line.ensures.fresh.nothing_said, c.in_err-end.ensures.wanting))

@@ -1,7 +1,9 @@
+use Rattle.std.proofs.Common.{◌≡◌, inl, refl}
 use Rattle.std.proofs.KnownBytes.{Keeps-refl}
+use Rattle.machine_probe.specs.declared.probe_fault.ProbeFault.{ProbeFault}
 use Rattle.machine_probe.specs.declared.probe_fault.ProbeFault.TheVariants.{Memory, WriteOutput}
 use Rattle.machine_probe.specs.Probe.{probe_told}
-use Rattle.machine_probe.specs.ProbeFault.{IsProbeFault}
+use Rattle.machine_probe.specs.ProbeFault.{IsProbeFault, IsWanting}
 use Rattle.machine_probe.proofs.Faults.{error_is, no_value}
 use Rattle.machine_probe.proofs.Reports.{cut_of, over_of, some_of, unreported_is}
 use Rattle.machine_probe.proofs.probing.probe.Goals as goal
@@ -45,3 +47,21 @@ returns-clause-over_line g c =
 
 pub returns-clause-reported : goal.returns-clause-reported
 returns-clause-reported g c = some_of g.R.Line.Line.told c.args.options (probe_told g.R.Reach.tries g.W.Write.contents c.args.console.now c.args.out.now) (probe_told g.R.Reach.tries g.W.Write.contents c.gather.new.console c.write_and_flush.new.out) c.in_ok-end.end (returns-clause-over_line g c)
+
+pub returns-in_err-report-clause-wanting : goal.returns-in_err-report-clause-wanting
+returns-in_err-report-clause-wanting g c =
+    error_is c.from_residual.result Memory
+    (λ (fault : ProbeFault). fault ≡ Memory → IsWanting g.R.Line.Line.told c.args.options (g.R.Reach.tries c.args.console.now) (g.R.Reach.tries c.args.console.now))
+    c.from_residual.ensures.1 (λ _. inl refl)
+
+pub returns-in_err-end-clause-wanting : goal.returns-in_err-end-clause-wanting
+returns-in_err-end-clause-wanting g c =
+    error_is c.from_residual-in_err-end.result c.in_err-end.field-0.0
+    (λ (fault : ProbeFault). fault ≡ Memory → IsWanting g.R.Line.Line.told c.args.options (g.R.Reach.tries c.args.console.now) (g.R.Reach.tries c.gather.new.console))
+    c.from_residual-in_err-end.ensures.1 c.in_err-end.ensures.wanting
+
+pub returns-in_err-write_and_flush-clause-wanting : goal.returns-in_err-write_and_flush-clause-wanting
+returns-in_err-write_and_flush-clause-wanting g c =
+    error_is c.from_residual-in_err-write_and_flush.result WriteOutput
+    (λ (fault : ProbeFault). fault ≡ Memory → IsWanting g.R.Line.Line.told c.args.options (g.R.Reach.tries c.args.console.now) (g.R.Reach.tries c.gather.new.console))
+    c.from_residual-in_err-write_and_flush.ensures.1 (λ is. absurd (cc is))

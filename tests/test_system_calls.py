@@ -1,0 +1,211 @@
+"""What the program asks of the system, call by call: what may happen between two calls, what a call may answer, and in which
+order they come. No contract says that of a system's own files, sockets and devices, which tell nothing of what they hold.
+"""
+import errno
+import os
+import unittest
+
+from common import Case, Console
+from outside import bytes_of, tape_of
+import traced
+
+VERIFIED, MARKED = "LDAODT 2\n001000 011064\n", "LDAODT 2\n001000 011064\nG\n"
+STARTED = "sent 30 spent 0 verified 1 of 1\nend Started\n"
+STOOD = "sent 8 spent 0 verified 1 of 1\nend Started\n"
+NO_RECORD = "ldaodt: cannot write a.record\n"
+
+WRITES, SYNCS, RENAMES = ("write", "sendto"), ("fsync", "fdatasync"), ("rename", "renameat", "renameat2")
+
+# The time limit of a socket's reads and that its keys wait for nothing, as a call's level and option; and how a device is made
+# to answer at once, as a call and what it is asked for.
+TIME_LIMITS, NO_DELAY = ((1, 20), (1, 66)), (6, 1)
+NO_WAITING = (("ioctl", 0x5421), ("fcntl", 4))
+
+
+class Calls(Case):
+    """Loads of first.lda, of which each call is told."""
+
+    def setUp(self):
+        super().setUp()
+        if not traced.is_possible():
+            self.skipTest("no process can be traced here")
+        self.put_tapes("first.lda")
+
+    def ask(self, line, words, before):
+        """Runs the program at a line, with its calls told to `before`."""
+        given = traced.run([*words.replace("LINE", line.address).split(), "--quiet", str(self.quiet)], before, cwd=self.room)
+        line.settle()
+        return given
+
+    def load(self, line, before, more="--record a.record"):
+        return self.ask(line, f"load first.lda LINE {more}", before)
+
+
+class Between(Calls):
+    """Somebody does something right before a call. Nobody else's file is read for the record, replaced or removed."""
+
+    def meddling(self, name):
+        """Right before the first call of a name somebody renames new.record to a.record, where it is there."""
+        def before(call):
+            if call.name == name and os.path.exists(self.path("new.record")):
+                os.rename(self.path("new.record"), self.path("a.record"))
+        return before
+
+    def test_a_record_that_is_replaced_before_it_is_held(self):
+        """The load looks at the name again, finds another file there, and begins again."""
+        line = self.console_at(Console(memory={0o1000: 0o011064}))
+        self.put("a.record", b"LDAODT 2\n")
+        self.put("new.record", VERIFIED.encode())
+        self.ends(self.load(line, self.meddling("flock")), 0, STOOD)
+        self.holds({"a.record": MARKED})
+
+    def test_a_record_that_is_replaced_while_it_connects(self):
+        """It is no longer the file that the load holds, so that the load begins no record."""
+        for text in ("", VERIFIED):
+            line = self.console_at(Console())
+            self.put("a.record", text.encode())
+            self.put("new.record", b"hello")
+            self.ends(self.load(line, self.meddling("connect")), 4, "", NO_RECORD)
+            self.holds({"a.record": "hello"})
+            self.is_so(line.machine.typed, "")
+
+    def test_a_record_that_somebody_makes_behind_a_link(self):
+        """The link led nowhere a moment ago. What is there now is the record, and is read."""
+        line = self.console_at(Console(memory={0o1000: 0o011064}))
+        os.symlink("b.record", self.path("a.record"))
+
+        def before(call):
+            is_making = call.opened() == "a.record" and call.arguments[call.name == "openat" and 2 or 1] & (os.O_CREAT | os.O_EXCL) == os.O_CREAT
+            if is_making:
+                self.put("b.record", VERIFIED.encode())
+
+        self.ends(self.load(line, before), 0, STOOD)
+        self.is_so((os.readlink(self.path("a.record")), bytes_of(self.path("b.record")).decode()), ("b.record", MARKED))
+
+    def test_another_file_in_the_place_of_one_that_was_made(self):
+        """Nobody listens, and the load takes the FILE away that it made, but not somebody else's."""
+        line = self.console_at(Console())
+        ours, line.address = line.address, self.taken_port()
+        for text, left in ((b"hello", {"a.record": "hello"}), (None, {})):
+            if text:
+                self.put("new.record", text)
+            words = ["load", "first.lda", line.address, "--record", "a.record"]
+            given = traced.run(words, self.meddling("connect"), cwd=self.room)
+            self.ends(given, 4, "", f"ldaodt: cannot connect to {line.address}\n")
+            self.holds(left)
+            for name in left:
+                os.remove(self.path(name))
+        line.address = ours
+
+
+class Answers(Calls):
+    """Calls that are answered otherwise than a quick local system does."""
+
+    def test_a_file_system_that_knows_no_locks(self):
+        """Nothing is held there, and a load and a save go on."""
+        for error in (errno.ENOLCK, errno.EOPNOTSUPP, errno.ENOSYS):
+            unlocked = lambda call, error=error: call.fails(error) if call.name == "flock" else None
+            with self.subTest(errno.errorcode[error]):
+                self.ends(self.load(self.console_at(Console()), unlocked), 0, STARTED)
+                self.holds({"a.record": MARKED})
+                os.remove(self.path("a.record"))
+                given = self.ask(self.console_at(Console()), "save a.lda LINE 1000 1000", unlocked)
+                self.ends(given, 0, "sent 9 spent 0 read 1 of 1\nend Saved\n")
+                self.is_so(bytes_of(self.path("a.lda")), tape_of([(0o1000, b"\0\0")]))
+                os.remove(self.path("a.lda"))
+
+    def test_writes_that_take_one_byte(self):
+        """What is written is written whole all the same: a record that is replaced, one behind a link, which is written in
+        place and was longer, a report and a tape."""
+        def before(call):
+            if call.name == "write":
+                call.takes(1)
+
+        for name in ("a.record", "b.record"):
+            line = self.console_at(Console(memory={0o1000: 0o011064}))
+            self.put("a.record", b"")
+            self.put("b.record", VERIFIED.encode())
+            os.path.lexists(self.path("a.link")) or os.symlink("b.record", self.path("a.link"))
+            record = {"a.record": "a.record", "b.record": "a.link"}[name]
+            self.ends(self.load(line, before, f"--record {record}"), 0, STOOD if name == "b.record" else STARTED.replace("30", "16"))
+            self.is_so(bytes_of(self.path(name)).decode(), MARKED)
+        given = self.ask(self.console_at(Console(memory={0o1000: 0o011064})), "save a.lda LINE 1000 1000", before)
+        self.ends(given, 0, "sent 9 spent 0 read 1 of 1\nend Saved\n")
+        self.is_so(bytes_of(self.path("a.lda")), tape_of([(0o1000, b"\x34\x12")]))
+
+    def test_a_record_that_can_not_be_gone_back_in(self):
+        """Behind a link it would be written over: what is written behind it instead would be a part of it."""
+        line = self.console_at(Console())
+        self.put("b.record", VERIFIED.encode())
+        os.symlink("b.record", self.path("a.record"))
+        given = self.load(line, lambda call: call.fails(errno.EIO) if call.name == "lseek" and call.file() == "b.record" else None)
+        self.ends(given, 4, "", NO_RECORD)
+        self.is_so((bytes_of(self.path("b.record")).decode(), line.machine.typed), (VERIFIED, ""))
+
+    def test_a_line_that_takes_no_time_limit(self):
+        """A socket whose reads can't be limited, and a device that can't be made to answer at once: a load could wait at them
+        for ever, and does not begin."""
+        unlimited = lambda call: call.fails(errno.EINVAL) if call.name == "setsockopt" and tuple(call.arguments[1:3]) in TIME_LIMITS else None
+        waiting = lambda call: call.fails(errno.EIO) if (call.name, call.arguments[1]) in NO_WAITING else None
+        for line, before in ((self.console_at(Console()), unlimited), (self.device_at(Console()), waiting)):
+            self.ends(self.load(line, before), 4, "", f"ldaodt: cannot connect to {line.address}\n")
+            self.holds({})
+            self.is_so(line.machine.typed, "")
+
+
+class Orders(Calls):
+    """Which calls come, how often, and in which order."""
+
+    def test_what_is_kept_is_on_the_disk_before_the_next_key(self):
+        """The header, each word, and the mark, which is there before `G`; and the new record's name."""
+        for record, names in (("a.record", ("a.record", "a.record.ldaodt-new")), ("a.link", ("b.record",))):
+            self.put("b.record", b"")
+            os.path.lexists(self.path("a.link")) or os.symlink("b.record", self.path("a.link"))
+            unsynced, early, folder = set(), [], os.path.basename(self.room)
+
+            def before(call):
+                if call.name in WRITES and call.file().startswith("socket:"):
+                    early.extend(unsynced)
+                elif call.name in WRITES and call.file() in names:
+                    unsynced.add("record")
+                elif call.name in SYNCS and call.file() in names:
+                    unsynced.discard("record")
+                elif call.name in RENAMES:
+                    unsynced.add("name")
+                elif call.name in SYNCS and call.file() == folder:
+                    unsynced.discard("name")
+
+            line = self.console_at(Console())
+            self.ends(self.load(line, before, f"--record {record}"), 0, STARTED)
+            self.is_so((early, unsynced), ([], set()))
+
+    def test_the_console_is_reached_once(self):
+        """A device is opened once, since some adapters reset the machine where it is closed; a port is dialled once, also where
+        nobody listens."""
+        found = []
+        device = self.device_at(Console())
+        self.ends(self.load(device, lambda call: found.append(call.opened()), ""), 0, STARTED)
+        self.is_so(found.count(device.address), 1)
+        port = self.console_at(Console())
+        ours, nobody = port.address, self.taken_port()
+        for address, status in ((ours, 0), (nobody, 4)):
+            found.clear()
+            given = traced.run(["load", "first.lda", address, "--quiet", str(self.quiet)], lambda call: found.append(call.name), cwd=self.room)
+            self.is_so((given.status, found.count("connect")), (status, 1))
+
+    def test_a_key_is_a_packet_of_its_own(self):
+        """The socket is told so before the first key."""
+        told = []
+
+        def before(call):
+            if call.name == "setsockopt" and tuple(call.arguments[1:3]) == NO_DELAY:
+                told.append("no delay")
+            elif call.name in WRITES and call.file().startswith("socket:"):
+                told.append("key")
+
+        self.ends(self.load(self.console_at(Console()), before, ""), 0, STARTED)
+        self.is_so(told, ["no delay", *["key"] * 30])
+
+
+if __name__ == "__main__":
+    unittest.main()

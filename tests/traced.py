@@ -1,0 +1,101 @@
+"""The program, stopped at each call that it makes of the system: something can happen right before one, and one can be
+answered otherwise than by the system. For Linux on x86-64, where the program is one thread.
+"""
+import ctypes
+import errno
+import os
+import signal
+import struct
+import subprocess
+
+import outside
+
+# The calls that tests know by name, by their numbers.
+NAMES = {1: "write", 2: "open", 8: "lseek", 16: "ioctl", 42: "connect", 44: "sendto", 54: "setsockopt", 72: "fcntl", 73: "flock", 74: "fsync",
+         75: "fdatasync", 77: "ftruncate", 82: "rename", 257: "openat", 264: "renameat", 316: "renameat2"}
+
+# Where the system keeps a process's registers: a call's number, its answer, and its first arguments.
+NUMBER, ANSWER, ARGUMENTS = 8 * 15, 8 * 10, (8 * 14, 8 * 13, 8 * 12)
+
+TRACED, POKE, TO_NEXT_CALL, OPTIONS, CALL = 0, 6, 24, 0x4200, 0x420E
+TELL_CALLS, ENDS_WITH_US = 1, 0x100000
+AT_A_CALL = signal.SIGTRAP | 0x80
+IS_BEFORE = 1
+
+LIBRARY = ctypes.CDLL(None, use_errno=True)
+LIBRARY.ptrace.argtypes = [ctypes.c_long, ctypes.c_long, ctypes.c_long, ctypes.c_void_p]
+LIBRARY.ptrace.restype = ctypes.c_long
+
+
+def ptrace(request, process=0, place=0, data=None):
+    if LIBRARY.ptrace(request, process, place, data) < 0:
+        raise OSError(ctypes.get_errno(), "ptrace")
+
+
+class Call:
+    """A call that a process is about to make."""
+
+    def __init__(self, process, number, arguments):
+        self.process, self.name, self.arguments = process, NAMES.get(number), arguments
+
+    def opened(self):
+        """The name of the file that it opens, where it opens one."""
+        if self.name not in ("open", "openat"):
+            return None
+        with open(f"/proc/{self.process}/mem", "rb") as memory:
+            memory.seek(self.arguments[self.name == "openat"])
+            return memory.read(256).split(b"\0")[0].decode()
+
+    def file(self):
+        """What its first argument has open: a file's name, or what the system calls it."""
+        return os.path.basename(os.readlink(f"/proc/{self.process}/fd/{self.arguments[0]}"))
+
+    def takes(self, count):
+        """A write is of so many bytes at most."""
+        ptrace(POKE, self.process, ARGUMENTS[2], min(count, self.arguments[2]))
+
+    def fails(self, error):
+        """The system is not asked; the call's answer is this error."""
+        ptrace(POKE, self.process, NUMBER, -1)
+        return -error
+
+
+def follow(process, before):
+    """Lets a process go on from call to call until it ends; returns how it ended."""
+    os.waitpid(process, 0)
+    ptrace(OPTIONS, process, 0, TELL_CALLS | ENDS_WITH_US)
+    answer, sign, told = None, 0, ctypes.create_string_buffer(88)
+    while True:
+        ptrace(TO_NEXT_CALL, process, 0, sign)
+        _, status = os.waitpid(process, 0)
+        if not os.WIFSTOPPED(status):
+            return os.waitstatus_to_exitcode(status)
+        sign = os.WSTOPSIG(status)
+        if sign != AT_A_CALL:
+            continue
+        sign = 0
+        ptrace(CALL, process, len(told), told)
+        is_before, number, *arguments = struct.unpack_from("=B23x7Q", told)
+        if is_before == IS_BEFORE:
+            answer = before(Call(process, number, arguments))
+        elif answer is not None:
+            ptrace(POKE, process, ANSWER, answer)
+
+
+def run(words, before, seconds=60, **more):
+    """Runs the program; `before` is told of each call before it is made, and what it returns is the call's answer in place of
+    the system's. The thread that calls this follows the process, which is killed where it does not end in time."""
+    with subprocess.Popen([outside.PROGRAM, *words], stdin=subprocess.DEVNULL, stdout=subprocess.PIPE, stderr=subprocess.PIPE, **more,
+                          preexec_fn=lambda: (signal.alarm(seconds), ptrace(TRACED))) as process:
+        process.returncode = follow(process.pid, before)
+        out, err = (outside.text_of(pipe.read()) for pipe in (process.stdout, process.stderr))
+    return outside.Answer(process.returncode, out, err)
+
+
+def is_possible():
+    """Whether a process can be traced here, so that its calls can be told and answered."""
+    calls = []
+    try:
+        return run(["--version"], lambda call: calls.append(call.name)).status == 0 and "write" in calls
+    except (OSError, ValueError, struct.error):
+        return False

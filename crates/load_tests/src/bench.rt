@@ -6,6 +6,8 @@ ghost use Rattle.machine_load.specs.Lives.{of_file};
 ghost use Rattle.record_file.specs.RecordFault.{IsUnbegun};
 
 use crate::disk_text::DiskText;
+use crate::memory_reach::MemoryReach;
+use console_reach::Reach;
 use honest_line::MemoryLine;
 use load_devices::{LineFault, Unwatched};
 use load_record::FileKeep;
@@ -15,19 +17,10 @@ use record_file::{OldRecord, RecordFault};
 use std::alloc::Global;
 use tape_image::Plan;
 
-// How much may be said on a line.
-const ROOM: u32 = 1000;
-
 /// A machine, and the record of its loads, in memory.
 #[derive(Drop)]
 pub struct Bench {
-    alloc: Global,
-
-    /// The machine, while no line to it is open.
-    odt: Option<Odt>,
-
-    /// The number of the call from which on a line fails, where there is one.
-    fail_at: Option<u64>,
+    console: MemoryReach,
 
     /// The record, with the keeper that has written it.
     keeper: FileKeep<DiskText>,
@@ -37,21 +30,19 @@ impl Bench {
     /// A machine, and an empty record.
     pub fn new(alloc: Global, odt: Odt) -> Bench {
         Bench {
-            alloc,
-            odt: Some(odt),
-            fail_at: None,
+            console: MemoryReach::new(alloc, Some(odt)),
             keeper: FileKeep::new(DiskText::new(alloc)),
         }
     }
 
     /// Another machine, or none, with the same record.
     pub fn put_machine(&mut self, odt: Option<Odt>) {
-        self.odt = odt;
+        self.console.put_machine(odt);
     }
 
     /// From now on each line fails at the call of this number and at those behind it; or none does.
     pub fn fail_lines_at(&mut self, call: Option<u64>) {
-        self.fail_at = call;
+        self.console.fail_lines_at(call);
     }
 
     /// What the record is.
@@ -85,13 +76,7 @@ impl Surroundings for Bench {
     }
 
     fn connect(&mut self) -> Result<MemoryLine, LineFault> {
-        let Some(odt) = self.odt.take() else {
-            return Err(LineFault::Connect);
-        };
-        match MemoryLine::new(self.alloc, odt, Vec::new(self.alloc), ROOM, self.fail_at) {
-            Ok(line) => Ok(line),
-            Err(_) => Err(LineFault::Connect),
-        }
+        self.console.reach()
     }
 
     fn begin_record(

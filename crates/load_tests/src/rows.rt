@@ -24,8 +24,8 @@ const WORD: u16 = 0o011064;
 // The whole record of its load.
 const RECORD: &[u8] = b"LDAODT 2\n001000 011064\nG\n";
 
-// Eight mishaps are survived, and what the record says is believed.
-const OPTIONS: LoadOptions = LoadOptions {
+/// Eight mishaps are survived, and what the record says is believed.
+pub(crate) const OPTIONS: LoadOptions = LoadOptions {
     patience: 8,
     recheck: false,
 };
@@ -60,16 +60,26 @@ fn starts_on(line: &MemoryLine) -> usize {
 // The machine at the end of a line, with its word and in its mode; none for want of memory.
 fn machine_of(alloc: Global, line: &MemoryLine) -> Option<Odt> {
     let left = line.odt();
-    let mut odt = Odt::new(alloc, LARGEST_WORDS, PLAIN_STYLE).ok()?;
+    let mut odt = new_machine(alloc)?;
     odt.put(ADDRESS, left.peek(ADDRESS)?);
     odt.with_mode(left.mode()).ok()
 }
 
-// A machine that was not typed into, with an empty record; none for want of memory.
+/// A machine that was not typed into; none for want of memory.
+pub(crate) fn new_machine(alloc: Global) -> Option<Odt> {
+    Odt::new(alloc, LARGEST_WORDS, PLAIN_STYLE).ok()
+}
+
+/// The plan of the smallest tape, or none for want of memory.
+pub(crate) fn plan_of_one_word(alloc: Global) -> Option<Plan> {
+    let (tape, _) = read_tape(alloc, &ONE_WORD).ok()?;
+    Plan::of(alloc, &tape).ok()
+}
+
+// Such a machine with an empty record; none for want of memory.
 fn new_row(alloc: Global) -> Option<Row> {
-    let odt = Odt::new(alloc, LARGEST_WORDS, PLAIN_STYLE).ok()?;
     Some(Row {
-        bench: Bench::new(alloc, odt),
+        bench: Bench::new(alloc, new_machine(alloc)?),
         starts: 0,
         stop: None,
         had_line: false,
@@ -80,8 +90,7 @@ fn new_row(alloc: Global) -> Option<Row> {
 impl Row {
     // One more load, on the machine as the last one left it; none where it is not reported.
     fn load_more(&mut self, alloc: Global) -> Option<()> {
-        let (tape, _) = read_tape(alloc, &ONE_WORD).ok()?;
-        let plan = Plan::of(alloc, &tape).ok()?;
+        let plan = plan_of_one_word(alloc)?;
         let mut report = Vec::new(alloc);
         let outcome = load_once(alloc, plan, OPTIONS, &mut self.bench, &mut report).ok()?;
         self.stop = Some(outcome.stop);

@@ -47,16 +47,6 @@ const UNBEGUN: Outcome = Outcome::Unbegun(RecordFault::Write);
 // All is done that is asked.
 const NO_FAULT: Failing = &[];
 
-// What a disk was asked, one thing a line; None where it does not tell it.
-fn shown(alloc: Global, disk: &ToldDisk<'_>) -> Option<String> {
-    let mut text = String::new(alloc);
-    for step in disk.asked()? {
-        let line = format!(in alloc; "{step}\n").ok()?;
-        text.push_str(line.as_str()).ok()?;
-    }
-    Some(text)
-}
-
 // Reads a record and begins it anew with its word, where it may be written.
 fn taken(alloc: Global, record: &mut RecordFile<'_, ToldDisk<'_>>, plan: &Plan) -> Outcome {
     match record.read(alloc) {
@@ -76,7 +66,7 @@ fn course(rt: &HostRuntime, name: &str, failing: Failing) -> Option<(Outcome, St
     let plan = Plan::of(alloc, &tape).ok()?;
     let mut record = RecordFile::new(ToldDisk::new(rt, failing), name);
     let outcome = taken(alloc, &mut record, &plan);
-    let asked = shown(alloc, record.disk())?;
+    let asked = record.disk().shown()?;
     Some((outcome, asked))
 }
 

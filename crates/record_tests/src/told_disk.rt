@@ -50,6 +50,16 @@ impl<'a> ToldDisk<'a> {
         }
     }
 
+    /// The same, one thing a line, `+` before what was done and `-` before what failed.
+    pub fn shown(&self) -> Option<String> {
+        let mut text = String::new(self.alloc);
+        for step in self.asked()? {
+            let line = format!(in self.alloc; "{step}\n").ok()?;
+            text.push_str(line.as_str()).ok()?;
+        }
+        Some(text)
+    }
+
     // Counts one thing more that is asked, which may be one that fails.
     fn count(&mut self) -> io::Result<()>
         ensures { self.new.asked ≡ self.old.asked }

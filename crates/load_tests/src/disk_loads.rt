@@ -1,0 +1,41 @@
+//! Loads of a machine in memory, with a record on a disk that tells what it was asked.
+ghost use Rattle.std.specs.Prelude.{IfErr, IfOk, option_map};
+ghost use Rattle.machine_load.specs.RecordDisk.{disk_asked_by, disk_asked_before};
+ghost use Rattle.record_file.specs.DiskStep.{HasAsked};
+ghost use Rattle.record_file.specs.Taking.{kind_of};
+ghost use Rattle.record_tests.specs.ToldSteps.{steps_of};
+
+use crate::memory_reach::MemoryReach;
+use honest_line::MemoryLine;
+use load_devices::Unwatched;
+use machine_load::{Around, LoadFault, LoadOptions, Outcome, load};
+use record_file::RecordFile;
+use record_tests::ToldDisk;
+use std::alloc::Global;
+use std::io::Write;
+use tape_image::Plan;
+
+/// Loads a plan into a machine in memory. What `load` promises of the disk on which its record is, is so of
+/// this one, which tells.
+pub fn load_on_disk<W: Write>(
+    alloc: Global,
+    plan: Plan,
+    options: LoadOptions,
+    around: &mut Around<MemoryReach, RecordFile<'_, ToldDisk<'_>>>,
+    out: &mut W,
+) -> Result<Outcome<MemoryLine>, LoadFault>
+    ensures disk { IfOk result (λ outcome. HasAsked (steps_of around.old.records.disk.asked) (steps_of around.new.records.disk.asked)
+        (disk_asked_by outcome.line (record {
+          asked = steps_of around.old.records.disk.asked;
+          name = around.old.records.name.now;
+          known = option_map kind_of around.old.records.held;
+        }))) }
+    ensures disk_in_vain { IfErr result (λ fault. HasAsked (steps_of around.old.records.disk.asked) (steps_of around.new.records.disk.asked)
+        (disk_asked_before fault (record {
+          asked = steps_of around.old.records.disk.asked;
+          name = around.old.records.name.now;
+          known = option_map kind_of around.old.records.held;
+        }))) }
+{
+    load(alloc, plan, options, around, out, &Unwatched)
+}

@@ -1,0 +1,248 @@
+//! What a disk is asked over a whole load, by what becomes of the load.
+
+use crate::disk_loads::load_on_disk;
+use crate::memory_reach::MemoryReach;
+use crate::rows::{OPTIONS, new_machine, plan_of_one_word};
+use load_record::RecordError;
+use machine_load::{Around, LoadFault};
+use record_file::RecordFile;
+use record_tests::{Failing, ToldDisk};
+use std::fs::File;
+use std::io::{ErrorKind, Write};
+use std::test::Fail;
+use std::{fs, io};
+
+// The record.
+const RECORD: &str = "d.record";
+
+// One with the smallest tape's word, and with its mark; and one of another tape.
+const GOING_ON: &str = "LDAODT 2\n001000 011064";
+
+const STARTED: &str = "LDAODT 2\n001000 011064\nG\n";
+
+const FOREIGN: &str = "LDAODT 2\n002000 011064\n";
+
+// What is to be on the disk's list before there is a line: of a record that is there, and of one that is not.
+const READ: &str = "+ look d.record\n\
+    + open to write d.record\n\
+    + hold d.record\n\
+    + look d.record\n";
+
+const MADE: &str = "- look d.record\n\
+    + open new d.record\n\
+    + hold d.record\n\
+    + look d.record\n";
+
+// What is to follow, once there is one.
+const REPLACED: &str = "+ sole d.record\n\
+    + open to read .\n\
+    + open new d.record.ldaodt-new\n\
+    + hold d.record.ldaodt-new\n\
+    + look d.record\n\
+    + rename d.record.ldaodt-new d.record\n\
+    + sync folder .\n";
+
+// The same, where the folder can't be brought to the disk.
+const UNSYNCED: &str = "+ sole d.record\n\
+    + open to read .\n\
+    + open new d.record.ldaodt-new\n\
+    + hold d.record.ldaodt-new\n\
+    + look d.record\n\
+    + rename d.record.ldaodt-new d.record\n\
+    - sync folder .\n";
+
+// A record that another load holds, one that may not be written, and one that may not be read.
+const IN_USE: &str = "+ look d.record\n\
+    + open to write d.record\n\
+    - hold d.record\n";
+
+const PROTECTED: &str = "+ look d.record\n\
+    - open to write d.record\n\
+    + open to read d.record\n\
+    + hold d.record\n\
+    + look d.record\n";
+
+const UNREADABLE: &str = "+ look d.record\n\
+    - open to write d.record\n\
+    - open to read d.record\n";
+
+// An output that takes nothing.
+#[derive(Drop)]
+struct FullOutput;
+
+impl Write for FullOutput {
+    fn write(&mut self, _buf: &[u8]) -> io::Result<usize> {
+        Err(io::Error::from(ErrorKind::StorageFull))
+    }
+
+    fn flush(&mut self) -> io::Result<()> {
+        Ok(())
+    }
+}
+
+// What is around a load: whether there is a machine, and what a disk refuses.
+#[derive(Clone, Copy)]
+struct Setting {
+    machine: bool,
+    failing: Failing,
+}
+
+const AMPLE: Setting = Setting {
+    machine: true,
+    failing: &[],
+};
+
+// What came of a load, and what its disk was asked; None where there was no memory.
+fn loaded<W: Write>(
+    rt: &HostRuntime,
+    setting: Setting,
+    out: &mut W,
+) -> Option<(Option<LoadFault>, String)> {
+    let alloc = rt.alloc();
+    let odt = if setting.machine {
+        Some(new_machine(alloc)?)
+    } else {
+        None
+    };
+    let mut around = Around {
+        console: MemoryReach::new(alloc, odt),
+        records: RecordFile::new(ToldDisk::new(rt, setting.failing), RECORD),
+    };
+    let plan = plan_of_one_word(alloc)?;
+    let outcome = load_on_disk(alloc, plan, OPTIONS, &mut around, out);
+    let asked = around.records.disk().shown()?;
+    Some((outcome.err(), asked))
+}
+
+// Whether this comes of a load, and its disk was asked just this, in two parts.
+fn is_loaded(
+    rt: &HostRuntime,
+    setting: Setting,
+    wanted: Option<LoadFault>,
+    (first, then): (&str, &str),
+) -> bool {
+    let mut report = Vec::new(rt.alloc());
+    match loaded(rt, setting, &mut report) {
+        Some((fault, asked)) => {
+            fault == wanted && asked.as_str().strip_prefix(first) == Some(then)
+        }
+        None => false,
+    }
+}
+
+// Puts a record there, or none.
+fn put(rt: &HostRuntime, text: Option<&str>) -> io::Result<()> {
+    let _ = fs::remove_file(rt, RECORD);
+    match text {
+        Some(text) => fs::write(rt, RECORD, text),
+        None => Ok(()),
+    }
+}
+
+#[test]
+fn a_record_is_read_and_then_begun(rt: HostRuntime) -> Result<(), Fail> {
+    put(&rt, None)?;
+    assert!(rt; is_loaded(&rt, AMPLE, None, (MADE, REPLACED)), "none");
+    assert!(rt; fs::read(&rt, RECORD)?.as_slice() == STARTED.as_bytes());
+    put(&rt, Some(GOING_ON))?;
+    assert!(rt; is_loaded(&rt, AMPLE, None, (READ, REPLACED)), "going on");
+    put(&rt, Some(STARTED))?;
+    assert!(rt; is_loaded(&rt, AMPLE, None, (READ, "")), "over at once");
+    Ok(put(&rt, None)?)
+}
+
+#[test]
+fn without_a_line_it_is_only_read(rt: HostRuntime) -> Result<(), Fail> {
+    let unplugged = Setting {
+        machine: false,
+        failing: &[],
+    };
+    put(&rt, Some(GOING_ON))?;
+    assert!(rt;
+        is_loaded(&rt, unplugged, Some(LoadFault::Connect), (READ, "")),
+        "unplugged"
+    );
+    put(&rt, None)?;
+    assert!(rt;
+        is_loaded(&rt, unplugged, Some(LoadFault::Connect), (MADE, "")),
+        "made"
+    );
+    put(&rt, Some(FOREIGN))?;
+    let foreign = LoadFault::Record(RecordError::Foreign(2));
+    assert!(rt; is_loaded(&rt, AMPLE, Some(foreign), (READ, "")), "foreign");
+    let protected = Setting {
+        machine: true,
+        failing: &[(1, ErrorKind::PermissionDenied)],
+    };
+    put(&rt, Some(GOING_ON))?;
+    assert!(rt;
+        is_loaded(
+            &rt,
+            protected,
+            Some(LoadFault::WriteRecord),
+            (PROTECTED, "")
+        ),
+        "protected"
+    );
+    Ok(put(&rt, None)?)
+}
+
+// Opens the record, and holds it as another load does.
+fn held(rt: &HostRuntime) -> Option<File> {
+    let file = File::options()
+        .read(true)
+        .write(true)
+        .open(rt, RECORD)
+        .ok()?;
+    file.try_lock().ok()?;
+    Some(file)
+}
+
+#[test]
+fn one_that_is_not_read_is_not_begun(rt: HostRuntime) -> Result<(), Fail> {
+    put(&rt, Some(GOING_ON))?;
+    let file = held(&rt).ok_or("held")?;
+    assert!(rt;
+        is_loaded(&rt, AMPLE, Some(LoadFault::RecordInUse), (IN_USE, "")),
+        "in use"
+    );
+    drop(file);
+    let closed = Setting {
+        machine: true,
+        failing: &[
+            (1, ErrorKind::PermissionDenied),
+            (2, ErrorKind::PermissionDenied),
+        ],
+    };
+    assert!(rt;
+        is_loaded(&rt, closed, Some(LoadFault::ReadRecord), (UNREADABLE, "")),
+        "closed"
+    );
+    Ok(put(&rt, None)?)
+}
+
+#[test]
+fn what_fails_behind_it_is_not_tried_again(rt: HostRuntime) -> Result<(), Fail> {
+    put(&rt, Some(GOING_ON))?;
+    let unsynced = Setting {
+        machine: true,
+        failing: &[(10, ErrorKind::Other)],
+    };
+    assert!(rt;
+        is_loaded(
+            &rt,
+            unsynced,
+            Some(LoadFault::WriteRecord),
+            (READ, UNSYNCED)
+        ),
+        "unsynced"
+    );
+    put(&rt, Some(GOING_ON))?;
+    let (fault, asked) = loaded(&rt, AMPLE, &mut FullOutput).ok_or("memory")?;
+    assert!(rt; fault == Some(LoadFault::WriteOutput), "output");
+    assert!(rt;
+        asked.as_str().strip_prefix(READ) == Some(REPLACED),
+        "output"
+    );
+    Ok(put(&rt, None)?)
+}

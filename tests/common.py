@@ -25,7 +25,7 @@ TAPES = {
     "bad-sum.lda": f"{TOP}/examples/refused/bad-sum.lda",
 }
 
-# A silence long enough for a console on this computer, and one that is so on a computer which is busy.
+# A silence long enough for a console on this computer, and one that is so on a computer which is very busy.
 QUIET, LONG_QUIET = 200, 3000
 
 
@@ -155,7 +155,7 @@ class Case(unittest.TestCase):
     """A test with a folder of its own, in which the program is run.
 
     A test that counts mishaps is right only where no answer of its machine was late. So one that fails while this
-    computer held it up for a tenth of the quiet time is run once more, with a quiet time far above that.
+    computer held it up for a tenth of the quiet time is run once more, with a quiet time that is ten times as long as that.
     """
 
     quiet = QUIET
@@ -168,7 +168,8 @@ class Case(unittest.TestCase):
         watch.is_over = True
         if not noted.wasSuccessful() and watch.longest * 1000 > self.quiet / 10:
             print(f"held up: {self.id()}, for {watch.longest * 1000:.0f} ms; once more", flush=True)
-            self.quiet, noted = LONG_QUIET, Noted()
+            self.quiet = min(LONG_QUIET, max(3 * self.quiet, round(10_000 * watch.longest)))
+            noted = Noted()
             super().run(noted)
         noted.tell(result)
         return result

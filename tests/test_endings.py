@@ -5,6 +5,7 @@ A mishap is here a `Z` that is not answered: it costs one key and one quiet time
 the keys that docs/MAP.md counts ("The life of one word"), and one more for each mishap. `MaybeStarted` comes before any
 key and has no mishaps (tests/test_loads.py), `TurnsOver` comes behind ten million characters (tests/test_large.py).
 """
+import time
 import unittest
 from concurrent.futures import ThreadPoolExecutor
 
@@ -145,6 +146,8 @@ class Mishaps(Case):
         tries = [(quiet, self.runs(1000, quiet)) for quiet in (15, 30, 50)]
 
         def is_wrong(number):
+            # Runs that begin together have their mishaps behind them together, and their machines would make one another late.
+            time.sleep(number / 20)
             for quiet, runs in tries:
                 *run, wanted = runs[number]
                 answer = self.ended(1000, quiet, *run)

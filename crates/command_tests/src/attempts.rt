@@ -4,7 +4,7 @@ use crate::simulated_system::QUIET_MS;
 use endings::{Status, Streams};
 use machine_load::LoadOptions;
 use record_file::Locks;
-use requests::{Load, Request, attempt};
+use requests::{InputFiles, Load, Request, attempt};
 use serial_line::Devices;
 use std::alloc::{AllocError, Global};
 use std::io::Stderr;
@@ -46,7 +46,7 @@ impl Ended {
 }
 
 /// Does a request over a system, in place of what the one before it left.
-pub(crate) fn run<F: Locks + Devices + Net + Clock>(
+pub(crate) fn run<F: InputFiles + Locks + Devices + Net + Clock>(
     system: &F,
     alloc: Global,
     request: Request<'_>,

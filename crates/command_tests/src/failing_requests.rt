@@ -1,6 +1,7 @@
-//! Requests whose standard input or output fails: what they end with, and that it is not asked again.
+//! Requests whose standard input or output fails: what they end with, and that it is not asked again; and of several
+//! tapes that can't be opened which is named.
 
-use crate::attempts::{NOBODY, load_of};
+use crate::attempts::{Ended, NOBODY, load_of, run};
 use crate::failing_devices::{BrokenInput, BrokenOutput, NOWHERE, UnflushedOutput};
 use crate::simulated_system::{AMPLE, Setting, System};
 use crate::tapes::ONE_WORD;
@@ -133,4 +134,35 @@ fn standard_output_fails(rt: HostRuntime) -> Result<(), Fail> {
         assert!(rt; stops, "row {place}, at the flush");
     }
     Ok(fs::remove_file(&rt, TAPE)?)
+}
+
+// The names of tapes, and what is said of them. That nothing opens by the barred name the system tells, so that here
+// the clause of `attempt` is no empty one.
+const UNOPENED: [(&[&str], &str); 3] = [
+    (&["barred", "missing.lda"], "ldaodt: cannot read barred\n"),
+    (
+        &["missing.lda", "barred"],
+        "ldaodt: cannot read missing.lda\n",
+    ),
+    (&[".", "barred"], "ldaodt: cannot read barred\n"),
+];
+
+// Whether of tapes of these names just this is said.
+fn is_said(rt: &HostRuntime, names: &[&str], line: &str) -> bool {
+    let Ok(names) = Vec::from_slice(rt.alloc(), names) else {
+        return false;
+    };
+    let Ok(mut ended) = Ended::with_room(rt.alloc()) else {
+        return false;
+    };
+    let system = System::new(rt, AMPLE);
+    run(&system, rt.alloc(), Request::Check(names), &[], &mut ended);
+    ended.is(Status::DeviceFailed, "", line)
+}
+
+#[test]
+fn the_first_that_can_not_be_opened_is_named(rt: HostRuntime) {
+    for (names, line) in &UNOPENED {
+        assert!(rt; is_said(&rt, names, line), "{line}");
+    }
 }

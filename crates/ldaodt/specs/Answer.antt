@@ -5,6 +5,7 @@ use Rattle.clap.specs.declared.error.kind.ErrorKind.{ErrorKind}
 use Rattle.clap.specs.declared.error.kind.ErrorKind.TheVariants as kind
 use Rattle.byte_io.specs.Output.{WritesPrefix}
 use Rattle.requests.specs.Attempt.{IsAttempted}
+use Rattle.requests.specs.Files.{Opening}
 use Rattle.endings.specs.Explained.{IsShown}
 use Rattle.endings.specs.Failure.{IsTold}
 use Rattle.endings.specs.Streams.{Held}
@@ -56,7 +57,7 @@ IsExplained NoMemory unread before after ended = IsMemoryWanting before after en
 
 -- something was asked for and attempted, the check of the input only where there were no words; or the words were explained. By then the
 -- output was found unread, or not
-abbrev pub IsAnswered : Type 0 → Bool → Held → Held → Status → Type 0
-IsAnswered no_words unread before after ended =
-    ((request : Request) × ((request ≡ CheckInput → no_words) × IsAttempted request unread before after ended))
+abbrev pub IsAnswered : Opening → Type 0 → Bool → Held → Held → Status → Type 0
+IsAnswered opening no_words unread before after ended =
+    ((request : Request) × ((request ≡ CheckInput → no_words) × IsAttempted opening request unread before after ended))
     ⊎ ((answer : NoRequest) × IsExplained answer unread before after ended)

@@ -11,7 +11,7 @@ ghost use Rattle.ldaodt.specs.Answer.{IsAnswered, IsExplained};
 use crate::command_line::{NoRequest, parse};
 use endings::{Failure, Output, Status, Streams, refuse, show, tell};
 use record_file::Locks;
-use requests::attempt;
+use requests::{InputFiles, attempt};
 use serial_line::Devices;
 use std::alloc::Global;
 use std::io::{Print, Read, Write};
@@ -26,7 +26,13 @@ const MEANINGLESS: &str = "ldaodt: the command line is not understood\n";
 /// Reports and help go to standard output, which is flushed; refused command lines and faults go to
 /// standard error, a fault as one line. What can't be written there is not told, nor that nobody reads
 /// any more what only prints. A load shows on the terminal, where there is one, how far it is.
-pub(crate) fn program<F: Locks + Devices + Net + Clock, R: Read, W: Output, E: Write, T: Print>(
+pub(crate) fn program<
+    F: InputFiles + Locks + Devices + Net + Clock,
+    R: Read,
+    W: Output,
+    E: Write,
+    T: Print,
+>(
     rt: &F,
     alloc: Global,
     words: &[String],
@@ -35,13 +41,13 @@ pub(crate) fn program<F: Locks + Devices + Net + Clock, R: Read, W: Output, E: W
 ) -> u8
     requires { FitsInMemory R.row }
     // With no words, the tape on the input is checked.
-    ensures checked { words.now ≡ [] → (status : Status) × IsAttempted Request.CheckInput (W.unread streams.new.out)
+    ensures checked { words.now ≡ [] → (status : Status) × IsAttempted (F.opens rt.now) Request.CheckInput (W.unread streams.new.out)
         (held R.remaining W.contents E.contents streams.old)
         (held R.remaining W.contents E.contents streams.new)
         status × (result ≡ status_code status) }
     // Whatever the words are, they ask for something that is then attempted, or they are explained. Only where
     // there are none, the input is checked.
-    ensures answered { (status : Status) × IsAnswered (words.now ≡ []) (W.unread streams.new.out)
+    ensures answered { (status : Status) × IsAnswered (F.opens rt.now) (words.now ≡ []) (W.unread streams.new.out)
         (held R.remaining W.contents E.contents streams.old)
         (held R.remaining W.contents E.contents streams.new)
         status × (result ≡ status_code status) }
@@ -50,7 +56,7 @@ pub(crate) fn program<F: Locks + Devices + Net + Clock, R: Read, W: Output, E: W
 }
 
 // Does what the words ask for, or explains them.
-fn answer<F: Locks + Devices + Net + Clock, R: Read, W: Output, E: Write, T: Print>(
+fn answer<F: InputFiles + Locks + Devices + Net + Clock, R: Read, W: Output, E: Write, T: Print>(
     rt: &F,
     alloc: Global,
     words: &[String],
@@ -58,11 +64,11 @@ fn answer<F: Locks + Devices + Net + Clock, R: Read, W: Output, E: Write, T: Pri
     terminal: Option<&T>,
 ) -> Status
     requires { FitsInMemory R.row }
-    ensures checked { words.now ≡ [] → IsAttempted Request.CheckInput (W.unread streams.new.out)
+    ensures checked { words.now ≡ [] → IsAttempted (F.opens rt.now) Request.CheckInput (W.unread streams.new.out)
         (held R.remaining W.contents E.contents streams.old)
         (held R.remaining W.contents E.contents streams.new)
         result }
-    ensures answered { IsAnswered (words.now ≡ []) (W.unread streams.new.out)
+    ensures answered { IsAnswered (F.opens rt.now) (words.now ≡ []) (W.unread streams.new.out)
         (held R.remaining W.contents E.contents streams.old)
         (held R.remaining W.contents E.contents streams.new)
         result }

@@ -1,33 +1,21 @@
 -- Files that can't be opened, and files that were.
-use Rattle.std.proofs.Common.{◌≡◌, ◌<◌, ◌+◌, ℕ, zero, suc, List, [], ◌∷◌, map, length, ap, subst, ◌∙◌, Contains, get_or, arith}
-use Rattle.std.proofs.lemmas.List.{length-map}
+use Rattle.std.proofs.Common.{◌≡◌, ◌<◌, ◌+◌, ℕ, zero, suc, Bool, true, false, List, [], ◌∷◌, ◌++◌, map, length, take, drop, sym, ap, subst, ◌∙◌, get_or, append_assoc, length-append, drop-cons, arith}
+use Rattle.std.proofs.lemmas.List.{length-map, take-append-drop, take_more}
 use Rattle.std.proofs.lemmas.List.Edits.{length-remove}
-use Rattle.std.proofs.lemmas.List.Elements.{Contains-append_right, Contains-get_or}
-use Rattle.std.specs.List.{remove}
+use Rattle.std.proofs.lemmas.List.Elements.{All-append}
+use Rattle.std.specs.List.{All, remove}
 use Rattle.endings.specs.declared.failure.Failure.{Failure}
 use Rattle.endings.specs.declared.failure.Failure.TheVariants.{CannotRead, NoMemory}
-use Rattle.requests.specs.Files.{Known, Name, Inputs, OfFiles, IsUnopened, inputs_of}
+use Rattle.requests.specs.Files.{Known, Name, Inputs, Opening, AreOpened, OfFiles, IsUnopened, IsUnbuffered, inputs_of}
 
--- what can't be opened of some files can't of more
-unopened_within : (xs ys : List Name) → ((x : Name) → Contains xs x → Contains ys x) → (f : Failure) → IsUnopened xs f → IsUnopened ys f
-unopened_within xs ys within (CannotRead name) is = within name is
-unopened_within xs ys within NoMemory is = tt
-unopened_within xs ys within other is = absurd is
+-- of one name
+only_name : (x y : Name) (before behind : List Name) → x ∷ [] ≡ before ++ y ∷ behind → x ≡ y
+only_name x y [] behind h = cc
+only_name x y (b ∷ before) behind h = absurd (omega (arith, length-append before (y ∷ behind), ap length h))
 
-only_name : (x y : Name) → Contains (x ∷ []) y → x ≡ y
-only_name x y (zero, within, is) = is
-only_name x y (suc k, within, is) = absurd (omega (arith, within))
-
--- the name at a place among the names can't be opened
-pub at_unopened : (names : List Name) (i : ℕ) (d : Name) (f : Failure) → i < length names → IsUnopened (get_or names i d ∷ []) f → IsUnopened names f
-at_unopened names i d f within is =
-    unopened_within (get_or names i d ∷ []) names (λ x h. subst (Contains names) (only_name (get_or names i d) x h) (Contains-get_or names i d within)) f is
-
-pub script_unopened : (tape script : Name) (more : List Name) (f : Failure) → IsUnopened (script ∷ []) f → IsUnopened (tape ∷ script ∷ more) f
-script_unopened tape script more f is = at_unopened (tape ∷ script ∷ more) 1 script f (omega arith) is
-
-pub more_unopened : (tape script : Name) (more : List Name) (f : Failure) → IsUnopened more f → IsUnopened (tape ∷ script ∷ more) f
-more_unopened tape script more f is = unopened_within more (tape ∷ script ∷ more) (λ x h. Contains-append_right (tape ∷ script ∷ []) more x h) f is
+all_one : {X : Type 0} (P : X → Type 0) (x : X) → P x → All P (x ∷ [])
+all_one P x is zero d within = is
+all_one P x is (suc k) d within = absurd (omega (arith, within))
 
 -- a tape, a script and further tapes, without the script
 pub tapes_left : {X : Type 0} (first with_script all left : List X) (n : ℕ) → length first ≡ 1 → length with_script ≡ length first + 1 → length all ≡ length with_script + n →
@@ -35,5 +23,80 @@ pub tapes_left : {X : Type 0} (first with_script all left : List X) (n : ℕ) �
 tapes_left first with_script all left n one two more is =
     let removed = length-remove all 1 in let same = ap length is in omega (arith, removed (omega arith))
 
-pub of_files : {X : Type 0} (known : X → Known) (names : List Name) (files now : List X) (P : Inputs → Type 0) → length files ≡ length names → P (inputs_of names known files now) → OfFiles names P
-of_files known names files now P count is = record { held = map known files; rests = map known now; one_each = length-map files known ∙ count; is_so = is }
+module _ (opening : Opening) where
+  pub opened_one : (name : Name) → opening name.now true → AreOpened opening (name ∷ [])
+  opened_one name is = all_one (λ n. opening n.now true) name is
+
+  -- a name alone, of which the system told this
+  pub one_unopened : (name : Name) (opened : Bool) → opening name.now opened → (f : Failure) → IsUnbuffered name opened f → IsUnopened opening (name ∷ []) f
+  one_unopened name opened told (CannotRead other) is = record {
+    before = [];
+    behind = [];
+    is_there = ap (λ n. n ∷ []) (sym is.0);
+    opened = λ k d within. absurd (omega (arith, within));
+    unopened = subst (λ n. opening n.now false) (sym is.0) (subst (opening name.now) is.1 told);
+  }
+  one_unopened name opened told NoMemory is = tt
+  one_unopened name opened told other is = absurd is
+
+  -- one more name
+  pub opened_more : (names : List Name) (i : ℕ) (d : Name) → i < length names → AreOpened opening (take i names) → opening (get_or names i d).now true → AreOpened opening (take (i + 1) names)
+  opened_more names i d within before is =
+      subst (AreOpened opening) (sym (take_more names i d within))
+      (All-append (λ n. opening n.now true) (take i names) (get_or names i d ∷ []) before (opened_one (get_or names i d) is))
+
+  -- the name at a place is the first that can't be opened
+  pub at_unopened : (names : List Name) (i : ℕ) (d : Name) (f : Failure) → i < length names → AreOpened opening (take i names) → IsUnopened opening (get_or names i d ∷ []) f → IsUnopened opening names f
+  at_unopened names i d (CannotRead name) within before is =
+      let same = only_name (get_or names i d) name is.before is.behind is.is_there in
+      let parts = subst (λ rest. take i names ++ rest ≡ names) (drop-cons names i d within) (take-append-drop i names) in
+      record {
+        before = take i names;
+        behind = drop (suc i) names;
+        is_there = subst (λ n. names ≡ take i names ++ n ∷ drop (suc i) names) same (sym parts);
+        opened = before;
+        unopened = is.unopened;
+      }
+  at_unopened names i d NoMemory within before is = tt
+  at_unopened names i d other within before is = absurd is
+
+  -- what is the first among names is so behind others that were opened, and before others
+  pub later_unopened : (xs ys : List Name) (f : Failure) → AreOpened opening xs → IsUnopened opening ys f → IsUnopened opening (xs ++ ys) f
+  later_unopened xs ys (CannotRead name) before is = record {
+    before = xs ++ is.before;
+    behind = is.behind;
+    is_there = ap (λ l. xs ++ l) is.is_there ∙ sym (append_assoc xs is.before (name ∷ is.behind));
+    opened = All-append (λ n. opening n.now true) xs is.before before is.opened;
+    unopened = is.unopened;
+  }
+  later_unopened xs ys NoMemory before is = tt
+  later_unopened xs ys other before is = absurd is
+
+  pub earlier_unopened : (xs ys : List Name) (f : Failure) → IsUnopened opening xs f → IsUnopened opening (xs ++ ys) f
+  earlier_unopened xs ys (CannotRead name) is = record {
+    before = is.before;
+    behind = is.behind ++ ys;
+    is_there = ap (λ l. l ++ ys) is.is_there ∙ append_assoc is.before (name ∷ is.behind) ys;
+    opened = is.opened;
+    unopened = is.unopened;
+  }
+  earlier_unopened xs ys NoMemory is = tt
+  earlier_unopened xs ys other is = absurd is
+
+  -- of a tape, a script and further tapes
+  pub tape_unopened : (tape script : Name) (more : List Name) (f : Failure) → IsUnopened opening (tape ∷ []) f → IsUnopened opening (tape ∷ script ∷ more) f
+  tape_unopened tape script more f is = earlier_unopened (tape ∷ []) (script ∷ more) f is
+
+  pub script_unopened : (tape script : Name) (more : List Name) (f : Failure) → AreOpened opening (tape ∷ []) → IsUnopened opening (script ∷ []) f → IsUnopened opening (tape ∷ script ∷ more) f
+  script_unopened tape script more f before is = earlier_unopened (tape ∷ script ∷ []) more f (later_unopened (tape ∷ []) (script ∷ []) f before is)
+
+  pub more_unopened : (tape script : Name) (more : List Name) (f : Failure) → AreOpened opening (tape ∷ []) → AreOpened opening (script ∷ []) → IsUnopened opening more f →
+      IsUnopened opening (tape ∷ script ∷ more) f
+  more_unopened tape script more f before between is =
+      later_unopened (tape ∷ script ∷ []) more f (All-append (λ n. opening n.now true) (tape ∷ []) (script ∷ []) before between) is
+
+  pub both_opened : (xs ys : List Name) → AreOpened opening xs → AreOpened opening ys → AreOpened opening (xs ++ ys)
+  both_opened xs ys first second = All-append (λ n. opening n.now true) xs ys first second
+
+  pub of_files : {X : Type 0} (known : X → Known) (names : List Name) (files now : List X) (P : Inputs → Type 0) → AreOpened opening names → length files ≡ length names → P (inputs_of names known files now) → OfFiles opening names P
+  of_files known names files now P opened count is = record { opened = opened; held = map known files; rests = map known now; one_each = length-map files known ∙ count; is_so = is }

@@ -5,19 +5,19 @@ use Rattle.endings.specs.Streams.{Held}
 use Rattle.requests.specs.declared.request.Request.{Request}
 use Rattle.requests.specs.declared.request.Request.TheVariants.{CheckInput, Check, Dialogue, Rehearse, «Type» as TypeKeys, Load, Verify, Save, Probe}
 use Rattle.requests.specs.Attempt.{IsFailed}
-use Rattle.requests.specs.Files.{Known, Name, FailsUnopened}
+use Rattle.requests.specs.Files.{Known, Name, Opening, FailsUnopened}
 
-module _ (before : Held) (input out err err' : Known) (failure : Failure) where
+module _ (opening : Opening) (before : Held) (input out err err' : Known) (failure : Failure) where
   abbrev here : Held
   here = record { input = input; out = out; err = err }
 
   abbrev there : Held
   there = record { input = input; out = out; err = err' }
 
-  unopened : (names : List Name) → FailsUnopened names before here failure → FailsUnopened names before there failure
+  unopened : (names : List Name) → FailsUnopened opening names before here failure → FailsUnopened opening names before there failure
   unopened names is = record { unopened = is.unopened; nothing_read = is.nothing_read; nothing_written = is.nothing_written }
 
-  pub failed_whatever : (request : Request) → IsFailed request before here failure → IsFailed request before there failure
+  pub failed_whatever : (request : Request) → IsFailed opening request before here failure → IsFailed opening request before there failure
   failed_whatever CheckInput is = is
   failed_whatever (Check names) is = ⊎_elim (λ u. inl (unopened names.items u)) (λ t. inr t) is
   failed_whatever (Dialogue names console start) is = ⊎_elim (λ u. inl (unopened names.items u)) (λ t. inr t) is

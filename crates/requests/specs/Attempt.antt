@@ -9,6 +9,7 @@ use Rattle.endings.specs.Failure.{status_of, IsToldUnless}
 use Rattle.endings.specs.Streams.{Held}
 use Rattle.requests.specs.declared.request.Request.{Request}
 use Rattle.requests.specs.declared.request.Request.TheVariants.{CheckInput, Check, Dialogue, Rehearse, «Type» as TypeKeys, Load, Verify, Save, Probe}
+use Rattle.requests.specs.Files.{Opening}
 use Rattle.requests.specs.Checking.{AreChecked, AreUnchecked, IsInputChecked, IsInputUnchecked}
 use Rattle.requests.specs.Loading.{AreLoaded, AreUnloaded}
 use Rattle.requests.specs.Looking.{AreVerified, AreUnverified, IsSaved, IsSaveFailure}
@@ -18,32 +19,32 @@ use Rattle.requests.specs.Showing.{AreShown, AreUnshown}
 use Rattle.requests.specs.Typing.{IsTypedThrough, IsTypingFailure}
 
 -- a request was done, and the program ends so
-abbrev pub IsDone : Request → Held → Held → Status → Type 0
-IsDone CheckInput before after status = IsInputChecked before after status
-IsDone (Check names) before after status = AreChecked names.items before after status
-IsDone (Dialogue names console start) before after status = AreShown names.items (console, start) before after status
-IsDone (Rehearse tape script more) before after status = AreRehearsed (tape ∷ more.items) before after status
-IsDone (TypeKeys console) before after status = IsTypedThrough console before after × (status ≡ Done)
-IsDone (Load names load) before after status = AreLoaded names.items load before after status
-IsDone (Verify names look) before after status = AreVerified names.items look before after status
-IsDone (Save name save) before after status = IsSaved save before.out after.out status × (after.input ≡ before.input)
-IsDone (Probe request) before after status = IsConsoleProbed request before.out after.out status × (after.input ≡ before.input)
+abbrev pub IsDone : Opening → Request → Held → Held → Status → Type 0
+IsDone opening CheckInput before after status = IsInputChecked before after status
+IsDone opening (Check names) before after status = AreChecked opening names.items before after status
+IsDone opening (Dialogue names console start) before after status = AreShown opening names.items (console, start) before after status
+IsDone opening (Rehearse tape script more) before after status = AreRehearsed opening script (tape ∷ more.items) before after status
+IsDone opening (TypeKeys console) before after status = IsTypedThrough console before after × (status ≡ Done)
+IsDone opening (Load names load) before after status = AreLoaded opening names.items load before after status
+IsDone opening (Verify names look) before after status = AreVerified opening names.items look before after status
+IsDone opening (Save name save) before after status = IsSaved save before.out after.out status × (after.input ≡ before.input)
+IsDone opening (Probe request) before after status = IsConsoleProbed request before.out after.out status × (after.input ≡ before.input)
 
 -- a request failed
-abbrev pub IsFailed : Request → Held → Held → Failure → Type 0
-IsFailed CheckInput before after failure = IsInputUnchecked before after failure
-IsFailed (Check names) before after failure = AreUnchecked names.items before after failure
-IsFailed (Dialogue names console start) before after failure = AreUnshown names.items (console, start) before after failure
-IsFailed (Rehearse tape script more) before after failure = AreUnrehearsed tape script more.items before after failure
-IsFailed (TypeKeys console) before after failure = IsTypingFailure console before after failure
-IsFailed (Load names load) before after failure = AreUnloaded names.items load before after failure
-IsFailed (Verify names look) before after failure = AreUnverified names.items look before after failure
-IsFailed (Save name save) before after failure = IsSaveFailure name save before.out after.out failure × (after.input ≡ before.input)
-IsFailed (Probe request) before after failure = IsProbeFailure request before.out after.out failure × (after.input ≡ before.input)
+abbrev pub IsFailed : Opening → Request → Held → Held → Failure → Type 0
+IsFailed opening CheckInput before after failure = IsInputUnchecked before after failure
+IsFailed opening (Check names) before after failure = AreUnchecked opening names.items before after failure
+IsFailed opening (Dialogue names console start) before after failure = AreUnshown opening names.items (console, start) before after failure
+IsFailed opening (Rehearse tape script more) before after failure = AreUnrehearsed opening tape script more.items before after failure
+IsFailed opening (TypeKeys console) before after failure = IsTypingFailure console before after failure
+IsFailed opening (Load names load) before after failure = AreUnloaded opening names.items load before after failure
+IsFailed opening (Verify names look) before after failure = AreUnverified opening names.items look before after failure
+IsFailed opening (Save name save) before after failure = IsSaveFailure name save before.out after.out failure × (after.input ≡ before.input)
+IsFailed opening (Probe request) before after failure = IsProbeFailure request before.out after.out failure × (after.input ≡ before.input)
 
 -- it was done, with this status, and standard error has nothing of it
-pub record IsDoneQuietly (request : Request) (before after : Held) (status : Status) : Type 0 where
-  pub done : IsDone request before after status
+pub record IsDoneQuietly (opening : Opening) (request : Request) (before after : Held) (status : Status) : Type 0 where
+  pub done : IsDone opening request before after status
   pub quiet : after.err ≡ before.err
 
 -- the request does nothing but print: it is about no machine
@@ -60,13 +61,14 @@ is_unheard true true CannotWrite = true
 is_unheard prints unread failure = false
 
 -- it failed, standard error tells why where somebody is to hear of it, and the status says so
-pub record IsFailedAloud (request : Request) (unread : Bool) (before after : Held) (status : Status) : Type 0 where
+pub record IsFailedAloud (opening : Opening) (request : Request) (unread : Bool) (before after : Held) (status : Status) : Type 0 where
   pub failure : Failure
-  pub failed : IsFailed request before after failure
+  pub failed : IsFailed opening request before after failure
   pub told : IsToldUnless (is_unheard (only_prints request) unread failure) before.err after.err failure
   pub status_is : status ≡ status_of failure
 
--- a request was attempted, with this on the standard streams before and after, and by then the output was found unread or not; the
--- program ends so
-abbrev pub IsAttempted : Request → Bool → Held → Held → Status → Type 0
-IsAttempted request unread before after status = IsDoneQuietly request before after status ⊎ IsFailedAloud request unread before after status
+-- a request was attempted in a system that tells this of names, with this on the standard streams before and after, and by then the
+-- output was found unread or not; the program ends so
+abbrev pub IsAttempted : Opening → Request → Bool → Held → Held → Status → Type 0
+IsAttempted opening request unread before after status =
+    IsDoneQuietly opening request before after status ⊎ IsFailedAloud opening request unread before after status

@@ -6,7 +6,7 @@ use Rattle.endings.specs.declared.failure.Failure.{Failure}
 use Rattle.endings.specs.declared.status.Status.{Status}
 use Rattle.endings.specs.declared.status.Status.TheVariants.{Done}
 use Rattle.endings.specs.Streams.{Held}
-use Rattle.requests.specs.Files.{Known, Name, Inputs, OfTapes, FailsUnopened, FailsOver, only_input}
+use Rattle.requests.specs.Files.{Known, Name, Inputs, Opening, OfTapes, FailsUnopened, FailsOver, only_input}
 
 -- the tapes of some inputs were checked
 abbrev pub IsCheckedTo : Inputs → Known → Known → Status → Type 0
@@ -25,9 +25,9 @@ abbrev pub IsInputUnchecked : Held → Held → Failure → Type 0
 IsInputUnchecked before after failure = IsCheckFailure (only_input before.input after.input) before.out after.out failure
 
 -- the tapes of these names were checked, or not
-abbrev pub AreChecked : List Name → Held → Held → Status → Type 0
-AreChecked names before after status = OfTapes names before after (λ inputs. IsCheckedTo inputs before.out after.out status)
+abbrev pub AreChecked : Opening → List Name → Held → Held → Status → Type 0
+AreChecked opening names before after status = OfTapes opening names before after (λ inputs. IsCheckedTo inputs before.out after.out status)
 
-abbrev pub AreUnchecked : List Name → Held → Held → Failure → Type 0
-AreUnchecked names before after failure =
-    FailsUnopened names before after failure ⊎ OfTapes names before after (λ inputs. IsCheckFailure inputs before.out after.out failure)
+abbrev pub AreUnchecked : Opening → List Name → Held → Held → Failure → Type 0
+AreUnchecked opening names before after failure =
+    FailsUnopened opening names before after failure ⊎ OfTapes opening names before after (λ inputs. IsCheckFailure inputs before.out after.out failure)

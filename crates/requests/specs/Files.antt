@@ -1,6 +1,6 @@
 -- The files that a request names, and what they held. What a file holds is not told by its type; so these say that there are bytes that
 -- the files held.
-use Rattle.std.specs.Prelude.{◌≡◌, ◌⊎◌, ℕ, Bool, true, false, nat_eq, List, [], ◌∷◌, length, map, Contains, Option, codes, ⊤}
+use Rattle.std.specs.Prelude.{◌≡◌, ◌⊎◌, ℕ, Bool, true, false, nat_eq, List, [], ◌∷◌, ◌++◌, length, map, All, Option, codes, ⊤}
 use Rattle.std.specs.Borrow.{Bor}
 use Rattle.std.specs.Cmp.Lexicographic.{pointwise}
 use Rattle.tape_image.specs.Plan.{PlanValue, plan_of_all}
@@ -19,6 +19,14 @@ Known = Option (List ℕ)
 abbrev pub Name : Type 0
 Name = Bor (List ℕ)
 
+-- what a system tells of a name: that it opened, or that it did not
+abbrev pub Opening : Type 1
+Opening = List ℕ → Bool → Type 0
+
+-- these names were opened
+abbrev pub AreOpened : Opening → List Name → Type 0
+AreOpened opening names = All (λ name. opening name.now true) names
+
 -- some inputs: the names by which faults call them, what each held, and what is left of it
 pub record Inputs : Type 0 where
   pub names : List Name
@@ -34,7 +42,8 @@ abbrev pub only_input : Known → Known → Inputs
 only_input input input' = record { names = []; held = input ∷ []; rests = input' ∷ [] }
 
 -- the files of these names were opened, one for each, and this is so of what they held and of what was left of it
-pub record OfFiles (names : List Name) (P : Inputs → Type 0) : Type 0 where
+pub record OfFiles (opening : Opening) (names : List Name) (P : Inputs → Type 0) : Type 0 where
+  pub opened : AreOpened opening names
   pub held : List Known
   pub rests : List Known
   pub one_each : length held ≡ length names
@@ -47,20 +56,34 @@ means_input (name ∷ []) = pointwise nat_eq name.now (codes "-")
 means_input (name ∷ (other ∷ names)) = false
 
 -- this is so of the tapes of these names: of standard input alone where they mean it, else of files, and then standard input is as it was
-abbrev pub OfTapes : List Name → Held → Held → (Inputs → Type 0) → Type 0
-OfTapes names before after P =
+abbrev pub OfTapes : Opening → List Name → Held → Held → (Inputs → Type 0) → Type 0
+OfTapes opening names before after P =
     ((means_input names ≡ true) × P (only_input before.input after.input))
-    ⊎ ((means_input names ≡ false) × OfFiles names P × (after.input ≡ before.input))
+    ⊎ ((means_input names ≡ false) × OfFiles opening names P × (after.input ≡ before.input))
 
--- one of these files can't be opened, or want of memory
-abbrev pub IsUnopened : List Name → Failure → Type 0
-IsUnopened names (CannotRead name) = Contains names name
-IsUnopened names NoMemory = ⊤
-IsUnopened names other = ⊥
+-- of these names this is the first that did not open: all before it did
+pub record IsFirstUnopened (opening : Opening) (names : List Name) (name : Name) : Type 0 where
+  pub before : List Name
+  pub behind : List Name
+  pub is_there : names ≡ before ++ name ∷ behind
+  pub opened : AreOpened opening before
+  pub unopened : opening name.now false
 
--- one of these files can't be opened, or want of memory, with nothing read or written
-pub record FailsUnopened (names : List Name) (before after : Held) (failure : Failure) : Type 0 where
-  pub unopened : IsUnopened names failure
+-- a file of these names can't be opened, and it is named; or want of memory
+abbrev pub IsUnopened : Opening → List Name → Failure → Type 0
+IsUnopened opening names (CannotRead name) = IsFirstUnopened opening names name
+IsUnopened opening names NoMemory = ⊤
+IsUnopened opening names other = ⊥
+
+-- a file of this name was not opened, or it was and there is no memory for its buffer
+abbrev pub IsUnbuffered : Name → Bool → Failure → Type 0
+IsUnbuffered name opened (CannotRead other) = (other ≡ name) × (opened ≡ false)
+IsUnbuffered name opened NoMemory = ⊤
+IsUnbuffered name opened other = ⊥
+
+-- a file of these names can't be opened, or want of memory, with nothing read or written
+pub record FailsUnopened (opening : Opening) (names : List Name) (before after : Held) (failure : Failure) : Type 0 where
+  pub unopened : IsUnopened opening names failure
   pub nothing_read : after.input ≡ before.input
   pub nothing_written : after.out ≡ before.out
 
@@ -89,10 +112,10 @@ abbrev pub FailsToPlan : Inputs → Failure → Type 0
 FailsToPlan inputs failure = HasFault (AreTapesFault inputs.held inputs.rests) inputs.names (codes "standard input") failure
 
 -- this is the plan of the tapes of these names
-abbrev pub IsPlanned : List Name → Held → Held → PlanValue → Type 0
-IsPlanned names before after plan = OfTapes names before after (λ inputs. IsPlanOf inputs plan)
+abbrev pub IsPlanned : Opening → List Name → Held → Held → PlanValue → Type 0
+IsPlanned opening names before after plan = OfTapes opening names before after (λ inputs. IsPlanOf inputs plan)
 
 -- no plan comes of the tapes of these names, and nothing was written
-abbrev pub IsUnplanned : List Name → Held → Held → Failure → Type 0
-IsUnplanned names before after failure =
-    FailsUnopened names before after failure ⊎ (OfTapes names before after (λ inputs. FailsToPlan inputs failure) × (after.out ≡ before.out))
+abbrev pub IsUnplanned : Opening → List Name → Held → Held → Failure → Type 0
+IsUnplanned opening names before after failure =
+    FailsUnopened opening names before after failure ⊎ (OfTapes opening names before after (λ inputs. FailsToPlan inputs failure) × (after.out ≡ before.out))

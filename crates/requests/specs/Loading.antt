@@ -13,7 +13,7 @@ use Rattle.endings.specs.Failure.{IsLoadFailureOf, IsStopFailure}
 use Rattle.endings.specs.Status.{IsStopStatus}
 use Rattle.endings.specs.Streams.{Held}
 use Rattle.requests.specs.declared.request.Load.{Load as LoadRequest}
-use Rattle.requests.specs.Files.{Known, Name, IsPlanned, IsUnplanned}
+use Rattle.requests.specs.Files.{Known, Name, Opening, IsPlanned, IsUnplanned}
 use Rattle.requests.specs.Listening.{IsListenedTo, IsHeardInPart, seconds_of, quiet_time}
 
 -- what faults call the record: its file's name, where it has one
@@ -72,12 +72,12 @@ abbrev pub IsPlanFailure : PlanValue → LoadRequest → Known → Known → Fai
 IsPlanFailure plan load out out' failure = IsLoadCutShort plan load out out' failure ⊎ IsLoadBroken plan load out out' failure
 
 -- the tapes of these names were loaded, as one, with the start that is asked for
-abbrev pub AreLoaded : List Name → LoadRequest → Held → Held → Status → Type 0
-AreLoaded names load before after status =
-    (plan : PlanValue) × IsPlanned names before after plan × IsPlanLoaded (starting plan load.start) load before.out after.out status
+abbrev pub AreLoaded : Opening → List Name → LoadRequest → Held → Held → Status → Type 0
+AreLoaded opening names load before after status =
+    (plan : PlanValue) × IsPlanned opening names before after plan × IsPlanLoaded (starting plan load.start) load before.out after.out status
 
 -- their load failed: it has no plan, or it failed on its way
-abbrev pub AreUnloaded : List Name → LoadRequest → Held → Held → Failure → Type 0
-AreUnloaded names load before after failure =
-    IsUnplanned names before after failure
-    ⊎ ((plan : PlanValue) × IsPlanned names before after plan × IsPlanFailure (starting plan load.start) load before.out after.out failure)
+abbrev pub AreUnloaded : Opening → List Name → LoadRequest → Held → Held → Failure → Type 0
+AreUnloaded opening names load before after failure =
+    IsUnplanned opening names before after failure
+    ⊎ ((plan : PlanValue) × IsPlanned opening names before after plan × IsPlanFailure (starting plan load.start) load before.out after.out failure)

@@ -16,7 +16,7 @@ use Rattle.endings.specs.Status.{after_verify, after_save}
 use Rattle.endings.specs.Streams.{Held}
 use Rattle.requests.specs.declared.request.Look.{Look}
 use Rattle.requests.specs.declared.request.Save.{Save}
-use Rattle.requests.specs.Files.{Known, Name, IsPlanned, IsUnplanned}
+use Rattle.requests.specs.Files.{Known, Name, Opening, IsPlanned, IsUnplanned}
 
 -- memory was looked at for a plan, and that was reported
 pub record IsVerifyReported (plan : PlanValue) (look : Look) (out out' : Known) (end : VerifyEnd) : Type 0 where
@@ -42,15 +42,15 @@ IsVerifyFailure plan look out out' failure =
     IsVerifyCutShort plan look out out' failure ⊎ ((end : VerifyEnd) × IsVerifyReported plan look out out' end × (after_verify end ≡ Err failure))
 
 -- memory was looked at for the tapes of these names, as one
-abbrev pub AreVerified : List Name → Look → Held → Held → Status → Type 0
-AreVerified names look before after status =
-    (plan : PlanValue) × IsPlanned names before after plan × IsPlanVerified plan look before.out after.out status
+abbrev pub AreVerified : Opening → List Name → Look → Held → Held → Status → Type 0
+AreVerified opening names look before after status =
+    (plan : PlanValue) × IsPlanned opening names before after plan × IsPlanVerified plan look before.out after.out status
 
 -- the look failed: there is no plan, or it failed on its way
-abbrev pub AreUnverified : List Name → Look → Held → Held → Failure → Type 0
-AreUnverified names look before after failure =
-    IsUnplanned names before after failure
-    ⊎ ((plan : PlanValue) × IsPlanned names before after plan × IsVerifyFailure plan look before.out after.out failure)
+abbrev pub AreUnverified : Opening → List Name → Look → Held → Held → Failure → Type 0
+AreUnverified opening names look before after failure =
+    IsUnplanned opening names before after failure
+    ⊎ ((plan : PlanValue) × IsPlanned opening names before after plan × IsVerifyFailure plan look before.out after.out failure)
 
 -- what a shelf, a console and an output tell of a save
 abbrev pub told : Option (List Step) → Option ℕ → Known → SaveTold

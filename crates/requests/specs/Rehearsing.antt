@@ -1,12 +1,12 @@
 -- What becomes of a request to rehearse a load.
-use Rattle.std.specs.Prelude.{◌≡◌, ◌⊎◌, ℕ, List, [], ◌∷◌}
+use Rattle.std.specs.Prelude.{◌≡◌, ◌⊎◌, ℕ, if◌then◌else◌, List, [], ◌∷◌}
 use Rattle.std.specs.Io.KnownBytes.{Appends}
 use Rattle.rehearsals.specs.Rehearsal.{IsRehearsed, IsRehearseFault}
 use Rattle.endings.specs.declared.failure.Failure.{Failure}
 use Rattle.endings.specs.declared.status.Status.{Status}
 use Rattle.endings.specs.declared.status.Status.TheVariants.{Done}
 use Rattle.endings.specs.Streams.{Held}
-use Rattle.requests.specs.Files.{Known, Name, Inputs, OfTapes, FailsUnopened, HasFault, FailsAtFlush, only_input}
+use Rattle.requests.specs.Files.{Known, Name, Inputs, Opening, AreOpened, OfTapes, FailsUnopened, HasFault, FailsAtFlush, means_input, only_input}
 
 -- a script's file held something, and it was rehearsed with the tapes
 pub record IsRehearsedInto (inputs : Inputs) (out out' : Known) : Type 0 where
@@ -25,15 +25,20 @@ IsRehearsalFailure script inputs out out' failure =
 abbrev pub IsInputRehearsed : Held → Held → Status → Type 0
 IsInputRehearsed before after status = IsRehearsedInto (only_input before.input after.input) before.out after.out × (status ≡ Done)
 
-abbrev pub IsInputUnrehearsed : Name → Held → Held → Failure → Type 0
-IsInputUnrehearsed script before after failure =
-    FailsUnopened (script ∷ []) before after failure ⊎ IsRehearsalFailure script.now (only_input before.input after.input) before.out after.out failure
+abbrev pub IsInputUnrehearsed : Opening → Name → Held → Held → Failure → Type 0
+IsInputUnrehearsed opening script before after failure =
+    FailsUnopened opening (script ∷ []) before after failure ⊎ IsRehearsalFailure script.now (only_input before.input after.input) before.out after.out failure
 
 -- the tapes of these names were rehearsed, or not, with a script in a file, which is opened behind the first tape
-abbrev pub AreRehearsed : List Name → Held → Held → Status → Type 0
-AreRehearsed names before after status = OfTapes names before after (λ inputs. IsRehearsedInto inputs before.out after.out) × (status ≡ Done)
+abbrev pub AreRehearsed : Opening → Name → List Name → Held → Held → Status → Type 0
+AreRehearsed opening script names before after status =
+    OfTapes opening names before after (λ inputs. IsRehearsedInto inputs before.out after.out) × AreOpened opening (script ∷ []) × (status ≡ Done)
 
-abbrev pub AreUnrehearsed : Name → Name → List Name → Held → Held → Failure → Type 0
-AreUnrehearsed tape script more before after failure =
-    FailsUnopened (tape ∷ script ∷ more) before after failure
-    ⊎ OfTapes (tape ∷ more) before after (λ inputs. IsRehearsalFailure script.now inputs before.out after.out failure)
+-- the files that are opened, in their order: with the tape on standard input the script alone
+abbrev pub opened_files : Name → Name → List Name → List Name
+opened_files tape script more = if means_input (tape ∷ more) then (script ∷ []) else (tape ∷ script ∷ more)
+
+abbrev pub AreUnrehearsed : Opening → Name → Name → List Name → Held → Held → Failure → Type 0
+AreUnrehearsed opening tape script more before after failure =
+    FailsUnopened opening (opened_files tape script more) before after failure
+    ⊎ OfTapes opening (tape ∷ more) before after (λ inputs. IsRehearsalFailure script.now inputs before.out after.out failure)

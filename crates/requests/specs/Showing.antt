@@ -8,7 +8,7 @@ use Rattle.endings.specs.declared.status.Status.{Status}
 use Rattle.endings.specs.Status.{end_status}
 use Rattle.endings.specs.Streams.{Held}
 use Rattle.requests.specs.declared.request.Console.{Console}
-use Rattle.requests.specs.Files.{Known, Name, Inputs, OfTapes, FailsUnopened, FailsOver, only_input}
+use Rattle.requests.specs.Files.{Known, Name, Inputs, Opening, OfTapes, FailsUnopened, FailsOver, only_input}
 
 -- a console, and the start in place of the tape's
 abbrev pub Stage : Type 0
@@ -33,9 +33,9 @@ abbrev pub IsInputUnshown : Stage → Held → Held → Failure → Type 0
 IsInputUnshown stage before after failure = IsShowingFailure stage (only_input before.input after.input) before.out after.out failure
 
 -- the load of the tapes of these names was shown, or not
-abbrev pub AreShown : List Name → Stage → Held → Held → Status → Type 0
-AreShown names stage before after status = OfTapes names before after (λ inputs. IsShownTo stage inputs before.out after.out status)
+abbrev pub AreShown : Opening → List Name → Stage → Held → Held → Status → Type 0
+AreShown opening names stage before after status = OfTapes opening names before after (λ inputs. IsShownTo stage inputs before.out after.out status)
 
-abbrev pub AreUnshown : List Name → Stage → Held → Held → Failure → Type 0
-AreUnshown names stage before after failure =
-    FailsUnopened names before after failure ⊎ OfTapes names before after (λ inputs. IsShowingFailure stage inputs before.out after.out failure)
+abbrev pub AreUnshown : Opening → List Name → Stage → Held → Held → Failure → Type 0
+AreUnshown opening names stage before after failure =
+    FailsUnopened opening names before after failure ⊎ OfTapes opening names before after (λ inputs. IsShowingFailure stage inputs before.out after.out failure)

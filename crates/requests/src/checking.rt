@@ -6,25 +6,25 @@ ghost use Rattle.requests.specs.Checking.{AreChecked, AreUnchecked, IsCheckedTo,
 ghost use Rattle.requests.specs.Files.{inputs_of, IsUnopened, OfFiles};
 
 use crate::files::{flushed, is_input, open_all};
+use crate::inputs::InputFiles;
 use endings::{Failure, STANDARD_INPUT, Status, Streams};
 use std::alloc::Global;
 use std::io::{Read, Write};
-use std::rt::Files;
 use std::slice;
 use tape_check::check_to;
 
 /// Checks tapes: standard input's, where `-` is their only name, else those in the files.
-pub(crate) fn check_tapes<'a, F: Files, R: Read, W: Write, E: Write>(
+pub(crate) fn check_tapes<'a, F: InputFiles, R: Read, W: Write, E: Write>(
     rt: &F,
     alloc: Global,
     names: &[&'a str],
     streams: &mut Streams<R, W, E>,
 ) -> Result<Status, Failure<'a>>
     requires { FitsInMemory R.row }
-    ensures ok { IfOk result (AreChecked names.now
+    ensures ok { IfOk result (AreChecked (F.opens rt.now) names.now
         (held R.remaining W.contents E.contents streams.old)
         (held R.remaining W.contents E.contents streams.new)) }
-    ensures err { IfErr result (AreUnchecked names.now
+    ensures err { IfErr result (AreUnchecked (F.opens rt.now) names.now
         (held R.remaining W.contents E.contents streams.old)
         (held R.remaining W.contents E.contents streams.new)) }
     ensures quiet { streams.new.err ≡ streams.old.err }
@@ -55,15 +55,15 @@ pub(crate) fn check_input<R: Read, W: Write, E: Write>(
 }
 
 // Opens files and checks the tapes in them.
-fn check_files<'a, F: Files, W: Write>(
+fn check_files<'a, F: InputFiles, W: Write>(
     rt: &F,
     alloc: Global,
     names: &[&'a str],
     out: &mut W,
 ) -> Result<Status, Failure<'a>>
-    ensures ok { IfOk result (λ status. OfFiles names.now (λ inputs. IsCheckedTo inputs (W.contents out.old) (W.contents out.new) status)) }
-    ensures err { IfErr result (λ failure. (IsUnopened names.now failure × (W.contents out.new ≡ W.contents out.old))
-        ⊎ OfFiles names.now (λ inputs. IsCheckFailure inputs (W.contents out.old) (W.contents out.new) failure)) }
+    ensures ok { IfOk result (λ status. OfFiles (F.opens rt.now) names.now (λ inputs. IsCheckedTo inputs (W.contents out.old) (W.contents out.new) status)) }
+    ensures err { IfErr result (λ failure. (IsUnopened (F.opens rt.now) names.now failure × (W.contents out.new ≡ W.contents out.old))
+        ⊎ OfFiles (F.opens rt.now) names.now (λ inputs. IsCheckFailure inputs (W.contents out.old) (W.contents out.new) failure)) }
 {
     let mut files = open_all(rt, alloc, names)?;
     check(alloc, names, &mut files, out)

@@ -1,14 +1,14 @@
 //! Opening the files that a request names, and passing on what was written.
-ghost use Rattle.std.specs.Prelude.{◌≡◌, ◌+◌, ◌∷◌, [], length, IfOk, IfErr, OnOk};
+ghost use Rattle.std.specs.Prelude.{◌≡◌, ◌+◌, ◌∷◌, [], length, true, is_ok, IfOk, IfErr, OnOk};
 ghost use Rattle.std.specs.Io.KnownBytes.{Keeps};
-ghost use Rattle.requests.specs.Files.{IsUnopened, means_input};
+ghost use Rattle.requests.specs.Files.{AreOpened, IsUnopened, IsUnbuffered, means_input};
 
+use crate::inputs::InputFiles;
 use crate::source::{Role, Source};
 use endings::{Failure, Status};
 use std::alloc::{AllocError, Global};
+use std::io;
 use std::io::{BufReader, Read, Write};
-use std::rt::Files;
-use std::{fs, io};
 
 // Linux's numbers of these two errors, ENFILE and EMFILE.
 const SYSTEM_HAS_TOO_MANY: i32 = 23;
@@ -23,24 +23,26 @@ pub(crate) fn is_input(names: &[&str]) -> bool
 }
 
 /// Opens a file. It is read ahead, which nobody sees: no one else reads what this program has opened.
-pub(crate) fn open<'a, F: Files>(
+pub(crate) fn open<'a, F: InputFiles>(
     rt: &F,
     alloc: Global,
     name: &'a str,
 ) -> Result<BufReader<F::File>, Failure<'a>>
-    ensures { IfErr result (IsUnopened (name.entry ∷ [])) }
+    ensures ok { OnOk result (F.opens rt.now name.now true) }
+    ensures err { IfErr result (IsUnopened (F.opens rt.now) (name.entry ∷ [])) }
 {
-    buffered(alloc, name, fs::open(rt, name))
+    buffered(alloc, name, rt.open_input(name))
 }
 
 /// Opens files of tapes in the order of their names. The first that can't be opened decides.
-pub(crate) fn open_all<'a, F: Files>(
+pub(crate) fn open_all<'a, F: InputFiles>(
     rt: &F,
     alloc: Global,
     names: &[&'a str],
 ) -> Result<Vec<Source<F::File>>, Failure<'a>>
     ensures ok { IfOk result (λ files. length files.items ≡ length names.now) }
-    ensures err { IfErr result (IsUnopened names.now) }
+    ensures opened { OnOk result (AreOpened (F.opens rt.now) names.now) }
+    ensures err { IfErr result (IsUnopened (F.opens rt.now) names.now) }
 {
     let mut files = Vec::new(alloc);
     open_more(rt, alloc, names, Role::Tape, &mut files)?;
@@ -48,7 +50,7 @@ pub(crate) fn open_all<'a, F: Files>(
 }
 
 /// Opens further files, in the order of their names.
-pub(crate) fn open_more<'a, F: Files>(
+pub(crate) fn open_more<'a, F: InputFiles>(
     rt: &F,
     alloc: Global,
     names: &[&'a str],
@@ -56,7 +58,8 @@ pub(crate) fn open_more<'a, F: Files>(
     files: &mut Vec<Source<F::File>>,
 ) -> Result<(), Failure<'a>>
     ensures ok { OnOk result (length files.new.items ≡ length files.old.items + length names.now) }
-    ensures err { IfErr result (IsUnopened names.now) }
+    ensures opened { OnOk result (AreOpened (F.opens rt.now) names.now) }
+    ensures err { IfErr result (IsUnopened (F.opens rt.now) names.now) }
 {
     for name in names {
         let file = open_beside(rt, alloc, name, files)?;
@@ -67,24 +70,38 @@ pub(crate) fn open_more<'a, F: Files>(
     Ok(())
 }
 
-// Opens a file beside others. Where the system has no descriptor left, these are read ahead and closed, and the
-// file is opened then.
-fn open_beside<'a, F: Files>(
+// Opens a file beside others.
+fn open_beside<'a, F: InputFiles>(
     rt: &F,
     alloc: Global,
     name: &'a str,
     others: &mut [Source<F::File>],
 ) -> Result<BufReader<F::File>, Failure<'a>>
-    ensures { IfErr result (IsUnopened (name.entry ∷ [])) }
+    ensures ok { OnOk result (F.opens rt.now name.now true) }
+    ensures err { IfErr result (IsUnopened (F.opens rt.now) (name.entry ∷ [])) }
 {
-    let mut opened = fs::open(rt, name);
-    if lacks_descriptor(&opened) {
-        if read_all_ahead(alloc, others).is_err() {
-            return Err(Failure::NoMemory);
-        }
-        opened = fs::open(rt, name);
+    match opened_beside(rt, alloc, name, others) {
+        Ok(opened) => buffered(alloc, name, opened),
+        Err(_) => Err(Failure::NoMemory),
     }
-    buffered(alloc, name, opened)
+}
+
+// What comes of opening a file beside others. Where the system has no descriptor left, these are read ahead and
+// closed, and the file is opened then.
+fn opened_beside<F: InputFiles>(
+    rt: &F,
+    alloc: Global,
+    name: &str,
+    others: &mut [Source<F::File>],
+) -> Result<io::Result<F::File>, AllocError>
+    ensures { IfOk result (λ opened. F.opens rt.now name.now (is_ok opened)) }
+{
+    let opened = rt.open_input(name);
+    if !lacks_descriptor(&opened) {
+        return Ok(opened);
+    }
+    read_all_ahead(alloc, others)?;
+    Ok(rt.open_input(name))
 }
 
 // Puts a buffer before a file, if it was opened by this name.
@@ -93,7 +110,8 @@ fn buffered<'a, T: Read + Drop>(
     name: &'a str,
     opened: io::Result<T>,
 ) -> Result<BufReader<T>, Failure<'a>>
-    ensures { IfErr result (IsUnopened (name.entry ∷ [])) }
+    ensures ok { OnOk result (is_ok opened ≡ true) }
+    ensures err { IfErr result (IsUnbuffered name.entry (is_ok opened)) }
 {
     let Ok(file) = opened else {
         return Err(Failure::CannotRead(name));

@@ -6,6 +6,7 @@ ghost use Rattle.endings.specs.Streams.{held};
 ghost use Rattle.requests.specs.Attempt.{IsDone, IsFailed, IsAttempted, is_unheard, only_prints};
 
 use crate::checking::{check_input, check_tapes};
+use crate::inputs::InputFiles;
 use crate::loading::load_tapes;
 use crate::probing::probe_console;
 use crate::rehearsing::rehearse;
@@ -32,7 +33,13 @@ use std::time::Clock;
 /// What is asked of the caller is only that a value of the input's type fits into memory, as each type
 /// of a program does. It has to be said where the type is not known, since the input is lent as a slice of
 /// one.
-pub fn attempt<F: Locks + Devices + Net + Clock, R: Read, W: Output, E: Write, T: Print>(
+pub fn attempt<
+    F: InputFiles + Locks + Devices + Net + Clock,
+    R: Read,
+    W: Output,
+    E: Write,
+    T: Print,
+>(
     rt: &F,
     alloc: Global,
     request: Request<'_>,
@@ -40,7 +47,7 @@ pub fn attempt<F: Locks + Devices + Net + Clock, R: Read, W: Output, E: Write, T
     terminal: Option<&T>,
 ) -> Status
     requires { FitsInMemory R.row }
-    ensures { IsAttempted request.entry (W.unread streams.new.out)
+    ensures { IsAttempted (F.opens rt.now) request.entry (W.unread streams.new.out)
         (held R.remaining W.contents E.contents streams.old)
         (held R.remaining W.contents E.contents streams.new)
         result }
@@ -70,7 +77,14 @@ fn report<W: Output, E: Write>(
 }
 
 // Does a request and answers how it ended, with nothing said on standard error.
-fn perform<'a, F: Locks + Devices + Net + Clock, R: Read, W: Write, E: Write, T: Print>(
+fn perform<
+    'a,
+    F: InputFiles + Locks + Devices + Net + Clock,
+    R: Read,
+    W: Write,
+    E: Write,
+    T: Print,
+>(
     rt: &F,
     alloc: Global,
     request: Request<'a>,
@@ -78,10 +92,10 @@ fn perform<'a, F: Locks + Devices + Net + Clock, R: Read, W: Write, E: Write, T:
     terminal: Option<&T>,
 ) -> Result<Status, Failure<'a>>
     requires { FitsInMemory R.row }
-    ensures ok { IfOk result (IsDone request.entry
+    ensures ok { IfOk result (IsDone (F.opens rt.now) request.entry
         (held R.remaining W.contents E.contents streams.old)
         (held R.remaining W.contents E.contents streams.new)) }
-    ensures err { IfErr result (IsFailed request.entry
+    ensures err { IfErr result (IsFailed (F.opens rt.now) request.entry
         (held R.remaining W.contents E.contents streams.old)
         (held R.remaining W.contents E.contents streams.new)) }
     ensures quiet { streams.new.err ≡ streams.old.err }

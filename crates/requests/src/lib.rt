@@ -13,6 +13,7 @@ mod checking;
 mod files;
 mod handling;
 mod host;
+mod inputs;
 mod listening;
 mod loading;
 mod planning;
@@ -26,4 +27,5 @@ mod typing;
 mod verifying;
 
 pub use handling::attempt;
+pub use inputs::InputFiles;
 pub use request::{Console, Load, Look, Probe, Request, Save};

@@ -8,6 +8,7 @@ ghost use Rattle.machine_load.specs.Load.{IsNeverBegun};
 ghost use Rattle.requests.specs.Loading.{record_name, AreLoaded, AreUnloaded, IsEnded, IsEndFailure, IsPlanLoaded, IsPlanFailure};
 
 use crate::host::Host;
+use crate::inputs::InputFiles;
 use crate::listening::listen_behind;
 use crate::planning::plan_tapes;
 use crate::request::Load;
@@ -28,7 +29,7 @@ use tape_image::Plan;
 /// Loads tapes, as one, into a real machine. A terminal shows how far that is.
 pub(crate) fn load_tapes<
     'a,
-    F: Locks + Devices + Net + Clock,
+    F: InputFiles + Locks + Devices + Net + Clock,
     R: Read,
     W: Write,
     E: Write,
@@ -42,10 +43,10 @@ pub(crate) fn load_tapes<
     terminal: Option<&T>,
 ) -> Result<Status, Failure<'a>>
     requires { FitsInMemory R.row }
-    ensures ok { IfOk result (AreLoaded names.now load.entry
+    ensures ok { IfOk result (AreLoaded (F.opens rt.now) names.now load.entry
         (held R.remaining W.contents E.contents streams.old)
         (held R.remaining W.contents E.contents streams.new)) }
-    ensures err { IfErr result (AreUnloaded names.now load.entry
+    ensures err { IfErr result (AreUnloaded (F.opens rt.now) names.now load.entry
         (held R.remaining W.contents E.contents streams.old)
         (held R.remaining W.contents E.contents streams.new)) }
     ensures quiet { streams.new.err ≡ streams.old.err }

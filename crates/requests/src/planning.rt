@@ -5,27 +5,27 @@ ghost use Rattle.endings.specs.Streams.{held};
 ghost use Rattle.requests.specs.Files.{inputs_of, only_input, FailsToPlan, IsPlanned, IsPlanOf, IsUnopened, IsUnplanned, OfFiles};
 
 use crate::files::{is_input, open_all};
+use crate::inputs::InputFiles;
 use command_io::take_tapes;
 use endings::{Failure, STANDARD_INPUT, Streams};
 use std::alloc::Global;
 use std::io::{Read, Write};
-use std::rt::Files;
 use std::slice;
 use tape_image::Plan;
 
 /// The plan of tapes, as one: of standard input's, where `-` is their only name, else of those in the
 /// files. Nothing is written.
-pub(crate) fn plan_tapes<'a, F: Files, R: Read, W: Write, E: Write>(
+pub(crate) fn plan_tapes<'a, F: InputFiles, R: Read, W: Write, E: Write>(
     rt: &F,
     alloc: Global,
     names: &[&'a str],
     streams: &mut Streams<R, W, E>,
 ) -> Result<Plan, Failure<'a>>
     requires { FitsInMemory R.row }
-    ensures ok { IfOk result (IsPlanned names.now
+    ensures ok { IfOk result (IsPlanned (F.opens rt.now) names.now
         (held R.remaining W.contents E.contents streams.old)
         (held R.remaining W.contents E.contents streams.new)) }
-    ensures err { IfErr result (IsUnplanned names.now
+    ensures err { IfErr result (IsUnplanned (F.opens rt.now) names.now
         (held R.remaining W.contents E.contents streams.old)
         (held R.remaining W.contents E.contents streams.new)) }
     ensures same_out { streams.new.out ≡ streams.old.out }
@@ -48,9 +48,14 @@ fn plan_input<R: Read>(alloc: Global, input: &mut R) -> Result<Plan, Failure<'st
 }
 
 // Opens files, and answers the plan of the tapes in them.
-fn plan_files<'a, F: Files>(rt: &F, alloc: Global, names: &[&'a str]) -> Result<Plan, Failure<'a>>
-    ensures ok { IfOk result (λ plan. OfFiles names.now (λ inputs. IsPlanOf inputs plan)) }
-    ensures err { IfErr result (λ failure. IsUnopened names.now failure ⊎ OfFiles names.now (λ inputs. FailsToPlan inputs failure)) }
+fn plan_files<'a, F: InputFiles>(
+    rt: &F,
+    alloc: Global,
+    names: &[&'a str],
+) -> Result<Plan, Failure<'a>>
+    ensures ok { IfOk result (λ plan. OfFiles (F.opens rt.now) names.now (λ inputs. IsPlanOf inputs plan)) }
+    ensures err { IfErr result (λ failure. IsUnopened (F.opens rt.now) names.now failure
+        ⊎ OfFiles (F.opens rt.now) names.now (λ inputs. FailsToPlan inputs failure)) }
 {
     let mut files = open_all(rt, alloc, names)?;
     plan(alloc, names, &mut files)

@@ -1,22 +1,22 @@
 //! Rehearsing a load.
-ghost use Rattle.std.specs.Prelude.{◌≡◌, ◌⊎◌, ◌∷◌, IfOk, IfErr};
+ghost use Rattle.std.specs.Prelude.{◌≡◌, ◌⊎◌, ◌∷◌, [], OnOk, IfOk, IfErr};
 ghost use Rattle.std.specs.Mem.{FitsInMemory};
 ghost use Rattle.endings.specs.Streams.{held};
-ghost use Rattle.requests.specs.Files.{means_input, IsUnopened, OfFiles};
+ghost use Rattle.requests.specs.Files.{means_input, AreOpened, IsUnopened, OfFiles};
 ghost use Rattle.requests.specs.Rehearsing.{AreRehearsed, AreUnrehearsed, IsInputRehearsed, IsInputUnrehearsed, IsRehearsalFailure, IsRehearsedInto};
 
 use crate::files::{flushed, joined, open, open_all, open_more};
+use crate::inputs::InputFiles;
 use crate::source::Role;
 use endings::{Failure, Status, Streams};
 use rehearsals::rehearse_to;
 use std::alloc::Global;
 use std::io::{Read, Write};
-use std::rt::Files;
 use std::slice;
 
 /// Rehearses the load of tapes by a script: of standard input's tape, where `-` is their only name, else
 /// of those in the files.
-pub(crate) fn rehearse<'a, F: Files, R: Read, W: Write, E: Write>(
+pub(crate) fn rehearse<'a, F: InputFiles, R: Read, W: Write, E: Write>(
     rt: &F,
     alloc: Global,
     tape: &'a str,
@@ -25,10 +25,10 @@ pub(crate) fn rehearse<'a, F: Files, R: Read, W: Write, E: Write>(
     streams: &mut Streams<R, W, E>,
 ) -> Result<Status, Failure<'a>>
     requires { FitsInMemory R.row }
-    ensures ok { IfOk result (AreRehearsed (tape.entry ∷ more.now)
+    ensures ok { IfOk result (AreRehearsed (F.opens rt.now) script.entry (tape.entry ∷ more.now)
         (held R.remaining W.contents E.contents streams.old)
         (held R.remaining W.contents E.contents streams.new)) }
-    ensures err { IfErr result (AreUnrehearsed tape.entry script.entry more.now
+    ensures err { IfErr result (AreUnrehearsed (F.opens rt.now) tape.entry script.entry more.now
         (held R.remaining W.contents E.contents streams.old)
         (held R.remaining W.contents E.contents streams.new)) }
     ensures quiet { streams.new.err ≡ streams.old.err }
@@ -48,7 +48,7 @@ fn is_only_input(tape: &str, more: &[&str]) -> bool
 }
 
 // Opens the script and rehearses with the tape on standard input.
-fn rehearse_input<'a, F: Files, R: Read, W: Write, E: Write>(
+fn rehearse_input<'a, F: InputFiles, R: Read, W: Write, E: Write>(
     rt: &F,
     alloc: Global,
     script: &'a str,
@@ -58,7 +58,8 @@ fn rehearse_input<'a, F: Files, R: Read, W: Write, E: Write>(
     ensures ok { IfOk result (IsInputRehearsed
         (held R.remaining W.contents E.contents streams.old)
         (held R.remaining W.contents E.contents streams.new)) }
-    ensures err { IfErr result (IsInputUnrehearsed script.entry
+    ensures opened { OnOk result (AreOpened (F.opens rt.now) (script.entry ∷ [])) }
+    ensures err { IfErr result (IsInputUnrehearsed (F.opens rt.now) script.entry
         (held R.remaining W.contents E.contents streams.old)
         (held R.remaining W.contents E.contents streams.new)) }
     ensures quiet { streams.new.err ≡ streams.old.err }
@@ -72,7 +73,7 @@ fn rehearse_input<'a, F: Files, R: Read, W: Write, E: Write>(
 }
 
 // Opens the tape, the script and the further tapes, in this order, and rehearses.
-fn rehearse_files<'a, F: Files, W: Write>(
+fn rehearse_files<'a, F: InputFiles, W: Write>(
     rt: &F,
     alloc: Global,
     tape: &'a str,
@@ -80,10 +81,13 @@ fn rehearse_files<'a, F: Files, W: Write>(
     more: &[&'a str],
     out: &mut W,
 ) -> Result<Status, Failure<'a>>
-    ensures ok { IfOk result (λ status. OfFiles (tape.entry ∷ more.now) (λ inputs. IsRehearsedInto inputs (W.contents out.old) (W.contents out.new))
+    ensures ok { IfOk result (λ status. OfFiles (F.opens rt.now) (tape.entry ∷ more.now)
+        (λ inputs. IsRehearsedInto inputs (W.contents out.old) (W.contents out.new))
         × (status ≡ Status.Done)) }
-    ensures err { IfErr result (λ failure. (IsUnopened (tape.entry ∷ script.entry ∷ more.now) failure × (W.contents out.new ≡ W.contents out.old))
-        ⊎ OfFiles (tape.entry ∷ more.now)
+    ensures opened { OnOk result (AreOpened (F.opens rt.now) (script.entry ∷ [])) }
+    ensures err { IfErr result (λ failure.
+        (IsUnopened (F.opens rt.now) (tape.entry ∷ script.entry ∷ more.now) failure × (W.contents out.new ≡ W.contents out.old))
+        ⊎ OfFiles (F.opens rt.now) (tape.entry ∷ more.now)
         (λ inputs. IsRehearsalFailure script.entry.now inputs (W.contents out.old) (W.contents out.new) failure)) }
 {
     let mut tapes = open_all(rt, alloc, &[tape])?;

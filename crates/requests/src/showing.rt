@@ -6,18 +6,18 @@ ghost use Rattle.requests.specs.Files.{inputs_of, IsUnopened, OfFiles};
 ghost use Rattle.requests.specs.Showing.{AreShown, AreUnshown, IsInputShown, IsInputUnshown, IsShowingFailure, IsShownTo};
 
 use crate::files::{flushed, is_input, open_all};
+use crate::inputs::InputFiles;
 use crate::request::Console;
 use endings::{Failure, STANDARD_INPUT, Status, Streams};
 use rehearsals::dialogue_to;
 use std::alloc::Global;
 use std::io::{Read, Write};
-use std::rt::Files;
 use std::slice;
 use tape_image::Start;
 
 /// Shows the load of tapes into a console, with a start in place of theirs: of standard input's tape,
 /// where `-` is their only name, else of those in the files.
-pub(crate) fn show_dialogue<'a, F: Files, R: Read, W: Write, E: Write>(
+pub(crate) fn show_dialogue<'a, F: InputFiles, R: Read, W: Write, E: Write>(
     rt: &F,
     alloc: Global,
     names: &[&'a str],
@@ -25,10 +25,10 @@ pub(crate) fn show_dialogue<'a, F: Files, R: Read, W: Write, E: Write>(
     streams: &mut Streams<R, W, E>,
 ) -> Result<Status, Failure<'a>>
     requires { FitsInMemory R.row }
-    ensures ok { IfOk result (AreShown names.now stage
+    ensures ok { IfOk result (AreShown (F.opens rt.now) names.now stage
         (held R.remaining W.contents E.contents streams.old)
         (held R.remaining W.contents E.contents streams.new)) }
-    ensures err { IfErr result (AreUnshown names.now stage
+    ensures err { IfErr result (AreUnshown (F.opens rt.now) names.now stage
         (held R.remaining W.contents E.contents streams.old)
         (held R.remaining W.contents E.contents streams.new)) }
     ensures quiet { streams.new.err ≡ streams.old.err }
@@ -60,16 +60,17 @@ fn show_input<R: Read, W: Write, E: Write>(
 }
 
 // Opens files and shows the load of the tapes in them.
-fn show_files<'a, F: Files, W: Write>(
+fn show_files<'a, F: InputFiles, W: Write>(
     rt: &F,
     alloc: Global,
     names: &[&'a str],
     stage: (Console, Start),
     out: &mut W,
 ) -> Result<Status, Failure<'a>>
-    ensures ok { IfOk result (λ status. OfFiles names.now (λ inputs. IsShownTo stage inputs (W.contents out.old) (W.contents out.new) status)) }
-    ensures err { IfErr result (λ failure. (IsUnopened names.now failure × (W.contents out.new ≡ W.contents out.old))
-        ⊎ OfFiles names.now (λ inputs. IsShowingFailure stage inputs (W.contents out.old) (W.contents out.new) failure)) }
+    ensures ok { IfOk result (λ status. OfFiles (F.opens rt.now) names.now
+        (λ inputs. IsShownTo stage inputs (W.contents out.old) (W.contents out.new) status)) }
+    ensures err { IfErr result (λ failure. (IsUnopened (F.opens rt.now) names.now failure × (W.contents out.new ≡ W.contents out.old))
+        ⊎ OfFiles (F.opens rt.now) names.now (λ inputs. IsShowingFailure stage inputs (W.contents out.old) (W.contents out.new) failure)) }
 {
     let mut files = open_all(rt, alloc, names)?;
     show(alloc, names, &mut files, stage, out)

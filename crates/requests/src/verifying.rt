@@ -5,6 +5,7 @@ ghost use Rattle.endings.specs.Streams.{held};
 ghost use Rattle.requests.specs.Looking.{AreVerified, AreUnverified, IsPlanVerified, IsVerifyFailure};
 
 use crate::host::Host;
+use crate::inputs::InputFiles;
 use crate::planning::plan_tapes;
 use crate::request::Look;
 use console_reach::{Port, Reach, Wire, is_path};
@@ -16,14 +17,13 @@ use serial_line::Devices;
 use std::alloc::Global;
 use std::io::{Print, Read, Write};
 use std::net::Net;
-use std::rt::Files;
 use std::time::Clock;
 use tape_image::Plan;
 
 /// Looks whether a real machine holds what tapes, as one, say. A terminal shows how far that is.
 pub(crate) fn verify_tapes<
     'a,
-    F: Files + Devices + Net + Clock,
+    F: InputFiles + Devices + Net + Clock,
     R: Read,
     W: Write,
     E: Write,
@@ -37,10 +37,10 @@ pub(crate) fn verify_tapes<
     terminal: Option<&T>,
 ) -> Result<Status, Failure<'a>>
     requires { FitsInMemory R.row }
-    ensures ok { IfOk result (AreVerified names.now look.entry
+    ensures ok { IfOk result (AreVerified (F.opens rt.now) names.now look.entry
         (held R.remaining W.contents E.contents streams.old)
         (held R.remaining W.contents E.contents streams.new)) }
-    ensures err { IfErr result (AreUnverified names.now look.entry
+    ensures err { IfErr result (AreUnverified (F.opens rt.now) names.now look.entry
         (held R.remaining W.contents E.contents streams.old)
         (held R.remaining W.contents E.contents streams.new)) }
     ensures quiet { streams.new.err ≡ streams.old.err }

@@ -1,7 +1,9 @@
 use Rattle.std.proofs.Common.{◌≡◌, ◌∷◌, [], ◌∙◌, map, inl, inr, ap}
 use Rattle.std.proofs.KnownBytes.{Appends-kept}
 use Rattle.std.proofs.lemmas.Result.{IfOk-weaker, IfErr-weaker}
+use Rattle.requests.proofs.Errors.{on_ok}
 use Rattle.requests.proofs.OneInput.{only_input}
+use Rattle.requests.proofs.Unopened.{opened_one}
 use Rattle.requests.proofs.rehearsing.rehearse_input.Goals as goal
 
 pub returns-in-Ok-clause-ok : goal.returns-in-Ok-clause-ok
@@ -27,3 +29,6 @@ returns-clause-err g c =
     let before : map g.R.Read.remaining c.from_mut-tape.result.now ≡ g.R.Read.remaining c.args.streams.now.input ∷ [] = ap (map g.R.Read.remaining) c.from_mut-tape.ensures.value in
     let after = only_input g.R.Read.remaining c.rehearse_to.new.tapes c.args.streams.now.input (c.rehearse_to.auto.tapes ∙ c.from_mut-tape.ensures.len) in
     inr (inl (_, record { fault = c.in-Err.fault; is_so = rw (before, after) at c.in-Err.ensures.err; is_called = c.of.ensures }))
+
+pub returns-in-Ok-clause-opened : goal.returns-in-Ok-clause-opened
+returns-in-Ok-clause-opened g c = on_ok c.flushed.result (opened_one (g.F.InputFiles.opens c.args.rt.now) c.args.script c.in_ok-script_file.ensures.ok)

@@ -66,7 +66,7 @@ def swept(line):
         for name, data in FILES.items():
             with open(os.path.join(room, name), "wb") as file:
                 file.write(data)
-        once = lambda starter=(): run(words.split(), keys, starter=starter, cwd=room, seconds=60)
+        once = lambda starter=(), env=None: run(words.split(), keys, starter=starter, env=env, cwd=room, seconds=60)
         whole = once()
         if whole.status != status:
             return 0, f"with no limit: {whole}"

@@ -203,7 +203,7 @@ class Probes(Case):
     def at_once(self, trial, rows):
         """Tries all rows, some side by side, and yields each with what came of it."""
         rows = list(rows)
-        with ThreadPoolExecutor(16) as pool:
+        with ThreadPoolExecutor(8) as pool:
             yield from zip(rows, pool.map(trial, rows))
 
 

@@ -131,10 +131,6 @@ PAGE = 4 << 10
 MOST = 256 << 20
 
 
-# Starts a program that has so many KiB of address space, and whose loader tells in a file what it does.
-LITTLE_MEMORY = 'LD_DEBUG=files LD_DEBUG_OUTPUT="$1"; export LD_DEBUG LD_DEBUG_OUTPUT; ulimit -v "$2"; shift 2; exec "$@"'
-
-
 class Loader:
     """The system's loader, which tells in a file whether it gave the program control.
 
@@ -146,14 +142,16 @@ class Loader:
 
     def start(self, once, size):
         """Runs the program once with so many bytes of address space; returns whether it began, and its answer."""
+        env = {**os.environ, "LD_DEBUG": "files", "LD_DEBUG_OUTPUT": f"{self.room}/told"}
+        starter = [] if size is None else ["prlimit", f"--as={size}:{size}"]
         try:
-            given = once(["sh", "-c", LITTLE_MEMORY, "sh", f"{self.room}/told", "unlimited" if size is None else str(size >> 10)])
+            given = once(starter, env)
         except subprocess.SubprocessError:
             given = None
         has_begun = False
         for name in glob.glob(f"{self.room}/told.*"):
             with open(name, encoding="latin-1") as file:
-                has_begun |= "transferring control: " in file.read()
+                has_begun |= f"transferring control: {PROGRAM}\n" in file.read()
             os.remove(name)
         return has_begun, given
 
@@ -176,7 +174,7 @@ def is_want(given, whole):
 
 
 def sweep(once, whole, step=PAGE, enough=64):
-    """Runs the program with more and more memory: `once` does it, with a command that starts it.
+    """Runs the program with more and more memory: `once` does it, with a command that starts it and an environment.
 
     From the least with which it begins at all, until it has ended as with ample memory so many times in
     turn. In between nothing is right but status 7 with its line, and a front of the output. Returns how often

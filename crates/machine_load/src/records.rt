@@ -42,7 +42,7 @@ pub trait Records {
 impl<D: Disk + Drop> Records for RecordFile<'_, D> {
     type Keeper = DiskRecord<D::File>;
 
-    ghost begins = { λ keeper plan count. HasBegun plan count keeper };
+    ghost begins = { λ keeper plan count. HasBegun D.File.contents plan count keeper };
 
     ghost disk = { λ file. Some (record { asked = D.asked file.disk; name = file.name.now; known = option_map kind_of file.held }) };
 

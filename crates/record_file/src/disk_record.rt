@@ -47,7 +47,7 @@ pub(crate) fn begin_beside<D: Disk>(
     plan: &Plan,
     verified: u32,
 ) -> Result<Option<DiskRecord<D::File>>, RecordFault>
-    ensures begun { IfOk result (λ kept. IfSome kept (HasBegun plan.now verified)) }
+    ensures begun { IfOk result (λ kept. IfSome kept (HasBegun D.File.contents plan.now verified)) }
     ensures fault { IfErr result IsUnbegun }
     ensures device { held.new.device ≡ held.old.device }
     ensures asked { HasAsked (D.asked disk.old) (D.asked disk.new) (IsBeside name.now held.old.made (course result) held.new.made) }
@@ -120,7 +120,7 @@ pub(crate) fn begin_in_place<D: Disk>(
     plan: &Plan,
     verified: u32,
 ) -> Result<DiskRecord<D::File>, RecordFault>
-    ensures begun { IfOk result (HasBegun plan.now verified) }
+    ensures begun { IfOk result (HasBegun D.File.contents plan.now verified) }
     ensures fault { IfErr result IsUnbegun }
     ensures asked { IfOk result (λ keeper. HasAsked (D.asked disk.old) (D.asked disk.new) (IsWrittenOver name.now held.made keeper.text held.device)) }
     ensures failed { IfErr result (λ _. HasAsked (D.asked disk.old) (D.asked disk.new) (IsNotWrittenOver name.now held.made)) }
@@ -242,7 +242,7 @@ fn begun<T: OpenFile + Write + Drop>(
     verified: u32,
 ) -> Result<DiskRecord<T>, KeepFault>
     ensures written { IfOk result (λ keeper. Appends (T.contents file) keeper.text (record_text Second plan.now verified false)) }
-    ensures begun { IfOk result (HasBegun plan.now verified) }
+    ensures begun { IfOk result (HasBegun T.contents plan.now verified) }
     ensures fault { IfErr result (λ fault. fault ≡ keep.Write) }
 {
     let mut keeper = FileKeep::new(DurableWriter::new(file));

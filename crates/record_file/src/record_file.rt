@@ -87,7 +87,7 @@ impl<'a, D: Disk + Drop> RecordFile<'a, D> {
         plan: &Plan,
         verified: u32,
     ) -> Result<DiskRecord<D::File>, RecordFault>
-        ensures begun { IfOk result (HasBegun plan.now verified) }
+        ensures begun { IfOk result (HasBegun D.File.contents plan.now verified) }
         ensures fault { IfErr result IsUnbegun }
         ensures asked { IfOk result (λ keeper. MatchOption (option_map kind_of self.old.held) ⊥ (λ kind.
             HasAsked (D.asked self.old.disk) (D.asked self.new.disk) (IsBegun self.old.name.now kind.0 kind.1 keeper.text))) }

@@ -298,24 +298,24 @@ class Made(Files):
             self.ends(self.load("a.record"), 0, "sent 8 spent 0 verified 1 of 1\nend Started\n")
             self.holds({"a.record": MARKED})
 
-    def test_a_folder_in_the_new_files_place(self):
-        """The record is written in place then."""
+    def is_written_in_place(self):
+        """A load keeps an empty record in the file that it has, and not in a new one."""
         self.put("a.record", b"")
-        os.mkdir(self.path("a.record.ldaodt-new"))
         before = os.lstat(self.path("a.record"))
         self.ends(self.load("a.record"), 0, STARTED)
         self.is_so(bytes_of(self.path("a.record")).decode(), MARKED)
         self.is_so(os.lstat(self.path("a.record")).st_ino, before.st_ino)
+
+    def test_a_folder_in_the_new_files_place(self):
+        """The record is written in place then."""
+        os.mkdir(self.path("a.record.ldaodt-new"))
+        self.is_written_in_place()
         os.rmdir(self.path("a.record.ldaodt-new"))
 
     def test_a_pipe_in_the_new_files_place(self):
         """It is not opened, since nobody may ever write to it: the record is written in place."""
-        self.put("a.record", b"")
         os.mkfifo(self.path("a.record.ldaodt-new"))
-        before = os.lstat(self.path("a.record"))
-        self.ends(self.load("a.record"), 0, STARTED)
-        self.is_so(bytes_of(self.path("a.record")).decode(), MARKED)
-        self.is_so(os.lstat(self.path("a.record")).st_ino, before.st_ino)
+        self.is_written_in_place()
         self.assertTrue(stat.S_ISFIFO(os.lstat(self.path("a.record.ldaodt-new")).st_mode))
 
 

@@ -2,9 +2,10 @@
 
 use crate::simulated_system::QUIET_MS;
 use endings::{Status, Streams};
+use input_files::InputFiles;
 use machine_load::LoadOptions;
 use record_file::Locks;
-use requests::{InputFiles, Load, Request, attempt};
+use requests::{Load, Request, attempt};
 use serial_line::Devices;
 use std::alloc::{AllocError, Global};
 use std::io::Stderr;

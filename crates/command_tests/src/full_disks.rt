@@ -2,6 +2,7 @@
 //! record then holds.
 
 use crate::attempts::{Ended, load_of, run};
+use crate::files::remove;
 use crate::simulated_system::{AMPLE, Setting, System};
 use crate::tapes::ONE_WORD;
 use endings::Status;
@@ -58,8 +59,8 @@ fn loaded(rt: &HostRuntime, setting: Setting) -> Option<Ended> {
 
 // Removes what an earlier load left.
 fn clear(rt: &HostRuntime) {
-    let _ = fs::remove_file(rt, RECORD);
-    let _ = fs::remove_file(rt, TARGET);
+    remove(rt, RECORD);
+    remove(rt, TARGET);
 }
 
 // Puts the record there.

@@ -29,6 +29,8 @@ mod failing_requests;
 #[cfg(test)]
 mod failing_texts;
 #[cfg(test)]
+mod files;
+#[cfg(test)]
 mod frail;
 #[cfg(test)]
 mod full_disks;

@@ -2,6 +2,7 @@
 //! a port and at a device.
 
 use crate::attempts::{Ended, run};
+use crate::files::remove;
 use crate::simulated_system::{AMPLE, DEVICE, QUIET_MS, Setting, System};
 use crate::tapes::ONE_WORD;
 use endings::Status;
@@ -325,7 +326,7 @@ const ONE_WORD_SAVED: [u8; 16] = [1, 0, 8, 0, 0, 2, 0x34, 0x12, 0xaf, 1, 0, 6, 0
 
 #[test]
 fn a_machine_is_looked_at_and_saved(rt: HostRuntime) -> Result<(), Fail> {
-    let _ = fs::remove_file(&rt, SAVED);
+    remove(&rt, SAVED);
     fs::write(&rt, TAPE, ONE_WORD)?;
     for (place, row) in LOOKS.iter().enumerate() {
         assert!(rt; is_so(&rt, row), "row {place}");

@@ -1,5 +1,6 @@
 //! What a load asks of the system to read its record and hold it, and what comes of each step that fails.
 
+use crate::files::opened;
 use crate::record_steps::{
     BEGUN, Before, CURRENT, Course, NO_FAULT, OLD, OTHER, READ, RECORD, Row, Task, UNMADE, clear,
     held, is_left_so, is_row_so, is_taken_so, put, take,
@@ -8,7 +9,6 @@ use crate::simulated_system::{AMPLE, Failing, Step, System};
 use crate::tapes::plan_of_one_word;
 use record_file::{RecordFault, RecordFile};
 use std::fs;
-use std::fs::File;
 use std::io::ErrorKind;
 use std::test::Fail;
 
@@ -260,7 +260,7 @@ fn is_held_to_the_end(rt: &HostRuntime) -> Option<bool> {
     let plan = plan_of_one_word(rt.alloc())?;
     let system = System::new(rt, AMPLE);
     let mut record = RecordFile::new(&system, RECORD);
-    let old = File::options().read(true).open(rt, RECORD).ok()?;
+    let old = opened(rt, RECORD)?;
     record.read(rt.alloc()).ok()?;
     let held_first = old.try_lock().is_err();
     let keeper = record.begin(rt.alloc(), &plan, 1).ok()?;

@@ -1,5 +1,6 @@
 //! Records over a system that notes what is asked of it: what stands there, which steps fail, and what comes of it.
 
+use crate::files::{opened, remove};
 use crate::simulated_system::{AMPLE, Failing, Notes, Step, System};
 use crate::tapes::plan_of_one_word;
 use record_file::{RecordFault, RecordFile};
@@ -196,9 +197,9 @@ pub(crate) fn is_left_so(rt: &HostRuntime, before: Before, text: Option<&str>) -
 
 /// Removes whatever is there.
 pub(crate) fn clear(rt: &HostRuntime) {
-    let _ = fs::remove_file(rt, RECORD);
-    let _ = fs::remove_file(rt, OTHER);
-    let _ = fs::remove_file(rt, BESIDE);
+    remove(rt, RECORD);
+    remove(rt, OTHER);
+    remove(rt, BESIDE);
 }
 
 /// Whether a row is as it should be. What is made behind a link is made in the folder of its whole name.
@@ -219,7 +220,7 @@ pub(crate) fn is_row_so(rt: &HostRuntime, task: Task, row: &Row) -> bool {
 
 /// Opens a file, and holds it as another program does.
 pub(crate) fn held(rt: &HostRuntime, name: &str) -> Option<File> {
-    let file = File::options().read(true).write(true).open(rt, name).ok()?;
+    let file = opened(rt, name)?;
     file.try_lock().ok()?;
     Some(file)
 }

@@ -1,6 +1,7 @@
 //! What a save asks of the system for its tape, in which order, and what comes of each step that fails. The
 //! system gives no file a second name, so that the tape is renamed.
 
+use crate::files::remove;
 use crate::record_steps::holds;
 use crate::simulated_system::{AMPLE, Failing, Notes, Step, System};
 use machine_look::{NewFile, Shelf, ShelfFault};
@@ -170,7 +171,7 @@ fn meddle(rt: &HostRuntime, meanwhile: Meanwhile) {
         Meanwhile::Nothing => Ok(()),
         Meanwhile::Named => fs::write(rt, SAVED, OTHERS),
         Meanwhile::Replaced => {
-            let _ = fs::remove_file(rt, BESIDE);
+            remove(rt, BESIDE);
             fs::write(rt, BESIDE, OTHERS)
         }
     };
@@ -211,8 +212,8 @@ fn is_put_so(
 
 // Removes whatever is there.
 fn clear(rt: &HostRuntime) {
-    let _ = fs::remove_file(rt, SAVED);
-    let _ = fs::remove_file(rt, BESIDE);
+    remove(rt, SAVED);
+    remove(rt, BESIDE);
 }
 
 // Whether a row is as it should be.

@@ -6,11 +6,11 @@
 mod notes;
 
 use arrayvec::ArrayVec;
+use input_files::InputFiles;
 use notes::{holding, note, note_opening, removing};
 pub use notes::{Failing, Notes, Step};
 use odt_machine::{LARGEST_WORDS, Odt, PLAIN_STYLE};
 use record_file::Locks;
-use requests::InputFiles;
 use serial_line::Devices;
 use std::alloc::{Allocator, Global};
 use std::cell::Cell;

@@ -105,6 +105,11 @@ abbrev pub IsToldUnless : Bool → Option (List ℕ) → Option (List ℕ) → F
 IsToldUnless true err err' failure = err' ≡ err
 IsToldUnless false err err' failure = IsTold err err' failure
 
+-- nobody is to hear of this failure, of what does nothing but print or does more: output that nobody reads any more can't be written
+abbrev pub is_unheard : Bool → Bool → Failure → Bool
+is_unheard true true CannotWrite = true
+is_unheard prints unread failure = false
+
 -- the failure is that a file of this name can't be read
 abbrev pub NamesFile : List ℕ → Failure → Type 0
 NamesFile text (CannotRead name) = name.now ≡ text

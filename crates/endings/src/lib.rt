@@ -20,4 +20,4 @@ pub use failure::{Failure, OneTape, STANDARD_INPUT};
 pub use output::{Output, PipedOutput};
 pub use status::Status;
 pub use streams::Streams;
-pub use telling::{tell, tell_unwritten};
+pub use telling::{tell, tell_unless_unheard, tell_unwritten};

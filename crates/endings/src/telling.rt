@@ -6,7 +6,7 @@ ghost use Rattle.std.specs.Char.{is_control, digit_char};
 ghost use Rattle.std.specs.Char.Escape.{escape_default};
 ghost use Rattle.std.specs.Io.KnownBytes.{Appends};
 ghost use Rattle.byte_io.specs.Output.{WritesProperPrefix};
-ghost use Rattle.endings.specs.Failure.{status_of, failure_end, failure_name, fault_line, shown_char, shown_name, IsTold, IsToldUnless};
+ghost use Rattle.endings.specs.Failure.{status_of, failure_end, failure_name, fault_line, shown_char, shown_name, is_unheard, IsTold, IsToldUnless};
 
 use crate::failure::Failure;
 use crate::line_words::line_words;
@@ -42,6 +42,24 @@ pub fn tell_unwritten<W: Output, E: Write>(alloc: Global, out: &W, err: &mut E) 
         Status::DeviceFailed
     } else {
         tell(alloc, Failure::CannotWrite, err)
+    }
+}
+
+/// Tells a failure of what does nothing but print, or of what does more. That the output can't be written is
+/// not told of the former where nobody reads any more.
+pub fn tell_unless_unheard<W: Output, E: Write>(
+    alloc: Global,
+    only_prints: bool,
+    failure: Failure<'_>,
+    out: &W,
+    err: &mut E,
+) -> Status
+    ensures status { result ≡ status_of failure.entry }
+    ensures told { IsToldUnless (is_unheard only_prints (W.unread out.now) failure.entry) (E.contents err.old) (E.contents err.new) failure.entry }
+{
+    match failure {
+        Failure::CannotWrite if only_prints => tell_unwritten(alloc, out, err),
+        _ => tell(alloc, failure, err),
     }
 }
 

@@ -5,7 +5,7 @@ use Rattle.clap.specs.declared.error.kind.ErrorKind.{ErrorKind}
 use Rattle.clap.specs.declared.error.kind.ErrorKind.TheVariants as kind
 use Rattle.byte_io.specs.Output.{WritesPrefix}
 use Rattle.requests.specs.Attempt.{IsAttempted}
-use Rattle.requests.specs.Files.{Opening}
+use Rattle.input_files.specs.Opening.{Opening}
 use Rattle.endings.specs.Explained.{IsShown}
 use Rattle.endings.specs.Failure.{IsTold}
 use Rattle.endings.specs.Streams.{Held}

@@ -10,8 +10,9 @@ ghost use Rattle.ldaodt.specs.Answer.{IsAnswered, IsExplained};
 
 use crate::command_line::{NoRequest, parse};
 use endings::{Failure, Output, Status, Streams, refuse, show, tell};
+use input_files::InputFiles;
 use record_file::Locks;
-use requests::{InputFiles, attempt};
+use requests::attempt;
 use serial_line::Devices;
 use std::alloc::Global;
 use std::io::{Print, Read, Write};

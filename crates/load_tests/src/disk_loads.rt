@@ -3,17 +3,17 @@ ghost use Rattle.std.specs.Prelude.{IfErr, IfOk, option_map};
 ghost use Rattle.machine_load.specs.RecordDisk.{disk_asked_by, disk_asked_before};
 ghost use Rattle.record_file.specs.DiskStep.{HasAsked};
 ghost use Rattle.record_file.specs.Taking.{kind_of};
-ghost use Rattle.record_tests.specs.ToldSteps.{steps_of};
+ghost use Rattle.told_disk.specs.ToldSteps.{steps_of};
 
 use crate::memory_reach::MemoryReach;
 use honest_line::MemoryLine;
 use load_devices::Unwatched;
 use machine_load::{Around, LoadFault, LoadOptions, Outcome, load};
 use record_file::RecordFile;
-use record_tests::ToldDisk;
 use std::alloc::Global;
 use std::io::Write;
 use tape_image::Plan;
+use told_disk::ToldDisk;
 
 /// Loads a plan into a machine in memory. What `load` promises of the disk on which its record is, is so of
 /// this one, which tells.

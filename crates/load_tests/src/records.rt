@@ -2,18 +2,15 @@
 
 use crate::disk_loads::load_on_disk;
 use crate::memory_reach::MemoryReach;
+use crate::record_courses::{RECORD, held};
 use crate::rows::{OPTIONS, new_machine, plan_of_one_word};
 use load_record::RecordError;
 use machine_load::{Around, LoadFault};
 use record_file::RecordFile;
-use record_tests::{Failing, ToldDisk};
-use std::fs::File;
 use std::io::{ErrorKind, Write};
 use std::test::Fail;
 use std::{fs, io};
-
-// The record.
-const RECORD: &str = "d.record";
+use told_disk::{Failing, ToldDisk};
 
 // One with the smallest tape's word, and with its mark; and one of another tape.
 const GOING_ON: &str = "LDAODT 2\n001000 011064";
@@ -185,17 +182,6 @@ fn without_a_line_it_is_only_read(rt: HostRuntime) -> Result<(), Fail> {
         "protected"
     );
     Ok(put(&rt, None)?)
-}
-
-// Opens the record, and holds it as another load does.
-fn held(rt: &HostRuntime) -> Option<File> {
-    let file = File::options()
-        .read(true)
-        .write(true)
-        .open(rt, RECORD)
-        .ok()?;
-    file.try_lock().ok()?;
-    Some(file)
 }
 
 #[test]

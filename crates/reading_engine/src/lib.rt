@@ -9,8 +9,6 @@
 mod inquiring;
 mod lending;
 mod stop;
-#[cfg(test)]
-mod tests;
 
 pub use inquiring::inquire;
 pub use lending::inquire_in_memory;

@@ -6,7 +6,7 @@
 //! files tells what was asked of it (`Disk`), the contracts say that, step by step. Every system that
 //! `Locks` is such a one, and tells nothing.
 //!
-//! The crate `machine_load` uses it, and its tests stand in `record_tests` and `command_tests`.
+//! The crate `machine_load` uses it, and its tests stand in `load_tests` and `command_tests`.
 #![tactic(auto)]
 
 mod disk;

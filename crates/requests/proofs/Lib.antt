@@ -1,4 +1,3 @@
-pub mod Errors
 pub mod Machines
 pub mod OneInput
 pub mod Unopened

@@ -7,7 +7,8 @@ use Rattle.endings.specs.declared.status.Status.{Status}
 use Rattle.endings.specs.Streams.{Held}
 use Rattle.requests.specs.declared.request.Load.{Load}
 use Rattle.requests.specs.declared.request.Look.{Look}
-use Rattle.requests.specs.Files.{Known, Name, Opening, IsPlanned}
+use Rattle.input_files.specs.Opening.{Name, Opening}
+use Rattle.requests.specs.Files.{Known, IsPlanned}
 use Rattle.requests.specs.Loading.{AreLoaded, AreUnloaded, IsPlanLoaded, IsPlanFailure}
 use Rattle.requests.specs.Looking.{AreVerified, AreUnverified, IsPlanVerified, IsVerifyFailure}
 

@@ -5,7 +5,8 @@ use Rattle.endings.specs.Streams.{Held}
 use Rattle.requests.specs.declared.request.Request.{Request}
 use Rattle.requests.specs.declared.request.Request.TheVariants.{CheckInput, Check, Dialogue, Rehearse, «Type» as TypeKeys, Load, Verify, Save, Probe}
 use Rattle.requests.specs.Attempt.{IsFailed}
-use Rattle.requests.specs.Files.{Known, Name, Opening, FailsUnopened}
+use Rattle.input_files.specs.Opening.{Name, Opening}
+use Rattle.requests.specs.Files.{Known, FailsUnopened}
 
 module _ (opening : Opening) (before : Held) (input out err err' : Known) (failure : Failure) where
   abbrev here : Held

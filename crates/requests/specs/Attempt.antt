@@ -2,14 +2,13 @@
 -- on standard error.
 use Rattle.std.specs.Prelude.{◌≡◌, ◌⊎◌, Bool, true, false, ◌∷◌}
 use Rattle.endings.specs.declared.failure.Failure.{Failure}
-use Rattle.endings.specs.declared.failure.Failure.TheVariants.{CannotWrite}
 use Rattle.endings.specs.declared.status.Status.{Status}
 use Rattle.endings.specs.declared.status.Status.TheVariants.{Done}
-use Rattle.endings.specs.Failure.{status_of, IsToldUnless}
+use Rattle.endings.specs.Failure.{status_of, is_unheard, IsToldUnless}
 use Rattle.endings.specs.Streams.{Held}
 use Rattle.requests.specs.declared.request.Request.{Request}
 use Rattle.requests.specs.declared.request.Request.TheVariants.{CheckInput, Check, Dialogue, Rehearse, «Type» as TypeKeys, Load, Verify, Save, Probe}
-use Rattle.requests.specs.Files.{Opening}
+use Rattle.input_files.specs.Opening.{Opening}
 use Rattle.requests.specs.Checking.{AreChecked, AreUnchecked, IsInputChecked, IsInputUnchecked}
 use Rattle.requests.specs.Loading.{AreLoaded, AreUnloaded}
 use Rattle.requests.specs.Looking.{AreVerified, AreUnverified, IsSaved, IsSaveFailure}
@@ -54,11 +53,6 @@ only_prints (Verify names look) = false
 only_prints (Save name save) = false
 only_prints (Probe request) = false
 only_prints other = true
-
--- nobody is to hear of this failure, of a request that only prints or does more: output that nobody reads any more can't be written
-abbrev pub is_unheard : Bool → Bool → Failure → Bool
-is_unheard true true CannotWrite = true
-is_unheard prints unread failure = false
 
 -- it failed, standard error tells why where somebody is to hear of it, and the status says so
 pub record IsFailedAloud (opening : Opening) (request : Request) (unread : Bool) (before after : Held) (status : Status) : Type 0 where

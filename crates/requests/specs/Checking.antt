@@ -6,7 +6,8 @@ use Rattle.endings.specs.declared.failure.Failure.{Failure}
 use Rattle.endings.specs.declared.status.Status.{Status}
 use Rattle.endings.specs.declared.status.Status.TheVariants.{Done}
 use Rattle.endings.specs.Streams.{Held}
-use Rattle.requests.specs.Files.{Known, Name, Inputs, Opening, OfTapes, FailsUnopened, FailsOver, only_input}
+use Rattle.input_files.specs.Opening.{Name, Opening}
+use Rattle.requests.specs.Files.{Known, Inputs, OfTapes, FailsUnopened, FailsOver, only_input}
 
 -- the tapes of some inputs were checked
 abbrev pub IsCheckedTo : Inputs → Known → Known → Status → Type 0

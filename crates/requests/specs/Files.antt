@@ -1,31 +1,19 @@
 -- The files that a request names, and what they held. What a file holds is not told by its type; so these say that there are bytes that
 -- the files held.
-use Rattle.std.specs.Prelude.{◌≡◌, ◌⊎◌, ℕ, Bool, true, false, nat_eq, List, [], ◌∷◌, ◌++◌, length, map, All, Option, codes, ⊤}
-use Rattle.std.specs.Borrow.{Bor}
+use Rattle.std.specs.Prelude.{◌≡◌, ◌⊎◌, ℕ, Bool, true, false, nat_eq, List, [], ◌∷◌, length, map, Option, codes}
 use Rattle.std.specs.Cmp.Lexicographic.{pointwise}
 use Rattle.tape_image.specs.Plan.{PlanValue, plan_of_all}
 use Rattle.command_io.specs.declared.fault.CommandFault.{CommandFault}
 use Rattle.command_io.specs.Tapes.{TapeText, AreTaken, AreTapesFault, tapes_of}
 use Rattle.endings.specs.declared.failure.Failure.{Failure}
-use Rattle.endings.specs.declared.failure.Failure.TheVariants.{CannotRead, CannotWrite, NoMemory}
+use Rattle.endings.specs.declared.failure.Failure.TheVariants.{CannotWrite}
 use Rattle.endings.specs.Failure.{IsFailureOf}
 use Rattle.endings.specs.Streams.{Held}
+use Rattle.input_files.specs.Opening.{Name, Opening, AreOpened, IsUnopened}
 
 -- what a reader has left or a writer holds, as far as its type tells
 abbrev pub Known : Type 0
 Known = Option (List ℕ)
-
--- the name of a file, or of a console
-abbrev pub Name : Type 0
-Name = Bor (List ℕ)
-
--- what a system tells of a name: that it opened, or that it did not
-abbrev pub Opening : Type 1
-Opening = List ℕ → Bool → Type 0
-
--- these names were opened
-abbrev pub AreOpened : Opening → List Name → Type 0
-AreOpened opening names = All (λ name. opening name.now true) names
 
 -- some inputs: the names by which faults call them, what each held, and what is left of it
 pub record Inputs : Type 0 where
@@ -60,26 +48,6 @@ abbrev pub OfTapes : Opening → List Name → Held → Held → (Inputs → Typ
 OfTapes opening names before after P =
     ((means_input names ≡ true) × P (only_input before.input after.input))
     ⊎ ((means_input names ≡ false) × OfFiles opening names P × (after.input ≡ before.input))
-
--- of these names this is the first that did not open: all before it did
-pub record IsFirstUnopened (opening : Opening) (names : List Name) (name : Name) : Type 0 where
-  pub before : List Name
-  pub behind : List Name
-  pub is_there : names ≡ before ++ name ∷ behind
-  pub opened : AreOpened opening before
-  pub unopened : opening name.now false
-
--- a file of these names can't be opened, and it is named; or want of memory
-abbrev pub IsUnopened : Opening → List Name → Failure → Type 0
-IsUnopened opening names (CannotRead name) = IsFirstUnopened opening names name
-IsUnopened opening names NoMemory = ⊤
-IsUnopened opening names other = ⊥
-
--- a file of this name was not opened, or it was and there is no memory for its buffer
-abbrev pub IsUnbuffered : Name → Bool → Failure → Type 0
-IsUnbuffered name opened (CannotRead other) = (other ≡ name) × (opened ≡ false)
-IsUnbuffered name opened NoMemory = ⊤
-IsUnbuffered name opened other = ⊥
 
 -- a file of these names can't be opened, or want of memory, with nothing read or written
 pub record FailsUnopened (opening : Opening) (names : List Name) (before after : Held) (failure : Failure) : Type 0 where

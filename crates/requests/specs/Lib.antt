@@ -7,5 +7,4 @@ pub mod Looking
 pub mod Probing
 pub mod Rehearsing
 pub mod Showing
-pub mod Source
 pub mod Typing

@@ -13,7 +13,8 @@ use Rattle.endings.specs.Failure.{IsLoadFailureOf, IsStopFailure}
 use Rattle.endings.specs.Status.{IsStopStatus}
 use Rattle.endings.specs.Streams.{Held}
 use Rattle.requests.specs.declared.request.Load.{Load as LoadRequest}
-use Rattle.requests.specs.Files.{Known, Name, Opening, IsPlanned, IsUnplanned}
+use Rattle.input_files.specs.Opening.{Name, Opening}
+use Rattle.requests.specs.Files.{Known, IsPlanned, IsUnplanned}
 use Rattle.requests.specs.Listening.{IsListenedTo, IsHeardInPart, seconds_of, quiet_time}
 
 -- what faults call the record: its file's name, where it has one

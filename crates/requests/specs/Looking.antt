@@ -16,7 +16,8 @@ use Rattle.endings.specs.Status.{after_verify, after_save}
 use Rattle.endings.specs.Streams.{Held}
 use Rattle.requests.specs.declared.request.Look.{Look}
 use Rattle.requests.specs.declared.request.Save.{Save}
-use Rattle.requests.specs.Files.{Known, Name, Opening, IsPlanned, IsUnplanned}
+use Rattle.input_files.specs.Opening.{Name, Opening}
+use Rattle.requests.specs.Files.{Known, IsPlanned, IsUnplanned}
 
 -- memory was looked at for a plan, and that was reported
 pub record IsVerifyReported (plan : PlanValue) (look : Look) (out out' : Known) (end : VerifyEnd) : Type 0 where

@@ -6,7 +6,8 @@ use Rattle.endings.specs.declared.failure.Failure.{Failure}
 use Rattle.endings.specs.declared.status.Status.{Status}
 use Rattle.endings.specs.declared.status.Status.TheVariants.{Done}
 use Rattle.endings.specs.Streams.{Held}
-use Rattle.requests.specs.Files.{Known, Name, Inputs, Opening, AreOpened, OfTapes, FailsUnopened, HasFault, FailsAtFlush, means_input, only_input}
+use Rattle.input_files.specs.Opening.{Name, Opening, AreOpened}
+use Rattle.requests.specs.Files.{Known, Inputs, OfTapes, FailsUnopened, HasFault, FailsAtFlush, means_input, only_input}
 
 -- a script's file held something, and it was rehearsed with the tapes
 pub record IsRehearsedInto (inputs : Inputs) (out out' : Known) : Type 0 where

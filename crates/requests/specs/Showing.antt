@@ -8,7 +8,8 @@ use Rattle.endings.specs.declared.status.Status.{Status}
 use Rattle.endings.specs.Status.{end_status}
 use Rattle.endings.specs.Streams.{Held}
 use Rattle.requests.specs.declared.request.Console.{Console}
-use Rattle.requests.specs.Files.{Known, Name, Inputs, Opening, OfTapes, FailsUnopened, FailsOver, only_input}
+use Rattle.input_files.specs.Opening.{Name, Opening}
+use Rattle.requests.specs.Files.{Known, Inputs, OfTapes, FailsUnopened, FailsOver, only_input}
 
 -- a console, and the start in place of the tape's
 abbrev pub Stage : Type 0

@@ -5,8 +5,6 @@ use Rattle.console_typing.specs.Typing.{IsTypedToEnd, IsTypeFault}
 use Rattle.rehearsals.specs.Rehearsal.{machine_of}
 use Rattle.endings.specs.declared.failure.Failure.{Failure}
 use Rattle.endings.specs.declared.failure.Failure.TheVariants.{TooLarge, NoMemory}
-use Rattle.endings.specs.declared.status.Status.{Status}
-use Rattle.endings.specs.declared.status.Status.TheVariants.{Done}
 use Rattle.endings.specs.Streams.{Held}
 use Rattle.requests.specs.declared.request.Console.{Console}
 use Rattle.requests.specs.Files.{HasFault, FailsAtFlush}

@@ -3,11 +3,12 @@ ghost use Rattle.std.specs.Prelude.{◌≡◌, ◌⊎◌, IfOk, IfErr};
 ghost use Rattle.std.specs.Mem.{FitsInMemory};
 ghost use Rattle.endings.specs.Streams.{held};
 ghost use Rattle.requests.specs.Checking.{AreChecked, AreUnchecked, IsCheckedTo, IsCheckFailure, IsInputChecked, IsInputUnchecked};
-ghost use Rattle.requests.specs.Files.{inputs_of, IsUnopened, OfFiles};
+ghost use Rattle.input_files.specs.Opening.{IsUnopened};
+ghost use Rattle.requests.specs.Files.{inputs_of, OfFiles};
 
-use crate::files::{flushed, is_input, open_all};
-use crate::inputs::InputFiles;
+use crate::files::{flushed, is_input};
 use endings::{Failure, STANDARD_INPUT, Status, Streams};
+use input_files::{InputFiles, open_all};
 use std::alloc::Global;
 use std::io::{Read, Write};
 use std::slice;

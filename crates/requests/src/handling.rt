@@ -1,12 +1,10 @@
 //! Doing a request, and telling how it ended.
 ghost use Rattle.std.specs.Prelude.{◌≡◌, IfOk, IfErr};
 ghost use Rattle.std.specs.Mem.{FitsInMemory};
-ghost use Rattle.endings.specs.Failure.{status_of, IsToldUnless};
 ghost use Rattle.endings.specs.Streams.{held};
-ghost use Rattle.requests.specs.Attempt.{IsDone, IsFailed, IsAttempted, is_unheard, only_prints};
+ghost use Rattle.requests.specs.Attempt.{IsDone, IsFailed, IsAttempted};
 
 use crate::checking::{check_input, check_tapes};
-use crate::inputs::InputFiles;
 use crate::loading::load_tapes;
 use crate::probing::probe_console;
 use crate::rehearsing::rehearse;
@@ -15,7 +13,8 @@ use crate::saving::save_words;
 use crate::showing::show_dialogue;
 use crate::typing::type_input;
 use crate::verifying::verify_tapes;
-use endings::{Failure, Output, Status, Streams, tell, tell_unwritten};
+use endings::{Failure, Output, Status, Streams, tell_unless_unheard};
+use input_files::InputFiles;
 use record_file::Locks;
 use serial_line::Devices;
 use std::alloc::Global;
@@ -55,24 +54,9 @@ pub fn attempt<
     let only_prints = request.only_prints();
     match perform(rt, alloc, request, streams, terminal) {
         Ok(status) => status,
-        Err(failure) => report(alloc, only_prints, failure, &streams.out, &mut streams.err),
-    }
-}
-
-// Tells a failure of a request, which does nothing but print or more than that.
-fn report<W: Output, E: Write>(
-    alloc: Global,
-    only_prints: bool,
-    failure: Failure<'_>,
-    out: &W,
-    err: &mut E,
-) -> Status
-    ensures status { result ≡ status_of failure.entry }
-    ensures told { IsToldUnless (is_unheard only_prints (W.unread out.now) failure.entry) (E.contents err.old) (E.contents err.new) failure.entry }
-{
-    match failure {
-        Failure::CannotWrite if only_prints => tell_unwritten(alloc, out, err),
-        _ => tell(alloc, failure, err),
+        Err(failure) => {
+            tell_unless_unheard(alloc, only_prints, failure, &streams.out, &mut streams.err)
+        }
     }
 }
 

@@ -13,7 +13,6 @@ mod checking;
 mod files;
 mod handling;
 mod host;
-mod inputs;
 mod listening;
 mod loading;
 mod planning;
@@ -22,10 +21,8 @@ mod rehearsing;
 mod request;
 mod saving;
 mod showing;
-mod source;
 mod typing;
 mod verifying;
 
 pub use handling::attempt;
-pub use inputs::InputFiles;
 pub use request::{Console, Load, Look, Probe, Request, Save};

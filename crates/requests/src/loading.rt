@@ -8,12 +8,12 @@ ghost use Rattle.machine_load.specs.Load.{IsNeverBegun};
 ghost use Rattle.requests.specs.Loading.{record_name, AreLoaded, AreUnloaded, IsEnded, IsEndFailure, IsPlanLoaded, IsPlanFailure};
 
 use crate::host::Host;
-use crate::inputs::InputFiles;
 use crate::listening::listen_behind;
 use crate::planning::plan_tapes;
 use crate::request::Load;
 use console_reach::{Port, Reach, Wire, is_path};
 use endings::{Failure, Status, Streams};
+use input_files::InputFiles;
 use load_devices::{Line, Onlooker, Unwatched};
 use load_engine::Stop;
 use load_progress::ProgressLine;

@@ -2,12 +2,13 @@
 ghost use Rattle.std.specs.Prelude.{◌≡◌, ◌⊎◌, IfOk, IfErr};
 ghost use Rattle.std.specs.Mem.{FitsInMemory};
 ghost use Rattle.endings.specs.Streams.{held};
-ghost use Rattle.requests.specs.Files.{inputs_of, only_input, FailsToPlan, IsPlanned, IsPlanOf, IsUnopened, IsUnplanned, OfFiles};
+ghost use Rattle.input_files.specs.Opening.{IsUnopened};
+ghost use Rattle.requests.specs.Files.{inputs_of, only_input, FailsToPlan, IsPlanned, IsPlanOf, IsUnplanned, OfFiles};
 
-use crate::files::{is_input, open_all};
-use crate::inputs::InputFiles;
+use crate::files::is_input;
 use command_io::take_tapes;
 use endings::{Failure, STANDARD_INPUT, Streams};
+use input_files::{InputFiles, open_all};
 use std::alloc::Global;
 use std::io::{Read, Write};
 use std::slice;

@@ -2,13 +2,13 @@
 ghost use Rattle.std.specs.Prelude.{◌≡◌, ◌⊎◌, ◌∷◌, [], OnOk, IfOk, IfErr};
 ghost use Rattle.std.specs.Mem.{FitsInMemory};
 ghost use Rattle.endings.specs.Streams.{held};
-ghost use Rattle.requests.specs.Files.{means_input, AreOpened, IsUnopened, OfFiles};
+ghost use Rattle.input_files.specs.Opening.{AreOpened, IsUnopened};
+ghost use Rattle.requests.specs.Files.{means_input, OfFiles};
 ghost use Rattle.requests.specs.Rehearsing.{AreRehearsed, AreUnrehearsed, IsInputRehearsed, IsInputUnrehearsed, IsRehearsalFailure, IsRehearsedInto};
 
-use crate::files::{flushed, joined, open, open_all, open_more};
-use crate::inputs::InputFiles;
-use crate::source::Role;
+use crate::files::{flushed, joined};
 use endings::{Failure, Status, Streams};
+use input_files::{InputFiles, open, open_with_script};
 use rehearsals::rehearse_to;
 use std::alloc::Global;
 use std::io::{Read, Write};
@@ -90,10 +90,7 @@ fn rehearse_files<'a, F: InputFiles, W: Write>(
         ⊎ OfFiles (F.opens rt.now) (tape.entry ∷ more.now)
         (λ inputs. IsRehearsalFailure script.entry.now inputs (W.contents out.old) (W.contents out.new) failure)) }
 {
-    let mut tapes = open_all(rt, alloc, &[tape])?;
-    open_more(rt, alloc, &[script], Role::Script, &mut tapes)?;
-    open_more(rt, alloc, more, Role::Tape, &mut tapes)?;
-    let mut script_file = tapes.remove(1);
+    let (mut tapes, mut script_file) = open_with_script(rt, alloc, tape, script, more)?;
     let names = joined(alloc, tape, more)?;
     match rehearse_to(alloc, &mut tapes, &mut script_file, out) {
         Ok(()) => flushed(out, Status::Done),

@@ -2,13 +2,14 @@
 ghost use Rattle.std.specs.Prelude.{◌≡◌, ◌⊎◌, IfOk, IfErr};
 ghost use Rattle.std.specs.Mem.{FitsInMemory};
 ghost use Rattle.endings.specs.Streams.{held};
-ghost use Rattle.requests.specs.Files.{inputs_of, IsUnopened, OfFiles};
+ghost use Rattle.input_files.specs.Opening.{IsUnopened};
+ghost use Rattle.requests.specs.Files.{inputs_of, OfFiles};
 ghost use Rattle.requests.specs.Showing.{AreShown, AreUnshown, IsInputShown, IsInputUnshown, IsShowingFailure, IsShownTo};
 
-use crate::files::{flushed, is_input, open_all};
-use crate::inputs::InputFiles;
+use crate::files::{flushed, is_input};
 use crate::request::Console;
 use endings::{Failure, STANDARD_INPUT, Status, Streams};
+use input_files::{InputFiles, open_all};
 use rehearsals::dialogue_to;
 use std::alloc::Global;
 use std::io::{Read, Write};

@@ -5,11 +5,11 @@ ghost use Rattle.endings.specs.Streams.{held};
 ghost use Rattle.requests.specs.Looking.{AreVerified, AreUnverified, IsPlanVerified, IsVerifyFailure};
 
 use crate::host::Host;
-use crate::inputs::InputFiles;
 use crate::planning::plan_tapes;
 use crate::request::Look;
 use console_reach::{Port, Reach, Wire, is_path};
 use endings::{Failure, Status, Streams};
+use input_files::InputFiles;
 use load_devices::{Onlooker, Unwatched};
 use load_progress::ProgressLine;
 use machine_look::verify;

@@ -1,5 +1,5 @@
 //! Tests of what stands below the commands: the simulated console, the host's core, the simulated
-//! world, the devices of a load, the line in memory, the engine and the search for memory's end.
+//! world, the devices of a load, the line in memory, the engines and the search for memory's end.
 //!
 //! Contracts say what each of them does; here stands what no clause can say: that they succeed where
 //! memory is ample, also at the largest sizes, and that the tables and definitions mean what the
@@ -22,6 +22,8 @@ mod engine;
 mod host;
 #[cfg(test)]
 mod memory_line;
+#[cfg(test)]
+mod readings;
 #[cfg(test)]
 mod searches;
 #[cfg(test)]

@@ -12,3 +12,6 @@ loop-preserved g c = record {
       more_heard c.loop.silent c.loop.counter c.in-Some.heard _ _ _ _ _ _ c.loop.invariant.so_far (rw (c.in-Some.is) at c.in_ok-heard.ensures.copied));
   at_most = omega (arith, c.silences_then-silent.ensures.at_most, c.if-silent-silences.false);
 }
+
+pub returns-in-None-clause-copied : goal.returns-in-None-clause-copied
+returns-in-None-clause-copied g c = search rules

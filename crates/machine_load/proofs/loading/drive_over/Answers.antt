@@ -1,4 +1,4 @@
-use Rattle.std.proofs.Common.{true, refl}
+use Rattle.std.proofs.Common.{true, refl, rules}
 use Rattle.machine_load.specs.Driving.{line_told}
 use Rattle.machine_load.specs.Load.{around_of}
 use Rattle.machine_load.specs.LoadFault.{IsDrivingFault, fault_of_record}
@@ -40,3 +40,18 @@ returns-clause-driven g c = record {
   };
   left = c.end_record.ensures.text;
 }
+
+pub returns-in_err-line-clause-fault : goal.returns-in_err-line-clause-fault
+returns-in_err-line-clause-fault g c = search rules
+
+pub returns-in_err-line-clause-asked_in_vain : goal.returns-in_err-line-clause-asked_in_vain
+returns-in_err-line-clause-asked_in_vain g c = search rules
+
+pub returns-in_err-keeper-clause-asked_in_vain : goal.returns-in_err-keeper-clause-asked_in_vain
+returns-in_err-keeper-clause-asked_in_vain g c = search rules
+
+pub returns-clause-asked : goal.returns-clause-asked
+returns-clause-asked g c = search rules
+
+pub returns-in_err-line-clause-disk_in_vain : goal.returns-in_err-line-clause-disk_in_vain
+returns-in_err-line-clause-disk_in_vain g c = search rules

@@ -1,4 +1,4 @@
-use Rattle.std.proofs.Common.{◌∙◌, arith, ap}
+use Rattle.std.proofs.Common.{◌∙◌, arith, ap, rules}
 use Rattle.reading_core.specs.Reader.{Reader}
 use Rattle.memory_end.proofs.Founds.{found_below, passed_within}
 use Rattle.memory_end.proofs.finding.pass.Goals as goal
@@ -21,3 +21,6 @@ returns-clause-within g c =
     (passed_within c.args.from c.args.pieces c.inquire-core.result.1 c.inquire-core.result.0 c.requires.pieces
     record { addresses = c.inquire-core.ensures.same_addresses ∙ ap (λ (r : Reader). r.addresses) c.core-core.ensures.begun; kept = c.inquire-core.ensures.kept }
     c.inquire-core.ensures.end)
+
+pub returns-clause-pass : goal.returns-clause-pass
+returns-clause-pass g c = search rules

@@ -2,7 +2,8 @@ use Rattle.std.proofs.Common.{◌≡◌, ◌∷◌, [], ◌∙◌, List, if◌th
 use Rattle.std.proofs.lemmas.Result.{IfErr-weaker}
 use Rattle.endings.specs.declared.failure.Failure.{Failure}
 use Rattle.endings.specs.Streams.{Held, held}
-use Rattle.requests.specs.Files.{Name, Opening, FailsUnopened, means_input}
+use Rattle.input_files.specs.Opening.{Name, Opening}
+use Rattle.requests.specs.Files.{FailsUnopened, means_input}
 use Rattle.requests.specs.Rehearsing.{opened_files, AreUnrehearsed, IsInputUnrehearsed}
 use Rattle.requests.proofs.rehearsing.rehearse.Goals as goal
 

@@ -1,9 +1,9 @@
 use Rattle.std.proofs.Common.{◌≡◌, ◌∷◌, [], ◌∙◌, map, inl, inr, ap}
 use Rattle.std.proofs.KnownBytes.{Appends-kept}
 use Rattle.std.proofs.lemmas.Result.{IfOk-weaker, IfErr-weaker}
-use Rattle.requests.proofs.Errors.{on_ok}
+use Rattle.input_files.proofs.Errors.{on_ok}
 use Rattle.requests.proofs.OneInput.{only_input}
-use Rattle.requests.proofs.Unopened.{opened_one}
+use Rattle.input_files.proofs.Unopened.{opened_one}
 use Rattle.requests.proofs.rehearsing.rehearse_input.Goals as goal
 
 pub returns-in-Ok-clause-ok : goal.returns-in-Ok-clause-ok

@@ -13,3 +13,12 @@ loop-preserved g c = record {
 pub returns-then-character-ne0-clause-heard : goal.returns-then-character-ne0-clause-heard
 returns-then-character-ne0-clause-heard g c =
     (c.loop.counter, search rules, c.in-Some.byte, search rules, search rules, takes_behind _ _ _ c.loop.counter c.in-Some.byte c.loop.invariant.so_far (search rules))
+
+pub returns-in_err-byte-clause-fault : goal.returns-in_err-byte-clause-fault
+returns-in_err-byte-clause-fault g c = search rules
+
+pub returns-in_default-clause-heard : goal.returns-in_default-clause-heard
+returns-in_default-clause-heard g c = search rules
+
+pub returns-clause-fault : goal.returns-clause-fault
+returns-clause-fault g c = search rules

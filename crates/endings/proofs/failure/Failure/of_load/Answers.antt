@@ -3,3 +3,6 @@ use Rattle.endings.proofs.failure.Failure.of_load.Goals as goal
 
 pub returns-in-Connect : goal.returns-in-Connect
 returns-in-Connect c = search rules
+
+pub returns-in-RecordInUse : goal.returns-in-RecordInUse
+returns-in-RecordInUse c = search rules

@@ -1,4 +1,4 @@
-use Rattle.std.proofs.Common.{subst}
+use Rattle.std.proofs.Common.{subst, rules}
 use Rattle.host_core.specs.Host.{IsHost}
 use Rattle.host_core.proofs.Lives.{keeps_bound, within_largest}
 use Rattle.host_core.proofs.host.HostCore.sent_count.Goals as goal
@@ -8,3 +8,6 @@ returns-clause-later c = keeps_bound c.args.self.now (subst IsHost c.self.view_i
 
 pub returns-clause-most : goal.returns-clause-most
 returns-clause-most c = within_largest _ c.self.invariant
+
+pub returns-clause-value : goal.returns-clause-value
+returns-clause-value c = search rules

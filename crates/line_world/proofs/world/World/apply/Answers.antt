@@ -1,4 +1,4 @@
-use Rattle.std.proofs.Common.{◌∙◌}
+use Rattle.std.proofs.Common.{◌∙◌, rules}
 use Rattle.line_world.proofs.Events.{kept_event, safe_event, since_event}
 use Rattle.line_world.proofs.Starts.{starts_event}
 use Rattle.line_world.proofs.Tame.{tame_of, short_event, silent_event}
@@ -28,3 +28,9 @@ returns-clause-next c = λ is. c.happen.ensures.possible ∙ next_possible c.arg
 
 pub returns-clause-work : goal.returns-clause-work
 returns-clause-work c = rw c.happen.ensures.world (work_falls c.args.self.now c.args.event c.recall_invariant.ensures)
+
+pub returns-clause-possible : goal.returns-clause-possible
+returns-clause-possible c = search rules
+
+pub returns-clause-world : goal.returns-clause-world
+returns-clause-world c = search rules

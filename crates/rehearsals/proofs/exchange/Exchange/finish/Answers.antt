@@ -23,3 +23,6 @@ returns-in_err-write_whole-clause-front g c =
     some_of_line _ c.args.self.now c.end_line.new.keys.items _ (g.W.Write.contents c.args.out.now) (g.W.Write.contents c.write_whole.new.out) some c.deref-2.ensures.value
     (c.in_ok-end_line.ensures ∙ ap (λ answers. (c.args.self.now.keys.items ++ codes " -> " ++ answers) ++ 10 ∷ []) c.deref.ensures.value)
     (front_prefix _ _ _ c.in_err-write_whole.ensures.err)
+
+pub returns-clause-ok : goal.returns-clause-ok
+returns-clause-ok g c = search rules

@@ -7,3 +7,6 @@ returns-clause-kept c = search rules
 
 pub returns-clause-later : goal.returns-clause-later
 returns-clause-later c = types_only_trying _ (returns-clause-kept c)
+
+pub returns-clause-begun : goal.returns-clause-begun
+returns-clause-begun c = search rules

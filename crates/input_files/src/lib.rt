@@ -1,0 +1,14 @@
+//! Files that are opened to be read, by their names and in an order.
+//!
+//! All that a request names are opened before any is read, and the first that can't be opened is named: where
+//! the system tells which names open (`InputFiles`), the contracts say just this. There may be more files
+//! than descriptors: then what is open is read ahead and closed (`Source`), which its reader can't tell.
+#![tactic(auto)]
+
+mod opening;
+mod source;
+mod system;
+
+pub use opening::{open, open_all, open_with_script};
+pub use source::Source;
+pub use system::InputFiles;

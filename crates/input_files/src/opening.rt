@@ -1,0 +1,159 @@
+//! Opening files in the order of their names.
+ghost use Rattle.std.specs.Prelude.{◌≡◌, ◌+◌, ◌∷◌, [], length, true, is_ok, IfOk, IfErr, OnOk};
+ghost use Rattle.input_files.specs.Opening.{AreOpened, IsUnopened, IsUnbuffered};
+
+use crate::source::{Role, Source};
+use crate::system::InputFiles;
+use endings::Failure;
+use std::alloc::{AllocError, Global};
+use std::io;
+use std::io::{BufReader, Read};
+
+// Linux's numbers of these two errors, ENFILE and EMFILE.
+const SYSTEM_HAS_TOO_MANY: i32 = 23;
+
+const PROCESS_HAS_TOO_MANY: i32 = 24;
+
+/// Opens a file. It is read ahead, which nobody sees: no one else reads what this program has opened.
+///
+/// `CannotRead` names it where it can't be opened; `NoMemory` comes only where a growth was refused.
+pub fn open<'a, F: InputFiles>(
+    rt: &F,
+    alloc: Global,
+    name: &'a str,
+) -> Result<BufReader<F::File>, Failure<'a>>
+    ensures ok { OnOk result (F.opens rt.now name.now true) }
+    ensures err { IfErr result (IsUnopened (F.opens rt.now) (name.entry ∷ [])) }
+{
+    buffered(alloc, name, rt.open_input(name))
+}
+
+/// Opens files of tapes in the order of their names. `CannotRead` has the first that can't be opened.
+pub fn open_all<'a, F: InputFiles>(
+    rt: &F,
+    alloc: Global,
+    names: &[&'a str],
+) -> Result<Vec<Source<F::File>>, Failure<'a>>
+    ensures ok { IfOk result (λ files. length files.items ≡ length names.now) }
+    ensures opened { OnOk result (AreOpened (F.opens rt.now) names.now) }
+    ensures err { IfErr result (IsUnopened (F.opens rt.now) names.now) }
+{
+    let mut files = Vec::new(alloc);
+    open_more(rt, alloc, names, Role::Tape, &mut files)?;
+    Ok(files)
+}
+
+/// Opens files of tapes and, behind the first of them, that of a script; this is answered apart.
+pub fn open_with_script<'a, F: InputFiles>(
+    rt: &F,
+    alloc: Global,
+    tape: &'a str,
+    script: &'a str,
+    more: &[&'a str],
+) -> Result<(Vec<Source<F::File>>, Source<F::File>), Failure<'a>>
+    ensures ok { IfOk result (λ files. length files.0.items ≡ length (tape.entry ∷ more.now)) }
+    ensures opened { OnOk result (AreOpened (F.opens rt.now) (tape.entry ∷ more.now)) }
+    ensures script { OnOk result (AreOpened (F.opens rt.now) (script.entry ∷ [])) }
+    ensures err { IfErr result (IsUnopened (F.opens rt.now) (tape.entry ∷ script.entry ∷ more.now)) }
+{
+    let mut tapes = open_all(rt, alloc, &[tape])?;
+    open_more(rt, alloc, &[script], Role::Script, &mut tapes)?;
+    open_more(rt, alloc, more, Role::Tape, &mut tapes)?;
+    let script_file = tapes.remove(1);
+    Ok((tapes, script_file))
+}
+
+// Opens further files, in the order of their names.
+fn open_more<'a, F: InputFiles>(
+    rt: &F,
+    alloc: Global,
+    names: &[&'a str],
+    role: Role,
+    files: &mut Vec<Source<F::File>>,
+) -> Result<(), Failure<'a>>
+    ensures ok { OnOk result (length files.new.items ≡ length files.old.items + length names.now) }
+    ensures opened { OnOk result (AreOpened (F.opens rt.now) names.now) }
+    ensures err { IfErr result (IsUnopened (F.opens rt.now) names.now) }
+{
+    for name in names {
+        let file = open_beside(rt, alloc, name, files)?;
+        if files.push(Source::Open(role, file)).is_err() {
+            return Err(Failure::NoMemory);
+        }
+    }
+    Ok(())
+}
+
+// Opens a file beside others.
+fn open_beside<'a, F: InputFiles>(
+    rt: &F,
+    alloc: Global,
+    name: &'a str,
+    others: &mut [Source<F::File>],
+) -> Result<BufReader<F::File>, Failure<'a>>
+    ensures ok { OnOk result (F.opens rt.now name.now true) }
+    ensures err { IfErr result (IsUnopened (F.opens rt.now) (name.entry ∷ [])) }
+{
+    match opened_beside(rt, alloc, name, others) {
+        Ok(opened) => buffered(alloc, name, opened),
+        Err(_) => Err(Failure::NoMemory),
+    }
+}
+
+// What comes of opening a file beside others. Where the system has no descriptor left, these are read ahead and
+// closed, and the file is opened then.
+fn opened_beside<F: InputFiles>(
+    rt: &F,
+    alloc: Global,
+    name: &str,
+    others: &mut [Source<F::File>],
+) -> Result<io::Result<F::File>, AllocError>
+    ensures { IfOk result (λ opened. F.opens rt.now name.now (is_ok opened)) }
+{
+    let opened = rt.open_input(name);
+    if !lacks_descriptor(&opened) {
+        return Ok(opened);
+    }
+    read_all_ahead(alloc, others)?;
+    Ok(rt.open_input(name))
+}
+
+// Puts a buffer before a file, if it was opened by this name.
+fn buffered<'a, T: Read + Drop>(
+    alloc: Global,
+    name: &'a str,
+    opened: io::Result<T>,
+) -> Result<BufReader<T>, Failure<'a>>
+    ensures ok { OnOk result (is_ok opened ≡ true) }
+    ensures err { IfErr result (IsUnbuffered name.entry (is_ok opened)) }
+{
+    let Ok(file) = opened else {
+        return Err(Failure::CannotRead(name));
+    };
+    match BufReader::new(alloc, file) {
+        Ok(reader) => Ok(reader),
+        Err(_) => Err(Failure::NoMemory),
+    }
+}
+
+// Whether a file was not opened since this process, or the whole system, has no descriptor left.
+fn lacks_descriptor<T>(opened: &io::Result<T>) -> bool {
+    match opened {
+        Ok(_) => false,
+        Err(error) => matches!(
+            error.raw_os_error(),
+            Some(SYSTEM_HAS_TOO_MANY | PROCESS_HAS_TOO_MANY)
+        ),
+    }
+}
+
+// Reads files ahead and closes them.
+fn read_all_ahead<F: Read + Drop>(
+    alloc: Global,
+    files: &mut [Source<F>],
+) -> Result<(), AllocError> {
+    for file in files {
+        file.read_ahead(alloc)?;
+    }
+    Ok(())
+}

@@ -1,7 +1,0 @@
-use Rattle.std.proofs.Common.{is_ok}
-use Rattle.std.proofs.lemmas.Result.{IfErr-weaker}
-use Rattle.requests.proofs.Unopened.{one_unopened}
-use Rattle.requests.proofs.files.open.Goals as goal
-
-pub returns-clause-err : goal.returns-clause-err
-returns-clause-err g c = IfErr-weaker c.buffered.result _ _ (one_unopened (g.F.InputFiles.opens c.args.rt.now) c.args.name (is_ok c.open_input.result) c.open_input.ensures) c.buffered.ensures.err

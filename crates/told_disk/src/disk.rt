@@ -1,0 +1,236 @@
+//! A disk that tells what it was asked.
+ghost use Rattle.std.specs.Prelude.{◌≡◌, ◌∷◌, [], None, IfOk, MatchResult};
+ghost use Rattle.std.specs.String.{string_bytes};
+ghost use Rattle.record_file.specs.DiskStep.{Tells, told};
+ghost use Rattle.told_disk.specs.ToldSteps.{request_of, step_of, steps_of};
+
+use crate::file::ToldFile;
+use crate::step::{Request, Step};
+use record_file::{Access, Disk};
+use std::alloc::{AllocError, Global};
+use std::fs::Metadata;
+use std::io;
+use std::io::ErrorKind;
+use std::path::PathBuf;
+
+/// Which of the things that are asked fail, by their numbers from 0, and how; the disk is not asked for these.
+pub type Failing = &'static [(usize, ErrorKind)];
+
+/// The disk of the system, with a list of what was asked of it: as long as there is memory for that, since
+/// a list that lacks a step would be wrong.
+#[derive(Drop)]
+pub struct ToldDisk<'a> {
+    alloc: Global,
+    disk: &'a HostRuntime,
+    failing: Failing,
+
+    /// How many things were asked.
+    count: usize,
+    asked: Option<Vec<Step>>,
+}
+
+impl<'a> ToldDisk<'a> {
+    /// A disk of which nothing was asked yet.
+    pub fn new(disk: &'a HostRuntime, failing: Failing) -> ToldDisk<'a> {
+        let alloc = disk.alloc();
+        ToldDisk {
+            alloc,
+            disk,
+            failing,
+            count: 0,
+            asked: Some(Vec::new(alloc)),
+        }
+    }
+
+    /// What was asked so far, in its order; None where there was no memory to keep it.
+    pub fn asked(&self) -> Option<&[Step]> {
+        match &self.asked {
+            Some(asked) => Some(asked),
+            None => None,
+        }
+    }
+
+    /// The same, one thing a line, `+` before what was done and `-` before what failed.
+    pub fn shown(&self) -> Option<String> {
+        let mut text = String::new(self.alloc);
+        for step in self.asked()? {
+            let line = format!(in self.alloc; "{step}\n").ok()?;
+            text.push_str(line.as_str()).ok()?;
+        }
+        Some(text)
+    }
+
+    // Counts one thing more that is asked, which may be one that fails.
+    fn count(&mut self) -> io::Result<()>
+        ensures { self.new.asked ≡ self.old.asked }
+    {
+        let number = self.count;
+        self.count = number.saturating_add(1);
+        for (failing, kind) in self.failing {
+            if *failing == number {
+                return Err(io::Error::from(*kind));
+            }
+        }
+        Ok(())
+    }
+
+    // A copy of a name.
+    fn copy(&self, name: &str) -> Result<String, AllocError>
+        ensures { IfOk result (λ copy. string_bytes copy ≡ name.now) }
+    {
+        String::from_str(self.alloc, name)
+    }
+
+    // Puts what was asked behind the list, with whether it was done.
+    fn tell(&mut self, request: Result<Request, AllocError>, done: bool)
+        ensures asked { MatchResult request
+            (λ request. Tells (steps_of self.old.asked) (steps_of self.new.asked) (told (request_of request) done ∷ []))
+            (λ _. self.new.asked ≡ None) }
+    {
+        match request {
+            Ok(request) if done => self.add(Step::Did(request)),
+            Ok(request) => self.add(Step::Failed(request)),
+            Err(_) => self.asked = None,
+        }
+    }
+
+    // Puts a step behind the list.
+    fn add(&mut self, step: Step)
+        ensures asked { Tells (steps_of self.old.asked) (steps_of self.new.asked) (step_of step ∷ []) }
+    {
+        if let Some(mut asked) = self.asked.take() {
+            if asked.push(step).is_ok() {
+                self.asked = Some(asked);
+            }
+        }
+    }
+
+    // Opens a file, with a copy of its name.
+    fn opened(&mut self, access: Access, name: &str) -> io::Result<ToldFile>
+        ensures named { IfOk result (λ file. string_bytes file.name ≡ name.now) }
+        ensures asked { self.new.asked ≡ self.old.asked }
+    {
+        let copy = self.copy(name)?;
+        self.count()?;
+        Ok(ToldFile {
+            file: self.disk.open(access, name)?,
+            name: copy,
+            written: Vec::new(self.alloc),
+        })
+    }
+}
+
+impl Disk for ToldDisk<'_> {
+    type File = ToldFile;
+
+    ghost asked = { λ disk. steps_of disk.asked };
+
+    ghost is_opened_as = { λ file name. string_bytes file.name ≡ name };
+
+    fn look(&mut self, name: &str) -> io::Result<Metadata> {
+        let found = match self.count() {
+            Ok(()) => self.disk.look(name),
+            Err(error) => Err(error),
+        };
+        self.tell(self.copy(name).map(Request::Look), found.is_ok());
+        found
+    }
+
+    fn look_at_name(&mut self, name: &str) -> io::Result<Metadata> {
+        let found = match self.count() {
+            Ok(()) => self.disk.look_at_name(name),
+            Err(error) => Err(error),
+        };
+        self.tell(self.copy(name).map(Request::LookAtName), found.is_ok());
+        found
+    }
+
+    fn is_sole_file(&mut self, name: &str) -> bool {
+        let is_sole = self.count().is_ok() && self.disk.is_sole_file(name);
+        self.tell(self.copy(name).map(Request::FindSoleFile), is_sole);
+        is_sole
+    }
+
+    fn resolve(&mut self, alloc: Global, name: &str) -> io::Result<PathBuf<Global>> {
+        let target = match self.count() {
+            Ok(()) => self.disk.resolve(alloc, name),
+            Err(error) => Err(error),
+        };
+        match &target {
+            Ok(path) => match (self.copy(name), self.copy(path.as_str())) {
+                (Ok(name), Ok(path)) => self.add(Step::LedTo(name, path)),
+                _ => self.asked = None,
+            },
+            Err(_) => self.tell(self.copy(name).map(Request::Resolve), false),
+        }
+        target
+    }
+
+    fn open(&mut self, access: Access, name: &str) -> io::Result<ToldFile> {
+        let opened = self.opened(access, name);
+        self.tell(
+            self.copy(name).map(|name| Request::Open(access, name)),
+            opened.is_ok(),
+        );
+        opened
+    }
+
+    fn hold(&mut self, file: &ToldFile) -> bool {
+        let is_held = self.count().is_ok() && self.disk.hold(&file.file);
+        self.tell(self.copy(&file.name).map(Request::Hold), is_held);
+        is_held
+    }
+
+    fn rename(&mut self, from: &str, to: &str) -> io::Result<()> {
+        let renamed = match self.count() {
+            Ok(()) => self.disk.rename(from, to),
+            Err(error) => Err(error),
+        };
+        match (self.copy(from), self.copy(to)) {
+            (Ok(from), Ok(to)) => self.tell(Ok(Request::Rename(from, to)), renamed.is_ok()),
+            _ => self.asked = None,
+        }
+        renamed
+    }
+
+    fn remove(&mut self, name: &str) -> io::Result<()> {
+        let removed = match self.count() {
+            Ok(()) => self.disk.remove(name),
+            Err(error) => Err(error),
+        };
+        self.tell(self.copy(name).map(Request::Remove), removed.is_ok());
+        removed
+    }
+
+    fn sync_folder(&mut self, folder: &ToldFile) -> io::Result<()> {
+        let synced = match self.count() {
+            Ok(()) => self.disk.sync_folder(&folder.file),
+            Err(error) => Err(error),
+        };
+        self.tell(
+            self.copy(&folder.name).map(Request::SyncFolder),
+            synced.is_ok(),
+        );
+        synced
+    }
+
+    fn cut(&mut self, file: &ToldFile, length: u64) -> io::Result<()> {
+        let cut = match self.count() {
+            Ok(()) => self.disk.cut(&file.file, length),
+            Err(error) => Err(error),
+        };
+        let written = Vec::from_slice(self.alloc, &file.written);
+        self.tell(written.map(Request::Cut), cut.is_ok());
+        cut
+    }
+
+    fn sync_file(&mut self, file: &ToldFile) -> io::Result<()> {
+        let synced = match self.count() {
+            Ok(()) => self.disk.sync_file(&file.file),
+            Err(error) => Err(error),
+        };
+        let written = Vec::from_slice(self.alloc, &file.written);
+        self.tell(written.map(Request::SyncFile), synced.is_ok());
+        synced
+    }
+}

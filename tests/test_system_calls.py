@@ -69,6 +69,25 @@ class Between(Calls):
             self.holds({"a.record": "hello"})
             self.is_so(line.machine.typed, "")
 
+    def test_a_record_that_is_removed_while_it_connects(self):
+        """What was written to a file without a name would be lost with it, also where this load made it, or behind a link."""
+        for text, name in ((None, "a.record"), ("", "a.record"), (VERIFIED, "a.record"), (VERIFIED, "b.record")):
+            line = self.console_at(Console())
+            if text is not None:
+                self.put(name, text.encode())
+            if name != "a.record":
+                os.symlink(name, self.path("a.record"))
+
+            def before(call):
+                if call.name == "connect" and os.path.exists(self.path(name)):
+                    os.remove(self.path(name))
+
+            with self.subTest(text=text, name=name):
+                self.ends(self.load(line, before), 4, "", NO_RECORD)
+                self.assertFalse(os.path.exists(self.path(name)))
+                self.is_so(line.machine.typed, "")
+        os.remove(self.path("a.record"))
+
     def test_a_record_that_somebody_makes_behind_a_link(self):
         """The link led nowhere a moment ago. What is there now is the record, and is read."""
         line = self.console_at(Console(memory={0o1000: 0o011064}))

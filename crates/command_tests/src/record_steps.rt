@@ -50,8 +50,9 @@ const REPLACED: [Step; 14] = [
 /// How many of these steps come before the record is read.
 pub(crate) const READ: usize = 4;
 
-/// The record itself is written over, and what it has more is cut off last.
+/// The record itself is written over, while its name still leads to it, and what it has more is cut off last.
 pub(crate) const IN_PLACE: &[Step] = &[
+    Step::Look,
     Step::Write,
     Step::Write,
     Step::Flush,

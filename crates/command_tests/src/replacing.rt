@@ -18,6 +18,7 @@ const RENAME: usize = 13;
 // The new record goes, which could not be renamed, and the old one is written in its place.
 const NOT_RENAMED: &[Step] = &[
     Step::RemoveBeside,
+    Step::Look,
     Step::Write,
     Step::Write,
     Step::Flush,
@@ -31,6 +32,7 @@ const MADE_NOT_RENAMED: &[Step] = &[
     Step::RemoveBeside,
     Step::OpenFolder,
     Step::SyncAll,
+    Step::Look,
     Step::Write,
     Step::Write,
     Step::Flush,
@@ -43,6 +45,7 @@ const MADE_NOT_RENAMED: &[Step] = &[
 const MADE_IN_PLACE: &[Step] = &[
     Step::OpenFolder,
     Step::SyncAll,
+    Step::Look,
     Step::Write,
     Step::Write,
     Step::Flush,
@@ -58,6 +61,7 @@ const BEHIND_LINK: &[Step] = &[
     Step::Look,
     Step::OpenFolder,
     Step::SyncAll,
+    Step::Look,
     Step::Write,
     Step::Write,
     Step::Flush,
@@ -241,7 +245,7 @@ const REPLACING: [Row; 17] = [
         ],
         UNBEGUN,
         RENAME,
-        &[Step::RemoveBeside, Step::Write],
+        &[Step::RemoveBeside, Step::Look, Step::Write],
         Some(CURRENT),
     ),
     (
@@ -252,7 +256,7 @@ const REPLACING: [Row; 17] = [
         ],
         UNBEGUN,
         RENAME,
-        &[Step::RemoveBeside, Step::Write, Step::Write],
+        &[Step::RemoveBeside, Step::Look, Step::Write, Step::Write],
         Some(CURRENT),
     ),
     (
@@ -278,6 +282,7 @@ const REPLACING: [Row; 17] = [
         UNBEGUN,
         READ,
         &[
+            Step::Look,
             Step::Write,
             Step::Write,
             Step::Flush,
@@ -297,7 +302,7 @@ fn each_step_of_a_replacing_fails(rt: HostRuntime) {
 }
 
 // A record that the load makes, and each step fails in turn: what was made and not begun goes.
-const MADE: [Row; 12] = [
+const MADE: [Row; 13] = [
     (
         Before::Nothing,
         &[(Step::OpenFolder, 1, ErrorKind::Other)],
@@ -339,6 +344,7 @@ const MADE: [Row; 12] = [
         &[
             Step::OpenFolder,
             Step::SyncAll,
+            Step::Look,
             Step::Write,
             Step::Write,
             Step::Flush,
@@ -346,6 +352,24 @@ const MADE: [Row; 12] = [
             Step::Cut,
         ],
         Some(BEGUN),
+    ),
+    // Its name may lead elsewhere by now.
+    (
+        Before::Nothing,
+        &[
+            (Step::OpenFolder, 1, ErrorKind::Other),
+            (Step::Look, 3, ErrorKind::NotFound),
+        ],
+        UNBEGUN,
+        FOLDER,
+        &[
+            Step::OpenFolder,
+            Step::SyncAll,
+            Step::Look,
+            Step::Look,
+            Step::Remove,
+        ],
+        None,
     ),
     // Once it is written to, it stays.
     (
@@ -356,7 +380,7 @@ const MADE: [Row; 12] = [
         ],
         UNBEGUN,
         FOLDER,
-        &[Step::OpenFolder, Step::SyncAll, Step::Write],
+        &[Step::OpenFolder, Step::SyncAll, Step::Look, Step::Write],
         Some(""),
     ),
     (
@@ -448,6 +472,7 @@ const LEFT_BEHIND: &[Step] = &[
 const HELD_BESIDE: &[Step] = &[
     Step::OpenBeside,
     Step::HoldBeside,
+    Step::Look,
     Step::Write,
     Step::Write,
     Step::Flush,

@@ -8,13 +8,21 @@ use std::io::ErrorKind;
 
 // A record that is written where it is, and each step fails in turn. It is never less
 // than it was: one of version 1 is not written over.
-const WRITTEN_OVER: [Row; 12] = [
+const WRITTEN_OVER: [Row; 13] = [
+    (
+        Before::Link(CURRENT),
+        &[(Step::Look, 3, ErrorKind::NotFound)],
+        UNBEGUN,
+        READ,
+        &[Step::Look],
+        Some(CURRENT),
+    ),
     (
         Before::Link(CURRENT),
         &[(Step::Write, 1, ErrorKind::Other)],
         UNBEGUN,
         READ,
-        &[Step::Write],
+        &[Step::Look, Step::Write],
         Some(CURRENT),
     ),
     (
@@ -22,7 +30,7 @@ const WRITTEN_OVER: [Row; 12] = [
         &[(Step::Write, 2, ErrorKind::Other)],
         UNBEGUN,
         READ,
-        &[Step::Write, Step::Write],
+        &[Step::Look, Step::Write, Step::Write],
         Some(CURRENT),
     ),
     (
@@ -30,7 +38,7 @@ const WRITTEN_OVER: [Row; 12] = [
         &[(Step::Flush, 1, ErrorKind::Other)],
         UNBEGUN,
         READ,
-        &[Step::Write, Step::Write, Step::Flush],
+        &[Step::Look, Step::Write, Step::Write, Step::Flush],
         Some(CURRENT),
     ),
     (
@@ -38,7 +46,13 @@ const WRITTEN_OVER: [Row; 12] = [
         &[(Step::SyncData, 1, ErrorKind::Other)],
         UNBEGUN,
         READ,
-        &[Step::Write, Step::Write, Step::Flush, Step::SyncData],
+        &[
+            Step::Look,
+            Step::Write,
+            Step::Write,
+            Step::Flush,
+            Step::SyncData,
+        ],
         Some(CURRENT),
     ),
     (
@@ -47,6 +61,7 @@ const WRITTEN_OVER: [Row; 12] = [
         UNBEGUN,
         READ,
         &[
+            Step::Look,
             Step::Write,
             Step::Write,
             Step::Flush,
@@ -69,6 +84,7 @@ const WRITTEN_OVER: [Row; 12] = [
         UNBEGUN,
         READ,
         &[
+            Step::Look,
             Step::Write,
             Step::Write,
             Step::Flush,
@@ -82,7 +98,7 @@ const WRITTEN_OVER: [Row; 12] = [
         &[(Step::Flush, 1, ErrorKind::Other)],
         UNBEGUN,
         READ,
-        &[Step::Write, Step::Write, Step::Flush],
+        &[Step::Look, Step::Write, Step::Write, Step::Flush],
         Some(BEGUN),
     ),
     (
@@ -106,7 +122,7 @@ const WRITTEN_OVER: [Row; 12] = [
         &[(Step::Write, 1, ErrorKind::Other)],
         UNBEGUN,
         READ,
-        &[Step::Write],
+        &[Step::Look, Step::Write],
         Some(CURRENT),
     ),
     (

@@ -189,6 +189,7 @@ const WRITTEN_OVER: &str = "+ look d.record\n\
     + hold d.record\n\
     + look d.record\n\
     - sole d.record\n\
+    + look d.record\n\
     + cut LDAODT 2\n001000 011064\n\
     + sync LDAODT 2\n001000 011064\n";
 
@@ -198,6 +199,14 @@ const NOT_WRITTEN_OVER: &str = "+ look d.record\n\
     + hold d.record\n\
     + look d.record\n\
     - sole d.record\n";
+
+// Nor is one whose name leads to it no more: what is written there would be lost.
+const GONE: &str = "+ look d.record\n\
+    + open to write d.record\n\
+    + hold d.record\n\
+    + look d.record\n\
+    - sole d.record\n\
+    - look d.record\n";
 
 #[test]
 fn a_file_with_another_name_is_written_over(rt: HostRuntime) -> Result<(), Fail> {
@@ -220,6 +229,10 @@ fn a_file_with_another_name_is_written_over(rt: HostRuntime) -> Result<(), Fail>
         "version 1"
     );
     assert!(rt; holds(&rt, OTHER, Some(OLD)));
+    put_link(&rt, CURRENT)?;
+    let gone: Failing = &[(5, ErrorKind::NotFound)];
+    assert!(rt; is_course(&rt, (RECORD, gone), UNBEGUN, GONE), "gone");
+    assert!(rt; holds(&rt, OTHER, Some(CURRENT)));
     clear(&rt);
     Ok(())
 }
@@ -238,6 +251,7 @@ fn made_behind_link(alloc: Global, folder: &str) -> Option<String> {
         + resolve d.record {folder}/d.other\n\
         + open to read {folder}\n\
         + sync folder {folder}\n\
+        + look d.record\n\
         + cut LDAODT 2\n001000 011064\n\
         + sync LDAODT 2\n001000 011064\n"
     );
@@ -390,6 +404,7 @@ const NOT_RENAMED: &str = "+ look d.record\n\
     + look d.record\n\
     - rename d.record.ldaodt-new d.record\n\
     + remove d.record.ldaodt-new\n\
+    + look d.record\n\
     + cut LDAODT 2\n001000 011064\n\
     + sync LDAODT 2\n001000 011064\n";
 

@@ -1,11 +1,11 @@
 //! A record that is begun anew: the old one is replaced whole, or written over where it is.
-ghost use Rattle.std.specs.Prelude.{◌≡◌, ◌∷◌, true, false, Bool, List, ℕ, IfOk, IfErr, IfSome};
+ghost use Rattle.std.specs.Prelude.{◌≡◌, ◌∷◌, false, List, ℕ, IfOk, IfErr, IfSome};
 ghost use Rattle.std.specs.Io.KnownBytes.{Appends};
 ghost use Rattle.load_devices.specs.declared.fault.KeepFault.TheVariants as keep;
 ghost use Rattle.load_record.specs.declared.version.Version.TheVariants.{Second};
 ghost use Rattle.load_record.specs.RecordText.{record_text};
 ghost use Rattle.record_file.specs.Beginning.{course, IsLeft, IsMaking, IsMakingHeld, IsRenaming, IsWriting, IsBeside, IsFolderSync, IsMakingSynced};
-ghost use Rattle.record_file.specs.Beginning.{IsCut, IsWrittenOver, IsNotWrittenOver};
+ghost use Rattle.record_file.specs.Beginning.{IsCut, IsReady, IsUnready, IsWrittenOver, IsNotWrittenOver};
 ghost use Rattle.record_file.specs.Course.{is_done, is_some, renamed};
 ghost use Rattle.record_file.specs.DiskRecord.{HasBegun};
 ghost use Rattle.record_file.specs.DiskStep.{HasAsked, IsLookAtName, Failed, Open};
@@ -111,7 +111,8 @@ fn replace<D: Disk>(
 /// Begins a record anew, with the first verified words of a plan, in the file that is held.
 ///
 /// What is written over a record of the same version changes none of its words; what that has more is cut
-/// off last. The fault is `Write`, also for a record of version 1, or `Memory`.
+/// off last. The fault is `Write`, also for a record of version 1 and where the name leads to the held file
+/// no more, or `Memory`.
 pub(crate) fn begin_in_place<D: Disk>(
     disk: &mut D,
     name: &str,
@@ -138,7 +139,8 @@ pub(crate) fn begin_in_place<D: Disk>(
     Ok(keeper)
 }
 
-// Brings to the disk that the file was made, where this load made it, and goes back to its beginning.
+// Brings to the disk that the file was made, where this load made it, goes back to its beginning, and finds that
+// its name still leads to it: what is written to a file that somebody has removed meanwhile is lost.
 fn make_ready<D: Disk>(
     disk: &mut D,
     name: &str,
@@ -148,12 +150,17 @@ fn make_ready<D: Disk>(
     ensures fault { IfErr result IsUnbegun }
     ensures made { held.new.made ≡ held.old.made }
     ensures device { held.new.device ≡ held.old.device }
-    ensures asked { IfOk result (λ _. HasAsked (D.asked disk.old) (D.asked disk.new) (IsMakingSynced name.now held.old.made true)) }
-    ensures failed { IfErr result (λ _. HasAsked (D.asked disk.old) (D.asked disk.new)
-        (λ steps. (synced : Bool) × IsMakingSynced name.now held.old.made synced steps)) }
+    ensures asked { IfOk result (λ _. HasAsked (D.asked disk.old) (D.asked disk.new) (IsReady name.now held.old.made held.old.device)) }
+    ensures failed { IfErr result (λ _. HasAsked (D.asked disk.old) (D.asked disk.new) (IsUnready name.now held.old.made)) }
 {
     sync_making(disk, name, alloc, held.made)?;
-    if held.device || held.rewind() {
+    if held.device {
+        return Ok(());
+    }
+    if !held.rewind() {
+        return Err(RecordFault::Write);
+    }
+    if is_named(disk, name, held) {
         Ok(())
     } else {
         Err(RecordFault::Write)

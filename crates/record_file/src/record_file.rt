@@ -80,7 +80,8 @@ impl<'a, D: Disk + Drop> RecordFile<'a, D> {
     /// and then in its place, or where that can't be done, over it.
     ///
     /// The old file is held to the end, also where another has its name now: a load may have opened it.
-    /// The fault is `Write`, where the new record can't be written or none was read, or `Memory`.
+    /// The fault is `Write`, where the new record can't be written, or none was read, or its name leads elsewhere
+    /// by now; or `Memory`.
     pub fn begin(
         &mut self,
         alloc: Global,

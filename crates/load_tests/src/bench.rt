@@ -19,7 +19,7 @@ use tape_image::Plan;
 
 /// A machine, and the record of its loads, in memory.
 #[derive(Drop)]
-pub struct Bench {
+pub(crate) struct Bench {
     console: MemoryReach,
 
     /// The record, with the keeper that has written it.
@@ -28,7 +28,7 @@ pub struct Bench {
 
 impl Bench {
     /// A machine, and an empty record.
-    pub fn new(alloc: Global, odt: Odt) -> Bench {
+    pub(crate) fn new(alloc: Global, odt: Odt) -> Bench {
         Bench {
             console: MemoryReach::new(alloc, Some(odt)),
             keeper: FileKeep::new(DiskText::new(alloc)),
@@ -36,22 +36,22 @@ impl Bench {
     }
 
     /// Another machine, or none, with the same record.
-    pub fn put_machine(&mut self, odt: Option<Odt>) {
+    pub(crate) fn put_machine(&mut self, odt: Option<Odt>) {
         self.console.put_machine(odt);
     }
 
     /// From now on each line fails at the call of this number and at those behind it; or none does.
-    pub fn fail_lines_at(&mut self, call: Option<u64>) {
+    pub(crate) fn fail_lines_at(&mut self, call: Option<u64>) {
         self.console.fail_lines_at(call);
     }
 
     /// What the record is.
-    pub fn record(&self) -> &[u8] {
+    pub(crate) fn record(&self) -> &[u8] {
         self.keeper.writer().text()
     }
 
     /// What a loss of power would leave of it.
-    pub fn left(&self) -> &[u8] {
+    pub(crate) fn left(&self) -> &[u8] {
         self.keeper.writer().left()
     }
 }
@@ -106,7 +106,7 @@ fn begun(alloc: Global, plan: &Plan, verified: u32) -> Result<FileKeep<DiskText>
 
 /// Loads a plan into the machine of a bench. What `load` promises of its devices is so of these, which
 /// tell: of the line that comes back, and of the record as its keeper left it.
-pub fn load_once(
+pub(crate) fn load_once(
     alloc: Global,
     plan: Plan,
     options: LoadOptions,

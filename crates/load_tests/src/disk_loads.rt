@@ -17,7 +17,7 @@ use told_disk::ToldDisk;
 
 /// Loads a plan into a machine in memory. What `load` promises of the disk on which its record is, is so of
 /// this one, which tells.
-pub fn load_on_disk<W: Write>(
+pub(crate) fn load_on_disk<W: Write>(
     alloc: Global,
     plan: Plan,
     options: LoadOptions,

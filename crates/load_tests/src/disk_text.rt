@@ -8,14 +8,14 @@ use std::io::Write;
 
 /// The text of a file, and how much of it is on the disk.
 #[derive(Drop)]
-pub struct DiskText {
+pub(crate) struct DiskText {
     text: Vec<u8>,
     on_disk: usize,
 }
 
 impl DiskText {
     /// An empty file.
-    pub fn new(alloc: Global) -> DiskText
+    pub(crate) fn new(alloc: Global) -> DiskText
         ensures { result.text.items ≡ [] }
     {
         DiskText {
@@ -25,14 +25,14 @@ impl DiskText {
     }
 
     /// All that was written.
-    pub fn text(&self) -> &[u8]
+    pub(crate) fn text(&self) -> &[u8]
         ensures { result.now ≡ self.now.text.items }
     {
         &self.text
     }
 
     /// What a loss of power would leave now.
-    pub fn left(&self) -> &[u8] {
+    pub(crate) fn left(&self) -> &[u8] {
         match self.text.get(..self.on_disk) {
             Some(left) => left,
             None => &self.text,

@@ -11,7 +11,7 @@ const ROOM: u32 = 1000;
 
 /// A way to a machine in memory, or to none.
 #[derive(Drop)]
-pub struct MemoryReach {
+pub(crate) struct MemoryReach {
     alloc: Global,
 
     /// The machine, while no line to it is open.
@@ -23,7 +23,7 @@ pub struct MemoryReach {
 
 impl MemoryReach {
     /// A way to this machine, whose lines do not fail.
-    pub fn new(alloc: Global, odt: Option<Odt>) -> MemoryReach {
+    pub(crate) fn new(alloc: Global, odt: Option<Odt>) -> MemoryReach {
         MemoryReach {
             alloc,
             odt,
@@ -32,12 +32,12 @@ impl MemoryReach {
     }
 
     /// From now on it leads to another machine, or to none.
-    pub fn put_machine(&mut self, odt: Option<Odt>) {
+    pub(crate) fn put_machine(&mut self, odt: Option<Odt>) {
         self.odt = odt;
     }
 
     /// From now on each line fails at the call of this number and at those behind it; or none does.
-    pub fn fail_lines_at(&mut self, call: Option<u64>) {
+    pub(crate) fn fail_lines_at(&mut self, call: Option<u64>) {
         self.fail_at = call;
     }
 }

@@ -2,10 +2,9 @@
 
 use crate::simulated_system::QUIET_MS;
 use endings::{Status, Streams};
-use input_files::InputFiles;
 use machine_load::LoadOptions;
 use record_file::Locks;
-use requests::{Load, Request, attempt};
+use requests::{Load, Request, SharedSystem, attempt};
 use serial_line::Devices;
 use std::alloc::{AllocError, Global};
 use std::io::Stderr;
@@ -47,7 +46,7 @@ impl Ended {
 }
 
 /// Does a request over a system, in place of what the one before it left.
-pub(crate) fn run<F: InputFiles + Locks + Devices + Net + Clock>(
+pub(crate) fn run<F: Locks + Devices + Net + Clock>(
     system: &F,
     alloc: Global,
     request: Request<'_>,
@@ -61,7 +60,9 @@ pub(crate) fn run<F: InputFiles + Locks + Devices + Net + Clock>(
     };
     streams.out.clear();
     streams.err.clear();
-    ended.status = attempt(system, alloc, request, &mut streams, NOBODY);
+    let system = SharedSystem::of(system);
+    let (_, status) = attempt(system, alloc, request, &mut streams, NOBODY);
+    ended.status = status;
     ended.out = streams.out;
     ended.err = streams.err;
 }

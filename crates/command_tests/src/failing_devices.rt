@@ -4,9 +4,11 @@
 //! few bytes a write and fails at one of them; `UnflushedOutput` takes everything and fails to
 //! flush. Each fails with the error that a hidden second try would cover up, and counts how often it
 //! was asked after that: so a test sees whether a command asks a failed device again.
-ghost use Rattle.std.specs.Prelude.{false};
+ghost use Rattle.std.specs.Prelude.{◌≡◌, false, Some};
+ghost use Rattle.std.specs.Io.{WritesAtMost};
+ghost use Rattle.std.specs.Io.KnownBytes.{WriteAppends};
 
-use endings::Output;
+use endings::{FaultOutput, Output};
 use std::io;
 use std::io::{ErrorKind, Read, Write};
 
@@ -79,6 +81,9 @@ pub struct BrokenOutput {
 
     /// How often it was asked after it had failed.
     pub later_writes: u32,
+
+    /// How often it took nothing of a fault.
+    pub refused: u64,
 }
 
 // How many bytes a write takes.
@@ -93,6 +98,7 @@ impl BrokenOutput {
             fails_at,
             failures: 0,
             later_writes: 0,
+            refused: 0,
         }
     }
 
@@ -103,7 +109,13 @@ impl BrokenOutput {
 }
 
 impl Write for BrokenOutput {
-    fn write(&mut self, buf: &[u8]) -> io::Result<usize> {
+    ghost contents = { λ output. Some output.written.items };
+
+    fn write(&mut self, buf: &[u8]) -> io::Result<usize>
+        ensures bound { WritesAtMost result buf.now }
+        ensures bytes { WriteAppends (Some self.old.written.items) (Some self.new.written.items) result buf.now }
+        ensures same { self.new.refused ≡ self.old.refused }
+    {
         self.writes = self.writes.saturating_add(1);
         if self.failures > 0 {
             self.later_writes = self.later_writes.saturating_add(1);
@@ -127,6 +139,19 @@ impl Output for BrokenOutput {
 
     fn is_unread(&self) -> bool {
         false
+    }
+}
+
+// As standard error it tells all, so that the clauses of what is said there are no empty ones.
+impl FaultOutput for BrokenOutput {
+    ghost failures = { λ output. Some output.refused };
+
+    fn put(&mut self, text: &[u8]) -> io::Result<usize> {
+        let taken = self.write(text);
+        if !matches!(&taken, Ok(1..)) {
+            self.refused = self.refused.saturating_add(1);
+        }
+        taken
     }
 }
 

@@ -7,7 +7,7 @@ use crate::simulated_system::{AMPLE, Setting, System};
 use crate::tapes::ONE_WORD;
 use endings::{Output, Status, Streams};
 use odt_machine::{LARGEST_WORDS, PLAIN_STYLE};
-use requests::{Console, Request, attempt};
+use requests::{Console, Request, SharedSystem, attempt};
 use std::alloc::{AllocError, Global};
 use std::fs;
 use std::io::Write;
@@ -57,7 +57,8 @@ fn is_told_alone<W: Output>(
         return false;
     };
     let system = System::new(rt, Setting { reads, ..AMPLE });
-    let status = attempt(&system, rt.alloc(), request, streams, NOBODY);
+    let system = SharedSystem::of(&system);
+    let (_, status) = attempt(system, rt.alloc(), request, streams, NOBODY);
     status == Status::DeviceFailed && streams.err.as_slice() == line
 }
 
@@ -136,8 +137,7 @@ fn standard_output_fails(rt: HostRuntime) -> Result<(), Fail> {
     Ok(fs::remove_file(&rt, TAPE)?)
 }
 
-// The names of tapes, and what is said of them. That nothing opens by the barred name the system tells, so that here
-// the clause of `attempt` is no empty one.
+// The names of tapes, and what is said of them. Nothing opens by the barred name.
 const UNOPENED: [(&[&str], &str); 3] = [
     (&["barred", "missing.lda"], "ldaodt: cannot read barred\n"),
     (

@@ -1,7 +1,10 @@
 //! Lines of faults and texts that explain, help and refusals, over outputs that fail once.
+ghost use Rattle.std.specs.Prelude.{Some};
+ghost use Rattle.endings.specs.Failure.{IsTold};
+ghost use Rattle.endings.specs.FaultOutput.{IsSaid};
 
 use crate::failing_devices::{BrokenOutput, UnflushedOutput};
-use endings::{Failure, Output, Status, Streams, refuse, show, tell};
+use endings::{Failure, FaultOutput, Output, Status, Streams, refuse, show, tell};
 use std::alloc::Global;
 use std::io::Write;
 
@@ -12,7 +15,7 @@ const TEXT: &str = "Usage: ldaodt\n";
 const CANNOT_WRITE: &[u8] = b"ldaodt: cannot write output\n";
 
 // Streams with this output and this standard error, and nothing on standard input.
-fn streams_of<W: Write, E: Write>(out: W, err: E) -> Streams<&'static [u8], W, E> {
+fn streams_of<W: Write, E: FaultOutput>(out: W, err: E) -> Streams<&'static [u8], W, E> {
     Streams {
         input: &[],
         out,
@@ -44,10 +47,20 @@ fn a_text_that_can_not_be_shown_is_told(rt: HostRuntime) {
     assert!(rt; is_told(rt.alloc(), &mut streams));
 }
 
+// Refuses words on an output that tells what it took, and how often it took nothing.
+fn refuse_on(text: &str, err: &mut BrokenOutput) -> Status
+    ensures { IsSaid
+        (record { text = Some err.old.written.items; failures = Some err.old.refused })
+        (record { text = Some err.new.written.items; failures = Some err.new.refused })
+        text.now }
+{
+    refuse(text, err)
+}
+
 // How a refusal ends whose telling fails at the write of this number: where that is not asked again.
 fn refused(alloc: Global, number: u32) -> Option<Status> {
     let mut err = BrokenOutput::new(Vec::new(alloc), number);
-    let status = refuse(TEXT, &mut err);
+    let status = refuse_on(TEXT, &mut err);
     err.failed_once().then_some(status)
 }
 
@@ -69,10 +82,20 @@ fn what_can_not_be_told_is_not(rt: HostRuntime) {
     }
 }
 
+// Tells a fault on such an output.
+fn tell_on(alloc: Global, failure: Failure<'_>, err: &mut BrokenOutput) -> Status
+    ensures { IsTold
+        (record { text = Some err.old.written.items; failures = Some err.old.refused })
+        (record { text = Some err.new.written.items; failures = Some err.new.refused })
+        failure.entry }
+{
+    tell(alloc, failure, err)
+}
+
 // Whether the line of a fault, which can't be told from the write of this number on, ends there.
 fn telling_stops(alloc: Global, number: u32) -> bool {
     let mut err = BrokenOutput::new(Vec::new(alloc), number);
-    let status = tell(alloc, Failure::CannotRead("no-such-tape.lda"), &mut err);
+    let status = tell_on(alloc, Failure::CannotRead("no-such-tape.lda"), &mut err);
     let line: &[u8] = b"ldaodt: cannot read no-such-tape.lda\n";
     status == Status::DeviceFailed && err.failed_once() && line.starts_with(&err.written)
 }

@@ -59,4 +59,6 @@ mod simulated_system;
 #[cfg(test)]
 mod tapes;
 #[cfg(test)]
+mod told_system;
+#[cfg(test)]
 mod writing_over;

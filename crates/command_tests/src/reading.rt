@@ -9,8 +9,10 @@ use crate::simulated_system::{AMPLE, Failing, Step, System};
 use crate::tapes::plan_of_one_word;
 use record_file::{RecordFault, RecordFile};
 use std::fs;
+use std::fs::File;
 use std::io::ErrorKind;
 use std::test::Fail;
+use tape_image::Plan;
 
 // A record that is there, or not, and steps of its reading fail; or it is read and let go again.
 const UNREAD: [Row; 16] = [
@@ -255,19 +257,30 @@ fn a_record_that_somebody_holds_is_in_use(rt: HostRuntime) {
     clear(&rt);
 }
 
+// Whether the old file is held once it is read, and then the new one too.
+fn are_held(
+    rt: &HostRuntime,
+    record: &mut RecordFile<'_, &System<'_>>,
+    plan: &Plan,
+    old: &File,
+) -> Option<bool> {
+    record.read(rt.alloc()).ok()?;
+    let held_first = old.try_lock().is_err();
+    let keeper = record.begin(rt.alloc(), plan, 1).ok()?;
+    let held_then = held(rt, RECORD).is_none() && old.try_lock().is_err();
+    drop(keeper);
+    Some(held_first && held_then)
+}
+
 // Whether the old file and the new one are held until the load lets go.
 fn is_held_to_the_end(rt: &HostRuntime) -> Option<bool> {
     let plan = plan_of_one_word(rt.alloc())?;
+    let old = opened(rt, RECORD)?;
     let system = System::new(rt, AMPLE);
     let mut record = RecordFile::new(&system, RECORD);
-    let old = opened(rt, RECORD)?;
-    record.read(rt.alloc()).ok()?;
-    let held_first = old.try_lock().is_err();
-    let keeper = record.begin(rt.alloc(), &plan, 1).ok()?;
-    let held_then = held(rt, RECORD).is_none() && old.try_lock().is_err();
-    drop(keeper);
-    drop(record);
-    Some(held_first && held_then && held(rt, RECORD).is_some() && old.try_lock().is_ok())
+    let were_held = are_held(rt, &mut record, &plan, &old);
+    record.close();
+    Some(were_held? && held(rt, RECORD).is_some() && old.try_lock().is_ok())
 }
 
 #[test]

@@ -8,6 +8,7 @@ use std::alloc::Global;
 use std::fs::File;
 use std::os::unix::fs::symlink;
 use std::{fs, io};
+use tape_image::Plan;
 
 /// The record.
 pub(crate) const RECORD: &str = "d.record";
@@ -118,7 +119,8 @@ pub(crate) type Row = (
     Option<&'static str>,
 );
 
-/// Reads a record, and begins it anew with the smallest tape's word; None where there is no memory for the tape.
+/// Reads a record, begins it anew with the smallest tape's word, and closes it; None where there is no memory for
+/// the tape.
 pub(crate) fn take<'x>(
     system: &'x System<'x>,
     alloc: Global,
@@ -127,15 +129,27 @@ pub(crate) fn take<'x>(
 ) -> Option<Course> {
     let plan = plan_of_one_word(alloc)?;
     let mut record = RecordFile::new(system, name);
-    Some(match record.read(alloc) {
+    let course = course_of(&mut record, alloc, &plan, task);
+    record.close();
+    Some(course)
+}
+
+// What comes of a record that is read, and begun anew.
+fn course_of(
+    record: &mut RecordFile<'_, &System<'_>>,
+    alloc: Global,
+    plan: &Plan,
+    task: Task,
+) -> Course {
+    match record.read(alloc) {
         Err(fault) => Course::Unread(fault),
         Ok(old) if !old.writable => Course::Protected,
         Ok(_) if task == Task::LetGo => Course::LetGo,
-        Ok(_) => match record.begin(alloc, &plan, 1) {
+        Ok(_) => match record.begin(alloc, plan, 1) {
             Ok(_) => Course::Begun,
             Err(fault) => Course::Unbegun(fault),
         },
-    })
+    }
 }
 
 // Whether just these steps were asked for, in this order: so many of a replacing, and then these.

@@ -184,9 +184,16 @@ fn put<'x>(
     meanwhile: Meanwhile,
 ) -> Result<(), ShelfFault> {
     let mut file = NewFile::new(system, SAVED);
-    file.reserve(rt.alloc())?;
-    meddle(rt, meanwhile);
-    file.put(TEXT.as_bytes())
+    let reserved = file.reserve(rt.alloc());
+    let put = match reserved {
+        Ok(()) => {
+            meddle(rt, meanwhile);
+            file.put(TEXT.as_bytes())
+        }
+        Err(fault) => Err(fault),
+    };
+    file.close();
+    put
 }
 
 // Whether just these steps were asked for, in this order: so many of a whole save, and then these.

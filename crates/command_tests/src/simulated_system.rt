@@ -6,7 +6,6 @@
 mod notes;
 
 use arrayvec::ArrayVec;
-use input_files::InputFiles;
 use notes::{holding, note, note_opening, removing};
 pub use notes::{Failing, Notes, Step};
 use odt_machine::{LARGEST_WORDS, Odt, PLAIN_STYLE};
@@ -15,13 +14,13 @@ use serial_line::Devices;
 use std::alloc::{Allocator, Global};
 use std::cell::Cell;
 use std::fs::{File, Metadata, OpenFile, OpenOptions, TryLockError};
+use std::io;
 use std::io::{ErrorKind, IsTerminal, Read, Seek, SeekFrom, Write};
 use std::net::{Ipv4Addr, Net, OpenListener, OpenStream, SocketAddr};
 use std::os::fd::{AsRawFd, RawFd};
 use std::path::PathBuf;
 use std::rt::Files;
 use std::time::{Clock, Duration};
-use std::{fs, io};
 
 /// What the console and the files of a system are like.
 #[derive(Clone, Copy)]
@@ -63,7 +62,7 @@ pub const PORT: u16 = 2323;
 /// The device at which the console is, too.
 pub const DEVICE: &str = "/dev/ttyUSB0";
 
-/// The name of a file that can't be read, and which the system tells of.
+/// The name of a file that can't be opened.
 pub const BARRED: &str = "barred";
 
 /// How long silence lasts there, in milliseconds. A console takes no other time limit.
@@ -352,6 +351,9 @@ impl<'a> Files for System<'a> {
     type Dir = <HostRuntime as Files>::Dir;
 
     fn open_file(&self, how: &OpenOptions, path: &str) -> io::Result<RoomyFile<'a>> {
+        if *path == *BARRED {
+            return Err(io::Error::from(ErrorKind::PermissionDenied));
+        }
         note_opening(self.notes, path)?;
         Ok(RoomyFile {
             file: Files::open_file(self.rt, how, found(path))?,
@@ -402,20 +404,6 @@ impl<'a> Files for System<'a> {
 
     fn canonicalize<B: Allocator>(&self, alloc: B, path: &str) -> io::Result<PathBuf<B>> {
         Files::canonicalize(self.rt, alloc, found(path))
-    }
-}
-
-impl InputFiles for System<'_> {
-    ghost use Rattle.std.specs.Prelude.{◌≡◌, false, codes};
-
-    // Nothing opens by the barred name.
-    ghost opens = { λ _ name opened. name ≡ codes "barred" → opened ≡ false };
-
-    fn open_input(&self, name: &str) -> io::Result<Self::File> {
-        if *name == *BARRED {
-            return Err(io::Error::from(ErrorKind::PermissionDenied));
-        }
-        fs::open(self, name)
     }
 }
 

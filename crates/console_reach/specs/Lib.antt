@@ -1,2 +1,3 @@
 pub mod Listening
+pub mod Path
 pub mod Reached

@@ -1,5 +1,5 @@
 -- What reaching a console gives, and what it is for.
-use Rattle.std.specs.Prelude.{◌≡◌, ℕ, ◌+◌, List, [], Option, Some, None, ⊤}
+use Rattle.std.specs.Prelude.{◌≡◌, ℕ, List, [], Option, None, ⊤}
 use Rattle.tape_blocks.specs.Told.{IsAsTold}
 use Rattle.load_devices.specs.declared.item.Item.{Item}
 use Rattle.load_devices.specs.declared.fault.LineFault.{LineFault}
@@ -16,9 +16,3 @@ abbrev pub IsReachFault : LineFault → Type 0
 IsReachFault Connect = ⊤
 IsReachFault Receive = ⊤
 IsReachFault other = ⊥
-
--- it was tried once more, where the type tells
-abbrev pub OneMoreTime : Option ℕ → Option ℕ → Type 0
-OneMoreTime None new = ⊤
-OneMoreTime (Some tries) None = ⊥
-OneMoreTime (Some tries) (Some more) = more ≡ tries + 1

@@ -1,4 +1,5 @@
 //! The way to a console behind a port of the network.
+ghost use Rattle.stream_line.specs.Dialling.{ToPort};
 
 use crate::reach::Reach;
 use load_devices::LineFault;
@@ -22,7 +23,7 @@ impl<D: Dialling> Reach for Port<'_, D> {
 
     ghost asked = { λ port. D.asked port.net };
 
-    ghost call = { λ port. record { name = port.address.now; quiet_ms = port.quiet_ms } };
+    ghost call = { λ port. ToPort port.address.now port.quiet_ms };
 
     fn reach(&mut self) -> Result<SocketLine<D::Stream>, LineFault> {
         SocketLine::connect(&mut self.net, self.address, self.quiet_ms)

@@ -1,7 +1,7 @@
-ghost use Rattle.std.specs.Prelude.{◌≡◌, ℕ, [], List, Option, None, IfOk, IfErr};
-ghost use Rattle.console_reach.specs.Reached.{IsFresh, IsReachFault, OneMoreTime};
+ghost use Rattle.std.specs.Prelude.{◌≡◌, [], List, Option, None, IfOk, IfErr};
+ghost use Rattle.console_reach.specs.Reached.{IsFresh, IsReachFault};
 ghost use Rattle.load_devices.specs.Told.{Gains};
-ghost use Rattle.stream_line.specs.Dialling.{NetRequest, Call, asked_for};
+ghost use Rattle.stream_line.specs.Dialling.{LineRequest, Call, ToDevice, asked_for};
 
 use load_devices::{Line, LineFault};
 
@@ -10,14 +10,11 @@ pub trait Reach {
     /// The line to the console.
     type Line: Line + Drop;
 
-    /// How often the console was tried to be reached; None where the type doesn't tell.
-    ghost tries: { Self → Option ℕ } = { λ _. None };
+    /// What was asked so far, of the network or of the devices; None where the type doesn't tell.
+    ghost asked: { Self → Option (List LineRequest) } = { λ _. None };
 
-    /// What was asked of the network so far; None where the type doesn't tell.
-    ghost asked: { Self → Option (List NetRequest) } = { λ _. None };
-
-    /// Whom it reaches, and with which quiet time, where it tells what was asked.
-    ghost call: { Self → Call } = { λ _. record { name = []; quiet_ms = 0 } };
+    /// Whom it reaches, where it tells what was asked.
+    ghost call: { Self → Call } = { λ _. ToDevice [] };
 
     /// Reaches the console, and gives a line on which nothing was said.
     ///
@@ -26,7 +23,6 @@ pub trait Reach {
     fn reach(&mut self) -> Result<Self::Line, LineFault>
         ensures fresh { IfOk result (λ line. IsFresh (Self.Line.told line) (Self.Line.fault_count line) (Self.Line.last_fault line)) }
         ensures fault { IfErr result IsReachFault }
-        ensures tried { OneMoreTime (tries self.old) (tries self.new) }
         ensures asked { Gains (asked self.old) (asked self.new) (asked_for (call self.old) result) }
         ensures call { call self.new ≡ call self.old };
 }

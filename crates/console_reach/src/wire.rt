@@ -1,16 +1,21 @@
 //! The way to a console at a serial device.
-ghost use Rattle.std.specs.Prelude.{◌↔◌, IsTrue, Contains};
+ghost use Rattle.std.specs.Prelude.{◌≡◌};
+ghost use Rattle.console_reach.specs.Path.{has_slash};
+ghost use Rattle.stream_line.specs.Dialling.{ToDevice};
 
 use crate::reach::Reach;
 use load_devices::LineFault;
-use serial_line::{DeviceLine, Devices, open_line};
+use serial_line::{DeviceLine, DeviceOpening, open_line};
 use std::time::Clock;
 
 /// A console at a serial device.
 #[derive(Drop)]
-pub struct Wire<'a, D: Devices + Clock> {
-    /// The system, whose clock measures the silences.
-    pub system: &'a D,
+pub struct Wire<'a, V: DeviceOpening, C: Clock> {
+    /// The system's devices.
+    pub devices: V,
+
+    /// The clock that measures the silences.
+    pub clock: &'a C,
 
     /// The device's path.
     pub path: &'a str,
@@ -19,18 +24,22 @@ pub struct Wire<'a, D: Devices + Clock> {
     pub quiet_ms: u32,
 }
 
-impl<'a, D: Devices + Clock> Reach for Wire<'a, D> {
-    type Line = DeviceLine<'a, D>;
+impl<'a, V: DeviceOpening, C: Clock> Reach for Wire<'a, V, C> {
+    type Line = DeviceLine<'a, V::Terminal, C>;
 
-    fn reach(&mut self) -> Result<DeviceLine<'a, D>, LineFault> {
-        open_line(self.system, self.path, self.quiet_ms)
+    ghost asked = { λ wire. V.asked wire.devices };
+
+    ghost call = { λ wire. ToDevice wire.path.now };
+
+    fn reach(&mut self) -> Result<DeviceLine<'a, V::Terminal, C>, LineFault> {
+        open_line(&mut self.devices, self.clock, self.path, self.quiet_ms)
     }
 }
 
 /// Whether a name is the path of a device, and not HOST:PORT: whether it has a slash, which none of
 /// those has. A device in the working folder is `./ttyUSB0`.
 pub fn is_path(name: &str) -> bool
-    ensures { IsTrue result ↔ Contains name.now 47 }
+    ensures { result ≡ has_slash name.now }
 {
     name.as_bytes().contains(&b'/')
 }

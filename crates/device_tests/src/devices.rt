@@ -1,14 +1,25 @@
 //! Lines over serial devices: how many looks and pauses make a silence, whatever the clock does, and what a
 //! hang-up, a failure and a stopped output are heard as.
 
-use crate::terminals::{Bench, DAWN, HOUR, PATH, Pace, Turn};
+use crate::terminals::{Bench, DAWN, HOUR, PATH, Pace, Scripted, Turn};
 use host_core::Heard;
 use load_devices::{Line, LineFault};
-use serial_line::{DeviceLine, open_line};
+use serial_line::{DeviceLine, Devices, open_line};
 use std::io::ErrorKind;
+use std::time::Clock;
 
 // Nothing has come.
 const NOTHING: Turn = Turn::Fails(ErrorKind::WouldBlock);
+
+// A line to a device of a system, by its clock.
+fn line_to<'a, D: Devices + Clock>(
+    system: &'a D,
+    path: &str,
+    quiet_ms: u32,
+) -> Result<DeviceLine<'a, D::Terminal, D>, LineFault> {
+    let mut devices = system;
+    open_line(&mut devices, system, path, quiet_ms)
+}
 
 // A silence: the quiet time in milliseconds, what the clock does, and then how many pauses are made (there is
 // one look more), and how many microseconds the clock goes on.
@@ -87,7 +98,7 @@ const SILENCES: [Silence; 9] = [
 fn is_silence(row: &Silence) -> bool {
     let bench = Bench::new(&[NOTHING], &[], row.pace);
     let system = &bench;
-    let Ok(mut line) = open_line(&system, PATH, row.quiet_ms) else {
+    let Ok(mut line) = line_to(&system, PATH, row.quiet_ms) else {
         return false;
     };
     line.hear() == Ok(Heard::Quiet)
@@ -156,7 +167,7 @@ fn is_heard(
 ) -> bool {
     let bench = Bench::new(reads, &[], Pace::Late(0));
     let system = &bench;
-    let Ok(mut line) = open_line(&system, PATH, 50) else {
+    let Ok(mut line) = line_to(&system, PATH, 50) else {
         return false;
     };
     line.hear() == heard
@@ -201,7 +212,7 @@ fn is_sent(
 ) -> bool {
     let bench = Bench::new(&[], writes, Pace::Late(0));
     let system = &bench;
-    let Ok(mut line) = open_line(&system, PATH, 50) else {
+    let Ok(mut line) = line_to(&system, PATH, 50) else {
         return false;
     };
     line.send(b'Z') == sent && bench.written.get() == count && bench.pauses.get() == pauses
@@ -219,14 +230,14 @@ fn a_key_waits_for_room_for_the_quiet_time(rt: HostRuntime) {
 fn is_stopped_output_ended() -> bool {
     let bench = Bench::new(&[], &[NOTHING], Pace::Held);
     let system = &bench;
-    let Ok(mut line) = open_line(&system, PATH, 2000) else {
+    let Ok(mut line) = line_to(&system, PATH, 2000) else {
         return false;
     };
     line.send(b'Z') == Err(LineFault::Send) && bench.pauses.get() == 460
 }
 
 // How no line is made to a device.
-fn fault_of(line: Result<DeviceLine<'_, &Bench>, LineFault>) -> Option<LineFault> {
+fn fault_of(line: Result<DeviceLine<'_, Scripted<'_>, &Bench>, LineFault>) -> Option<LineFault> {
     line.err()
 }
 
@@ -234,8 +245,8 @@ fn fault_of(line: Result<DeviceLine<'_, &Bench>, LineFault>) -> Option<LineFault
 fn is_refused() -> bool {
     let bench = Bench::new(&[], &[], Pace::Still);
     let system = &bench;
-    fault_of(open_line(&system, "/dev/ttyUSB1", 50)) == Some(LineFault::Connect)
-        && fault_of(open_line(&system, PATH, 0)) == Some(LineFault::Receive)
+    fault_of(line_to(&system, "/dev/ttyUSB1", 50)) == Some(LineFault::Connect)
+        && fault_of(line_to(&system, PATH, 0)) == Some(LineFault::Receive)
         && bench.now.get() == DAWN
         && bench.read.get() == 0
 }
@@ -261,7 +272,7 @@ const NO_TERMINALS: [&str; 7] = [
 #[test]
 fn no_terminal_is_no_line(rt: HostRuntime) {
     for path in &NO_TERMINALS {
-        let fault = match open_line(&rt, path, 50) {
+        let fault = match line_to(&rt, path, 50) {
             Ok(_) => None,
             Err(fault) => Some(fault),
         };

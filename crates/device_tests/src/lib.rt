@@ -28,3 +28,5 @@ mod streams;
 mod telling;
 #[cfg(test)]
 mod terminals;
+#[cfg(test)]
+mod told_devices;

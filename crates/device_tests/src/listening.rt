@@ -120,7 +120,8 @@ fn is_heard_out<D: Devices + Clock>(
     is_over: bool,
 ) -> bool {
     let mut wire = Wire {
-        system,
+        devices: system,
+        clock: system,
         path: PATH,
         quiet_ms: 1,
     };
@@ -274,7 +275,8 @@ fn fault_of<'a, D: Devices + Clock>(
     quiet_ms: u32,
 ) -> Option<LineFault> {
     let mut wire = Wire {
-        system,
+        devices: system,
+        clock: system,
         path,
         quiet_ms,
     };

@@ -1,42 +1,66 @@
--- A text that is written piece by piece.
-use Rattle.std.proofs.Common.{◌≡◌, ◌<◌, ℕ, List, [], ◌++◌, Option, Result, Ok, Err, OnErr, length, refl, sym, ap, ◌∙◌, subst, append_assoc, append-nil, arith}
+-- A text that is said piece by piece.
+use Rattle.std.proofs.Common.{◌≡◌, ◌<◌, ℕ, List, [], ◌++◌, Option, Some, None, Result, Ok, Err, OnErr, length, refl, sym, ap, ◌∙◌, subst, append_assoc, append-nil, arith}
 use Rattle.std.proofs.lemmas.List.{length-append}
 use Rattle.std.proofs.KnownBytes.{Appends-nil, Appends-trans}
 use Rattle.std.specs.Io.KnownBytes.{Appends}
 use Rattle.byte_io.specs.Output.{WritesAllBut, WritesProperPrefix}
+use Rattle.endings.specs.FaultOutput.{StandardError, IsSaidBut, IsSaidInPart, IsSaidWhole, NoneFailed, OneFailed}
 
 pub on_any_err : {T E : Type 0} (r : Result T E) (P : Type 0) → P → OnErr r P
 on_any_err (Ok x) P p = tt
 on_any_err (Err e) P p = p
 
-pub none_written : (a : Option (List ℕ)) (text left : List ℕ) → text ≡ left → WritesAllBut a a text left
-none_written a text left same = record { written = []; whole = same; appended = Appends-nil a }
+-- ---- failures
 
--- a prefix of a text that is not empty: nothing of it
-pub no_prefix : (a : Option (List ℕ)) (text : List ℕ) → 0 < length text → WritesProperPrefix a a text
-no_prefix a text some = (text, some, none_written a text text refl)
+pub none_failed : (f : Option ℕ) → NoneFailed f f
+none_failed None = tt
+none_failed (Some count) = refl
 
-pub piece_written : (a b d : Option (List ℕ)) (text piece left : List ℕ) → WritesAllBut a b text (piece ++ left) → Appends b d piece → WritesAllBut a d text left
-piece_written a b d text piece left before wrote = record {
-  written = before.written ++ piece;
-  whole = before.whole ∙ sym (append_assoc before.written piece left);
-  appended = Appends-trans a b d before.written piece before.appended wrote;
+pub none_failed_twice : (f g h : Option ℕ) → NoneFailed f g → NoneFailed g h → NoneFailed f h
+none_failed_twice None g h before behind = tt
+none_failed_twice (Some count) g h before behind = subst (λ x. NoneFailed x h) before behind
+
+pub one_failed_behind : (f g h : Option ℕ) → NoneFailed f g → OneFailed g h → OneFailed f h
+one_failed_behind None g h before behind = tt
+one_failed_behind (Some count) g h before behind = subst (λ x. OneFailed x h) before behind
+
+-- ---- pieces
+
+pub none_said : (a : StandardError) (text left : List ℕ) → text ≡ left → IsSaidBut a a text left
+none_said a text left same = record { said = []; whole = same; written = Appends-nil a.text; none_failed = none_failed a.failures }
+
+pub piece_said : (a b d : StandardError) (text piece left : List ℕ) → IsSaidBut a b text (piece ++ left) → IsSaidWhole b d piece → IsSaidBut a d text left
+piece_said a b d text piece left before now = record {
+  said = before.said ++ piece;
+  whole = before.whole ∙ sym (append_assoc before.said piece left);
+  written = Appends-trans a.text b.text d.text before.said piece before.written now.written;
+  none_failed = none_failed_twice a.failures b.failures d.failures before.none_failed now.none_failed;
 }
 
-pub piece_cut : (a b d : Option (List ℕ)) (text piece left : List ℕ) → WritesAllBut a b text (piece ++ left) → WritesProperPrefix b d piece → WritesProperPrefix a d text
-piece_cut a b d text piece left before (missing, some, part) = (
+-- the missing rest of a piece, and what stands behind it
+cut_in : (a b d : StandardError) (text piece left : List ℕ) → IsSaidBut a b text (piece ++ left) → WritesProperPrefix b.text d.text piece → WritesProperPrefix a.text d.text text
+cut_in a b d text piece left before (missing, some, part) = (
   missing ++ left,
   omega (arith, length-append missing left),
   record {
-    written = before.written ++ part.written;
-    whole = before.whole ∙ ap (λ l. before.written ++ (l ++ left)) part.whole ∙ ap (λ l. before.written ++ l) (append_assoc part.written missing left)
-        ∙ sym (append_assoc before.written part.written (missing ++ left));
-    appended = Appends-trans a b d before.written part.written before.appended part.appended;
+    written = before.said ++ part.written;
+    whole = before.whole ∙ ap (λ l. before.said ++ (l ++ left)) part.whole ∙ ap (λ l. before.said ++ l) (append_assoc part.written missing left)
+        ∙ sym (append_assoc before.said part.written (missing ++ left));
+    appended = Appends-trans a.text b.text d.text before.said part.written before.written part.appended;
   },
 )
 
-pub all_written : (a b : Option (List ℕ)) (text : List ℕ) → WritesAllBut a b text [] → Appends a b text
-all_written a b text done = subst (Appends a b) (sym (done.whole ∙ append-nil done.written)) done.appended
+pub piece_cut : (a b d : StandardError) (text piece left : List ℕ) → IsSaidBut a b text (piece ++ left) → IsSaidInPart b d piece → IsSaidInPart a d text
+piece_cut a b d text piece left before now = record {
+  written = cut_in a b d text piece left before now.written;
+  one_failed = one_failed_behind a.failures b.failures d.failures before.none_failed now.one_failed;
+}
+
+pub all_said : (a b : StandardError) (text : List ℕ) → IsSaidBut a b text [] → IsSaidWhole a b text
+all_said a b text done = record {
+  written = subst (Appends a.text b.text) (sym (done.whole ∙ append-nil done.said)) done.written;
+  none_failed = done.none_failed;
+}
 
 -- a line of a beginning, words, a name and an end, and how its pieces follow one another
 pub line_pieces : (front words name end : List ℕ) → front ++ (words ++ (name ++ end)) ≡ (front ++ words) ++ (name ++ end)

@@ -6,9 +6,8 @@ use Rattle.std.specs.Char.{is_control}
 use Rattle.std.specs.Char.Escape.{escape_default}
 use Rattle.std.specs.List.{flat_map}
 use Rattle.std.specs.Str.{chars}
-use Rattle.std.specs.Io.KnownBytes.{Appends}
 use Rattle.tape_blocks.specs.Fault.{fault_text, memory_text}
-use Rattle.byte_io.specs.Output.{WritesProperPrefix}
+use Rattle.endings.specs.FaultOutput.{StandardError, IsSaid}
 use Rattle.endings.specs.declared.failure.Failure.{Failure}
 use Rattle.endings.specs.declared.failure.OneTape.{OneTape}
 use Rattle.endings.specs.declared.failure.Failure.TheVariants.{CannotRead, CannotWrite, CannotWriteFile, FileIsThere, RecordInUse, CannotConnect}
@@ -96,12 +95,12 @@ failure_end other = codes "\n"
 abbrev pub fault_line : Failure → List ℕ
 fault_line failure = codes "ldaodt: " ++ (failure_words failure ++ (failure_name failure ++ failure_end failure))
 
--- standard error tells of a failure: its line was written there and nothing else; or, where that output fails, a prefix of the line
-abbrev pub IsTold : Option (List ℕ) → Option (List ℕ) → Failure → Type 0
-IsTold err err' failure = Appends err err' (fault_line failure) ⊎ WritesProperPrefix err err' (fault_line failure)
+-- standard error tells of a failure: its line was said there and nothing else
+abbrev pub IsTold : StandardError → StandardError → Failure → Type 0
+IsTold err err' failure = IsSaid err err' (fault_line failure)
 
 -- standard error tells of a failure, unless nobody is to hear of it: then it is as it was
-abbrev pub IsToldUnless : Bool → Option (List ℕ) → Option (List ℕ) → Failure → Type 0
+abbrev pub IsToldUnless : Bool → StandardError → StandardError → Failure → Type 0
 IsToldUnless true err err' failure = err' ≡ err
 IsToldUnless false err err' failure = IsTold err err' failure
 

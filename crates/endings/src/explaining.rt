@@ -1,27 +1,28 @@
 //! Texts for words that ask for nothing to be done: help, the version, or what is wrong with the words.
 ghost use Rattle.std.specs.Prelude.{◌≡◌};
-ghost use Rattle.byte_io.specs.Output.{WritesPrefix};
 ghost use Rattle.endings.specs.Explained.{IsShown};
+ghost use Rattle.endings.specs.FaultOutput.{IsSaid, standard_error};
 ghost use Rattle.endings.specs.Streams.{held};
 
+use crate::fault_output::{FaultOutput, say};
 use crate::output::Output;
 use crate::status::Status;
 use crate::streams::Streams;
 use crate::telling::tell_unwritten;
-use byte_io::{write_and_flush, write_whole};
+use byte_io::write_and_flush;
 use std::alloc::Global;
-use std::io::{Read, Write};
+use std::io::Read;
 
 /// Prints a text that was asked for, in one write, and flushes it. Where that fails, standard error says
 /// so, unless nobody reads the output any more.
-pub fn show<R: Read, W: Output, E: Write>(
+pub fn show<R: Read, W: Output, E: FaultOutput>(
     alloc: Global,
     text: &str,
     streams: &mut Streams<R, W, E>,
 ) -> Status
     ensures { IsShown text.now (W.unread streams.new.out)
-        (held R.remaining W.contents E.contents streams.old)
-        (held R.remaining W.contents E.contents streams.new)
+        (held R.remaining W.contents E.contents E.failures streams.old)
+        (held R.remaining W.contents E.contents E.failures streams.new)
         result }
 {
     match write_and_flush(&mut streams.out, text.as_bytes()) {
@@ -31,10 +32,13 @@ pub fn show<R: Read, W: Output, E: Write>(
 }
 
 /// Says what is wrong with the words, in one write. What can't be written is not told.
-pub fn refuse<E: Write>(text: &str, err: &mut E) -> Status
-    ensures written { WritesPrefix (E.contents err.old) (E.contents err.new) text.now }
+pub fn refuse<E: FaultOutput>(text: &str, err: &mut E) -> Status
+    ensures said { IsSaid
+        (standard_error E.contents E.failures err.old)
+        (standard_error E.contents E.failures err.new)
+        text.now }
     ensures status { result ≡ Status.BadCommandLine }
 {
-    let _ = write_whole(err, text.as_bytes());
+    let _ = say(err, text.as_bytes());
     Status::BadCommandLine
 }

@@ -4,7 +4,6 @@ use load_record::RecordError;
 use machine_load::LoadFault;
 use machine_look::LookFault;
 use machine_probe::ProbeFault;
-use std::fmt;
 use tape_blocks::Fault;
 
 /// Why the program did not do what it was asked, in the words of its line on standard error.
@@ -164,19 +163,6 @@ pub struct OneTape {
 
     /// What is wrong with it, and at which byte.
     pub fault: Fault,
-}
-
-impl fmt::Display for OneTape {
-    ghost use Rattle.std.specs.Prelude.{Some};
-    ghost use Rattle.endings.specs.Failure.{one_tape_text};
-
-    ghost output = { λ tape. Some (one_tape_text tape) };
-
-    fn fmt<W: fmt::Write>(&self, f: &mut fmt::Formatter<W>) -> fmt::Result {
-        let number = self.number;
-        let fault = self.fault;
-        write!(f, "{number} {fault}")
-    }
 }
 
 /// What standard input is called in place of a file's name.

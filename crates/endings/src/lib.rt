@@ -4,11 +4,13 @@
 //! answers the status; a file's name in it can't break the line. Words of the command line that ask for
 //! nothing to be done are explained: `show` prints help to standard output, `refuse` says on standard
 //! error what is wrong with them. `Streams` are the three standard streams, as one value; an `Output` knows
-//! whether nobody reads it any more, and then nothing is said of what can't be written there.
+//! whether nobody reads it any more, and then nothing is said of what can't be written there. What is said on
+//! a `FaultOutput` is said whole, unless that fails.
 #![tactic(auto)]
 
 mod explaining;
 mod failure;
+mod fault_output;
 mod line_words;
 mod output;
 mod status;
@@ -17,6 +19,7 @@ mod telling;
 
 pub use explaining::{refuse, show};
 pub use failure::{Failure, OneTape, STANDARD_INPUT};
+pub use fault_output::FaultOutput;
 pub use output::{Output, PipedOutput};
 pub use status::Status;
 pub use streams::Streams;

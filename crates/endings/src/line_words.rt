@@ -1,62 +1,113 @@
-//! The words of a failure's line.
-ghost use Rattle.std.specs.Prelude.{◌≡◌, ◌++◌, IfOk, codes};
-ghost use Rattle.endings.specs.Failure.{failure_words};
+//! The words of a failure's line. They are put together in room that is there, since formatting may fail.
+ghost use Rattle.std.specs.Prelude.{◌≡◌, ◌≤◌, ◌++◌, ◌+◌, codes, decimal, length};
+ghost use Rattle.arrayvec.specs.ArrayVec.{array_vec_len};
+ghost use Rattle.endings.specs.Failure.{failure_words, one_tape_text};
+ghost use Rattle.tape_blocks.specs.Fault.{fault_text, why_text};
 
-use crate::failure::Failure;
-use arrayvec::ArrayString;
-use byte_io::WriteFault;
+use crate::failure::{Failure, OneTape};
+use arrayvec::ArrayVec;
+use byte_io::{push_bytes, push_decimal};
 use load_record::RecordError;
-use std::fmt;
-use std::fmt::Write;
-use tape_blocks::Memory;
+use tape_blocks::{Fault, Why};
 
-// What a failure's line says after the program's name, up to the name in it where it has one.
-#[derive(Clone, Copy)]
-struct Words<'a>(Failure<'a>);
+/// The words of a line, with room for the longest and for its end.
+pub(crate) type LineWords = ArrayVec<u8, 128>;
 
-impl fmt::Display for Words<'_> {
-    ghost use Rattle.std.specs.Prelude.{Some};
+/// The program's name and the words of a failure's line, up to the name in it where it has one.
+pub(crate) fn line_words(failure: Failure<'_>) -> LineWords
+    ensures words { result.items ≡ codes "ldaodt: " ++ failure_words failure.entry }
+    ensures short { array_vec_len result ≤ 127 }
+{
+    let mut words = LineWords::new();
+    push_bytes(&mut words, b"ldaodt: ");
+    push_words(&mut words, failure);
+    words
+}
 
-    ghost output = { λ words. Some (failure_words words.0) };
-
-    fn fmt<W: fmt::Write>(&self, f: &mut fmt::Formatter<W>) -> fmt::Result {
-        match self.0 {
-            Failure::CannotRead(_) => f.write_str("cannot read "),
-            Failure::CannotWrite => f.write_str("cannot write output"),
-            Failure::CannotWriteFile(_) => f.write_str("cannot write "),
-            Failure::FileIsThere(_) => Ok(()),
-            Failure::CannotConnect(_) => f.write_str("cannot connect to "),
-            Failure::RecordInUse(_) => f.write_str("record in use: "),
-            Failure::LineFailed => f.write_str("line failed"),
-            Failure::StartInDoubt => f.write_str(
-                "line failed\nldaodt: the start may have gone out: look at the machine first",
-            ),
-            Failure::TapeRefused(fault) => write!(f, "tape {fault}"),
-            Failure::OneTapeRefused(tape) => write!(f, "tape {tape}"),
-            Failure::ScriptRefused(line) => write!(f, "script refused at line {line}"),
-            Failure::RecordRefused(RecordError::NotARecord) => {
-                f.write_str("record refused: NotARecord")
-            }
-            Failure::RecordRefused(RecordError::Foreign(line)) => {
-                write!(f, "record refused at line {line}")
-            }
-            Failure::TooLarge => f.write_str("machine too large"),
-            Failure::BadWord => f.write_str("a word of the command line is not UTF-8"),
-            Failure::NoMemory => write!(f, "{Memory}"),
+// Puts a failure's words behind the program's name.
+fn push_words(words: &mut LineWords, failure: Failure<'_>)
+    requires { array_vec_len words.old ≤ 8 }
+    ensures words { words.new.items ≡ words.old.items ++ failure_words failure.entry }
+    ensures short { array_vec_len words.new ≤ 127 }
+{
+    match failure {
+        Failure::CannotRead(_) => push_bytes(words, b"cannot read "),
+        Failure::CannotWrite => push_bytes(words, b"cannot write output"),
+        Failure::CannotWriteFile(_) => push_bytes(words, b"cannot write "),
+        Failure::FileIsThere(_) => {}
+        Failure::CannotConnect(_) => push_bytes(words, b"cannot connect to "),
+        Failure::RecordInUse(_) => push_bytes(words, b"record in use: "),
+        Failure::LineFailed => push_bytes(words, b"line failed"),
+        Failure::StartInDoubt => push_bytes(
+            words,
+            b"line failed\nldaodt: the start may have gone out: look at the machine first",
+        ),
+        Failure::TapeRefused(fault) => {
+            push_bytes(words, b"tape ");
+            push_fault(words, fault);
         }
+        Failure::OneTapeRefused(tape) => push_tape(words, tape),
+        Failure::ScriptRefused(line) => push_place(words, b"script refused at line ", line),
+        Failure::RecordRefused(RecordError::NotARecord) => {
+            push_bytes(words, b"record refused: NotARecord");
+        }
+        Failure::RecordRefused(RecordError::Foreign(line)) => {
+            push_place(words, b"record refused at line ", line);
+        }
+        Failure::TooLarge => push_bytes(words, b"machine too large"),
+        Failure::BadWord => push_bytes(words, b"a word of the command line is not UTF-8"),
+        Failure::NoMemory => push_bytes(words, b"out of memory"),
     }
 }
 
-// Room for the longest words of a line.
-type LineWords = ArrayString<128>;
-
-/// The program's name and the words of a failure's line. The error is want of room, which no words have.
-pub(crate) fn line_words(failure: Failure<'_>) -> Result<LineWords, WriteFault>
-    ensures { IfOk result (λ words. words.bytes ≡ codes "ldaodt: " ++ failure_words failure.entry) }
+// Puts the words of one of several tapes behind others.
+fn push_tape(words: &mut LineWords, tape: OneTape)
+    requires { array_vec_len words.old ≤ 8 }
+    ensures words { words.new.items ≡ words.old.items ++ (codes "tape " ++ one_tape_text tape) }
+    ensures short { array_vec_len words.new ≤ 127 }
 {
-    let mut words = LineWords::new();
-    match write!(words, "ldaodt: {}", Words(failure)) {
-        Ok(()) => Ok(words),
-        Err(_) => Err(WriteFault),
+    push_bytes(words, b"tape ");
+    push_decimal(words, tape.number as u64);
+    push_bytes(words, b" ");
+    push_fault(words, tape.fault);
+}
+
+// Puts words and the number of a line behind others.
+fn push_place(words: &mut LineWords, place: &[u8], line: u32)
+    requires before { array_vec_len words.old ≤ 8 }
+    requires place { length place.now ≤ 30 }
+    ensures words { words.new.items ≡ words.old.items ++ (place.now ++ decimal line) }
+    ensures short { array_vec_len words.new ≤ 127 }
+{
+    push_bytes(words, place);
+    push_decimal(words, u64::from(line));
+}
+
+// Puts what is wrong with a tape, and where, behind others, in the words that the fault itself is shown by.
+fn push_fault(words: &mut LineWords, fault: Fault)
+    requires { array_vec_len words.old ≤ 64 }
+    ensures words { words.new.items ≡ words.old.items ++ fault_text fault }
+    ensures short { array_vec_len words.new ≤ array_vec_len words.old + 43 }
+{
+    push_bytes(words, b"refused at ");
+    push_decimal(words, u64::from(fault.at));
+    push_bytes(words, b": ");
+    push_bytes(words, why_name(fault.why).as_bytes());
+}
+
+// The name of a reason.
+fn why_name(why: Why) -> &'static str
+    ensures name { result.now ≡ why_text why }
+    ensures short { length result.now ≤ 10 }
+{
+    match why {
+        Why::Stray => "Stray",
+        Why::BadMark => "BadMark",
+        Why::BadCount => "BadCount",
+        Why::Cut => "Cut",
+        Why::BadSum => "BadSum",
+        Why::PastTop => "PastTop",
+        Why::NoTransfer => "NoTransfer",
+        Why::TooLong => "TooLong",
     }
 }

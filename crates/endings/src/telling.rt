@@ -4,18 +4,17 @@
 ghost use Rattle.std.specs.Prelude.{◌≡◌, ◌<◌, OnOk, OnErr, IsTrue};
 ghost use Rattle.std.specs.Char.{is_control, digit_char};
 ghost use Rattle.std.specs.Char.Escape.{escape_default};
-ghost use Rattle.std.specs.Io.KnownBytes.{Appends};
-ghost use Rattle.byte_io.specs.Output.{WritesProperPrefix};
+ghost use Rattle.endings.specs.FaultOutput.{IsSaidInPart, IsSaidWhole, standard_error};
 ghost use Rattle.endings.specs.Failure.{status_of, failure_end, failure_name, fault_line, shown_char, shown_name, is_unheard, IsTold, IsToldUnless};
 
 use crate::failure::Failure;
+use crate::fault_output::{FaultOutput, say};
 use crate::line_words::line_words;
 use crate::output::Output;
 use crate::status::Status;
 use arrayvec::ArrayVec;
-use byte_io::{WriteFault, write_whole};
+use byte_io::{WriteFault, push_bytes};
 use std::alloc::Global;
-use std::io::Write;
 
 // A character as it is shown: four bytes, or an escape of six.
 type Shown = ArrayVec<u8, 6>;
@@ -24,9 +23,12 @@ type Shown = ArrayVec<u8, 6>;
 ///
 /// In a name a control character is shown by its escape, and an empty name by two quotes. A line that
 /// there is no memory for is written in pieces. What can't be written is not told.
-pub fn tell<E: Write>(alloc: Global, failure: Failure<'_>, err: &mut E) -> Status
+pub fn tell<E: FaultOutput>(alloc: Global, failure: Failure<'_>, err: &mut E) -> Status
     ensures status { result ≡ status_of failure.entry }
-    ensures told { IsTold (E.contents err.old) (E.contents err.new) failure.entry }
+    ensures told { IsTold
+        (standard_error E.contents E.failures err.old)
+        (standard_error E.contents E.failures err.new)
+        failure.entry }
 {
     let _ = write_at_once(alloc, failure, err);
     failure.status()
@@ -34,9 +36,12 @@ pub fn tell<E: Write>(alloc: Global, failure: Failure<'_>, err: &mut E) -> Statu
 
 /// Tells that an output can't be written, unless nobody reads it any more: whoever left doesn't wait for
 /// the rest. The status tells of it in either case.
-pub fn tell_unwritten<W: Output, E: Write>(alloc: Global, out: &W, err: &mut E) -> Status
+pub fn tell_unwritten<W: Output, E: FaultOutput>(alloc: Global, out: &W, err: &mut E) -> Status
     ensures status { result ≡ Status.DeviceFailed }
-    ensures told { IsToldUnless (W.unread out.now) (E.contents err.old) (E.contents err.new) Failure.CannotWrite }
+    ensures told { IsToldUnless (W.unread out.now)
+        (standard_error E.contents E.failures err.old)
+        (standard_error E.contents E.failures err.new)
+        Failure.CannotWrite }
 {
     if out.is_unread() {
         Status::DeviceFailed
@@ -47,7 +52,7 @@ pub fn tell_unwritten<W: Output, E: Write>(alloc: Global, out: &W, err: &mut E) 
 
 /// Tells a failure of what does nothing but print, or of what does more. That the output can't be written is
 /// not told of the former where nobody reads any more.
-pub fn tell_unless_unheard<W: Output, E: Write>(
+pub fn tell_unless_unheard<W: Output, E: FaultOutput>(
     alloc: Global,
     only_prints: bool,
     failure: Failure<'_>,
@@ -55,7 +60,10 @@ pub fn tell_unless_unheard<W: Output, E: Write>(
     err: &mut E,
 ) -> Status
     ensures status { result ≡ status_of failure.entry }
-    ensures told { IsToldUnless (is_unheard only_prints (W.unread out.now) failure.entry) (E.contents err.old) (E.contents err.new) failure.entry }
+    ensures told { IsToldUnless (is_unheard only_prints (W.unread out.now) failure.entry)
+        (standard_error E.contents E.failures err.old)
+        (standard_error E.contents E.failures err.new)
+        failure.entry }
 {
     match failure {
         Failure::CannotWrite if only_prints => tell_unwritten(alloc, out, err),
@@ -65,33 +73,46 @@ pub fn tell_unless_unheard<W: Output, E: Write>(
 
 // Writes a failure's line, in one write where there is memory to gather it in. The line that says there
 // is none needs none.
-fn write_at_once<E: Write>(
+fn write_at_once<E: FaultOutput>(
     alloc: Global,
     failure: Failure<'_>,
     err: &mut E,
 ) -> Result<(), WriteFault>
-    ensures ok { OnOk result (Appends (E.contents err.old) (E.contents err.new) (fault_line failure.entry)) }
-    ensures err { OnErr result (WritesProperPrefix (E.contents err.old) (E.contents err.new) (fault_line failure.entry)) }
+    ensures ok { OnOk result (IsSaidWhole
+        (standard_error E.contents E.failures err.old)
+        (standard_error E.contents E.failures err.new)
+        (fault_line failure.entry)) }
+    ensures err { OnErr result (IsSaidInPart
+        (standard_error E.contents E.failures err.old)
+        (standard_error E.contents E.failures err.new)
+        (fault_line failure.entry)) }
 {
     if let Failure::NoMemory = failure {
-        return write_whole(err, b"ldaodt: out of memory\n");
+        let mut line = line_words(failure);
+        push_bytes(&mut line, b"\n");
+        return say(err, &line);
     }
     let mut gathered = Vec::new(alloc);
     match write_line(&mut gathered, failure) {
-        Ok(()) => write_whole(err, &gathered),
+        Ok(()) => say(err, &gathered),
         Err(_) => write_line(err, failure),
     }
 }
 
 // Writes a failure's line in pieces. At the first write that fails it stops.
-fn write_line<W: Write>(out: &mut W, failure: Failure<'_>) -> Result<(), WriteFault>
-    ensures ok { OnOk result (Appends (W.contents out.old) (W.contents out.new) (fault_line failure.entry)) }
-    ensures err { OnErr result (WritesProperPrefix (W.contents out.old) (W.contents out.new) (fault_line failure.entry)) }
+fn write_line<E: FaultOutput>(err: &mut E, failure: Failure<'_>) -> Result<(), WriteFault>
+    ensures ok { OnOk result (IsSaidWhole
+        (standard_error E.contents E.failures err.old)
+        (standard_error E.contents E.failures err.new)
+        (fault_line failure.entry)) }
+    ensures err { OnErr result (IsSaidInPart
+        (standard_error E.contents E.failures err.old)
+        (standard_error E.contents E.failures err.new)
+        (fault_line failure.entry)) }
 {
-    let words = line_words(failure)?;
-    write_whole(out, words.as_str().as_bytes())?;
-    write_shown_name(out, failure)?;
-    write_whole(out, line_end(failure))
+    say(err, &line_words(failure))?;
+    write_shown_name(err, failure)?;
+    say(err, line_end(failure))
 }
 
 // What a failure's line says behind its name, and the line's end.
@@ -105,31 +126,43 @@ fn line_end(failure: Failure<'_>) -> &'static [u8]
 }
 
 // Writes the name in a failure's line, where it has one.
-fn write_shown_name<W: Write>(out: &mut W, failure: Failure<'_>) -> Result<(), WriteFault>
-    ensures ok { OnOk result (Appends (W.contents out.old) (W.contents out.new) (failure_name failure.entry)) }
-    ensures err { OnErr result (WritesProperPrefix (W.contents out.old) (W.contents out.new) (failure_name failure.entry)) }
+fn write_shown_name<E: FaultOutput>(err: &mut E, failure: Failure<'_>) -> Result<(), WriteFault>
+    ensures ok { OnOk result (IsSaidWhole
+        (standard_error E.contents E.failures err.old)
+        (standard_error E.contents E.failures err.new)
+        (failure_name failure.entry)) }
+    ensures err { OnErr result (IsSaidInPart
+        (standard_error E.contents E.failures err.old)
+        (standard_error E.contents E.failures err.new)
+        (failure_name failure.entry)) }
 {
     match failure {
         Failure::CannotRead(name)
         | Failure::CannotWriteFile(name)
         | Failure::FileIsThere(name)
         | Failure::RecordInUse(name)
-        | Failure::CannotConnect(name) => write_name(out, name),
+        | Failure::CannotConnect(name) => write_name(err, name),
         _ => Ok(()),
     }
 }
 
 // Writes a name as a fault shows it.
-fn write_name<W: Write>(out: &mut W, name: &str) -> Result<(), WriteFault>
-    ensures ok { OnOk result (Appends (W.contents out.old) (W.contents out.new) (shown_name name.now)) }
-    ensures err { OnErr result (WritesProperPrefix (W.contents out.old) (W.contents out.new) (shown_name name.now)) }
+fn write_name<E: FaultOutput>(err: &mut E, name: &str) -> Result<(), WriteFault>
+    ensures ok { OnOk result (IsSaidWhole
+        (standard_error E.contents E.failures err.old)
+        (standard_error E.contents E.failures err.new)
+        (shown_name name.now)) }
+    ensures err { OnErr result (IsSaidInPart
+        (standard_error E.contents E.failures err.old)
+        (standard_error E.contents E.failures err.new)
+        (shown_name name.now)) }
 {
     if name.is_empty() {
-        return write_whole(out, b"''");
+        return say(err, b"''");
     }
     for character in name.chars() {
         let piece = shown(character);
-        write_whole(out, &piece)?;
+        say(err, &piece)?;
     }
     Ok(())
 }

@@ -1,6 +1,7 @@
--- The files that are opened by their names, in an order, and the first of them that can't be.
-use Rattle.std.specs.Prelude.{◌≡◌, ℕ, Bool, true, false, List, ◌∷◌, ◌++◌, All, ⊤}
+-- The files that are opened by their names, in an order.
+use Rattle.std.specs.Prelude.{◌≡◌, ℕ, Bool, true, false, List, [], ◌∷◌, ◌++◌, Option, Some, None, Result, Ok, Err}
 use Rattle.std.specs.Borrow.{Bor}
+use Rattle.record_file.specs.DiskStep.{Tells}
 use Rattle.endings.specs.declared.failure.Failure.{Failure}
 use Rattle.endings.specs.declared.failure.Failure.TheVariants.{CannotRead, NoMemory}
 
@@ -8,30 +9,42 @@ use Rattle.endings.specs.declared.failure.Failure.TheVariants.{CannotRead, NoMem
 abbrev pub Name : Type 0
 Name = Bor (List ℕ)
 
--- what a system tells of a name: that it opened, or that it did not
-abbrev pub Opening : Type 1
-Opening = List ℕ → Bool → Type 0
+-- a file was opened by this name, or was not when it was to be
+pub data InputStep : Type 0 where
+  Opened : List ℕ → InputStep
+  NotOpened : List ℕ → InputStep
 
--- these names were opened
-abbrev pub AreOpened : Opening → List Name → Type 0
-AreOpened opening names = All (λ name. opening name.now true) names
+abbrev pub opening : List ℕ → Bool → InputStep
+opening name true = Opened name
+opening name false = NotOpened name
 
--- of these names this is the first that did not open: all before it did
-pub record IsFirstUnopened (opening : Opening) (names : List Name) (name : Name) : Type 0 where
-  pub before : List Name
-  pub behind : List Name
-  pub is_there : names ≡ before ++ name ∷ behind
-  pub opened : AreOpened opening before
-  pub unopened : opening name.now false
+-- where a system of files tells what it opened, that has grown by steps of which this holds
+abbrev pub HasOpened : Option (List InputStep) → Option (List InputStep) → (List InputStep → Type 0) → Type 0
+HasOpened old new P = (steps : List InputStep) × Tells old new steps × P steps
 
--- a file of these names can't be opened, and it is named; or want of memory
-abbrev pub IsUnopened : Opening → List Name → Failure → Type 0
-IsUnopened opening names (CannotRead name) = IsFirstUnopened opening names name
-IsUnopened opening names NoMemory = ⊤
-IsUnopened opening names other = ⊥
+-- a name is tried once, or once more where the first try failed; and the file is open in the end, or is not
+pub data IsTried (name : List ℕ) : Bool → List InputStep → Type 0 where
+  Once : (opened : Bool) → IsTried name opened (opening name opened ∷ [])
+  Again : (opened : Bool) → IsTried name opened (NotOpened name ∷ opening name opened ∷ [])
+
+-- how files fail to be opened, if they do
+abbrev pub failure_of : {A : Type 0} → Result A Failure → Option Failure
+failure_of (Ok files) = None
+failure_of (Err failure) = Some failure
+
+-- the files of these names are opened one behind the other: all of them; or up to the first that does not open, which is the one that is named;
+-- or up to where memory is wanting, which may be behind a first try that failed
+pub data AreTried : List Name → Option Failure → List InputStep → Type 0 where
+  AllOpen : AreTried [] None []
+  Opens : (name : Name) (names : List Name) (failure : Option Failure) (steps rest : List InputStep) → IsTried name.now true steps
+      → AreTried names failure rest → AreTried (name ∷ names) failure (steps ++ rest)
+  Shut : (name : Name) (names : List Name) (steps : List InputStep) → IsTried name.now false steps
+      → AreTried (name ∷ names) (Some (CannotRead name)) steps
+  NoRoom : (names : List Name) → AreTried names (Some NoMemory) []
+  NoRoomToRetry : (name : Name) (names : List Name) → AreTried (name ∷ names) (Some NoMemory) (NotOpened name.now ∷ [])
 
 -- a file of this name was not opened, or it was and there is no memory for its buffer
 abbrev pub IsUnbuffered : Name → Bool → Failure → Type 0
 IsUnbuffered name opened (CannotRead other) = (other ≡ name) × (opened ≡ false)
-IsUnbuffered name opened NoMemory = ⊤
+IsUnbuffered name opened NoMemory = opened ≡ true
 IsUnbuffered name opened other = ⊥

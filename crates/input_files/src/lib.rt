@@ -1,8 +1,9 @@
 //! Files that are opened to be read, by their names and in an order.
 //!
 //! All that a request names are opened before any is read, and the first that can't be opened is named: where
-//! the system tells which names open (`InputFiles`), the contracts say just this. There may be more files
-//! than descriptors: then what is open is read ahead and closed (`Source`), which its reader can't tell.
+//! the system tells what it opened (`InputFiles`), the contracts say just this, and that nothing else was
+//! opened. There may be more files than descriptors: then what is open is read ahead and closed (`Source`),
+//! which its reader can't tell, and the file is tried once more.
 #![tactic(auto)]
 
 mod opening;

@@ -1,6 +1,8 @@
 //! Opening files in the order of their names.
-ghost use Rattle.std.specs.Prelude.{◌≡◌, ◌+◌, ◌∷◌, [], length, true, is_ok, IfOk, IfErr, OnOk};
-ghost use Rattle.input_files.specs.Opening.{AreOpened, IsUnopened, IsUnbuffered};
+ghost use Rattle.std.specs.Prelude.{◌≡◌, ◌+◌, ◌∷◌, [], length, true, false, is_ok, IfOk, IfErr, OnOk, OnErr};
+ghost use Rattle.std.specs.Bool.{OnTrue};
+ghost use Rattle.record_file.specs.DiskStep.{Tells};
+ghost use Rattle.input_files.specs.Opening.{HasOpened, NotOpened, IsTried, AreTried, IsUnbuffered, failure_of};
 
 use crate::source::{Role, Source};
 use crate::system::InputFiles;
@@ -18,25 +20,23 @@ const PROCESS_HAS_TOO_MANY: i32 = 24;
 ///
 /// `CannotRead` names it where it can't be opened; `NoMemory` comes only where a growth was refused.
 pub fn open<'a, F: InputFiles>(
-    rt: &F,
+    rt: &mut F,
     alloc: Global,
     name: &'a str,
 ) -> Result<BufReader<F::File>, Failure<'a>>
-    ensures ok { OnOk result (F.opens rt.now name.now true) }
-    ensures err { IfErr result (IsUnopened (F.opens rt.now) (name.entry ∷ [])) }
+    ensures tried { HasOpened (F.opened rt.old) (F.opened rt.new) (AreTried (name.entry ∷ []) (failure_of result)) }
 {
     buffered(alloc, name, rt.open_input(name))
 }
 
 /// Opens files of tapes in the order of their names. `CannotRead` has the first that can't be opened.
 pub fn open_all<'a, F: InputFiles>(
-    rt: &F,
+    rt: &mut F,
     alloc: Global,
     names: &[&'a str],
 ) -> Result<Vec<Source<F::File>>, Failure<'a>>
     ensures ok { IfOk result (λ files. length files.items ≡ length names.now) }
-    ensures opened { OnOk result (AreOpened (F.opens rt.now) names.now) }
-    ensures err { IfErr result (IsUnopened (F.opens rt.now) names.now) }
+    ensures tried { HasOpened (F.opened rt.old) (F.opened rt.new) (AreTried names.now (failure_of result)) }
 {
     let mut files = Vec::new(alloc);
     open_more(rt, alloc, names, Role::Tape, &mut files)?;
@@ -45,16 +45,14 @@ pub fn open_all<'a, F: InputFiles>(
 
 /// Opens files of tapes and, behind the first of them, that of a script; this is answered apart.
 pub fn open_with_script<'a, F: InputFiles>(
-    rt: &F,
+    rt: &mut F,
     alloc: Global,
     tape: &'a str,
     script: &'a str,
     more: &[&'a str],
 ) -> Result<(Vec<Source<F::File>>, Source<F::File>), Failure<'a>>
     ensures ok { IfOk result (λ files. length files.0.items ≡ length (tape.entry ∷ more.now)) }
-    ensures opened { OnOk result (AreOpened (F.opens rt.now) (tape.entry ∷ more.now)) }
-    ensures script { OnOk result (AreOpened (F.opens rt.now) (script.entry ∷ [])) }
-    ensures err { IfErr result (IsUnopened (F.opens rt.now) (tape.entry ∷ script.entry ∷ more.now)) }
+    ensures tried { HasOpened (F.opened rt.old) (F.opened rt.new) (AreTried (tape.entry ∷ script.entry ∷ more.now) (failure_of result)) }
 {
     let mut tapes = open_all(rt, alloc, &[tape])?;
     open_more(rt, alloc, &[script], Role::Script, &mut tapes)?;
@@ -65,15 +63,14 @@ pub fn open_with_script<'a, F: InputFiles>(
 
 // Opens further files, in the order of their names.
 fn open_more<'a, F: InputFiles>(
-    rt: &F,
+    rt: &mut F,
     alloc: Global,
     names: &[&'a str],
     role: Role,
     files: &mut Vec<Source<F::File>>,
 ) -> Result<(), Failure<'a>>
     ensures ok { OnOk result (length files.new.items ≡ length files.old.items + length names.now) }
-    ensures opened { OnOk result (AreOpened (F.opens rt.now) names.now) }
-    ensures err { IfErr result (IsUnopened (F.opens rt.now) names.now) }
+    ensures tried { HasOpened (F.opened rt.old) (F.opened rt.new) (AreTried names.now (failure_of result)) }
 {
     for name in names {
         let file = open_beside(rt, alloc, name, files)?;
@@ -86,13 +83,12 @@ fn open_more<'a, F: InputFiles>(
 
 // Opens a file beside others.
 fn open_beside<'a, F: InputFiles>(
-    rt: &F,
+    rt: &mut F,
     alloc: Global,
     name: &'a str,
     others: &mut [Source<F::File>],
 ) -> Result<BufReader<F::File>, Failure<'a>>
-    ensures ok { OnOk result (F.opens rt.now name.now true) }
-    ensures err { IfErr result (IsUnopened (F.opens rt.now) (name.entry ∷ [])) }
+    ensures tried { HasOpened (F.opened rt.old) (F.opened rt.new) (AreTried (name.entry ∷ []) (failure_of result)) }
 {
     match opened_beside(rt, alloc, name, others) {
         Ok(opened) => buffered(alloc, name, opened),
@@ -103,12 +99,13 @@ fn open_beside<'a, F: InputFiles>(
 // What comes of opening a file beside others. Where the system has no descriptor left, these are read ahead and
 // closed, and the file is opened then.
 fn opened_beside<F: InputFiles>(
-    rt: &F,
+    rt: &mut F,
     alloc: Global,
     name: &str,
     others: &mut [Source<F::File>],
 ) -> Result<io::Result<F::File>, AllocError>
-    ensures { IfOk result (λ opened. F.opens rt.now name.now (is_ok opened)) }
+    ensures tried { IfOk result (λ opened. HasOpened (F.opened rt.old) (F.opened rt.new) (IsTried name.now (is_ok opened))) }
+    ensures starved { OnErr result (Tells (F.opened rt.old) (F.opened rt.new) (NotOpened name.now ∷ [])) }
 {
     let opened = rt.open_input(name);
     if !lacks_descriptor(&opened) {
@@ -137,7 +134,9 @@ fn buffered<'a, T: Read + Drop>(
 }
 
 // Whether a file was not opened since this process, or the whole system, has no descriptor left.
-fn lacks_descriptor<T>(opened: &io::Result<T>) -> bool {
+fn lacks_descriptor<T>(opened: &io::Result<T>) -> bool
+    ensures { OnTrue result (is_ok opened.now ≡ false) }
+{
     match opened {
         Ok(_) => false,
         Err(error) => matches!(

@@ -1,22 +1,32 @@
 //! The files of a system, opened by their names.
-use std::fs::File;
+ghost use Rattle.std.specs.Prelude.{[], ◌∷◌, List, Option, None, is_ok};
+ghost use Rattle.record_file.specs.DiskStep.{Tells};
+ghost use Rattle.input_files.specs.Opening.{InputStep, opening};
+
+use std::io::Read;
 use std::rt::Files;
 use std::{fs, io};
 
 /// A system of files that are opened to be read.
-pub trait InputFiles: Files {
-    ghost use Rattle.std.specs.Prelude.{ℕ, List, Bool, is_ok, ⊤};
+///
+/// A reference to any system of files of std is one, and tells nothing of what was opened.
+pub trait InputFiles {
+    /// An open file.
+    type File: Read + Drop;
 
-    // What it tells of a name: that it opens, or that it doesn't. The real system tells nothing.
-    ghost opens: { Self → List ℕ → Bool → Type 0 } = { λ _ _ _. ⊤ };
+    /// What was opened so far, and what was not, in its order; None where the type doesn't tell, or does so no
+    /// longer.
+    ghost opened: { Self → Option (List InputStep) } = { λ _. None };
 
     /// Opens a file to be read.
-    fn open_input(&self, name: &str) -> io::Result<Self::File>
-        ensures { opens self.now name.now (is_ok result) };
+    fn open_input(&mut self, name: &str) -> io::Result<Self::File>
+        ensures opened { Tells (opened self.old) (opened self.new) (opening name.now (is_ok result) ∷ []) };
 }
 
-impl InputFiles for HostRuntime {
-    fn open_input(&self, name: &str) -> io::Result<File> {
-        fs::open(self, name)
+impl<F: Files> InputFiles for &F {
+    type File = F::File;
+
+    fn open_input(&mut self, name: &str) -> io::Result<F::File> {
+        fs::open(*self, name)
     }
 }

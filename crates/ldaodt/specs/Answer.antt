@@ -3,11 +3,11 @@ use Rattle.std.specs.Prelude.{◌≡◌, ◌⊎◌, ⊤, ℕ, Bool, List}
 use Rattle.std.specs.String.{string_bytes}
 use Rattle.clap.specs.declared.error.kind.ErrorKind.{ErrorKind}
 use Rattle.clap.specs.declared.error.kind.ErrorKind.TheVariants as kind
-use Rattle.byte_io.specs.Output.{WritesPrefix}
 use Rattle.requests.specs.Attempt.{IsAttempted}
-use Rattle.input_files.specs.Opening.{Opening}
+use Rattle.requests.specs.System.{Asked}
 use Rattle.endings.specs.Explained.{IsShown}
 use Rattle.endings.specs.Failure.{IsTold}
+use Rattle.endings.specs.FaultOutput.{IsSaid}
 use Rattle.endings.specs.Streams.{Held}
 use Rattle.endings.specs.declared.failure.Failure.TheVariants as failure
 use Rattle.requests.specs.declared.request.Request.{Request}
@@ -33,10 +33,10 @@ IsRefusal (Refused text) = ⊤
 IsRefusal NoMemory = ⊤
 IsRefusal other = ⊥
 
--- the words are refused, and standard error says so by a text, or by a prefix of it
+-- the words are refused, and standard error says so by a text
 pub record AreWordsRefused (text : List ℕ) (before after : Held) (ended : Status) : Type 0 where
   pub status : ended ≡ status.BadCommandLine
-  pub told : WritesPrefix before.err after.err text
+  pub told : IsSaid before.err after.err text
   pub out : after.out ≡ before.out
   pub input : after.input ≡ before.input
 
@@ -55,9 +55,9 @@ IsExplained (Refused text) unread before after ended = AreWordsRefused (string_b
 IsExplained Meaningless unread before after ended = (text : List ℕ) × AreWordsRefused text before after ended
 IsExplained NoMemory unread before after ended = IsMemoryWanting before after ended
 
--- something was asked for and attempted, the check of the input only where there were no words; or the words were explained. By then the
--- output was found unread, or not
-abbrev pub IsAnswered : Opening → Type 0 → Bool → Held → Held → Status → Type 0
-IsAnswered opening no_words unread before after ended =
-    ((request : Request) × ((request ≡ CheckInput → no_words) × IsAttempted opening request unread before after ended))
-    ⊎ ((answer : NoRequest) × IsExplained answer unread before after ended)
+-- something was asked for and attempted, the check of the input only where there were no words; or the words were explained, and nothing was
+-- asked of the system. By then the output was found unread, or not
+abbrev pub IsAnswered : Type 0 → Bool → Asked → Asked → Held → Held → Status → Type 0
+IsAnswered no_words unread asked asked' before after ended =
+    ((request : Request) × ((request ≡ CheckInput → no_words) × IsAttempted request unread asked asked' before after ended))
+    ⊎ ((answer : NoRequest) × IsExplained answer unread before after ended × (asked' ≡ asked))

@@ -9,6 +9,7 @@ mod program;
 
 use endings::{PipedOutput, Streams, tell};
 use process_words::words_of;
+use requests::SharedSystem;
 use std::fs;
 use std::fs::File;
 use std::io::{Eprint, IsTerminal};
@@ -32,7 +33,8 @@ fn main(rt: HostRuntime) -> ExitCode {
     }
     let screen = rt.stderr();
     let terminal = screen.is_terminal().then_some(&screen);
-    let code = program::program(&rt, alloc, &words, &mut streams, terminal);
+    let system = SharedSystem::of(&rt);
+    let (_, code) = program::program(system, alloc, &words, &mut streams, terminal);
     ExitCode::from(code)
 }
 

@@ -6,89 +6,116 @@ ghost use Rattle.endings.specs.declared.status.Status.{Status};
 ghost use Rattle.endings.specs.Status.{status_code};
 ghost use Rattle.endings.specs.Streams.{held};
 ghost use Rattle.requests.specs.Attempt.{IsAttempted};
+ghost use Rattle.requests.specs.System.{asked_of};
 ghost use Rattle.ldaodt.specs.Answer.{IsAnswered, IsExplained};
 
 use crate::command_line::{NoRequest, parse};
-use endings::{Failure, Output, Status, Streams, refuse, show, tell};
+use endings::{Failure, FaultOutput, Output, Status, Streams, refuse, show, tell};
 use input_files::InputFiles;
-use record_file::Locks;
-use requests::attempt;
-use serial_line::Devices;
+use record_file::Disk;
+use requests::{Outside, System, attempt};
+use serial_line::DeviceOpening;
 use std::alloc::Global;
-use std::io::{Print, Read, Write};
-use std::net::Net;
+use std::io::{Print, Read};
 use std::time::Clock;
+use stream_line::Dialling;
 
 // What is said of words that the parser let pass and that mean nothing.
 const MEANINGLESS: &str = "ldaodt: the command line is not understood\n";
 
-/// Does what the words after the program's name ask for, and answers the exit status.
+/// Does what the words after the program's name ask for, in a system that comes back, and answers the exit
+/// status.
 ///
 /// Reports and help go to standard output, which is flushed; refused command lines and faults go to
 /// standard error, a fault as one line. What can't be written there is not told, nor that nobody reads
 /// any more what only prints. A load shows on the terminal, where there is one, how far it is.
 pub(crate) fn program<
-    F: InputFiles + Locks + Devices + Net + Clock,
+    'c,
+    F: InputFiles + Drop,
+    D: Disk + Drop,
+    N: Dialling + Drop,
+    V: DeviceOpening + Drop,
+    C: Clock,
     R: Read,
     W: Output,
-    E: Write,
+    E: FaultOutput,
     T: Print,
 >(
-    rt: &F,
+    system: System<F, Outside<'c, D, N, V, C>>,
     alloc: Global,
     words: &[String],
     streams: &mut Streams<R, W, E>,
     terminal: Option<&T>,
-) -> u8
+) -> (System<F, Outside<'c, D, N, V, C>>, u8)
     requires { FitsInMemory R.row }
     // With no words, the tape on the input is checked.
-    ensures checked { words.now ≡ [] → (status : Status) × IsAttempted (F.opens rt.now) Request.CheckInput (W.unread streams.new.out)
-        (held R.remaining W.contents E.contents streams.old)
-        (held R.remaining W.contents E.contents streams.new)
-        status × (result ≡ status_code status) }
+    ensures checked { words.now ≡ [] → (status : Status) × IsAttempted Request.CheckInput (W.unread streams.new.out)
+        (asked_of F.opened D.asked N.asked V.asked system.entry)
+        (asked_of F.opened D.asked N.asked V.asked result.0)
+        (held R.remaining W.contents E.contents E.failures streams.old)
+        (held R.remaining W.contents E.contents E.failures streams.new)
+        status × (result.1 ≡ status_code status) }
     // Whatever the words are, they ask for something that is then attempted, or they are explained. Only where
     // there are none, the input is checked.
-    ensures answered { (status : Status) × IsAnswered (F.opens rt.now) (words.now ≡ []) (W.unread streams.new.out)
-        (held R.remaining W.contents E.contents streams.old)
-        (held R.remaining W.contents E.contents streams.new)
-        status × (result ≡ status_code status) }
+    ensures answered { (status : Status) × IsAnswered (words.now ≡ []) (W.unread streams.new.out)
+        (asked_of F.opened D.asked N.asked V.asked system.entry)
+        (asked_of F.opened D.asked N.asked V.asked result.0)
+        (held R.remaining W.contents E.contents E.failures streams.old)
+        (held R.remaining W.contents E.contents E.failures streams.new)
+        status × (result.1 ≡ status_code status) }
 {
-    answer(rt, alloc, words, streams, terminal).code()
+    let (system, status) = answer(system, alloc, words, streams, terminal);
+    (system, status.code())
 }
 
 // Does what the words ask for, or explains them.
-fn answer<F: InputFiles + Locks + Devices + Net + Clock, R: Read, W: Output, E: Write, T: Print>(
-    rt: &F,
+fn answer<
+    'c,
+    F: InputFiles + Drop,
+    D: Disk + Drop,
+    N: Dialling + Drop,
+    V: DeviceOpening + Drop,
+    C: Clock,
+    R: Read,
+    W: Output,
+    E: FaultOutput,
+    T: Print,
+>(
+    system: System<F, Outside<'c, D, N, V, C>>,
     alloc: Global,
     words: &[String],
     streams: &mut Streams<R, W, E>,
     terminal: Option<&T>,
-) -> Status
+) -> (System<F, Outside<'c, D, N, V, C>>, Status)
     requires { FitsInMemory R.row }
-    ensures checked { words.now ≡ [] → IsAttempted (F.opens rt.now) Request.CheckInput (W.unread streams.new.out)
-        (held R.remaining W.contents E.contents streams.old)
-        (held R.remaining W.contents E.contents streams.new)
-        result }
-    ensures answered { IsAnswered (F.opens rt.now) (words.now ≡ []) (W.unread streams.new.out)
-        (held R.remaining W.contents E.contents streams.old)
-        (held R.remaining W.contents E.contents streams.new)
-        result }
+    ensures checked { words.now ≡ [] → IsAttempted Request.CheckInput (W.unread streams.new.out)
+        (asked_of F.opened D.asked N.asked V.asked system.entry)
+        (asked_of F.opened D.asked N.asked V.asked result.0)
+        (held R.remaining W.contents E.contents E.failures streams.old)
+        (held R.remaining W.contents E.contents E.failures streams.new)
+        result.1 }
+    ensures answered { IsAnswered (words.now ≡ []) (W.unread streams.new.out)
+        (asked_of F.opened D.asked N.asked V.asked system.entry)
+        (asked_of F.opened D.asked N.asked V.asked result.0)
+        (held R.remaining W.contents E.contents E.failures streams.old)
+        (held R.remaining W.contents E.contents E.failures streams.new)
+        result.1 }
 {
     match parse(alloc, words) {
-        Ok(request) => attempt(rt, alloc, request, streams, terminal),
-        Err(answer) => explain(alloc, answer, streams),
+        Ok(request) => attempt(system, alloc, request, streams, terminal),
+        Err(answer) => (system, explain(alloc, answer, streams)),
     }
 }
 
 // Says why there was nothing to do: help, the version, or what is wrong with the words.
-fn explain<R: Read, W: Output, E: Write>(
+fn explain<R: Read, W: Output, E: FaultOutput>(
     alloc: Global,
     answer: NoRequest,
     streams: &mut Streams<R, W, E>,
 ) -> Status
     ensures { IsExplained answer (W.unread streams.new.out)
-        (held R.remaining W.contents E.contents streams.old)
-        (held R.remaining W.contents E.contents streams.new)
+        (held R.remaining W.contents E.contents E.failures streams.old)
+        (held R.remaining W.contents E.contents E.failures streams.new)
         result }
 {
     match answer {

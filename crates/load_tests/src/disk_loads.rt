@@ -1,6 +1,6 @@
 //! Loads of a machine in memory, with a record on a disk that tells what it was asked.
 ghost use Rattle.std.specs.Prelude.{IfErr, IfOk, option_map};
-ghost use Rattle.machine_load.specs.RecordDisk.{disk_asked_by, disk_asked_before};
+ghost use Rattle.machine_load.specs.RecordDisk.{IsClosedAfter, disk_asked_by, disk_asked_before};
 ghost use Rattle.record_file.specs.DiskStep.{HasAsked};
 ghost use Rattle.record_file.specs.Taking.{kind_of};
 ghost use Rattle.told_disk.specs.ToldSteps.{steps_of};
@@ -15,27 +15,28 @@ use std::io::Write;
 use tape_image::Plan;
 use told_disk::ToldDisk;
 
-/// Loads a plan into a machine in memory. What `load` promises of the disk on which its record is, is so of
-/// this one, which tells.
-pub(crate) fn load_on_disk<W: Write>(
+/// Loads a plan into a machine in memory, and closes its record. What `load` and `close` promise of the disk
+/// on which the record is, is so of this one, which tells.
+pub(crate) fn load_on_disk<'a, W: Write>(
     alloc: Global,
     plan: Plan,
     options: LoadOptions,
-    around: &mut Around<MemoryReach, RecordFile<'_, ToldDisk<'_>>>,
+    mut around: Around<MemoryReach, RecordFile<'_, ToldDisk<'a>>>,
     out: &mut W,
-) -> Result<Outcome<MemoryLine>, LoadFault>
-    ensures disk { IfOk result (λ outcome. HasAsked (steps_of around.old.records.disk.asked) (steps_of around.new.records.disk.asked)
-        (disk_asked_by outcome.line (record {
-          asked = steps_of around.old.records.disk.asked;
-          name = around.old.records.name.now;
-          known = option_map kind_of around.old.records.held;
+) -> (Result<Outcome<MemoryLine>, LoadFault>, ToldDisk<'a>)
+    ensures disk { IfOk result.0 (λ outcome. HasAsked (steps_of around.entry.records.disk.asked) (steps_of result.1.asked)
+        (IsClosedAfter (disk_asked_by outcome.line) (record {
+          asked = steps_of around.entry.records.disk.asked;
+          name = around.entry.records.name.now;
+          known = option_map kind_of around.entry.records.held;
         }))) }
-    ensures disk_in_vain { IfErr result (λ fault. HasAsked (steps_of around.old.records.disk.asked) (steps_of around.new.records.disk.asked)
-        (disk_asked_before fault (record {
-          asked = steps_of around.old.records.disk.asked;
-          name = around.old.records.name.now;
-          known = option_map kind_of around.old.records.held;
+    ensures disk_in_vain { IfErr result.0 (λ fault. HasAsked (steps_of around.entry.records.disk.asked) (steps_of result.1.asked)
+        (IsClosedAfter (disk_asked_before fault) (record {
+          asked = steps_of around.entry.records.disk.asked;
+          name = around.entry.records.name.now;
+          known = option_map kind_of around.entry.records.held;
         }))) }
 {
-    load(alloc, plan, options, around, out, &Unwatched)
+    let outcome = load(alloc, plan, options, &mut around, out, &Unwatched);
+    (outcome, around.records.close())
 }

@@ -59,14 +59,14 @@ fn taken(alloc: Global, record: &mut RecordFile<'_, ToldDisk<'_>>, plan: &Plan) 
     }
 }
 
-// What comes of a record, and what its disk was asked; None where there was no memory.
+// What comes of a record, and what its disk was asked until it is closed; None where there was no memory.
 fn course(rt: &HostRuntime, name: &str, failing: Failing) -> Option<(Outcome, String)> {
     let alloc = rt.alloc();
     let (tape, _) = read_tape(alloc, &ONE_WORD).ok()?;
     let plan = Plan::of(alloc, &tape).ok()?;
     let mut record = RecordFile::new(ToldDisk::new(rt, failing), name);
     let outcome = taken(alloc, &mut record, &plan);
-    let asked = record.disk().shown()?;
+    let asked = record.close().shown()?;
     Some((outcome, asked))
 }
 

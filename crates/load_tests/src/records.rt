@@ -30,6 +30,10 @@ const MADE: &str = "- look d.record\n\
     + hold d.record\n\
     + look d.record\n";
 
+// The one that was made goes again, where nothing was written to it.
+const UNMADE: &str = "+ look d.record\n\
+    + remove d.record\n";
+
 // What is to follow, once there is one.
 const REPLACED: &str = "+ sole d.record\n\
     + open to read .\n\
@@ -101,13 +105,13 @@ fn loaded<W: Write>(
     } else {
         None
     };
-    let mut around = Around {
+    let plan = plan_of_one_word(alloc)?;
+    let around = Around {
         console: MemoryReach::new(alloc, odt),
         records: RecordFile::new(ToldDisk::new(rt, setting.failing), RECORD),
     };
-    let plan = plan_of_one_word(alloc)?;
-    let outcome = load_on_disk(alloc, plan, OPTIONS, &mut around, out);
-    let asked = around.records.disk().shown()?;
+    let (outcome, disk) = load_on_disk(alloc, plan, OPTIONS, around, out);
+    let asked = disk.shown()?;
     Some((outcome.err(), asked))
 }
 
@@ -161,9 +165,10 @@ fn without_a_line_it_is_only_read(rt: HostRuntime) -> Result<(), Fail> {
     );
     put(&rt, None)?;
     assert!(rt;
-        is_loaded(&rt, unplugged, Some(LoadFault::Connect), (MADE, "")),
+        is_loaded(&rt, unplugged, Some(LoadFault::Connect), (MADE, UNMADE)),
         "made"
     );
+    assert!(rt; fs::read(&rt, RECORD).is_err(), "made");
     put(&rt, Some(FOREIGN))?;
     let foreign = LoadFault::Record(RecordError::Foreign(2));
     assert!(rt; is_loaded(&rt, AMPLE, Some(foreign), (READ, "")), "foreign");

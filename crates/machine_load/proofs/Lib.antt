@@ -2,5 +2,5 @@ mod Begun
 mod Driving
 mod Faults
 mod Lives
-mod OnDisk
+pub mod OnDisk
 mod Steps

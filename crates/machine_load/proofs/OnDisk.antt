@@ -1,68 +1,95 @@
 -- What the disk of a record was asked, by the parts of a load.
-use Rattle.std.proofs.Common.{◌≡◌, ℕ, Bool, List, ◌++◌, Option, Some, None, Ok, Err, refl, sym, subst, inl, inr}
+use Rattle.std.proofs.Common.{◌≡◌, ℕ, List, [], ◌++◌, Option, Some, None, Result, Ok, Err, refl, sym, subst, ◌∙◌, inl, inr}
+use Rattle.std.specs.Prelude.{MatchOption, OnOk, OnErr}
+use Rattle.std.specs.Result.{IfOk, IfErr}
 use Rattle.load_record.specs.declared.reader.RecordError.{RecordError}
-use Rattle.record_file.proofs.Asking.{tells_join}
-use Rattle.record_file.specs.DiskStep.{DiskStep}
-use Rattle.record_file.specs.Reading.{IsNotRead}
+use Rattle.record_file.proofs.Asking.{tells_join, tells_none}
+use Rattle.record_file.specs.Beginning.{IsBegun, IsNotBegun}
+use Rattle.record_file.specs.Closing.{IsClosed, Remains}
+use Rattle.record_file.specs.DiskStep.{DiskStep, HasAsked}
+use Rattle.record_file.specs.Reading.{IsRead, IsNotRead}
 use Rattle.record_file.specs.RecordFault.{IsUnread, IsUnbegun}
-use Rattle.record_file.specs.declared.made.Made.{Made}
 use Rattle.record_file.specs.declared.old_record.OldRecord.{OldRecord}
 use Rattle.record_file.specs.declared.record_fault.RecordFault.{RecordFault}
 use Rattle.record_file.specs.declared.record_fault.RecordFault.TheVariants as why
 use Rattle.machine_load.specs.LoadFault.{fault_of_record}
-use Rattle.machine_load.specs.RecordDisk.{RecordDisk, DiskAsked, IsReadAnswered, IsBegunOf, IsNotBegunOf, IsBegunOn, IsNotBegunOn, IsReadFirst, IsOnlyRead, disk_asked_by, disk_asked_before, IsOpenedOn, IsLivedOn, IsNotLivedOn}
+use Rattle.machine_load.specs.RecordDisk.{RecordDisk, FileKnown, DiskAsked, IsNotReadOn, IsReadAnswered, IsBegunOf, IsNotBegunOf, IsBegunOn, IsNotBegunOn, IsBeginAnswered, IsReadFirst, IsReadAndBegun, IsReadNotBegun, IsOnlyRead, IsClosedAfter, disk_asked_by, disk_asked_before, IsLivedOn, IsNotLivedOn}
 use Rattle.machine_load.specs.declared.fault.LoadFault.{LoadFault}
 use Rattle.machine_load.specs.declared.fault.LoadFault.TheVariants.{ReadRecord, RecordInUse, Record, Connect, WriteRecord, WriteOutput, Memory}
 
-asked_as : (P Q : RecordDisk → List DiskStep → Type 0) (a b : Option RecordDisk) → ((disk : RecordDisk) (steps : List DiskStep) → P disk steps → Q disk steps)
-    → DiskAsked a b P → DiskAsked a b Q
+asked_as : (P Q : RecordDisk → FileKnown → List DiskStep → Type 0) (a b : Option RecordDisk)
+    → ((disk : RecordDisk) (known' : FileKnown) (steps : List DiskStep) → P disk known' steps → Q disk known' steps) → DiskAsked a b P → DiskAsked a b Q
 asked_as P Q None b f h = tt
 asked_as P Q (Some disk) None f h = absurd h
-asked_as P Q (Some disk) (Some disk') f h = (h.0, h.1, f disk h.0 h.2)
+asked_as P Q (Some disk) (Some disk') f h = (h.0, (h.1.0, h.1.1, f disk disk'.known h.1.0 h.1.2))
+
+-- ---- a record in a file
+
+pub read_answered : (before after : RecordDisk) (result : Result OldRecord RecordFault) → after.name ≡ before.name
+    → IfOk result (λ old. HasAsked before.asked after.asked (IsRead before.name old.text.items before.known after.known))
+    → IfErr result (λ _. HasAsked before.asked after.asked (IsNotRead before.name)) → OnErr result (after.known ≡ before.known)
+    → IsReadAnswered (Some before) (Some after) result
+read_answered before after (Ok old) name asked failed kept = (name, asked)
+read_answered before after (Err fault) name asked failed kept = (name, (failed.0, failed.1, (failed.2, kept)))
+
+begun_of : (name : List ℕ) (known known' : FileKnown) (a b : Option (List DiskStep)) (written : Option (List ℕ))
+    → MatchOption known ⊥ (λ kind. HasAsked a b (IsBegun name kind.0 kind.1 written)) → Remains known' → HasAsked a b (IsBegunOf name known known')
+begun_of name None known' a b written h remains = absurd h
+begun_of name (Some kind) known' a b written h remains = (h.0, h.1, (written, h.2, remains))
+
+not_begun_of : (name : List ℕ) (known known' : FileKnown) (a b : Option (List DiskStep))
+    → MatchOption known (b ≡ a) (λ kind. HasAsked a b (IsNotBegun name kind.0)) → known' ≡ None → HasAsked a b (IsNotBegunOf name known known')
+not_begun_of name None known' a b h none = subst (λ x. HasAsked a x (IsNotBegunOf name None known')) (sym h) ([], tells_none a, (refl, none))
+not_begun_of name (Some kind) known' a b h none = (h.0, h.1, (h.2, none))
+
+pub begin_answered : {K : Type 0} (before after : RecordDisk) (result : Result K RecordFault) (text : K → Option (List ℕ)) → after.name ≡ before.name
+    → IfOk result (λ keeper. MatchOption before.known ⊥ (λ kind. HasAsked before.asked after.asked (IsBegun before.name kind.0 kind.1 (text keeper))))
+    → IfErr result (λ _. MatchOption before.known (after.asked ≡ before.asked) (λ kind. HasAsked before.asked after.asked (IsNotBegun before.name kind.0)))
+    → OnOk result (Remains after.known) → OnErr result (after.known ≡ None) → IsBeginAnswered (Some before) (Some after) result
+begin_answered before after (Ok keeper) text name asked failed remains none = (name, begun_of before.name before.known after.known before.asked after.asked (text keeper) asked remains)
+begin_answered before after (Err fault) text name asked failed remains none = (name, not_begun_of before.name before.known after.known before.asked after.asked failed none)
 
 -- ---- reading
 
-pub opened_on : (a b : Option RecordDisk) (old : OldRecord) → IsReadAnswered a b (Ok old) → IsOpenedOn a b
-opened_on None b old h = tt
-opened_on (Some disk) None old h = absurd h
-opened_on (Some disk) (Some disk') old h = (h.0, (h.1.0, h.1.1, record { text = old.text.items; read = h.1.2 }))
-
-only_read : (a b : Option RecordDisk) → IsOpenedOn a b → DiskAsked a b IsOnlyRead
-only_read None b h = tt
-only_read (Some disk) None h = absurd h
-only_read (Some disk) (Some disk') h = (h.1.0, h.1.1, (disk'.known, h.1.2))
+pub opened_on : (a b : Option RecordDisk) (old : OldRecord) → IsReadAnswered a b (Ok old) → DiskAsked a b IsOnlyRead
+opened_on a b old h = asked_as (λ disk known'. IsRead disk.name old.text.items disk.known known') IsOnlyRead a b (λ disk known' steps r. record { text = old.text.items; read = r }) h
 
 -- a record that was read and refused
 pub refused_on : (a b : Option RecordDisk) (old : OldRecord) (error : RecordError) → IsReadAnswered a b (Ok old) → DiskAsked a b (disk_asked_before (Record error))
-refused_on a b old error h = only_read a b (opened_on a b old h)
-
-not_read : (a b : Option RecordDisk) (fault : RecordFault) → IsReadAnswered a b (Err fault) → DiskAsked a b (λ disk steps. IsNotRead disk.name steps)
-not_read None b fault h = tt
-not_read (Some disk) None fault h = absurd h
-not_read (Some disk) (Some disk') fault h = h
+refused_on a b old error h = opened_on a b old h
 
 -- one that was not read
 pub unread_on : (a b : Option RecordDisk) (fault : RecordFault) → IsUnread fault → IsReadAnswered a b (Err fault) → DiskAsked a b (disk_asked_before (fault_of_record fault))
-unread_on a b why.Read is h = not_read a b why.Read h
-unread_on a b why.InUse is h = not_read a b why.InUse h
-unread_on a b why.Memory is h = asked_as (λ disk steps. IsNotRead disk.name steps) (disk_asked_before Memory) a b (λ disk steps n. inl n) (not_read a b why.Memory h)
+unread_on a b why.Read is h = h
+unread_on a b why.InUse is h = h
+unread_on a b why.Memory is h = asked_as IsNotReadOn (disk_asked_before Memory) a b (λ disk known' steps n. inl n) h
 unread_on a b why.Write is h = absurd is
 
 -- ---- and then beginning
 
-then_on : (P : List ℕ → Option (Made × Bool) → List DiskStep → Type 0) (a b c : Option RecordDisk) → IsOpenedOn a b
-    → DiskAsked b c (λ disk steps. P disk.name disk.known steps) → DiskAsked a c (λ disk. IsReadFirst disk P)
+then_on : (P : List ℕ → FileKnown → FileKnown → List DiskStep → Type 0) (a b c : Option RecordDisk) → DiskAsked a b IsOnlyRead
+    → DiskAsked b c (λ disk known' steps. P disk.name disk.known known' steps) → DiskAsked a c (IsReadFirst P)
 then_on P None b c o h = tt
 then_on P (Some d) None c o h = absurd o
 then_on P (Some d) (Some e) None o h = absurd h
 then_on P (Some d) (Some e) (Some f) o h = (
-  o.1.0 ++ h.0,
-  tells_join d.asked e.asked f.asked o.1.0 h.0 o.1.1 h.1,
-  record { known = e.known; reading = o.1.0; rest = h.0; read = o.1.2; then_so = subst (λ name. P name e.known h.0) o.0 h.2; all = refl },
+  h.0 ∙ o.0,
+  (
+    o.1.0 ++ h.1.0,
+    tells_join d.asked e.asked f.asked o.1.0 h.1.0 o.1.1 h.1.1,
+    record {
+      known = e.known;
+      reading = o.1.0;
+      rest = h.1.0;
+      read = o.1.2;
+      then_so = subst (λ name. P name e.known f.known h.1.0) o.0 h.1.2;
+      all = refl;
+    },
+  ),
 )
 
-only_read_on : (a b c : Option RecordDisk) → IsOpenedOn a b → c ≡ b → DiskAsked a c IsOnlyRead
-only_read_on a b c o same = subst (λ after. DiskAsked a after IsOnlyRead) (sym same) (only_read a b o)
+only_read_on : (a b c : Option RecordDisk) → DiskAsked a b IsOnlyRead → c ≡ b → DiskAsked a c IsOnlyRead
+only_read_on a b c o same = subst (λ after. DiskAsked a after IsOnlyRead) (sym same) o
 
 -- between a connection and the end of a life nothing else was asked
 pub begun_on : (a b c d : Option RecordDisk) → b ≡ a → DiskAsked b c IsBegunOn → d ≡ c → DiskAsked a d IsBegunOn
@@ -76,24 +103,54 @@ not_begun_on a b c why.InUse is before h = absurd is
 
 -- ---- a load
 
-pub lived_on : {L : Type 0} (a b c : Option RecordDisk) (line : Option L) → IsOpenedOn a b → IsLivedOn b c line → DiskAsked a c (disk_asked_by line)
+pub lived_on : {L : Type 0} (a b c : Option RecordDisk) (line : Option L) → DiskAsked a b IsOnlyRead → IsLivedOn b c line → DiskAsked a c (disk_asked_by line)
 lived_on a b c None o h = only_read_on a b c o h
 lived_on a b c (Some line) o h = then_on IsBegunOf a b c o h
 
-pub untold_on : {L : Type 0} (a b c : Option RecordDisk) (line : Option L) → IsOpenedOn a b → IsLivedOn b c line → DiskAsked a c (disk_asked_before WriteOutput)
-untold_on a b c None o h = asked_as IsOnlyRead (disk_asked_before WriteOutput) a c (λ disk steps x. inl x) (only_read_on a b c o h)
-untold_on a b c (Some line) o h = asked_as (λ disk. IsReadFirst disk IsBegunOf) (disk_asked_before WriteOutput) a c (λ disk steps x. inr x) (then_on IsBegunOf a b c o h)
+pub untold_on : {L : Type 0} (a b c : Option RecordDisk) (line : Option L) → DiskAsked a b IsOnlyRead → IsLivedOn b c line → DiskAsked a c (disk_asked_before WriteOutput)
+untold_on a b c None o h = asked_as IsOnlyRead (disk_asked_before WriteOutput) a c (λ disk known' steps x. inl x) (only_read_on a b c o h)
+untold_on a b c (Some line) o h = asked_as IsReadAndBegun (disk_asked_before WriteOutput) a c (λ disk known' steps x. inr x) (then_on IsBegunOf a b c o h)
 
-not_begun_then : (fault : LoadFault) (a b c : Option RecordDisk) → ((disk : RecordDisk) (steps : List DiskStep) → IsReadFirst disk IsNotBegunOf steps → disk_asked_before fault disk steps)
-    → IsOpenedOn a b → DiskAsked b c IsNotBegunOn → DiskAsked a c (disk_asked_before fault)
-not_begun_then fault a b c f o h = asked_as (λ disk. IsReadFirst disk IsNotBegunOf) (disk_asked_before fault) a c f (then_on IsNotBegunOf a b c o h)
+not_begun_then : (fault : LoadFault) (a b c : Option RecordDisk)
+    → ((disk : RecordDisk) (known' : FileKnown) (steps : List DiskStep) → IsReadNotBegun disk known' steps → disk_asked_before fault disk known' steps)
+    → DiskAsked a b IsOnlyRead → DiskAsked b c IsNotBegunOn → DiskAsked a c (disk_asked_before fault)
+not_begun_then fault a b c f o h = asked_as IsReadNotBegun (disk_asked_before fault) a c f (then_on IsNotBegunOf a b c o h)
 
-pub not_lived_on : (a b c : Option RecordDisk) (fault : LoadFault) → IsOpenedOn a b → IsNotLivedOn b c fault → DiskAsked a c (disk_asked_before fault)
+pub not_lived_on : (a b c : Option RecordDisk) (fault : LoadFault) → DiskAsked a b IsOnlyRead → IsNotLivedOn b c fault → DiskAsked a c (disk_asked_before fault)
 not_lived_on a b c Connect o h = only_read_on a b c o h
-not_lived_on a b c WriteRecord o (inl same) = asked_as IsOnlyRead (disk_asked_before WriteRecord) a c (λ disk steps x. inl x) (only_read_on a b c o same)
-not_lived_on a b c WriteRecord o (inr h) = not_begun_then WriteRecord a b c (λ disk steps x. inr x) o h
-not_lived_on a b c Memory o h = not_begun_then Memory a b c (λ disk steps x. inr x) o h
+not_lived_on a b c WriteRecord o (inl same) = asked_as IsOnlyRead (disk_asked_before WriteRecord) a c (λ disk known' steps x. inl x) (only_read_on a b c o same)
+not_lived_on a b c WriteRecord o (inr h) = not_begun_then WriteRecord a b c (λ disk known' steps x. inr x) o h
+not_lived_on a b c Memory o h = not_begun_then Memory a b c (λ disk known' steps x. inr x) o h
 not_lived_on a b c ReadRecord o h = absurd h
 not_lived_on a b c RecordInUse o h = absurd h
 not_lived_on a b c (Record error) o h = absurd h
 not_lived_on a b c WriteOutput o h = absurd h
+
+-- ---- and its record closed
+
+closed_after : (P : RecordDisk → FileKnown → List DiskStep → Type 0) (before after : RecordDisk) (last : Option (List DiskStep)) → DiskAsked (Some before) (Some after) P
+    → HasAsked after.asked last (IsClosed after.name after.known) → HasAsked before.asked last (IsClosedAfter P before)
+closed_after P before after last h c = (
+  h.1.0 ++ c.0,
+  tells_join before.asked after.asked last h.1.0 c.0 h.1.1 c.1,
+  record {
+    known = after.known;
+    before = h.1.0;
+    going = c.0;
+    is_so = h.1.2;
+    closed = subst (λ name. IsClosed name after.known c.0) h.0 c.2;
+    all = refl;
+  },
+)
+
+pub closed_ok : {A E : Type 0} (P : A → RecordDisk → FileKnown → List DiskStep → Type 0) (result : Result A E) (before after : RecordDisk) (last : Option (List DiskStep))
+    → IfOk result (λ value. DiskAsked (Some before) (Some after) (P value)) → HasAsked after.asked last (IsClosed after.name after.known)
+    → IfOk result (λ value. HasAsked before.asked last (IsClosedAfter (P value) before))
+closed_ok P (Ok value) before after last h c = closed_after (P value) before after last h c
+closed_ok P (Err error) before after last h c = tt
+
+pub closed_err : {A E : Type 0} (P : E → RecordDisk → FileKnown → List DiskStep → Type 0) (result : Result A E) (before after : RecordDisk) (last : Option (List DiskStep))
+    → IfErr result (λ error. DiskAsked (Some before) (Some after) (P error)) → HasAsked after.asked last (IsClosed after.name after.known)
+    → IfErr result (λ error. HasAsked before.asked last (IsClosedAfter (P error) before))
+closed_err P (Ok value) before after last h c = tt
+closed_err P (Err error) before after last h c = closed_after (P error) before after last h c

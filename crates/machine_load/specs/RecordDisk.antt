@@ -1,6 +1,7 @@
 -- What a load asks of the disk on which its record is: the record is read once, and then begun anew once, or not at all.
 use Rattle.std.specs.Prelude.{◌≡◌, ◌⊎◌, ℕ, Bool, List, [], ◌++◌, Option, Some, None, Result, Ok, Err, ⊤}
 use Rattle.record_file.specs.Beginning.{IsBegun, IsNotBegun}
+use Rattle.record_file.specs.Closing.{IsClosed, Remains}
 use Rattle.record_file.specs.DiskStep.{DiskStep, HasAsked}
 use Rattle.record_file.specs.Reading.{IsRead, IsNotRead}
 use Rattle.record_file.specs.declared.made.Made.{Made}
@@ -9,44 +10,49 @@ use Rattle.record_file.specs.declared.record_fault.RecordFault.{RecordFault}
 use Rattle.machine_load.specs.declared.fault.LoadFault.{LoadFault}
 use Rattle.machine_load.specs.declared.fault.LoadFault.TheVariants.{ReadRecord, RecordInUse, Record, Connect, WriteRecord, WriteOutput, Memory}
 
--- a disk with a record at a moment: what the disk was asked so far, where it tells; the record's name; and of its file, where it is held,
--- whether this load made it and whether it is a device
+-- what is known of the record's file, where it is held: whether this load made it, and whether it is a device
+abbrev pub FileKnown : Type 0
+FileKnown = Option (Made × Bool)
+
+-- a disk with a record at a moment: what the disk was asked so far, where it tells; the record's name; and what is known of its file
 pub record RecordDisk : Type 0 where
   pub asked : Option (List DiskStep)
   pub name : List ℕ
-  pub known : Option (Made × Bool)
+  pub known : FileKnown
 
--- from one moment to another the disk, where the record is on one, was asked for steps of which this holds
-abbrev pub DiskAsked : Option RecordDisk → Option RecordDisk → (RecordDisk → List DiskStep → Type 0) → Type 0
+-- from one moment to another the disk, where the record is on one, was asked for steps of which this holds, with what is known of the file
+-- then; the record has the same name
+abbrev pub DiskAsked : Option RecordDisk → Option RecordDisk → (RecordDisk → FileKnown → List DiskStep → Type 0) → Type 0
 DiskAsked None after P = ⊤
 DiskAsked (Some disk) None P = ⊥
-DiskAsked (Some disk) (Some disk') P = HasAsked disk.asked disk'.asked (P disk)
+DiskAsked (Some disk) (Some disk') P = (disk'.name ≡ disk.name) × HasAsked disk.asked disk'.asked (P disk disk'.known)
 
 -- ---- one call
 
+-- a record was not read, and of its file is known what was known before
+abbrev pub IsNotReadOn : RecordDisk → FileKnown → List DiskStep → Type 0
+IsNotReadOn disk known' steps = IsNotRead disk.name steps × (known' ≡ disk.known)
+
 -- what was asked by what came of a reading
 abbrev pub IsReadAnswered : Option RecordDisk → Option RecordDisk → Result OldRecord RecordFault → Type 0
-IsReadAnswered None after answer = ⊤
-IsReadAnswered (Some disk) None answer = ⊥
-IsReadAnswered (Some disk) (Some disk') (Ok old) =
-    (disk'.name ≡ disk.name) × HasAsked disk.asked disk'.asked (IsRead disk.name old.text.items disk.known disk'.known)
-IsReadAnswered (Some disk) (Some disk') (Err fault) = HasAsked disk.asked disk'.asked (IsNotRead disk.name)
+IsReadAnswered before after (Ok old) = DiskAsked before after (λ disk known'. IsRead disk.name old.text.items disk.known known')
+IsReadAnswered before after (Err fault) = DiskAsked before after IsNotReadOn
 
--- a record of whose file this is known was begun anew: so only one that is held
-abbrev pub IsBegunOf : List ℕ → Option (Made × Bool) → List DiskStep → Type 0
-IsBegunOf name None steps = ⊥
-IsBegunOf name (Some kind) steps = (written : Option (List ℕ)) × IsBegun name kind.0 kind.1 written steps
+-- a record of whose file this is known was begun anew: so only one that is held; and it remains, also once it is closed
+abbrev pub IsBegunOf : List ℕ → FileKnown → FileKnown → List DiskStep → Type 0
+IsBegunOf name None known' steps = ⊥
+IsBegunOf name (Some kind) known' steps = (written : Option (List ℕ)) × IsBegun name kind.0 kind.1 written steps × Remains known'
 
--- or it was not: of one that is not held nothing is asked
-abbrev pub IsNotBegunOf : List ℕ → Option (Made × Bool) → List DiskStep → Type 0
-IsNotBegunOf name None steps = steps ≡ []
-IsNotBegunOf name (Some kind) steps = IsNotBegun name kind.0 steps
+-- or it was not: of one that is not held nothing is asked; and behind that none is held
+abbrev pub IsNotBegunOf : List ℕ → FileKnown → FileKnown → List DiskStep → Type 0
+IsNotBegunOf name None known' steps = (steps ≡ []) × (known' ≡ None)
+IsNotBegunOf name (Some kind) known' steps = IsNotBegun name kind.0 steps × (known' ≡ None)
 
-abbrev pub IsBegunOn : RecordDisk → List DiskStep → Type 0
-IsBegunOn disk steps = IsBegunOf disk.name disk.known steps
+abbrev pub IsBegunOn : RecordDisk → FileKnown → List DiskStep → Type 0
+IsBegunOn disk known' steps = IsBegunOf disk.name disk.known known' steps
 
-abbrev pub IsNotBegunOn : RecordDisk → List DiskStep → Type 0
-IsNotBegunOn disk steps = IsNotBegunOf disk.name disk.known steps
+abbrev pub IsNotBegunOn : RecordDisk → FileKnown → List DiskStep → Type 0
+IsNotBegunOn disk known' steps = IsNotBegunOf disk.name disk.known known' steps
 
 -- what was asked by what came of a beginning
 abbrev pub IsBeginAnswered : {K : Type 0} → Option RecordDisk → Option RecordDisk → Result K RecordFault → Type 0
@@ -55,53 +61,53 @@ IsBeginAnswered before after (Err fault) = DiskAsked before after IsNotBegunOn
 
 -- ---- a load
 
--- the record was read, and from there on this is known of its file
-pub record IsReadTo (disk : RecordDisk) (known : Option (Made × Bool)) (steps : List DiskStep) : Type 0 where
+-- the record was read, and nothing else, and from there on this is known of its file
+pub record IsOnlyRead (disk : RecordDisk) (known' : FileKnown) (steps : List DiskStep) : Type 0 where
   pub text : List ℕ
-  pub read : IsRead disk.name text disk.known known steps
-
--- it was read, and nothing else
-abbrev pub IsOnlyRead : RecordDisk → List DiskStep → Type 0
-IsOnlyRead disk steps = (known : Option (Made × Bool)) × IsReadTo disk known steps
+  pub read : IsRead disk.name text disk.known known' steps
 
 -- it was read, and then this was asked of what is known of its file
-pub record IsReadFirst (disk : RecordDisk) (P : List ℕ → Option (Made × Bool) → List DiskStep → Type 0) (steps : List DiskStep) : Type 0 where
-  pub known : Option (Made × Bool)
+pub record IsReadFirst (P : List ℕ → FileKnown → FileKnown → List DiskStep → Type 0) (disk : RecordDisk) (known' : FileKnown) (steps : List DiskStep)
+    : Type 0 where
+  pub known : FileKnown
   pub reading : List DiskStep
   pub rest : List DiskStep
-  pub read : IsReadTo disk known reading
-  pub then_so : P disk.name known rest
+  pub read : IsOnlyRead disk known reading
+  pub then_so : P disk.name known known' rest
   pub all : steps ≡ reading ++ rest
 
 -- it was read once, and then begun anew once, or in vain
-abbrev pub IsReadAndBegun : RecordDisk → List DiskStep → Type 0
-IsReadAndBegun disk = IsReadFirst disk IsBegunOf
+abbrev pub IsReadAndBegun : RecordDisk → FileKnown → List DiskStep → Type 0
+IsReadAndBegun = IsReadFirst IsBegunOf
 
-abbrev pub IsReadNotBegun : RecordDisk → List DiskStep → Type 0
-IsReadNotBegun disk = IsReadFirst disk IsNotBegunOf
+abbrev pub IsReadNotBegun : RecordDisk → FileKnown → List DiskStep → Type 0
+IsReadNotBegun = IsReadFirst IsNotBegunOf
 
 -- a load that has a line has begun its record anew; one that has none has only read it
-abbrev pub disk_asked_by : {L : Type 0} → Option L → RecordDisk → List DiskStep → Type 0
-disk_asked_by (Some line) disk = IsReadAndBegun disk
-disk_asked_by None disk = IsOnlyRead disk
+abbrev pub disk_asked_by : {L : Type 0} → Option L → RecordDisk → FileKnown → List DiskStep → Type 0
+disk_asked_by (Some line) = IsReadAndBegun
+disk_asked_by None = IsOnlyRead
 
 -- what was asked by how a load came to nothing: a record that is refused, and a console that was not reached, leave the record as it was read
-abbrev pub disk_asked_before : LoadFault → RecordDisk → List DiskStep → Type 0
-disk_asked_before ReadRecord disk steps = IsNotRead disk.name steps
-disk_asked_before RecordInUse disk steps = IsNotRead disk.name steps
-disk_asked_before (Record why) disk steps = IsOnlyRead disk steps
-disk_asked_before Connect disk steps = IsOnlyRead disk steps
-disk_asked_before WriteRecord disk steps = IsOnlyRead disk steps ⊎ IsReadNotBegun disk steps
-disk_asked_before WriteOutput disk steps = IsOnlyRead disk steps ⊎ IsReadAndBegun disk steps
-disk_asked_before Memory disk steps = IsNotRead disk.name steps ⊎ IsReadNotBegun disk steps
+abbrev pub disk_asked_before : LoadFault → RecordDisk → FileKnown → List DiskStep → Type 0
+disk_asked_before ReadRecord disk known' steps = IsNotReadOn disk known' steps
+disk_asked_before RecordInUse disk known' steps = IsNotReadOn disk known' steps
+disk_asked_before (Record why) disk known' steps = IsOnlyRead disk known' steps
+disk_asked_before Connect disk known' steps = IsOnlyRead disk known' steps
+disk_asked_before WriteRecord disk known' steps = IsOnlyRead disk known' steps ⊎ IsReadNotBegun disk known' steps
+disk_asked_before WriteOutput disk known' steps = IsOnlyRead disk known' steps ⊎ IsReadAndBegun disk known' steps
+disk_asked_before Memory disk known' steps = IsNotReadOn disk known' steps ⊎ IsReadNotBegun disk known' steps
+
+-- this was asked, and then the record was closed: what goes is decided by what was known of its file
+pub record IsClosedAfter (P : RecordDisk → FileKnown → List DiskStep → Type 0) (disk : RecordDisk) (steps : List DiskStep) : Type 0 where
+  pub known : FileKnown
+  pub before : List DiskStep
+  pub going : List DiskStep
+  pub is_so : P disk known before
+  pub closed : IsClosed disk.name known going
+  pub all : steps ≡ before ++ going
 
 -- ---- parts of a load
-
--- the record was read, and from there on that is known of its file which the disk says
-abbrev pub IsOpenedOn : Option RecordDisk → Option RecordDisk → Type 0
-IsOpenedOn None after = ⊤
-IsOpenedOn (Some disk) None = ⊥
-IsOpenedOn (Some disk) (Some disk') = (disk'.name ≡ disk.name) × HasAsked disk.asked disk'.asked (IsReadTo disk disk'.known)
 
 -- a life that has a line has begun its record; one that has none has asked for nothing
 abbrev pub IsLivedOn : {L : Type 0} → Option RecordDisk → Option RecordDisk → Option L → Type 0

@@ -18,7 +18,7 @@ ghost use Rattle.machine_load.specs.Driving.{ending_of, finish_of, keeper_tells,
 ghost use Rattle.machine_load.specs.Load.{around_of, setting, Asks, IsNeverBegun, IsOpening, IsReported, words_taken};
 ghost use Rattle.machine_load.specs.LoadFault.{IsLoadFault, IsOpeningFault, IsDrivingFault};
 ghost use Rattle.machine_load.specs.LoadReport.{load_report};
-ghost use Rattle.machine_load.specs.RecordDisk.{DiskAsked, disk_asked_by, disk_asked_before, IsBegunOn, IsOpenedOn, IsLivedOn, IsNotLivedOn};
+ghost use Rattle.machine_load.specs.RecordDisk.{DiskAsked, disk_asked_by, disk_asked_before, IsBegunOn, IsOnlyRead, IsLivedOn, IsNotLivedOn};
 ghost use Rattle.record_file.specs.OldRecord.{HoldsNoRecord};
 ghost use Rattle.machine_load.specs.Step.{reading, Connect, BeginRecord, EndRecord};
 
@@ -133,7 +133,7 @@ fn open<S: Surroundings>(
     ensures same { Keeps (S.record_text around.old) (S.record_text around.new) }
     ensures asked { S.asked around.new ≡ S.asked around.old }
     ensures call { S.call around.new ≡ S.call around.old }
-    ensures disk { OnOk result (IsOpenedOn (S.disk around.old) (S.disk around.new)) }
+    ensures disk { OnOk result (DiskAsked (S.disk around.old) (S.disk around.new) IsOnlyRead) }
     ensures disk_in_vain { IfErr result (λ fault. DiskAsked (S.disk around.old) (S.disk around.new) (disk_asked_before fault)) }
 {
     let record = around.read_record(alloc)?;

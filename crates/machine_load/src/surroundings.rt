@@ -5,7 +5,7 @@ ghost use Rattle.machine_load.specs.Load.{IsBegun, IsRecordText};
 ghost use Rattle.machine_load.specs.RecordDisk.{RecordDisk, IsReadAnswered, IsBeginAnswered};
 ghost use Rattle.record_file.specs.RecordFault.{IsUnread, IsUnbegun};
 ghost use Rattle.console_reach.specs.Reached.{IsFresh};
-ghost use Rattle.stream_line.specs.Dialling.{NetRequest, Call, asked_for};
+ghost use Rattle.stream_line.specs.Dialling.{LineRequest, Call, ToDevice, asked_for};
 ghost use Rattle.tape_image.specs.Plan.{PlanValue};
 ghost use Rattle.machine_load.specs.Step.{Step, EndRecord, read_step, connect_step, begin_step};
 
@@ -26,11 +26,11 @@ pub trait Surroundings {
     /// What was asked so far, in its order, with what was answered; None where the type doesn't tell.
     ghost steps: { Self → Option (List Step) } = { λ _. None };
 
-    /// What was asked of the network so far; None where the type doesn't tell.
-    ghost asked: { Self → Option (List NetRequest) } = { λ _. None };
+    /// What was asked for lines so far, of the network or of the devices; None where the type doesn't tell.
+    ghost asked: { Self → Option (List LineRequest) } = { λ _. None };
 
-    /// Whom a connection leads to, and with which quiet time, where the type tells what was asked.
-    ghost call: { Self → Call } = { λ _. record { name = []; quiet_ms = 0 } };
+    /// Whom a connection leads to, where the type tells what was asked.
+    ghost call: { Self → Call } = { λ _. ToDevice [] };
 
     /// What the record is; None where the type doesn't tell.
     ghost record_text: { Self → Option (List ℕ) } = { λ _. None };

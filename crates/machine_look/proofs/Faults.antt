@@ -1,5 +1,5 @@
 -- Looks that come to nothing.
-use Rattle.std.proofs.Common.{◌≡◌, ℕ, true, false, eqb, List, [], ◌∷◌, ◌++◌, length, Option, None, Some, Result, Ok, Err, IfErr, IfOk, IsErrAnd, refl, arith, ap, sym, subst, ◌∙◌, inl, inr, append_assoc, append-nil, OnOk}
+use Rattle.std.proofs.Common.{◌≡◌, ℕ, true, false, eqb, List, [], ◌∷◌, ◌++◌, length, Option, None, Some, Result, Ok, Err, IfErr, IfOk, IsErrAnd, refl, arith, ap, sym, subst, ◌∙◌, inl, inr, append_assoc, append-nil, OnErr, OnOk}
 use Rattle.std.proofs.lemmas.Bool.{eqb-true}
 use Rattle.std.specs.Io.KnownBytes.{Keeps}
 use Rattle.tape_blocks.specs.Tape.{TapeValue, plain_text}
@@ -39,10 +39,10 @@ puts_some from (n ∷ numbers) start some = refl
 -- ---- how a save fails
 
 pub not_reserved : (options : SaveOptions) (before after : SaveTold) (fault : ShelfFault) → Gains before.steps after.steps (reserve_step (Err fault) ∷ [])
-    → after.tries ≡ before.tries → Keeps before.out after.out → IsSaveFault options before after (fault_of_shelf fault)
-not_reserved options before after why.IsThere step untried same = inl (record { refused = step; not_tried = untried; nothing_reported = same })
-not_reserved options before after why.Write step untried same = inl (record { refused = step; not_tried = untried; nothing_reported = same })
-not_reserved options before after why.Memory step untried same = (inr (inl step), same)
+    → after.asked ≡ before.asked → Keeps before.out after.out → IsSaveFault options before after (fault_of_shelf fault)
+not_reserved options before after why.IsThere step unasked same = inl (record { refused = step; not_asked = unasked; nothing_reported = same })
+not_reserved options before after why.Write step unasked same = inl (record { refused = step; not_asked = unasked; nothing_reported = same })
+not_reserved options before after why.Memory step unasked same = (inl (record { nothing_put = inr step; not_asked = unasked }), same)
 
 -- a tape that the shelf does not take
 pub not_put : (tape : TapeValue) (shelf shelf' : Option (List Step)) (text : List ℕ) (fault : ShelfFault) → text ≡ plain_text tape → IsPutFault fault
@@ -57,7 +57,8 @@ not_kept options before after mid last stop IsThere reserved read fails same =
     inr (record { last = last; stop = stop; is_read = read; refused = gains_then before.steps mid after.steps _ _ reserved fails; nothing_reported = same })
 not_kept options before after mid last stop WriteTape reserved read fails same =
     inr (record { last = last; stop = stop; is_read = read; refused = gains_then before.steps mid after.steps _ _ reserved fails; nothing_reported = same })
-not_kept options before after mid last stop Memory reserved read fails same = (inr (inr (gains_then before.steps mid after.steps _ _ reserved fails)), same)
+not_kept options before after mid last stop Memory reserved read fails same =
+    (inr (record { nothing_put = gains_then before.steps mid after.steps _ _ reserved fails; asked = read.asked }), same)
 not_kept options before after mid last stop Connect reserved read fails same = absurd fails
 not_kept options before after mid last stop WriteOutput reserved read fails same = absurd fails
 
@@ -76,3 +77,7 @@ no_value (Err e) error P is = tt
 pub no_ok : {T E : Type 0} (r : Result T E) (error : E) (P : Type 0) → IsErrAnd r (λ e. e ≡ error) → OnOk r P
 no_ok (Ok x) error P is = absurd is
 no_ok (Err e) error P is = tt
+
+pub on_err : {T E : Type 0} (r : Result T E) (P : Type 0) → P → OnErr r P
+on_err (Ok x) P is = tt
+on_err (Err e) P is = is

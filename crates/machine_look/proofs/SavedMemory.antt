@@ -12,7 +12,7 @@ use Rattle.reading_core.specs.Reader.{Reader, begun, ended}
 use Rattle.reading_core.proofs.Asking.{one_more, length_from}
 use Rattle.reading_engine.specs.declared.stop.Stop.{Stop}
 use Rattle.machine_look.specs.declared.saving.SaveOptions.{SaveOptions}
-use Rattle.machine_look.specs.Look.{IsLook, TriesOnce}
+use Rattle.machine_look.specs.Look.{AsksOnce, IsLook}
 use Rattle.machine_look.specs.Save.{IsRead, SaveTold, addresses_in}
 use Rattle.machine_look.specs.SavedTape.{whole_word, words_read, StandFrom}
 use Rattle.machine_look.proofs.Looks.{is_true}
@@ -57,8 +57,8 @@ range_goes_on from to patience =
     ap (λ t. ended (cond t (Over Complete) Settle)) (ne_eqb 0 (length (addresses_between from to)) (λ none. omega (arith, none, range_length from to)))
 
 pub is_read : (options : SaveOptions) (before after : SaveTold) (last : Reader) (stop : Stop) → IsRange options.range.from options.range.to → options.start < 65536
-    → IsLook (begun (addresses_in options.range) [] options.patience) last stop → TriesOnce None before.tries after.tries → IsRead options before after last stop
-is_read options before after last stop range begins look tried =
+    → IsLook (begun (addresses_in options.range) [] options.patience) last stop → AsksOnce None before.call before.asked after.asked → IsRead options before after last stop
+is_read options before after last stop range begins look asks =
     let from = options.range.from in
     let to = options.range.to in
     let few : length last.values ≤ length (addresses_between from to) = subst (λ (list : List ℕ). length last.values ≤ length list) look.addresses look.kept.within in
@@ -66,7 +66,7 @@ is_read options before after last stop range begins look tried =
     let holds = holds_what_was_read from (addresses_between from to) last.values options.start range.from_is.even low look.kept.numbers begins (range_stands from to) few in
     record {
       look = look;
-      tried = tried;
+      asked = asks;
       holds = holds;
       is_memory = λ machine now lost may honest.
           let true = is_true stop _ last look.inquired.said machine now lost look.believed may honest in (
@@ -77,10 +77,10 @@ is_read options before after last stop range begins look tried =
     }
 
 pub read_of : (options : SaveOptions) (before after : SaveTold) (first last : Reader) (stop : Stop) → IsRange options.range.from options.range.to → options.start < 65536
-    → first ≡ begun (addresses_in options.range) [] options.patience → IsLook first last stop → TriesOnce (ended first.phase) before.tries after.tries → IsRead options before after last stop
-read_of options before after first last stop range begins is look tried =
+    → first ≡ begun (addresses_in options.range) [] options.patience → IsLook first last stop → AsksOnce (ended first.phase) before.call before.asked after.asked → IsRead options before after last stop
+read_of options before after first last stop range begins is look asks =
     is_read options before after last stop range begins (subst (λ r. IsLook r last stop) is look)
-    (subst (λ o. TriesOnce o before.tries after.tries) (ap (λ r. ended r.phase) is ∙ range_goes_on options.range.from options.range.to options.patience) tried)
+    (subst (λ o. AsksOnce o before.call before.asked after.asked) (ap (λ r. ended r.phase) is ∙ range_goes_on options.range.from options.range.to options.patience) asks)
 
 -- the numbers that were read end at or below the top
 pub reads_low : (from to patience : ℕ) (first last : Reader) (stop : Stop) → IsRange from to → first ≡ begun (addresses_between from to) [] patience → IsLook first last stop → from + 2 * length last.values ≤ top

@@ -1,9 +1,12 @@
+pub mod Beside
 pub mod Differences
 pub mod Look
 pub mod LookFault
 pub mod Save
+pub mod SaveDisk
 pub mod SavedTape
 pub mod SaveReport
 pub mod Shelf
+pub mod ShelfDisk
 pub mod Verify
 pub mod VerifyReport

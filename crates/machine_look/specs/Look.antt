@@ -1,9 +1,10 @@
 -- A look at a machine: a reading that begins with nothing read, over a line that was reached for it.
 use Rattle.std.specs.Prelude.{◌≡◌, ℕ, ◌≤◌, List, length, Option, Some, None}
 use Rattle.odt_machine.specs.Machine.{Machine}
+use Rattle.load_devices.specs.Told.{Gains}
 use Rattle.load_devices.specs.declared.item.Item.{Item}
 use Rattle.honest_line.specs.Honest.{IsHonest}
-use Rattle.console_reach.specs.Reached.{OneMoreTime}
+use Rattle.stream_line.specs.Dialling.{Call, LineRequest, asked_once}
 use Rattle.reading_core.specs.Bound.{reading_bound}
 use Rattle.reading_core.specs.Invariant.{IsReader}
 use Rattle.reading_core.specs.Reader.{Reader}
@@ -31,15 +32,16 @@ abbrev pub OverHonestLine : {first last : Reader} {stop : Stop} → IsLook first
 OverHonestLine {first} look holds =
     (machine now : Machine) (lost : ℕ) → MayLook first machine → IsHonest machine look.inquired.said lost now → holds machine now
 
--- what a look's console and output tell: how often that one was tried to be reached, and what this one holds
+-- what a look's console and output tell: what was asked for a line, where that one leads, and what this one holds
 pub record LookTold : Type 0 where
-  pub tries : Option ℕ
+  pub asked : Option (List LineRequest)
+  pub call : Call
   pub out : Option (List ℕ)
 
-abbrev pub look_told : {R W : Type 0} → (R → Option ℕ) → (W → Option (List ℕ)) → R → W → LookTold
-look_told tries_of contents console out = record { tries = tries_of console; out = contents out }
+abbrev pub look_told : {R W : Type 0} → (R → Option (List LineRequest)) → (R → Call) → (W → Option (List ℕ)) → R → W → LookTold
+look_told asked_of call_of contents console out = record { asked = asked_of console; call = call_of console; out = contents out }
 
--- the console was tried to be reached once, where there is something to look at, and else not at all
-abbrev pub TriesOnce : Option End → Option ℕ → Option ℕ → Type 0
-TriesOnce (Some end) tries tries' = tries' ≡ tries
-TriesOnce None tries tries' = OneMoreTime tries tries'
+-- the console was asked for once, where there is something to look at, and else nothing was asked
+abbrev pub AsksOnce : Option End → Call → Option (List LineRequest) → Option (List LineRequest) → Type 0
+AsksOnce (Some end) call asked asked' = asked' ≡ asked
+AsksOnce None call asked asked' = Gains asked asked' (asked_once call)

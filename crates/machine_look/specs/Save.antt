@@ -5,6 +5,7 @@ use Rattle.tape_blocks.specs.Tape.{TapeValue, plain_text}
 use Rattle.tape_image.specs.Plan.{plan_of}
 use Rattle.odt_machine.specs.Machine.{Machine, word_at}
 use Rattle.load_devices.specs.Told.{Gains}
+use Rattle.stream_line.specs.Dialling.{Call, LineRequest, asked_once}
 use Rattle.byte_io.specs.Output.{WritesAllBut}
 use Rattle.reading_core.specs.Addresses.{addresses_between}
 use Rattle.reading_core.specs.Reader.{Reader, begun}
@@ -13,7 +14,7 @@ use Rattle.machine_look.specs.declared.range.AddressRange.{AddressRange}
 use Rattle.machine_look.specs.declared.save_end.SaveEnd.{SaveEnd}
 use Rattle.machine_look.specs.declared.saving.SaveOptions.{SaveOptions}
 use Rattle.machine_look.specs.declared.shelf.ShelfFault.{ShelfFault}
-use Rattle.machine_look.specs.Look.{IsLook, OverHonestLine, TriesOnce}
+use Rattle.machine_look.specs.Look.{IsLook, OverHonestLine}
 use Rattle.machine_look.specs.SavedTape.{saved_tape, whole_word, HoldsWhatWasRead}
 use Rattle.machine_look.specs.SaveReport.{save_end, save_report}
 use Rattle.machine_look.specs.Shelf.{Step, Reserve, Put, NotPut}
@@ -28,15 +29,17 @@ abbrev pub IsMemoryAt : List ℕ → TapeValue → Machine → Machine → Type 
 IsMemoryAt addresses tape before now =
     (now.memory ≡ before.memory) × ((plan_of tape).words ≡ map (λ address. whole_word address (word_at now.memory address)) addresses)
 
--- what a save's shelf, console and output tell: what was asked of the first, how often the second was tried to be reached, and what the
--- third holds
+-- what a save's shelf, console and output tell: what was asked of the first, what was asked for a line and where the second leads, and what
+-- the third holds
 pub record SaveTold : Type 0 where
   pub steps : Option (List Step)
-  pub tries : Option ℕ
+  pub asked : Option (List LineRequest)
+  pub call : Call
   pub out : Option (List ℕ)
 
-abbrev pub save_told : {S R W : Type 0} → (S → Option (List Step)) → (R → Option ℕ) → (W → Option (List ℕ)) → S → R → W → SaveTold
-save_told steps_of tries_of contents shelf console out = record { steps = steps_of shelf; tries = tries_of console; out = contents out }
+abbrev pub save_told : {S R W : Type 0} → (S → Option (List Step)) → (R → Option (List LineRequest)) → (R → Call) → (W → Option (List ℕ)) → S → R → W → SaveTold
+save_told steps_of asked_of call_of contents shelf console out =
+    record { steps = steps_of shelf; asked = asked_of console; call = call_of console; out = contents out }
 
 -- the addresses of a range, both ends included
 abbrev pub addresses_in : AddressRange → List ℕ
@@ -49,7 +52,7 @@ tape_to_save options numbers = saved_tape options.range.from numbers options.sta
 -- the words of a save were looked at, once there was room for their tape
 pub record IsRead (options : SaveOptions) (before after : SaveTold) (last : Reader) (stop : Stop) : Type 0 where
   pub look : IsLook (begun (addresses_in options.range) [] options.patience) last stop
-  pub tried : TriesOnce None before.tries after.tries
+  pub asked : Gains before.asked after.asked (asked_once before.call)
   -- the tape of what was read is memory, where the line was honest
   pub holds : HoldsWhatWasRead (addresses_in options.range) last.values (tape_to_save options last.values)
   pub is_memory : OverHonestLine look (IsMemoryAt (take (length last.values) (addresses_in options.range)) (tape_to_save options last.values))

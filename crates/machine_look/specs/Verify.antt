@@ -12,7 +12,7 @@ use Rattle.reading_engine.specs.declared.stop.Stop.{Stop}
 use Rattle.machine_look.specs.declared.verify_end.VerifyEnd.{VerifyEnd}
 use Rattle.machine_look.specs.declared.verify_end.VerifyEnd.TheVariants.{Same}
 use Rattle.machine_look.specs.Differences.{differences}
-use Rattle.machine_look.specs.Look.{IsLook, LookTold, OverHonestLine, TriesOnce}
+use Rattle.machine_look.specs.Look.{AsksOnce, IsLook, LookTold, OverHonestLine}
 use Rattle.machine_look.specs.VerifyReport.{verify_end, verify_report}
 
 -- every word lies in memory and stands there
@@ -27,7 +27,7 @@ IsSameWith words before now = (now.memory ≡ before.memory) × AllStand words n
 -- a plan's words were looked at, and so it ended; where it ends as `Same` over an honest line, every word stands
 pub record IsVerified (plan : PlanValue) (patience : ℕ) (before after : LookTold) (last : Reader) (stop : Stop) (end : VerifyEnd) : Type 0 where
   pub look : IsLook (begun (addresses_of plan.words) [] patience) last stop
-  pub tried : TriesOnce (ended (begun (addresses_of plan.words) [] patience).phase) before.tries after.tries
+  pub asked : AsksOnce (ended (begun (addresses_of plan.words) [] patience).phase) before.call before.asked after.asked
   pub end_is : end ≡ verify_end (length (differences plan.words last.values)) stop
   pub stand : end ≡ Same → OverHonestLine look (IsSameWith plan.words)
 

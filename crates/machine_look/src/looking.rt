@@ -1,12 +1,13 @@
 //! Looking at a machine, over a line that is given or reached.
-ghost use Rattle.std.specs.Prelude.{◌≡◌, ◌≤◌, None, Some, length, IfOk, IfErr, OnOk};
+ghost use Rattle.std.specs.Prelude.{◌≡◌, ◌≤◌, None, Some, length, IfOk, IfErr, OnErr, OnOk};
 ghost use Rattle.reading_core.specs.Bound.{reading_bound};
 ghost use Rattle.reading_core.specs.Invariant.{IsReader};
 ghost use Rattle.reading_core.specs.Reader.{ended};
 ghost use Rattle.reading_engine.specs.Belief.{IsBelievableOver};
 ghost use Rattle.reading_engine.specs.Failing.{Counts, NamesFault};
 ghost use Rattle.reading_engine.specs.Inquired.{Inquired, TellsEnd};
-ghost use Rattle.machine_look.specs.Look.{IsLook, TriesOnce};
+ghost use Rattle.stream_line.specs.Dialling.{IsAskedInVain};
+ghost use Rattle.machine_look.specs.Look.{AsksOnce, IsLook};
 
 use crate::look_fault::LookFault;
 use console_reach::Reach;
@@ -49,7 +50,9 @@ pub(crate) fn look_over<R: Reach, O: Onlooker>(
     onlooker: &O,
 ) -> Result<(ReadingCore, Stop), LookFault>
     ensures look { IfOk result (λ looked. IsLook core looked.0 looked.1) }
-    ensures tried { TriesOnce (ended core.phase) (R.tries console.old) (R.tries console.new) }
+    ensures asked { OnOk result (AsksOnce (ended core.phase) (R.call console.old) (R.asked console.old) (R.asked console.new)) }
+    ensures asked_in_vain { OnErr result (IsAskedInVain (R.call console.old) (R.asked console.old) (R.asked console.new)) }
+    ensures call { R.call console.new ≡ R.call console.old }
     ensures fault { IfErr result (λ fault. (fault ≡ LookFault.Connect) × (ended core.phase ≡ None)) }
 {
     if let Some(end) = core.end() {

@@ -4,6 +4,8 @@ ghost use Rattle.load_devices.specs.Told.{Gains};
 ghost use Rattle.machine_look.specs.LookFault.{IsKeepFault, IsSaveFault};
 ghost use Rattle.machine_look.specs.Save.{IsSavedAndReported, puts, save_told};
 ghost use Rattle.machine_look.specs.SavedTape.{saved_tape};
+ghost use Rattle.machine_look.specs.SaveDisk.{disk_asked_before, IsKeptOn, IsNotKeptOn, IsSavedOn, text_of};
+ghost use Rattle.machine_look.specs.ShelfDisk.{ShelfAsked, ShelfAskedIn};
 
 use crate::look_fault::LookFault;
 use crate::looking::look_over;
@@ -51,12 +53,15 @@ pub fn save<S: Shelf, R: Reach, W: Write, O: Onlooker>(
     out: &mut W,
     onlooker: &O,
 ) -> Result<SaveEnd, LookFault>
+    ensures disk { OnOk result (ShelfAsked (S.disk shelf.old) (S.disk shelf.new) (IsSavedOn options)) }
+    ensures disk_in_vain { IfErr result (λ fault. ShelfAsked (S.disk shelf.old) (S.disk shelf.new) (disk_asked_before options fault)) }
     ensures reported { IfOk result (IsSavedAndReported options
-        (save_told S.steps R.tries W.contents shelf.old console.old out.old)
-        (save_told S.steps R.tries W.contents shelf.new console.new out.new)) }
+        (save_told S.steps R.asked R.call W.contents shelf.old console.old out.old)
+        (save_told S.steps R.asked R.call W.contents shelf.new console.new out.new)) }
+    ensures call { R.call console.new ≡ R.call console.old }
     ensures fault { IfErr result (IsSaveFault options
-        (save_told S.steps R.tries W.contents shelf.old console.old out.old)
-        (save_told S.steps R.tries W.contents shelf.new console.new out.new)) }
+        (save_told S.steps R.asked R.call W.contents shelf.old console.old out.old)
+        (save_told S.steps R.asked R.call W.contents shelf.new console.new out.new)) }
 {
     let (from, to) = (options.range.from(), options.range.to());
     let core = ReadingCore::of_range(alloc, from, to, options.patience)?;
@@ -77,6 +82,9 @@ fn keep<S: Shelf>(
 ) -> Result<(), LookFault>
     requires even { from % 2 ≡ 0 }
     requires below { from + 2 * length numbers.now ≤ 0o160000 }
+    ensures disk { OnOk result (ShelfAskedIn (S.is_opened_as shelf.old) (S.disk shelf.old) (S.disk shelf.new) (IsKeptOn from numbers.now start)) }
+    ensures disk_in_vain { IfErr result (λ fault.
+        ShelfAskedIn (S.is_opened_as shelf.old) (S.disk shelf.old) (S.disk shelf.new) (IsNotKeptOn (text_of from numbers.now start) fault)) }
     ensures fits { start < 65536 }
     ensures ok { OnOk result (Gains (S.steps shelf.old) (S.steps shelf.new) (puts from numbers.now start)) }
     ensures fault { IfErr result (IsKeepFault (saved_tape from numbers.now start) (S.steps shelf.old) (S.steps shelf.new)) }

@@ -3,8 +3,9 @@ use Rattle.std.proofs.Common.{◌≡◌, ℕ, ◌^◌, ◌<◌, List, [], ◌++�
 use Rattle.std.specs.Io.KnownBytes.{Appends}
 use Rattle.std.proofs.KnownBytes.{Keeps-refl}
 use Rattle.byte_io.specs.Output.{WritesAllBut, WritesPrefix}
-use Rattle.console_reach.specs.Reached.{OneMoreTime}
+use Rattle.load_devices.specs.Told.{Gains}
 use Rattle.load_devices.specs.declared.item.Item.{Item}
+use Rattle.stream_line.specs.Dialling.{Call, LineRequest, asked_once}
 use Rattle.probe_report.specs.declared.findings.Findings.{Findings}
 use Rattle.probe_report.specs.declared.pace.Pace.{Pace}
 use Rattle.probe_report.specs.declared.probe_end.ProbeEnd.{ProbeEnd}
@@ -58,30 +59,30 @@ report_from {L} {E} told options line opened line' first f notes pace before tex
 
 -- ---- what is written of it
 
-pub over_of : {L : Type 0} (told : L → Option (List Item)) (options : ProbeOptions) (tries tries' : Option ℕ) (out out' : Option (List ℕ)) (text written : List ℕ) (end : ProbeEnd) →
-    OneMoreTime tries tries' → IsReportOver told options text end → written ≡ text → Appends out out' written →
-    IsReportedOver told options (record { tries = tries; out = out }) (record { tries = tries'; out = out' }) end
-over_of {L} told options tries tries' out out' text written end tried (line, line', report) is appended =
-    (line, line', record { tried = tried; text = text; report = report; reported = subst (Appends out out') is appended })
+pub over_of : {L : Type 0} (told : L → Option (List Item)) (options : ProbeOptions) (call call' : Call) (asked asked' : Option (List LineRequest)) (out out' : Option (List ℕ)) (text written : List ℕ) (end : ProbeEnd) →
+    Gains asked asked' (asked_once call) → IsReportOver told options text end → written ≡ text → Appends out out' written →
+    IsReportedOver told options (record { asked = asked; call = call; out = out }) (record { asked = asked'; call = call'; out = out' }) end
+over_of {L} told options call call' asked asked' out out' text written end asks (line, line', report) is appended =
+    (line, line', record { asked = asks; text = text; report = report; reported = subst (Appends out out') is appended })
 
 pub some_of : {L : Type 0} (told : L → Option (List Item)) (options : ProbeOptions) (before after : ProbeTold) (end : ProbeEnd) → IsReportedOver told options before after end → IsReported options before after end
 some_of {L} told options before after end (line, line', reported) = (told line, told line', reported)
 
-pub cut_of : {L : Type 0} (told : L → Option (List Item)) (options : ProbeOptions) (tries tries' : Option ℕ) (out out' : Option (List ℕ)) (text written : List ℕ) (end : ProbeEnd) →
-    OneMoreTime tries tries' → IsReportOver told options text end → written ≡ text → WritesPrefix out out' written →
-    IsCutShort options (record { tries = tries; out = out }) (record { tries = tries'; out = out' })
-cut_of {L} told options tries tries' out out' text written end tried (line, line', report) is (left, cut) = (
+pub cut_of : {L : Type 0} (told : L → Option (List Item)) (options : ProbeOptions) (call call' : Call) (asked asked' : Option (List LineRequest)) (out out' : Option (List ℕ)) (text written : List ℕ) (end : ProbeEnd) →
+    Gains asked asked' (asked_once call) → IsReportOver told options text end → written ≡ text → WritesPrefix out out' written →
+    IsCutShort options (record { asked = asked; call = call; out = out }) (record { asked = asked'; call = call'; out = out' })
+cut_of {L} told options call call' asked asked' out out' text written end asks (line, line', report) is (left, cut) = (
   told line,
   told line',
-  record { tried = tried; text = text; end = end; report = report; missing = left; reported = subst (λ (t : List ℕ). WritesAllBut out out' t left) is cut },
+  record { asked = asks; text = text; end = end; report = report; missing = left; reported = subst (λ (t : List ℕ). WritesAllBut out out' t left) is cut },
 )
 
 -- a fault that came before there was a report
-pub unreported_is : (options : ProbeOptions) (tries tries' : Option ℕ) (out : Option (List ℕ)) (fault : ProbeFault) → IsUnreported tries tries' fault →
-    IsProbeFault options (record { tries = tries; out = out }) (record { tries = tries'; out = out }) fault
-unreported_is options tries tries' out Connect is = (is, Keeps-refl out)
-unreported_is options tries tries' out WriteOutput is = absurd is
-unreported_is options tries tries' out Memory is = Keeps-refl out
+pub unreported_is : (options : ProbeOptions) (call call' : Call) (asked asked' : Option (List LineRequest)) (out : Option (List ℕ)) (fault : ProbeFault) → IsUnreported call asked asked' fault →
+    IsProbeFault options (record { asked = asked; call = call; out = out }) (record { asked = asked'; call = call'; out = out }) fault
+unreported_is options call call' asked asked' out Connect is = (is, Keeps-refl out)
+unreported_is options call call' asked asked' out WriteOutput is = absurd is
+unreported_is options call call' asked asked' out Memory is = (is, Keeps-refl out)
 
 -- ---- where memory is wanting
 

@@ -2,9 +2,9 @@
 use Rattle.std.specs.Prelude.{◌≡◌, ℕ, List, [], Option}
 use Rattle.std.specs.Io.KnownBytes.{Appends}
 use Rattle.byte_io.specs.Output.{WritesAllBut}
-use Rattle.console_reach.specs.Reached.{OneMoreTime}
 use Rattle.load_devices.specs.declared.item.Item.{Item}
 use Rattle.load_devices.specs.Told.{Gains}
+use Rattle.stream_line.specs.Dialling.{Call, LineRequest, asked_once}
 use Rattle.reading_law.specs.Rows.{in_a_row}
 use Rattle.probe_report.specs.declared.findings.Findings.{Findings}
 use Rattle.probe_report.specs.declared.pace.Pace.{Pace}
@@ -18,13 +18,14 @@ use Rattle.machine_probe.specs.Belief.{IsBelievable, IsBelievableOver}
 use Rattle.machine_probe.specs.Follow.{IsProbe}
 use Rattle.machine_probe.specs.Noted.{AreNotesSince}
 
--- what a probe's console and output tell: how often that one was tried to be reached, and what this one holds
+-- what a probe's console and output tell: what was asked for a line, where that one leads, and what this one holds
 pub record ProbeTold : Type 0 where
-  pub tries : Option ℕ
+  pub asked : Option (List LineRequest)
+  pub call : Call
   pub out : Option (List ℕ)
 
-abbrev pub probe_told : {R W : Type 0} → (R → Option ℕ) → (W → Option (List ℕ)) → R → W → ProbeTold
-probe_told tries_of contents console out = record { tries = tries_of console; out = contents out }
+abbrev pub probe_told : {R W : Type 0} → (R → Option (List LineRequest)) → (R → Call) → (W → Option (List ℕ)) → R → W → ProbeTold
+probe_told asked_of call_of contents console out = record { asked = asked_of console; call = call_of console; out = contents out }
 
 -- the runs of a probe were made over a line on which nothing was said before: these are their findings, and what was noted
 pub record IsProbed (options : ProbeOptions) (line line' : Option (List Item)) (f : Findings) (notes : Noted) : Type 0 where
@@ -47,16 +48,16 @@ pub record IsReport (options : ProbeOptions) (line line' : Option (List Item)) (
   pub text_is : text ≡ probe_text f notes pace
   pub end_is : end ≡ probe_end f notes.prompt
 
--- the console was reached once, and the report was written
+-- the console was asked for once, and the report was written
 pub record IsReportedOn (options : ProbeOptions) (line line' : Option (List Item)) (before after : ProbeTold) (end : ProbeEnd) : Type 0 where
-  pub tried : OneMoreTime before.tries after.tries
+  pub asked : Gains before.asked after.asked (asked_once before.call)
   pub text : List ℕ
   pub report : IsReport options line line' text end
   pub reported : Appends before.out after.out text
 
 -- the same, with a report that may be cut short
 pub record IsCutShortOn (options : ProbeOptions) (line line' : Option (List Item)) (before after : ProbeTold) : Type 0 where
-  pub tried : OneMoreTime before.tries after.tries
+  pub asked : Gains before.asked after.asked (asked_once before.call)
   pub text : List ℕ
   pub end : ProbeEnd
   pub report : IsReport options line line' text end

@@ -1,6 +1,7 @@
 //! The command `probe`.
 ghost use Rattle.std.specs.Prelude.{◌≡◌, [], IfErr, IfOk, OnErr, OnOk};
-ghost use Rattle.console_reach.specs.Reached.{OneMoreTime};
+ghost use Rattle.load_devices.specs.Told.{Gains};
+ghost use Rattle.stream_line.specs.Dialling.{asked_once};
 ghost use Rattle.tape_blocks.specs.Told.{IsAsTold};
 ghost use Rattle.reading_core.specs.Addresses.{IsAddress};
 ghost use Rattle.machine_probe.specs.Probe.{IsReportFrom, IsReportOver, IsReported, IsReportedOver, probe_told};
@@ -41,15 +42,17 @@ pub fn probe<R: Reach, W: Write, C: Clock>(
 ) -> Result<ProbeEnd, ProbeFault>
     requires { IsAddress options.address }
     ensures reported { IfOk result (IsReported options
-        (probe_told R.tries W.contents console.old out.old)
-        (probe_told R.tries W.contents console.new out.new)) }
+        (probe_told R.asked R.call W.contents console.old out.old)
+        (probe_told R.asked R.call W.contents console.new out.new)) }
     ensures over_line { IfOk result (IsReportedOver R.Line.told options
-        (probe_told R.tries W.contents console.old out.old)
-        (probe_told R.tries W.contents console.new out.new)) }
+        (probe_told R.asked R.call W.contents console.old out.old)
+        (probe_told R.asked R.call W.contents console.new out.new)) }
+    ensures call { R.call console.new ≡ R.call console.old }
     ensures fault { IfErr result (IsProbeFault options
-        (probe_told R.tries W.contents console.old out.old)
-        (probe_told R.tries W.contents console.new out.new)) }
-    ensures wanting { IfErr result (λ fault. fault ≡ ProbeFault.Memory → IsWanting R.Line.told options (R.tries console.old) (R.tries console.new)) }
+        (probe_told R.asked R.call W.contents console.old out.old)
+        (probe_told R.asked R.call W.contents console.new out.new)) }
+    ensures wanting { IfErr result (λ fault. fault ≡ ProbeFault.Memory → IsWanting R.Line.told options
+        (R.call console.old) (R.asked console.old) (R.asked console.new)) }
 {
     let mut report = Vec::with_capacity(alloc, LONGEST_REPORT)?;
     let end = gather(alloc, options, console, clock, &mut report)?;
@@ -69,9 +72,11 @@ fn gather<R: Reach, C: Clock>(
     requires address { IsAddress options.address }
     requires empty { report.old.items ≡ [] }
     ensures report { IfOk result (IsReportOver R.Line.told options report.new.items) }
-    ensures tried { OnOk result (OneMoreTime (R.tries console.old) (R.tries console.new)) }
-    ensures fault { IfErr result (IsUnreported (R.tries console.old) (R.tries console.new)) }
-    ensures wanting { IfErr result (λ fault. fault ≡ ProbeFault.Memory → IsWanting R.Line.told options (R.tries console.old) (R.tries console.new)) }
+    ensures asked { OnOk result (Gains (R.asked console.old) (R.asked console.new) (asked_once (R.call console.old))) }
+    ensures call { R.call console.new ≡ R.call console.old }
+    ensures fault { IfErr result (IsUnreported (R.call console.old) (R.asked console.old) (R.asked console.new)) }
+    ensures wanting { IfErr result (λ fault. fault ≡ ProbeFault.Memory → IsWanting R.Line.told options
+        (R.call console.old) (R.asked console.old) (R.asked console.new)) }
 {
     let lookers = Lookers::new(alloc, options)?;
     let line = console.reach()?;

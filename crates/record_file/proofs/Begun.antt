@@ -1,15 +1,17 @@
 -- The two ways to begin a record, one behind the other, and what the file is let go by.
-use Rattle.std.proofs.Common.{◌≡◌, ℕ, List, [], ◌++◌, Bool, Option, Some, None, Result, Ok, Err, subst, sym}
+use Rattle.std.proofs.Common.{◌≡◌, ℕ, List, [], ◌++◌, Bool, Option, Some, None, Result, Ok, Err, refl, ap, subst, sym}
 use Rattle.std.specs.Prelude.{MatchOption, option_map}
 use Rattle.std.specs.Result.{IfOk, IfErr}
-use Rattle.record_file.proofs.Asking.{tells_join}
-use Rattle.record_file.specs.Beginning.{GivenUp, course, IsBeside, IsLetGo, IsWrittenOver, IsNotWrittenOver, IsBegun, Beside, InPlace, IsNotBegun, NotBeside, NotInPlace}
+use Rattle.record_file.proofs.Asking.{tells_join, tells_none}
+use Rattle.record_file.specs.Beginning.{Course, Replaced, GivenUp, course, new_name, IsRenaming, Whole, Unsynced, NotRenamed, Moved, IsWriting, NotHeld, NoRoom, NotWritten, Written, IsBeside, OutOfReach, NoMemory, NoFolder, AtFolder, IsLetGo, IsWrittenOver, IsNotWrittenOver, IsBegun, Beside, InPlace, IsNotBegun, NotBeside, NotInPlace}
+use Rattle.record_file.specs.Closing.{IsClosed}
 use Rattle.record_file.specs.DiskStep.{DiskStep, HasAsked}
 use Rattle.record_file.specs.Holding.{IsHolding}
 use Rattle.record_file.specs.Reading.{kind_after, IsRead, Held, Absent, IsNotRead, LetGo}
 use Rattle.record_file.specs.Taking.{kind_of}
 use Rattle.record_file.specs.declared.held_file.HeldFile.{HeldFile}
 use Rattle.record_file.specs.declared.made.Made.{Made}
+use Rattle.record_file.specs.declared.made.Made.TheVariants.{Before}
 use Rattle.record_file.specs.declared.record_fault.RecordFault.{RecordFault}
 
 -- what is known of a file that is held, where one is
@@ -73,3 +75,43 @@ unread name a b c found held after is kind h l = (
   LetGo (kind_of held) h.0 l.0 (subst (λ f. IsHolding name (option_map kind_of f) h.0) is h.2)
       (subst (λ k. IsLetGo name k.0 l.0) kind l.2),
 )
+
+-- ---- what remains
+
+renamed_remains : (name new folder : List ℕ) (made : Made) (way : Course) (after : Made) (steps : List DiskStep) → IsRenaming name new folder made way after steps
+    → way ≡ Replaced → after ≡ Before
+renamed_remains name new folder made way after steps Whole is = refl
+renamed_remains name new folder made way after steps Unsynced is = refl
+renamed_remains name new folder made way after steps (NotRenamed removed) is = absurd (cc is)
+renamed_remains name new folder made way after steps (Moved found removed) is = absurd (cc is)
+
+written_remains : (name folder : List ℕ) (made : Made) (way : Course) (after : Made) (steps : List DiskStep) → IsWriting name folder made way after steps
+    → way ≡ Replaced → after ≡ Before
+written_remains name folder made way after steps (NotHeld making m) is = absurd (cc is)
+written_remains name folder made way after steps (NoRoom making m) is = absurd (cc is)
+written_remains name folder made way after steps (NotWritten making removed m) is = absurd (cc is)
+written_remains name folder made way after steps (Written way' made' making renaming m r) is =
+    renamed_remains name (new_name name) folder made way' made' renaming r is
+
+beside_remains : (name : List ℕ) (made : Made) (way : Course) (after : Made) (steps : List DiskStep) → IsBeside name made way after steps
+    → way ≡ Replaced → after ≡ Before
+beside_remains name made way after steps OutOfReach is = absurd (cc is)
+beside_remains name made way after steps NoMemory is = absurd (cc is)
+beside_remains name made way after steps (NoFolder folder f) is = absurd (cc is)
+beside_remains name made way after steps (AtFolder folder way' made' writing f w) is = written_remains name folder made way' made' writing w is
+
+-- a new record in the old one's place leaves that as one that was there
+pub replaced_remains : {K : Type 0} (name : List ℕ) (made after : Made) (a b : Option (List DiskStep)) (kept : Option K) (keeper : K) → kept ≡ Some keeper
+    → HasAsked a b (IsBeside name made (course {E = RecordFault} (Ok kept)) after) → after ≡ Before
+replaced_remains name made after a b kept keeper is h =
+    beside_remains name made (course {E = RecordFault} (Ok kept)) after h.0 h.2 (ap (λ k. course {E = RecordFault} (Ok k)) is)
+
+-- ---- closing
+
+pub closed_none : {T : Type 0} (name : List ℕ) (a : Option (List DiskStep)) (before : Option (HeldFile T)) → before ≡ None
+    → HasAsked a a (IsClosed name (option_map kind_of before))
+closed_none name a before is = subst (λ b. HasAsked a a (IsClosed name (option_map kind_of b))) (sym is) ([], tells_none a, refl)
+
+pub closed_held : {T : Type 0} (name : List ℕ) (a b : Option (List DiskStep)) (before : Option (HeldFile T)) (held : HeldFile T) → before ≡ Some held
+    → HasAsked a b (IsLetGo name held.made) → HasAsked a b (IsClosed name (option_map kind_of before))
+closed_held name a b before held is h = subst (λ x. HasAsked a b (IsClosed name (option_map kind_of x))) (sym is) h

@@ -1,19 +1,22 @@
--- What is asked of a system of files for a record.
+-- What is asked of a system of files for a record, and for the tape of a save.
 use Rattle.std.specs.Prelude.{◌≡◌, ℕ, List, [], ◌∷◌, ◌++◌, Bool, true, false, Option, Some, None, Result, Ok, Err, ⊤}
 use Rattle.std.specs.Path.{path_buf_bytes}
 use Rattle.std.specs.declared.path.buf.PathBuf.{PathBuf}
 use Rattle.record_file.specs.declared.disk.Access.{Access}
 
--- what a name leads to is looked at, or what stands under it, or whether that is a plain file without another name, or which name it leads
--- to; a file is opened or made; it is held by this load alone, or renamed, or its name taken away; the folder of a name is brought to the
--- disk; or a file of which this much was written is cut behind that, or brought to the disk
+-- what a name leads to is looked at, or what stands under it, or whether that is a plain file without another name, or an open file of which
+-- this much was written, or which name it leads to; a file is opened or made; it is held by this program alone, or given a second name, or
+-- renamed, or its name taken away; the folder of a name is brought to the disk; or a file of which this much was written is cut behind that,
+-- or brought to the disk
 pub data Request : Type 0 where
   Look : List ℕ → Request
   LookAtName : List ℕ → Request
   FindSoleFile : List ℕ → Request
+  FindFile : List ℕ → Option (List ℕ) → Request
   Resolve : List ℕ → Request
   Open : Access → List ℕ → Request
   Hold : List ℕ → Request
+  Link : List ℕ → List ℕ → Request
   Rename : List ℕ → List ℕ → Request
   Remove : List ℕ → Request
   SyncFolder : List ℕ → Request

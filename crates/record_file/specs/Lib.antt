@@ -1,4 +1,5 @@
 pub mod Beginning
+pub mod Closing
 pub mod Course
 pub mod DiskRecord
 pub mod DiskStep

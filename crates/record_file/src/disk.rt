@@ -1,6 +1,6 @@
-//! Where the record's file is: what a load asks of the system for it.
-ghost use Rattle.std.specs.Prelude.{[], ◌∷◌, ℕ, List, Option, None, IfOk, ⊤};
-ghost use Rattle.record_file.specs.DiskStep.{Look, LookAtName, FindSoleFile, Open, Hold, Rename, Remove, SyncFolder, Cut, SyncFile};
+//! Where files are: what is asked of the system for a record, and for the tape of a save.
+ghost use Rattle.std.specs.Prelude.{◌≡◌, [], ◌∷◌, ℕ, List, Option, None, IfOk, OnSome, ⊤};
+ghost use Rattle.record_file.specs.DiskStep.{Look, LookAtName, FindSoleFile, FindFile, Open, Hold, Link, Rename, Remove, SyncFolder, Cut, SyncFile};
 ghost use Rattle.record_file.specs.DiskStep.{DiskStep, Tells, answered, resolved, told};
 
 use crate::locks::Locks;
@@ -48,7 +48,7 @@ impl Access {
     }
 }
 
-/// A system of files, as far as a record needs it.
+/// A system of files, as far as a record and the tape of a save need it.
 ///
 /// A reference to any system that locks files is one, and tells nothing of what was asked of it.
 pub trait Disk {
@@ -74,19 +74,28 @@ pub trait Disk {
     fn is_sole_file(&mut self, name: &str) -> bool
         ensures asked { Tells (asked self.old) (asked self.new) (told (FindSoleFile name.now) result ∷ []) };
 
+    /// Whether an open file stands under the name itself.
+    fn has_name(&mut self, name: &str, file: &Self::File) -> bool
+        ensures asked { Tells (asked self.old) (asked self.new) (told (FindFile name.now (Self.File.contents file.now)) result ∷ []) };
+
     /// The name without links to which this one leads.
     fn resolve(&mut self, alloc: Global, name: &str) -> io::Result<PathBuf<Global>>
         ensures asked { Tells (asked self.old) (asked self.new) (resolved name.now result ∷ []) };
 
-    /// Opens a file.
+    /// Opens a file. One of a disk that tells what it was asked tells what is written to it from there on.
     fn open(&mut self, access: Access, name: &str) -> io::Result<Self::File>
         ensures asked { Tells (asked self.old) (asked self.new) (answered (Open access name.now) result ∷ []) }
-        ensures opened { IfOk result (λ file. is_opened_as file name.now) };
+        ensures opened { IfOk result (λ file. is_opened_as file name.now) }
+        ensures fresh { IfOk result (λ file. OnSome (asked self.new) (Self.File.contents file ≡ Some [])) };
 
     /// Holds an open file until it is closed, which the program's death does, too. False where somebody
     /// else holds it. Where the file system knows no locks nobody can hold it, and it counts as held.
     fn hold(&mut self, file: &Self::File) -> bool
         ensures asked { (name : List ℕ) → is_opened_as file.now name → Tells (asked self.old) (asked self.new) (told (Hold name) result ∷ []) };
+
+    /// Gives a file a second name, which nothing has.
+    fn link(&mut self, from: &str, to: &str) -> io::Result<()>
+        ensures asked { Tells (asked self.old) (asked self.new) (answered (Link from.now to.now) result ∷ []) };
 
     /// Gives a file another name, whatever has it.
     fn rename(&mut self, from: &str, to: &str) -> io::Result<()>
@@ -127,6 +136,13 @@ impl<F: Locks> Disk for &F {
         }
     }
 
+    fn has_name(&mut self, name: &str, file: &F::File) -> bool {
+        match (fs::symlink_metadata(*self, name), file.metadata()) {
+            (Ok(named), Ok(metadata)) => is_same(&named, &metadata),
+            _ => false,
+        }
+    }
+
     fn resolve(&mut self, alloc: Global, name: &str) -> io::Result<PathBuf<Global>> {
         self.canonicalize(alloc, name)
     }
@@ -137,6 +153,10 @@ impl<F: Locks> Disk for &F {
 
     fn hold(&mut self, file: &F::File) -> bool {
         Locks::hold(*self, file)
+    }
+
+    fn link(&mut self, from: &str, to: &str) -> io::Result<()> {
+        fs::hard_link(*self, from, to)
     }
 
     fn rename(&mut self, from: &str, to: &str) -> io::Result<()> {
@@ -158,6 +178,11 @@ impl<F: Locks> Disk for &F {
     fn sync_file(&mut self, file: &F::File) -> io::Result<()> {
         sync(file)
     }
+}
+
+// No two files that are there have the same device and inode.
+fn is_same(one: &Metadata, other: &Metadata) -> bool {
+    one.dev() == other.dev() && one.ino() == other.ino()
 }
 
 // A pipe, a terminal or a device has no disk behind it, and says so.

@@ -4,14 +4,14 @@ ghost use Rattle.std.specs.Io.KnownBytes.{Appends};
 ghost use Rattle.load_devices.specs.declared.fault.KeepFault.TheVariants as keep;
 ghost use Rattle.load_record.specs.declared.version.Version.TheVariants.{Second};
 ghost use Rattle.load_record.specs.RecordText.{record_text};
-ghost use Rattle.record_file.specs.Beginning.{course, IsLeft, IsMaking, IsMakingHeld, IsRenaming, IsWriting, IsBeside, IsFolderSync, IsMakingSynced};
+ghost use Rattle.record_file.specs.Beginning.{course, IsMakingHeld, IsRenaming, IsWriting, IsBeside, IsFolderSync, IsMakingSynced};
 ghost use Rattle.record_file.specs.Beginning.{IsCut, IsReady, IsUnready, IsWrittenOver, IsNotWrittenOver};
 ghost use Rattle.record_file.specs.Course.{is_done, is_some, renamed};
 ghost use Rattle.record_file.specs.DiskRecord.{HasBegun};
-ghost use Rattle.record_file.specs.DiskStep.{HasAsked, IsLookAtName, Failed, Open};
-ghost use Rattle.record_file.specs.Folder.{IsFolderOf};
+ghost use Rattle.record_file.specs.DiskStep.{HasAsked};
 ghost use Rattle.record_file.specs.RecordFault.{IsUnbegun};
 
+use crate::beside::{folder_of, make_new};
 use crate::disk::{Access, Disk};
 use crate::durable::DurableWriter;
 use crate::held_file::{HeldFile, is_named, let_go};
@@ -21,7 +21,6 @@ use load_devices::KeepFault;
 use load_record::FileKeep;
 use std::alloc::Global;
 use std::fs::OpenFile;
-use std::io;
 use std::io::{ErrorKind, Write};
 use tape_image::Plan;
 
@@ -206,43 +205,6 @@ fn make_beside<D: Disk>(disk: &mut D, name: &str) -> Result<Option<D::File>, Rec
     }
 }
 
-// Makes a file that is not there.
-fn make_new<D: Disk>(disk: &mut D, name: &str) -> io::Result<D::File>
-    ensures named { IfOk result (λ file. D.is_opened_as file name.now) }
-    ensures asked { HasAsked (D.asked disk.old) (D.asked disk.new) (IsMaking name.now (is_done result)) }
-{
-    match disk.open(Access::New, name) {
-        Err(error) if error.kind() == ErrorKind::AlreadyExists => make_again(disk, name, error),
-        made => made,
-    }
-}
-
-// Makes a file in the place of one that a load left which was killed between the making and the renaming.
-// Where it was not left so, it stays, and the error is the given one.
-fn make_again<D: Disk>(disk: &mut D, name: &str, error: io::Error) -> io::Result<D::File>
-    ensures named { IfOk result (λ file. D.is_opened_as file name.now) }
-    ensures asked { HasAsked (D.asked disk.old) (D.asked disk.new) (λ steps. IsMaking name.now (is_done result) (Failed (Open Access.New name.now) ∷ steps)) }
-{
-    if !is_left(disk, name) {
-        return Err(error);
-    }
-    let _ = disk.remove(name);
-    disk.open(Access::New, name)
-}
-
-// Whether a file beside the record was left by a load that is over: nobody holds it.
-fn is_left<D: Disk>(disk: &mut D, name: &str) -> bool
-    ensures asked { HasAsked (D.asked disk.old) (D.asked disk.new) (IsLeft name.now result) }
-{
-    match disk.look_at_name(name) {
-        Ok(metadata) if metadata.is_file() => match disk.open(Access::ReadOnly, name) {
-            Ok(file) => disk.hold(&file),
-            Err(_) => false,
-        },
-        _ => false,
-    }
-}
-
 fn begun<T: OpenFile + Write + Drop>(
     file: T,
     plan: &Plan,
@@ -268,17 +230,6 @@ fn cut_behind<D: Disk>(disk: &mut D, writer: &DurableWriter<D::File>) -> Result<
     match disk.sync_file(&writer.file) {
         Ok(()) => Ok(()),
         Err(_) => Err(RecordFault::Write),
-    }
-}
-
-// The folder in which a file of this name is.
-fn folder_of(name: &str) -> &str
-    ensures { IsFolderOf name.now result.now }
-{
-    match name.rsplit_once('/') {
-        None => ".",
-        Some((folder, _)) if folder.is_empty() => "/",
-        Some((folder, _)) => folder,
     }
 }
 

@@ -6,9 +6,11 @@
 //! files tells what was asked of it (`Disk`), the contracts say that, step by step. Every system that
 //! `Locks` is such a one, and tells nothing.
 //!
-//! The crate `machine_load` uses it, and its tests stand in `load_tests` and `command_tests`.
+//! The crate `machine_load` uses it, and `machine_look` its `Disk`; its tests stand in `load_tests` and
+//! `command_tests`.
 #![tactic(auto)]
 
+mod beside;
 mod disk;
 mod disk_record;
 mod durable;
@@ -19,6 +21,7 @@ mod old_record;
 mod record_fault;
 mod record_file;
 
+pub use beside::{folder_of, make_new};
 pub use disk::{Access, Disk};
 pub use disk_record::DiskRecord;
 pub use durable::{DurableWriter, SyncWrite};

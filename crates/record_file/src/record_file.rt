@@ -1,6 +1,7 @@
 //! The record's file over a whole load.
-ghost use Rattle.std.specs.Prelude.{◌≡◌, Bool, Option, IfErr, IfOk, MatchOption, option_map};
+ghost use Rattle.std.specs.Prelude.{◌≡◌, Bool, Option, None, IfErr, IfOk, OnErr, OnOk, MatchOption, option_map};
 ghost use Rattle.record_file.specs.Beginning.{IsBegun, IsNotBegun};
+ghost use Rattle.record_file.specs.Closing.{IsClosed, Remains};
 ghost use Rattle.record_file.specs.DiskRecord.{HasBegun};
 ghost use Rattle.record_file.specs.DiskStep.{HasAsked};
 ghost use Rattle.record_file.specs.Reading.{IsRead, IsNotRead};
@@ -15,10 +16,10 @@ use crate::record_fault::RecordFault;
 use std::alloc::Global;
 use tape_image::Plan;
 
-/// A record in a file, which is held from its reading on until this value goes.
+/// A record in a file, which is held from its reading on until this value is closed.
 ///
-/// Where the load made the file under this very name, and nothing was written to it, it goes with this
-/// value, while it is held. One that was made where a link leads to stays, empty.
+/// Whoever lets it go without closing it leaves the empty file that its reading may have made.
+#[derive(Drop)]
 pub struct RecordFile<'a, D: Disk + Drop> {
     disk: D,
     name: &'a str,
@@ -30,19 +31,13 @@ impl<'a, D: Disk + Drop> RecordFile<'a, D> {
     pub fn new(disk: D, name: &'a str) -> RecordFile<'a, D>
         ensures disk { result.disk ≡ disk }
         ensures name { result.name.now ≡ name.now }
+        ensures held { option_map kind_of result.held ≡ None }
     {
         RecordFile {
             disk,
             name,
             held: None,
         }
-    }
-
-    /// The disk, with what it was asked so far.
-    pub fn disk(&self) -> &D
-        ensures { result.now ≡ self.now.disk }
-    {
-        &self.disk
     }
 
     /// What the file holds, which is held from there on. One that is not there is made, and is an empty
@@ -56,6 +51,7 @@ impl<'a, D: Disk + Drop> RecordFile<'a, D> {
         ensures asked { IfOk result (λ old. HasAsked (D.asked self.old.disk) (D.asked self.new.disk)
             (IsRead self.old.name.now old.text.items (option_map kind_of self.old.held) (option_map kind_of self.new.held))) }
         ensures failed { IfErr result (λ _. HasAsked (D.asked self.old.disk) (D.asked self.new.disk) (IsNotRead self.old.name.now)) }
+        ensures kept { OnErr result (option_map kind_of self.new.held ≡ option_map kind_of self.old.held) }
     {
         let Some(mut held) = hold(&mut self.disk, self.name)? else {
             return Ok(OldRecord {
@@ -82,6 +78,9 @@ impl<'a, D: Disk + Drop> RecordFile<'a, D> {
     /// The old file is held to the end, also where another has its name now: a load may have opened it.
     /// The fault is `Write`, where the new record can't be written, or none was read, or its name leads elsewhere
     /// by now; or `Memory`.
+    ///
+    /// A record that was begun remains where it is, also once it is closed; of one that was not no file is held
+    /// any more.
     pub fn begin(
         &mut self,
         alloc: Global,
@@ -90,10 +89,13 @@ impl<'a, D: Disk + Drop> RecordFile<'a, D> {
     ) -> Result<DiskRecord<D::File>, RecordFault>
         ensures begun { IfOk result (HasBegun D.File.contents plan.now verified) }
         ensures fault { IfErr result IsUnbegun }
+        ensures name { self.new.name.now ≡ self.old.name.now }
         ensures asked { IfOk result (λ keeper. MatchOption (option_map kind_of self.old.held) ⊥ (λ kind.
             HasAsked (D.asked self.old.disk) (D.asked self.new.disk) (IsBegun self.old.name.now kind.0 kind.1 keeper.text))) }
         ensures failed { IfErr result (λ _. MatchOption (option_map kind_of self.old.held) (D.asked self.new.disk ≡ D.asked self.old.disk) (λ kind.
             HasAsked (D.asked self.old.disk) (D.asked self.new.disk) (IsNotBegun self.old.name.now kind.0))) }
+        ensures remains { OnOk result (Remains (option_map kind_of self.new.held)) }
+        ensures not_held { OnErr result (option_map kind_of self.new.held ≡ None) }
     {
         let Some(mut held) = self.held.take() else {
             return Err(RecordFault::Write);
@@ -110,17 +112,23 @@ impl<'a, D: Disk + Drop> RecordFile<'a, D> {
             }
         }
     }
-}
 
-impl<D: Disk + Drop> Drop for RecordFile<'_, D> {
-    fn drop(self) {
+    /// Lets the file go, and gives the disk back.
+    ///
+    /// Where the load made the file under this very name, and nothing was written to it, it is removed, while it
+    /// is held. One that was made where a link leads to stays, empty.
+    pub fn close(self) -> D
+        ensures asked { HasAsked (D.asked self.entry.disk) (D.asked result) (IsClosed self.entry.name.now (option_map kind_of self.entry.held)) }
+    {
         let RecordFile {
             mut disk,
             name,
             held,
         } = self;
-        if let Some(held) = held {
-            let_go(&mut disk, name, held);
-        }
+        let Some(held) = held else {
+            return disk;
+        };
+        let_go(&mut disk, name, held);
+        disk
     }
 }

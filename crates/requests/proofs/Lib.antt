@@ -1,4 +1,6 @@
-pub mod Machines
+pub mod Errors
+pub mod Loaded
 pub mod OneInput
-pub mod Unopened
+pub mod Saved
+pub mod Tapes
 pub mod Whatever

@@ -8,42 +8,58 @@ use Rattle.endings.specs.Failure.{status_of, is_unheard, IsToldUnless}
 use Rattle.endings.specs.Streams.{Held}
 use Rattle.requests.specs.declared.request.Request.{Request}
 use Rattle.requests.specs.declared.request.Request.TheVariants.{CheckInput, Check, Dialogue, Rehearse, «Type» as TypeKeys, Load, Verify, Save, Probe}
-use Rattle.input_files.specs.Opening.{Opening}
+use Rattle.requests.specs.Files.{Opening, opening_between}
 use Rattle.requests.specs.Checking.{AreChecked, AreUnchecked, IsInputChecked, IsInputUnchecked}
 use Rattle.requests.specs.Loading.{AreLoaded, AreUnloaded}
-use Rattle.requests.specs.Looking.{AreVerified, AreUnverified, IsSaved, IsSaveFailure}
-use Rattle.requests.specs.Probing.{IsConsoleProbed, IsProbeFailure}
+use Rattle.requests.specs.Looking.{AreVerified, AreUnverified}
+use Rattle.requests.specs.Probing.{IsConsoleProbed, IsConsoleUnprobed}
 use Rattle.requests.specs.Rehearsing.{AreRehearsed, AreUnrehearsed}
+use Rattle.requests.specs.Saving.{AreWordsSaved, AreWordsUnsaved}
 use Rattle.requests.specs.Showing.{AreShown, AreUnshown}
+use Rattle.requests.specs.System.{Asked}
 use Rattle.requests.specs.Typing.{IsTypedThrough, IsTypingFailure}
 
+-- which input files were opened meanwhile
+abbrev pub opening_in : Asked → Asked → Opening
+opening_in asked asked' = opening_between asked.inputs asked'.inputs
+
 -- a request was done, and the program ends so
-abbrev pub IsDone : Opening → Request → Held → Held → Status → Type 0
-IsDone opening CheckInput before after status = IsInputChecked before after status
-IsDone opening (Check names) before after status = AreChecked opening names.items before after status
-IsDone opening (Dialogue names console start) before after status = AreShown opening names.items (console, start) before after status
-IsDone opening (Rehearse tape script more) before after status = AreRehearsed opening script (tape ∷ more.items) before after status
-IsDone opening (TypeKeys console) before after status = IsTypedThrough console before after × (status ≡ Done)
-IsDone opening (Load names load) before after status = AreLoaded opening names.items load before after status
-IsDone opening (Verify names look) before after status = AreVerified opening names.items look before after status
-IsDone opening (Save name save) before after status = IsSaved save before.out after.out status × (after.input ≡ before.input)
-IsDone opening (Probe request) before after status = IsConsoleProbed request before.out after.out status × (after.input ≡ before.input)
+abbrev pub IsDone : Request → Asked → Asked → Held → Held → Status → Type 0
+IsDone CheckInput asked asked' before after status = IsInputChecked before after status × (asked' ≡ asked)
+IsDone (Check names) asked asked' before after status =
+    AreChecked (opening_in asked asked') names.items before after status × (asked'.outside ≡ asked.outside)
+IsDone (Dialogue names console start) asked asked' before after status =
+    AreShown (opening_in asked asked') names.items (console, start) before after status × (asked'.outside ≡ asked.outside)
+IsDone (Rehearse tape script more) asked asked' before after status =
+    AreRehearsed (opening_in asked asked') tape script more.items before after status × (asked'.outside ≡ asked.outside)
+IsDone (TypeKeys console) asked asked' before after status = IsTypedThrough console before after × (status ≡ Done) × (asked' ≡ asked)
+IsDone (Load names load) asked asked' before after status =
+    AreLoaded (opening_in asked asked') names.items load asked.outside asked'.outside before after status
+IsDone (Verify names look) asked asked' before after status =
+    AreVerified (opening_in asked asked') names.items look asked.outside asked'.outside before after status
+IsDone (Save name save) asked asked' before after status = AreWordsSaved name save asked asked' before after status
+IsDone (Probe request) asked asked' before after status = IsConsoleProbed request asked asked' before after status
 
 -- a request failed
-abbrev pub IsFailed : Opening → Request → Held → Held → Failure → Type 0
-IsFailed opening CheckInput before after failure = IsInputUnchecked before after failure
-IsFailed opening (Check names) before after failure = AreUnchecked opening names.items before after failure
-IsFailed opening (Dialogue names console start) before after failure = AreUnshown opening names.items (console, start) before after failure
-IsFailed opening (Rehearse tape script more) before after failure = AreUnrehearsed opening tape script more.items before after failure
-IsFailed opening (TypeKeys console) before after failure = IsTypingFailure console before after failure
-IsFailed opening (Load names load) before after failure = AreUnloaded opening names.items load before after failure
-IsFailed opening (Verify names look) before after failure = AreUnverified opening names.items look before after failure
-IsFailed opening (Save name save) before after failure = IsSaveFailure name save before.out after.out failure × (after.input ≡ before.input)
-IsFailed opening (Probe request) before after failure = IsProbeFailure request before.out after.out failure × (after.input ≡ before.input)
+abbrev pub IsFailed : Request → Asked → Asked → Held → Held → Failure → Type 0
+IsFailed CheckInput asked asked' before after failure = IsInputUnchecked before after failure × (asked' ≡ asked)
+IsFailed (Check names) asked asked' before after failure =
+    AreUnchecked (opening_in asked asked') names.items before after failure × (asked'.outside ≡ asked.outside)
+IsFailed (Dialogue names console start) asked asked' before after failure =
+    AreUnshown (opening_in asked asked') names.items (console, start) before after failure × (asked'.outside ≡ asked.outside)
+IsFailed (Rehearse tape script more) asked asked' before after failure =
+    AreUnrehearsed (opening_in asked asked') tape script more.items before after failure × (asked'.outside ≡ asked.outside)
+IsFailed (TypeKeys console) asked asked' before after failure = IsTypingFailure console before after failure × (asked' ≡ asked)
+IsFailed (Load names load) asked asked' before after failure =
+    AreUnloaded (opening_in asked asked') names.items load asked.outside asked'.outside before after failure
+IsFailed (Verify names look) asked asked' before after failure =
+    AreUnverified (opening_in asked asked') names.items look asked.outside asked'.outside before after failure
+IsFailed (Save name save) asked asked' before after failure = AreWordsUnsaved name save asked asked' before after failure
+IsFailed (Probe request) asked asked' before after failure = IsConsoleUnprobed request asked asked' before after failure
 
 -- it was done, with this status, and standard error has nothing of it
-pub record IsDoneQuietly (opening : Opening) (request : Request) (before after : Held) (status : Status) : Type 0 where
-  pub done : IsDone opening request before after status
+pub record IsDoneQuietly (request : Request) (asked asked' : Asked) (before after : Held) (status : Status) : Type 0 where
+  pub done : IsDone request asked asked' before after status
   pub quiet : after.err ≡ before.err
 
 -- the request does nothing but print: it is about no machine
@@ -55,14 +71,14 @@ only_prints (Probe request) = false
 only_prints other = true
 
 -- it failed, standard error tells why where somebody is to hear of it, and the status says so
-pub record IsFailedAloud (opening : Opening) (request : Request) (unread : Bool) (before after : Held) (status : Status) : Type 0 where
+pub record IsFailedAloud (request : Request) (unread : Bool) (asked asked' : Asked) (before after : Held) (status : Status) : Type 0 where
   pub failure : Failure
-  pub failed : IsFailed opening request before after failure
+  pub failed : IsFailed request asked asked' before after failure
   pub told : IsToldUnless (is_unheard (only_prints request) unread failure) before.err after.err failure
   pub status_is : status ≡ status_of failure
 
--- a request was attempted in a system that tells this of names, with this on the standard streams before and after, and by then the
--- output was found unread or not; the program ends so
-abbrev pub IsAttempted : Opening → Request → Bool → Held → Held → Status → Type 0
-IsAttempted opening request unread before after status =
-    IsDoneQuietly opening request before after status ⊎ IsFailedAloud opening request unread before after status
+-- a request was attempted in a system of which this was asked before and after, with this on the standard streams, and by then the output
+-- was found unread or not; the program ends so
+abbrev pub IsAttempted : Request → Bool → Asked → Asked → Held → Held → Status → Type 0
+IsAttempted request unread asked asked' before after status =
+    IsDoneQuietly request asked asked' before after status ⊎ IsFailedAloud request unread asked asked' before after status

@@ -6,8 +6,8 @@ use Rattle.endings.specs.declared.failure.Failure.{Failure}
 use Rattle.endings.specs.declared.status.Status.{Status}
 use Rattle.endings.specs.declared.status.Status.TheVariants.{Done}
 use Rattle.endings.specs.Streams.{Held}
-use Rattle.input_files.specs.Opening.{Name, Opening}
-use Rattle.requests.specs.Files.{Known, Inputs, OfTapes, FailsUnopened, FailsOver, only_input}
+use Rattle.input_files.specs.Opening.{Name}
+use Rattle.requests.specs.Files.{Known, Inputs, Opening, OfTapes, files_of, FailsUnopened, FailsOver, only_input}
 
 -- the tapes of some inputs were checked
 abbrev pub IsCheckedTo : Inputs → Known → Known → Status → Type 0
@@ -31,4 +31,5 @@ AreChecked opening names before after status = OfTapes opening names before afte
 
 abbrev pub AreUnchecked : Opening → List Name → Held → Held → Failure → Type 0
 AreUnchecked opening names before after failure =
-    FailsUnopened opening names before after failure ⊎ OfTapes opening names before after (λ inputs. IsCheckFailure inputs before.out after.out failure)
+    FailsUnopened opening (files_of names) before after failure
+    ⊎ OfTapes opening names before after (λ inputs. IsCheckFailure inputs before.out after.out failure)

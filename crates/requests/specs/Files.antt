@@ -1,6 +1,7 @@
 -- The files that a request names, and what they held. What a file holds is not told by its type; so these say that there are bytes that
 -- the files held.
-use Rattle.std.specs.Prelude.{◌≡◌, ◌⊎◌, ℕ, Bool, true, false, nat_eq, List, [], ◌∷◌, length, map, Option, codes}
+use Rattle.std.specs.Prelude.{◌≡◌, ◌⊎◌, ℕ, Bool, true, false, nat_eq, if◌then◌else◌, List, [], ◌∷◌, length, map}
+use Rattle.std.specs.Prelude.{Option, Some, None, codes}
 use Rattle.std.specs.Cmp.Lexicographic.{pointwise}
 use Rattle.tape_image.specs.Plan.{PlanValue, plan_of_all}
 use Rattle.command_io.specs.declared.fault.CommandFault.{CommandFault}
@@ -9,7 +10,7 @@ use Rattle.endings.specs.declared.failure.Failure.{Failure}
 use Rattle.endings.specs.declared.failure.Failure.TheVariants.{CannotWrite}
 use Rattle.endings.specs.Failure.{IsFailureOf}
 use Rattle.endings.specs.Streams.{Held}
-use Rattle.input_files.specs.Opening.{Name, Opening, AreOpened, IsUnopened}
+use Rattle.input_files.specs.Opening.{Name, InputStep, AreTried, HasOpened}
 
 -- what a reader has left or a writer holds, as far as its type tells
 abbrev pub Known : Type 0
@@ -29,9 +30,24 @@ inputs_of names remaining old new = record { names = names; held = map remaining
 abbrev pub only_input : Known → Known → Inputs
 only_input input input' = record { names = []; held = input ∷ []; rests = input' ∷ [] }
 
--- the files of these names were opened, one for each, and this is so of what they held and of what was left of it
-pub record OfFiles (opening : Opening) (names : List Name) (P : Inputs → Type 0) : Type 0 where
-  pub opened : AreOpened opening names
+-- which files were opened so far, and which by then, each where the system tells
+pub record Opening : Type 0 where
+  pub before : Option (List InputStep)
+  pub after : Option (List InputStep)
+
+abbrev pub opening_between : Option (List InputStep) → Option (List InputStep) → Opening
+opening_between before after = record { before = before; after = after }
+
+-- the files of these names were opened, in this order, and no others
+abbrev pub AreOpened : Opening → List Name → Type 0
+AreOpened opening names = HasOpened opening.before opening.after (AreTried names None)
+
+-- one of them was not: of those before it each was, and none behind it was tried
+abbrev pub IsUnopened : Opening → List Name → Failure → Type 0
+IsUnopened opening names failure = HasOpened opening.before opening.after (AreTried names (Some failure))
+
+-- this is so of what the files of these names held and of what was left of it
+pub record OfFiles (names : List Name) (P : Inputs → Type 0) : Type 0 where
   pub held : List Known
   pub rests : List Known
   pub one_each : length held ≡ length names
@@ -43,15 +59,24 @@ means_input [] = false
 means_input (name ∷ []) = pointwise nat_eq name.now (codes "-")
 means_input (name ∷ (other ∷ names)) = false
 
--- this is so of the tapes of these names: of standard input alone where they mean it, else of files, and then standard input is as it was
-abbrev pub OfTapes : Opening → List Name → Held → Held → (Inputs → Type 0) → Type 0
-OfTapes opening names before after P =
-    ((means_input names ≡ true) × P (only_input before.input after.input))
-    ⊎ ((means_input names ≡ false) × OfFiles opening names P × (after.input ≡ before.input))
+-- the files that the names of tapes stand for: none, where they mean standard input
+abbrev pub files_of : List Name → List Name
+files_of names = if means_input names then [] else names
 
--- a file of these names can't be opened, or want of memory, with nothing read or written
-pub record FailsUnopened (opening : Opening) (names : List Name) (before after : Held) (failure : Failure) : Type 0 where
-  pub unopened : IsUnopened opening names failure
+-- this is so of the tapes of these names: of standard input alone where they mean it, else of files, and then standard input is as it was
+abbrev pub OfInputs : List Name → Held → Held → (Inputs → Type 0) → Type 0
+OfInputs names before after P =
+    ((means_input names ≡ true) × P (only_input before.input after.input))
+    ⊎ ((means_input names ≡ false) × OfFiles names P × (after.input ≡ before.input))
+
+-- .. whose files were opened
+pub record OfTapes (opening : Opening) (names : List Name) (before after : Held) (P : Inputs → Type 0) : Type 0 where
+  pub opened : AreOpened opening (files_of names)
+  pub is_so : OfInputs names before after P
+
+-- one of these files can't be opened, or want of memory, with nothing read of standard input and nothing written
+pub record FailsUnopened (opening : Opening) (files : List Name) (before after : Held) (failure : Failure) : Type 0 where
+  pub unopened : IsUnopened opening files failure
   pub nothing_read : after.input ≡ before.input
   pub nothing_written : after.out ≡ before.out
 
@@ -86,4 +111,5 @@ IsPlanned opening names before after plan = OfTapes opening names before after (
 -- no plan comes of the tapes of these names, and nothing was written
 abbrev pub IsUnplanned : Opening → List Name → Held → Held → Failure → Type 0
 IsUnplanned opening names before after failure =
-    FailsUnopened opening names before after failure ⊎ (OfTapes opening names before after (λ inputs. FailsToPlan inputs failure) × (after.out ≡ before.out))
+    FailsUnopened opening (files_of names) before after failure
+    ⊎ (OfTapes opening names before after (λ inputs. FailsToPlan inputs failure) × (after.out ≡ before.out))

@@ -6,5 +6,7 @@ pub mod Loading
 pub mod Looking
 pub mod Probing
 pub mod Rehearsing
+pub mod Saving
 pub mod Showing
+pub mod System
 pub mod Typing

@@ -1,11 +1,16 @@
 -- What becomes of a request to load a real machine.
-use Rattle.std.specs.Prelude.{◌≡◌, ◌⊎◌, ℕ, Bool, List, Option, Some, None, IsSome, codes}
+use Rattle.std.specs.Prelude.{◌≡◌, ◌⊎◌, ⊤, ℕ, Bool, List, Option, Some, None, IsSome, codes}
 use Rattle.tape_image.specs.Plan.{PlanValue, starting}
 use Rattle.load_engine.specs.declared.stop.Stop.{Stop}
+use Rattle.load_devices.specs.Told.{Gains}
+use Rattle.machine_load.specs.Called.{asked_by, IsAskedBefore}
 use Rattle.machine_load.specs.Load.{Around, IsReported}
 use Rattle.machine_load.specs.LoadFault.{IsLoadFault}
+use Rattle.machine_load.specs.RecordDisk.{FileKnown, IsClosedAfter, RecordDisk, disk_asked_by, disk_asked_before}
 use Rattle.machine_load.specs.declared.fault.LoadFault.{LoadFault}
 use Rattle.machine_load.specs.declared.options.LoadOptions.{LoadOptions}
+use Rattle.record_file.specs.DiskStep.{DiskStep, HasAsked}
+use Rattle.stream_line.specs.Dialling.{Call, LineRequest}
 use Rattle.endings.specs.declared.failure.Failure.{Failure}
 use Rattle.endings.specs.declared.failure.Failure.TheVariants.{CannotWrite}
 use Rattle.endings.specs.declared.status.Status.{Status}
@@ -13,8 +18,9 @@ use Rattle.endings.specs.Failure.{IsLoadFailureOf, IsStopFailure}
 use Rattle.endings.specs.Status.{IsStopStatus}
 use Rattle.endings.specs.Streams.{Held}
 use Rattle.requests.specs.declared.request.Load.{Load as LoadRequest}
-use Rattle.input_files.specs.Opening.{Name, Opening}
-use Rattle.requests.specs.Files.{Known, IsPlanned, IsUnplanned}
+use Rattle.input_files.specs.Opening.{Name}
+use Rattle.requests.specs.Files.{Known, Opening, IsPlanned, IsUnplanned}
+use Rattle.requests.specs.System.{OutsideAsked, NotElsewhere, asked_towards, call_to}
 use Rattle.requests.specs.Listening.{IsListenedTo, IsHeardInPart, seconds_of, quiet_time}
 
 -- what faults call the record: its file's name, where it has one
@@ -44,41 +50,89 @@ abbrev pub IsEndFailure : LoadRequest → Stop → Bool → Known → Known → 
 IsEndFailure load stop marked out out' failure =
     (IsStopFailure stop marked (record_name load.record) failure × (out' ≡ out)) ⊎ IsListeningCut load stop out out' failure
 
--- a load of this plan was done
-pub record IsPlanLoaded (plan : PlanValue) (load : LoadRequest) (out out' : Known) (status : Status) : Type 0 where
+-- what a load's console and output tell: what was asked for a line, and what this one holds
+pub record LoadTold : Type 0 where
+  pub asked : Option (List LineRequest)
+  pub out : Known
+
+abbrev pub load_told : {C W : Type 0} → (C → Option (List LineRequest)) → (W → Known) → C → W → LoadTold
+load_told asked_of contents console out = record { asked = asked_of console; out = contents out }
+
+-- the same of the console that a load is meant for, and whom that is
+abbrev pub load_told_of : LoadRequest → OutsideAsked → Known → LoadTold
+load_told_of load asked out = record { asked = asked_towards load.line.now asked; out = out }
+
+abbrev pub load_call : LoadRequest → Call
+load_call load = call_to load.line.now load.quiet_ms
+
+-- what is said of a disk, by what holds of the steps that it was asked for
+abbrev pub SaidOfDisk : Type 1
+SaidOfDisk = (RecordDisk → FileKnown → List DiskStep → Type 0) → Type 0
+
+-- nothing was asked of the disk, where the record is in memory alone; else what this holds of, and then what it takes to close the record
+abbrev pub AsksDisk : Option Name → Option (List DiskStep) → Option (List DiskStep) → SaidOfDisk
+AsksDisk None asked asked' holds = asked' ≡ asked
+AsksDisk (Some name) asked asked' holds = HasAsked asked asked' (IsClosedAfter holds (record { asked = asked; name = name.now; known = None }))
+
+-- a load of this plan was done. It had a line, for which its console was asked for once and its record begun once; or it had none, and its
+-- record was read alone
+pub record IsPlanLoaded (plan : PlanValue) (load : LoadRequest) (call : Call) (on_disk : SaidOfDisk) (before after : LoadTold) (status : Status) : Type 0 where
   pub stop : Stop
   pub marked : Bool
   pub between : Known
-  pub reported : IsPlanReported plan load.options out between stop marked
-  pub ended : IsEnded load stop between out' status
+  pub reported : IsPlanReported plan load.options before.out between stop marked
+  pub ended : IsEnded load stop between after.out status
+  pub line : Option ⊤
+  pub asked : Gains before.asked after.asked (asked_by call line)
+  pub disk : on_disk (disk_asked_by line)
 
 -- a load of this plan was reported, and failed all the same
-pub record IsLoadBroken (plan : PlanValue) (load : LoadRequest) (out out' : Known) (failure : Failure) : Type 0 where
+pub record IsLoadBroken (plan : PlanValue) (load : LoadRequest) (call : Call) (on_disk : SaidOfDisk) (before after : LoadTold) (failure : Failure)
+    : Type 0 where
   pub stop : Stop
   pub marked : Bool
   pub between : Known
-  pub reported : IsPlanReported plan load.options out between stop marked
-  pub is_so : IsEndFailure load stop marked between out' failure
+  pub reported : IsPlanReported plan load.options before.out between stop marked
+  pub is_so : IsEndFailure load stop marked between after.out failure
+  pub line : Option ⊤
+  pub asked : Gains before.asked after.asked (asked_by call line)
+  pub disk : on_disk (disk_asked_by line)
 
 -- a load of this plan came to nothing
-pub record IsLoadCutShort (plan : PlanValue) (load : LoadRequest) (out out' : Known) (failure : Failure) : Type 0 where
+pub record IsLoadCutShort (plan : PlanValue) (load : LoadRequest) (call : Call) (on_disk : SaidOfDisk) (before after : LoadTold) (failure : Failure)
+    : Type 0 where
   pub fault : LoadFault
   pub around : Around
   pub around' : Around
-  pub is_so : IsLoadFault plan load.options (record { around = around; out = out }) (record { around = around'; out = out' }) fault
+  pub is_so : IsLoadFault plan load.options (record { around = around; out = before.out }) (record { around = around'; out = after.out }) fault
   pub is_called : IsLoadFailureOf fault load.line.now (record_name load.record) failure
+  pub asked : IsAskedBefore call before.asked after.asked fault
+  pub disk : on_disk (disk_asked_before fault)
 
 -- a load of this plan failed
-abbrev pub IsPlanFailure : PlanValue → LoadRequest → Known → Known → Failure → Type 0
-IsPlanFailure plan load out out' failure = IsLoadCutShort plan load out out' failure ⊎ IsLoadBroken plan load out out' failure
+abbrev pub IsPlanFailure : PlanValue → LoadRequest → Call → SaidOfDisk → LoadTold → LoadTold → Failure → Type 0
+IsPlanFailure plan load call on_disk before after failure =
+    IsLoadCutShort plan load call on_disk before after failure ⊎ IsLoadBroken plan load call on_disk before after failure
 
--- the tapes of these names were loaded, as one, with the start that is asked for
-abbrev pub AreLoaded : Opening → List Name → LoadRequest → Held → Held → Status → Type 0
-AreLoaded opening names load before after status =
-    (plan : PlanValue) × IsPlanned opening names before after plan × IsPlanLoaded (starting plan load.start) load before.out after.out status
+-- the tapes of these names were loaded, as one, with the start that is asked for, at the console that is named, and no other was asked for
+pub record AreLoaded (opening : Opening) (names : List Name) (load : LoadRequest) (asked asked' : OutsideAsked) (before after : Held) (status : Status)
+    : Type 0 where
+  pub plan : PlanValue
+  pub planned : IsPlanned opening names before after plan
+  pub loaded : IsPlanLoaded (starting plan load.start) load (load_call load) (AsksDisk load.record asked.disk asked'.disk)
+      (load_told_of load asked before.out) (load_told_of load asked' after.out) status
+  pub not_elsewhere : NotElsewhere load.line.now asked asked'
 
--- their load failed: it has no plan, or it failed on its way
-abbrev pub AreUnloaded : Opening → List Name → LoadRequest → Held → Held → Failure → Type 0
-AreUnloaded opening names load before after failure =
-    IsUnplanned opening names before after failure
-    ⊎ ((plan : PlanValue) × IsPlanned opening names before after plan × IsPlanFailure (starting plan load.start) load before.out after.out failure)
+-- there is a plan, and its load failed
+pub record IsLoadUndone (opening : Opening) (names : List Name) (load : LoadRequest) (asked asked' : OutsideAsked) (before after : Held)
+    (failure : Failure) : Type 0 where
+  pub plan : PlanValue
+  pub planned : IsPlanned opening names before after plan
+  pub failed : IsPlanFailure (starting plan load.start) load (load_call load) (AsksDisk load.record asked.disk asked'.disk)
+      (load_told_of load asked before.out) (load_told_of load asked' after.out) failure
+  pub not_elsewhere : NotElsewhere load.line.now asked asked'
+
+-- their load failed: it has no plan, and of disk and consoles nothing was asked; or it failed on its way
+abbrev pub AreUnloaded : Opening → List Name → LoadRequest → OutsideAsked → OutsideAsked → Held → Held → Failure → Type 0
+AreUnloaded opening names load asked asked' before after failure =
+    ((asked' ≡ asked) × IsUnplanned opening names before after failure) ⊎ IsLoadUndone opening names load asked asked' before after failure

@@ -1,89 +1,58 @@
 -- What becomes of a request to look at a real machine.
-use Rattle.std.specs.Prelude.{◌≡◌, ◌⊎◌, ℕ, List, Option, Ok, Err}
+use Rattle.std.specs.Prelude.{◌≡◌, ◌⊎◌, List, Ok, Err}
 use Rattle.tape_image.specs.Plan.{PlanValue}
-use Rattle.machine_look.specs.LookFault.{IsVerifyFault, IsSaveFault}
-use Rattle.machine_look.specs.Save.{IsSavedAndReported, SaveTold}
-use Rattle.machine_look.specs.Shelf.{Step}
+use Rattle.machine_look.specs.Look.{LookTold}
+use Rattle.machine_look.specs.LookFault.{IsVerifyFault}
 use Rattle.machine_look.specs.Verify.{IsReported}
 use Rattle.machine_look.specs.declared.look_fault.LookFault.{LookFault}
-use Rattle.machine_look.specs.declared.save_end.SaveEnd.{SaveEnd}
-use Rattle.machine_look.specs.declared.saving.SaveOptions.{SaveOptions}
 use Rattle.machine_look.specs.declared.verify_end.VerifyEnd.{VerifyEnd}
 use Rattle.endings.specs.declared.failure.Failure.{Failure}
 use Rattle.endings.specs.declared.status.Status.{Status}
 use Rattle.endings.specs.Failure.{IsLookFailureOf}
-use Rattle.endings.specs.Status.{after_verify, after_save}
+use Rattle.endings.specs.Status.{after_verify}
 use Rattle.endings.specs.Streams.{Held}
 use Rattle.requests.specs.declared.request.Look.{Look}
-use Rattle.requests.specs.declared.request.Save.{Save}
-use Rattle.input_files.specs.Opening.{Name, Opening}
-use Rattle.requests.specs.Files.{Known, IsPlanned, IsUnplanned}
+use Rattle.input_files.specs.Opening.{Name}
+use Rattle.requests.specs.Files.{Known, Opening, IsPlanned, IsUnplanned}
+use Rattle.requests.specs.System.{OutsideAsked, AsksConsoleAlone, asked_towards, call_to}
 
--- memory was looked at for a plan, and that was reported
-pub record IsVerifyReported (plan : PlanValue) (look : Look) (out out' : Known) (end : VerifyEnd) : Type 0 where
-  pub tries : Option ℕ
-  pub tries' : Option ℕ
-  pub reported : IsReported plan look.patience (record { tries = tries; out = out }) (record { tries = tries'; out = out' }) end
+-- what the console that a look is meant for and an output tell
+abbrev pub told_of : Look → OutsideAsked → Known → LookTold
+told_of look asked out = record { asked = asked_towards look.line.now asked; call = call_to look.line.now look.quiet_ms; out = out }
 
 -- memory was looked at for a plan
-abbrev pub IsPlanVerified : PlanValue → Look → Known → Known → Status → Type 0
-IsPlanVerified plan look out out' status = (end : VerifyEnd) × IsVerifyReported plan look out out' end × (after_verify end ≡ Ok status)
+abbrev pub IsPlanVerified : PlanValue → Look → LookTold → LookTold → Status → Type 0
+IsPlanVerified plan look before after status = (end : VerifyEnd) × IsReported plan look.patience before after end × (after_verify end ≡ Ok status)
 
 -- a look for a plan came to nothing
-pub record IsVerifyCutShort (plan : PlanValue) (look : Look) (out out' : Known) (failure : Failure) : Type 0 where
+pub record IsVerifyCutShort (plan : PlanValue) (look : Look) (before after : LookTold) (failure : Failure) : Type 0 where
   pub fault : LookFault
-  pub tries : Option ℕ
-  pub tries' : Option ℕ
-  pub is_so : IsVerifyFault plan look.patience (record { tries = tries; out = out }) (record { tries = tries'; out = out' }) fault
+  pub is_so : IsVerifyFault plan look.patience before after fault
   pub is_called : IsLookFailureOf fault look.line.now look.line.now failure
 
 -- a look for a plan failed: it came to nothing, or it was reported and its line had failed
-abbrev pub IsVerifyFailure : PlanValue → Look → Known → Known → Failure → Type 0
-IsVerifyFailure plan look out out' failure =
-    IsVerifyCutShort plan look out out' failure ⊎ ((end : VerifyEnd) × IsVerifyReported plan look out out' end × (after_verify end ≡ Err failure))
+abbrev pub IsVerifyFailure : PlanValue → Look → LookTold → LookTold → Failure → Type 0
+IsVerifyFailure plan look before after failure =
+    IsVerifyCutShort plan look before after failure
+    ⊎ ((end : VerifyEnd) × IsReported plan look.patience before after end × (after_verify end ≡ Err failure))
 
--- memory was looked at for the tapes of these names, as one
-abbrev pub AreVerified : Opening → List Name → Look → Held → Held → Status → Type 0
-AreVerified opening names look before after status =
-    (plan : PlanValue) × IsPlanned opening names before after plan × IsPlanVerified plan look before.out after.out status
+-- memory was looked at for the tapes of these names, as one, at the console that is named, and no other was asked for
+pub record AreVerified (opening : Opening) (names : List Name) (look : Look) (asked asked' : OutsideAsked) (before after : Held) (status : Status)
+    : Type 0 where
+  pub plan : PlanValue
+  pub planned : IsPlanned opening names before after plan
+  pub verified : IsPlanVerified plan look (told_of look asked before.out) (told_of look asked' after.out) status
+  pub alone : AsksConsoleAlone look.line.now asked asked'
 
--- the look failed: there is no plan, or it failed on its way
-abbrev pub AreUnverified : Opening → List Name → Look → Held → Held → Failure → Type 0
-AreUnverified opening names look before after failure =
-    IsUnplanned opening names before after failure
-    ⊎ ((plan : PlanValue) × IsPlanned opening names before after plan × IsVerifyFailure plan look before.out after.out failure)
+-- there is a plan, and the look for it failed
+pub record IsLookBroken (opening : Opening) (names : List Name) (look : Look) (asked asked' : OutsideAsked) (before after : Held) (failure : Failure)
+    : Type 0 where
+  pub plan : PlanValue
+  pub planned : IsPlanned opening names before after plan
+  pub failed : IsVerifyFailure plan look (told_of look asked before.out) (told_of look asked' after.out) failure
+  pub alone : AsksConsoleAlone look.line.now asked asked'
 
--- what a shelf, a console and an output tell of a save
-abbrev pub told : Option (List Step) → Option ℕ → Known → SaveTold
-told shelf tries out = record { steps = shelf; tries = tries; out = out }
-
--- what is to be saved, and how, as the request has it
-abbrev pub options_of : Save → SaveOptions
-options_of save = record { range = save.range; start = save.start; patience = save.look.patience }
-
--- memory was read and saved, and that was reported
-pub record IsSaveReported (save : Save) (out out' : Known) (end : SaveEnd) : Type 0 where
-  pub shelf : Option (List Step)
-  pub shelf' : Option (List Step)
-  pub tries : Option ℕ
-  pub tries' : Option ℕ
-  pub reported : IsSavedAndReported (options_of save) (told shelf tries out) (told shelf' tries' out') end
-
--- memory was read and saved
-abbrev pub IsSaved : Save → Known → Known → Status → Type 0
-IsSaved save out out' status = (end : SaveEnd) × IsSaveReported save out out' end × (after_save end ≡ Ok status)
-
--- a save into a file of this name came to nothing
-pub record IsSaveCutShort (name : Name) (save : Save) (out out' : Known) (failure : Failure) : Type 0 where
-  pub fault : LookFault
-  pub shelf : Option (List Step)
-  pub shelf' : Option (List Step)
-  pub tries : Option ℕ
-  pub tries' : Option ℕ
-  pub is_so : IsSaveFault (options_of save) (told shelf tries out) (told shelf' tries' out') fault
-  pub is_called : IsLookFailureOf fault save.look.line.now name.now failure
-
--- a save into a file of this name failed: it came to nothing, or it was reported and its line had failed
-abbrev pub IsSaveFailure : Name → Save → Known → Known → Failure → Type 0
-IsSaveFailure name save out out' failure =
-    IsSaveCutShort name save out out' failure ⊎ ((end : SaveEnd) × IsSaveReported save out out' end × (after_save end ≡ Err failure))
+-- the look failed: there is no plan, and no console was asked for, or it failed on its way
+abbrev pub AreUnverified : Opening → List Name → Look → OutsideAsked → OutsideAsked → Held → Held → Failure → Type 0
+AreUnverified opening names look asked asked' before after failure =
+    ((asked' ≡ asked) × IsUnplanned opening names before after failure) ⊎ IsLookBroken opening names look asked asked' before after failure

@@ -6,8 +6,8 @@ use Rattle.endings.specs.declared.failure.Failure.{Failure}
 use Rattle.endings.specs.declared.status.Status.{Status}
 use Rattle.endings.specs.declared.status.Status.TheVariants.{Done}
 use Rattle.endings.specs.Streams.{Held}
-use Rattle.input_files.specs.Opening.{Name, Opening, AreOpened}
-use Rattle.requests.specs.Files.{Known, Inputs, OfTapes, FailsUnopened, HasFault, FailsAtFlush, means_input, only_input}
+use Rattle.input_files.specs.Opening.{Name}
+use Rattle.requests.specs.Files.{Known, Inputs, Opening, AreOpened, OfInputs, FailsUnopened, HasFault, FailsAtFlush, means_input, only_input}
 
 -- a script's file held something, and it was rehearsed with the tapes
 pub record IsRehearsedInto (inputs : Inputs) (out out' : Known) : Type 0 where
@@ -26,20 +26,23 @@ IsRehearsalFailure script inputs out out' failure =
 abbrev pub IsInputRehearsed : Held → Held → Status → Type 0
 IsInputRehearsed before after status = IsRehearsedInto (only_input before.input after.input) before.out after.out × (status ≡ Done)
 
-abbrev pub IsInputUnrehearsed : Opening → Name → Held → Held → Failure → Type 0
-IsInputUnrehearsed opening script before after failure =
-    FailsUnopened opening (script ∷ []) before after failure ⊎ IsRehearsalFailure script.now (only_input before.input after.input) before.out after.out failure
+abbrev pub IsInputUnrehearsed : Name → Held → Held → Failure → Type 0
+IsInputUnrehearsed script before after failure = IsRehearsalFailure script.now (only_input before.input after.input) before.out after.out failure
 
--- the tapes of these names were rehearsed, or not, with a script in a file, which is opened behind the first tape
-abbrev pub AreRehearsed : Opening → Name → List Name → Held → Held → Status → Type 0
-AreRehearsed opening script names before after status =
-    OfTapes opening names before after (λ inputs. IsRehearsedInto inputs before.out after.out) × AreOpened opening (script ∷ []) × (status ≡ Done)
-
--- the files that are opened, in their order: with the tape on standard input the script alone
+-- the files that are opened, in their order: with the tape on standard input the script alone, which else stands behind the first tape
 abbrev pub opened_files : Name → Name → List Name → List Name
 opened_files tape script more = if means_input (tape ∷ more) then (script ∷ []) else (tape ∷ script ∷ more)
 
+-- the tapes of these names were rehearsed, or not, with a script in a file
+pub record AreRehearsed (opening : Opening) (tape script : Name) (more : List Name) (before after : Held) (status : Status) : Type 0 where
+  pub opened : AreOpened opening (opened_files tape script more)
+  pub rehearsed : OfInputs (tape ∷ more) before after (λ inputs. IsRehearsedInto inputs before.out after.out)
+  pub status_is : status ≡ Done
+
+pub record IsRehearsalBroken (opening : Opening) (tape script : Name) (more : List Name) (before after : Held) (failure : Failure) : Type 0 where
+  pub opened : AreOpened opening (opened_files tape script more)
+  pub failed : OfInputs (tape ∷ more) before after (λ inputs. IsRehearsalFailure script.now inputs before.out after.out failure)
+
 abbrev pub AreUnrehearsed : Opening → Name → Name → List Name → Held → Held → Failure → Type 0
 AreUnrehearsed opening tape script more before after failure =
-    FailsUnopened opening (opened_files tape script more) before after failure
-    ⊎ OfTapes opening (tape ∷ more) before after (λ inputs. IsRehearsalFailure script.now inputs before.out after.out failure)
+    FailsUnopened opening (opened_files tape script more) before after failure ⊎ IsRehearsalBroken opening tape script more before after failure

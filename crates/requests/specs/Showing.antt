@@ -8,8 +8,8 @@ use Rattle.endings.specs.declared.status.Status.{Status}
 use Rattle.endings.specs.Status.{end_status}
 use Rattle.endings.specs.Streams.{Held}
 use Rattle.requests.specs.declared.request.Console.{Console}
-use Rattle.input_files.specs.Opening.{Name, Opening}
-use Rattle.requests.specs.Files.{Known, Inputs, OfTapes, FailsUnopened, FailsOver, only_input}
+use Rattle.input_files.specs.Opening.{Name}
+use Rattle.requests.specs.Files.{Known, Inputs, Opening, OfTapes, files_of, FailsUnopened, FailsOver, only_input}
 
 -- a console, and the start in place of the tape's
 abbrev pub Stage : Type 0
@@ -39,4 +39,5 @@ AreShown opening names stage before after status = OfTapes opening names before 
 
 abbrev pub AreUnshown : Opening → List Name → Stage → Held → Held → Failure → Type 0
 AreUnshown opening names stage before after failure =
-    FailsUnopened opening names before after failure ⊎ OfTapes opening names before after (λ inputs. IsShowingFailure stage inputs before.out after.out failure)
+    FailsUnopened opening (files_of names) before after failure
+    ⊎ OfTapes opening names before after (λ inputs. IsShowingFailure stage inputs before.out after.out failure)

@@ -3,11 +3,11 @@ ghost use Rattle.std.specs.Prelude.{◌≡◌, ◌⊎◌, IfOk, IfErr};
 ghost use Rattle.std.specs.Mem.{FitsInMemory};
 ghost use Rattle.endings.specs.Streams.{held};
 ghost use Rattle.requests.specs.Checking.{AreChecked, AreUnchecked, IsCheckedTo, IsCheckFailure, IsInputChecked, IsInputUnchecked};
-ghost use Rattle.input_files.specs.Opening.{IsUnopened};
-ghost use Rattle.requests.specs.Files.{inputs_of, OfFiles};
+ghost use Rattle.requests.specs.Files.{inputs_of, opening_between, AreOpened, IsUnopened, OfFiles};
 
-use crate::files::{flushed, is_input};
-use endings::{Failure, STANDARD_INPUT, Status, Streams};
+use crate::names::is_input;
+use crate::output::flushed;
+use endings::{Failure, FaultOutput, STANDARD_INPUT, Status, Streams};
 use input_files::{InputFiles, open_all};
 use std::alloc::Global;
 use std::io::{Read, Write};
@@ -15,40 +15,40 @@ use std::slice;
 use tape_check::check_to;
 
 /// Checks tapes: standard input's, where `-` is their only name, else those in the files.
-pub(crate) fn check_tapes<'a, F: InputFiles, R: Read, W: Write, E: Write>(
-    rt: &F,
+pub(crate) fn check_tapes<'a, F: InputFiles, R: Read, W: Write, E: FaultOutput>(
+    inputs: &mut F,
     alloc: Global,
     names: &[&'a str],
     streams: &mut Streams<R, W, E>,
 ) -> Result<Status, Failure<'a>>
     requires { FitsInMemory R.row }
-    ensures ok { IfOk result (AreChecked (F.opens rt.now) names.now
-        (held R.remaining W.contents E.contents streams.old)
-        (held R.remaining W.contents E.contents streams.new)) }
-    ensures err { IfErr result (AreUnchecked (F.opens rt.now) names.now
-        (held R.remaining W.contents E.contents streams.old)
-        (held R.remaining W.contents E.contents streams.new)) }
+    ensures ok { IfOk result (AreChecked (opening_between (F.opened inputs.old) (F.opened inputs.new)) names.now
+        (held R.remaining W.contents E.contents E.failures streams.old)
+        (held R.remaining W.contents E.contents E.failures streams.new)) }
+    ensures err { IfErr result (AreUnchecked (opening_between (F.opened inputs.old) (F.opened inputs.new)) names.now
+        (held R.remaining W.contents E.contents E.failures streams.old)
+        (held R.remaining W.contents E.contents E.failures streams.new)) }
     ensures quiet { streams.new.err ≡ streams.old.err }
 {
     if is_input(names) {
         check_input(alloc, streams)
     } else {
-        check_files(rt, alloc, names, &mut streams.out)
+        check_files(inputs, alloc, names, &mut streams.out)
     }
 }
 
 /// Checks the tape on standard input.
-pub(crate) fn check_input<R: Read, W: Write, E: Write>(
+pub(crate) fn check_input<R: Read, W: Write, E: FaultOutput>(
     alloc: Global,
     streams: &mut Streams<R, W, E>,
 ) -> Result<Status, Failure<'static>>
     requires { FitsInMemory R.row }
     ensures ok { IfOk result (IsInputChecked
-        (held R.remaining W.contents E.contents streams.old)
-        (held R.remaining W.contents E.contents streams.new)) }
+        (held R.remaining W.contents E.contents E.failures streams.old)
+        (held R.remaining W.contents E.contents E.failures streams.new)) }
     ensures err { IfErr result (IsInputUnchecked
-        (held R.remaining W.contents E.contents streams.old)
-        (held R.remaining W.contents E.contents streams.new)) }
+        (held R.remaining W.contents E.contents E.failures streams.old)
+        (held R.remaining W.contents E.contents E.failures streams.new)) }
     ensures quiet { streams.new.err ≡ streams.old.err }
 {
     let tape = slice::from_mut(&mut streams.input);
@@ -57,16 +57,19 @@ pub(crate) fn check_input<R: Read, W: Write, E: Write>(
 
 // Opens files and checks the tapes in them.
 fn check_files<'a, F: InputFiles, W: Write>(
-    rt: &F,
+    inputs: &mut F,
     alloc: Global,
     names: &[&'a str],
     out: &mut W,
 ) -> Result<Status, Failure<'a>>
-    ensures ok { IfOk result (λ status. OfFiles (F.opens rt.now) names.now (λ inputs. IsCheckedTo inputs (W.contents out.old) (W.contents out.new) status)) }
-    ensures err { IfErr result (λ failure. (IsUnopened (F.opens rt.now) names.now failure × (W.contents out.new ≡ W.contents out.old))
-        ⊎ OfFiles (F.opens rt.now) names.now (λ inputs. IsCheckFailure inputs (W.contents out.old) (W.contents out.new) failure)) }
+    ensures ok { IfOk result (λ status. AreOpened (opening_between (F.opened inputs.old) (F.opened inputs.new)) names.now
+        × OfFiles names.now (λ of. IsCheckedTo of (W.contents out.old) (W.contents out.new) status)) }
+    ensures err { IfErr result (λ failure.
+        (IsUnopened (opening_between (F.opened inputs.old) (F.opened inputs.new)) names.now failure × (W.contents out.new ≡ W.contents out.old))
+        ⊎ (AreOpened (opening_between (F.opened inputs.old) (F.opened inputs.new)) names.now
+        × OfFiles names.now (λ of. IsCheckFailure of (W.contents out.old) (W.contents out.new) failure))) }
 {
-    let mut files = open_all(rt, alloc, names)?;
+    let mut files = open_all(inputs, alloc, names)?;
     check(alloc, names, &mut files, out)
 }
 

@@ -3,6 +3,7 @@ ghost use Rattle.std.specs.Prelude.{◌≡◌, IfOk, IfErr};
 ghost use Rattle.std.specs.Mem.{FitsInMemory};
 ghost use Rattle.endings.specs.Streams.{held};
 ghost use Rattle.requests.specs.Attempt.{IsDone, IsFailed, IsAttempted};
+ghost use Rattle.requests.specs.System.{asked_of};
 
 use crate::checking::{check_input, check_tapes};
 use crate::loading::load_tapes;
@@ -11,18 +12,20 @@ use crate::rehearsing::rehearse;
 use crate::request::Request;
 use crate::saving::save_words;
 use crate::showing::show_dialogue;
+use crate::system::{Outside, System};
 use crate::typing::type_input;
 use crate::verifying::verify_tapes;
-use endings::{Failure, Output, Status, Streams, tell_unless_unheard};
+use endings::{Failure, FaultOutput, Output, Status, Streams, tell_unless_unheard};
 use input_files::InputFiles;
-use record_file::Locks;
-use serial_line::Devices;
+use record_file::Disk;
+use serial_line::DeviceOpening;
 use std::alloc::Global;
 use std::io::{Print, Read, Write};
-use std::net::Net;
 use std::time::Clock;
+use stream_line::Dialling;
 
-/// Does a request and answers the exit status, or tells why not, with the status that says so.
+/// Does a request in a system, which comes back, and answers the exit status, or tells why not, with the
+/// status that says so.
 ///
 /// Reports go to standard output, which is flushed; a fault goes to standard error as one line, in one
 /// write. What can't be written there is not told. Nor is that standard output can't be written, where
@@ -33,29 +36,41 @@ use std::time::Clock;
 /// of a program does. It has to be said where the type is not known, since the input is lent as a slice of
 /// one.
 pub fn attempt<
-    F: InputFiles + Locks + Devices + Net + Clock,
+    'c,
+    F: InputFiles + Drop,
+    D: Disk + Drop,
+    N: Dialling + Drop,
+    V: DeviceOpening + Drop,
+    C: Clock,
     R: Read,
     W: Output,
-    E: Write,
+    E: FaultOutput,
     T: Print,
 >(
-    rt: &F,
+    system: System<F, Outside<'c, D, N, V, C>>,
     alloc: Global,
     request: Request<'_>,
     streams: &mut Streams<R, W, E>,
     terminal: Option<&T>,
-) -> Status
+) -> (System<F, Outside<'c, D, N, V, C>>, Status)
     requires { FitsInMemory R.row }
-    ensures { IsAttempted (F.opens rt.now) request.entry (W.unread streams.new.out)
-        (held R.remaining W.contents E.contents streams.old)
-        (held R.remaining W.contents E.contents streams.new)
-        result }
+    ensures { IsAttempted request.entry (W.unread streams.new.out)
+        (asked_of F.opened D.asked N.asked V.asked system.entry)
+        (asked_of F.opened D.asked N.asked V.asked result.0)
+        (held R.remaining W.contents E.contents E.failures streams.old)
+        (held R.remaining W.contents E.contents E.failures streams.new)
+        result.1 }
 {
     let only_prints = request.only_prints();
-    match perform(rt, alloc, request, streams, terminal) {
-        Ok(status) => status,
+    let (system, outcome) = perform(system, alloc, request, streams, terminal);
+    match outcome {
+        Ok(status) => (system, status),
         Err(failure) => {
-            tell_unless_unheard(alloc, only_prints, failure, &streams.out, &mut streams.err)
+            let (out, err) = (&streams.out, &mut streams.err);
+            (
+                system,
+                tell_unless_unheard(alloc, only_prints, failure, out, err),
+            )
         }
     }
 }
@@ -63,40 +78,62 @@ pub fn attempt<
 // Does a request and answers how it ended, with nothing said on standard error.
 fn perform<
     'a,
-    F: InputFiles + Locks + Devices + Net + Clock,
+    'c,
+    F: InputFiles + Drop,
+    D: Disk + Drop,
+    N: Dialling + Drop,
+    V: DeviceOpening + Drop,
+    C: Clock,
     R: Read,
     W: Write,
-    E: Write,
+    E: FaultOutput,
     T: Print,
 >(
-    rt: &F,
+    mut system: System<F, Outside<'c, D, N, V, C>>,
     alloc: Global,
     request: Request<'a>,
     streams: &mut Streams<R, W, E>,
     terminal: Option<&T>,
-) -> Result<Status, Failure<'a>>
+) -> (
+    System<F, Outside<'c, D, N, V, C>>,
+    Result<Status, Failure<'a>>,
+)
     requires { FitsInMemory R.row }
-    ensures ok { IfOk result (IsDone (F.opens rt.now) request.entry
-        (held R.remaining W.contents E.contents streams.old)
-        (held R.remaining W.contents E.contents streams.new)) }
-    ensures err { IfErr result (IsFailed (F.opens rt.now) request.entry
-        (held R.remaining W.contents E.contents streams.old)
-        (held R.remaining W.contents E.contents streams.new)) }
+    ensures ok { IfOk result.1 (IsDone request.entry
+        (asked_of F.opened D.asked N.asked V.asked system.entry)
+        (asked_of F.opened D.asked N.asked V.asked result.0)
+        (held R.remaining W.contents E.contents E.failures streams.old)
+        (held R.remaining W.contents E.contents E.failures streams.new)) }
+    ensures err { IfErr result.1 (IsFailed request.entry
+        (asked_of F.opened D.asked N.asked V.asked system.entry)
+        (asked_of F.opened D.asked N.asked V.asked result.0)
+        (held R.remaining W.contents E.contents E.failures streams.old)
+        (held R.remaining W.contents E.contents E.failures streams.new)) }
     ensures quiet { streams.new.err ≡ streams.old.err }
 {
     match request {
-        Request::CheckInput => check_input(alloc, streams),
-        Request::Check(names) => check_tapes(rt, alloc, &names, streams),
+        Request::CheckInput => (system, check_input(alloc, streams)),
+        Request::Check(names) => {
+            let outcome = check_tapes(&mut system.inputs, alloc, &names, streams);
+            (system, outcome)
+        }
         Request::Dialogue(names, console, start) => {
-            show_dialogue(rt, alloc, &names, (console, start), streams)
+            let stage = (console, start);
+            let outcome = show_dialogue(&mut system.inputs, alloc, &names, stage, streams);
+            (system, outcome)
         }
         Request::Rehearse(tape, script, more) => {
-            rehearse(rt, alloc, tape, script, &more, streams)
+            let outcome = rehearse(&mut system.inputs, alloc, tape, script, &more, streams);
+            (system, outcome)
         }
-        Request::Type(console) => type_input(alloc, console, streams),
-        Request::Load(names, load) => load_tapes(rt, alloc, &names, load, streams, terminal),
-        Request::Verify(names, look) => verify_tapes(rt, alloc, &names, look, streams, terminal),
-        Request::Save(name, save) => save_words(rt, alloc, name, save, &mut streams.out, terminal),
-        Request::Probe(request) => probe_console(rt, alloc, request, &mut streams.out),
+        Request::Type(console) => (system, type_input(alloc, console, streams)),
+        Request::Load(names, load) => load_tapes(system, alloc, &names, load, streams, terminal),
+        Request::Verify(names, look) => {
+            verify_tapes(system, alloc, &names, look, streams, terminal)
+        }
+        Request::Save(name, save) => {
+            save_words(system, alloc, name, save, &mut streams.out, terminal)
+        }
+        Request::Probe(request) => probe_console(system, alloc, request, &mut streams.out),
     }
 }

@@ -1,11 +1,8 @@
 use std::alloc::Global;
 
-/// What a host at a machine stands on.
+/// What a host at a machine stands on, beside the machine.
 #[derive(Drop)]
-pub(crate) struct Host<'a, F, O> {
-    /// The system, which has the console's line and the files.
-    pub system: &'a F,
-
+pub(crate) struct Host<'a, O> {
     /// Where memory comes from.
     pub alloc: Global,
 

@@ -1,6 +1,6 @@
 //! What a person can ask of `ldaodt`, as a value, and how it ends.
 //!
-//! A `Request` names a command, its files and its options. `attempt` does it and answers the exit
+//! A `Request` names a command, its files and its options. `attempt` does it in a `System`, and answers the exit
 //! status; where it can't be done, one line on standard error says why, by the name of the file that
 //! was at fault. Each command's own contract stands in its crate: `tape_check`, `console_typing`,
 //! `rehearsals`, `machine_load`, `machine_look`, `machine_probe`. Which status and which line an end or
@@ -10,19 +10,22 @@
 #![tactic(auto)]
 
 mod checking;
-mod files;
 mod handling;
 mod host;
 mod listening;
 mod loading;
+mod names;
+mod output;
 mod planning;
 mod probing;
 mod rehearsing;
 mod request;
 mod saving;
 mod showing;
+mod system;
 mod typing;
 mod verifying;
 
 pub use handling::attempt;
 pub use request::{Console, Load, Look, Probe, Request, Save};
+pub use system::{Outside, SharedSystem, System};

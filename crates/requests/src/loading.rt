@@ -5,145 +5,238 @@ ghost use Rattle.endings.specs.Failure.{IsStopFailure};
 ghost use Rattle.endings.specs.Status.{IsStopStatus};
 ghost use Rattle.endings.specs.Streams.{held};
 ghost use Rattle.machine_load.specs.Load.{IsNeverBegun};
-ghost use Rattle.requests.specs.Loading.{record_name, AreLoaded, AreUnloaded, IsEnded, IsEndFailure, IsPlanLoaded, IsPlanFailure};
+ghost use Rattle.machine_load.specs.RecordDisk.{DiskAsked};
+ghost use Rattle.requests.specs.Files.{opening_between};
+ghost use Rattle.requests.specs.Loading.{record_name, load_call, load_told, load_told_of, AreLoaded, AreUnloaded, AsksDisk};
+ghost use Rattle.requests.specs.Loading.{IsEnded, IsEndFailure, IsPlanLoaded, IsPlanFailure};
+ghost use Rattle.requests.specs.System.{outside_asked, NotElsewhere};
 
 use crate::host::Host;
 use crate::listening::listen_behind;
 use crate::planning::plan_tapes;
 use crate::request::Load;
+use crate::system::{Outside, System};
 use console_reach::{Port, Reach, Wire, is_path};
-use endings::{Failure, Status, Streams};
+use endings::{Failure, FaultOutput, Status, Streams};
 use input_files::InputFiles;
 use load_devices::{Line, Onlooker, Unwatched};
 use load_engine::Stop;
 use load_progress::ProgressLine;
 use machine_load::{Around, InMemory, Outcome, Surroundings, load};
-use record_file::{Locks, RecordFile};
-use serial_line::Devices;
+use record_file::{Disk, RecordFile};
+use serial_line::DeviceOpening;
 use std::alloc::Global;
 use std::io::{Print, Read, Write};
-use std::net::Net;
 use std::time::Clock;
+use stream_line::Dialling;
 use tape_image::Plan;
 
 /// Loads tapes, as one, into a real machine. A terminal shows how far that is.
 pub(crate) fn load_tapes<
     'a,
-    F: InputFiles + Locks + Devices + Net + Clock,
+    'c,
+    F: InputFiles + Drop,
+    D: Disk + Drop,
+    N: Dialling + Drop,
+    V: DeviceOpening + Drop,
+    C: Clock,
     R: Read,
     W: Write,
-    E: Write,
+    E: FaultOutput,
     T: Print,
 >(
-    rt: &F,
+    mut system: System<F, Outside<'c, D, N, V, C>>,
     alloc: Global,
     names: &[&'a str],
     load: Load<'a>,
     streams: &mut Streams<R, W, E>,
     terminal: Option<&T>,
-) -> Result<Status, Failure<'a>>
+) -> (
+    System<F, Outside<'c, D, N, V, C>>,
+    Result<Status, Failure<'a>>,
+)
     requires { FitsInMemory R.row }
-    ensures ok { IfOk result (AreLoaded (F.opens rt.now) names.now load.entry
-        (held R.remaining W.contents E.contents streams.old)
-        (held R.remaining W.contents E.contents streams.new)) }
-    ensures err { IfErr result (AreUnloaded (F.opens rt.now) names.now load.entry
-        (held R.remaining W.contents E.contents streams.old)
-        (held R.remaining W.contents E.contents streams.new)) }
+    ensures ok { IfOk result.1 (AreLoaded (opening_between (F.opened system.entry.inputs) (F.opened result.0.inputs)) names.now load.entry
+        (outside_asked D.asked N.asked V.asked system.entry.outside)
+        (outside_asked D.asked N.asked V.asked result.0.outside)
+        (held R.remaining W.contents E.contents E.failures streams.old)
+        (held R.remaining W.contents E.contents E.failures streams.new)) }
+    ensures err { IfErr result.1 (AreUnloaded (opening_between (F.opened system.entry.inputs) (F.opened result.0.inputs)) names.now load.entry
+        (outside_asked D.asked N.asked V.asked system.entry.outside)
+        (outside_asked D.asked N.asked V.asked result.0.outside)
+        (held R.remaining W.contents E.contents E.failures streams.old)
+        (held R.remaining W.contents E.contents E.failures streams.new)) }
     ensures quiet { streams.new.err ≡ streams.old.err }
 {
-    let planned = plan_tapes(rt, alloc, names, streams)?;
+    let planned = match plan_tapes(&mut system.inputs, alloc, names, streams) {
+        Ok(plan) => plan,
+        Err(failure) => return (system, Err(failure)),
+    };
     let plan = planned.starting(load.start);
+    let System { inputs, outside } = system;
+    let (outside, outcome) = load_shown(outside, alloc, plan, load, &mut streams.out, terminal);
+    (System { inputs, outside }, outcome)
+}
+
+// Loads a plan, and shows on a terminal how far that is, where there is one.
+fn load_shown<
+    'a,
+    'c,
+    D: Disk + Drop,
+    N: Dialling + Drop,
+    V: DeviceOpening + Drop,
+    C: Clock,
+    W: Write,
+    T: Print,
+>(
+    outside: Outside<'c, D, N, V, C>,
+    alloc: Global,
+    plan: Plan,
+    load: Load<'a>,
+    out: &mut W,
+    terminal: Option<&T>,
+) -> (Outside<'c, D, N, V, C>, Result<Status, Failure<'a>>)
+    ensures ok { IfOk result.1 (IsPlanLoaded plan load.entry (load_call load.entry)
+        (AsksDisk load.entry.record (D.asked outside.entry.disk) (D.asked result.0.disk))
+        (load_told_of load.entry (outside_asked D.asked N.asked V.asked outside.entry) (W.contents out.old))
+        (load_told_of load.entry (outside_asked D.asked N.asked V.asked result.0) (W.contents out.new))) }
+    ensures err { IfErr result.1 (IsPlanFailure plan load.entry (load_call load.entry)
+        (AsksDisk load.entry.record (D.asked outside.entry.disk) (D.asked result.0.disk))
+        (load_told_of load.entry (outside_asked D.asked N.asked V.asked outside.entry) (W.contents out.old))
+        (load_told_of load.entry (outside_asked D.asked N.asked V.asked result.0) (W.contents out.new))) }
+    ensures not_elsewhere { NotElsewhere load.entry.line.now
+        (outside_asked D.asked N.asked V.asked outside.entry)
+        (outside_asked D.asked N.asked V.asked result.0) }
+{
     match terminal {
         Some(terminal) => {
-            let onlooker = &ProgressLine::new(rt, terminal);
-            load_plan(
-                &Host {
-                    system: rt,
-                    alloc,
-                    onlooker,
-                },
-                plan,
-                load,
-                &mut streams.out,
-            )
+            let onlooker = &ProgressLine::new(outside.clock, terminal);
+            load_plan(&Host { alloc, onlooker }, outside, plan, load, out)
         }
         None => {
             let onlooker = &Unwatched;
-            load_plan(
-                &Host {
-                    system: rt,
-                    alloc,
-                    onlooker,
-                },
-                plan,
-                load,
-                &mut streams.out,
-            )
+            load_plan(&Host { alloc, onlooker }, outside, plan, load, out)
         }
     }
 }
 
 // Loads a plan through a device or a port, by what the line's name is.
-fn load_plan<'a, F: Locks + Devices + Net + Clock, O: Onlooker, W: Write>(
-    host: &Host<'_, F, O>,
+fn load_plan<
+    'a,
+    'c,
+    D: Disk + Drop,
+    N: Dialling + Drop,
+    V: DeviceOpening + Drop,
+    C: Clock,
+    O: Onlooker,
+    W: Write,
+>(
+    host: &Host<'_, O>,
+    outside: Outside<'c, D, N, V, C>,
     plan: Plan,
     load: Load<'a>,
     out: &mut W,
-) -> Result<Status, Failure<'a>>
-    ensures ok { IfOk result (IsPlanLoaded plan load.entry (W.contents out.old) (W.contents out.new)) }
-    ensures err { IfErr result (IsPlanFailure plan load.entry (W.contents out.old) (W.contents out.new)) }
+) -> (Outside<'c, D, N, V, C>, Result<Status, Failure<'a>>)
+    ensures ok { IfOk result.1 (IsPlanLoaded plan load.entry (load_call load.entry)
+        (AsksDisk load.entry.record (D.asked outside.entry.disk) (D.asked result.0.disk))
+        (load_told_of load.entry (outside_asked D.asked N.asked V.asked outside.entry) (W.contents out.old))
+        (load_told_of load.entry (outside_asked D.asked N.asked V.asked result.0) (W.contents out.new))) }
+    ensures err { IfErr result.1 (IsPlanFailure plan load.entry (load_call load.entry)
+        (AsksDisk load.entry.record (D.asked outside.entry.disk) (D.asked result.0.disk))
+        (load_told_of load.entry (outside_asked D.asked N.asked V.asked outside.entry) (W.contents out.old))
+        (load_told_of load.entry (outside_asked D.asked N.asked V.asked result.0) (W.contents out.new))) }
+    ensures not_elsewhere { NotElsewhere load.entry.line.now
+        (outside_asked D.asked N.asked V.asked outside.entry)
+        (outside_asked D.asked N.asked V.asked result.0) }
 {
-    let quiet_ms = load.quiet_ms;
-    if is_path(load.line) {
+    let Outside {
+        disk,
+        network,
+        devices,
+        clock,
+    } = outside;
+    let (path, quiet_ms) = (load.line, load.quiet_ms);
+    if is_path(path) {
         let wire = Wire {
-            system: host.system,
-            path: load.line,
+            devices,
+            clock,
+            path,
             quiet_ms,
         };
-        load_through(host, plan, load, wire, out)
+        let (wire, disk, outcome) = load_through(host, plan, load, wire, disk, out);
+        let devices = wire.devices;
+        let outside = Outside {
+            disk,
+            network,
+            devices,
+            clock,
+        };
+        (outside, outcome)
     } else {
         let port = Port {
-            net: host.system,
-            address: load.line,
+            net: network,
+            address: path,
             quiet_ms,
         };
-        load_through(host, plan, load, port, out)
+        let (port, disk, outcome) = load_through(host, plan, load, port, disk, out);
+        let network = port.net;
+        let outside = Outside {
+            disk,
+            network,
+            devices,
+            clock,
+        };
+        (outside, outcome)
     }
 }
 
-// Loads a plan through a console, with a record in a file or in memory alone.
-fn load_through<'a, F: Locks, O: Onlooker, C: Reach + Drop, W: Write>(
-    host: &Host<'_, F, O>,
+// Loads a plan through a console, with a record in a file or in memory alone. Console and disk come back.
+fn load_through<'a, O: Onlooker, C: Reach + Drop, D: Disk + Drop, W: Write>(
+    host: &Host<'_, O>,
     plan: Plan,
     load: Load<'a>,
     console: C,
+    disk: D,
     out: &mut W,
-) -> Result<Status, Failure<'a>>
-    ensures ok { IfOk result (IsPlanLoaded plan load.entry (W.contents out.old) (W.contents out.new)) }
-    ensures err { IfErr result (IsPlanFailure plan load.entry (W.contents out.old) (W.contents out.new)) }
+) -> (C, D, Result<Status, Failure<'a>>)
+    ensures ok { IfOk result.2 (IsPlanLoaded plan load.entry (C.call console) (AsksDisk load.entry.record (D.asked disk) (D.asked result.1))
+        (load_told C.asked W.contents console out.old)
+        (load_told C.asked W.contents result.0 out.new)) }
+    ensures err { IfErr result.2 (IsPlanFailure plan load.entry (C.call console) (AsksDisk load.entry.record (D.asked disk) (D.asked result.1))
+        (load_told C.asked W.contents console out.old)
+        (load_told C.asked W.contents result.0 out.new)) }
 {
     match load.record {
         Some(name) => {
-            let records = RecordFile::new(host.system, name);
-            load_with(host, plan, load, &mut Around { console, records }, out)
+            let records = RecordFile::new(disk, name);
+            let mut around = Around { console, records };
+            let outcome = load_with(host, plan, load, &mut around, out);
+            let Around { console, records } = around;
+            (console, records.close(), outcome)
         }
         None => {
             let records = InMemory;
-            load_with(host, plan, load, &mut Around { console, records }, out)
+            let mut around = Around { console, records };
+            let outcome = load_with(host, plan, load, &mut around, out);
+            (around.console, disk, outcome)
         }
     }
 }
 
 // Loads a plan in these surroundings.
-fn load_with<'a, F, O: Onlooker, S: Surroundings, W: Write>(
-    host: &Host<'_, F, O>,
+fn load_with<'a, O: Onlooker, S: Surroundings, W: Write>(
+    host: &Host<'_, O>,
     plan: Plan,
     request: Load<'a>,
     around: &mut S,
     out: &mut W,
 ) -> Result<Status, Failure<'a>>
-    ensures ok { IfOk result (IsPlanLoaded plan request.entry (W.contents out.old) (W.contents out.new)) }
-    ensures err { IfErr result (IsPlanFailure plan request.entry (W.contents out.old) (W.contents out.new)) }
+    ensures ok { IfOk result (IsPlanLoaded plan request.entry (S.call around.old) (DiskAsked (S.disk around.old) (S.disk around.new))
+        (load_told S.asked W.contents around.old out.old)
+        (load_told S.asked W.contents around.new out.new)) }
+    ensures err { IfErr result (IsPlanFailure plan request.entry (S.call around.old) (DiskAsked (S.disk around.old) (S.disk around.new))
+        (load_told S.asked W.contents around.old out.old)
+        (load_told S.asked W.contents around.new out.new)) }
 {
     match load(
         host.alloc,

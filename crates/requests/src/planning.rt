@@ -2,12 +2,11 @@
 ghost use Rattle.std.specs.Prelude.{◌≡◌, ◌⊎◌, IfOk, IfErr};
 ghost use Rattle.std.specs.Mem.{FitsInMemory};
 ghost use Rattle.endings.specs.Streams.{held};
-ghost use Rattle.input_files.specs.Opening.{IsUnopened};
-ghost use Rattle.requests.specs.Files.{inputs_of, only_input, FailsToPlan, IsPlanned, IsPlanOf, IsUnplanned, OfFiles};
+ghost use Rattle.requests.specs.Files.{inputs_of, only_input, opening_between, AreOpened, FailsToPlan, IsPlanned, IsPlanOf, IsUnopened, IsUnplanned, OfFiles};
 
-use crate::files::is_input;
+use crate::names::is_input;
 use command_io::take_tapes;
-use endings::{Failure, STANDARD_INPUT, Streams};
+use endings::{Failure, FaultOutput, STANDARD_INPUT, Streams};
 use input_files::{InputFiles, open_all};
 use std::alloc::Global;
 use std::io::{Read, Write};
@@ -16,26 +15,26 @@ use tape_image::Plan;
 
 /// The plan of tapes, as one: of standard input's, where `-` is their only name, else of those in the
 /// files. Nothing is written.
-pub(crate) fn plan_tapes<'a, F: InputFiles, R: Read, W: Write, E: Write>(
-    rt: &F,
+pub(crate) fn plan_tapes<'a, F: InputFiles, R: Read, W: Write, E: FaultOutput>(
+    inputs: &mut F,
     alloc: Global,
     names: &[&'a str],
     streams: &mut Streams<R, W, E>,
 ) -> Result<Plan, Failure<'a>>
     requires { FitsInMemory R.row }
-    ensures ok { IfOk result (IsPlanned (F.opens rt.now) names.now
-        (held R.remaining W.contents E.contents streams.old)
-        (held R.remaining W.contents E.contents streams.new)) }
-    ensures err { IfErr result (IsUnplanned (F.opens rt.now) names.now
-        (held R.remaining W.contents E.contents streams.old)
-        (held R.remaining W.contents E.contents streams.new)) }
+    ensures ok { IfOk result (IsPlanned (opening_between (F.opened inputs.old) (F.opened inputs.new)) names.now
+        (held R.remaining W.contents E.contents E.failures streams.old)
+        (held R.remaining W.contents E.contents E.failures streams.new)) }
+    ensures err { IfErr result (IsUnplanned (opening_between (F.opened inputs.old) (F.opened inputs.new)) names.now
+        (held R.remaining W.contents E.contents E.failures streams.old)
+        (held R.remaining W.contents E.contents E.failures streams.new)) }
     ensures same_out { streams.new.out ≡ streams.old.out }
     ensures quiet { streams.new.err ≡ streams.old.err }
 {
     if is_input(names) {
         plan_input(alloc, &mut streams.input)
     } else {
-        plan_files(rt, alloc, names)
+        plan_files(inputs, alloc, names)
     }
 }
 
@@ -50,15 +49,16 @@ fn plan_input<R: Read>(alloc: Global, input: &mut R) -> Result<Plan, Failure<'st
 
 // Opens files, and answers the plan of the tapes in them.
 fn plan_files<'a, F: InputFiles>(
-    rt: &F,
+    inputs: &mut F,
     alloc: Global,
     names: &[&'a str],
 ) -> Result<Plan, Failure<'a>>
-    ensures ok { IfOk result (λ plan. OfFiles (F.opens rt.now) names.now (λ inputs. IsPlanOf inputs plan)) }
-    ensures err { IfErr result (λ failure. IsUnopened (F.opens rt.now) names.now failure
-        ⊎ OfFiles (F.opens rt.now) names.now (λ inputs. FailsToPlan inputs failure)) }
+    ensures ok { IfOk result (λ plan. AreOpened (opening_between (F.opened inputs.old) (F.opened inputs.new)) names.now
+        × OfFiles names.now (λ of. IsPlanOf of plan)) }
+    ensures err { IfErr result (λ failure. IsUnopened (opening_between (F.opened inputs.old) (F.opened inputs.new)) names.now failure
+        ⊎ (AreOpened (opening_between (F.opened inputs.old) (F.opened inputs.new)) names.now × OfFiles names.now (λ of. FailsToPlan of failure))) }
 {
-    let mut files = open_all(rt, alloc, names)?;
+    let mut files = open_all(inputs, alloc, names)?;
     plan(alloc, names, &mut files)
 }
 

@@ -1,13 +1,13 @@
 //! Rehearsing a load.
-ghost use Rattle.std.specs.Prelude.{◌≡◌, ◌⊎◌, ◌∷◌, [], OnOk, IfOk, IfErr};
+ghost use Rattle.std.specs.Prelude.{◌≡◌, ◌⊎◌, ◌∷◌, [], IfOk, IfErr};
 ghost use Rattle.std.specs.Mem.{FitsInMemory};
 ghost use Rattle.endings.specs.Streams.{held};
-ghost use Rattle.input_files.specs.Opening.{AreOpened, IsUnopened};
-ghost use Rattle.requests.specs.Files.{means_input, OfFiles};
+ghost use Rattle.requests.specs.Files.{means_input, opening_between, AreOpened, FailsUnopened, IsUnopened, OfFiles};
 ghost use Rattle.requests.specs.Rehearsing.{AreRehearsed, AreUnrehearsed, IsInputRehearsed, IsInputUnrehearsed, IsRehearsalFailure, IsRehearsedInto};
 
-use crate::files::{flushed, joined};
-use endings::{Failure, Status, Streams};
+use crate::names::joined;
+use crate::output::flushed;
+use endings::{Failure, FaultOutput, Status, Streams};
 use input_files::{InputFiles, open, open_with_script};
 use rehearsals::rehearse_to;
 use std::alloc::Global;
@@ -16,8 +16,8 @@ use std::slice;
 
 /// Rehearses the load of tapes by a script: of standard input's tape, where `-` is their only name, else
 /// of those in the files.
-pub(crate) fn rehearse<'a, F: InputFiles, R: Read, W: Write, E: Write>(
-    rt: &F,
+pub(crate) fn rehearse<'a, F: InputFiles, R: Read, W: Write, E: FaultOutput>(
+    inputs: &mut F,
     alloc: Global,
     tape: &'a str,
     script: &'a str,
@@ -25,18 +25,18 @@ pub(crate) fn rehearse<'a, F: InputFiles, R: Read, W: Write, E: Write>(
     streams: &mut Streams<R, W, E>,
 ) -> Result<Status, Failure<'a>>
     requires { FitsInMemory R.row }
-    ensures ok { IfOk result (AreRehearsed (F.opens rt.now) script.entry (tape.entry ∷ more.now)
-        (held R.remaining W.contents E.contents streams.old)
-        (held R.remaining W.contents E.contents streams.new)) }
-    ensures err { IfErr result (AreUnrehearsed (F.opens rt.now) tape.entry script.entry more.now
-        (held R.remaining W.contents E.contents streams.old)
-        (held R.remaining W.contents E.contents streams.new)) }
+    ensures ok { IfOk result (AreRehearsed (opening_between (F.opened inputs.old) (F.opened inputs.new)) tape.entry script.entry more.now
+        (held R.remaining W.contents E.contents E.failures streams.old)
+        (held R.remaining W.contents E.contents E.failures streams.new)) }
+    ensures err { IfErr result (AreUnrehearsed (opening_between (F.opened inputs.old) (F.opened inputs.new)) tape.entry script.entry more.now
+        (held R.remaining W.contents E.contents E.failures streams.old)
+        (held R.remaining W.contents E.contents E.failures streams.new)) }
     ensures quiet { streams.new.err ≡ streams.old.err }
 {
     if is_only_input(tape, more) {
-        rehearse_input(rt, alloc, script, streams)
+        rehearse_input(inputs, alloc, script, streams)
     } else {
-        rehearse_files(rt, alloc, tape, script, more, &mut streams.out)
+        rehearse_files(inputs, alloc, tape, script, more, &mut streams.out)
     }
 }
 
@@ -48,23 +48,28 @@ fn is_only_input(tape: &str, more: &[&str]) -> bool
 }
 
 // Opens the script and rehearses with the tape on standard input.
-fn rehearse_input<'a, F: InputFiles, R: Read, W: Write, E: Write>(
-    rt: &F,
+fn rehearse_input<'a, F: InputFiles, R: Read, W: Write, E: FaultOutput>(
+    inputs: &mut F,
     alloc: Global,
     script: &'a str,
     streams: &mut Streams<R, W, E>,
 ) -> Result<Status, Failure<'a>>
     requires { FitsInMemory R.row }
-    ensures ok { IfOk result (IsInputRehearsed
-        (held R.remaining W.contents E.contents streams.old)
-        (held R.remaining W.contents E.contents streams.new)) }
-    ensures opened { OnOk result (AreOpened (F.opens rt.now) (script.entry ∷ [])) }
-    ensures err { IfErr result (IsInputUnrehearsed (F.opens rt.now) script.entry
-        (held R.remaining W.contents E.contents streams.old)
-        (held R.remaining W.contents E.contents streams.new)) }
+    ensures ok { IfOk result (λ status. AreOpened (opening_between (F.opened inputs.old) (F.opened inputs.new)) (script.entry ∷ []) × IsInputRehearsed
+        (held R.remaining W.contents E.contents E.failures streams.old)
+        (held R.remaining W.contents E.contents E.failures streams.new)
+        status) }
+    ensures err { IfErr result (λ failure. FailsUnopened (opening_between (F.opened inputs.old) (F.opened inputs.new)) (script.entry ∷ [])
+        (held R.remaining W.contents E.contents E.failures streams.old)
+        (held R.remaining W.contents E.contents E.failures streams.new)
+        failure
+        ⊎ (AreOpened (opening_between (F.opened inputs.old) (F.opened inputs.new)) (script.entry ∷ []) × IsInputUnrehearsed script.entry
+        (held R.remaining W.contents E.contents E.failures streams.old)
+        (held R.remaining W.contents E.contents E.failures streams.new)
+        failure)) }
     ensures quiet { streams.new.err ≡ streams.old.err }
 {
-    let mut script_file = open(rt, alloc, script)?;
+    let mut script_file = open(inputs, alloc, script)?;
     let tape = slice::from_mut(&mut streams.input);
     match rehearse_to(alloc, tape, &mut script_file, &mut streams.out) {
         Ok(()) => flushed(&mut streams.out, Status::Done),
@@ -74,23 +79,23 @@ fn rehearse_input<'a, F: InputFiles, R: Read, W: Write, E: Write>(
 
 // Opens the tape, the script and the further tapes, in this order, and rehearses.
 fn rehearse_files<'a, F: InputFiles, W: Write>(
-    rt: &F,
+    inputs: &mut F,
     alloc: Global,
     tape: &'a str,
     script: &'a str,
     more: &[&'a str],
     out: &mut W,
 ) -> Result<Status, Failure<'a>>
-    ensures ok { IfOk result (λ status. OfFiles (F.opens rt.now) (tape.entry ∷ more.now)
-        (λ inputs. IsRehearsedInto inputs (W.contents out.old) (W.contents out.new))
+    ensures ok { IfOk result (λ status. AreOpened (opening_between (F.opened inputs.old) (F.opened inputs.new)) (tape.entry ∷ script.entry ∷ more.now)
+        × OfFiles (tape.entry ∷ more.now) (λ of. IsRehearsedInto of (W.contents out.old) (W.contents out.new))
         × (status ≡ Status.Done)) }
-    ensures opened { OnOk result (AreOpened (F.opens rt.now) (script.entry ∷ [])) }
     ensures err { IfErr result (λ failure.
-        (IsUnopened (F.opens rt.now) (tape.entry ∷ script.entry ∷ more.now) failure × (W.contents out.new ≡ W.contents out.old))
-        ⊎ OfFiles (F.opens rt.now) (tape.entry ∷ more.now)
-        (λ inputs. IsRehearsalFailure script.entry.now inputs (W.contents out.old) (W.contents out.new) failure)) }
+        (IsUnopened (opening_between (F.opened inputs.old) (F.opened inputs.new)) (tape.entry ∷ script.entry ∷ more.now) failure
+        × (W.contents out.new ≡ W.contents out.old))
+        ⊎ (AreOpened (opening_between (F.opened inputs.old) (F.opened inputs.new)) (tape.entry ∷ script.entry ∷ more.now)
+        × OfFiles (tape.entry ∷ more.now) (λ of. IsRehearsalFailure script.entry.now of (W.contents out.old) (W.contents out.new) failure))) }
 {
-    let (mut tapes, mut script_file) = open_with_script(rt, alloc, tape, script, more)?;
+    let (mut tapes, mut script_file) = open_with_script(inputs, alloc, tape, script, more)?;
     let names = joined(alloc, tape, more)?;
     match rehearse_to(alloc, &mut tapes, &mut script_file, out) {
         Ok(()) => flushed(out, Status::Done),

@@ -1,110 +1,167 @@
 //! Saving what a real machine holds.
-ghost use Rattle.std.specs.Prelude.{IfOk, IfErr};
-ghost use Rattle.requests.specs.Looking.{IsSaved, IsSaveFailure};
+ghost use Rattle.std.specs.Prelude.{◌≡◌, None, IfOk, IfErr};
+ghost use Rattle.requests.specs.Saving.{save_told_of, AsksForTape, IsSaveFailure, IsSaveOver};
+ghost use Rattle.requests.specs.System.{outside_asked, NotElsewhere};
 
 use crate::host::Host;
 use crate::request::Save;
+use crate::system::{Outside, System};
 use console_reach::{Port, Reach, Wire, is_path};
 use endings::{Failure, Status};
 use load_devices::{Onlooker, Unwatched};
 use load_progress::ProgressLine;
 use machine_look::{NewFile, SaveOptions, save};
-use record_file::Locks;
-use serial_line::Devices;
+use record_file::Disk;
+use serial_line::DeviceOpening;
 use std::alloc::Global;
 use std::io::{Print, Write};
-use std::net::Net;
 use std::time::Clock;
+use stream_line::Dialling;
 
 /// Saves words of a real machine as a tape in a new file. A terminal shows how far that is.
-pub(crate) fn save_words<'a, F: Locks + Devices + Net + Clock, W: Write, T: Print>(
-    rt: &F,
+pub(crate) fn save_words<
+    'a,
+    'c,
+    F: Drop,
+    D: Disk + Drop,
+    N: Dialling + Drop,
+    V: DeviceOpening + Drop,
+    C: Clock,
+    W: Write,
+    T: Print,
+>(
+    system: System<F, Outside<'c, D, N, V, C>>,
     alloc: Global,
     name: &'a str,
     save: Save<'a>,
     out: &mut W,
     terminal: Option<&T>,
-) -> Result<Status, Failure<'a>>
-    ensures ok { IfOk result (IsSaved save.entry (W.contents out.old) (W.contents out.new)) }
-    ensures err { IfErr result (IsSaveFailure name.entry save.entry (W.contents out.old) (W.contents out.new)) }
+) -> (
+    System<F, Outside<'c, D, N, V, C>>,
+    Result<Status, Failure<'a>>,
+)
+    ensures ok { IfOk result.1 (IsSaveOver save.entry (AsksForTape name.entry (D.asked system.entry.outside.disk) (D.asked result.0.outside.disk))
+        (save_told_of save.entry (outside_asked D.asked N.asked V.asked system.entry.outside) (W.contents out.old))
+        (save_told_of save.entry (outside_asked D.asked N.asked V.asked result.0.outside) (W.contents out.new))) }
+    ensures err { IfErr result.1 (IsSaveFailure name.entry save.entry
+        (AsksForTape name.entry (D.asked system.entry.outside.disk) (D.asked result.0.outside.disk))
+        (save_told_of save.entry (outside_asked D.asked N.asked V.asked system.entry.outside) (W.contents out.old))
+        (save_told_of save.entry (outside_asked D.asked N.asked V.asked result.0.outside) (W.contents out.new))) }
+    ensures not_elsewhere { NotElsewhere save.entry.look.line.now
+        (outside_asked D.asked N.asked V.asked system.entry.outside)
+        (outside_asked D.asked N.asked V.asked result.0.outside) }
+    ensures no_file { result.0.inputs ≡ system.entry.inputs }
 {
+    let System { inputs, outside } = system;
     match terminal {
         Some(terminal) => {
-            let onlooker = &ProgressLine::new(rt, terminal);
-            save_from(
-                &Host {
-                    system: rt,
-                    alloc,
-                    onlooker,
-                },
-                name,
-                save,
-                out,
-            )
+            let onlooker = &ProgressLine::new(outside.clock, terminal);
+            let (outside, outcome) = save_from(&Host { alloc, onlooker }, outside, name, save, out);
+            (System { inputs, outside }, outcome)
         }
         None => {
             let onlooker = &Unwatched;
-            save_from(
-                &Host {
-                    system: rt,
-                    alloc,
-                    onlooker,
-                },
-                name,
-                save,
-                out,
-            )
+            let (outside, outcome) = save_from(&Host { alloc, onlooker }, outside, name, save, out);
+            (System { inputs, outside }, outcome)
         }
     }
 }
 
 // Saves through a device or a port, by what the line's name is.
-fn save_from<'a, F: Locks + Devices + Net + Clock, O: Onlooker, W: Write>(
-    host: &Host<'_, F, O>,
+fn save_from<
+    'a,
+    'c,
+    D: Disk + Drop,
+    N: Dialling + Drop,
+    V: DeviceOpening + Drop,
+    C: Clock,
+    O: Onlooker,
+    W: Write,
+>(
+    host: &Host<'_, O>,
+    outside: Outside<'c, D, N, V, C>,
     name: &'a str,
     save: Save<'a>,
     out: &mut W,
-) -> Result<Status, Failure<'a>>
-    ensures ok { IfOk result (IsSaved save.entry (W.contents out.old) (W.contents out.new)) }
-    ensures err { IfErr result (IsSaveFailure name.entry save.entry (W.contents out.old) (W.contents out.new)) }
+) -> (Outside<'c, D, N, V, C>, Result<Status, Failure<'a>>)
+    ensures ok { IfOk result.1 (IsSaveOver save.entry (AsksForTape name.entry (D.asked outside.entry.disk) (D.asked result.0.disk))
+        (save_told_of save.entry (outside_asked D.asked N.asked V.asked outside.entry) (W.contents out.old))
+        (save_told_of save.entry (outside_asked D.asked N.asked V.asked result.0) (W.contents out.new))) }
+    ensures err { IfErr result.1 (IsSaveFailure name.entry save.entry (AsksForTape name.entry (D.asked outside.entry.disk) (D.asked result.0.disk))
+        (save_told_of save.entry (outside_asked D.asked N.asked V.asked outside.entry) (W.contents out.old))
+        (save_told_of save.entry (outside_asked D.asked N.asked V.asked result.0) (W.contents out.new))) }
+    ensures not_elsewhere { NotElsewhere save.entry.look.line.now
+        (outside_asked D.asked N.asked V.asked outside.entry)
+        (outside_asked D.asked N.asked V.asked result.0) }
 {
-    let quiet_ms = save.look.quiet_ms;
-    if is_path(save.look.line) {
+    let Outside {
+        disk,
+        network,
+        devices,
+        clock,
+    } = outside;
+    let (path, quiet_ms) = (save.look.line, save.look.quiet_ms);
+    if is_path(path) {
         let mut wire = Wire {
-            system: host.system,
-            path: save.look.line,
+            devices,
+            clock,
+            path,
             quiet_ms,
         };
-        save_through(host, name, save, &mut wire, out)
+        let (disk, outcome) = save_through(host, name, save, &mut wire, disk, out);
+        let devices = wire.devices;
+        let outside = Outside {
+            disk,
+            network,
+            devices,
+            clock,
+        };
+        (outside, outcome)
     } else {
         let mut port = Port {
-            net: host.system,
-            address: save.look.line,
+            net: network,
+            address: path,
             quiet_ms,
         };
-        save_through(host, name, save, &mut port, out)
+        let (disk, outcome) = save_through(host, name, save, &mut port, disk, out);
+        let network = port.net;
+        let outside = Outside {
+            disk,
+            network,
+            devices,
+            clock,
+        };
+        (outside, outcome)
     }
 }
 
-// Saves through a console.
-fn save_through<'a, F: Locks, O: Onlooker, C: Reach, W: Write>(
-    host: &Host<'_, F, O>,
+// Saves through a console. The disk comes back.
+fn save_through<'a, O: Onlooker, C: Reach, D: Disk + Drop, W: Write>(
+    host: &Host<'_, O>,
     name: &'a str,
     request: Save<'a>,
     console: &mut C,
+    disk: D,
     out: &mut W,
-) -> Result<Status, Failure<'a>>
-    ensures ok { IfOk result (IsSaved request.entry (W.contents out.old) (W.contents out.new)) }
-    ensures err { IfErr result (IsSaveFailure name.entry request.entry (W.contents out.old) (W.contents out.new)) }
+) -> (D, Result<Status, Failure<'a>>)
+    ensures ok { IfOk result.1 (IsSaveOver request.entry (AsksForTape name.entry (D.asked disk) (D.asked result.0))
+        (record { steps = None; asked = C.asked console.old; call = C.call console.old; out = W.contents out.old })
+        (record { steps = None; asked = C.asked console.new; call = C.call console.new; out = W.contents out.new })) }
+    ensures err { IfErr result.1 (IsSaveFailure name.entry request.entry (AsksForTape name.entry (D.asked disk) (D.asked result.0))
+        (record { steps = None; asked = C.asked console.old; call = C.call console.old; out = W.contents out.old })
+        (record { steps = None; asked = C.asked console.new; call = C.call console.new; out = W.contents out.new })) }
+    ensures call { C.call console.new ≡ C.call console.old }
 {
     let options = SaveOptions {
         range: request.range,
         start: request.start,
         patience: request.look.patience,
     };
-    let mut shelf = NewFile::new(host.system, name);
-    match save(host.alloc, options, &mut shelf, console, out, host.onlooker) {
-        Ok(end) => Status::after_save(end),
-        Err(fault) => Err(Failure::of_look(fault, request.look.line, name)),
+    let mut shelf = NewFile::new(disk, name);
+    let saved = save(host.alloc, options, &mut shelf, console, out, host.onlooker);
+    let disk = shelf.close();
+    match saved {
+        Ok(end) => (disk, Status::after_save(end)),
+        Err(fault) => (disk, Err(Failure::of_look(fault, request.look.line, name))),
     }
 }

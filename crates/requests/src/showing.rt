@@ -2,13 +2,13 @@
 ghost use Rattle.std.specs.Prelude.{◌≡◌, ◌⊎◌, IfOk, IfErr};
 ghost use Rattle.std.specs.Mem.{FitsInMemory};
 ghost use Rattle.endings.specs.Streams.{held};
-ghost use Rattle.input_files.specs.Opening.{IsUnopened};
-ghost use Rattle.requests.specs.Files.{inputs_of, OfFiles};
+ghost use Rattle.requests.specs.Files.{inputs_of, opening_between, AreOpened, IsUnopened, OfFiles};
 ghost use Rattle.requests.specs.Showing.{AreShown, AreUnshown, IsInputShown, IsInputUnshown, IsShowingFailure, IsShownTo};
 
-use crate::files::{flushed, is_input};
+use crate::names::is_input;
+use crate::output::flushed;
 use crate::request::Console;
-use endings::{Failure, STANDARD_INPUT, Status, Streams};
+use endings::{Failure, FaultOutput, STANDARD_INPUT, Status, Streams};
 use input_files::{InputFiles, open_all};
 use rehearsals::dialogue_to;
 use std::alloc::Global;
@@ -18,42 +18,42 @@ use tape_image::Start;
 
 /// Shows the load of tapes into a console, with a start in place of theirs: of standard input's tape,
 /// where `-` is their only name, else of those in the files.
-pub(crate) fn show_dialogue<'a, F: InputFiles, R: Read, W: Write, E: Write>(
-    rt: &F,
+pub(crate) fn show_dialogue<'a, F: InputFiles, R: Read, W: Write, E: FaultOutput>(
+    inputs: &mut F,
     alloc: Global,
     names: &[&'a str],
     stage: (Console, Start),
     streams: &mut Streams<R, W, E>,
 ) -> Result<Status, Failure<'a>>
     requires { FitsInMemory R.row }
-    ensures ok { IfOk result (AreShown (F.opens rt.now) names.now stage
-        (held R.remaining W.contents E.contents streams.old)
-        (held R.remaining W.contents E.contents streams.new)) }
-    ensures err { IfErr result (AreUnshown (F.opens rt.now) names.now stage
-        (held R.remaining W.contents E.contents streams.old)
-        (held R.remaining W.contents E.contents streams.new)) }
+    ensures ok { IfOk result (AreShown (opening_between (F.opened inputs.old) (F.opened inputs.new)) names.now stage
+        (held R.remaining W.contents E.contents E.failures streams.old)
+        (held R.remaining W.contents E.contents E.failures streams.new)) }
+    ensures err { IfErr result (AreUnshown (opening_between (F.opened inputs.old) (F.opened inputs.new)) names.now stage
+        (held R.remaining W.contents E.contents E.failures streams.old)
+        (held R.remaining W.contents E.contents E.failures streams.new)) }
     ensures quiet { streams.new.err ≡ streams.old.err }
 {
     if is_input(names) {
         show_input(alloc, stage, streams)
     } else {
-        show_files(rt, alloc, names, stage, &mut streams.out)
+        show_files(inputs, alloc, names, stage, &mut streams.out)
     }
 }
 
 // Shows the load of the tape on standard input.
-fn show_input<R: Read, W: Write, E: Write>(
+fn show_input<R: Read, W: Write, E: FaultOutput>(
     alloc: Global,
     stage: (Console, Start),
     streams: &mut Streams<R, W, E>,
 ) -> Result<Status, Failure<'static>>
     requires { FitsInMemory R.row }
     ensures ok { IfOk result (IsInputShown stage
-        (held R.remaining W.contents E.contents streams.old)
-        (held R.remaining W.contents E.contents streams.new)) }
+        (held R.remaining W.contents E.contents E.failures streams.old)
+        (held R.remaining W.contents E.contents E.failures streams.new)) }
     ensures err { IfErr result (IsInputUnshown stage
-        (held R.remaining W.contents E.contents streams.old)
-        (held R.remaining W.contents E.contents streams.new)) }
+        (held R.remaining W.contents E.contents E.failures streams.old)
+        (held R.remaining W.contents E.contents E.failures streams.new)) }
     ensures quiet { streams.new.err ≡ streams.old.err }
 {
     let tape = slice::from_mut(&mut streams.input);
@@ -62,18 +62,20 @@ fn show_input<R: Read, W: Write, E: Write>(
 
 // Opens files and shows the load of the tapes in them.
 fn show_files<'a, F: InputFiles, W: Write>(
-    rt: &F,
+    inputs: &mut F,
     alloc: Global,
     names: &[&'a str],
     stage: (Console, Start),
     out: &mut W,
 ) -> Result<Status, Failure<'a>>
-    ensures ok { IfOk result (λ status. OfFiles (F.opens rt.now) names.now
-        (λ inputs. IsShownTo stage inputs (W.contents out.old) (W.contents out.new) status)) }
-    ensures err { IfErr result (λ failure. (IsUnopened (F.opens rt.now) names.now failure × (W.contents out.new ≡ W.contents out.old))
-        ⊎ OfFiles (F.opens rt.now) names.now (λ inputs. IsShowingFailure stage inputs (W.contents out.old) (W.contents out.new) failure)) }
+    ensures ok { IfOk result (λ status. AreOpened (opening_between (F.opened inputs.old) (F.opened inputs.new)) names.now
+        × OfFiles names.now (λ of. IsShownTo stage of (W.contents out.old) (W.contents out.new) status)) }
+    ensures err { IfErr result (λ failure.
+        (IsUnopened (opening_between (F.opened inputs.old) (F.opened inputs.new)) names.now failure × (W.contents out.new ≡ W.contents out.old))
+        ⊎ (AreOpened (opening_between (F.opened inputs.old) (F.opened inputs.new)) names.now
+        × OfFiles names.now (λ of. IsShowingFailure stage of (W.contents out.old) (W.contents out.new) failure))) }
 {
-    let mut files = open_all(rt, alloc, names)?;
+    let mut files = open_all(inputs, alloc, names)?;
     show(alloc, names, &mut files, stage, out)
 }
 

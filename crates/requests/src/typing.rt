@@ -3,27 +3,27 @@ ghost use Rattle.std.specs.Prelude.{◌≡◌, IfOk, IfErr};
 ghost use Rattle.endings.specs.Streams.{held};
 ghost use Rattle.requests.specs.Typing.{IsTypedThrough, IsTypingFailure};
 
-use crate::files::flushed;
+use crate::output::flushed;
 use crate::request::Console;
 use console_typing::type_to;
-use endings::{Failure, STANDARD_INPUT, Status, Streams};
+use endings::{Failure, FaultOutput, STANDARD_INPUT, Status, Streams};
 use odt_machine::{Odt, OdtError};
 use std::alloc::Global;
 use std::io::{Read, Write};
 
 /// Types standard input into a simulated console.
-pub(crate) fn type_input<R: Read, W: Write, E: Write>(
+pub(crate) fn type_input<R: Read, W: Write, E: FaultOutput>(
     alloc: Global,
     console: Console,
     streams: &mut Streams<R, W, E>,
 ) -> Result<Status, Failure<'static>>
     ensures ok { IfOk result (λ status. IsTypedThrough console
-        (held R.remaining W.contents E.contents streams.old)
-        (held R.remaining W.contents E.contents streams.new)
+        (held R.remaining W.contents E.contents E.failures streams.old)
+        (held R.remaining W.contents E.contents E.failures streams.new)
         × (status ≡ Status.Done)) }
     ensures err { IfErr result (IsTypingFailure console
-        (held R.remaining W.contents E.contents streams.old)
-        (held R.remaining W.contents E.contents streams.new)) }
+        (held R.remaining W.contents E.contents E.failures streams.old)
+        (held R.remaining W.contents E.contents E.failures streams.new)) }
     ensures quiet { streams.new.err ≡ streams.old.err }
 {
     let mut odt = match Odt::new(alloc, console.words, console.style) {

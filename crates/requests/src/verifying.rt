@@ -2,118 +2,198 @@
 ghost use Rattle.std.specs.Prelude.{◌≡◌, IfOk, IfErr};
 ghost use Rattle.std.specs.Mem.{FitsInMemory};
 ghost use Rattle.endings.specs.Streams.{held};
-ghost use Rattle.requests.specs.Looking.{AreVerified, AreUnverified, IsPlanVerified, IsVerifyFailure};
+ghost use Rattle.machine_look.specs.Look.{look_told};
+ghost use Rattle.requests.specs.Files.{opening_between};
+ghost use Rattle.requests.specs.Looking.{told_of, AreVerified, AreUnverified, IsPlanVerified, IsVerifyFailure};
+ghost use Rattle.requests.specs.System.{outside_asked, AsksConsoleAlone};
 
 use crate::host::Host;
 use crate::planning::plan_tapes;
 use crate::request::Look;
+use crate::system::{Outside, System};
 use console_reach::{Port, Reach, Wire, is_path};
-use endings::{Failure, Status, Streams};
+use endings::{Failure, FaultOutput, Status, Streams};
 use input_files::InputFiles;
 use load_devices::{Onlooker, Unwatched};
 use load_progress::ProgressLine;
 use machine_look::verify;
-use serial_line::Devices;
+use record_file::Disk;
+use serial_line::DeviceOpening;
 use std::alloc::Global;
 use std::io::{Print, Read, Write};
-use std::net::Net;
 use std::time::Clock;
+use stream_line::Dialling;
 use tape_image::Plan;
 
 /// Looks whether a real machine holds what tapes, as one, say. A terminal shows how far that is.
 pub(crate) fn verify_tapes<
     'a,
-    F: InputFiles + Devices + Net + Clock,
+    'c,
+    F: InputFiles + Drop,
+    D: Disk + Drop,
+    N: Dialling + Drop,
+    V: DeviceOpening + Drop,
+    C: Clock,
     R: Read,
     W: Write,
-    E: Write,
+    E: FaultOutput,
     T: Print,
 >(
-    rt: &F,
+    mut system: System<F, Outside<'c, D, N, V, C>>,
     alloc: Global,
     names: &[&'a str],
     look: Look<'a>,
     streams: &mut Streams<R, W, E>,
     terminal: Option<&T>,
-) -> Result<Status, Failure<'a>>
+) -> (
+    System<F, Outside<'c, D, N, V, C>>,
+    Result<Status, Failure<'a>>,
+)
     requires { FitsInMemory R.row }
-    ensures ok { IfOk result (AreVerified (F.opens rt.now) names.now look.entry
-        (held R.remaining W.contents E.contents streams.old)
-        (held R.remaining W.contents E.contents streams.new)) }
-    ensures err { IfErr result (AreUnverified (F.opens rt.now) names.now look.entry
-        (held R.remaining W.contents E.contents streams.old)
-        (held R.remaining W.contents E.contents streams.new)) }
+    ensures ok { IfOk result.1 (AreVerified (opening_between (F.opened system.entry.inputs) (F.opened result.0.inputs)) names.now look.entry
+        (outside_asked D.asked N.asked V.asked system.entry.outside)
+        (outside_asked D.asked N.asked V.asked result.0.outside)
+        (held R.remaining W.contents E.contents E.failures streams.old)
+        (held R.remaining W.contents E.contents E.failures streams.new)) }
+    ensures err { IfErr result.1 (AreUnverified (opening_between (F.opened system.entry.inputs) (F.opened result.0.inputs)) names.now look.entry
+        (outside_asked D.asked N.asked V.asked system.entry.outside)
+        (outside_asked D.asked N.asked V.asked result.0.outside)
+        (held R.remaining W.contents E.contents E.failures streams.old)
+        (held R.remaining W.contents E.contents E.failures streams.new)) }
     ensures quiet { streams.new.err ≡ streams.old.err }
 {
-    let plan = plan_tapes(rt, alloc, names, streams)?;
+    let plan = match plan_tapes(&mut system.inputs, alloc, names, streams) {
+        Ok(plan) => plan,
+        Err(failure) => return (system, Err(failure)),
+    };
+    let System { inputs, outside } = system;
+    let (outside, outcome) = verify_shown(outside, alloc, &plan, look, &mut streams.out, terminal);
+    (System { inputs, outside }, outcome)
+}
+
+// Looks, and shows on a terminal how far that is, where there is one.
+fn verify_shown<
+    'a,
+    'c,
+    D: Disk + Drop,
+    N: Dialling + Drop,
+    V: DeviceOpening + Drop,
+    C: Clock,
+    W: Write,
+    T: Print,
+>(
+    outside: Outside<'c, D, N, V, C>,
+    alloc: Global,
+    plan: &Plan,
+    look: Look<'a>,
+    out: &mut W,
+    terminal: Option<&T>,
+) -> (Outside<'c, D, N, V, C>, Result<Status, Failure<'a>>)
+    ensures ok { IfOk result.1 (IsPlanVerified plan.now look.entry
+        (told_of look.entry (outside_asked D.asked N.asked V.asked outside.entry) (W.contents out.old))
+        (told_of look.entry (outside_asked D.asked N.asked V.asked result.0) (W.contents out.new))) }
+    ensures err { IfErr result.1 (IsVerifyFailure plan.now look.entry
+        (told_of look.entry (outside_asked D.asked N.asked V.asked outside.entry) (W.contents out.old))
+        (told_of look.entry (outside_asked D.asked N.asked V.asked result.0) (W.contents out.new))) }
+    ensures alone { AsksConsoleAlone look.entry.line.now
+        (outside_asked D.asked N.asked V.asked outside.entry)
+        (outside_asked D.asked N.asked V.asked result.0) }
+{
     match terminal {
         Some(terminal) => {
-            let onlooker = &ProgressLine::new(rt, terminal);
-            verify_plan(
-                &Host {
-                    system: rt,
-                    alloc,
-                    onlooker,
-                },
-                &plan,
-                look,
-                &mut streams.out,
-            )
+            let onlooker = &ProgressLine::new(outside.clock, terminal);
+            verify_plan(&Host { alloc, onlooker }, outside, plan, look, out)
         }
         None => {
             let onlooker = &Unwatched;
-            verify_plan(
-                &Host {
-                    system: rt,
-                    alloc,
-                    onlooker,
-                },
-                &plan,
-                look,
-                &mut streams.out,
-            )
+            verify_plan(&Host { alloc, onlooker }, outside, plan, look, out)
         }
     }
 }
 
 // Looks through a device or a port, by what the line's name is.
-fn verify_plan<'a, F: Devices + Net + Clock, O: Onlooker, W: Write>(
-    host: &Host<'_, F, O>,
+fn verify_plan<
+    'a,
+    'c,
+    D: Disk + Drop,
+    N: Dialling + Drop,
+    V: DeviceOpening + Drop,
+    C: Clock,
+    O: Onlooker,
+    W: Write,
+>(
+    host: &Host<'_, O>,
+    outside: Outside<'c, D, N, V, C>,
     plan: &Plan,
     look: Look<'a>,
     out: &mut W,
-) -> Result<Status, Failure<'a>>
-    ensures ok { IfOk result (IsPlanVerified plan.now look.entry (W.contents out.old) (W.contents out.new)) }
-    ensures err { IfErr result (IsVerifyFailure plan.now look.entry (W.contents out.old) (W.contents out.new)) }
+) -> (Outside<'c, D, N, V, C>, Result<Status, Failure<'a>>)
+    ensures ok { IfOk result.1 (IsPlanVerified plan.now look.entry
+        (told_of look.entry (outside_asked D.asked N.asked V.asked outside.entry) (W.contents out.old))
+        (told_of look.entry (outside_asked D.asked N.asked V.asked result.0) (W.contents out.new))) }
+    ensures err { IfErr result.1 (IsVerifyFailure plan.now look.entry
+        (told_of look.entry (outside_asked D.asked N.asked V.asked outside.entry) (W.contents out.old))
+        (told_of look.entry (outside_asked D.asked N.asked V.asked result.0) (W.contents out.new))) }
+    ensures alone { AsksConsoleAlone look.entry.line.now
+        (outside_asked D.asked N.asked V.asked outside.entry)
+        (outside_asked D.asked N.asked V.asked result.0) }
 {
-    let quiet_ms = look.quiet_ms;
-    if is_path(look.line) {
+    let Outside {
+        disk,
+        network,
+        devices,
+        clock,
+    } = outside;
+    let (path, quiet_ms) = (look.line, look.quiet_ms);
+    if is_path(path) {
         let mut wire = Wire {
-            system: host.system,
-            path: look.line,
+            devices,
+            clock,
+            path,
             quiet_ms,
         };
-        verify_through(host, plan, look, &mut wire, out)
+        let outcome = verify_through(host, plan, look, &mut wire, out);
+        let devices = wire.devices;
+        let outside = Outside {
+            disk,
+            network,
+            devices,
+            clock,
+        };
+        (outside, outcome)
     } else {
         let mut port = Port {
-            net: host.system,
-            address: look.line,
+            net: network,
+            address: path,
             quiet_ms,
         };
-        verify_through(host, plan, look, &mut port, out)
+        let outcome = verify_through(host, plan, look, &mut port, out);
+        let network = port.net;
+        let outside = Outside {
+            disk,
+            network,
+            devices,
+            clock,
+        };
+        (outside, outcome)
     }
 }
 
 // Looks through a console. Nothing is saved, so that no fault names a file.
-fn verify_through<'a, F, O: Onlooker, C: Reach, W: Write>(
-    host: &Host<'_, F, O>,
+fn verify_through<'a, O: Onlooker, C: Reach, W: Write>(
+    host: &Host<'_, O>,
     plan: &Plan,
     look: Look<'a>,
     console: &mut C,
     out: &mut W,
 ) -> Result<Status, Failure<'a>>
-    ensures ok { IfOk result (IsPlanVerified plan.now look.entry (W.contents out.old) (W.contents out.new)) }
-    ensures err { IfErr result (IsVerifyFailure plan.now look.entry (W.contents out.old) (W.contents out.new)) }
+    ensures ok { IfOk result (IsPlanVerified plan.now look.entry
+        (look_told C.asked C.call W.contents console.old out.old)
+        (look_told C.asked C.call W.contents console.new out.new)) }
+    ensures err { IfErr result (IsVerifyFailure plan.now look.entry
+        (look_told C.asked C.call W.contents console.old out.old)
+        (look_told C.asked C.call W.contents console.new out.new)) }
+    ensures call { C.call console.new ≡ C.call console.old }
 {
     match verify(host.alloc, plan, look.patience, console, out, host.onlooker) {
         Ok(end) => Status::after_verify(end),

@@ -1,2 +1,3 @@
+pub mod Asked
 mod Dropping
 mod Silences

@@ -1,24 +1,40 @@
--- What is asked of a network for a line to a console.
-use Rattle.std.specs.Prelude.{ℕ, List, [], ◌∷◌, Result, Ok, Err}
+-- What is asked for a line to a console: of a network, or of a system with serial devices.
+use Rattle.std.specs.Prelude.{◌⊎◌, ℕ, List, [], ◌∷◌, Option, Result, Ok, Err}
+use Rattle.load_devices.specs.Told.{Gains}
 use Rattle.load_devices.specs.declared.fault.LineFault.{LineFault}
 use Rattle.load_devices.specs.declared.fault.LineFault.TheVariants.{Connect}
 
--- a name was dialled, or the reads of what came of that were limited to a time, in milliseconds
-pub data NetRequest : Type 0 where
-  Dialled : List ℕ → NetRequest
-  Limited : ℕ → NetRequest
+-- a name was dialled, or the reads of what came of that were limited to a time, in milliseconds; or a serial device was opened, by its path
+pub data LineRequest : Type 0 where
+  Dialled : List ℕ → LineRequest
+  Limited : ℕ → LineRequest
+  OpenedDevice : List ℕ → LineRequest
 
--- whom a line is to lead to, and its quiet time in milliseconds
-pub record Call : Type 0 where
-  pub name : List ℕ
-  pub quiet_ms : ℕ
+-- whom a line is to lead to: whoever answers at a port's name, with a quiet time in milliseconds; or the serial device at a path
+pub data Call : Type 0 where
+  ToPort : List ℕ → ℕ → Call
+  ToDevice : List ℕ → Call
 
--- what a line that was reached was asked for: its name was dialled once, and its time limit is the quiet time
-abbrev pub asked_once : Call → List NetRequest
-asked_once call = Dialled call.name ∷ Limited call.quiet_ms ∷ []
+-- what is asked first
+abbrev pub asked_first : Call → List LineRequest
+asked_first (ToPort name quiet_ms) = Dialled name ∷ []
+asked_first (ToDevice path) = OpenedDevice path ∷ []
 
--- what was asked, by what came of it: where nobody answered no time limit was set
-abbrev pub asked_for : {L : Type 0} → Call → Result L LineFault → List NetRequest
+-- what a line that was reached was asked for: its name was dialled once, and its time limit is the quiet time; or its device was opened once
+abbrev pub asked_once : Call → List LineRequest
+asked_once (ToPort name quiet_ms) = Dialled name ∷ Limited quiet_ms ∷ []
+asked_once (ToDevice path) = OpenedDevice path ∷ []
+
+-- what was asked for a line that was not reached: where nobody answered no time limit was set
+abbrev pub asked_until : Call → LineFault → List LineRequest
+asked_until call Connect = asked_first call
+asked_until call other = asked_once call
+
+-- what was asked, by what came of it
+abbrev pub asked_for : {L : Type 0} → Call → Result L LineFault → List LineRequest
 asked_for call (Ok line) = asked_once call
-asked_for call (Err Connect) = Dialled call.name ∷ []
-asked_for call (Err other) = asked_once call
+asked_for call (Err fault) = asked_until call fault
+
+-- what was asked, where it is not said why no line was reached
+abbrev pub IsAskedInVain : Call → Option (List LineRequest) → Option (List LineRequest) → Type 0
+IsAskedInVain call asked asked' = Gains asked asked' (asked_first call) ⊎ Gains asked asked' (asked_once call)

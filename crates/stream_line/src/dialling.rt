@@ -1,7 +1,7 @@
 //! What connects to consoles behind the ports of a network.
 ghost use Rattle.std.specs.Prelude.{[], ◌∷◌, List, Option, None};
 ghost use Rattle.load_devices.specs.Told.{Gains};
-ghost use Rattle.stream_line.specs.Dialling.{NetRequest, Dialled, Limited};
+ghost use Rattle.stream_line.specs.Dialling.{LineRequest, Dialled, Limited};
 
 use crate::receive::TimedStream;
 use std::io;
@@ -16,7 +16,7 @@ pub trait Dialling {
     type Stream: TimedStream + Drop;
 
     /// What was asked so far, in its order; None where the type doesn't tell.
-    ghost asked: { Self → Option (List NetRequest) } = { λ _. None };
+    ghost asked: { Self → Option (List LineRequest) } = { λ _. None };
 
     /// Connects to `HOST:PORT`. Where the name has several addresses they are tried in turn.
     fn dial(&mut self, address: &str) -> io::Result<Self::Stream>

@@ -1,7 +1,7 @@
 //! The line over a TCP connection.
 ghost use Rattle.std.specs.Prelude.{◌≡◌, ◌⊎◌, IfOk, IfErr};
 ghost use Rattle.load_devices.specs.Told.{Gains};
-ghost use Rattle.stream_line.specs.Dialling.{asked_for};
+ghost use Rattle.stream_line.specs.Dialling.{ToPort, asked_for};
 ghost use Rattle.stream_line.specs.StreamLine.{IsFreshLine};
 
 use crate::dialling::Dialling;
@@ -24,7 +24,7 @@ impl<S: TimedStream + Drop> StreamLine<S> {
     ) -> Result<StreamLine<S>, LineFault>
         ensures fresh { IfOk result IsFreshLine }
         ensures fault { IfErr result (λ fault. (fault ≡ LineFault.Connect) ⊎ (fault ≡ LineFault.Receive)) }
-        ensures asked { Gains (D.asked network.old) (D.asked network.new) (asked_for (record { name = address.now; quiet_ms = quiet_ms }) result) }
+        ensures asked { Gains (D.asked network.old) (D.asked network.new) (asked_for (ToPort address.now quiet_ms) result) }
     {
         let Ok(stream) = network.dial(address) else {
             return Err(LineFault::Connect);

@@ -108,6 +108,7 @@ impl<'a> ToldDisk<'a> {
     // Opens a file, with a copy of its name.
     fn opened(&mut self, access: Access, name: &str) -> io::Result<ToldFile>
         ensures named { IfOk result (λ file. string_bytes file.name ≡ name.now) }
+        ensures fresh { IfOk result (λ file. file.written.items ≡ []) }
         ensures asked { self.new.asked ≡ self.old.asked }
     {
         let copy = self.copy(name)?;
@@ -151,6 +152,15 @@ impl Disk for ToldDisk<'_> {
         is_sole
     }
 
+    fn has_name(&mut self, name: &str, file: &ToldFile) -> bool {
+        let has_name = self.count().is_ok() && self.disk.has_name(name, &file.file);
+        match (self.copy(name), Vec::from_slice(self.alloc, &file.written)) {
+            (Ok(name), Ok(written)) => self.tell(Ok(Request::FindFile(name, written)), has_name),
+            _ => self.asked = None,
+        }
+        has_name
+    }
+
     fn resolve(&mut self, alloc: Global, name: &str) -> io::Result<PathBuf<Global>> {
         let target = match self.count() {
             Ok(()) => self.disk.resolve(alloc, name),
@@ -168,10 +178,10 @@ impl Disk for ToldDisk<'_> {
 
     fn open(&mut self, access: Access, name: &str) -> io::Result<ToldFile> {
         let opened = self.opened(access, name);
-        self.tell(
-            self.copy(name).map(|name| Request::Open(access, name)),
-            opened.is_ok(),
-        );
+        match self.copy(name) {
+            Ok(name) => self.tell(Ok(Request::Open(access, name)), opened.is_ok()),
+            Err(_) => self.asked = None,
+        }
         opened
     }
 
@@ -179,6 +189,18 @@ impl Disk for ToldDisk<'_> {
         let is_held = self.count().is_ok() && self.disk.hold(&file.file);
         self.tell(self.copy(&file.name).map(Request::Hold), is_held);
         is_held
+    }
+
+    fn link(&mut self, from: &str, to: &str) -> io::Result<()> {
+        let linked = match self.count() {
+            Ok(()) => self.disk.link(from, to),
+            Err(error) => Err(error),
+        };
+        match (self.copy(from), self.copy(to)) {
+            (Ok(from), Ok(to)) => self.tell(Ok(Request::Link(from, to)), linked.is_ok()),
+            _ => self.asked = None,
+        }
+        linked
     }
 
     fn rename(&mut self, from: &str, to: &str) -> io::Result<()> {
@@ -219,8 +241,10 @@ impl Disk for ToldDisk<'_> {
             Ok(()) => self.disk.cut(&file.file, length),
             Err(error) => Err(error),
         };
-        let written = Vec::from_slice(self.alloc, &file.written);
-        self.tell(written.map(Request::Cut), cut.is_ok());
+        match Vec::from_slice(self.alloc, &file.written) {
+            Ok(written) => self.tell(Ok(Request::Cut(written)), cut.is_ok()),
+            Err(_) => self.asked = None,
+        }
         cut
     }
 

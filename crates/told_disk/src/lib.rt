@@ -1,8 +1,8 @@
 //! A disk that tells what it was asked.
 //!
-//! `ToldDisk` has real files and a list of what was asked of it. So it is the witness that what the crate
-//! `record_file` promises of a disk that tells can be met, and that its clauses speak of something. Tests
-//! compare the list with what docs/RECORD.md says of each file.
+//! `ToldDisk` has real files and a list of what was asked of it. So it is the witness that what the crates
+//! `record_file` and `machine_look` promise of a disk that tells can be met, and that their clauses speak of
+//! something. Tests compare the list with what the documents say of each file.
 //!
 //! It is there for tests alone, and stands apart from them since a crate with tests is proved twice.
 #![tactic(auto)]

@@ -16,6 +16,9 @@ pub enum Request {
     /// Whether that is a plain file without another name.
     FindSoleFile(String),
 
+    /// Whether that is an open file of which this much was written.
+    FindFile(String, Vec<u8>),
+
     /// Which name it leads to.
     Resolve(String),
 
@@ -24,6 +27,9 @@ pub enum Request {
 
     /// That an open file is held.
     Hold(String),
+
+    /// That a file gets a second name.
+    Link(String, String),
 
     /// That a file gets another name.
     Rename(String, String),
@@ -78,9 +84,11 @@ impl fmt::Display for Request {
             Request::Look(name) => write!(f, "look {name}"),
             Request::LookAtName(name) => write!(f, "look at name {name}"),
             Request::FindSoleFile(name) => write!(f, "sole {name}"),
+            Request::FindFile(name, text) => write!(f, "find {name} {}", shown(text)),
             Request::Resolve(name) => write!(f, "resolve {name}"),
             Request::Open(access, name) => write!(f, "open {} {name}", access_name(*access)),
             Request::Hold(name) => write!(f, "hold {name}"),
+            Request::Link(from, to) => write!(f, "link {from} {to}"),
             Request::Rename(from, to) => write!(f, "rename {from} {to}"),
             Request::Remove(name) => write!(f, "remove {name}"),
             Request::SyncFolder(name) => write!(f, "sync folder {name}"),

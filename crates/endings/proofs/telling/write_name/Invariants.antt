@@ -1,12 +1,13 @@
--- What is written and what is still to be shown are the whole name.
+-- What is said and what is still to be shown are the whole name.
 use Rattle.std.proofs.Common.{IsUtf8}
 use Rattle.std.specs.Str.Iter.{chars_rest}
-use Rattle.byte_io.specs.Output.{WritesAllBut}
+use Rattle.endings.specs.FaultOutput.{IsSaidBut, standard_error}
 use Rattle.endings.proofs.Names.{shown_text}
 use Rattle.endings.proofs.telling.write_name.Given as goal
 
 abbrev pub invariant-loop-character : goal.invariant-loop-character
 invariant-loop-character g l = record {
   text : IsUtf8 (chars_rest l.character-iterator);
-  so_far : WritesAllBut (g.W.Write.contents l.fn.out) (g.W.Write.contents l.out) (shown_text l.fn.name) (shown_text (chars_rest l.character-iterator));
+  so_far : IsSaidBut (standard_error g.E.Write.contents g.E.FaultOutput.failures l.fn.err) (standard_error g.E.Write.contents g.E.FaultOutput.failures l.err)
+      (shown_text l.fn.name) (shown_text (chars_rest l.character-iterator));
 }

@@ -6,13 +6,16 @@ use Rattle.load_devices.specs.Told.{Gains}
 use Rattle.reading_core.specs.Addresses.{IsRange, addresses_between}
 use Rattle.reading_core.specs.Reader.{Reader, begun}
 use Rattle.machine_look.specs.declared.look_fault.LookFault.TheVariants.{WriteOutput, Memory}
-use Rattle.machine_look.specs.Look.{TriesOnce}
 use Rattle.machine_look.specs.LookFault.{IsKeepFault, IsSaveFault, fault_of_shelf}
 use Rattle.machine_look.specs.Save.{puts, save_told}
 use Rattle.machine_look.specs.SavedTape.{saved_tape}
 use Rattle.machine_look.specs.Shelf.{Reserve}
 use Rattle.machine_look.proofs.Faults.{error_is, gains_none, gains_then, no_value, not_kept, not_reserved}
 use Rattle.machine_look.proofs.SavedMemory.{read_of, reads_low}
+use Rattle.machine_look.specs.SaveDisk.{IsLeftAlone, disk_asked_before}
+use Rattle.machine_look.specs.ShelfDisk.{ShelfAsked}
+use Rattle.machine_look.proofs.Faults.{no_ok}
+use Rattle.machine_look.proofs.SavedOnDisk.{as_asked, left_alone, not_kept_on, not_reserved_on, only_reserved, saved_on}
 use Rattle.machine_look.proofs.saving.save.Goals as goal
 
 -- the reader that begins, by the range as it was given
@@ -25,8 +28,8 @@ returns-in_err-core-clause-reported g c = no_value c.from_residual.result _ _ c.
 pub returns-in_err-core-clause-fault : goal.returns-in_err-core-clause-fault
 returns-in_err-core-clause-fault g c =
     error_is c.from_residual.result Memory
-    (IsSaveFault c.args.options (save_told g.S.Shelf.steps g.R.Reach.tries g.W.Write.contents c.args.shelf.now c.args.console.now c.args.out.now) (save_told g.S.Shelf.steps g.R.Reach.tries g.W.Write.contents c.args.shelf.now c.args.console.now c.args.out.now))
-    c.from_residual.ensures.1 (inl (gains_none (g.S.Shelf.steps c.args.shelf.now)), Keeps-refl (g.W.Write.contents c.args.out.now))
+    (IsSaveFault c.args.options (save_told g.S.Shelf.steps g.R.Reach.asked g.R.Reach.call g.W.Write.contents c.args.shelf.now c.args.console.now c.args.out.now) (save_told g.S.Shelf.steps g.R.Reach.asked g.R.Reach.call g.W.Write.contents c.args.shelf.now c.args.console.now c.args.out.now))
+    c.from_residual.ensures.1 (inl (record { nothing_put = inl (gains_none (g.S.Shelf.steps c.args.shelf.now)); not_asked = refl }), Keeps-refl (g.W.Write.contents c.args.out.now))
 
 pub returns-in_err-reserve-clause-reported : goal.returns-in_err-reserve-clause-reported
 returns-in_err-reserve-clause-reported g c = no_value c.from_residual-in_err-reserve.result _ _ c.from_residual-in_err-reserve.ensures.1
@@ -34,8 +37,8 @@ returns-in_err-reserve-clause-reported g c = no_value c.from_residual-in_err-res
 pub returns-in_err-reserve-clause-fault : goal.returns-in_err-reserve-clause-fault
 returns-in_err-reserve-clause-fault g c =
     error_is c.from_residual-in_err-reserve.result (fault_of_shelf c.in_err-reserve.field-0.0)
-    (IsSaveFault c.args.options (save_told g.S.Shelf.steps g.R.Reach.tries g.W.Write.contents c.args.shelf.now c.args.console.now c.args.out.now) (save_told g.S.Shelf.steps g.R.Reach.tries g.W.Write.contents c.reserve.new.self c.args.console.now c.args.out.now))
-    c.from_residual-in_err-reserve.ensures.1 (not_reserved c.args.options (save_told g.S.Shelf.steps g.R.Reach.tries g.W.Write.contents c.args.shelf.now c.args.console.now c.args.out.now) (save_told g.S.Shelf.steps g.R.Reach.tries g.W.Write.contents c.reserve.new.self c.args.console.now c.args.out.now) c.in_err-reserve.field-0.0 c.in_err-reserve.ensures.step refl (Keeps-refl (g.W.Write.contents c.args.out.now)))
+    (IsSaveFault c.args.options (save_told g.S.Shelf.steps g.R.Reach.asked g.R.Reach.call g.W.Write.contents c.args.shelf.now c.args.console.now c.args.out.now) (save_told g.S.Shelf.steps g.R.Reach.asked g.R.Reach.call g.W.Write.contents c.reserve.new.self c.args.console.now c.args.out.now))
+    c.from_residual-in_err-reserve.ensures.1 (not_reserved c.args.options (save_told g.S.Shelf.steps g.R.Reach.asked g.R.Reach.call g.W.Write.contents c.args.shelf.now c.args.console.now c.args.out.now) (save_told g.S.Shelf.steps g.R.Reach.asked g.R.Reach.call g.W.Write.contents c.reserve.new.self c.args.console.now c.args.out.now) c.in_err-reserve.field-0.0 c.in_err-reserve.ensures.step refl (Keeps-refl (g.W.Write.contents c.args.out.now)))
 
 pub returns-in_err-core-2-clause-reported : goal.returns-in_err-core-2-clause-reported
 returns-in_err-core-2-clause-reported g c = no_value c.from_residual-in_err-core-2.result _ _ c.from_residual-in_err-core-2.ensures.1
@@ -44,10 +47,10 @@ pub returns-in_err-core-2-clause-fault : goal.returns-in_err-core-2-clause-fault
 returns-in_err-core-2-clause-fault g c =
     let fails = c.in_err-core-2.ensures.fault in
     error_is c.from_residual-in_err-core-2.result c.in_err-core-2.field-0.0
-    (IsSaveFault c.args.options (save_told g.S.Shelf.steps g.R.Reach.tries g.W.Write.contents c.args.shelf.now c.args.console.now c.args.out.now) (save_told g.S.Shelf.steps g.R.Reach.tries g.W.Write.contents c.reserve.new.self c.look_over.new.console c.args.out.now))
+    (IsSaveFault c.args.options (save_told g.S.Shelf.steps g.R.Reach.asked g.R.Reach.call g.W.Write.contents c.args.shelf.now c.args.console.now c.args.out.now) (save_told g.S.Shelf.steps g.R.Reach.asked g.R.Reach.call g.W.Write.contents c.reserve.new.self c.look_over.new.console c.args.out.now))
     c.from_residual-in_err-core-2.ensures.1
-    (subst (IsSaveFault c.args.options (save_told g.S.Shelf.steps g.R.Reach.tries g.W.Write.contents c.args.shelf.now c.args.console.now c.args.out.now) (save_told g.S.Shelf.steps g.R.Reach.tries g.W.Write.contents c.reserve.new.self c.look_over.new.console c.args.out.now)) (sym fails.0)
-    (c.in_ok-reserve.ensures.step, subst (λ o. TriesOnce o (g.R.Reach.tries c.args.console.now) (g.R.Reach.tries c.look_over.new.console)) fails.1 c.look_over.ensures.tried, Keeps-refl (g.W.Write.contents c.args.out.now)))
+    (subst (IsSaveFault c.args.options (save_told g.S.Shelf.steps g.R.Reach.asked g.R.Reach.call g.W.Write.contents c.args.shelf.now c.args.console.now c.args.out.now) (save_told g.S.Shelf.steps g.R.Reach.asked g.R.Reach.call g.W.Write.contents c.reserve.new.self c.look_over.new.console c.args.out.now)) (sym fails.0)
+    (c.in_ok-reserve.ensures.step, c.in_err-core-2.ensures.asked_in_vain, Keeps-refl (g.W.Write.contents c.args.out.now)))
 
 pub returns-in_err-keep-clause-reported : goal.returns-in_err-keep-clause-reported
 returns-in_err-keep-clause-reported g c = no_value c.from_residual-in_err-keep.result _ _ c.from_residual-in_err-keep.ensures.1
@@ -59,24 +62,24 @@ pub returns-in_err-keep-clause-fault : goal.returns-in_err-keep-clause-fault
 returns-in_err-keep-clause-fault g c =
     let range = c.from-from.ensures.in_order in
     let begins = first_is c.args.options.range.from c.args.options.range.to c.from-from.result c.to-to.result c.args.options.patience c.in_ok-core.core c.from-from.ensures.value c.to-to.ensures.value c.in_ok-core.ensures.begun in
-    let read = read_of c.args.options (save_told g.S.Shelf.steps g.R.Reach.tries g.W.Write.contents c.args.shelf.now c.args.console.now c.args.out.now) (save_told g.S.Shelf.steps g.R.Reach.tries g.W.Write.contents c.keep.new.shelf c.look_over.new.console c.args.out.now) c.in_ok-core.core c.in_ok-core-2.core c.in_ok-core-2.stop range c.keep.ensures.fits begins c.in_ok-core-2.ensures.look c.look_over.ensures.tried in
+    let read = read_of c.args.options (save_told g.S.Shelf.steps g.R.Reach.asked g.R.Reach.call g.W.Write.contents c.args.shelf.now c.args.console.now c.args.out.now) (save_told g.S.Shelf.steps g.R.Reach.asked g.R.Reach.call g.W.Write.contents c.keep.new.shelf c.look_over.new.console c.args.out.now) c.in_ok-core.core c.in_ok-core-2.core c.in_ok-core-2.stop range c.keep.ensures.fits begins c.in_ok-core-2.ensures.look c.in_ok-core-2.ensures.asked in
     let fails = subst (λ a. IsKeepFault (saved_tape a c.in_ok-core-2.core.values c.args.options.start) (g.S.Shelf.steps c.reserve.new.self) (g.S.Shelf.steps c.keep.new.shelf) c.in_err-keep.field-0.0) c.from-from.ensures.value
     (subst (λ (numbers : List ℕ). IsKeepFault (saved_tape c.from-from.result numbers c.args.options.start) (g.S.Shelf.steps c.reserve.new.self) (g.S.Shelf.steps c.keep.new.shelf) c.in_err-keep.field-0.0) c.values.ensures.value c.in_err-keep.ensures.fault) in
     error_is c.from_residual-in_err-keep.result c.in_err-keep.field-0.0
-    (IsSaveFault c.args.options (save_told g.S.Shelf.steps g.R.Reach.tries g.W.Write.contents c.args.shelf.now c.args.console.now c.args.out.now) (save_told g.S.Shelf.steps g.R.Reach.tries g.W.Write.contents c.keep.new.shelf c.look_over.new.console c.args.out.now))
+    (IsSaveFault c.args.options (save_told g.S.Shelf.steps g.R.Reach.asked g.R.Reach.call g.W.Write.contents c.args.shelf.now c.args.console.now c.args.out.now) (save_told g.S.Shelf.steps g.R.Reach.asked g.R.Reach.call g.W.Write.contents c.keep.new.shelf c.look_over.new.console c.args.out.now))
     c.from_residual-in_err-keep.ensures.1
-    (not_kept c.args.options (save_told g.S.Shelf.steps g.R.Reach.tries g.W.Write.contents c.args.shelf.now c.args.console.now c.args.out.now) (save_told g.S.Shelf.steps g.R.Reach.tries g.W.Write.contents c.keep.new.shelf c.look_over.new.console c.args.out.now) (g.S.Shelf.steps c.reserve.new.self) c.in_ok-core-2.core c.in_ok-core-2.stop c.in_err-keep.field-0.0 c.in_ok-reserve.ensures.step read fails (Keeps-refl (g.W.Write.contents c.args.out.now)))
+    (not_kept c.args.options (save_told g.S.Shelf.steps g.R.Reach.asked g.R.Reach.call g.W.Write.contents c.args.shelf.now c.args.console.now c.args.out.now) (save_told g.S.Shelf.steps g.R.Reach.asked g.R.Reach.call g.W.Write.contents c.keep.new.shelf c.look_over.new.console c.args.out.now) (g.S.Shelf.steps c.reserve.new.self) c.in_ok-core-2.core c.in_ok-core-2.stop c.in_err-keep.field-0.0 c.in_ok-reserve.ensures.step read fails (Keeps-refl (g.W.Write.contents c.args.out.now)))
 
 pub returns-in_err-write_and_flush-clause-fault : goal.returns-in_err-write_and_flush-clause-fault
 returns-in_err-write_and_flush-clause-fault g c =
     let range = c.from-from.ensures.in_order in
     let begins = first_is c.args.options.range.from c.args.options.range.to c.from-from.result c.to-to.result c.args.options.patience c.in_ok-core.core c.from-from.ensures.value c.to-to.ensures.value c.in_ok-core.ensures.begun in
-    let read = read_of c.args.options (save_told g.S.Shelf.steps g.R.Reach.tries g.W.Write.contents c.args.shelf.now c.args.console.now c.args.out.now) (save_told g.S.Shelf.steps g.R.Reach.tries g.W.Write.contents c.keep.new.shelf c.look_over.new.console c.write_and_flush.new.out) c.in_ok-core.core c.in_ok-core-2.core c.in_ok-core-2.stop range c.keep.ensures.fits begins c.in_ok-core-2.ensures.look c.look_over.ensures.tried in
+    let read = read_of c.args.options (save_told g.S.Shelf.steps g.R.Reach.asked g.R.Reach.call g.W.Write.contents c.args.shelf.now c.args.console.now c.args.out.now) (save_told g.S.Shelf.steps g.R.Reach.asked g.R.Reach.call g.W.Write.contents c.keep.new.shelf c.look_over.new.console c.write_and_flush.new.out) c.in_ok-core.core c.in_ok-core-2.core c.in_ok-core-2.stop range c.keep.ensures.fits begins c.in_ok-core-2.ensures.look c.in_ok-core-2.ensures.asked in
     let kept = subst (λ a. Gains (g.S.Shelf.steps c.reserve.new.self) (g.S.Shelf.steps c.keep.new.shelf) (puts a c.in_ok-core-2.core.values c.args.options.start)) c.from-from.ensures.value
     (subst (λ (numbers : List ℕ). Gains (g.S.Shelf.steps c.reserve.new.self) (g.S.Shelf.steps c.keep.new.shelf) (puts c.from-from.result numbers c.args.options.start)) c.values.ensures.value c.in_ok-keep.ensures.ok) in
     let text = c.deref.ensures.0 ∙ c.save_report.ensures in
     error_is c.from_residual-in_err-write_and_flush.result WriteOutput
-    (IsSaveFault c.args.options (save_told g.S.Shelf.steps g.R.Reach.tries g.W.Write.contents c.args.shelf.now c.args.console.now c.args.out.now) (save_told g.S.Shelf.steps g.R.Reach.tries g.W.Write.contents c.keep.new.shelf c.look_over.new.console c.write_and_flush.new.out))
+    (IsSaveFault c.args.options (save_told g.S.Shelf.steps g.R.Reach.asked g.R.Reach.call g.W.Write.contents c.args.shelf.now c.args.console.now c.args.out.now) (save_told g.S.Shelf.steps g.R.Reach.asked g.R.Reach.call g.W.Write.contents c.keep.new.shelf c.look_over.new.console c.write_and_flush.new.out))
     c.from_residual-in_err-write_and_flush.ensures.1 (record {
       last = c.in_ok-core-2.core;
       stop = c.in_ok-core-2.stop;
@@ -102,7 +105,7 @@ pub returns-clause-reported : goal.returns-clause-reported
 returns-clause-reported g c =
     let range = c.from-from.ensures.in_order in
     let begins = first_is c.args.options.range.from c.args.options.range.to c.from-from.result c.to-to.result c.args.options.patience c.in_ok-core.core c.from-from.ensures.value c.to-to.ensures.value c.in_ok-core.ensures.begun in
-    let read = read_of c.args.options (save_told g.S.Shelf.steps g.R.Reach.tries g.W.Write.contents c.args.shelf.now c.args.console.now c.args.out.now) (save_told g.S.Shelf.steps g.R.Reach.tries g.W.Write.contents c.keep.new.shelf c.look_over.new.console c.write_and_flush.new.out) c.in_ok-core.core c.in_ok-core-2.core c.in_ok-core-2.stop range c.keep.ensures.fits begins c.in_ok-core-2.ensures.look c.look_over.ensures.tried in
+    let read = read_of c.args.options (save_told g.S.Shelf.steps g.R.Reach.asked g.R.Reach.call g.W.Write.contents c.args.shelf.now c.args.console.now c.args.out.now) (save_told g.S.Shelf.steps g.R.Reach.asked g.R.Reach.call g.W.Write.contents c.keep.new.shelf c.look_over.new.console c.write_and_flush.new.out) c.in_ok-core.core c.in_ok-core-2.core c.in_ok-core-2.stop range c.keep.ensures.fits begins c.in_ok-core-2.ensures.look c.in_ok-core-2.ensures.asked in
     let kept = subst (λ a. Gains (g.S.Shelf.steps c.reserve.new.self) (g.S.Shelf.steps c.keep.new.shelf) (puts a c.in_ok-core-2.core.values c.args.options.start)) c.from-from.ensures.value
     (subst (λ (numbers : List ℕ). Gains (g.S.Shelf.steps c.reserve.new.self) (g.S.Shelf.steps c.keep.new.shelf) (puts c.from-from.result numbers c.args.options.start)) c.values.ensures.value c.in_ok-keep.ensures.ok) in
     let text = c.deref.ensures.0 ∙ c.save_report.ensures in
@@ -116,3 +119,63 @@ returns-clause-reported g c =
 
 pub returns-clause-fault : goal.returns-clause-fault
 returns-clause-fault g c = tt
+
+-- ---- the disk
+
+pub returns-in_err-core-clause-disk : goal.returns-in_err-core-clause-disk
+returns-in_err-core-clause-disk g c = no_ok c.from_residual.result _ _ c.from_residual.ensures.1
+
+pub returns-in_err-core-clause-disk_in_vain : goal.returns-in_err-core-clause-disk_in_vain
+returns-in_err-core-clause-disk_in_vain g c =
+    error_is c.from_residual.result Memory
+    (λ fault. ShelfAsked (g.S.Shelf.disk c.args.shelf.now) (g.S.Shelf.disk c.args.shelf.now) (disk_asked_before c.args.options fault))
+    c.from_residual.ensures.1
+    (as_asked IsLeftAlone (disk_asked_before c.args.options Memory) (g.S.Shelf.disk c.args.shelf.now) (g.S.Shelf.disk c.args.shelf.now) (λ d e steps x. inl x) (left_alone (g.S.Shelf.disk c.args.shelf.now)))
+
+pub returns-in_err-reserve-clause-disk : goal.returns-in_err-reserve-clause-disk
+returns-in_err-reserve-clause-disk g c = no_ok c.from_residual-in_err-reserve.result _ _ c.from_residual-in_err-reserve.ensures.1
+
+pub returns-in_err-reserve-clause-disk_in_vain : goal.returns-in_err-reserve-clause-disk_in_vain
+returns-in_err-reserve-clause-disk_in_vain g c =
+    error_is c.from_residual-in_err-reserve.result (fault_of_shelf c.in_err-reserve.field-0.0)
+    (λ fault. ShelfAsked (g.S.Shelf.disk c.args.shelf.now) (g.S.Shelf.disk c.reserve.new.self) (disk_asked_before c.args.options fault))
+    c.from_residual-in_err-reserve.ensures.1
+    (not_reserved_on c.args.options (g.S.Shelf.disk c.args.shelf.now) (g.S.Shelf.disk c.reserve.new.self) c.in_err-reserve.field-0.0 c.in_err-reserve.ensures.disk)
+
+pub returns-in_err-core-2-clause-disk : goal.returns-in_err-core-2-clause-disk
+returns-in_err-core-2-clause-disk g c = no_ok c.from_residual-in_err-core-2.result _ _ c.from_residual-in_err-core-2.ensures.1
+
+pub returns-in_err-core-2-clause-disk_in_vain : goal.returns-in_err-core-2-clause-disk_in_vain
+returns-in_err-core-2-clause-disk_in_vain g c =
+    error_is c.from_residual-in_err-core-2.result c.in_err-core-2.field-0.0
+    (λ fault. ShelfAsked (g.S.Shelf.disk c.args.shelf.now) (g.S.Shelf.disk c.reserve.new.self) (disk_asked_before c.args.options fault))
+    c.from_residual-in_err-core-2.ensures.1
+    (subst (λ fault. ShelfAsked (g.S.Shelf.disk c.args.shelf.now) (g.S.Shelf.disk c.reserve.new.self) (disk_asked_before c.args.options fault)) (sym c.in_err-core-2.ensures.fault.0)
+    (only_reserved (g.S.Shelf.is_opened_as c.reserve.new.self) (g.S.Shelf.disk c.args.shelf.now) (g.S.Shelf.disk c.reserve.new.self) c.in_ok-reserve.ensures.disk))
+
+pub returns-in_err-keep-clause-disk : goal.returns-in_err-keep-clause-disk
+returns-in_err-keep-clause-disk g c = no_ok c.from_residual-in_err-keep.result _ _ c.from_residual-in_err-keep.ensures.1
+
+pub returns-in_err-keep-clause-disk_in_vain : goal.returns-in_err-keep-clause-disk_in_vain
+returns-in_err-keep-clause-disk_in_vain g c =
+    error_is c.from_residual-in_err-keep.result c.in_err-keep.field-0.0
+    (λ fault. ShelfAsked (g.S.Shelf.disk c.args.shelf.now) (g.S.Shelf.disk c.keep.new.shelf) (disk_asked_before c.args.options fault))
+    c.from_residual-in_err-keep.ensures.1
+    (not_kept_on c.args.options (g.S.Shelf.is_opened_as c.reserve.new.self) (g.S.Shelf.disk c.args.shelf.now) (g.S.Shelf.disk c.reserve.new.self) (g.S.Shelf.disk c.keep.new.shelf) c.from-from.result c.values.result.now c.in_err-keep.field-0.0
+    c.from-from.ensures.value c.in_ok-reserve.ensures.disk c.in_err-keep.ensures.disk_in_vain)
+
+pub returns-in_err-write_and_flush-clause-disk : goal.returns-in_err-write_and_flush-clause-disk
+returns-in_err-write_and_flush-clause-disk g c = no_ok c.from_residual-in_err-write_and_flush.result _ _ c.from_residual-in_err-write_and_flush.ensures.1
+
+pub returns-in_err-write_and_flush-clause-disk_in_vain : goal.returns-in_err-write_and_flush-clause-disk_in_vain
+returns-in_err-write_and_flush-clause-disk_in_vain g c =
+    error_is c.from_residual-in_err-write_and_flush.result WriteOutput
+    (λ fault. ShelfAsked (g.S.Shelf.disk c.args.shelf.now) (g.S.Shelf.disk c.keep.new.shelf) (disk_asked_before c.args.options fault))
+    c.from_residual-in_err-write_and_flush.ensures.1
+    (saved_on c.args.options (g.S.Shelf.is_opened_as c.reserve.new.self) (g.S.Shelf.disk c.args.shelf.now) (g.S.Shelf.disk c.reserve.new.self) (g.S.Shelf.disk c.keep.new.shelf) c.from-from.result c.values.result.now
+    c.from-from.ensures.value c.in_ok-reserve.ensures.disk c.in_ok-keep.ensures.disk)
+
+pub returns-clause-disk : goal.returns-clause-disk
+returns-clause-disk g c =
+    saved_on c.args.options (g.S.Shelf.is_opened_as c.reserve.new.self) (g.S.Shelf.disk c.args.shelf.now) (g.S.Shelf.disk c.reserve.new.self) (g.S.Shelf.disk c.keep.new.shelf) c.from-from.result c.values.result.now
+    c.from-from.ensures.value c.in_ok-reserve.ensures.disk c.in_ok-keep.ensures.disk

@@ -1,28 +1,45 @@
-use Rattle.std.proofs.Common.{ap}
-use Rattle.endings.specs.Streams.{held}
-use Rattle.requests.proofs.Machines.{loaded_of, unloaded_of}
+use Rattle.std.proofs.Common.{inl, inr, refl, ap, subst}
+use Rattle.std.proofs.lemmas.Result.{IfOk-weaker, IfErr-weaker}
+use Rattle.tape_image.specs.Plan.{starting}
+use Rattle.requests.specs.Loading.{AsksDisk, IsPlanLoaded, IsPlanFailure, load_call, load_told_of}
+use Rattle.requests.specs.System.{outside_asked}
 use Rattle.requests.proofs.loading.load_tapes.Goals as goal
 
-pub returns-in-Some-clause-ok : goal.returns-in-Some-clause-ok
-returns-in-Some-clause-ok g c =
-    loaded_of (g.F.InputFiles.opens c.args.rt.now) c.args.names.now (held g.R.Read.remaining g.W.Write.contents g.E.Write.contents c.args.streams.now)
-    (record { input = g.R.Read.remaining c.plan_tapes.new.streams.input; out = g.W.Write.contents c.load_plan.new.out; err = g.E.Write.contents c.plan_tapes.new.streams.err })
-    c.in_ok-planned.planned _ c.load_plan.result c.in_ok-planned.ensures.ok (ap g.W.Write.contents c.in_ok-planned.ensures.same_out) c.args.load c.starting-plan.result c.starting-plan.ensures.value c.load_plan.ensures.ok
+pub returns-in-Err-clause-err : goal.returns-in-Err-clause-err
+returns-in-Err-clause-err g c = inl (refl, c.in-Err.ensures.err)
 
-pub returns-in-Some-clause-err : goal.returns-in-Some-clause-err
-returns-in-Some-clause-err g c =
-    unloaded_of (g.F.InputFiles.opens c.args.rt.now) c.args.names.now (held g.R.Read.remaining g.W.Write.contents g.E.Write.contents c.args.streams.now)
-    (record { input = g.R.Read.remaining c.plan_tapes.new.streams.input; out = g.W.Write.contents c.load_plan.new.out; err = g.E.Write.contents c.plan_tapes.new.streams.err })
-    c.in_ok-planned.planned _ c.load_plan.result c.in_ok-planned.ensures.ok (ap g.W.Write.contents c.in_ok-planned.ensures.same_out) c.args.load c.starting-plan.result c.starting-plan.ensures.value c.load_plan.ensures.err
+pub returns-clause-ok : goal.returns-clause-ok
+returns-clause-ok g c =
+    let asked = outside_asked g.D.Disk.asked g.N.Dialling.asked g.V.DeviceOpening.asked in
+    let a = asked c.args.system.outside in
+    let b = asked c.load_shown-outside.result.0 in
+    let told' = load_told_of c.args.load b (g.W.Write.contents c.load_shown-outside.new.out) in
+    IfOk-weaker c.load_shown-outside.result.1 _ _
+    (λ status h. record {
+      plan = c.in-Ok.plan;
+      planned = record { opened = c.in-Ok.ensures.ok.opened; is_so = c.in-Ok.ensures.ok.is_so };
+      loaded = subst (λ out. IsPlanLoaded (starting c.in-Ok.plan c.args.load.start) c.args.load (load_call c.args.load) (AsksDisk c.args.load.record a.disk b.disk) (load_told_of c.args.load a out) told' status)
+          (ap g.W.Write.contents c.in-Ok.ensures.same_out)
+          (subst (λ plan. IsPlanLoaded plan c.args.load (load_call c.args.load) (AsksDisk c.args.load.record a.disk b.disk) (load_told_of c.args.load a (g.W.Write.contents c.plan_tapes.new.streams.out)) told' status)
+          c.starting-plan.ensures.value h);
+      not_elsewhere = c.load_shown-outside.ensures.not_elsewhere;
+    })
+    c.load_shown-outside.ensures.ok
 
-pub returns-in-None-clause-ok : goal.returns-in-None-clause-ok
-returns-in-None-clause-ok g c =
-    loaded_of (g.F.InputFiles.opens c.args.rt.now) c.args.names.now (held g.R.Read.remaining g.W.Write.contents g.E.Write.contents c.args.streams.now)
-    (record { input = g.R.Read.remaining c.plan_tapes.new.streams.input; out = g.W.Write.contents c.load_plan-in-None.new.out; err = g.E.Write.contents c.plan_tapes.new.streams.err })
-    c.in_ok-planned.planned _ c.load_plan-in-None.result c.in_ok-planned.ensures.ok (ap g.W.Write.contents c.in_ok-planned.ensures.same_out) c.args.load c.starting-plan.result c.starting-plan.ensures.value c.load_plan-in-None.ensures.ok
-
-pub returns-in-None-clause-err : goal.returns-in-None-clause-err
-returns-in-None-clause-err g c =
-    unloaded_of (g.F.InputFiles.opens c.args.rt.now) c.args.names.now (held g.R.Read.remaining g.W.Write.contents g.E.Write.contents c.args.streams.now)
-    (record { input = g.R.Read.remaining c.plan_tapes.new.streams.input; out = g.W.Write.contents c.load_plan-in-None.new.out; err = g.E.Write.contents c.plan_tapes.new.streams.err })
-    c.in_ok-planned.planned _ c.load_plan-in-None.result c.in_ok-planned.ensures.ok (ap g.W.Write.contents c.in_ok-planned.ensures.same_out) c.args.load c.starting-plan.result c.starting-plan.ensures.value c.load_plan-in-None.ensures.err
+pub returns-clause-err : goal.returns-clause-err
+returns-clause-err g c =
+    let asked = outside_asked g.D.Disk.asked g.N.Dialling.asked g.V.DeviceOpening.asked in
+    let a = asked c.args.system.outside in
+    let b = asked c.load_shown-outside.result.0 in
+    let told' = load_told_of c.args.load b (g.W.Write.contents c.load_shown-outside.new.out) in
+    IfErr-weaker c.load_shown-outside.result.1 _ _
+    (λ failure h. inr (record {
+      plan = c.in-Ok.plan;
+      planned = record { opened = c.in-Ok.ensures.ok.opened; is_so = c.in-Ok.ensures.ok.is_so };
+      failed = subst (λ out. IsPlanFailure (starting c.in-Ok.plan c.args.load.start) c.args.load (load_call c.args.load) (AsksDisk c.args.load.record a.disk b.disk) (load_told_of c.args.load a out) told' failure)
+          (ap g.W.Write.contents c.in-Ok.ensures.same_out)
+          (subst (λ plan. IsPlanFailure plan c.args.load (load_call c.args.load) (AsksDisk c.args.load.record a.disk b.disk) (load_told_of c.args.load a (g.W.Write.contents c.plan_tapes.new.streams.out)) told' failure)
+          c.starting-plan.ensures.value h);
+      not_elsewhere = c.load_shown-outside.ensures.not_elsewhere;
+    }))
+    c.load_shown-outside.ensures.err

@@ -2,13 +2,13 @@ use Rattle.std.proofs.Common.{inl, inr, subst}
 use Rattle.std.proofs.lemmas.Result.{IfOk-weaker, IfErr-weaker}
 use Rattle.endings.specs.Failure.{IsLoadFailureOf}
 use Rattle.machine_load.specs.Load.{around_of}
-use Rattle.requests.specs.Loading.{IsEnded, IsEndFailure, IsPlanLoaded, IsPlanFailure}
+use Rattle.machine_load.specs.RecordDisk.{DiskAsked}
+use Rattle.requests.proofs.Loaded.{some_line, asked_by_some, disk_by_some}
 use Rattle.requests.proofs.loading.load_with.Goals as goal
 
 pub returns-in-Ok-clause-ok : goal.returns-in-Ok-clause-ok
 returns-in-Ok-clause-ok g c =
-    IfOk-weaker c.end.result (IsEnded c.args.request c.in-Ok.outcome.stop (g.W.Write.contents c.load.new.out) (g.W.Write.contents c.end.new.out))
-    (IsPlanLoaded c.args.plan c.args.request (g.W.Write.contents c.args.out.now) (g.W.Write.contents c.end.new.out))
+    IfOk-weaker c.end.result _ _
     (λ status is. record {
       stop = c.in-Ok.outcome.stop;
       marked = c.in-Ok.outcome.marked;
@@ -19,13 +19,15 @@ returns-in-Ok-clause-ok g c =
         reported = c.in-Ok.ensures.reported;
       };
       ended = is;
+      line = some_line c.in-Ok.outcome.line;
+      asked = asked_by_some _ c.in-Ok.outcome.line _ _ c.in-Ok.ensures.asked;
+      disk = disk_by_some c.in-Ok.outcome.line (DiskAsked (g.S.Surroundings.disk c.args.around.now) (g.S.Surroundings.disk c.load.new.around)) c.in-Ok.ensures.disk;
     })
     c.end.ensures.ok
 
 pub returns-in-Ok-clause-err : goal.returns-in-Ok-clause-err
 returns-in-Ok-clause-err g c =
-    IfErr-weaker c.end.result (IsEndFailure c.args.request c.in-Ok.outcome.stop c.in-Ok.outcome.marked (g.W.Write.contents c.load.new.out) (g.W.Write.contents c.end.new.out))
-    (IsPlanFailure c.args.plan c.args.request (g.W.Write.contents c.args.out.now) (g.W.Write.contents c.end.new.out))
+    IfErr-weaker c.end.result _ _
     (λ failure is. inr (record {
       stop = c.in-Ok.outcome.stop;
       marked = c.in-Ok.outcome.marked;
@@ -36,6 +38,9 @@ returns-in-Ok-clause-err g c =
         reported = c.in-Ok.ensures.reported;
       };
       is_so = is;
+      line = some_line c.in-Ok.outcome.line;
+      asked = asked_by_some _ c.in-Ok.outcome.line _ _ c.in-Ok.ensures.asked;
+      disk = disk_by_some c.in-Ok.outcome.line (DiskAsked (g.S.Surroundings.disk c.args.around.now) (g.S.Surroundings.disk c.load.new.around)) c.in-Ok.ensures.disk;
     }))
     c.end.ensures.err
 
@@ -47,4 +52,6 @@ returns-in-Err-clause-err g c =
       around' = around_of g.S.Surroundings.steps g.S.Surroundings.record_text c.load.new.around;
       is_so = c.in-Err.ensures.fault;
       is_called = subst (λ file. IsLoadFailureOf c.in-Err.fault c.args.request.line.now file c.of_load.result) c.record_name.ensures c.of_load.ensures;
+      asked = c.in-Err.ensures.asked_in_vain;
+      disk = c.in-Err.ensures.disk_in_vain;
     })

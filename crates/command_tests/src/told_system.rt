@@ -1,0 +1,376 @@
+//! A system that tells what was asked of it, part by part, so that what a request promises of that can be met.
+//!
+//! Where there is no memory for one thing more the process ends, since a list that lacks one would be wrong.
+ghost use Rattle.std.specs.Prelude.{◌≡◌, ◌++◌, [], ◌∷◌, false, Some, None};
+ghost use Rattle.command_tests.specs.ToldSystem.{dialled_by, opened_at, opened_by};
+ghost use Rattle.input_files.specs.Opening.{opening};
+ghost use Rattle.requests.specs.Attempt.{IsAttempted};
+ghost use Rattle.told_disk.specs.ToldSteps.{steps_of};
+
+use crate::attempts::NOBODY;
+use crate::simulated_system::{AMPLE, DEVICE, QUIET_MS, System as Simulated};
+use crate::tapes::ONE_WORD;
+use endings::{Status, Streams};
+use input_files::InputFiles;
+use machine_load::LoadOptions;
+use machine_look::AddressRange;
+use requests::{Load, Look, Outside, Probe, Request, Save, System, attempt};
+use serial_line::{DeviceOpening, Devices};
+use std::alloc::{AllocError, Global};
+use std::net::Net;
+use std::process::Abort;
+use std::rt::Files;
+use std::test::Fail;
+use std::{fs, io};
+use stream_line::Dialling;
+use tape_image::Start;
+use told_disk::ToldDisk;
+
+/// Files that are opened to be read, and by which names they were, or were not.
+#[derive(Drop)]
+pub(crate) struct ToldInputs<'a, R: Abort> {
+    rt: &'a R,
+    alloc: Global,
+    system: &'a Simulated<'a>,
+    opened: Vec<(String, bool)>,
+}
+
+impl<R: Abort> ToldInputs<'_, R> {
+    // Puts a name behind the list.
+    fn tell(&mut self, name: &str, is_open: bool)
+        ensures { opened_by self.new.opened.items ≡ opened_by self.old.opened.items ++ opening name.now is_open ∷ [] }
+    {
+        let copy = String::from_str(self.alloc, name).expect(self.rt, "no memory");
+        self.opened
+            .push((copy, is_open))
+            .expect(self.rt, "no memory");
+    }
+}
+
+impl<'a, R: Abort> InputFiles for ToldInputs<'a, R> {
+    type File = <Simulated<'a> as Files>::File;
+
+    ghost opened = { λ inputs. Some (opened_by inputs.opened.items) };
+
+    fn open_input(&mut self, name: &str) -> io::Result<<Simulated<'a> as Files>::File> {
+        let opened = fs::open(self.system, name);
+        self.tell(name, opened.is_ok());
+        opened
+    }
+}
+
+/// A network, and what was asked of it: a name that was dialled, or with it a time limit of reads, in milliseconds.
+#[derive(Drop)]
+pub(crate) struct ToldNetwork<'a, R: Abort> {
+    rt: &'a R,
+    alloc: Global,
+    system: &'a Simulated<'a>,
+    asked: Vec<(String, Option<u32>)>,
+}
+
+impl<'a, R: Abort> Dialling for ToldNetwork<'a, R> {
+    type Stream = <Simulated<'a> as Net>::Stream;
+
+    ghost asked = { λ network. Some (dialled_by network.asked.items) };
+
+    fn dial(&mut self, address: &str) -> io::Result<<Simulated<'a> as Net>::Stream> {
+        let copy = String::from_str(self.alloc, address).expect(self.rt, "no memory");
+        self.asked.push((copy, None)).expect(self.rt, "no memory");
+        let mut network = self.system;
+        network.dial(address)
+    }
+
+    fn limit(&mut self, stream: &<Simulated<'a> as Net>::Stream, quiet_ms: u32) -> io::Result<()> {
+        let request = (String::new(self.alloc), Some(quiet_ms));
+        self.asked.push(request).expect(self.rt, "no memory");
+        let mut network = self.system;
+        network.limit(stream, quiet_ms)
+    }
+}
+
+/// Serial devices, and at which paths they were opened.
+#[derive(Drop)]
+pub(crate) struct ToldDevices<'a, R: Abort> {
+    rt: &'a R,
+    alloc: Global,
+    system: &'a Simulated<'a>,
+    opened: Vec<String>,
+}
+
+impl<'a, R: Abort> DeviceOpening for ToldDevices<'a, R> {
+    type Terminal = <Simulated<'a> as Devices>::Terminal;
+
+    ghost asked = { λ devices. Some (opened_at devices.opened.items) };
+
+    fn open_device(&mut self, path: &str) -> io::Result<<Simulated<'a> as Devices>::Terminal> {
+        let copy = String::from_str(self.alloc, path).expect(self.rt, "no memory");
+        self.opened.push(copy).expect(self.rt, "no memory");
+        self.system.open_terminal(path)
+    }
+}
+
+/// A system of which each part tells.
+pub(crate) type ToldSystem<'a, R> = System<
+    ToldInputs<'a, R>,
+    Outside<'a, ToldDisk<'a>, ToldNetwork<'a, R>, ToldDevices<'a, R>, Simulated<'a>>,
+>;
+
+/// Attempts a request in such a system. What `attempt` promises of it speaks of lists that are there.
+fn attempt_told<'a, R: Abort>(
+    system: ToldSystem<'a, R>,
+    alloc: Global,
+    request: Request<'_>,
+    streams: &mut Streams<&[u8], Vec<u8>, Vec<u8>>,
+) -> (ToldSystem<'a, R>, Status)
+    ensures { IsAttempted request.entry false
+        (record {
+          inputs = Some (opened_by system.entry.inputs.opened.items);
+          outside = record {
+            disk = steps_of system.entry.outside.disk.asked;
+            network = Some (dialled_by system.entry.outside.network.asked.items);
+            devices = Some (opened_at system.entry.outside.devices.opened.items);
+          };
+        })
+        (record {
+          inputs = Some (opened_by result.0.inputs.opened.items);
+          outside = record {
+            disk = steps_of result.0.outside.disk.asked;
+            network = Some (dialled_by result.0.outside.network.asked.items);
+            devices = Some (opened_at result.0.outside.devices.opened.items);
+          };
+        })
+        (record { input = Some streams.old.input.now; out = Some streams.old.out.items; err = record { text = Some streams.old.err.items; failures = None } })
+        (record { input = Some streams.new.input.now; out = Some streams.new.out.items; err = record { text = Some streams.new.err.items; failures = None } })
+        result.1 }
+{
+    attempt(system, alloc, request, streams, NOBODY)
+}
+
+// A system of which nothing was asked.
+fn told_over<'a, R: Abort>(
+    rt: &'a R,
+    alloc: Global,
+    disk: ToldDisk<'a>,
+    system: &'a Simulated<'a>,
+) -> ToldSystem<'a, R> {
+    System {
+        inputs: ToldInputs {
+            rt,
+            alloc,
+            system,
+            opened: Vec::new(alloc),
+        },
+        outside: Outside {
+            disk,
+            network: ToldNetwork {
+                rt,
+                alloc,
+                system,
+                asked: Vec::new(alloc),
+            },
+            devices: ToldDevices {
+                rt,
+                alloc,
+                system,
+                opened: Vec::new(alloc),
+            },
+            clock: system,
+        },
+    }
+}
+
+// What was asked of a system, as it is shown: a line for each thing, but for a disk, of which it is shown whether
+// anything was asked.
+fn shown<R: Abort>(alloc: Global, system: &ToldSystem<'_, R>) -> Result<String, AllocError> {
+    let mut text = String::new(alloc);
+    for (name, is_open) in &system.inputs.opened {
+        let came = if *is_open { "opened" } else { "not opened" };
+        text.push_str(&format!(in alloc; "{came} {name}\n")?)?;
+    }
+    for (address, limit) in &system.outside.network.asked {
+        match limit {
+            Some(quiet_ms) => text.push_str(&format!(in alloc; "limited {quiet_ms}\n")?)?,
+            None => text.push_str(&format!(in alloc; "dialled {address}\n")?)?,
+        }
+    }
+    for path in &system.outside.devices.opened {
+        text.push_str(&format!(in alloc; "device {path}\n")?)?;
+    }
+    if system
+        .outside
+        .disk
+        .asked()
+        .is_some_and(|asked| !asked.is_empty())
+    {
+        text.push_str("disk\n")?;
+    }
+    Ok(text)
+}
+
+// What is asked for.
+#[derive(Clone, Copy)]
+enum Wanted {
+    Check(&'static [&'static str]),
+    Rehearse(&'static str, &'static str, &'static [&'static str]),
+    Load(&'static str, Option<&'static str>),
+    Verify(&'static str, &'static str),
+    Save(&'static str, &'static str),
+    Probe(&'static str),
+}
+
+// A look at this console.
+fn look_at(line: &'static str) -> Look<'static> {
+    Look {
+        line,
+        patience: 3,
+        quiet_ms: QUIET_MS,
+    }
+}
+
+// The request.
+fn request_of(alloc: Global, wanted: Wanted) -> Result<Request<'static>, AllocError> {
+    Ok(match wanted {
+        Wanted::Check(names) => Request::Check(Vec::from_slice(alloc, names)?),
+        Wanted::Rehearse(tape, script, more) => {
+            Request::Rehearse(tape, script, Vec::from_slice(alloc, more)?)
+        }
+        Wanted::Load(line, file) => Request::Load(
+            Vec::from_slice(alloc, &[TAPE])?,
+            Load {
+                line,
+                record: file,
+                options: LoadOptions {
+                    patience: 3,
+                    recheck: false,
+                },
+                start: Start::OfTape,
+                listen: None,
+                quiet_ms: QUIET_MS,
+            },
+        ),
+        Wanted::Verify(name, line) => {
+            Request::Verify(Vec::from_slice(alloc, &[name])?, look_at(line))
+        }
+        Wanted::Save(name, line) => match AddressRange::new(0o001000, 0o001000) {
+            Some(range) => Request::Save(
+                name,
+                Save {
+                    range,
+                    start: 1,
+                    look: look_at(line),
+                },
+            ),
+            None => Request::CheckInput,
+        },
+        Wanted::Probe(line) => Request::Probe(Probe {
+            address: 0o001000,
+            look: look_at(line),
+        }),
+    })
+}
+
+// The tape that is there.
+const TAPE: &str = "told.lda";
+
+// The console behind the network's port, and where nobody answers.
+const CONSOLE: &str = "127.0.0.1:2323";
+
+const NOBODY_THERE: &str = "127.0.0.1:2324";
+
+// What is asked for, how it ends, and what is asked of the system for it.
+const ROWS: [(Wanted, Status, &str); 12] = [
+    // Each file once, in its order, and none behind the first that is not there.
+    (
+        Wanted::Check(&[TAPE, "missing.lda", TAPE]),
+        Status::DeviceFailed,
+        "opened told.lda\nnot opened missing.lda\n",
+    ),
+    (
+        Wanted::Check(&[TAPE, TAPE]),
+        Status::Done,
+        "opened told.lda\nopened told.lda\n",
+    ),
+    // Standard input has no name to open.
+    (Wanted::Check(&["-"]), Status::Refused, ""),
+    // The script stands behind the first tape.
+    (
+        Wanted::Rehearse(TAPE, "missing.script", &[TAPE]),
+        Status::DeviceFailed,
+        "opened told.lda\nnot opened missing.script\n",
+    ),
+    (
+        Wanted::Rehearse("-", "missing.script", &[]),
+        Status::DeviceFailed,
+        "not opened missing.script\n",
+    ),
+    // A console is asked for once.
+    (
+        Wanted::Load(CONSOLE, None),
+        Status::Done,
+        "opened told.lda\ndialled 127.0.0.1:2323\nlimited 2000\n",
+    ),
+    (
+        Wanted::Load(DEVICE, Some("told.record")),
+        Status::Done,
+        "opened told.lda\ndevice /dev/ttyUSB0\ndisk\n",
+    ),
+    (
+        Wanted::Load(NOBODY_THERE, None),
+        Status::DeviceFailed,
+        "opened told.lda\ndialled 127.0.0.1:2324\n",
+    ),
+    (
+        Wanted::Verify(TAPE, DEVICE),
+        Status::Differs,
+        "opened told.lda\ndevice /dev/ttyUSB0\n",
+    ),
+    (
+        Wanted::Verify("missing.lda", CONSOLE),
+        Status::DeviceFailed,
+        "not opened missing.lda\n",
+    ),
+    (
+        Wanted::Save("told.saved", CONSOLE),
+        Status::Done,
+        "dialled 127.0.0.1:2323\nlimited 2000\ndisk\n",
+    ),
+    (
+        Wanted::Probe("/dev/ttyUSB1"),
+        Status::DeviceFailed,
+        "device /dev/ttyUSB1\n",
+    ),
+];
+
+// Whether a request ends so, and just this is asked of the system for it.
+fn is_asked(
+    rt: &impl Abort,
+    files: &HostRuntime,
+    wanted: Wanted,
+    status: Status,
+    asked: &str,
+) -> Result<bool, AllocError> {
+    let alloc = files.alloc();
+    let simulated = Simulated::new(files, AMPLE);
+    let system = told_over(rt, alloc, ToldDisk::new(files, &[]), &simulated);
+    let mut streams = Streams {
+        input: &[][..],
+        out: Vec::new(alloc),
+        err: Vec::new(alloc),
+    };
+    let request = request_of(alloc, wanted)?;
+    let (system, ended) = attempt_told(system, alloc, request, &mut streams);
+    Ok(ended == status && *shown(alloc, &system)?.as_str() == *asked)
+}
+
+#[test]
+fn a_request_asks_for_what_its_words_name(rt: HostRuntime) -> Result<(), Fail> {
+    fs::write(&rt, TAPE, ONE_WORD)?;
+    for (place, (wanted, status, asked)) in ROWS.iter().enumerate() {
+        let is_so = is_asked(&rt, &rt, *wanted, *status, asked)?;
+        assert!(rt; is_so, "row {place}");
+    }
+    for name in [TAPE, "told.record", "told.saved"] {
+        fs::remove_file(&rt, name)?;
+    }
+    Ok(())
+}

@@ -1,0 +1,7 @@
+-- What a name says of the way to a console.
+use Rattle.std.specs.Prelude.{ℕ, ◌==◌, Bool, List}
+use Rattle.std.specs.List.{list_any}
+
+-- it has a slash, as the path of a device has and no HOST:PORT
+abbrev pub has_slash : List ℕ → Bool
+has_slash name = list_any (λ c. c == 47) name

@@ -1,0 +1,55 @@
+//! Where faults are said, with no second try where that fails.
+ghost use Rattle.std.specs.Prelude.{ℕ, Option, None, OnOk, OnErr};
+ghost use Rattle.std.specs.Io.{WritesAtMost};
+ghost use Rattle.std.specs.Io.KnownBytes.{WriteAppends};
+ghost use Rattle.endings.specs.FaultOutput.{CountsWrite, IsSaidInPart, IsSaidWhole, standard_error};
+
+use byte_io::WriteFault;
+use std::io;
+use std::io::{Stderr, Write};
+
+/// What faults are written to: standard error.
+pub trait FaultOutput: Write {
+    /// How many writes failed, or took nothing of a text; None where the type doesn't tell.
+    ghost failures: { Self → Option ℕ } = { λ _. None };
+
+    /// Writes a beginning of the text, as `write` does, and answers how many bytes it took.
+    fn put(&mut self, text: &[u8]) -> io::Result<usize>
+        ensures bound { WritesAtMost result text.now }
+        ensures bytes { WriteAppends (Self.contents self.old) (Self.contents self.new) result text.now }
+        ensures counted { CountsWrite (failures self.old) (failures self.new) result };
+}
+
+impl FaultOutput for Stderr {
+    fn put(&mut self, text: &[u8]) -> io::Result<usize> {
+        self.write(text)
+    }
+}
+
+// A text in memory, in which a line is gathered.
+impl FaultOutput for Vec<u8> {
+    fn put(&mut self, text: &[u8]) -> io::Result<usize> {
+        self.write(text)
+    }
+}
+
+/// Says a text. At the first write that fails, or takes nothing, it stops.
+pub(crate) fn say<E: FaultOutput>(err: &mut E, text: &[u8]) -> Result<(), WriteFault>
+    ensures ok { OnOk result (IsSaidWhole
+        (standard_error E.contents E.failures err.old)
+        (standard_error E.contents E.failures err.new)
+        text.now) }
+    ensures err { OnErr result (IsSaidInPart
+        (standard_error E.contents E.failures err.old)
+        (standard_error E.contents E.failures err.new)
+        text.now) }
+{
+    let mut left = text;
+    while !left.is_empty() {
+        match err.put(left) {
+            Ok(0) | Err(_) => return Err(WriteFault),
+            Ok(count) => left = &left[count..],
+        }
+    }
+    Ok(())
+}

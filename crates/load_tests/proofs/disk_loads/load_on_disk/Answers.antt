@@ -1,0 +1,18 @@
+use Rattle.std.specs.Prelude.{option_map}
+use Rattle.machine_load.proofs.OnDisk.{closed_ok, closed_err}
+use Rattle.machine_load.specs.RecordDisk.{disk_asked_by, disk_asked_before}
+use Rattle.record_file.specs.Taking.{kind_of}
+use Rattle.told_disk.specs.ToldSteps.{steps_of}
+use Rattle.load_tests.proofs.disk_loads.load_on_disk.Goals as goal
+
+pub returns-clause-disk : goal.returns-clause-disk
+returns-clause-disk g c = closed_ok (λ outcome. disk_asked_by outcome.line) c.load-outcome.result
+    (record { asked = steps_of c.args.around.records.disk.asked; name = c.args.around.records.name.now; known = option_map kind_of c.args.around.records.held })
+    (record { asked = steps_of c.load-outcome.new.around.records.disk.asked; name = c.load-outcome.new.around.records.name.now; known = option_map kind_of c.load-outcome.new.around.records.held })
+    _ c.load-outcome.ensures.disk c.close.ensures.asked
+
+pub returns-clause-disk_in_vain : goal.returns-clause-disk_in_vain
+returns-clause-disk_in_vain g c = closed_err disk_asked_before c.load-outcome.result
+    (record { asked = steps_of c.args.around.records.disk.asked; name = c.args.around.records.name.now; known = option_map kind_of c.args.around.records.held })
+    (record { asked = steps_of c.load-outcome.new.around.records.disk.asked; name = c.load-outcome.new.around.records.name.now; known = option_map kind_of c.load-outcome.new.around.records.held })
+    _ c.load-outcome.ensures.disk_in_vain c.close.ensures.asked

@@ -1,0 +1,247 @@
+//! What a disk is asked over a whole save, by what becomes of the save.
+
+use crate::disk_saves::save_on_disk;
+use crate::memory_reach::MemoryReach;
+use crate::rows::new_machine;
+use machine_look::{AddressRange, LookFault, NewFile, SaveEnd, SaveOptions};
+use std::alloc::Global;
+use std::fs;
+use std::io::ErrorKind;
+use told_disk::{Failing, ToldDisk};
+
+// The file of a save, and the one beside it.
+const SAVED: &str = "d.lda";
+
+const BESIDE: &str = "d.lda.ldaodt-new";
+
+// The word that is saved, where it is, and the tape of it, which starts there.
+const ADDRESS: u16 = 0o001000;
+
+const WORD: u16 = 0o011064;
+
+const TAPE: [u8; 16] = [
+    0x01, 0x00, 0x08, 0x00, 0x00, 0x02, 0x34, 0x12, 0xAF, 0x01, 0x00, 0x06, 0x00, 0x00, 0x02, 0xF7,
+];
+
+// What somebody else's file has.
+const OTHERS: &[u8] = b"hello";
+
+// What is to be on the disk's list before the console is reached: nothing has the name, and a file beside is
+// made in its folder, and held.
+const RESERVED: &str = "- look at name d.lda\n\
+    + open to read .\n\
+    + open new d.lda.ldaodt-new\n\
+    + hold d.lda.ldaodt-new\n";
+
+// What is to follow, once the word was read: the tape is on the disk before it has its name, as a second one;
+// the first goes, and then the folder is on the disk. (`?` is the tape, which is no text.)
+const NAMED: &str = "+ sync ?\n\
+    + find d.lda.ldaodt-new ?\n\
+    + link d.lda.ldaodt-new d.lda\n\
+    + find d.lda.ldaodt-new ?\n\
+    + remove d.lda.ldaodt-new\n\
+    + sync folder .\n\
+    - find d.lda.ldaodt-new ?\n";
+
+// The same where the folder can't be brought to the disk: the name goes again.
+const FOLDER_UNSYNCED: &str = "+ sync ?\n\
+    + find d.lda.ldaodt-new ?\n\
+    + link d.lda.ldaodt-new d.lda\n\
+    + find d.lda.ldaodt-new ?\n\
+    + remove d.lda.ldaodt-new\n\
+    - sync folder .\n\
+    + find d.lda ?\n\
+    + remove d.lda\n\
+    - find d.lda.ldaodt-new ?\n";
+
+// Where the file system knows no second names, the name is looked for once more, and the file renamed.
+const RENAMED: &str = "+ sync ?\n\
+    + find d.lda.ldaodt-new ?\n\
+    - link d.lda.ldaodt-new d.lda\n\
+    - look at name d.lda\n\
+    + rename d.lda.ldaodt-new d.lda\n\
+    - find d.lda.ldaodt-new ?\n\
+    + sync folder .\n\
+    - find d.lda.ldaodt-new ?\n";
+
+// Where something has the name by then, nothing is renamed.
+const TAKEN: &str = "+ sync ?\n\
+    + find d.lda.ldaodt-new ?\n\
+    - link d.lda.ldaodt-new d.lda\n\
+    + find d.lda.ldaodt-new ?\n\
+    + remove d.lda.ldaodt-new\n";
+
+// A tape that is not on the disk gets no name.
+const UNSYNCED: &str = "- sync ?\n\
+    + find d.lda.ldaodt-new ?\n\
+    + remove d.lda.ldaodt-new\n";
+
+// A file beside to which nothing was written goes.
+const CLOSED: &str = "+ find d.lda.ldaodt-new \n\
+    + remove d.lda.ldaodt-new\n";
+
+// A file that is there is looked at, and nothing is made.
+const THERE: &str = "+ look at name d.lda\n";
+
+// In a folder that is not there nothing can be made.
+const NO_FOLDER: &str = "- look at name d.folder/d.lda\n\
+    - open to read d.folder\n";
+
+// What is around a save: whether there is a machine, and what a disk refuses.
+#[derive(Clone, Copy)]
+struct Setting {
+    machine: bool,
+    failing: Failing,
+}
+
+const AMPLE: Setting = Setting {
+    machine: true,
+    failing: &[],
+};
+
+// The disk refuses this.
+fn refusing(failing: Failing) -> Setting {
+    Setting {
+        machine: true,
+        failing,
+    }
+}
+
+// The word is saved, with its start; None where there is no such range.
+fn options() -> Option<SaveOptions> {
+    Some(SaveOptions {
+        range: AddressRange::new(ADDRESS, ADDRESS)?,
+        start: ADDRESS,
+        patience: 8,
+    })
+}
+
+// A way to a machine that has the word, or to none; None where there was no memory.
+fn console(alloc: Global, machine: bool) -> Option<MemoryReach> {
+    if !machine {
+        return Some(MemoryReach::new(alloc, None));
+    }
+    let mut odt = new_machine(alloc)?;
+    odt.put(ADDRESS, WORD);
+    Some(MemoryReach::new(alloc, Some(odt)))
+}
+
+// What came of a save, and what its disk was asked; None where there was no memory.
+fn saved(
+    rt: &HostRuntime,
+    setting: Setting,
+    name: &str,
+) -> Option<(Result<SaveEnd, LookFault>, String)> {
+    let alloc = rt.alloc();
+    let options = options()?;
+    let mut console = console(alloc, setting.machine)?;
+    let mut report = Vec::new(alloc);
+    let mut shelf = NewFile::new(ToldDisk::new(rt, setting.failing), name);
+    let end = save_on_disk(alloc, options, &mut shelf, &mut console, &mut report);
+    let disk = shelf.close();
+    Some((end, disk.shown()?))
+}
+
+// Whether this comes of a save, and its disk was asked just this, in two parts.
+fn is_saved(
+    rt: &HostRuntime,
+    setting: Setting,
+    wanted: Result<SaveEnd, LookFault>,
+    (first, then): (&str, &str),
+) -> bool {
+    match saved(rt, setting, SAVED) {
+        Some((end, asked)) => end == wanted && asked.as_str().strip_prefix(first) == Some(then),
+        None => false,
+    }
+}
+
+// Whether the file holds this, or is not there, and the one beside is not there.
+fn holds(rt: &HostRuntime, bytes: Option<&[u8]>) -> bool {
+    let is_so = match (fs::read(rt, SAVED), bytes) {
+        (Ok(held), Some(bytes)) => held.as_slice() == bytes,
+        (Err(_), None) => true,
+        _ => false,
+    };
+    is_so && fs::read(rt, BESIDE).is_err()
+}
+
+// Removes whatever is there.
+fn clear(rt: &HostRuntime) {
+    let _ = fs::remove_file(rt, SAVED);
+    let _ = fs::remove_file(rt, BESIDE);
+}
+
+#[test]
+fn a_tape_is_on_the_disk_before_its_name(rt: HostRuntime) {
+    clear(&rt);
+    let whole = Ok(SaveEnd::Saved);
+    assert!(rt; is_saved(&rt, AMPLE, whole, (RESERVED, NAMED)), "named");
+    assert!(rt; holds(&rt, Some(&TAPE)), "named");
+    clear(&rt);
+    let unsynced = refusing(&[(4, ErrorKind::Other)]);
+    let fault = Err(LookFault::WriteTape);
+    assert!(rt;
+        is_saved(&rt, unsynced, fault, (RESERVED, UNSYNCED)),
+        "file"
+    );
+    assert!(rt; holds(&rt, None), "file");
+    let folder = refusing(&[(9, ErrorKind::Other)]);
+    assert!(rt;
+        is_saved(&rt, folder, fault, (RESERVED, FOLDER_UNSYNCED)),
+        "folder"
+    );
+    assert!(rt; holds(&rt, None), "folder");
+}
+
+#[test]
+fn a_tape_is_renamed_where_no_second_name_can_be(rt: HostRuntime) {
+    clear(&rt);
+    let unlinked = refusing(&[(6, ErrorKind::Unsupported)]);
+    let whole = Ok(SaveEnd::Saved);
+    assert!(rt;
+        is_saved(&rt, unlinked, whole, (RESERVED, RENAMED)),
+        "renamed"
+    );
+    assert!(rt; holds(&rt, Some(&TAPE)), "renamed");
+    clear(&rt);
+    let taken = refusing(&[(6, ErrorKind::AlreadyExists)]);
+    let fault = Err(LookFault::IsThere);
+    assert!(rt; is_saved(&rt, taken, fault, (RESERVED, TAKEN)), "taken");
+    assert!(rt; holds(&rt, None), "taken");
+}
+
+#[test]
+fn a_file_that_is_there_stays(rt: HostRuntime) {
+    clear(&rt);
+    let put = fs::write(&rt, SAVED, OTHERS);
+    assert!(rt; put.is_ok());
+    let fault = Err(LookFault::IsThere);
+    assert!(rt; is_saved(&rt, AMPLE, fault, (THERE, "")));
+    assert!(rt; holds(&rt, Some(OTHERS)));
+    clear(&rt);
+}
+
+#[test]
+fn what_is_not_saved_leaves_nothing(rt: HostRuntime) {
+    clear(&rt);
+    let unplugged = Setting {
+        machine: false,
+        failing: &[],
+    };
+    let fault = Err(LookFault::Connect);
+    assert!(rt; is_saved(&rt, unplugged, fault, (RESERVED, CLOSED)));
+    assert!(rt; holds(&rt, None));
+    let nowhere = saved(&rt, AMPLE, "d.folder/d.lda");
+    match nowhere {
+        Some((end, asked)) => {
+            assert!(rt; end == Err(LookFault::WriteTape) && asked.as_str() == NO_FOLDER);
+        }
+        None => assert!(rt; false),
+    }
+    match saved(&rt, AMPLE, "d.folder/") {
+        Some((end, asked)) => {
+            assert!(rt; end == Err(LookFault::WriteTape) && asked.is_empty());
+        }
+        None => assert!(rt; false),
+    }
+}

@@ -1,0 +1,29 @@
+//! The names of tapes.
+ghost use Rattle.std.specs.Prelude.{◌≡◌, ◌∷◌, IfOk, IfErr};
+ghost use Rattle.requests.specs.Files.{means_input};
+
+use endings::Failure;
+use std::alloc::Global;
+
+/// Whether the names of tapes mean standard input: it has one, and that is `-`.
+pub(crate) fn is_input(names: &[&str]) -> bool
+    ensures { result ≡ means_input names.now }
+{
+    names.len() == 1 && *names[0] == *"-"
+}
+
+/// The names of all tapes, in order.
+pub(crate) fn joined<'a>(
+    alloc: Global,
+    first: &'a str,
+    more: &[&'a str],
+) -> Result<Vec<&'a str>, Failure<'a>>
+    ensures ok { IfOk result (λ names. names.items ≡ first.entry ∷ more.now) }
+    ensures err { IfErr result (λ failure. failure ≡ Failure.NoMemory) }
+{
+    let mut names = Vec::new(alloc);
+    if names.push(first).is_err() || names.extend_from_slice(more).is_err() {
+        return Err(Failure::NoMemory);
+    }
+    Ok(names)
+}

@@ -25,8 +25,9 @@ TAPES = {
     "bad-sum.lda": f"{TOP}/examples/refused/bad-sum.lda",
 }
 
-# A silence long enough for a console on this computer, and one that is so on a computer which is very busy.
-QUIET, LONG_QUIET = 200, 3000
+# A silence long enough for a console on this computer, one for a test that failed and runs by itself, and one that is so on a computer
+# which is very busy.
+QUIET, PATIENT_QUIET, LONG_QUIET = 200, 1000, 3000
 
 
 class Keeping:

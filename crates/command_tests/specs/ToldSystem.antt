@@ -9,13 +9,17 @@ abbrev pub opened_by : {A : Type 0} → List (String A × Bool) → List InputSt
 opened_by names = map (λ name. opening (string_bytes name.0) name.1) names
 
 -- a name was dialled, or reads were limited to a time in milliseconds
-abbrev pub dialling : {A : Type 0} → String A → Option ℕ → LineRequest
-dialling name None = Dialled (string_bytes name)
+abbrev pub dialling : List ℕ → Option ℕ → LineRequest
+dialling name None = Dialled name
 dialling name (Some quiet_ms) = Limited quiet_ms
 
 abbrev pub dialled_by : {A : Type 0} → List (String A × Option ℕ) → List LineRequest
-dialled_by requests = map (λ request. dialling request.0 request.1) requests
+dialled_by requests = map (λ request. dialling (string_bytes request.0) request.1) requests
 
--- devices were opened at these paths
-abbrev pub opened_at : {A : Type 0} → List (String A) → List LineRequest
-opened_at paths = map (λ path. OpenedDevice (string_bytes path)) paths
+-- the same of serial devices, which are opened at a path
+abbrev pub opening_at : List ℕ → Option ℕ → LineRequest
+opening_at path None = OpenedDevice path
+opening_at path (Some quiet_ms) = Limited quiet_ms
+
+abbrev pub opened_at : {A : Type 0} → List (String A × Option ℕ) → List LineRequest
+opened_at requests = map (λ request. opening_at (string_bytes request.0) request.1) requests

@@ -15,12 +15,13 @@ use input_files::InputFiles;
 use machine_load::LoadOptions;
 use machine_look::AddressRange;
 use requests::{Load, Look, Outside, Probe, Request, Save, System, attempt};
-use serial_line::{DeviceOpening, Devices};
+use serial_line::{Device, DeviceOpening, Devices};
 use std::alloc::{AllocError, Global};
 use std::net::Net;
 use std::process::Abort;
 use std::rt::Files;
 use std::test::Fail;
+use std::time::Clock;
 use std::{fs, io};
 use stream_line::Dialling;
 use tape_image::Start;
@@ -84,28 +85,40 @@ impl<'a, R: Abort> Dialling for ToldNetwork<'a, R> {
         let request = (String::new(self.alloc), Some(quiet_ms));
         self.asked.push(request).expect(self.rt, "no memory");
         let mut network = self.system;
-        network.limit(stream, quiet_ms)
+        Dialling::limit(&mut network, stream, quiet_ms)
     }
 }
 
-/// Serial devices, and at which paths they were opened.
+/// Serial devices, and what was asked of them: a path at which one was opened, or with it a time limit of reads, in
+/// milliseconds.
 #[derive(Drop)]
 pub(crate) struct ToldDevices<'a, R: Abort> {
     rt: &'a R,
     alloc: Global,
     system: &'a Simulated<'a>,
-    opened: Vec<String>,
+    asked: Vec<(String, Option<u32>)>,
 }
 
 impl<'a, R: Abort> DeviceOpening for ToldDevices<'a, R> {
     type Terminal = <Simulated<'a> as Devices>::Terminal;
 
-    ghost asked = { λ devices. Some (opened_at devices.opened.items) };
+    ghost asked = { λ devices. Some (opened_at devices.asked.items) };
 
     fn open_device(&mut self, path: &str) -> io::Result<<Simulated<'a> as Devices>::Terminal> {
         let copy = String::from_str(self.alloc, path).expect(self.rt, "no memory");
-        self.opened.push(copy).expect(self.rt, "no memory");
+        self.asked.push((copy, None)).expect(self.rt, "no memory");
         self.system.open_terminal(path)
+    }
+
+    fn limit<'b, C: Clock>(
+        &mut self,
+        terminal: <Simulated<'a> as Devices>::Terminal,
+        clock: &'b C,
+        quiet_ms: u32,
+    ) -> Device<'b, <Simulated<'a> as Devices>::Terminal, C> {
+        let request = (String::new(self.alloc), Some(quiet_ms));
+        self.asked.push(request).expect(self.rt, "no memory");
+        Device::new(terminal, clock, quiet_ms)
     }
 }
 
@@ -128,7 +141,7 @@ fn attempt_told<'a, R: Abort>(
           outside = record {
             disk = steps_of system.entry.outside.disk.asked;
             network = Some (dialled_by system.entry.outside.network.asked.items);
-            devices = Some (opened_at system.entry.outside.devices.opened.items);
+            devices = Some (opened_at system.entry.outside.devices.asked.items);
           };
         })
         (record {
@@ -136,7 +149,7 @@ fn attempt_told<'a, R: Abort>(
           outside = record {
             disk = steps_of result.0.outside.disk.asked;
             network = Some (dialled_by result.0.outside.network.asked.items);
-            devices = Some (opened_at result.0.outside.devices.opened.items);
+            devices = Some (opened_at result.0.outside.devices.asked.items);
           };
         })
         (record { input = Some streams.old.input.now; out = Some streams.old.out.items; err = record { text = Some streams.old.err.items; failures = None } })
@@ -172,10 +185,23 @@ fn told_over<'a, R: Abort>(
                 rt,
                 alloc,
                 system,
-                opened: Vec::new(alloc),
+                asked: Vec::new(alloc),
             },
             clock: system,
         },
+    }
+}
+
+// The line for a name that was asked for, or for the time limit of what came of it.
+fn request_line(
+    alloc: Global,
+    verb: &str,
+    name: &str,
+    limit: Option<u32>,
+) -> Result<String, AllocError> {
+    match limit {
+        Some(quiet_ms) => format!(in alloc; "limited {quiet_ms}\n"),
+        None => format!(in alloc; "{verb} {name}\n"),
     }
 }
 
@@ -188,13 +214,10 @@ fn shown<R: Abort>(alloc: Global, system: &ToldSystem<'_, R>) -> Result<String, 
         text.push_str(&format!(in alloc; "{came} {name}\n")?)?;
     }
     for (address, limit) in &system.outside.network.asked {
-        match limit {
-            Some(quiet_ms) => text.push_str(&format!(in alloc; "limited {quiet_ms}\n")?)?,
-            None => text.push_str(&format!(in alloc; "dialled {address}\n")?)?,
-        }
+        text.push_str(&request_line(alloc, "dialled", address, *limit)?)?;
     }
-    for path in &system.outside.devices.opened {
-        text.push_str(&format!(in alloc; "device {path}\n")?)?;
+    for (path, limit) in &system.outside.devices.asked {
+        text.push_str(&request_line(alloc, "device", path, *limit)?)?;
     }
     if system
         .outside
@@ -312,7 +335,7 @@ const ROWS: [(Wanted, Status, &str); 12] = [
     (
         Wanted::Load(DEVICE, Some("told.record")),
         Status::Done,
-        "opened told.lda\ndevice /dev/ttyUSB0\ndisk\n",
+        "opened told.lda\ndevice /dev/ttyUSB0\nlimited 2000\ndisk\n",
     ),
     (
         Wanted::Load(NOBODY_THERE, None),
@@ -322,7 +345,7 @@ const ROWS: [(Wanted, Status, &str); 12] = [
     (
         Wanted::Verify(TAPE, DEVICE),
         Status::Differs,
-        "opened told.lda\ndevice /dev/ttyUSB0\n",
+        "opened told.lda\ndevice /dev/ttyUSB0\nlimited 2000\n",
     ),
     (
         Wanted::Verify("missing.lda", CONSOLE),

@@ -14,7 +14,7 @@ pub trait Reach {
     ghost asked: { Self → Option (List LineRequest) } = { λ _. None };
 
     /// Whom it reaches, where it tells what was asked.
-    ghost call: { Self → Call } = { λ _. ToDevice [] };
+    ghost call: { Self → Call } = { λ _. ToDevice [] 0 };
 
     /// Reaches the console, and gives a line on which nothing was said.
     ///

@@ -29,7 +29,7 @@ impl<'a, V: DeviceOpening, C: Clock> Reach for Wire<'a, V, C> {
 
     ghost asked = { λ wire. V.asked wire.devices };
 
-    ghost call = { λ wire. ToDevice wire.path.now };
+    ghost call = { λ wire. ToDevice wire.path.now wire.quiet_ms };
 
     fn reach(&mut self) -> Result<DeviceLine<'a, V::Terminal, C>, LineFault> {
         open_line(&mut self.devices, self.clock, self.path, self.quiet_ms)

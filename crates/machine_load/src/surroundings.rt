@@ -30,7 +30,7 @@ pub trait Surroundings {
     ghost asked: { Self → Option (List LineRequest) } = { λ _. None };
 
     /// Whom a connection leads to, where the type tells what was asked.
-    ghost call: { Self → Call } = { λ _. ToDevice [] };
+    ghost call: { Self → Call } = { λ _. ToDevice [] 0 };
 
     /// What the record is; None where the type doesn't tell.
     ghost record_text: { Self → Option (List ℕ) } = { λ _. None };

@@ -23,7 +23,7 @@ outside_asked of_disk of_network of_devices outside = record {
 
 -- the console that a name stands for: one with a slash is the path of a device, any other HOST:PORT
 abbrev pub call_to : List ℕ → ℕ → Call
-call_to name quiet_ms = if has_slash name then ToDevice name else ToPort name quiet_ms
+call_to name quiet_ms = if has_slash name then ToDevice name quiet_ms else ToPort name quiet_ms
 
 -- what was asked on the way to it, and what on the other way
 abbrev pub asked_towards : List ℕ → OutsideAsked → Option (List LineRequest)

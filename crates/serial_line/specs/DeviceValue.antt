@@ -8,3 +8,7 @@ pub record DeviceValue : Type 0 where
   pub gone_out : Option (List ℕ)
   pub misses : Option ℕ
   pub quiet_ms : ℕ
+
+-- a device over a terminal that tells this, within a quiet time
+abbrev pub fresh_device : Option (List ℕ) → Option (List ℕ) → Option ℕ → ℕ → DeviceValue
+fresh_device to_come gone_out misses quiet_ms = record { to_come = to_come; gone_out = gone_out; misses = misses; quiet_ms = quiet_ms }

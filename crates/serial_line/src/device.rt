@@ -25,19 +25,19 @@ pub struct Device<'a, T: Terminal, C: Clock> {
 }
 
 impl<'a, T: Terminal, C: Clock> Model for Device<'a, T, C> {
-    ghost use Rattle.serial_line.specs.DeviceValue.{DeviceValue};
+    ghost use Rattle.serial_line.specs.DeviceValue.{DeviceValue, fresh_device};
 
     ghost Value = { DeviceValue };
 
-    ghost view = { λ d. record { to_come = T.remaining d.terminal; gone_out = T.contents d.terminal; misses = T.misses d.terminal; quiet_ms = d.quiet_ms } };
+    ghost view = { λ d. fresh_device (T.remaining d.terminal) (T.contents d.terminal) (T.misses d.terminal) d.quiet_ms };
 }
 
 impl<'a, T: Terminal, C: Clock> Device<'a, T, C> {
-    ghost use Rattle.serial_line.specs.DeviceValue.{DeviceValue};
+    ghost use Rattle.serial_line.specs.DeviceValue.{fresh_device};
 
     /// A device over a terminal that never waits. The quiet time is in milliseconds.
     pub fn new(terminal: T, clock: &'a C, quiet_ms: u32) -> Device<'a, T, C>
-        ensures { result ≡ record { to_come = T.remaining terminal; gone_out = T.contents terminal; misses = T.misses terminal; quiet_ms = quiet_ms } }
+        ensures { result ≡ fresh_device (T.remaining terminal) (T.contents terminal) (T.misses terminal) quiet_ms }
     {
         Device {
             terminal,

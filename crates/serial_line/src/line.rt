@@ -1,7 +1,7 @@
 //! A line to the console at a serial device.
-ghost use Rattle.std.specs.Prelude.{◌≡◌, ◌⊎◌, [], ◌∷◌, IfOk, IfErr};
+ghost use Rattle.std.specs.Prelude.{◌≡◌, ◌⊎◌, IfOk, IfErr};
 ghost use Rattle.load_devices.specs.Told.{Gains};
-ghost use Rattle.stream_line.specs.Dialling.{OpenedDevice};
+ghost use Rattle.stream_line.specs.Dialling.{ToDevice, asked_for};
 ghost use Rattle.stream_line.specs.StreamLine.{IsFreshLine};
 
 use crate::device::Device;
@@ -26,10 +26,10 @@ pub fn open_line<'a, V: DeviceOpening, C: Clock>(
 ) -> Result<DeviceLine<'a, V::Terminal, C>, LineFault>
     ensures fresh { IfOk result IsFreshLine }
     ensures fault { IfErr result (λ fault. (fault ≡ LineFault.Connect) ⊎ (fault ≡ LineFault.Receive)) }
-    ensures asked { Gains (V.asked devices.old) (V.asked devices.new) (OpenedDevice path.now ∷ []) }
+    ensures asked { Gains (V.asked devices.old) (V.asked devices.new) (asked_for (ToDevice path.now quiet_ms) result) }
 {
     match devices.open_device(path) {
-        Ok(terminal) => StreamLine::new(Device::new(terminal, clock, quiet_ms), quiet_ms),
+        Ok(terminal) => StreamLine::new(devices.limit(terminal, clock, quiet_ms), quiet_ms),
         Err(_) => Err(LineFault::Connect),
     }
 }

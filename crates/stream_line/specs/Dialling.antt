@@ -4,26 +4,26 @@ use Rattle.load_devices.specs.Told.{Gains}
 use Rattle.load_devices.specs.declared.fault.LineFault.{LineFault}
 use Rattle.load_devices.specs.declared.fault.LineFault.TheVariants.{Connect}
 
--- a name was dialled, or the reads of what came of that were limited to a time, in milliseconds; or a serial device was opened, by its path
+-- a name was dialled, or a serial device was opened, by its path; or the reads of what came of that were limited to a time, in milliseconds
 pub data LineRequest : Type 0 where
   Dialled : List ℕ → LineRequest
-  Limited : ℕ → LineRequest
   OpenedDevice : List ℕ → LineRequest
+  Limited : ℕ → LineRequest
 
--- whom a line is to lead to: whoever answers at a port's name, with a quiet time in milliseconds; or the serial device at a path
+-- whom a line is to lead to, with a quiet time in milliseconds: whoever answers at a port's name, or the serial device at a path
 pub data Call : Type 0 where
   ToPort : List ℕ → ℕ → Call
-  ToDevice : List ℕ → Call
+  ToDevice : List ℕ → ℕ → Call
 
 -- what is asked first
 abbrev pub asked_first : Call → List LineRequest
 asked_first (ToPort name quiet_ms) = Dialled name ∷ []
-asked_first (ToDevice path) = OpenedDevice path ∷ []
+asked_first (ToDevice path quiet_ms) = OpenedDevice path ∷ []
 
--- what a line that was reached was asked for: its name was dialled once, and its time limit is the quiet time; or its device was opened once
+-- what a line that was reached was asked for: its name was dialled, or its device opened, once, and its time limit is the quiet time
 abbrev pub asked_once : Call → List LineRequest
 asked_once (ToPort name quiet_ms) = Dialled name ∷ Limited quiet_ms ∷ []
-asked_once (ToDevice path) = OpenedDevice path ∷ []
+asked_once (ToDevice path quiet_ms) = OpenedDevice path ∷ Limited quiet_ms ∷ []
 
 -- what was asked for a line that was not reached: where nobody answered no time limit was set
 abbrev pub asked_until : Call → LineFault → List LineRequest

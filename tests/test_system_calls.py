@@ -88,6 +88,22 @@ class Between(Calls):
                 self.is_so(line.machine.typed, "")
         os.remove(self.path("a.record"))
 
+    def test_a_record_that_is_removed_before_it_is_opened(self):
+        """The load makes one in its place, and takes that away again where nobody listens."""
+        line = self.console_at(Console())
+        line.address, ours = self.taken_port(), line.address
+        self.put("a.record", VERIFIED.encode())
+        left = ["a.record"]
+
+        def before(call):
+            if call.opened() in left:
+                os.remove(self.path(left.pop()))
+
+        self.ends(self.load(line, before), 4, "", f"ldaodt: cannot connect to {line.address}\n")
+        self.is_so(left, [])
+        self.holds({})
+        line.address = ours
+
     def test_a_record_that_somebody_makes_behind_a_link(self):
         """The link led nowhere a moment ago. What is there now is the record, and is read."""
         line = self.console_at(Console(memory={0o1000: 0o011064}))

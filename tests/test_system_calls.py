@@ -104,6 +104,18 @@ class Between(Calls):
         self.holds({})
         line.address = ours
 
+    def test_a_link_in_the_place_of_a_tape_that_was_written(self):
+        """It leads to the tape, and would itself come to the tape's name."""
+        def before(call):
+            if call.name == "fsync" and call.file() == "a.lda.ldaodt-new":
+                os.rename(self.path("a.lda.ldaodt-new"), self.path("b.lda"))
+                os.symlink("b.lda", self.path("a.lda.ldaodt-new"))
+
+        given = self.ask(self.console_at(Console()), "save a.lda LINE 1000 1000", before)
+        self.ends(given, 4, "", "ldaodt: cannot write a.lda\n")
+        self.assertFalse(os.path.lexists(self.path("a.lda")))
+        self.is_so(os.readlink(self.path("a.lda.ldaodt-new")), "b.lda")
+
     def test_a_record_that_somebody_makes_behind_a_link(self):
         """The link led nowhere a moment ago. What is there now is the record, and is read."""
         line = self.console_at(Console(memory={0o1000: 0o011064}))

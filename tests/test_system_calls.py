@@ -104,6 +104,28 @@ class Between(Calls):
         self.holds({})
         line.address = ours
 
+    def led_elsewhere(self, name, behind):
+        """Behind a call of this name, another name leads to a file with the same number in another file system."""
+        told = []
+
+        def before(call):
+            told.append(call.name)
+            return call.finds_another_system() if behind in told and call.looked_at() == name else None
+        return before
+
+    def test_a_record_that_is_led_to_another_file_system(self):
+        """Each file system numbers its files by itself. It is another file, so that the load begins no record."""
+        line = self.console_at(Console())
+        self.put("a.record", VERIFIED.encode())
+        self.ends(self.load(line, self.led_elsewhere("a.record", "connect")), 4, "", NO_RECORD)
+        self.is_so((bytes_of(self.path("a.record")).decode(), line.machine.typed), (VERIFIED, ""))
+
+    def test_a_tape_in_whose_place_a_file_of_another_file_system_stands(self):
+        """What a save has written comes to no name then, and that file is not taken away."""
+        given = self.ask(self.console_at(Console()), "save a.lda LINE 1000 1000", self.led_elsewhere("a.lda.ldaodt-new", "fsync"))
+        self.ends(given, 4, "", "ldaodt: cannot write a.lda\n")
+        self.is_so(sorted(os.listdir(self.room)), ["a.lda.ldaodt-new", "first.lda"])
+
     def test_a_link_in_the_place_of_a_tape_that_was_written(self):
         """It leads to the tape, and would itself come to the tape's name."""
         def before(call):

@@ -12,10 +12,13 @@ import outside
 
 # The calls that tests know by name, by their numbers.
 NAMES = {1: "write", 2: "open", 8: "lseek", 16: "ioctl", 42: "connect", 44: "sendto", 54: "setsockopt", 72: "fcntl", 73: "flock", 74: "fsync",
-         75: "fdatasync", 77: "ftruncate", 82: "rename", 257: "openat", 264: "renameat", 316: "renameat2"}
+         75: "fdatasync", 77: "ftruncate", 82: "rename", 257: "openat", 264: "renameat", 316: "renameat2", 332: "statx"}
 
 # Where the system keeps a process's registers: a call's number, its answer, and its first arguments.
 NUMBER, ANSWER, ARGUMENTS = 8 * 15, 8 * 10, (8 * 14, 8 * 13, 8 * 12)
+
+# Where in what a look tells of a file the lower half of its file system's number stands.
+DEVICE = 140
 
 TRACED, POKE, TO_NEXT_CALL, OPTIONS, CALL = 0, 6, 24, 0x4200, 0x420E
 TELL_CALLS, ENDS_WITH_US = 1, 0x100000
@@ -40,10 +43,16 @@ class Call:
 
     def opened(self):
         """The name of the file that it opens, where it opens one."""
-        if self.name not in ("open", "openat"):
-            return None
+        return self.text(self.arguments[self.name == "openat"]) if self.name in ("open", "openat") else None
+
+    def looked_at(self):
+        """The name that it looks at, where it looks at one."""
+        return self.text(self.arguments[1]) if self.name == "statx" else None
+
+    def text(self, place):
+        """The text that stands at a place of the process's memory."""
         with open(f"/proc/{self.process}/mem", "rb") as memory:
-            memory.seek(self.arguments[self.name == "openat"])
+            memory.seek(place)
             return memory.read(256).split(b"\0")[0].decode()
 
     def file(self):
@@ -58,6 +67,17 @@ class Call:
         """The system is not asked; the call's answer is this error."""
         ptrace(POKE, self.process, NUMBER, -1)
         return -error
+
+    def finds_another_system(self):
+        """A look at a name finds a file with the same number in another file system."""
+        def after():
+            with open(f"/proc/{self.process}/mem", "r+b", buffering=0) as memory:
+                place = self.arguments[4] + DEVICE
+                memory.seek(place)
+                device = memory.read(1)[0]
+                memory.seek(place)
+                memory.write(bytes([device ^ 1]))
+        return after
 
 
 def follow(process, before):
@@ -78,13 +98,16 @@ def follow(process, before):
         is_before, number, *arguments = struct.unpack_from("=B23x7Q", told)
         if is_before == IS_BEFORE:
             answer = before(Call(process, number, arguments))
+        elif callable(answer):
+            answer()
         elif answer is not None:
             ptrace(POKE, process, ANSWER, answer)
 
 
 def run(words, before, seconds=60, **more):
     """Runs the program; `before` is told of each call before it is made, and what it returns is the call's answer in place of
-    the system's. The thread that calls this follows the process, which is killed where it does not end in time."""
+    the system's, or is called once the system has answered. The thread that calls this follows the process, which is killed
+    where it does not end in time."""
     with subprocess.Popen([outside.PROGRAM, *words], stdin=subprocess.DEVNULL, stdout=subprocess.PIPE, stderr=subprocess.PIPE, **more,
                           preexec_fn=lambda: (signal.alarm(seconds), ptrace(TRACED))) as process:
         process.returncode = follow(process.pid, before)

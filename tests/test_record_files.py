@@ -312,6 +312,17 @@ class Made(Files):
         self.is_written_in_place()
         os.rmdir(self.path("a.record.ldaodt-new"))
 
+    def test_a_link_in_the_new_files_place(self):
+        """It is somebody's, wherever it leads: the record is written in place."""
+        self.put("b.file", b"hello")
+        for target in ("b.file", "no-such"):
+            os.symlink(target, self.path("a.record.ldaodt-new"))
+            self.peer.machine = Console()
+            self.is_written_in_place()
+            self.is_so(os.readlink(self.path("a.record.ldaodt-new")), target)
+            os.remove(self.path("a.record.ldaodt-new"))
+        self.is_so(bytes_of(self.path("b.file")), b"hello")
+
     def test_a_pipe_in_the_new_files_place(self):
         """It is not opened, since nobody may ever write to it: the record is written in place."""
         os.mkfifo(self.path("a.record.ldaodt-new"))

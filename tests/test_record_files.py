@@ -290,8 +290,8 @@ class Made(Files):
         self.ends(self.load("b.record"), 6, "sent 0 spent 0 verified 1 of 1\nend MaybeStarted\n")
 
     def test_what_a_dead_load_left(self):
-        """It is replaced, whatever stands in it."""
-        for text in (b"", b"cut short", MARKED.encode()):
+        """It is replaced, whatever stands in it, also where that is longer than the new record."""
+        for text in (b"", b"cut short", MARKED.encode(), MARKED.encode() + b"LDAODT 2\n" * 9):
             self.put("a.record", VERIFIED.encode())
             self.put("a.record.ldaodt-new", text)
             self.peer.machine = Console(memory={0o1000: 0o011064})

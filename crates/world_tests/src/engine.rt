@@ -6,13 +6,13 @@ mod peers;
 
 use crate::checks::check_that;
 use crate::tapes::{ONE_WORD, fresh_host};
+use crate::watch::Watch;
 use honest_line::{Loss, MemoryLine};
 use host_core::{End, Heard, HostCore};
-use load_devices::{Item, Keep, KeepFault, Kept, Line, LineFault, MemoryKeep, Onlooker, Sight};
+use load_devices::{Item, Keep, KeepFault, Kept, Line, LineFault, MemoryKeep};
 use load_engine::{Stop, drive};
 use odt_machine::{Odt, PLAIN_STYLE};
 use std::alloc::Global;
-use std::cell::Cell;
 use std::process::Abort;
 use tape_image::Word;
 
@@ -67,43 +67,6 @@ fn line_of(alloc: Global, setting: &Setting) -> Option<MemoryLine> {
     MemoryLine::new(alloc, odt, losses, setting.room, setting.fail_at).ok()
 }
 
-// Counts the steps that it is told of, and keeps the last.
-#[derive(Drop)]
-struct Watch {
-    steps: Cell<usize>,
-    last: Cell<Option<Sight>>,
-}
-
-impl Watch {
-    fn new() -> Watch {
-        Watch {
-            steps: Cell::new(0),
-            last: Cell::new(None),
-        }
-    }
-
-    // Whether it was told of each thing heard on a line, and last of what the host came to.
-    fn has_seen(&self, heard: usize, core: &HostCore) -> bool {
-        let (verified, spent) = (core.progress().verified, core.spent());
-        let is_last = match self.last.get() {
-            Some(sight) => sight.done == verified && sight.spent == spent,
-            None => verified == 0 && spent == 0,
-        };
-        self.steps.get() == heard && is_last
-    }
-}
-
-impl Onlooker for Watch {
-    fn begins(&self, _done: u32, _words: u32) {}
-
-    fn sees(&self, sight: Sight) {
-        self.steps.set(self.steps.get().saturating_add(1));
-        self.last.set(Some(sight));
-    }
-
-    fn ends(&self) {}
-}
-
 // The engine's answer. What its contract promises of it, no test needs.
 fn drive_on<L: Line>(
     core: HostCore,
@@ -140,7 +103,7 @@ fn driven(alloc: Global, setting: &Setting) -> Option<Outcome> {
     Some(Outcome {
         stop,
         spent: core.spent(),
-        is_seen: watch.has_seen(heard, &core),
+        is_seen: watch.has_seen(heard, core.progress().verified, core.spent()),
         line,
         keep,
     })

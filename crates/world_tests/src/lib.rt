@@ -29,4 +29,6 @@ mod searches;
 #[cfg(test)]
 mod tapes;
 #[cfg(test)]
+mod watch;
+#[cfg(test)]
 mod worlds;

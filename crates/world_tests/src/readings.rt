@@ -3,8 +3,9 @@
 //! CR, and nineteen characters, seven echoes, eight of the reading and four after CR.
 
 use crate::checks::check_that;
+use crate::watch::Watch;
 use honest_line::{Loss, MemoryLine};
-use load_devices::{Item, Line, LineFault, Unwatched};
+use load_devices::{Item, Line, LineFault, Onlooker, Unwatched};
 use odt_machine::{Odt, Style};
 use reading_core::{End, ReadingCore};
 use reading_engine::{Stop, inquire, inquire_in_memory};
@@ -164,8 +165,13 @@ fn keys_of(items: &[Item]) -> usize {
 }
 
 // The engine's answer. What its contract promises of it, no test needs.
-fn inquire_on<L: Line>(core: ReadingCore, line: &mut L, turns: u64) -> (ReadingCore, Stop) {
-    inquire(core, line, turns, &Unwatched)
+fn inquire_on<L: Line, O: Onlooker>(
+    core: ReadingCore,
+    line: &mut L,
+    turns: u64,
+    onlooker: &O,
+) -> (ReadingCore, Stop) {
+    inquire(core, line, turns, onlooker)
 }
 
 // The engine's answer over a line that is lent.
@@ -211,11 +217,34 @@ fn readings(rt: HostRuntime) {
     }
 }
 
+// Whether an onlooker is told of each step of a reading in this setting, also of one whose key is not sent; nothing
+// where memory for it is refused.
+fn is_told(alloc: Global, setting: &Setting, course: &Course) -> Option<bool> {
+    let core = ReadingCore::of_range(alloc, 0o1000, 0o1004, setting.patience).ok()?;
+    let mut line = line_of(alloc, setting)?;
+    let done = u32::try_from(course.read).ok()?;
+    let watch = Watch::new();
+    let _ = inquire_on(core, &mut line, setting.turns, &watch);
+    Some(watch.has_seen(course.heard, done, course.spent))
+}
+
+#[test]
+fn each_step_is_told(rt: HostRuntime) {
+    for row in &ROWS {
+        let (setting, course, reason) = *row;
+        check_that(
+            &rt,
+            is_told(rt.alloc(), &setting, &course) == Some(true),
+            reason,
+        );
+    }
+}
+
 // A life that is stopped right after its first CR, and a new one that keeps so many numbers.
 fn read_twice(alloc: Global, kept: u32) -> Option<((ReadingCore, Stop), MemoryLine)> {
     let ((mut core, _), mut line) = read(alloc, &Setting { turns: 22, ..AMPLE })?;
     core.restart(kept);
-    let answer = inquire_on(core, &mut line, 1000);
+    let answer = inquire_on(core, &mut line, 1000, &Unwatched);
     Some((answer, line))
 }
 

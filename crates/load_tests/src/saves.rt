@@ -71,6 +71,22 @@ const TAKEN: &str = "+ sync ?\n\
     + find d.lda.ldaodt-new ?\n\
     + remove d.lda.ldaodt-new\n";
 
+// Where that can't be found out, nothing is renamed either.
+const UNKNOWN: &str = "+ sync ?\n\
+    + find d.lda.ldaodt-new ?\n\
+    - link d.lda.ldaodt-new d.lda\n\
+    - look at name d.lda\n\
+    + find d.lda.ldaodt-new ?\n\
+    + remove d.lda.ldaodt-new\n";
+
+// What a file system answers that gives no second names: one says so, another that it is not permitted, and some
+// have other words for it.
+const UNLINKED: [Failing; 3] = [
+    &[(6, ErrorKind::Unsupported)],
+    &[(6, ErrorKind::PermissionDenied)],
+    &[(6, ErrorKind::Other)],
+];
+
 // A tape that is not on the disk gets no name.
 const UNSYNCED: &str = "- sync ?\n\
     + find d.lda.ldaodt-new ?\n\
@@ -82,6 +98,9 @@ const CLOSED: &str = "+ find d.lda.ldaodt-new \n\
 
 // A file that is there is looked at, and nothing is made.
 const THERE: &str = "+ look at name d.lda\n";
+
+// Where it can't be found out whether one is there, nothing is made either.
+const NOT_LOOKED_FOR: &str = "- look at name d.lda\n";
 
 // In a folder that is not there nothing can be made.
 const NO_FOLDER: &str = "- look at name d.folder/d.lda\n\
@@ -195,19 +214,38 @@ fn a_tape_is_on_the_disk_before_its_name(rt: HostRuntime) {
 
 #[test]
 fn a_tape_is_renamed_where_no_second_name_can_be(rt: HostRuntime) {
-    clear(&rt);
-    let unlinked = refusing(&[(6, ErrorKind::Unsupported)]);
     let whole = Ok(SaveEnd::Saved);
-    assert!(rt;
-        is_saved(&rt, unlinked, whole, (RESERVED, RENAMED)),
-        "renamed"
-    );
-    assert!(rt; holds(&rt, Some(&TAPE)), "renamed");
+    for (number, failing) in UNLINKED.iter().enumerate() {
+        clear(&rt);
+        assert!(rt;
+            is_saved(&rt, refusing(*failing), whole, (RESERVED, RENAMED)),
+            "renamed {number}"
+        );
+        assert!(rt; holds(&rt, Some(&TAPE)), "renamed {number}");
+    }
     clear(&rt);
     let taken = refusing(&[(6, ErrorKind::AlreadyExists)]);
     let fault = Err(LookFault::IsThere);
     assert!(rt; is_saved(&rt, taken, fault, (RESERVED, TAKEN)), "taken");
     assert!(rt; holds(&rt, None), "taken");
+}
+
+#[test]
+fn a_name_that_can_not_be_looked_for_is_not_taken(rt: HostRuntime) {
+    clear(&rt);
+    let fault = Err(LookFault::WriteTape);
+    let at_first = refusing(&[(0, ErrorKind::PermissionDenied)]);
+    assert!(rt;
+        is_saved(&rt, at_first, fault, (NOT_LOOKED_FOR, "")),
+        "at first"
+    );
+    assert!(rt; holds(&rt, None), "at first");
+    let at_last = refusing(&[(6, ErrorKind::Unsupported), (7, ErrorKind::Other)]);
+    assert!(rt;
+        is_saved(&rt, at_last, fault, (RESERVED, UNKNOWN)),
+        "at last"
+    );
+    assert!(rt; holds(&rt, None), "at last");
 }
 
 #[test]

@@ -251,12 +251,31 @@ static LOOKS: [Row; 7] = [
 
 // Probes. A clock that goes on by a millisecond at each look at it is looked at 25 times for a word, as often as
 // something is said.
-static PROBES: [Row; 5] = [
+static PROBES: [Row; 6] = [
     (
         Asked::Probe(LOOK),
         Setting { tick: 1, ..AMPLE },
         Status::Done,
         "prompt yes\nstyle 0\nforgets digits yes\nmemory 000000 to 157776\nkey 1.0 ms\na load of 28672 words takes 28 minutes at this pace\nend Probed\n",
+        "",
+        1,
+    ),
+    // A digit of the first look is lost. That look is in no mean, though the `Z` behind the silence is its eighth
+    // key: three looks are timed, each of which takes 24 times 100 ms, and a load of 1,024 words 1024 * 62 / 25 times
+    // as long, 101.6 minutes.
+    (
+        Asked::Probe(Look {
+            patience: 1,
+            ..LOOK
+        }),
+        Setting {
+            words: 1024,
+            loses: Some(14),
+            tick: 100,
+            ..AMPLE
+        },
+        Status::Done,
+        "prompt yes\nstyle 0\nforgets digits yes\nmemory 000000 to 003776\nkey 100.0 ms\na load of 1024 words takes 102 minutes at this pace\nend Probed\n",
         "",
         1,
     ),

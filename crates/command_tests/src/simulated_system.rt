@@ -35,6 +35,9 @@ pub struct Setting {
     /// Whether the console answers no key at all.
     pub deaf: bool,
 
+    /// Which character of its answers is lost, from 0.
+    pub loses: Option<u32>,
+
     /// What the program prints that a console starts.
     pub greeting: &'static [u8],
 
@@ -51,6 +54,7 @@ pub const AMPLE: Setting = Setting {
     memory: &[],
     reads: 1_000_000,
     deaf: false,
+    loses: None,
     greeting: &[],
     room: 1_000_000,
     tick: 0,
@@ -129,6 +133,10 @@ pub struct Console {
     reads: u32,
     deaf: bool,
     greeting: &'static [u8],
+
+    /// How many characters it answered, and which of them is lost.
+    answered: u32,
+    loses: Option<u32>,
 }
 
 impl Console {
@@ -140,6 +148,18 @@ impl Console {
             reads: setting.reads,
             deaf: setting.deaf,
             greeting: setting.greeting,
+            answered: 0,
+            loses: setting.loses,
+        }
+    }
+
+    // Answers these characters, but for the one that is lost.
+    fn answers(&mut self, characters: &[u8]) {
+        for character in characters {
+            if self.loses != Some(self.answered) {
+                let _ = self.answer.try_push(*character);
+            }
+            self.answered = self.answered.saturating_add(1);
         }
     }
 }
@@ -166,7 +186,7 @@ impl Write for Console {
             Some(_) if self.deaf => Ok(1),
             Some(key) => {
                 let answer = self.odt.take(*key);
-                let _ = self.answer.try_extend_from_slice(&answer);
+                self.answers(&answer);
                 if *key == b'G' {
                     let _ = self.answer.try_extend_from_slice(self.greeting);
                 }
@@ -267,8 +287,9 @@ impl Clock for System<'_> {
         Ok(Duration::from_millis(time))
     }
 
+    // Nobody needs the date, which somebody may set meanwhile.
     fn since_1970(&self) -> io::Result<Duration> {
-        self.monotonic()
+        Err(io::Error::from(ErrorKind::Unsupported))
     }
 
     // A pause passes at once, and counts for what was asked.

@@ -33,7 +33,7 @@ struct Silence {
 // Reckoned by hand: a pause is a thirty-second of what was counted before it, from 10 to 5,000
 // microseconds, and
 // counts for what passed, but not for less than was asked for nor for more than 10,000.
-const SILENCES: [Silence; 9] = [
+const SILENCES: [Silence; 10] = [
     // Without a delay a silence is as long as it shall be, and never shorter.
     Silence {
         quiet_ms: 1,
@@ -72,6 +72,14 @@ const SILENCES: [Silence; 9] = [
         pace: Pace::Held,
         pauses: 460,
         passed: HOUR + 1_994_209,
+    },
+    // One that is held for a second at each pause has heard five times 10 milliseconds, which are the quiet time: more
+    // is not waited for.
+    Silence {
+        quiet_ms: 50,
+        pace: Pace::Late(999_990),
+        pauses: 5,
+        passed: 5_003_084,
     },
     // A clock that tells nothing is replaced by what was asked for.
     Silence {

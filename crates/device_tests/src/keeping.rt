@@ -1,11 +1,13 @@
-//! Keepers of a record: which text they write, that each call flushes, and that a fault stays.
+//! Keepers of a record: which text they write, that each call flushes, and that a fault stays; and how a refusal of
+//! a record is shown.
 
 use crate::brittle::Brittle;
 use crate::plans::{one_word, two_words};
 use host_core::Progress;
 use load_devices::{Keep, KeepFault};
-use load_record::{FileKeep, read_record};
+use load_record::{FileKeep, RecordError, read_record};
 use std::alloc::Global;
+use std::fmt::Display;
 use std::process::Abort;
 use tape_image::Plan;
 
@@ -160,4 +162,27 @@ fn a_writer_that_takes_little(rt: HostRuntime) {
     let plan = one_word(rt.alloc()).expect(&rt, "no plan");
     assert!(rt; is_kept_bytewise(rt.alloc(), &plan));
     assert!(rt; is_not_kept(rt.alloc(), &plan));
+}
+
+// Whether this is shown so.
+fn is_shown(alloc: Global, refusal: &impl Display, text: &str) -> bool {
+    match format!(in alloc; "{refusal}") {
+        Ok(shown) => shown.as_str() == text,
+        Err(_) => false,
+    }
+}
+
+const REFUSALS: [(RecordError, &str); 2] = [
+    (RecordError::NotARecord, "not a record"),
+    (
+        RecordError::Foreign(12),
+        "line 12 does not say what the tape has next",
+    ),
+];
+
+#[test]
+fn refusals_have_texts(rt: HostRuntime) {
+    for (refusal, text) in &REFUSALS {
+        assert!(rt; is_shown(rt.alloc(), refusal, text), "{text}");
+    }
 }

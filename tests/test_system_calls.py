@@ -3,6 +3,7 @@ order they come. No contract says that of a system's own files, sockets and devi
 """
 import errno
 import os
+import stat
 import unittest
 
 from common import Case, Console
@@ -103,6 +104,20 @@ class Between(Calls):
         self.is_so(left, [])
         self.holds({})
         line.address = ours
+
+    def test_a_record_in_whose_place_a_pipe_comes(self):
+        """Nobody may ever write to it, so that whoever read it would wait without end."""
+        line = self.console_at(Console())
+        self.put("a.record", VERIFIED.encode())
+
+        def before(call):
+            if call.opened() == "a.record" and not stat.S_ISFIFO(os.stat(self.path("a.record")).st_mode):
+                os.remove(self.path("a.record"))
+                os.mkfifo(self.path("a.record"))
+
+        self.ends(self.load(line, before), 4, "", "ldaodt: cannot read a.record\n")
+        self.is_so(line.machine.typed, "")
+        os.remove(self.path("a.record"))
 
     def led_elsewhere(self, name, behind):
         """Behind a call of this name, another name leads to a file with the same number in another file system."""

@@ -153,7 +153,8 @@ fn try_hold<D: Disk>(disk: &mut D, name: &str) -> Result<Try<D::File>, RecordFau
 }
 
 // Holds a file that was opened. It has changed where its name leads to another file by now, whose load may
-// have ended between the opening and the lock.
+// have ended between the opening and the lock. It is looked at again, since somebody may have put a pipe in its
+// place right before it was opened.
 fn hold_opened<D: Disk>(
     disk: &mut D,
     name: &str,
@@ -165,8 +166,9 @@ fn hold_opened<D: Disk>(
     ensures asked { IfOk result (λ outcome. HasAsked (D.asked disk.old) (D.asked disk.new) (IsHeld name.now (device_of outcome))) }
     ensures failed { IfErr result (λ _. HasAsked (D.asked disk.old) (D.asked disk.new) (IsHeld name.now None)) }
 {
-    let Ok(metadata) = opened.file.metadata() else {
-        return Err(RecordFault::Read);
+    let metadata = match opened.file.metadata() {
+        Ok(metadata) if can_be_read(&metadata) => metadata,
+        _ => return Err(RecordFault::Read),
     };
     let device = metadata.file_type().is_char_device();
     if !is_free(disk, name, &opened.file, device) {
@@ -222,8 +224,12 @@ pub(crate) fn let_go<D: Disk>(disk: &mut D, name: &str, held: HeldFile<D::File>)
     }
 }
 
-// Opens the file of this name, or makes it where there is none. Nothing but a plain file or a character
-// device is opened: a pipe would wait for its writer.
+// Whether a file can be read to its end: it is a plain file or a character device. A pipe would wait for its writer.
+fn can_be_read(metadata: &Metadata) -> bool {
+    metadata.is_file() || metadata.file_type().is_char_device()
+}
+
+// Opens the file of this name, or makes it where there is none. Nothing that can't be read to its end is opened.
 fn open<D: Disk>(disk: &mut D, name: &str) -> Result<Opening<D::File>, RecordFault>
     ensures fault { IfErr result IsUnread }
     ensures asked { IfOk result (λ opening. HasAsked (D.asked disk.old) (D.asked disk.new) (IsOpened name.now (made_of opening))) }
@@ -231,9 +237,7 @@ fn open<D: Disk>(disk: &mut D, name: &str) -> Result<Opening<D::File>, RecordFau
     ensures failed { IfErr result (λ _. HasAsked (D.asked disk.old) (D.asked disk.new) (IsOpened name.now None)) }
 {
     match disk.look(name) {
-        Ok(metadata) if metadata.is_file() || metadata.file_type().is_char_device() => {
-            open_found(disk, name)
-        }
+        Ok(metadata) if can_be_read(&metadata) => open_found(disk, name),
         Err(error) if error.kind() == ErrorKind::NotFound => Ok(make(disk, name)),
         _ => Err(RecordFault::Read),
     }

@@ -175,21 +175,25 @@ class Looks(Case):
 
     def look_at_a_terminal(self, machine, words, quiet=None):
         self.put_tapes("first.lda", "two-words.lda")
-        tape, *rest = words.split()
-        words = ["verify", tape, self.console_at(machine).address, "--quiet", str(quiet or self.quiet), *rest]
+        words = [*words.replace("LINE", self.console_at(machine).address).split(), "--quiet", str(quiet or self.quiet)]
         return self.at_a_terminal(lambda terminal: self.ldaodt(words, stderr=terminal))
 
     def test_each_word_that_was_read_counts(self):
-        """Each key is slow, so that a line is shown with each word; how long the rest takes is the computer's."""
-        given, shown = self.look_at_a_terminal(SlowConsole(0, memory={0o1000: 0o031421, 0o1002: 0o104}), "two-words.lda", quiet=1000)
-        self.is_so((given.status, given.out), (0, "sent 17 spent 0 looked 2 of 2 differ 0\nend Same\n"))
-        texts = re.findall(re.escape(SHOWN).replace(r"\{\}", "(.*?)"), shown)
-        self.is_so([re.sub(r", 0:\d\d left$", "", it) for it in texts],
-                   ["0 of 2 words, 0%, listening", "0 of 2 words, 0%", "1 of 2 words, 50%", "2 of 2 words, 100%"])
+        """Each key is slow, so that a line is shown with each word; how long the rest takes is the computer's. A `save` of the
+        two words types what a `verify` of them does."""
+        for words, report in (("verify two-words.lda LINE", "sent 17 spent 0 looked 2 of 2 differ 0\nend Same\n"),
+                              ("save a.lda LINE 1000 1002", "sent 17 spent 0 read 2 of 2\nend Saved\n")):
+            with self.subTest(words):
+                given, shown = self.look_at_a_terminal(SlowConsole(0, memory={0o1000: 0o031421, 0o1002: 0o104}), words, quiet=1000)
+                self.is_so((given.status, given.out), (0, report))
+                texts = re.findall(re.escape(SHOWN).replace(r"\{\}", "(.*?)"), shown)
+                self.is_so([re.sub(r", 0:\d\d left$", "", it) for it in texts],
+                           ["0 of 2 words, 0%, listening", "0 of 2 words, 0%", "1 of 2 words, 50%", "2 of 2 words, 100%"])
+                self.assertTrue(shown.endswith(CLEARED), repr(shown))
 
     def test_mishaps_are_counted(self):
         """As those of a load."""
-        given, shown = self.look_at_a_terminal(DeafConsole(), "first.lda --patience 2")
+        given, shown = self.look_at_a_terminal(DeafConsole(), "verify first.lda LINE --patience 2")
         self.is_so((given.status, given.out), (5, "sent 3 spent 2 looked 0 of 1 differ 0\nend GaveUp\n"))
         mishaps = "".join(SHOWN.format(f"0 of 1 words, 0%, {text}") for text in ("1 mishap", "2 mishaps"))
         self.is_so(shown, LISTENING + NO_WORD + mishaps + CLEARED)

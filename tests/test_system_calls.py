@@ -7,7 +7,7 @@ import stat
 import unittest
 
 from common import Case, Console
-from outside import bytes_of, tape_of
+from outside import Answer, bytes_of, tape_of
 import traced
 
 VERIFIED, MARKED = "LDAODT 2\n001000 011064\n", "LDAODT 2\n001000 011064\nG\n"
@@ -225,6 +225,26 @@ class Answers(Calls):
         given = self.load(line, lambda call: call.fails(errno.EIO) if call.name == "lseek" and call.file() == "b.record" else None)
         self.ends(given, 4, "", NO_RECORD)
         self.is_so((bytes_of(self.path("b.record")).decode(), line.machine.typed), (VERIFIED, ""))
+
+    def test_a_system_without_a_descriptor(self):
+        """The process has too many files open, or the whole system has: the tape that is open is read and closed, and the next is
+        tried once more. Behind another error it is not."""
+        self.put_tapes("two-words.lda")
+        good, bad = self.ldaodt("check first.lda two-words.lda"), Answer(4, "", "ldaodt: cannot read two-words.lda\n")
+        self.is_so(good.status, 0)
+        for error, fails, tries, wanted in ((errno.EMFILE, 1, 2, good), (errno.ENFILE, 1, 2, good), (errno.EMFILE, 2, 2, bad),
+                                            (errno.ENFILE, 2, 2, bad), (errno.EACCES, 1, 1, bad)):
+            asked = []
+
+            def before(call, error=error, fails=fails, asked=asked):
+                if call.opened() != "two-words.lda":
+                    return None
+                asked.append(call.name)
+                return call.fails(error) if len(asked) <= fails else None
+
+            with self.subTest(errno.errorcode[error], fails=fails):
+                given = traced.run(["check", "first.lda", "two-words.lda"], before, cwd=self.room)
+                self.is_so((given, len(asked)), (wanted, tries))
 
     def test_a_line_that_takes_no_time_limit(self):
         """A socket whose reads can't be limited, and a device that can't be made to answer at once: a load could wait at them

@@ -138,16 +138,20 @@ class Pipes(Many):
 
     def test_a_pipe_among_tapes(self):
         """It is opened once: who opened it anew would wait for another writer. And of one that stays open no more is
-        awaited than the tape: the program ends before its writer does."""
-        wanted = self.answers(["check", *self.names])
-        for limit in (AMPLE, *LIMITS):
-            for stays in (False, True):
-                is_over = threading.Event()
-                writer = self.writing(self.tape, is_over if stays else None)
-                given = self.ldaodt(["check", *self.with_names({4: "pipe"})], setup=limited(limit))
-                is_over.set()
-                writer.join()
-                self.is_so((limit, stays, given), (limit, stays, wanted))
+        awaited than the tape: the program ends before its writer does. Of a rehearsal's further tapes, too."""
+        self.put("clean.script", b"clean\n")
+        for command in (["check"], ["rehearse", self.names[0], "clean.script"]):
+            behind = len(command) > 1
+            wanted = self.answers([*command, *self.names[behind:]])
+            for limit in (AMPLE, *LIMITS):
+                for stays in (False, True):
+                    is_over = threading.Event()
+                    writer = self.writing(self.tape, is_over if stays else None)
+                    given = self.ldaodt([*command, *self.with_names({4: "pipe"})[behind:]], setup=limited(limit))
+                    is_awaited = stays and not writer.is_alive()
+                    is_over.set()
+                    writer.join()
+                    self.is_so((command, limit, stays, given, is_awaited), (command, limit, stays, wanted, False))
 
     def test_an_open_pipe_by_its_number(self):
         """As a shell hands over `<(..)`; both names of one pipe are read in their order."""

@@ -4,7 +4,7 @@ use Rattle.std.specs.String.{string_bytes}
 use Rattle.clap.specs.declared.error.kind.ErrorKind.{ErrorKind}
 use Rattle.clap.specs.declared.error.kind.ErrorKind.TheVariants as kind
 use Rattle.requests.specs.Attempt.{IsAttempted}
-use Rattle.requests.specs.System.{Asked}
+use Rattle.machine_requests.specs.System.{Asked}
 use Rattle.endings.specs.Explained.{IsShown}
 use Rattle.endings.specs.Failure.{IsTold}
 use Rattle.endings.specs.FaultOutput.{IsSaid}

@@ -11,13 +11,13 @@ use Rattle.machine_look.specs.declared.range.AddressRange.{AddressRange}
 use Rattle.odt_machine.specs.Machine.{largest_words}
 use Rattle.odt_machine.specs.Style.{style_number}
 use Rattle.requests.specs.declared.request.Console.{Console}
-use Rattle.requests.specs.declared.request.Load.{Load}
-use Rattle.requests.specs.declared.request.Look.{Look}
-use Rattle.requests.specs.declared.request.Probe.{Probe}
+use Rattle.machine_requests.specs.declared.request.Load.{Load}
+use Rattle.machine_requests.specs.declared.request.Look.{Look}
+use Rattle.machine_requests.specs.declared.request.Probe.{Probe}
 use Rattle.requests.specs.declared.request.Request.{Request}
 use Rattle.requests.specs.declared.request.Request.TheVariants.{CheckInput, Check, Dialogue, Rehearse, «Type» as TypeKeys}
 use Rattle.requests.specs.declared.request.Request.TheVariants.{Load as Loads, Verify, Save as Saves, Probe as Probes}
-use Rattle.requests.specs.declared.request.Save.{Save}
+use Rattle.machine_requests.specs.declared.request.Save.{Save}
 use Rattle.ldaodt.specs.Addresses.{IsEvenText, IsOctalText, IsWordText}
 
 -- the decimal number that a text is

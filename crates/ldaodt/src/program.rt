@@ -6,7 +6,7 @@ ghost use Rattle.endings.specs.declared.status.Status.{Status};
 ghost use Rattle.endings.specs.Status.{status_code};
 ghost use Rattle.endings.specs.Streams.{held};
 ghost use Rattle.requests.specs.Attempt.{IsAttempted};
-ghost use Rattle.requests.specs.System.{asked_of};
+ghost use Rattle.machine_requests.specs.System.{asked_of};
 ghost use Rattle.ldaodt.specs.Answer.{IsAnswered, IsExplained};
 
 use crate::command_line::{NoRequest, parse};

@@ -1,6 +1,6 @@
 -- A list of inputs that has one.
 use Rattle.std.proofs.Common.{◌≡◌, List, [], ◌∷◌, map, length, get_or, refl, arith}
-use Rattle.requests.specs.Files.{Known}
+use Rattle.machine_requests.specs.Files.{Known}
 
 pub only_input : {X : Type 0} (known : X → Known) (inputs : List X) (d : X) → length inputs ≡ 1 → map known inputs ≡ known (get_or inputs 0 d) ∷ []
 only_input known [] d one = absurd (omega (arith, one))

@@ -7,8 +7,8 @@ use Rattle.input_files.specs.Opening.{Name}
 use Rattle.requests.specs.declared.request.Request.{Request}
 use Rattle.requests.specs.declared.request.Request.TheVariants.{CheckInput, Check, Dialogue, Rehearse, «Type» as TypeKeys, Load, Verify, Save, Probe}
 use Rattle.requests.specs.Attempt.{IsFailed}
-use Rattle.requests.specs.Files.{Known, Inputs, Opening, FailsUnopened, IsUnplanned, OfTapes}
-use Rattle.requests.specs.System.{Asked}
+use Rattle.machine_requests.specs.Files.{Known, Inputs, Opening, FailsUnopened, IsUnplanned, OfTapes}
+use Rattle.machine_requests.specs.System.{Asked}
 
 module _ (asked asked' : Asked) (before : Held) (input out : Known) (err err' : StandardError) (failure : Failure) where
   abbrev here : Held

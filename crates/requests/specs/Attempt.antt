@@ -6,17 +6,17 @@ use Rattle.endings.specs.declared.status.Status.{Status}
 use Rattle.endings.specs.declared.status.Status.TheVariants.{Done}
 use Rattle.endings.specs.Failure.{status_of, is_unheard, IsToldUnless}
 use Rattle.endings.specs.Streams.{Held}
+use Rattle.machine_requests.specs.Files.{Opening, opening_between}
+use Rattle.machine_requests.specs.Loading.{AreLoaded, AreUnloaded}
+use Rattle.machine_requests.specs.Looking.{AreVerified, AreUnverified}
+use Rattle.machine_requests.specs.Probing.{IsConsoleProbed, IsConsoleUnprobed}
+use Rattle.machine_requests.specs.Saving.{AreWordsSaved, AreWordsUnsaved}
+use Rattle.machine_requests.specs.System.{Asked}
 use Rattle.requests.specs.declared.request.Request.{Request}
 use Rattle.requests.specs.declared.request.Request.TheVariants.{CheckInput, Check, Dialogue, Rehearse, «Type» as TypeKeys, Load, Verify, Save, Probe}
-use Rattle.requests.specs.Files.{Opening, opening_between}
 use Rattle.requests.specs.Checking.{AreChecked, AreUnchecked, IsInputChecked, IsInputUnchecked}
-use Rattle.requests.specs.Loading.{AreLoaded, AreUnloaded}
-use Rattle.requests.specs.Looking.{AreVerified, AreUnverified}
-use Rattle.requests.specs.Probing.{IsConsoleProbed, IsConsoleUnprobed}
 use Rattle.requests.specs.Rehearsing.{AreRehearsed, AreUnrehearsed}
-use Rattle.requests.specs.Saving.{AreWordsSaved, AreWordsUnsaved}
 use Rattle.requests.specs.Showing.{AreShown, AreUnshown}
-use Rattle.requests.specs.System.{Asked}
 use Rattle.requests.specs.Typing.{IsTypedThrough, IsTypingFailure}
 
 -- which input files were opened meanwhile

@@ -7,7 +7,8 @@ use Rattle.endings.specs.declared.status.Status.{Status}
 use Rattle.endings.specs.declared.status.Status.TheVariants.{Done}
 use Rattle.endings.specs.Streams.{Held}
 use Rattle.input_files.specs.Opening.{Name}
-use Rattle.requests.specs.Files.{Known, Inputs, Opening, OfTapes, files_of, FailsUnopened, FailsOver, only_input}
+use Rattle.machine_requests.specs.Files.{Known, Inputs, Opening, OfTapes, files_of, FailsUnopened, only_input}
+use Rattle.requests.specs.Output.{FailsOver}
 
 -- the tapes of some inputs were checked
 abbrev pub IsCheckedTo : Inputs → Known → Known → Status → Type 0

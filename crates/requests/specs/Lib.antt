@@ -1,12 +1,6 @@
 pub mod Attempt
 pub mod Checking
-pub mod Files
-pub mod Listening
-pub mod Loading
-pub mod Looking
-pub mod Probing
+pub mod Output
 pub mod Rehearsing
-pub mod Saving
 pub mod Showing
-pub mod System
 pub mod Typing

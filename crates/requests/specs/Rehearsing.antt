@@ -7,7 +7,8 @@ use Rattle.endings.specs.declared.status.Status.{Status}
 use Rattle.endings.specs.declared.status.Status.TheVariants.{Done}
 use Rattle.endings.specs.Streams.{Held}
 use Rattle.input_files.specs.Opening.{Name}
-use Rattle.requests.specs.Files.{Known, Inputs, Opening, AreOpened, OfInputs, FailsUnopened, HasFault, FailsAtFlush, means_input, only_input}
+use Rattle.machine_requests.specs.Files.{Known, Inputs, Opening, AreOpened, OfInputs, FailsUnopened, HasFault, means_input, only_input}
+use Rattle.requests.specs.Output.{FailsAtFlush}
 
 -- a script's file held something, and it was rehearsed with the tapes
 pub record IsRehearsedInto (inputs : Inputs) (out out' : Known) : Type 0 where

@@ -7,9 +7,10 @@ use Rattle.endings.specs.declared.failure.Failure.{Failure}
 use Rattle.endings.specs.declared.status.Status.{Status}
 use Rattle.endings.specs.Status.{end_status}
 use Rattle.endings.specs.Streams.{Held}
-use Rattle.requests.specs.declared.request.Console.{Console}
 use Rattle.input_files.specs.Opening.{Name}
-use Rattle.requests.specs.Files.{Known, Inputs, Opening, OfTapes, files_of, FailsUnopened, FailsOver, only_input}
+use Rattle.machine_requests.specs.Files.{Known, Inputs, Opening, OfTapes, files_of, FailsUnopened, only_input}
+use Rattle.requests.specs.declared.request.Console.{Console}
+use Rattle.requests.specs.Output.{FailsOver}
 
 -- a console, and the start in place of the tape's
 abbrev pub Stage : Type 0

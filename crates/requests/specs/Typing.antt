@@ -6,8 +6,9 @@ use Rattle.rehearsals.specs.Rehearsal.{machine_of}
 use Rattle.endings.specs.declared.failure.Failure.{Failure}
 use Rattle.endings.specs.declared.failure.Failure.TheVariants.{TooLarge, NoMemory}
 use Rattle.endings.specs.Streams.{Held}
+use Rattle.machine_requests.specs.Files.{HasFault}
 use Rattle.requests.specs.declared.request.Console.{Console}
-use Rattle.requests.specs.Files.{HasFault, FailsAtFlush}
+use Rattle.requests.specs.Output.{FailsAtFlush}
 
 -- the machine that a console types into, before its first key
 abbrev pub zeroed : Console → Machine

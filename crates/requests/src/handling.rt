@@ -2,21 +2,17 @@
 ghost use Rattle.std.specs.Prelude.{◌≡◌, IfOk, IfErr};
 ghost use Rattle.std.specs.Mem.{FitsInMemory};
 ghost use Rattle.endings.specs.Streams.{held};
+ghost use Rattle.machine_requests.specs.System.{asked_of};
 ghost use Rattle.requests.specs.Attempt.{IsDone, IsFailed, IsAttempted};
-ghost use Rattle.requests.specs.System.{asked_of};
 
 use crate::checking::{check_input, check_tapes};
-use crate::loading::load_tapes;
-use crate::probing::probe_console;
 use crate::rehearsing::rehearse;
 use crate::request::Request;
-use crate::saving::save_words;
 use crate::showing::show_dialogue;
-use crate::system::{Outside, System};
 use crate::typing::type_input;
-use crate::verifying::verify_tapes;
 use endings::{Failure, FaultOutput, Output, Status, Streams, tell_unless_unheard};
 use input_files::InputFiles;
+use machine_requests::{Outside, System, load_tapes, probe_console, save_words, verify_tapes};
 use record_file::Disk;
 use serial_line::DeviceOpening;
 use std::alloc::Global;

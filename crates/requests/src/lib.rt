@@ -3,29 +3,21 @@
 //! A `Request` names a command, its files and its options. `attempt` does it in a `System`, and answers the exit
 //! status; where it can't be done, one line on standard error says why, by the name of the file that
 //! was at fault. Each command's own contract stands in its crate: `tape_check`, `console_typing`,
-//! `rehearsals`, `machine_load`, `machine_look`, `machine_probe`. Which status and which line an end or
-//! a fault becomes stands in `endings`.
+//! `rehearsals`; what is asked of a real machine in `machine_requests`, and passed on from there. Which status
+//! and which line an end or a fault becomes stands in `endings`.
 //!
 //! The program `ldaodt` makes the request of the words of its command line.
 #![tactic(auto)]
 
 mod checking;
 mod handling;
-mod host;
-mod listening;
-mod loading;
 mod names;
 mod output;
-mod planning;
-mod probing;
 mod rehearsing;
 mod request;
-mod saving;
 mod showing;
-mod system;
 mod typing;
-mod verifying;
 
 pub use handling::attempt;
-pub use request::{Console, Load, Look, Probe, Request, Save};
-pub use system::{Outside, SharedSystem, System};
+pub use machine_requests::{Load, Look, Outside, Probe, Save, SharedSystem, System};
+pub use request::{Console, Request};

@@ -1,16 +1,8 @@
 //! The names of tapes.
 ghost use Rattle.std.specs.Prelude.{◌≡◌, ◌∷◌, IfOk, IfErr};
-ghost use Rattle.requests.specs.Files.{means_input};
 
 use endings::Failure;
 use std::alloc::Global;
-
-/// Whether the names of tapes mean standard input: it has one, and that is `-`.
-pub(crate) fn is_input(names: &[&str]) -> bool
-    ensures { result ≡ means_input names.now }
-{
-    names.len() == 1 && *names[0] == *"-"
-}
 
 /// The names of all tapes, in order.
 pub(crate) fn joined<'a>(

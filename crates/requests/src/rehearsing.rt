@@ -2,7 +2,7 @@
 ghost use Rattle.std.specs.Prelude.{◌≡◌, ◌⊎◌, ◌∷◌, [], IfOk, IfErr};
 ghost use Rattle.std.specs.Mem.{FitsInMemory};
 ghost use Rattle.endings.specs.Streams.{held};
-ghost use Rattle.requests.specs.Files.{means_input, opening_between, AreOpened, FailsUnopened, IsUnopened, OfFiles};
+ghost use Rattle.machine_requests.specs.Files.{means_input, opening_between, AreOpened, FailsUnopened, IsUnopened, OfFiles};
 ghost use Rattle.requests.specs.Rehearsing.{AreRehearsed, AreUnrehearsed, IsInputRehearsed, IsInputUnrehearsed, IsRehearsalFailure, IsRehearsedInto};
 
 use crate::names::joined;

@@ -1,7 +1,4 @@
-ghost use Rattle.reading_core.specs.Addresses.{IsAddress};
-
-use machine_load::LoadOptions;
-use machine_look::AddressRange;
+use machine_requests::{Load, Look, Probe, Save};
 use odt_machine::Style;
 use tape_image::Start;
 
@@ -68,63 +65,4 @@ pub struct Console {
 
     /// What its answers look like.
     pub style: Style,
-}
-
-/// A load into a real machine.
-#[derive(Clone, Copy, Debug, PartialEq, Eq)]
-pub struct Load<'a> {
-    /// The line to the console: the path of a device, which has a slash, or HOST:PORT.
-    pub line: &'a str,
-
-    /// The record's file, where there is to be one.
-    pub record: Option<&'a str>,
-
-    /// How the load is to go about it.
-    pub options: LoadOptions,
-
-    /// The start in place of the tape's.
-    pub start: Start,
-
-    /// How many seconds of silence end the listening behind the load, where there is to be any.
-    pub listen: Option<u16>,
-
-    /// The quiet time in milliseconds.
-    pub quiet_ms: u32,
-}
-
-/// A look at a real machine.
-#[derive(Clone, Copy, Debug, PartialEq, Eq)]
-pub struct Look<'a> {
-    /// The line to the console: the path of a device, which has a slash, or HOST:PORT.
-    pub line: &'a str,
-
-    /// How many mishaps the host survives.
-    pub patience: u32,
-
-    /// The quiet time in milliseconds.
-    pub quiet_ms: u32,
-}
-
-/// A save of what a real machine holds.
-#[derive(Clone, Copy, Debug, PartialEq, Eq)]
-pub struct Save<'a> {
-    /// The words that are read.
-    pub range: AddressRange,
-
-    /// The start address of the tape; an odd one starts nothing.
-    pub start: u16,
-
-    /// How the machine is looked at.
-    pub look: Look<'a>,
-}
-
-/// A probe of a real machine's console.
-#[derive(Clone, Copy, Debug, PartialEq, Eq)]
-pub struct Probe<'a> {
-    /// The address of the word that is tried: even, and below 160000 (octal).
-    pub address: u16,
-
-    /// How the machine is looked at.
-    pub look: Look<'a>,
-    ghost in_memory: { IsAddress address },
 }

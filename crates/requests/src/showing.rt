@@ -2,14 +2,14 @@
 ghost use Rattle.std.specs.Prelude.{◌≡◌, ◌⊎◌, IfOk, IfErr};
 ghost use Rattle.std.specs.Mem.{FitsInMemory};
 ghost use Rattle.endings.specs.Streams.{held};
-ghost use Rattle.requests.specs.Files.{inputs_of, opening_between, AreOpened, IsUnopened, OfFiles};
+ghost use Rattle.machine_requests.specs.Files.{inputs_of, opening_between, AreOpened, IsUnopened, OfFiles};
 ghost use Rattle.requests.specs.Showing.{AreShown, AreUnshown, IsInputShown, IsInputUnshown, IsShowingFailure, IsShownTo};
 
-use crate::names::is_input;
 use crate::output::flushed;
 use crate::request::Console;
 use endings::{Failure, FaultOutput, STANDARD_INPUT, Status, Streams};
 use input_files::{InputFiles, open_all};
+use machine_requests::is_input;
 use rehearsals::dialogue_to;
 use std::alloc::Global;
 use std::io::{Read, Write};

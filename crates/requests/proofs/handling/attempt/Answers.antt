@@ -3,7 +3,7 @@ use Rattle.endings.specs.Failure.{is_unheard, IsToldUnless}
 use Rattle.endings.specs.FaultOutput.{standard_error}
 use Rattle.endings.specs.Streams.{held}
 use Rattle.requests.specs.Attempt.{IsFailed}
-use Rattle.requests.specs.System.{asked_of}
+use Rattle.machine_requests.specs.System.{asked_of}
 use Rattle.requests.proofs.Whatever.{failed_whatever}
 use Rattle.requests.proofs.handling.attempt.Goals as goal
 

@@ -1,7 +1,7 @@
 use Rattle.std.proofs.Common.{◌≡◌, ◌∷◌, [], ◌∙◌, List, if◌then◌else◌, true, false, inl, inr, refl, sym, subst, ⊎_elim}
 use Rattle.std.proofs.lemmas.Result.{IfErr-weaker, IfOk-weaker}
 use Rattle.input_files.specs.Opening.{Name}
-use Rattle.requests.specs.Files.{AreOpened, IsUnopened, means_input, opening_between}
+use Rattle.machine_requests.specs.Files.{AreOpened, IsUnopened, means_input, opening_between}
 use Rattle.requests.specs.Rehearsing.{opened_files}
 use Rattle.requests.proofs.rehearsing.rehearse.Goals as goal
 

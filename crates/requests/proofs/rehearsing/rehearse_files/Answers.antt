@@ -2,10 +2,10 @@ use Rattle.std.proofs.Common.{◌∷◌, ◌∙◌, inl, inr, refl, subst, sym, 
 use Rattle.std.proofs.KnownBytes.{Appends-kept}
 use Rattle.std.proofs.lemmas.Result.{IfOk-weaker, IfErr-weaker}
 use Rattle.endings.specs.Failure.{IsFailureOf}
-use Rattle.requests.specs.Files.{IsUnopened}
+use Rattle.machine_requests.specs.Files.{IsUnopened}
 use Rattle.requests.specs.Rehearsing.{IsRehearsedInto, IsRehearsalFailure}
-use Rattle.requests.proofs.Errors.{error_is}
-use Rattle.requests.proofs.Tapes.{of_files, opened_in_vain}
+use Rattle.machine_requests.proofs.Errors.{error_is}
+use Rattle.machine_requests.proofs.Tapes.{of_files, opened_in_vain}
 use Rattle.requests.proofs.rehearsing.rehearse_files.Goals as goal
 
 pub returns-in_err-tapes-clause-err : goal.returns-in_err-tapes-clause-err

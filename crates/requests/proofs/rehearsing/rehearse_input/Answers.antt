@@ -1,7 +1,7 @@
 use Rattle.std.proofs.Common.{◌≡◌, ◌∷◌, [], ◌∙◌, map, inl, inr, ap, refl}
 use Rattle.std.proofs.KnownBytes.{Appends-kept}
 use Rattle.std.proofs.lemmas.Result.{IfOk-weaker, IfErr-weaker}
-use Rattle.requests.proofs.Errors.{error_is}
+use Rattle.machine_requests.proofs.Errors.{error_is}
 use Rattle.requests.proofs.OneInput.{only_input}
 use Rattle.requests.proofs.rehearsing.rehearse_input.Goals as goal
 

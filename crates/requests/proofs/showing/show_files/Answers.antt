@@ -1,7 +1,7 @@
 use Rattle.std.proofs.Common.{◌∙◌, length, inl, inr, ap, refl}
 use Rattle.std.proofs.lemmas.Result.{IfErr-weaker, IfOk-weaker}
-use Rattle.requests.proofs.Errors.{error_is}
-use Rattle.requests.proofs.Tapes.{of_files}
+use Rattle.machine_requests.proofs.Errors.{error_is}
+use Rattle.machine_requests.proofs.Tapes.{of_files}
 use Rattle.requests.proofs.showing.show_files.Goals as goal
 
 pub returns-in_err-files-clause-err : goal.returns-in_err-files-clause-err

@@ -1,0 +1,4 @@
+pub mod Errors
+pub mod Loaded
+pub mod Saved
+pub mod Tapes

@@ -1,0 +1,106 @@
+-- The files that a request names, and what they held. What a file holds is not told by its type; so these say that there are bytes that
+-- the files held.
+use Rattle.std.specs.Prelude.{◌≡◌, ◌⊎◌, ℕ, Bool, true, false, nat_eq, if◌then◌else◌, List, [], ◌∷◌, length, map}
+use Rattle.std.specs.Prelude.{Option, Some, None, codes}
+use Rattle.std.specs.Cmp.Lexicographic.{pointwise}
+use Rattle.tape_image.specs.Plan.{PlanValue, plan_of_all}
+use Rattle.command_io.specs.declared.fault.CommandFault.{CommandFault}
+use Rattle.command_io.specs.Tapes.{TapeText, AreTaken, AreTapesFault, tapes_of}
+use Rattle.endings.specs.declared.failure.Failure.{Failure}
+use Rattle.endings.specs.Failure.{IsFailureOf}
+use Rattle.endings.specs.Streams.{Held}
+use Rattle.input_files.specs.Opening.{Name, InputStep, AreTried, HasOpened}
+
+-- what a reader has left or a writer holds, as far as its type tells
+abbrev pub Known : Type 0
+Known = Option (List ℕ)
+
+-- some inputs: the names by which faults call them, what each held, and what is left of it
+pub record Inputs : Type 0 where
+  pub names : List Name
+  pub held : List Known
+  pub rests : List Known
+
+-- inputs of these names, by what each reader had left and has left
+abbrev pub inputs_of : {R : Type 0} → List Name → (R → Known) → List R → List R → Inputs
+inputs_of names remaining old new = record { names = names; held = map remaining old; rests = map remaining new }
+
+-- standard input as the only input: it has no name
+abbrev pub only_input : Known → Known → Inputs
+only_input input input' = record { names = []; held = input ∷ []; rests = input' ∷ [] }
+
+-- which files were opened so far, and which by then, each where the system tells
+pub record Opening : Type 0 where
+  pub before : Option (List InputStep)
+  pub after : Option (List InputStep)
+
+abbrev pub opening_between : Option (List InputStep) → Option (List InputStep) → Opening
+opening_between before after = record { before = before; after = after }
+
+-- the files of these names were opened, in this order, and no others
+abbrev pub AreOpened : Opening → List Name → Type 0
+AreOpened opening names = HasOpened opening.before opening.after (AreTried names None)
+
+-- one of them was not: of those before it each was, and none behind it was tried
+abbrev pub IsUnopened : Opening → List Name → Failure → Type 0
+IsUnopened opening names failure = HasOpened opening.before opening.after (AreTried names (Some failure))
+
+-- this is so of what the files of these names held and of what was left of it
+pub record OfFiles (names : List Name) (P : Inputs → Type 0) : Type 0 where
+  pub held : List Known
+  pub rests : List Known
+  pub one_each : length held ≡ length names
+  pub is_so : P (record { names = names; held = held; rests = rests })
+
+-- the names of tapes mean standard input: it has one, and that is `-`
+abbrev pub means_input : List Name → Bool
+means_input [] = false
+means_input (name ∷ []) = pointwise nat_eq name.now (codes "-")
+means_input (name ∷ (other ∷ names)) = false
+
+-- the files that the names of tapes stand for: none, where they mean standard input
+abbrev pub files_of : List Name → List Name
+files_of names = if means_input names then [] else names
+
+-- this is so of the tapes of these names: of standard input alone where they mean it, else of files, and then standard input is as it was
+abbrev pub OfInputs : List Name → Held → Held → (Inputs → Type 0) → Type 0
+OfInputs names before after P =
+    ((means_input names ≡ true) × P (only_input before.input after.input))
+    ⊎ ((means_input names ≡ false) × OfFiles names P × (after.input ≡ before.input))
+
+-- .. whose files were opened
+pub record OfTapes (opening : Opening) (names : List Name) (before after : Held) (P : Inputs → Type 0) : Type 0 where
+  pub opened : AreOpened opening (files_of names)
+  pub is_so : OfInputs names before after P
+
+-- one of these files can't be opened, or want of memory, with nothing read of standard input and nothing written
+pub record FailsUnopened (opening : Opening) (files : List Name) (before after : Held) (failure : Failure) : Type 0 where
+  pub unopened : IsUnopened opening files failure
+  pub nothing_read : after.input ≡ before.input
+  pub nothing_written : after.out ≡ before.out
+
+-- a command has this fault, and it fails so, where its tapes and its script have these names
+pub record HasFault (P : CommandFault → Type 0) (tapes : List Name) (script : List ℕ) (failure : Failure) : Type 0 where
+  pub fault : CommandFault
+  pub is_so : P fault
+  pub is_called : IsFailureOf fault tapes script failure
+
+-- tapes were taken of the inputs, and this is the plan of all of them
+pub record IsPlanOf (inputs : Inputs) (plan : PlanValue) : Type 0 where
+  pub texts : List TapeText
+  pub taken : AreTaken inputs.held inputs.rests texts
+  pub plan_is : plan ≡ plan_of_all (tapes_of texts)
+
+-- no plan comes of the inputs: one is refused or can't be read, or want of memory
+abbrev pub FailsToPlan : Inputs → Failure → Type 0
+FailsToPlan inputs failure = HasFault (AreTapesFault inputs.held inputs.rests) inputs.names (codes "standard input") failure
+
+-- this is the plan of the tapes of these names
+abbrev pub IsPlanned : Opening → List Name → Held → Held → PlanValue → Type 0
+IsPlanned opening names before after plan = OfTapes opening names before after (λ inputs. IsPlanOf inputs plan)
+
+-- no plan comes of the tapes of these names, and nothing was written
+abbrev pub IsUnplanned : Opening → List Name → Held → Held → Failure → Type 0
+IsUnplanned opening names before after failure =
+    FailsUnopened opening (files_of names) before after failure
+    ⊎ (OfTapes opening names before after (λ inputs. FailsToPlan inputs failure) × (after.out ≡ before.out))

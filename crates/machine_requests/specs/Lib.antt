@@ -1,0 +1,7 @@
+pub mod Files
+pub mod Listening
+pub mod Loading
+pub mod Looking
+pub mod Probing
+pub mod Saving
+pub mod System

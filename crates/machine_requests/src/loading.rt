@@ -1,0 +1,307 @@
+//! Loading a real machine.
+ghost use Rattle.std.specs.Prelude.{◌≡◌, ◌⊎◌, IfOk, IfErr, IsSome};
+ghost use Rattle.std.specs.Mem.{FitsInMemory};
+ghost use Rattle.endings.specs.Failure.{IsStopFailure};
+ghost use Rattle.endings.specs.Status.{IsStopStatus};
+ghost use Rattle.endings.specs.Streams.{held};
+ghost use Rattle.machine_load.specs.Load.{IsNeverBegun};
+ghost use Rattle.machine_load.specs.RecordDisk.{DiskAsked};
+ghost use Rattle.machine_requests.specs.Files.{opening_between};
+ghost use Rattle.machine_requests.specs.Loading.{record_name, load_call, load_told, load_told_of, AreLoaded, AreUnloaded, AsksDisk};
+ghost use Rattle.machine_requests.specs.Loading.{IsEnded, IsEndFailure, IsPlanLoaded, IsPlanFailure};
+ghost use Rattle.machine_requests.specs.System.{outside_asked, NotElsewhere};
+
+use crate::host::Host;
+use crate::listening::listen_behind;
+use crate::planning::plan_tapes;
+use crate::request::Load;
+use crate::system::{Outside, System};
+use console_reach::{Port, Reach, Wire, is_path};
+use endings::{Failure, FaultOutput, Status, Streams};
+use input_files::InputFiles;
+use load_devices::{Line, Onlooker, Unwatched};
+use load_engine::Stop;
+use load_progress::ProgressLine;
+use machine_load::{Around, InMemory, Outcome, Surroundings, load};
+use record_file::{Disk, RecordFile};
+use serial_line::DeviceOpening;
+use std::alloc::Global;
+use std::io::{Print, Read, Write};
+use std::time::Clock;
+use stream_line::Dialling;
+use tape_image::Plan;
+
+/// Loads tapes, as one, into a real machine, in a system that comes back, and answers the exit status.
+///
+/// Tapes are opened in the order of their names and read whole before anything else is asked for; the name `-`,
+/// alone, is standard input. The start that is asked for stands in place of theirs. The report goes to standard
+/// output, and behind it what the machine prints, where listening is asked for and the program was started or
+/// may have been. A terminal, where there is one, shows how far the load is.
+///
+/// `CannotRead` names the tape or the record that can't be opened or read. It comes with nothing reported, as do
+/// `TapeRefused` and `OneTapeRefused`, for which no console and no record are asked for, `RecordInUse`,
+/// `RecordRefused` and `CannotConnect`, which leave the record as it was. `CannotWriteFile` is a record that can't
+/// be written: before the first key with nothing reported, later behind the report. `LineFailed` and
+/// `StartInDoubt` come behind the report. `CannotWrite` is a report, or what was heard, that could not be written
+/// whole. `NoMemory` comes only where a growth was refused, before the first key.
+///
+/// What is asked of the caller is only that a value of the input's type fits into memory, as each type of a
+/// program does.
+pub fn load_tapes<
+    'a,
+    'c,
+    F: InputFiles + Drop,
+    D: Disk + Drop,
+    N: Dialling + Drop,
+    V: DeviceOpening + Drop,
+    C: Clock,
+    R: Read,
+    W: Write,
+    E: FaultOutput,
+    T: Print,
+>(
+    mut system: System<F, Outside<'c, D, N, V, C>>,
+    alloc: Global,
+    names: &[&'a str],
+    load: Load<'a>,
+    streams: &mut Streams<R, W, E>,
+    terminal: Option<&T>,
+) -> (
+    System<F, Outside<'c, D, N, V, C>>,
+    Result<Status, Failure<'a>>,
+)
+    requires { FitsInMemory R.row }
+    ensures ok { IfOk result.1 (AreLoaded (opening_between (F.opened system.entry.inputs) (F.opened result.0.inputs)) names.now load.entry
+        (outside_asked D.asked N.asked V.asked system.entry.outside)
+        (outside_asked D.asked N.asked V.asked result.0.outside)
+        (held R.remaining W.contents E.contents E.failures streams.old)
+        (held R.remaining W.contents E.contents E.failures streams.new)) }
+    ensures err { IfErr result.1 (AreUnloaded (opening_between (F.opened system.entry.inputs) (F.opened result.0.inputs)) names.now load.entry
+        (outside_asked D.asked N.asked V.asked system.entry.outside)
+        (outside_asked D.asked N.asked V.asked result.0.outside)
+        (held R.remaining W.contents E.contents E.failures streams.old)
+        (held R.remaining W.contents E.contents E.failures streams.new)) }
+    ensures quiet { streams.new.err ≡ streams.old.err }
+{
+    let planned = match plan_tapes(&mut system.inputs, alloc, names, streams) {
+        Ok(plan) => plan,
+        Err(failure) => return (system, Err(failure)),
+    };
+    let plan = planned.starting(load.start);
+    let System { inputs, outside } = system;
+    let (outside, outcome) = load_shown(outside, alloc, plan, load, &mut streams.out, terminal);
+    (System { inputs, outside }, outcome)
+}
+
+// Loads a plan, and shows on a terminal how far that is, where there is one.
+fn load_shown<
+    'a,
+    'c,
+    D: Disk + Drop,
+    N: Dialling + Drop,
+    V: DeviceOpening + Drop,
+    C: Clock,
+    W: Write,
+    T: Print,
+>(
+    outside: Outside<'c, D, N, V, C>,
+    alloc: Global,
+    plan: Plan,
+    load: Load<'a>,
+    out: &mut W,
+    terminal: Option<&T>,
+) -> (Outside<'c, D, N, V, C>, Result<Status, Failure<'a>>)
+    ensures ok { IfOk result.1 (IsPlanLoaded plan load.entry (load_call load.entry)
+        (AsksDisk load.entry.record (D.asked outside.entry.disk) (D.asked result.0.disk))
+        (load_told_of load.entry (outside_asked D.asked N.asked V.asked outside.entry) (W.contents out.old))
+        (load_told_of load.entry (outside_asked D.asked N.asked V.asked result.0) (W.contents out.new))) }
+    ensures err { IfErr result.1 (IsPlanFailure plan load.entry (load_call load.entry)
+        (AsksDisk load.entry.record (D.asked outside.entry.disk) (D.asked result.0.disk))
+        (load_told_of load.entry (outside_asked D.asked N.asked V.asked outside.entry) (W.contents out.old))
+        (load_told_of load.entry (outside_asked D.asked N.asked V.asked result.0) (W.contents out.new))) }
+    ensures not_elsewhere { NotElsewhere load.entry.line.now
+        (outside_asked D.asked N.asked V.asked outside.entry)
+        (outside_asked D.asked N.asked V.asked result.0) }
+{
+    match terminal {
+        Some(terminal) => {
+            let onlooker = &ProgressLine::new(outside.clock, terminal);
+            load_plan(&Host { alloc, onlooker }, outside, plan, load, out)
+        }
+        None => {
+            let onlooker = &Unwatched;
+            load_plan(&Host { alloc, onlooker }, outside, plan, load, out)
+        }
+    }
+}
+
+// Loads a plan through a device or a port, by what the line's name is.
+fn load_plan<
+    'a,
+    'c,
+    D: Disk + Drop,
+    N: Dialling + Drop,
+    V: DeviceOpening + Drop,
+    C: Clock,
+    O: Onlooker,
+    W: Write,
+>(
+    host: &Host<'_, O>,
+    outside: Outside<'c, D, N, V, C>,
+    plan: Plan,
+    load: Load<'a>,
+    out: &mut W,
+) -> (Outside<'c, D, N, V, C>, Result<Status, Failure<'a>>)
+    ensures ok { IfOk result.1 (IsPlanLoaded plan load.entry (load_call load.entry)
+        (AsksDisk load.entry.record (D.asked outside.entry.disk) (D.asked result.0.disk))
+        (load_told_of load.entry (outside_asked D.asked N.asked V.asked outside.entry) (W.contents out.old))
+        (load_told_of load.entry (outside_asked D.asked N.asked V.asked result.0) (W.contents out.new))) }
+    ensures err { IfErr result.1 (IsPlanFailure plan load.entry (load_call load.entry)
+        (AsksDisk load.entry.record (D.asked outside.entry.disk) (D.asked result.0.disk))
+        (load_told_of load.entry (outside_asked D.asked N.asked V.asked outside.entry) (W.contents out.old))
+        (load_told_of load.entry (outside_asked D.asked N.asked V.asked result.0) (W.contents out.new))) }
+    ensures not_elsewhere { NotElsewhere load.entry.line.now
+        (outside_asked D.asked N.asked V.asked outside.entry)
+        (outside_asked D.asked N.asked V.asked result.0) }
+{
+    let Outside {
+        disk,
+        network,
+        devices,
+        clock,
+    } = outside;
+    let (path, quiet_ms) = (load.line, load.quiet_ms);
+    if is_path(path) {
+        let wire = Wire {
+            devices,
+            clock,
+            path,
+            quiet_ms,
+        };
+        let (wire, disk, outcome) = load_through(host, plan, load, wire, disk, out);
+        let devices = wire.devices;
+        let outside = Outside {
+            disk,
+            network,
+            devices,
+            clock,
+        };
+        (outside, outcome)
+    } else {
+        let port = Port {
+            net: network,
+            address: path,
+            quiet_ms,
+        };
+        let (port, disk, outcome) = load_through(host, plan, load, port, disk, out);
+        let network = port.net;
+        let outside = Outside {
+            disk,
+            network,
+            devices,
+            clock,
+        };
+        (outside, outcome)
+    }
+}
+
+// Loads a plan through a console, with a record in a file or in memory alone. Console and disk come back.
+fn load_through<'a, O: Onlooker, C: Reach + Drop, D: Disk + Drop, W: Write>(
+    host: &Host<'_, O>,
+    plan: Plan,
+    load: Load<'a>,
+    console: C,
+    disk: D,
+    out: &mut W,
+) -> (C, D, Result<Status, Failure<'a>>)
+    ensures ok { IfOk result.2 (IsPlanLoaded plan load.entry (C.call console) (AsksDisk load.entry.record (D.asked disk) (D.asked result.1))
+        (load_told C.asked W.contents console out.old)
+        (load_told C.asked W.contents result.0 out.new)) }
+    ensures err { IfErr result.2 (IsPlanFailure plan load.entry (C.call console) (AsksDisk load.entry.record (D.asked disk) (D.asked result.1))
+        (load_told C.asked W.contents console out.old)
+        (load_told C.asked W.contents result.0 out.new)) }
+{
+    match load.record {
+        Some(name) => {
+            let records = RecordFile::new(disk, name);
+            let mut around = Around { console, records };
+            let outcome = load_with(host, plan, load, &mut around, out);
+            let Around { console, records } = around;
+            (console, records.close(), outcome)
+        }
+        None => {
+            let records = InMemory;
+            let mut around = Around { console, records };
+            let outcome = load_with(host, plan, load, &mut around, out);
+            (around.console, disk, outcome)
+        }
+    }
+}
+
+// Loads a plan in these surroundings.
+fn load_with<'a, O: Onlooker, S: Surroundings, W: Write>(
+    host: &Host<'_, O>,
+    plan: Plan,
+    request: Load<'a>,
+    around: &mut S,
+    out: &mut W,
+) -> Result<Status, Failure<'a>>
+    ensures ok { IfOk result (IsPlanLoaded plan request.entry (S.call around.old) (DiskAsked (S.disk around.old) (S.disk around.new))
+        (load_told S.asked W.contents around.old out.old)
+        (load_told S.asked W.contents around.new out.new)) }
+    ensures err { IfErr result (IsPlanFailure plan request.entry (S.call around.old) (DiskAsked (S.disk around.old) (S.disk around.new))
+        (load_told S.asked W.contents around.old out.old)
+        (load_told S.asked W.contents around.new out.new)) }
+{
+    match load(
+        host.alloc,
+        plan,
+        request.options,
+        around,
+        out,
+        host.onlooker,
+    ) {
+        Ok(outcome) => end(request, outcome, out),
+        Err(fault) => Err(Failure::of_load(fault, request.line, record_name(request.record))),
+    }
+}
+
+// What comes behind the report of a load: listening, where it is asked for, and then the status.
+fn end<'a, L: Line + Drop, W: Write>(
+    load: Load<'a>,
+    outcome: Outcome<L>,
+    out: &mut W,
+) -> Result<Status, Failure<'a>>
+    requires { IsSome outcome.line ⊎ IsNeverBegun outcome.stop }
+    ensures ok { IfOk result (IsEnded load.entry outcome.stop (W.contents out.old) (W.contents out.new)) }
+    ensures err { IfErr result (IsEndFailure load.entry outcome.stop outcome.marked (W.contents out.old) (W.contents out.new)) }
+{
+    let Outcome { stop, marked, line } = outcome;
+    let status = status_after(stop, marked, record_name(load.record))?;
+    listen_behind(load, stop, line, out)?;
+    Ok(status)
+}
+
+// What the program ends with after a load that stopped so and was reported.
+fn status_after(stop: Stop, marked: bool, file: &str) -> Result<Status, Failure<'_>>
+    ensures status { IfOk result (IsStopStatus stop) }
+    ensures failure { IfErr result (IsStopFailure stop marked file.entry.now) }
+{
+    match stop {
+        Stop::Ended(end) => Ok(Status::of_end(end)),
+        Stop::LineFailed(_) if marked => Err(Failure::StartInDoubt),
+        Stop::LineFailed(_) => Err(Failure::LineFailed),
+        Stop::KeepFailed(_) => Err(Failure::CannotWriteFile(file)),
+        Stop::TurnsOver => Ok(Status::NotLoaded),
+    }
+}
+
+// What faults call the record.
+fn record_name<'a>(file: Option<&'a str>) -> &'a str
+    ensures { result.now ≡ record_name file.entry }
+{
+    match file {
+        Some(name) => name,
+        None => "the record in memory",
+    }
+}

@@ -1,5 +1,5 @@
 -- Tapes on standard input and in files.
-use Rattle.std.proofs.Common.{◌≡◌, ◌∙◌, ◌++◌, List, [], Option, Some, None, map, length, true, false, if◌then◌else◌, inl, inr, sym, subst, append-nil}
+use Rattle.std.proofs.Common.{◌≡◌, ◌∙◌, List, [], Option, Some, map, length, true, false, if◌then◌else◌, inl, inr, sym, subst, append-nil}
 use Rattle.std.proofs.lemmas.List.{length-map}
 use Rattle.record_file.proofs.Asking.{tells_none}
 use Rattle.endings.specs.declared.failure.Failure.{Failure}
@@ -7,7 +7,7 @@ use Rattle.endings.specs.declared.failure.Failure.TheVariants.{NoMemory}
 use Rattle.endings.specs.Streams.{Held}
 use Rattle.input_files.specs.Opening.{Name, InputStep, AreTried, AllOpen, HasOpened}
 use Rattle.input_files.proofs.Tried.{no_room}
-use Rattle.machine_requests.specs.Files.{Known, Inputs, Opening, AreOpened, IsUnopened, FailsUnopened, OfFiles, OfInputs, OfTapes, files_of, inputs_of, means_input, only_input, opening_between}
+use Rattle.machine_requests.specs.Files.{Known, Inputs, Opening, AreOpened, IsUnopened, FailsUnopened, OfFiles, OfTapes, files_of, inputs_of, means_input, only_input, opening_between}
 
 pub of_files : {X : Type 0} (known : X → Known) (names : List Name) (files now : List X) (P : Inputs → Type 0) → length files ≡ length names → P (inputs_of names known files now) → OfFiles names P
 of_files known names files now P count is = record { held = map known files; rests = map known now; one_each = length-map files known ∙ count; is_so = is }

@@ -1,4 +1,4 @@
-use Rattle.std.proofs.Common.{IfOk, IfErr, ap, refl, sym, subst, option_map, Some, None}
+use Rattle.std.proofs.Common.{IfOk, IfErr, ap, refl, sym, subst, option_map}
 use Rattle.std.proofs.lemmas.Result.{IfOk-weaker, IfErr-weaker}
 use Rattle.machine_load.specs.RecordDisk.{RecordDisk}
 use Rattle.record_file.specs.Taking.{kind_of}

@@ -1,4 +1,4 @@
-use Rattle.std.proofs.Common.{◌∙◌, length, inl, inr, ap, refl}
+use Rattle.std.proofs.Common.{◌∙◌, length, inl, inr, ap}
 use Rattle.std.proofs.lemmas.Result.{IfErr-weaker, IfOk-weaker}
 use Rattle.machine_requests.proofs.Errors.{error_is}
 use Rattle.machine_requests.proofs.Tapes.{of_files}

@@ -1,3 +1,4 @@
+pub mod Errand
 pub mod Files
 pub mod Listening
 pub mod Loading

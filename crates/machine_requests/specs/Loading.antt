@@ -1,5 +1,5 @@
 -- What becomes of a request to load a real machine.
-use Rattle.std.specs.Prelude.{◌≡◌, ◌⊎◌, ⊤, ℕ, Bool, List, Option, Some, None, IsSome, codes}
+use Rattle.std.specs.Prelude.{◌≡◌, ◌⊎◌, ⊤, ℕ, Bool, List, Option, Some, None, IsSome, Result, IfOk, IfErr, codes}
 use Rattle.tape_image.specs.Plan.{PlanValue, starting}
 use Rattle.load_engine.specs.declared.stop.Stop.{Stop}
 use Rattle.load_devices.specs.Told.{Gains}
@@ -19,6 +19,7 @@ use Rattle.endings.specs.Status.{IsStopStatus}
 use Rattle.endings.specs.Streams.{Held}
 use Rattle.machine_requests.specs.declared.request.Load.{Load as LoadRequest}
 use Rattle.input_files.specs.Opening.{Name}
+use Rattle.machine_requests.specs.Errand.{Told}
 use Rattle.machine_requests.specs.Files.{Known, Opening, IsPlanned, IsUnplanned}
 use Rattle.machine_requests.specs.System.{OutsideAsked, NotElsewhere, asked_towards, call_to}
 use Rattle.machine_requests.specs.Listening.{IsListenedTo, IsHeardInPart, seconds_of, quiet_time}
@@ -113,6 +114,15 @@ pub record IsLoadCutShort (plan : PlanValue) (load : LoadRequest) (call : Call) 
 abbrev pub IsPlanFailure : PlanValue → LoadRequest → Call → SaidOfDisk → LoadTold → LoadTold → Failure → Type 0
 IsPlanFailure plan load call on_disk before after failure =
     IsLoadCutShort plan load call on_disk before after failure ⊎ IsLoadBroken plan load call on_disk before after failure
+
+-- what an errand at a console is told of its load
+abbrev pub load_part : Told → LoadTold
+load_part told = record { asked = told.asked; out = told.out }
+
+-- what a load of this plan came to, with its record on the disk or in memory alone: it was done, or it failed
+pub record IsLoadOver (plan : PlanValue) (load : LoadRequest) (call : Call) (before after : Told) (outcome : Result Status Failure) : Type 0 where
+  pub ok : IfOk outcome (IsPlanLoaded plan load call (AsksDisk load.record before.disk after.disk) (load_part before) (load_part after))
+  pub err : IfErr outcome (IsPlanFailure plan load call (AsksDisk load.record before.disk after.disk) (load_part before) (load_part after))
 
 -- the tapes of these names were loaded, as one, with the start that is asked for, at the console that is named, and no other was asked for
 pub record AreLoaded (opening : Opening) (names : List Name) (load : LoadRequest) (asked asked' : OutsideAsked) (before after : Held) (status : Status)

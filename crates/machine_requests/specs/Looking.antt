@@ -1,11 +1,12 @@
 -- What becomes of a request to look at a real machine.
-use Rattle.std.specs.Prelude.{◌≡◌, ◌⊎◌, List, Ok, Err}
+use Rattle.std.specs.Prelude.{◌≡◌, ◌⊎◌, List, Result, Ok, Err, IfOk, IfErr}
 use Rattle.tape_image.specs.Plan.{PlanValue}
 use Rattle.machine_look.specs.Look.{LookTold}
 use Rattle.machine_look.specs.LookFault.{IsVerifyFault}
 use Rattle.machine_look.specs.Verify.{IsReported}
 use Rattle.machine_look.specs.declared.look_fault.LookFault.{LookFault}
 use Rattle.machine_look.specs.declared.verify_end.VerifyEnd.{VerifyEnd}
+use Rattle.stream_line.specs.Dialling.{Call}
 use Rattle.endings.specs.declared.failure.Failure.{Failure}
 use Rattle.endings.specs.declared.status.Status.{Status}
 use Rattle.endings.specs.Failure.{IsLookFailureOf}
@@ -13,6 +14,7 @@ use Rattle.endings.specs.Status.{after_verify}
 use Rattle.endings.specs.Streams.{Held}
 use Rattle.machine_requests.specs.declared.request.Look.{Look}
 use Rattle.input_files.specs.Opening.{Name}
+use Rattle.machine_requests.specs.Errand.{Told}
 use Rattle.machine_requests.specs.Files.{Known, Opening, IsPlanned, IsUnplanned}
 use Rattle.machine_requests.specs.System.{OutsideAsked, AsksConsoleAlone, asked_towards, call_to}
 
@@ -35,6 +37,16 @@ abbrev pub IsVerifyFailure : PlanValue → Look → LookTold → LookTold → Fa
 IsVerifyFailure plan look before after failure =
     IsVerifyCutShort plan look before after failure
     ⊎ ((end : VerifyEnd) × IsReported plan look.patience before after end × (after_verify end ≡ Err failure))
+
+-- what an errand at the console of a call is told of its look
+abbrev pub look_part : Call → Told → LookTold
+look_part call told = record { asked = told.asked; call = call; out = told.out }
+
+-- what a look for a plan came to, with nothing asked of the disk: memory was looked at, or that failed
+pub record IsLookOver (plan : PlanValue) (look : Look) (call : Call) (before after : Told) (outcome : Result Status Failure) : Type 0 where
+  pub ok : IfOk outcome (IsPlanVerified plan look (look_part call before) (look_part call after))
+  pub err : IfErr outcome (IsVerifyFailure plan look (look_part call before) (look_part call after))
+  pub no_disk : after.disk ≡ before.disk
 
 -- memory was looked at for the tapes of these names, as one, at the console that is named, and no other was asked for
 pub record AreVerified (opening : Opening) (names : List Name) (look : Look) (asked asked' : OutsideAsked) (before after : Held) (status : Status)

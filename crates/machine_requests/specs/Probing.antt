@@ -1,16 +1,18 @@
 -- What becomes of a request to probe a console.
-use Rattle.std.specs.Prelude.{◌⊎◌, ◌≡◌, Ok, Err}
+use Rattle.std.specs.Prelude.{◌⊎◌, ◌≡◌, Result, Ok, Err, IfOk, IfErr}
 use Rattle.probe_report.specs.declared.probe_end.ProbeEnd.{ProbeEnd}
 use Rattle.machine_probe.specs.Probe.{IsReported, ProbeTold}
 use Rattle.machine_probe.specs.ProbeFault.{IsProbeFault}
 use Rattle.machine_probe.specs.declared.probe_fault.ProbeFault.{ProbeFault}
 use Rattle.machine_probe.specs.declared.probe_options.ProbeOptions.{ProbeOptions}
+use Rattle.stream_line.specs.Dialling.{Call}
 use Rattle.endings.specs.declared.failure.Failure.{Failure}
 use Rattle.endings.specs.declared.status.Status.{Status}
 use Rattle.endings.specs.Failure.{IsProbeFailureOf}
 use Rattle.endings.specs.Status.{after_probe}
 use Rattle.endings.specs.Streams.{Held}
 use Rattle.machine_requests.specs.declared.request.Probe.{Probe}
+use Rattle.machine_requests.specs.Errand.{Told}
 use Rattle.machine_requests.specs.Files.{Known}
 use Rattle.machine_requests.specs.System.{Asked, AsksConsoleAlone, OutsideAsked, asked_towards, call_to}
 
@@ -41,6 +43,16 @@ abbrev pub IsProbeFailure : Probe → ProbeTold → ProbeTold → Failure → Ty
 IsProbeFailure request before after failure =
     IsProbeCutShort request before after failure
     ⊎ ((end : ProbeEnd) × IsReported (probe_options request) before after end × (after_probe end ≡ Err failure))
+
+-- what an errand at the console of a call is told of its probe
+abbrev pub probe_part : Call → Told → ProbeTold
+probe_part call told = record { asked = told.asked; call = call; out = told.out }
+
+-- what a probe came to, with nothing asked of the disk: the console was probed, or that failed
+pub record IsProbeDone (request : Probe) (call : Call) (before after : Told) (outcome : Result Status Failure) : Type 0 where
+  pub ok : IfOk outcome (IsProbeOver request (probe_part call before) (probe_part call after))
+  pub err : IfErr outcome (IsProbeFailure request (probe_part call before) (probe_part call after))
+  pub no_disk : after.disk ≡ before.disk
 
 -- a console was probed, at the name that is given, and nothing else was asked or read
 pub record IsConsoleProbed (request : Probe) (asked asked' : Asked) (before after : Held) (status : Status) : Type 0 where

@@ -1,5 +1,5 @@
 -- What becomes of a request to save what a real machine holds.
-use Rattle.std.specs.Prelude.{◌≡◌, ◌⊎◌, List, ◌++◌, Option, None, Ok, Err}
+use Rattle.std.specs.Prelude.{◌≡◌, ◌⊎◌, List, ◌++◌, Option, None, Result, Ok, Err, IfOk, IfErr}
 use Rattle.record_file.specs.DiskStep.{DiskStep, HasAsked}
 use Rattle.machine_look.specs.LookFault.{IsSaveFault}
 use Rattle.machine_look.specs.Save.{IsSavedAndReported, SaveTold}
@@ -8,6 +8,7 @@ use Rattle.machine_look.specs.ShelfDisk.{ShelfDisk, IsClosed}
 use Rattle.machine_look.specs.declared.look_fault.LookFault.{LookFault}
 use Rattle.machine_look.specs.declared.save_end.SaveEnd.{SaveEnd}
 use Rattle.machine_look.specs.declared.saving.SaveOptions.{SaveOptions}
+use Rattle.stream_line.specs.Dialling.{Call}
 use Rattle.endings.specs.declared.failure.Failure.{Failure}
 use Rattle.endings.specs.declared.status.Status.{Status}
 use Rattle.endings.specs.Failure.{IsLookFailureOf}
@@ -15,6 +16,7 @@ use Rattle.endings.specs.Status.{after_save}
 use Rattle.endings.specs.Streams.{Held}
 use Rattle.input_files.specs.Opening.{Name}
 use Rattle.machine_requests.specs.declared.request.Save.{Save}
+use Rattle.machine_requests.specs.Errand.{Told}
 use Rattle.machine_requests.specs.Files.{Known}
 use Rattle.machine_requests.specs.System.{Asked, NotElsewhere, OutsideAsked, asked_towards, call_to}
 
@@ -72,6 +74,15 @@ pub record IsSaveCutShort (name : Name) (save : Save) (on_disk : SaidOfShelf) (b
 -- a save into a file of this name failed: it came to nothing, or it was reported and its line had failed
 abbrev pub IsSaveFailure : Name → Save → SaidOfShelf → SaveTold → SaveTold → Failure → Type 0
 IsSaveFailure name save on_disk before after failure = IsSaveCutShort name save on_disk before after failure ⊎ IsSaveBroken save on_disk before after failure
+
+-- what an errand at the console of a call is told of its save
+abbrev pub save_part : Call → Told → SaveTold
+save_part call told = record { steps = None; asked = told.asked; call = call; out = told.out }
+
+-- what a save into a file of this name came to: memory was read and saved, or that failed
+pub record IsSaveDone (name : Name) (save : Save) (call : Call) (before after : Told) (outcome : Result Status Failure) : Type 0 where
+  pub ok : IfOk outcome (IsSaveOver save (AsksForTape name before.disk after.disk) (save_part call before) (save_part call after))
+  pub err : IfErr outcome (IsSaveFailure name save (AsksForTape name before.disk after.disk) (save_part call before) (save_part call after))
 
 -- words were saved in a file of this name, of the console that is named, and no other was asked for, and no other file opened or read
 pub record AreWordsSaved (name : Name) (save : Save) (asked asked' : Asked) (before after : Held) (status : Status) : Type 0 where

@@ -7,16 +7,17 @@ ghost use Rattle.endings.specs.Streams.{held};
 ghost use Rattle.machine_load.specs.Load.{IsNeverBegun};
 ghost use Rattle.machine_load.specs.RecordDisk.{DiskAsked};
 ghost use Rattle.machine_requests.specs.Files.{opening_between};
-ghost use Rattle.machine_requests.specs.Loading.{record_name, load_call, load_told, load_told_of, AreLoaded, AreUnloaded, AsksDisk};
+ghost use Rattle.machine_requests.specs.Loading.{record_name, load_call, load_told, load_told_of, AreLoaded, AreUnloaded, AsksDisk, IsLoadOver};
 ghost use Rattle.machine_requests.specs.Loading.{IsEnded, IsEndFailure, IsPlanLoaded, IsPlanFailure};
 ghost use Rattle.machine_requests.specs.System.{outside_asked, NotElsewhere};
 
+use crate::errand::{Errand, run_at};
 use crate::host::Host;
 use crate::listening::listen_behind;
 use crate::planning::plan_tapes;
 use crate::request::Load;
 use crate::system::{Outside, System};
-use console_reach::{Port, Reach, Wire, is_path};
+use console_reach::Reach;
 use endings::{Failure, FaultOutput, Status, Streams};
 use input_files::InputFiles;
 use load_devices::{Line, Onlooker, Unwatched};
@@ -126,82 +127,38 @@ fn load_shown<
     match terminal {
         Some(terminal) => {
             let onlooker = &ProgressLine::new(outside.clock, terminal);
-            load_plan(&Host { alloc, onlooker }, outside, plan, load, out)
+            let host = Host { alloc, onlooker };
+            let errand = Loading { host, plan, load };
+            run_at(errand, outside, load.line, load.quiet_ms, out)
         }
         None => {
             let onlooker = &Unwatched;
-            load_plan(&Host { alloc, onlooker }, outside, plan, load, out)
+            let host = Host { alloc, onlooker };
+            let errand = Loading { host, plan, load };
+            run_at(errand, outside, load.line, load.quiet_ms, out)
         }
     }
 }
 
-// Loads a plan through a device or a port, by what the line's name is.
-fn load_plan<
-    'a,
-    'c,
-    D: Disk + Drop,
-    N: Dialling + Drop,
-    V: DeviceOpening + Drop,
-    C: Clock,
-    O: Onlooker,
-    W: Write,
->(
-    host: &Host<'_, O>,
-    outside: Outside<'c, D, N, V, C>,
+// A load of a plan, as an errand at a console.
+#[derive(Drop)]
+struct Loading<'o, 'a, O> {
+    host: Host<'o, O>,
     plan: Plan,
     load: Load<'a>,
-    out: &mut W,
-) -> (Outside<'c, D, N, V, C>, Result<Status, Failure<'a>>)
-    ensures ok { IfOk result.1 (IsPlanLoaded plan load.entry (load_call load.entry)
-        (AsksDisk load.entry.record (D.asked outside.entry.disk) (D.asked result.0.disk))
-        (load_told_of load.entry (outside_asked D.asked N.asked V.asked outside.entry) (W.contents out.old))
-        (load_told_of load.entry (outside_asked D.asked N.asked V.asked result.0) (W.contents out.new))) }
-    ensures err { IfErr result.1 (IsPlanFailure plan load.entry (load_call load.entry)
-        (AsksDisk load.entry.record (D.asked outside.entry.disk) (D.asked result.0.disk))
-        (load_told_of load.entry (outside_asked D.asked N.asked V.asked outside.entry) (W.contents out.old))
-        (load_told_of load.entry (outside_asked D.asked N.asked V.asked result.0) (W.contents out.new))) }
-    ensures not_elsewhere { NotElsewhere load.entry.line.now
-        (outside_asked D.asked N.asked V.asked outside.entry)
-        (outside_asked D.asked N.asked V.asked result.0) }
-{
-    let Outside {
-        disk,
-        network,
-        devices,
-        clock,
-    } = outside;
-    let (path, quiet_ms) = (load.line, load.quiet_ms);
-    if is_path(path) {
-        let wire = Wire {
-            devices,
-            clock,
-            path,
-            quiet_ms,
-        };
-        let (wire, disk, outcome) = load_through(host, plan, load, wire, disk, out);
-        let devices = wire.devices;
-        let outside = Outside {
-            disk,
-            network,
-            devices,
-            clock,
-        };
-        (outside, outcome)
-    } else {
-        let port = Port {
-            net: network,
-            address: path,
-            quiet_ms,
-        };
-        let (port, disk, outcome) = load_through(host, plan, load, port, disk, out);
-        let network = port.net;
-        let outside = Outside {
-            disk,
-            network,
-            devices,
-            clock,
-        };
-        (outside, outcome)
+}
+
+impl<'a, O: Onlooker> Errand<'a> for Loading<'_, 'a, O> {
+    ghost is_over = { λ errand. IsLoadOver errand.plan errand.load };
+
+    fn run<C: Reach + Drop, D: Disk + Drop, W: Write>(
+        self,
+        console: C,
+        disk: D,
+        out: &mut W,
+    ) -> (C, D, Result<Status, Failure<'a>>) {
+        let Loading { host, plan, load } = self;
+        load_through(&host, plan, load, console, disk, out)
     }
 }
 

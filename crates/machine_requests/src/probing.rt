@@ -1,12 +1,13 @@
 //! Finding out what stands at the other end of a line.
 ghost use Rattle.std.specs.Prelude.{◌≡◌, IfOk, IfErr};
 ghost use Rattle.machine_probe.specs.Probe.{probe_told};
-ghost use Rattle.machine_requests.specs.Probing.{probe_told_of, IsProbeOver, IsProbeFailure};
+ghost use Rattle.machine_requests.specs.Probing.{probe_told_of, IsProbeDone, IsProbeOver, IsProbeFailure};
 ghost use Rattle.machine_requests.specs.System.{outside_asked, AsksConsoleAlone};
 
+use crate::errand::{Errand, run_at};
 use crate::request::Probe;
 use crate::system::{Outside, System};
-use console_reach::{Port, Reach, Wire, is_path};
+use console_reach::Reach;
 use endings::{Failure, Status};
 use machine_probe::{ProbeOptions, probe};
 use record_file::Disk;
@@ -52,73 +53,35 @@ pub fn probe_console<
     ensures no_file { result.0.inputs ≡ system.entry.inputs }
 {
     let System { inputs, outside } = system;
-    let (outside, outcome) = probe_at(outside, alloc, request, out);
+    let errand = Probing {
+        clock: outside.clock,
+        alloc,
+        request,
+    };
+    let look = request.look;
+    let (outside, outcome) = run_at(errand, outside, look.line, look.quiet_ms, out);
     (System { inputs, outside }, outcome)
 }
 
-// Probes through a device or a port, by what the line's name is.
-fn probe_at<
-    'a,
-    'c,
-    D: Disk + Drop,
-    N: Dialling + Drop,
-    V: DeviceOpening + Drop,
-    C: Clock,
-    W: Write,
->(
-    outside: Outside<'c, D, N, V, C>,
+// A probe by a clock, as an errand at a console.
+#[derive(Drop)]
+struct Probing<'c, 'a, F> {
+    clock: &'c F,
     alloc: Global,
     request: Probe<'a>,
-    out: &mut W,
-) -> (Outside<'c, D, N, V, C>, Result<Status, Failure<'a>>)
-    ensures ok { IfOk result.1 (IsProbeOver request.entry
-        (probe_told_of request.entry (outside_asked D.asked N.asked V.asked outside.entry) (W.contents out.old))
-        (probe_told_of request.entry (outside_asked D.asked N.asked V.asked result.0) (W.contents out.new))) }
-    ensures err { IfErr result.1 (IsProbeFailure request.entry
-        (probe_told_of request.entry (outside_asked D.asked N.asked V.asked outside.entry) (W.contents out.old))
-        (probe_told_of request.entry (outside_asked D.asked N.asked V.asked result.0) (W.contents out.new))) }
-    ensures alone { AsksConsoleAlone request.entry.look.line.now
-        (outside_asked D.asked N.asked V.asked outside.entry)
-        (outside_asked D.asked N.asked V.asked result.0) }
-{
-    let Outside {
-        disk,
-        network,
-        devices,
-        clock,
-    } = outside;
-    let (path, quiet_ms) = (request.look.line, request.look.quiet_ms);
-    if is_path(path) {
-        let mut wire = Wire {
-            devices,
-            clock,
-            path,
-            quiet_ms,
-        };
-        let outcome = probe_through(clock, alloc, request, &mut wire, out);
-        let devices = wire.devices;
-        let outside = Outside {
-            disk,
-            network,
-            devices,
-            clock,
-        };
-        (outside, outcome)
-    } else {
-        let mut port = Port {
-            net: network,
-            address: path,
-            quiet_ms,
-        };
-        let outcome = probe_through(clock, alloc, request, &mut port, out);
-        let network = port.net;
-        let outside = Outside {
-            disk,
-            network,
-            devices,
-            clock,
-        };
-        (outside, outcome)
+}
+
+impl<'a, F: Clock> Errand<'a> for Probing<'_, 'a, F> {
+    ghost is_over = { λ errand. IsProbeDone errand.request };
+
+    fn run<C: Reach + Drop, D: Disk + Drop, W: Write>(
+        self,
+        mut console: C,
+        disk: D,
+        out: &mut W,
+    ) -> (C, D, Result<Status, Failure<'a>>) {
+        let outcome = probe_through(self.clock, self.alloc, self.request, &mut console, out);
+        (console, disk, outcome)
     }
 }
 

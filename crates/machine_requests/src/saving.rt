@@ -1,12 +1,13 @@
 //! Saving what a real machine holds.
 ghost use Rattle.std.specs.Prelude.{◌≡◌, None, IfOk, IfErr};
-ghost use Rattle.machine_requests.specs.Saving.{save_told_of, AsksForTape, IsSaveFailure, IsSaveOver};
+ghost use Rattle.machine_requests.specs.Saving.{save_told_of, AsksForTape, IsSaveDone, IsSaveFailure, IsSaveOver};
 ghost use Rattle.machine_requests.specs.System.{outside_asked, NotElsewhere};
 
+use crate::errand::{Errand, run_at};
 use crate::host::Host;
 use crate::request::Save;
 use crate::system::{Outside, System};
-use console_reach::{Port, Reach, Wire, is_path};
+use console_reach::Reach;
 use endings::{Failure, Status};
 use load_devices::{Onlooker, Unwatched};
 use load_progress::ProgressLine;
@@ -62,85 +63,51 @@ pub fn save_words<
     ensures no_file { result.0.inputs ≡ system.entry.inputs }
 {
     let System { inputs, outside } = system;
+    let look = save.look;
     match terminal {
         Some(terminal) => {
             let onlooker = &ProgressLine::new(outside.clock, terminal);
-            let (outside, outcome) = save_from(&Host { alloc, onlooker }, outside, name, save, out);
+            let host = Host { alloc, onlooker };
+            let errand = Saving { host, name, save };
+            let (outside, outcome) = run_at(errand, outside, look.line, look.quiet_ms, out);
             (System { inputs, outside }, outcome)
         }
         None => {
             let onlooker = &Unwatched;
-            let (outside, outcome) = save_from(&Host { alloc, onlooker }, outside, name, save, out);
+            let host = Host { alloc, onlooker };
+            let errand = Saving { host, name, save };
+            let (outside, outcome) = run_at(errand, outside, look.line, look.quiet_ms, out);
             (System { inputs, outside }, outcome)
         }
     }
 }
 
-// Saves through a device or a port, by what the line's name is.
-fn save_from<
-    'a,
-    'c,
-    D: Disk + Drop,
-    N: Dialling + Drop,
-    V: DeviceOpening + Drop,
-    C: Clock,
-    O: Onlooker,
-    W: Write,
->(
-    host: &Host<'_, O>,
-    outside: Outside<'c, D, N, V, C>,
+// A save into a file of this name, as an errand at a console.
+#[derive(Drop)]
+struct Saving<'o, 'a, O> {
+    host: Host<'o, O>,
     name: &'a str,
     save: Save<'a>,
-    out: &mut W,
-) -> (Outside<'c, D, N, V, C>, Result<Status, Failure<'a>>)
-    ensures ok { IfOk result.1 (IsSaveOver save.entry (AsksForTape name.entry (D.asked outside.entry.disk) (D.asked result.0.disk))
-        (save_told_of save.entry (outside_asked D.asked N.asked V.asked outside.entry) (W.contents out.old))
-        (save_told_of save.entry (outside_asked D.asked N.asked V.asked result.0) (W.contents out.new))) }
-    ensures err { IfErr result.1 (IsSaveFailure name.entry save.entry (AsksForTape name.entry (D.asked outside.entry.disk) (D.asked result.0.disk))
-        (save_told_of save.entry (outside_asked D.asked N.asked V.asked outside.entry) (W.contents out.old))
-        (save_told_of save.entry (outside_asked D.asked N.asked V.asked result.0) (W.contents out.new))) }
-    ensures not_elsewhere { NotElsewhere save.entry.look.line.now
-        (outside_asked D.asked N.asked V.asked outside.entry)
-        (outside_asked D.asked N.asked V.asked result.0) }
-{
-    let Outside {
-        disk,
-        network,
-        devices,
-        clock,
-    } = outside;
-    let (path, quiet_ms) = (save.look.line, save.look.quiet_ms);
-    if is_path(path) {
-        let mut wire = Wire {
-            devices,
-            clock,
-            path,
-            quiet_ms,
-        };
-        let (disk, outcome) = save_through(host, name, save, &mut wire, disk, out);
-        let devices = wire.devices;
-        let outside = Outside {
+}
+
+impl<'a, O: Onlooker> Errand<'a> for Saving<'_, 'a, O> {
+    ghost is_over = { λ errand. IsSaveDone errand.name errand.save };
+
+    fn run<C: Reach + Drop, D: Disk + Drop, W: Write>(
+        self,
+        mut console: C,
+        disk: D,
+        out: &mut W,
+    ) -> (C, D, Result<Status, Failure<'a>>) {
+        let (disk, outcome) = save_through(
+            &self.host,
+            self.name,
+            self.save,
+            &mut console,
             disk,
-            network,
-            devices,
-            clock,
-        };
-        (outside, outcome)
-    } else {
-        let mut port = Port {
-            net: network,
-            address: path,
-            quiet_ms,
-        };
-        let (disk, outcome) = save_through(host, name, save, &mut port, disk, out);
-        let network = port.net;
-        let outside = Outside {
-            disk,
-            network,
-            devices,
-            clock,
-        };
-        (outside, outcome)
+            out,
+        );
+        (console, disk, outcome)
     }
 }
 

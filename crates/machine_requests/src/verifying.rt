@@ -4,14 +4,15 @@ ghost use Rattle.std.specs.Mem.{FitsInMemory};
 ghost use Rattle.endings.specs.Streams.{held};
 ghost use Rattle.machine_look.specs.Look.{look_told};
 ghost use Rattle.machine_requests.specs.Files.{opening_between};
-ghost use Rattle.machine_requests.specs.Looking.{told_of, AreVerified, AreUnverified, IsPlanVerified, IsVerifyFailure};
+ghost use Rattle.machine_requests.specs.Looking.{told_of, AreVerified, AreUnverified, IsLookOver, IsPlanVerified, IsVerifyFailure};
 ghost use Rattle.machine_requests.specs.System.{outside_asked, AsksConsoleAlone};
 
+use crate::errand::{Errand, run_at};
 use crate::host::Host;
 use crate::planning::plan_tapes;
 use crate::request::Look;
 use crate::system::{Outside, System};
-use console_reach::{Port, Reach, Wire, is_path};
+use console_reach::Reach;
 use endings::{Failure, FaultOutput, Status, Streams};
 use input_files::InputFiles;
 use load_devices::{Onlooker, Unwatched};
@@ -114,80 +115,38 @@ fn verify_shown<
     match terminal {
         Some(terminal) => {
             let onlooker = &ProgressLine::new(outside.clock, terminal);
-            verify_plan(&Host { alloc, onlooker }, outside, plan, look, out)
+            let host = Host { alloc, onlooker };
+            let errand = Verifying { host, plan, look };
+            run_at(errand, outside, look.line, look.quiet_ms, out)
         }
         None => {
             let onlooker = &Unwatched;
-            verify_plan(&Host { alloc, onlooker }, outside, plan, look, out)
+            let host = Host { alloc, onlooker };
+            let errand = Verifying { host, plan, look };
+            run_at(errand, outside, look.line, look.quiet_ms, out)
         }
     }
 }
 
-// Looks through a device or a port, by what the line's name is.
-fn verify_plan<
-    'a,
-    'c,
-    D: Disk + Drop,
-    N: Dialling + Drop,
-    V: DeviceOpening + Drop,
-    C: Clock,
-    O: Onlooker,
-    W: Write,
->(
-    host: &Host<'_, O>,
-    outside: Outside<'c, D, N, V, C>,
-    plan: &Plan,
+// A look for a plan, as an errand at a console.
+#[derive(Drop)]
+struct Verifying<'o, 'p, 'a, O> {
+    host: Host<'o, O>,
+    plan: &'p Plan,
     look: Look<'a>,
-    out: &mut W,
-) -> (Outside<'c, D, N, V, C>, Result<Status, Failure<'a>>)
-    ensures ok { IfOk result.1 (IsPlanVerified plan.now look.entry
-        (told_of look.entry (outside_asked D.asked N.asked V.asked outside.entry) (W.contents out.old))
-        (told_of look.entry (outside_asked D.asked N.asked V.asked result.0) (W.contents out.new))) }
-    ensures err { IfErr result.1 (IsVerifyFailure plan.now look.entry
-        (told_of look.entry (outside_asked D.asked N.asked V.asked outside.entry) (W.contents out.old))
-        (told_of look.entry (outside_asked D.asked N.asked V.asked result.0) (W.contents out.new))) }
-    ensures alone { AsksConsoleAlone look.entry.line.now
-        (outside_asked D.asked N.asked V.asked outside.entry)
-        (outside_asked D.asked N.asked V.asked result.0) }
-{
-    let Outside {
-        disk,
-        network,
-        devices,
-        clock,
-    } = outside;
-    let (path, quiet_ms) = (look.line, look.quiet_ms);
-    if is_path(path) {
-        let mut wire = Wire {
-            devices,
-            clock,
-            path,
-            quiet_ms,
-        };
-        let outcome = verify_through(host, plan, look, &mut wire, out);
-        let devices = wire.devices;
-        let outside = Outside {
-            disk,
-            network,
-            devices,
-            clock,
-        };
-        (outside, outcome)
-    } else {
-        let mut port = Port {
-            net: network,
-            address: path,
-            quiet_ms,
-        };
-        let outcome = verify_through(host, plan, look, &mut port, out);
-        let network = port.net;
-        let outside = Outside {
-            disk,
-            network,
-            devices,
-            clock,
-        };
-        (outside, outcome)
+}
+
+impl<'a, O: Onlooker> Errand<'a> for Verifying<'_, '_, 'a, O> {
+    ghost is_over = { λ errand. IsLookOver errand.plan.now errand.look };
+
+    fn run<C: Reach + Drop, D: Disk + Drop, W: Write>(
+        self,
+        mut console: C,
+        disk: D,
+        out: &mut W,
+    ) -> (C, D, Result<Status, Failure<'a>>) {
+        let outcome = verify_through(&self.host, self.plan, self.look, &mut console, out);
+        (console, disk, outcome)
     }
 }
 

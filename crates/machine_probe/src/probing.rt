@@ -1,9 +1,10 @@
 //! The command `probe`.
-ghost use Rattle.std.specs.Prelude.{◌≡◌, [], IfErr, IfOk, OnErr, OnOk};
+ghost use Rattle.std.specs.Prelude.{◌≡◌, ◌≤◌, [], vec_capacity, IfErr, IfOk, OnErr, OnOk};
 ghost use Rattle.load_devices.specs.Told.{Gains};
 ghost use Rattle.stream_line.specs.Dialling.{asked_once};
 ghost use Rattle.tape_blocks.specs.Told.{IsAsTold};
 ghost use Rattle.reading_core.specs.Addresses.{IsAddress};
+ghost use Rattle.probe_report.specs.ProbeText.{longest_report};
 ghost use Rattle.machine_probe.specs.Probe.{IsReportFrom, IsReportOver, IsReported, IsReportedOver, probe_told};
 ghost use Rattle.machine_probe.specs.ProbeFault.{IsBrokenOffFrom, IsProbeFault, IsUnreported, IsWanting};
 ghost use Rattle.machine_probe.specs.Rooms.{AreLookers};
@@ -60,7 +61,7 @@ pub fn probe<R: Reach, W: Write, C: Clock>(
     Ok(end)
 }
 
-// Reaches the console, makes the probe, and puts its report into an empty text. Everything that fails
+// Reaches the console, makes the probe, and puts its report into an empty text that has room for it. Everything that fails
 // here comes before anything was reported.
 fn gather<R: Reach, C: Clock>(
     alloc: Global,
@@ -71,6 +72,7 @@ fn gather<R: Reach, C: Clock>(
 ) -> Result<ProbeEnd, ProbeFault>
     requires address { IsAddress options.address }
     requires empty { report.old.items ≡ [] }
+    requires room { longest_report ≤ vec_capacity report.old }
     ensures report { IfOk result (IsReportOver R.Line.told options report.new.items) }
     ensures asked { OnOk result (Gains (R.asked console.old) (R.asked console.new) (asked_once (R.call console.old))) }
     ensures call { R.call console.new ≡ R.call console.old }
@@ -97,6 +99,7 @@ fn report_runs<L: Line + Drop, C: Clock>(
     requires lookers { AreLookers options lookers }
     requires fresh { IsAsTold (L.told line) [] }
     requires empty { report.old.items ≡ [] }
+    requires room { longest_report ≤ vec_capacity report.old }
     ensures report { IfOk result (IsReportFrom L.told options line report.new.items) }
     ensures wanting { OnErr result (IsBrokenOffFrom L.told options line) }
 {
@@ -117,6 +120,7 @@ fn report_noted<L: Line + Drop, C: Clock, E: Opening>(
     requires opening { L.told line ≡ E.told }
     requires fresh { IsAsTold (L.told line) [] }
     requires empty { report.old.items ≡ [] }
+    requires room { longest_report ≤ vec_capacity report.old }
     ensures report { IfOk result (IsReportFrom L.told options line report.new.items) }
     ensures wanting { OnErr result (IsBrokenOffFrom L.told options line) }
 {

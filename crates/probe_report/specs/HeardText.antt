@@ -1,9 +1,9 @@
 -- What a probe prints of what it heard, where no answer fitted (this project's own).
-use Rattle.std.specs.Prelude.{ℕ, ◌+◌, ◌/◌, ◌%◌, Bool, ◌==◌, ◌||◌, nat_lt, nat_le, if◌then◌else◌, List, [], ◌∷◌, ◌++◌, length, codes}
+use Rattle.std.specs.Prelude.{ℕ, ◌+◌, ◌/◌, ◌%◌, ◌==◌, ◌||◌, nat_lt, nat_le, if◌then◌else◌, List, [], ◌∷◌, ◌++◌, length, codes}
 use Rattle.std.specs.List.{flat_map}
 use Rattle.byte_io.specs.Text.{line}
 use Rattle.probe_report.specs.declared.probe_end.ProbeEnd.{ProbeEnd}
-use Rattle.probe_report.specs.declared.probe_end.ProbeEnd.TheVariants.{Probed, NotTrusted, NoPrompt, GaveUp, NoWord, TurnsOver, LineFailed}
+use Rattle.probe_report.specs.declared.probe_end.ProbeEnd.TheVariants.{NoPrompt, GaveUp, TurnsOver}
 use Rattle.probe_report.specs.Notes.{Noted}
 
 -- a backslash, and the three octal digits of a character

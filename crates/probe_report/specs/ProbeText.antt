@@ -1,5 +1,5 @@
 -- What a probe prints (this project's own): a line for each thing that is known.
-use Rattle.std.specs.Prelude.{ℕ, ◌-◌, ◌/◌, Bool, true, false, nat_lt, if◌then◌else◌, List, [], ◌++◌, codes, Option, Some, None}
+use Rattle.std.specs.Prelude.{ℕ, ◌-◌, ◌/◌, Bool, true, false, nat_lt, if◌then◌else◌, List, [], ◌++◌, codes, Option, Some}
 use Rattle.octal.specs.Octal.{octal_text}
 use Rattle.byte_io.specs.Text.{line}
 use Rattle.probe_report.specs.declared.findings.Findings.{Findings}
@@ -77,3 +77,7 @@ probe_text f notes pace =
     ++ trust_lines f f.first
     ++ memory_lines f.search pace
     ++ line (codes "end " ++ end_name (probe_end f notes.prompt))
+
+-- more bytes than that has
+abbrev pub longest_report : ℕ
+longest_report = 1000

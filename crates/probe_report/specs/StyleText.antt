@@ -2,7 +2,7 @@
 use Rattle.std.specs.Prelude.{ℕ, ◌+◌, Bool, true, false, ◌&&◌, if◌then◌else◌, List, [], ◌++◌, codes, decimal, Option, Some, None}
 use Rattle.byte_io.specs.Text.{line}
 use Rattle.trial_core.specs.declared.sight.Sight.{Sight}
-use Rattle.trial_core.specs.declared.sight.Sight.TheVariants.{Unseen, Yes, No, Mixed}
+use Rattle.trial_core.specs.declared.sight.Sight.TheVariants.{Unseen, Yes, Mixed}
 use Rattle.trial_core.specs.declared.sight.Seen.{Seen}
 use Rattle.probe_report.specs.declared.findings.Attempt.{Attempt}
 

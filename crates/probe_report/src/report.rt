@@ -1,9 +1,9 @@
 //! The report of a probe.
-ghost use Rattle.std.specs.Prelude.{◌≡◌, ◌++◌, codes, IfOk, OnOk};
+ghost use Rattle.std.specs.Prelude.{◌≡◌, ◌≤◌, ◌++◌, codes, vec_capacity, IfOk, OnOk};
 ghost use Rattle.octal.specs.Octal.{octal_text};
 ghost use Rattle.byte_io.specs.Text.{line};
 ghost use Rattle.probe_report.specs.Ending.{probe_end};
-ghost use Rattle.probe_report.specs.ProbeText.{end_name, held_once, holds_again, memory_lines, memory_text, probe_text};
+ghost use Rattle.probe_report.specs.ProbeText.{end_name, held_once, holds_again, longest_report, memory_lines, memory_text, probe_text};
 ghost use Rattle.probe_report.specs.ProbeText.{prompt_text, trust_lines, verdict_text, word_lines};
 
 use crate::ending::end_of;
@@ -20,14 +20,15 @@ use std::alloc::AllocError;
 /// More bytes than a report has.
 pub const LONGEST_REPORT: usize = 1000;
 
-/// Puts the report of a probe at the end of a text, and answers how the probe ended. The error is want of
-/// memory.
+/// Puts the report of a probe at the end of a text that has room for the longest, and answers how the probe ended.
+/// The error is want of memory.
 pub fn put_report(
     text: &mut Vec<u8>,
     findings: &Findings,
     notes: &Notes,
     pace: Pace,
 ) -> Result<ProbeEnd, AllocError>
+    requires room { longest_report ≤ vec_capacity text.old }
     ensures text { OnOk result (text.new.items ≡ text.old.items ++ probe_text findings.now notes.now pace) }
     ensures end { IfOk result (λ end. end ≡ probe_end findings.now notes.now.prompt) }
 {

@@ -1,5 +1,5 @@
 -- What becomes of a request to type standard input into a simulated console.
-use Rattle.std.specs.Prelude.{◌≡◌, ◌⊎◌, ℕ, ◌<◌, [], replicate, codes}
+use Rattle.std.specs.Prelude.{◌≡◌, ◌⊎◌, ℕ, ◌<◌, ◌≤◌, [], replicate, codes}
 use Rattle.odt_machine.specs.Machine.{Machine, largest_words}
 use Rattle.console_typing.specs.Typing.{IsTypedToEnd, IsTypeFault}
 use Rattle.rehearsals.specs.Rehearsal.{machine_of}
@@ -20,9 +20,9 @@ pub record IsTypedThrough (console : Console) (before after : Held) : Type 0 whe
   pub count : ℕ
   pub typed : IsTypedToEnd before.input after.input (zeroed console) last before.out after.out count
 
--- there is no such machine: it is too large, which it is above 28,672 words alone, or want of memory; and no key was read
+-- there is no such machine: it is too large, which it is above 28,672 words alone, or want of memory, up to there; and no key was read
 pub record IsUntyped (console : Console) (before after : Held) (failure : Failure) : Type 0 where
-  pub why : ((failure ≡ TooLarge) × (largest_words < console.words)) ⊎ (failure ≡ NoMemory)
+  pub why : ((failure ≡ TooLarge) × (largest_words < console.words)) ⊎ ((failure ≡ NoMemory) × (console.words ≤ largest_words))
   pub nothing_read : after.input ≡ before.input
   pub nothing_written : after.out ≡ before.out
 

@@ -1,6 +1,5 @@
-use Rattle.std.proofs.Common.{◌≡◌, ℕ, Bool, ◌&&◌, ◌||◌, ◌==◌, List, Option, ap, sym, ◌∙◌, ◌++◌, ◌∷◌, []}
+use Rattle.std.proofs.Common.{ℕ, ◌&&◌, ◌||◌, ◌==◌, ap, sym, ◌∙◌, ◌++◌, ◌∷◌, []}
 use Rattle.host_core.specs.declared.heard.Heard.{Heard}
-use Rattle.load_devices.specs.declared.item.Item.{Item}
 use Rattle.load_devices.specs.declared.item.Item.TheVariants.{Heard as Came}
 use Rattle.probe_report.specs.Notes.{Noted, characters, echoes, noted}
 use Rattle.probe_report.proofs.Noting.{noted_got, noted_quiet}

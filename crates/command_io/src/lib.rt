@@ -3,7 +3,8 @@
 //! `take_tapes` answers the tapes that begin some inputs and takes their bytes alone, or the first
 //! refusal or failed read, by its number.
 //!
-//! The crates of the commands stand on this one (`tape_check`, `console_typing`, `rehearsals`, `requests`).
+//! The crates of the commands stand on this one (`tape_check`, `console_typing`, `rehearsals`,
+//! `machine_requests`, `requests`).
 #![tactic(auto)]
 
 mod fault;

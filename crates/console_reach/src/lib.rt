@@ -7,7 +7,8 @@
 //! copies what is heard of a line to an output: what was written is promised to be what was heard, in its
 //! order, and nothing was sent.
 //!
-//! The commands that need a machine stand on it: `machine_load`, `machine_look` and `requests`.
+//! The commands that need a machine stand on it: `machine_load`, `machine_look`,
+//! `machine_probe` and `machine_requests`.
 #![tactic(auto)]
 
 mod listening;

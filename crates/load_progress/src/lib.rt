@@ -3,7 +3,7 @@
 //! A `ProgressLine` is an `Onlooker`, whom the engine tells of each step. What it shows is promised to be
 //! a function of what the host has come to and of the time: `Showing` and `GoingOn` are its texts.
 //!
-//! The commands that take their time are shown so: `requests` gives one to `machine_load` and
+//! The commands that take their time are shown so: `machine_requests` gives one to `machine_load` and
 //! `machine_look`.
 #![tactic(auto)]
 

@@ -24,15 +24,19 @@ seconds_of listen other = None
 abbrev pub quiet_time : ℕ → ℕ
 quiet_time quiet = if quiet == 0 then 1 else quiet
 
--- what was heard until so many seconds were silent, or until the line was over, was written, and nothing was sent
-pub record IsHeardOut (seconds quiet : ℕ) (out out' : Known) : Type 0 where
+-- what was heard of a line that tells this until so many seconds were silent, or until it was over, was written, and nothing was sent
+pub record IsHeardOutOf (fault : Option LineFault) (told told' : Option (List Item)) (seconds quiet : ℕ) (out out' : Known) : Type 0 where
   pub silences : ℕ
   pub enough : 1000 * seconds ≤ silences * quiet
   pub no_more : silences * quiet < 1000 * seconds + quiet
+  pub listened : IsListening silences fault told told' out out'
+
+-- the same of a line
+pub record IsHeardOut (seconds quiet : ℕ) (out out' : Known) : Type 0 where
   pub fault : Option LineFault
   pub told : Option (List Item)
   pub told' : Option (List Item)
-  pub listened : IsListening silences fault told told' out out'
+  pub heard : IsHeardOutOf fault told told' seconds quiet out out'
 
 -- a character that was heard could not be written
 pub record IsHeardInPart (out out' : Known) : Type 0 where
@@ -44,3 +48,8 @@ pub record IsHeardInPart (out out' : Known) : Type 0 where
 abbrev pub IsListenedTo : Option ℕ → ℕ → Known → Known → Type 0
 IsListenedTo None quiet out out' = out' ≡ out
 IsListenedTo (Some seconds) quiet out out' = IsHeardOut seconds quiet out out'
+
+-- and this is the line, of which nothing was heard where nobody listens
+abbrev pub IsThisListenedTo : Option LineFault → Option (List Item) → Option (List Item) → Option ℕ → ℕ → Known → Known → Type 0
+IsThisListenedTo fault told told' None quiet out out' = told' ≡ told
+IsThisListenedTo fault told told' (Some seconds) quiet out out' = IsHeardOutOf fault told told' seconds quiet out out'

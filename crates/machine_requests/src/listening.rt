@@ -1,7 +1,7 @@
 //! Listening to a machine behind a load.
 ghost use Rattle.std.specs.Prelude.{◌≡◌, ◌⊎◌, ◌<◌, OnOk, IfErr, IsSome};
 ghost use Rattle.machine_load.specs.Load.{IsNeverBegun};
-ghost use Rattle.machine_requests.specs.Listening.{quiet_time, seconds_of, IsHeardInPart, IsHeardOut, IsListenedTo};
+ghost use Rattle.machine_requests.specs.Listening.{quiet_time, seconds_of, IsHeardInPart, IsHeardOut, IsHeardOutOf, IsListenedTo, IsThisListenedTo};
 ghost use Rattle.machine_requests.specs.Loading.{IsListeningCut};
 
 use crate::request::Load;
@@ -42,6 +42,11 @@ fn listen_to<L: Line, W: Write>(
     line: &mut L,
     out: &mut W,
 ) -> Result<(), Failure<'static>>
+    ensures line { OnOk result (IsThisListenedTo (L.last_fault line.new) (L.told line.old) (L.told line.new)
+        (seconds_of load.entry.listen stop)
+        (quiet_time load.entry.quiet_ms)
+        (W.contents out.old)
+        (W.contents out.new)) }
     ensures ok { OnOk result (IsListenedTo
         (seconds_of load.entry.listen stop)
         (quiet_time load.entry.quiet_ms)
@@ -72,6 +77,11 @@ fn listen_for<L: Line, W: Write>(
     line: &mut L,
     out: &mut W,
 ) -> Result<(), Failure<'static>>
+    ensures line { OnOk result (IsHeardOutOf (L.last_fault line.new) (L.told line.old) (L.told line.new)
+        seconds
+        (quiet_time quiet_ms)
+        (W.contents out.old)
+        (W.contents out.new)) }
     ensures ok { OnOk result (IsHeardOut seconds (quiet_time quiet_ms) (W.contents out.old) (W.contents out.new)) }
     ensures cut { IfErr result (λ failure. IsHeardInPart (W.contents out.old) (W.contents out.new) × (failure ≡ Failure.CannotWrite)) }
 {

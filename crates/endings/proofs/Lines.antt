@@ -1,9 +1,9 @@
 -- A text that is said piece by piece.
-use Rattle.std.proofs.Common.{◌≡◌, ◌<◌, ℕ, List, [], ◌++◌, Option, Some, None, Result, Ok, Err, OnErr, length, refl, sym, ap, ◌∙◌, subst, append_assoc, append-nil, arith}
+use Rattle.std.proofs.Common.{◌≡◌, ℕ, List, [], ◌++◌, Option, Some, None, Result, Ok, Err, OnErr, length, refl, sym, ap, ◌∙◌, subst, append_assoc, append-nil, arith}
 use Rattle.std.proofs.lemmas.List.{length-append}
 use Rattle.std.proofs.KnownBytes.{Appends-nil, Appends-trans}
 use Rattle.std.specs.Io.KnownBytes.{Appends}
-use Rattle.byte_io.specs.Output.{WritesAllBut, WritesProperPrefix}
+use Rattle.byte_io.specs.Output.{WritesProperPrefix}
 use Rattle.endings.specs.FaultOutput.{StandardError, IsSaidBut, IsSaidInPart, IsSaidWhole, NoneFailed, OneFailed}
 
 pub on_any_err : {T E : Type 0} (r : Result T E) (P : Type 0) → P → OnErr r P

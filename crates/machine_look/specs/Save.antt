@@ -1,5 +1,5 @@
 -- What `save` does (this project's own).
-use Rattle.std.specs.Prelude.{◌≡◌, ℕ, List, [], ◌∷◌, length, map, take, Option, None}
+use Rattle.std.specs.Prelude.{◌≡◌, ℕ, List, [], ◌∷◌, length, map, take, Option}
 use Rattle.std.specs.Io.KnownBytes.{Appends, Keeps}
 use Rattle.tape_blocks.specs.Tape.{TapeValue, plain_text}
 use Rattle.tape_image.specs.Plan.{plan_of}

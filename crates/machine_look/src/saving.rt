@@ -1,5 +1,5 @@
 //! The command `save`: what memory holds, as a tape.
-ghost use Rattle.std.specs.Prelude.{◌≡◌, ◌⊎◌, ◌*◌, ◌+◌, ◌%◌, ◌<◌, ◌≤◌, length, [], ◌∷◌, IfErr, IfOk, OnOk};
+ghost use Rattle.std.specs.Prelude.{◌≡◌, ◌*◌, ◌+◌, ◌%◌, ◌<◌, ◌≤◌, length, IfErr, IfOk, OnOk};
 ghost use Rattle.load_devices.specs.Told.{Gains};
 ghost use Rattle.machine_look.specs.LookFault.{IsKeepFault, IsSaveFault};
 ghost use Rattle.machine_look.specs.Save.{IsSavedAndReported, puts, save_told};

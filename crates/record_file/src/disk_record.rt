@@ -1,10 +1,10 @@
 //! A record that is begun anew: the old one is replaced whole, or written over where it is.
-ghost use Rattle.std.specs.Prelude.{◌≡◌, ◌∷◌, false, List, ℕ, IfOk, IfErr, IfSome};
+ghost use Rattle.std.specs.Prelude.{◌≡◌, false, List, ℕ, IfOk, IfErr, IfSome};
 ghost use Rattle.std.specs.Io.KnownBytes.{Appends};
 ghost use Rattle.load_devices.specs.declared.fault.KeepFault.TheVariants as keep;
 ghost use Rattle.load_record.specs.declared.version.Version.TheVariants.{Second};
 ghost use Rattle.load_record.specs.RecordText.{record_text};
-ghost use Rattle.record_file.specs.Beginning.{course, IsMakingHeld, IsRenaming, IsWriting, IsBeside, IsFolderSync, IsMakingSynced};
+ghost use Rattle.record_file.specs.Beginning.{course, IsMakingHeld, IsRenaming, IsBeside, IsFolderSync, IsMakingSynced};
 ghost use Rattle.record_file.specs.Beginning.{IsCut, IsReady, IsUnready, IsWrittenOver, IsNotWrittenOver};
 ghost use Rattle.record_file.specs.Course.{is_done, is_some, renamed};
 ghost use Rattle.record_file.specs.DiskRecord.{HasBegun};

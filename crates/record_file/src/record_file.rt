@@ -1,5 +1,5 @@
 //! The record's file over a whole load.
-ghost use Rattle.std.specs.Prelude.{◌≡◌, Bool, Option, None, IfErr, IfOk, OnErr, OnOk, MatchOption, option_map};
+ghost use Rattle.std.specs.Prelude.{◌≡◌, Option, None, IfErr, IfOk, OnErr, OnOk, MatchOption, option_map};
 ghost use Rattle.record_file.specs.Beginning.{IsBegun, IsNotBegun};
 ghost use Rattle.record_file.specs.Closing.{IsClosed, Remains};
 ghost use Rattle.record_file.specs.DiskRecord.{HasBegun};

@@ -298,6 +298,19 @@ class Made(Files):
             self.ends(self.load("a.record"), 0, "sent 8 spent 0 verified 1 of 1\nend Started\n")
             self.holds({"a.record": MARKED})
 
+    def test_long_names(self):
+        """The new record's name is longer by eleven characters. Where no name is so long, the record is written in place."""
+        folder = "/".join(["d" * 200] * 3)
+        os.makedirs(self.path(folder))
+        for name, is_in_place in ((folder + "/a.record", False), ("r" * 244, False), ("r" * 245, True), ("r" * 255, True)):
+            with self.subTest(name[:9], length=len(name)):
+                self.put(name, b"")
+                before = os.lstat(self.path(name))
+                self.peer.machine = Console()
+                self.ends(self.load(name), 0, STARTED)
+                self.is_so(bytes_of(self.path(name)).decode(), MARKED)
+                self.is_so(os.lstat(self.path(name)).st_ino == before.st_ino, is_in_place)
+
     def is_written_in_place(self):
         """A load keeps an empty record in the file that it has, and not in a new one."""
         self.put("a.record", b"")

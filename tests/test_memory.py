@@ -53,6 +53,7 @@ LINES = (
     ("help load", b"", 0),
     ("load small.lda", b"", 2),
     ("x" * 100000, b"", 2),
+    ("\x1b" * 20000, b"", 2),
 )
 
 PROCESSES = 4

@@ -1,12 +1,12 @@
-# What a person does here; README.md has it as a table. Only `make` and `make test` need rt, the command of the Rattle
-# toolchain: the others take a ./ldaodt that is there.
+# What a person does here; README.md has it as a table. Only `make`, `make test` and `make edits` need rt, the command
+# of the Rattle toolchain: the others take a ./ldaodt that is there.
 
 # Where make install puts things; DESTDIR goes before it, for packagers. They reach the shell as variables, so that a
 # space in them is a space.
 PREFIX ?= /usr/local
 export PREFIX DESTDIR
 
-.PHONY: all ldaodt test check demo bench hostile install uninstall dist
+.PHONY: all ldaodt test check edits demo bench hostile install uninstall dist
 
 all: ldaodt
 
@@ -22,6 +22,10 @@ test:
 # The built program from outside: the examples, each transcript of the documents and of tests/, the tests of tests/.
 check: ldaodt
 	@tools/check-program
+
+# The must-fail edits that the gate has no time for.
+edits:
+	@tools/edits
 
 # The main jobs, one after another, against a simulated machine.
 demo: ldaodt

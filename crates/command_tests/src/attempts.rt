@@ -1,11 +1,11 @@
 //! Requests, attempted as the program does it.
 
-use crate::simulated_system::QUIET_MS;
 use endings::{Status, Streams};
 use machine_load::LoadOptions;
 use record_file::Locks;
 use requests::{Load, Request, SharedSystem, attempt};
 use serial_line::Devices;
+use simulated_system::QUIET_MS;
 use std::alloc::{AllocError, Global};
 use std::io::Stderr;
 use std::mem;

@@ -1,10 +1,11 @@
 //! Devices that fail once in the middle of a check, a rehearsal or a dialogue, and would then go on.
 
-use crate::failing_devices::{BrokenInput, BrokenOutput, NOWHERE};
-use crate::tapes::{ONE_WORD, ONE_WORD_DIALOGUE, ONE_WORD_TEXT};
 use command_io::CommandFault;
 use odt_machine::{LARGEST_WORDS, PLAIN_STYLE};
 use rehearsals::{dialogue_to, rehearse_to};
+use simulated_system::{
+    BrokenInput, BrokenOutput, NOWHERE, ONE_WORD, ONE_WORD_DIALOGUE, ONE_WORD_TEXT,
+};
 use std::alloc::Global;
 use std::slice;
 use tape_check::check_to;

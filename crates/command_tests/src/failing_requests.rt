@@ -2,12 +2,12 @@
 //! tapes that can't be opened which is named.
 
 use crate::attempts::{Ended, NOBODY, load_of, run};
-use crate::failing_devices::{BrokenInput, BrokenOutput, NOWHERE, UnflushedOutput};
-use crate::simulated_system::{AMPLE, Setting, System};
-use crate::tapes::ONE_WORD;
 use endings::{Output, Status, Streams};
 use odt_machine::{LARGEST_WORDS, PLAIN_STYLE};
 use requests::{Console, Request, SharedSystem, attempt};
+use simulated_system::{
+    AMPLE, BrokenInput, BrokenOutput, NOWHERE, ONE_WORD, Setting, System, UnflushedOutput,
+};
 use std::alloc::{AllocError, Global};
 use std::fs;
 use std::io::Write;

@@ -3,8 +3,8 @@ ghost use Rattle.std.specs.Prelude.{Some};
 ghost use Rattle.endings.specs.Failure.{IsTold};
 ghost use Rattle.endings.specs.FaultOutput.{IsSaid};
 
-use crate::failing_devices::{BrokenOutput, UnflushedOutput};
 use endings::{Failure, FaultOutput, Output, Status, Streams, refuse, show, tell};
+use simulated_system::{BrokenOutput, UnflushedOutput};
 use std::alloc::Global;
 use std::io::Write;
 

@@ -2,10 +2,8 @@
 //! record then holds.
 
 use crate::attempts::{Ended, load_of, run};
-use crate::files::remove;
-use crate::simulated_system::{AMPLE, Setting, System};
-use crate::tapes::ONE_WORD;
 use endings::Status;
+use simulated_system::{AMPLE, ONE_WORD, Setting, System, remove};
 use std::alloc::AllocError;
 use std::os::unix::fs::symlink;
 use std::test::Fail;

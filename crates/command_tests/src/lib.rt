@@ -3,9 +3,8 @@
 //!
 //! Contracts say what the calls answer beside the answer for want of memory, and let that one come at
 //! any time; here stands what no clause can say: that they succeed where memory is ample; that with a
-//! growth refused they answer just that, with nothing written but the beginning of the whole; that a
-//! device that failed is not asked again; that a record is on the disk before it replaces the old one;
-//! and that the engine loads over a stream.
+//! growth refused they answer just that, with nothing written but the beginning of the whole; and that a
+//! device that failed is not asked again.
 //!
 //! What the built program shows from outside is tested in `tests/` at the top: the largest sizes and
 //! scripts and records with a byte changed among it. These tests stand in a crate of their own, since a
@@ -15,23 +14,13 @@
 #[cfg(test)]
 mod attempts;
 #[cfg(test)]
-mod driving;
-#[cfg(test)]
 mod failing;
 #[cfg(test)]
-mod failing_devices;
-#[cfg(test)]
 mod failing_keys;
-#[cfg(test)]
-mod failing_records;
 #[cfg(test)]
 mod failing_requests;
 #[cfg(test)]
 mod failing_texts;
-#[cfg(test)]
-mod files;
-#[cfg(test)]
-mod frail;
 #[cfg(test)]
 mod full_disks;
 #[cfg(test)]
@@ -39,26 +28,10 @@ mod limits;
 #[cfg(test)]
 mod machines;
 #[cfg(test)]
-mod old_records;
-#[cfg(test)]
-mod reading;
-#[cfg(test)]
-mod record_steps;
-#[cfg(test)]
-mod replacing;
-#[cfg(test)]
-mod saving;
-#[cfg(test)]
 mod scarce_calls;
 #[cfg(test)]
 mod scarce_loads;
 #[cfg(test)]
 mod scarce_requests;
 #[cfg(test)]
-mod simulated_system;
-#[cfg(test)]
-mod tapes;
-#[cfg(test)]
 mod told_system;
-#[cfg(test)]
-mod writing_over;

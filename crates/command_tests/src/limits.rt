@@ -1,10 +1,10 @@
 //! What no command line can ask for: a check of no tape, and a machine that is too large.
 
 use crate::attempts::{Ended, run};
-use crate::tapes::{ONE_WORD, WRONG_SUM};
 use endings::Status;
 use odt_machine::PLAIN_STYLE;
 use requests::{Console, Request};
+use simulated_system::{ONE_WORD, WRONG_SUM};
 use std::alloc::{AllocError, Global};
 use std::test::Fail;
 use std::{fs, io};

@@ -2,13 +2,11 @@
 //! a port and at a device.
 
 use crate::attempts::{Ended, run};
-use crate::files::remove;
-use crate::simulated_system::{AMPLE, DEVICE, QUIET_MS, Setting, System};
-use crate::tapes::ONE_WORD;
 use endings::Status;
 use machine_load::LoadOptions;
 use machine_look::AddressRange;
 use requests::{Load, Look, Probe, Request, Save};
+use simulated_system::{AMPLE, DEVICE, ONE_WORD, QUIET_MS, Setting, System, remove};
 use std::alloc::{AllocError, Global};
 use std::fs;
 use std::test::Fail;

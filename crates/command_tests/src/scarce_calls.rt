@@ -1,10 +1,10 @@
 //! The calls of the library that take memory.
 
-use crate::tapes::{NOTHING, ONE_WORD, OVERLAP, PADDED, WRONG_SUM};
 use honest_line::MemoryLine;
 use load_devices::{Keep, Line, MemoryKeep};
 use odt_machine::{LARGEST_WORDS, Odt, PLAIN_STYLE};
 use scarce_memory::{Famine, ROOMS};
+use simulated_system::{NOTHING, ONE_WORD, OVERLAP, PADDED, WRONG_SUM};
 use std::alloc::{AllocError, Global};
 use tape_blocks::{Fault, ReadError, Tape, Why, read_tape, write_tape};
 use tape_image::Plan;

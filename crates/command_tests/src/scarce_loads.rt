@@ -2,12 +2,11 @@
 //! connection, too.
 
 use crate::attempts::{Ended, OUT_OF_MEMORY, load_of, run};
-use crate::simulated_system::{AMPLE, QUIET_MS, Setting, System};
-use crate::tapes::ONE_WORD;
 use endings::Status;
 use machine_look::AddressRange;
 use requests::{Look, Request, Save};
 use scarce_memory::{Famine, ROOMS};
+use simulated_system::{AMPLE, ONE_WORD, QUIET_MS, Setting, System};
 use std::alloc::{AllocError, Global};
 use std::fs;
 use std::test::Fail;

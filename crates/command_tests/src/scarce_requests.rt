@@ -2,12 +2,12 @@
 //! there is a simulated one.
 
 use crate::attempts::{Ended, OUT_OF_MEMORY, run};
-use crate::tapes::{NOTHING, ONE_WORD, ONE_WORD_DIALOGUE, ONE_WORD_TEXT, PADDED, WRONG_SUM};
 use endings::Status;
 use machine_load::LoadOptions;
 use odt_machine::{LARGEST_WORDS, PLAIN_STYLE};
 use requests::{Console, Load, Look, Probe, Request};
 use scarce_memory::{Famine, ROOMS};
+use simulated_system::{NOTHING, ONE_WORD, ONE_WORD_DIALOGUE, ONE_WORD_TEXT, PADDED, WRONG_SUM};
 use std::alloc::{AllocError, Global};
 use std::test::Fail;
 use std::{fs, io};

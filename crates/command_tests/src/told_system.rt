@@ -8,14 +8,13 @@ ghost use Rattle.requests.specs.Attempt.{IsAttempted};
 ghost use Rattle.told_disk.specs.ToldSteps.{steps_of};
 
 use crate::attempts::NOBODY;
-use crate::simulated_system::{AMPLE, DEVICE, QUIET_MS, System as Simulated};
-use crate::tapes::ONE_WORD;
 use endings::{Status, Streams};
 use input_files::InputFiles;
 use machine_load::LoadOptions;
 use machine_look::AddressRange;
 use requests::{Load, Look, Outside, Probe, Request, Save, System, attempt};
 use serial_line::{Device, DeviceOpening, Devices};
+use simulated_system::{AMPLE, DEVICE, ONE_WORD, QUIET_MS, System as Simulated};
 use std::alloc::{AllocError, Global};
 use std::net::Net;
 use std::process::Abort;

@@ -7,7 +7,7 @@
 //! `Locks` is such a one, and tells nothing.
 //!
 //! The crate `machine_load` uses it, and `machine_look` its `Disk`; its tests stand in `load_tests` and
-//! `command_tests`.
+//! `record_tests`.
 #![tactic(auto)]
 
 mod beside;

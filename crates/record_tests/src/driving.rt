@@ -1,11 +1,10 @@
 //! The engine over the devices of a real load: a line over a stream, and the keeper of a record.
 
-use crate::simulated_system::{AMPLE, Console, QUIET_MS, System};
-use crate::tapes::plan_of_one_word;
 use host_core::{End, HostCore, Progress};
 use load_devices::{Keep, Unwatched};
 use load_engine::{Stop, drive};
 use load_record::FileKeep;
+use simulated_system::{AMPLE, Console, QUIET_MS, System, plan_of_one_word};
 use std::alloc::Global;
 use stream_line::SocketLine;
 

@@ -1,14 +1,13 @@
 //! What a load makes of the record that it finds: one that is protected, in use, no record, or whose words
 //! are to be looked at again; and what it says of a line that fails before and behind the start.
 
-use crate::failing_devices::{BrokenInput, BrokenOutput, NOWHERE};
 use crate::frail::{Frail, RECORD, Stopped, VERIFIED, load_one_word, machine};
-use crate::tapes::ONE_WORD;
 use host_core::End;
 use load_engine::Stop;
 use load_record::RecordError;
 use machine_load::LoadFault;
 use record_file::RecordFault;
+use simulated_system::{BrokenInput, BrokenOutput, NOWHERE, ONE_WORD};
 use std::alloc::Global;
 use std::cell::RefCell;
 

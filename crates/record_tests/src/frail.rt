@@ -1,7 +1,5 @@
 //! Surroundings of a load whose console is in memory, and whose record's input and output may fail.
 
-use crate::failing_devices::{BrokenInput, BrokenOutput};
-use crate::tapes::plan_of_one_word;
 use byte_io::read_up_to;
 use honest_line::MemoryLine;
 use load_devices::{LineFault, Unwatched};
@@ -10,6 +8,7 @@ use load_record::{FileKeep, LastingWrite, RECORD_LIMIT};
 use machine_load::{LoadFault, LoadOptions, Surroundings, load};
 use odt_machine::{LARGEST_WORDS, Odt, PLAIN_STYLE};
 use record_file::{OldRecord, RecordFault};
+use simulated_system::{BrokenInput, BrokenOutput, plan_of_one_word};
 use std::alloc::Global;
 use std::cell::RefCell;
 use std::io;

@@ -47,7 +47,7 @@ pub const OVERLAP: [u8; 25] = [
 ];
 
 /// The plan of the smallest tape, or None for want of memory.
-pub(crate) fn plan_of_one_word(alloc: Global) -> Option<Plan> {
+pub fn plan_of_one_word(alloc: Global) -> Option<Plan> {
     let (tape, _) = read_tape(alloc, &ONE_WORD).ok()?;
     Plan::of(alloc, &tape).ok()
 }

@@ -4,7 +4,7 @@ use crate::record_steps::{
     BEGUN, BESIDE, Before, CURRENT, Course, IN_PLACE, NO_FAULT, OLD, OTHER, READ, RECORD, Row,
     Task, UNBEGUN, UNMADE, clear, held, holds, is_row_so, is_taken_so,
 };
-use crate::simulated_system::{Failing, Step};
+use simulated_system::{Failing, Step};
 use std::io::ErrorKind;
 use std::os::unix::fs::symlink;
 use std::test::Fail;

@@ -32,7 +32,7 @@ pub const NOWHERE: usize = usize::MAX;
 
 impl<'a> BrokenInput<'a> {
     /// Gives these bytes, and fails before the one at this place. It has not failed yet.
-    pub(crate) fn new(bytes: &'a [u8], fails_before: usize) -> BrokenInput<'a> {
+    pub fn new(bytes: &'a [u8], fails_before: usize) -> BrokenInput<'a> {
         BrokenInput {
             bytes,
             given: 0,
@@ -43,7 +43,7 @@ impl<'a> BrokenInput<'a> {
     }
 
     /// Whether it failed, and was not asked again.
-    pub(crate) fn failed_once(&self) -> bool {
+    pub fn failed_once(&self) -> bool {
         self.failures == 1 && self.later_reads == 0
     }
 }
@@ -91,7 +91,7 @@ const TAKEN: usize = 7;
 
 impl BrokenOutput {
     /// Adds to what was written, and fails at the write of this number, from 1. It has not failed yet.
-    pub(crate) fn new(written: Vec<u8>, fails_at: u32) -> BrokenOutput {
+    pub fn new(written: Vec<u8>, fails_at: u32) -> BrokenOutput {
         BrokenOutput {
             written,
             writes: 0,
@@ -103,7 +103,7 @@ impl BrokenOutput {
     }
 
     /// Whether it failed, and was not asked again.
-    pub(crate) fn failed_once(&self) -> bool {
+    pub fn failed_once(&self) -> bool {
         self.failures == 1 && self.later_writes == 0
     }
 }

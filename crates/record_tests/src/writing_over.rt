@@ -3,7 +3,7 @@
 use crate::record_steps::{
     BEGUN, Before, CURRENT, Course, IN_PLACE, NO_FAULT, READ, Row, Task, UNBEGUN, clear, is_row_so,
 };
-use crate::simulated_system::Step;
+use simulated_system::Step;
 use std::io::ErrorKind;
 
 // A record that is written where it is, and each step fails in turn. It is never less

@@ -1,10 +1,9 @@
 //! What a save asks of the system for its tape, in which order, and what comes of each step that fails. The
 //! system gives no file a second name, so that the tape is renamed.
 
-use crate::files::remove;
 use crate::record_steps::holds;
-use crate::simulated_system::{AMPLE, Failing, Notes, Step, System};
 use machine_look::{NewFile, Shelf, ShelfFault};
+use simulated_system::{AMPLE, Failing, Notes, Step, System, remove};
 use std::fs;
 use std::io::ErrorKind;
 

@@ -4,11 +4,11 @@ use std::fs;
 use std::fs::File;
 
 /// Removes a file, where there is one.
-pub(crate) fn remove(rt: &HostRuntime, name: &str) {
+pub fn remove(rt: &HostRuntime, name: &str) {
     let _ = fs::remove_file(rt, name);
 }
 
 /// Opens a file to read and write it, where there is one.
-pub(crate) fn opened(rt: &HostRuntime, name: &str) -> Option<File> {
+pub fn opened(rt: &HostRuntime, name: &str) -> Option<File> {
     File::options().read(true).write(true).open(rt, name).ok()
 }

@@ -69,7 +69,7 @@ pub(crate) fn removing(path: &str) -> Step {
 
 impl<'n> Notes<'n> {
     /// Nothing was asked yet; these steps are to fail.
-    pub(crate) fn new(alloc: Global, failing: Failing, folder: &'n str) -> Notes<'n> {
+    pub fn new(alloc: Global, failing: Failing, folder: &'n str) -> Notes<'n> {
         Notes {
             steps: RefCell::new(Vec::new(alloc)),
             failing,

@@ -1,9 +1,7 @@
 //! Records over a system that notes what is asked of it: what stands there, which steps fail, and what comes of it.
 
-use crate::files::{opened, remove};
-use crate::simulated_system::{AMPLE, Failing, Notes, Step, System};
-use crate::tapes::plan_of_one_word;
 use record_file::{RecordFault, RecordFile};
+use simulated_system::{AMPLE, Failing, Notes, Step, System, opened, plan_of_one_word, remove};
 use std::alloc::Global;
 use std::fs::File;
 use std::os::unix::fs::symlink;

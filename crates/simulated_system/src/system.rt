@@ -3,11 +3,8 @@
 //! line after a while. What is asked of its files can be noted, step by step, and steps can be made to
 //! fail.
 
-mod notes;
-
+use crate::notes::{Notes, Step, holding, note, note_opening, removing};
 use arrayvec::ArrayVec;
-use notes::{holding, note, note_opening, removing};
-pub use notes::{Failing, Notes, Step};
 use odt_machine::{LARGEST_WORDS, Odt, PLAIN_STYLE};
 use record_file::Locks;
 use serial_line::Devices;
@@ -102,7 +99,7 @@ fn machine_of(alloc: Global, setting: Setting) -> Option<Odt> {
 
 impl<'a> System<'a> {
     /// A system of this setting, to which nobody has connected yet.
-    pub(crate) fn new(rt: &'a HostRuntime, setting: Setting) -> System<'a> {
+    pub fn new(rt: &'a HostRuntime, setting: Setting) -> System<'a> {
         System {
             rt,
             setting,
@@ -114,7 +111,7 @@ impl<'a> System<'a> {
     }
 
     /// The same system, whose notes say what is asked of its files and which step fails.
-    pub(crate) fn noted(mut self, notes: &'a Notes<'a>) -> System<'a> {
+    pub fn noted(mut self, notes: &'a Notes<'a>) -> System<'a> {
         self.notes = Some(notes);
         self
     }

@@ -1,12 +1,12 @@
 //! Devices that fail once and would then go on: the record of a load, as it is read and as it is
 //! written.
 
-use crate::failing_devices::{BrokenInput, BrokenOutput, NOWHERE};
 use crate::frail::{Frail, RECORD, Stopped, VERIFIED, load_one_word, machine};
 use host_core::End;
 use load_devices::KeepFault;
 use load_engine::Stop;
 use machine_load::LoadFault;
+use simulated_system::{BrokenInput, BrokenOutput, NOWHERE};
 use std::alloc::Global;
 use std::cell::RefCell;
 

@@ -1,13 +1,11 @@
 //! What a load asks of the system to read its record and hold it, and what comes of each step that fails.
 
-use crate::files::opened;
 use crate::record_steps::{
     BEGUN, Before, CURRENT, Course, NO_FAULT, OLD, OTHER, READ, RECORD, Row, Task, UNMADE, clear,
     held, is_left_so, is_row_so, is_taken_so, put, take,
 };
-use crate::simulated_system::{AMPLE, Failing, Step, System};
-use crate::tapes::plan_of_one_word;
 use record_file::{RecordFault, RecordFile};
+use simulated_system::{AMPLE, Failing, Step, System, opened, plan_of_one_word};
 use std::fs;
 use std::fs::File;
 use std::io::ErrorKind;

@@ -208,7 +208,7 @@ class Crates(Case):
     def test_the_map_has_each_crate_and_what_it_stands_on(self):
         page = text_at("docs/MAP.md")
         rows = {cells[0].strip("`"): cells for cells in rows_of(page) if len(cells) == 4 and cells[0].startswith("`")}
-        tests = {it for it in self.crates if it.endswith("_tests")} | {"scarce_memory", "told_disk"}
+        tests = {it for it in self.crates if it.endswith("_tests")} | {"scarce_memory", "told_disk", "simulated_system"}
         self.is_so(set(rows), set(self.crates) - tests)
         for it in tests:
             self.assertIn(f"`{it}`", page)

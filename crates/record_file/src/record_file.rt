@@ -1,5 +1,5 @@
 //! The record's file over a whole load.
-ghost use Rattle.std.specs.Prelude.{◌≡◌, Option, None, IfErr, IfOk, OnErr, OnOk, MatchOption, option_map};
+ghost use Rattle.std.specs.Prelude.{◌≡◌, Option, None, IfErr, IfOk, IsSome, IsTrue, OnErr, OnOk, MatchOption, option_map};
 ghost use Rattle.record_file.specs.Beginning.{IsBegun, IsNotBegun};
 ghost use Rattle.record_file.specs.Closing.{IsClosed, Remains};
 ghost use Rattle.record_file.specs.DiskRecord.{HasBegun};
@@ -48,6 +48,7 @@ impl<'a, D: Disk + Drop> RecordFile<'a, D> {
     pub fn read(&mut self, alloc: Global) -> Result<OldRecord, RecordFault>
         ensures fault { IfErr result IsUnread }
         ensures name { self.new.name.now ≡ self.old.name.now }
+        ensures writable { IfOk result (λ old. IsTrue old.writable → IsSome self.new.held) }
         ensures asked { IfOk result (λ old. HasAsked (D.asked self.old.disk) (D.asked self.new.disk)
             (IsRead self.old.name.now old.text.items (option_map kind_of self.old.held) (option_map kind_of self.new.held))) }
         ensures failed { IfErr result (λ _. HasAsked (D.asked self.old.disk) (D.asked self.new.disk) (IsNotRead self.old.name.now)) }

@@ -17,7 +17,7 @@ mod tapes;
 pub use failing_devices::{BrokenInput, BrokenOutput, NOWHERE, UnflushedOutput};
 pub use files::{opened, remove};
 pub use notes::{Failing, Notes, Step};
-pub use system::{AMPLE, BARRED, Console, DEVICE, PORT, QUIET_MS, RoomyFile, Setting, System};
+pub use system::{AMPLE, Console, DEVICE, QUIET_MS, Setting, System};
 pub use tapes::{
     NOTHING, ONE_WORD, ONE_WORD_DIALOGUE, ONE_WORD_TEXT, OVERLAP, PADDED, WRONG_SUM,
     plan_of_one_word,

@@ -57,14 +57,14 @@ pub const AMPLE: Setting = Setting {
     tick: 0,
 };
 
-/// Where the console is: this port of 127.0.0.1.
-pub const PORT: u16 = 2323;
+// Where the console is: this port of 127.0.0.1.
+const PORT: u16 = 2323;
 
 /// The device at which the console is, too.
 pub const DEVICE: &str = "/dev/ttyUSB0";
 
-/// The name of a file that can't be opened.
-pub const BARRED: &str = "barred";
+// The name of a file that can't be opened.
+const BARRED: &str = "barred";
 
 /// How long silence lasts there, in milliseconds. A console takes no other time limit.
 pub const QUIET_MS: u32 = 2000;

@@ -4,9 +4,10 @@
 use crate::terminals::{Bench, DAWN, HOUR, PATH, Pace, Scripted, Turn};
 use host_core::Heard;
 use load_devices::{Line, LineFault};
-use serial_line::{DeviceLine, Devices, open_line};
+use serial_line::{Device, DeviceLine, Devices, open_line};
 use std::io::ErrorKind;
-use std::time::Clock;
+use std::net::OpenStream;
+use std::time::{Clock, Duration};
 
 // Nothing has come.
 const NOTHING: Turn = Turn::Fails(ErrorKind::WouldBlock);
@@ -31,8 +32,7 @@ struct Silence {
 }
 
 // Reckoned by hand: a pause is a thirty-second of what was counted before it, from 10 to 5,000
-// microseconds, and
-// counts for what passed, but not for less than was asked for nor for more than 10,000.
+// microseconds, and counts for what passed, but not for less than was asked for nor for more than 10,000.
 const SILENCES: [Silence; 10] = [
     // Without a delay a silence is as long as it shall be, and never shorter.
     Silence {
@@ -263,6 +263,32 @@ fn is_refused() -> bool {
 fn a_stopped_output_ends_and_no_line_without_a_time(rt: HostRuntime) {
     assert!(rt; is_stopped_output_ended());
     assert!(rt; is_refused());
+}
+
+// Time limits in milliseconds, and whether a device with a quiet time of 50 ms takes them: its own time, and no other.
+const LIMITS: [(u64, bool); 4] = [(50, true), (49, false), (51, false), (0, false)];
+
+// Whether a device with a quiet time of 50 ms takes this time limit.
+fn takes(limit: Option<Duration>) -> bool {
+    let bench = Bench::new(&[], &[], Pace::Still);
+    let system = &bench;
+    match system.open_terminal(PATH) {
+        Ok(terminal) => Device::new(terminal, system, 50)
+            .set_read_timeout(limit)
+            .is_ok(),
+        Err(_) => false,
+    }
+}
+
+#[test]
+fn the_time_of_a_device_is_its_own(rt: HostRuntime) {
+    for (limit, is_taken) in &LIMITS {
+        assert!(rt;
+            takes(Some(Duration::from_millis(*limit))) == *is_taken,
+            "{limit} ms"
+        );
+    }
+    assert!(rt; !takes(None));
 }
 
 // Names of the test's own system that are no terminals: one that is not there, folders, devices that are none,

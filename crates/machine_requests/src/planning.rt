@@ -2,7 +2,8 @@
 ghost use Rattle.std.specs.Prelude.{◌≡◌, ◌⊎◌, IfOk, IfErr};
 ghost use Rattle.std.specs.Mem.{FitsInMemory};
 ghost use Rattle.endings.specs.Streams.{held};
-ghost use Rattle.machine_requests.specs.Files.{inputs_of, only_input, opening_between, AreOpened, FailsToPlan, IsPlanned, IsPlanOf, IsUnopened, IsUnplanned, OfFiles};
+ghost use Rattle.machine_requests.specs.Files.{inputs_of, only_input, opening_between, AreOpened, IsUnopened, OfFiles};
+ghost use Rattle.machine_requests.specs.Files.{FailsToPlan, IsPlanned, IsPlanOf, IsUnplanned};
 
 use crate::names::is_input;
 use command_io::take_tapes;

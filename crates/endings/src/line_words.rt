@@ -2,13 +2,13 @@
 ghost use Rattle.std.specs.Prelude.{◌≡◌, ◌≤◌, ◌++◌, ◌+◌, codes, decimal, length};
 ghost use Rattle.arrayvec.specs.ArrayVec.{array_vec_len};
 ghost use Rattle.endings.specs.Failure.{failure_words, one_tape_text};
-ghost use Rattle.tape_blocks.specs.Fault.{fault_text, why_text};
+ghost use Rattle.tape_blocks.specs.Fault.{fault_text};
 
 use crate::failure::{Failure, OneTape};
 use arrayvec::ArrayVec;
 use byte_io::{push_bytes, push_decimal};
 use load_record::RecordError;
-use tape_blocks::{Fault, Why};
+use tape_blocks::{Fault, OUT_OF_MEMORY, REFUSED_AT};
 
 /// The words of a line, with room for the longest and for its end.
 pub(crate) type LineWords = ArrayVec<u8, 128>;
@@ -56,7 +56,7 @@ fn push_words(words: &mut LineWords, failure: Failure<'_>)
         }
         Failure::TooLarge => push_bytes(words, b"machine too large"),
         Failure::BadWord => push_bytes(words, b"a word of the command line is not UTF-8"),
-        Failure::NoMemory => push_bytes(words, b"out of memory"),
+        Failure::NoMemory => push_bytes(words, OUT_OF_MEMORY.as_bytes()),
     }
 }
 
@@ -83,31 +83,14 @@ fn push_place(words: &mut LineWords, place: &[u8], line: u32)
     push_decimal(words, u64::from(line));
 }
 
-// Puts what is wrong with a tape, and where, behind others, in the words that the fault itself is shown by.
+// Puts what is wrong with a tape, and where, behind others, as the fault itself is shown.
 fn push_fault(words: &mut LineWords, fault: Fault)
     requires { array_vec_len words.old ≤ 64 }
     ensures words { words.new.items ≡ words.old.items ++ fault_text fault }
     ensures short { array_vec_len words.new ≤ array_vec_len words.old + 43 }
 {
-    push_bytes(words, b"refused at ");
+    push_bytes(words, REFUSED_AT.as_bytes());
     push_decimal(words, u64::from(fault.at));
     push_bytes(words, b": ");
-    push_bytes(words, why_name(fault.why).as_bytes());
-}
-
-// The name of a reason.
-fn why_name(why: Why) -> &'static str
-    ensures name { result.now ≡ why_text why }
-    ensures short { length result.now ≤ 10 }
-{
-    match why {
-        Why::Stray => "Stray",
-        Why::BadMark => "BadMark",
-        Why::BadCount => "BadCount",
-        Why::Cut => "Cut",
-        Why::BadSum => "BadSum",
-        Why::PastTop => "PastTop",
-        Why::NoTransfer => "NoTransfer",
-        Why::TooLong => "TooLong",
-    }
+    push_bytes(words, fault.why.name().as_bytes());
 }

@@ -46,6 +46,37 @@ pub enum End {
     WontHold(u16),
 }
 
+impl End {
+    ghost use Rattle.std.specs.Prelude.{◌≡◌, ◌≤◌, length};
+    ghost use Rattle.host_core.specs.End.{end_address, end_word};
+
+    /// The word for this end in reports: 12 characters at most.
+    pub fn word(self) -> &'static str
+        ensures word { result.now ≡ end_word self }
+        ensures short { length result.now ≤ 12 }
+    {
+        match self {
+            End::Loaded => "Loaded",
+            End::Started => "Started",
+            End::Uncertain => "Uncertain",
+            End::MaybeStarted => "MaybeStarted",
+            End::GaveUp => "GaveUp",
+            End::NoWord(_) => "NoWord",
+            End::WontHold(_) => "WontHold",
+        }
+    }
+
+    /// The address of the word that was not there or did not hold.
+    pub fn address(self) -> Option<u16>
+        ensures { result ≡ end_address self }
+    {
+        match self {
+            End::NoWord(address) | End::WontHold(address) => Some(address),
+            _ => None,
+        }
+    }
+}
+
 impl fmt::Display for End {
     ghost use Rattle.std.specs.Prelude.{Some};
     ghost use Rattle.host_core.specs.End.{end_name};
@@ -53,14 +84,10 @@ impl fmt::Display for End {
     ghost output = { λ end. Some (end_name end) };
 
     fn fmt<W: fmt::Write>(&self, f: &mut fmt::Formatter<W>) -> fmt::Result {
-        match *self {
-            End::Loaded => f.write_str("Loaded"),
-            End::Started => f.write_str("Started"),
-            End::Uncertain => f.write_str("Uncertain"),
-            End::MaybeStarted => f.write_str("MaybeStarted"),
-            End::GaveUp => f.write_str("GaveUp"),
-            End::NoWord(address) => write!(f, "NoWord {}", Octal(address)),
-            End::WontHold(address) => write!(f, "WontHold {}", Octal(address)),
+        let word = self.word();
+        match self.address() {
+            Some(address) => write!(f, "{word} {}", Octal(address)),
+            None => f.write_str(word),
         }
     }
 }

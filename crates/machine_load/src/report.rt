@@ -1,18 +1,17 @@
 //! The report of a load.
-ghost use Rattle.std.specs.Prelude.{◌≡◌, ◌+◌, ◌≤◌, ◌++◌, [], codes, length};
+ghost use Rattle.std.specs.Prelude.{◌≡◌, ◌+◌, ◌≤◌, ◌++◌, [], codes};
 ghost use Rattle.arrayvec.specs.ArrayVec.{array_vec_len};
-ghost use Rattle.octal.specs.Octal.{octal_text};
 ghost use Rattle.host_core.specs.End.{end_name};
 ghost use Rattle.byte_io.specs.Text.{line};
-ghost use Rattle.machine_load.specs.LoadReport.{counts_text, load_report, stop_name};
+ghost use Rattle.machine_load.specs.LoadReport.{load_counts_text, load_report, stop_name};
 
 use arrayvec::ArrayVec;
 use byte_io::{push_bytes, push_decimal, push_octal};
 use host_core::{End, HostCore};
 use load_engine::Stop;
 
-// Room for the longest report: its words, four numbers of 20 digits and the longest name of an end.
-const REPORT_ROOM: usize = 127;
+// Room for the longest report: its words, four numbers of 20 digits, the longest word for an end and an address.
+const REPORT_ROOM: usize = 131;
 
 // A report, in room of its own: a load that is over needs no memory to say so.
 type Report = ArrayVec<u8, REPORT_ROOM>;
@@ -29,7 +28,7 @@ pub(crate) fn load_report(core: &HostCore, stop: Stop) -> Report
 
 fn push_counts(text: &mut Report, core: &HostCore)
     requires { text.old.items ≡ [] }
-    ensures items { text.new.items ≡ line (counts_text core.now) }
+    ensures items { text.new.items ≡ line (load_counts_text core.now) }
     ensures length { array_vec_len text.new ≤ 107 }
 {
     push_bytes(text, b"sent ");
@@ -55,7 +54,7 @@ fn push_stop(text: &mut Report, stop: Stop)
 fn push_stop_name(text: &mut Report, stop: Stop)
     requires { array_vec_len text.old ≤ 111 }
     ensures items { text.new.items ≡ text.old.items ++ stop_name stop }
-    ensures length { array_vec_len text.new ≤ array_vec_len text.old + 15 }
+    ensures length { array_vec_len text.new ≤ array_vec_len text.old + 19 }
 {
     match stop {
         Stop::Ended(end) => push_end_name(text, end),
@@ -68,25 +67,11 @@ fn push_stop_name(text: &mut Report, stop: Stop)
 fn push_end_name(text: &mut Report, end: End)
     requires { array_vec_len text.old ≤ 111 }
     ensures items { text.new.items ≡ text.old.items ++ end_name end }
-    ensures length { array_vec_len text.new ≤ array_vec_len text.old + 15 }
+    ensures length { array_vec_len text.new ≤ array_vec_len text.old + 19 }
 {
-    match end {
-        End::Loaded => push_bytes(text, b"Loaded"),
-        End::Started => push_bytes(text, b"Started"),
-        End::Uncertain => push_bytes(text, b"Uncertain"),
-        End::MaybeStarted => push_bytes(text, b"MaybeStarted"),
-        End::GaveUp => push_bytes(text, b"GaveUp"),
-        End::NoWord(address) => push_address(text, b"NoWord ", address),
-        End::WontHold(address) => push_address(text, b"WontHold ", address),
+    push_bytes(text, end.word().as_bytes());
+    if let Some(address) = end.address() {
+        push_bytes(text, b" ");
+        push_octal(text, address);
     }
-}
-
-// The name of an end, and the address that it has.
-fn push_address(text: &mut Report, name: &[u8], address: u16)
-    requires { array_vec_len text.old + length name.now ≤ 120 }
-    ensures items { text.new.items ≡ text.old.items ++ (name.now ++ octal_text address) }
-    ensures length { array_vec_len text.new ≡ array_vec_len text.old + length name.now + 6 }
-{
-    push_bytes(text, name);
-    push_octal(text, address);
 }

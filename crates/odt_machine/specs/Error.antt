@@ -6,4 +6,4 @@ use Rattle.odt_machine.specs.declared.machine.OdtError.TheVariants.{TooLarge, Me
 -- what is said of a machine that was not made (this project's choice)
 abbrev pub error_text : OdtError → List ℕ
 error_text TooLarge = codes "a machine has at most 28672 words"
-error_text Memory = codes "out of memory"
+error_text Memory = codes "no memory is left for the machine's words"

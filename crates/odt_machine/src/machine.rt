@@ -7,7 +7,7 @@ mod typing;
 
 use crate::mode::Mode;
 use crate::style::Style;
-use std::alloc::{AllocError, Global};
+use std::alloc::Global;
 use std::error::Error;
 use std::fmt;
 use std::marker::Model;
@@ -35,7 +35,7 @@ impl fmt::Display for OdtError {
     fn fmt<W: fmt::Write>(&self, f: &mut fmt::Formatter<W>) -> fmt::Result {
         f.write_str(match self {
             OdtError::TooLarge => "a machine has at most 28672 words",
-            OdtError::Memory => "out of memory",
+            OdtError::Memory => "no memory is left for the machine's words",
         })
     }
 }

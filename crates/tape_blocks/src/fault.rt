@@ -33,14 +33,16 @@ pub enum Why {
     TooLong,
 }
 
-impl fmt::Display for Why {
-    ghost use Rattle.std.specs.Prelude.{Some};
+impl Why {
+    ghost use Rattle.std.specs.Prelude.{◌≡◌, ◌≤◌, length};
     ghost use Rattle.tape_blocks.specs.Fault.{why_text};
 
-    ghost output = { λ why. Some (why_text why) };
-
-    fn fmt<W: fmt::Write>(&self, f: &mut fmt::Formatter<W>) -> fmt::Result {
-        f.write_str(match self {
+    /// The reason's name, as it is printed: 10 characters at most.
+    pub fn name(self) -> &'static str
+        ensures name { result.now ≡ why_text self }
+        ensures short { length result.now ≤ 10 }
+    {
+        match self {
             Why::Stray => "Stray",
             Why::BadMark => "BadMark",
             Why::BadCount => "BadCount",
@@ -49,9 +51,23 @@ impl fmt::Display for Why {
             Why::PastTop => "PastTop",
             Why::NoTransfer => "NoTransfer",
             Why::TooLong => "TooLong",
-        })
+        }
     }
 }
+
+impl fmt::Display for Why {
+    ghost use Rattle.std.specs.Prelude.{Some};
+    ghost use Rattle.tape_blocks.specs.Fault.{why_text};
+
+    ghost output = { λ why. Some (why_text why) };
+
+    fn fmt<W: fmt::Write>(&self, f: &mut fmt::Formatter<W>) -> fmt::Result {
+        f.write_str(self.name())
+    }
+}
+
+/// What stands before the place of a fault where it is printed.
+pub const REFUSED_AT: &str = "refused at ";
 
 /// What is wrong with an input, and at which of its bytes, counted from 0.
 #[derive(Clone, Copy, Debug, PartialEq, Eq)]
@@ -81,11 +97,14 @@ impl fmt::Display for Fault {
     fn fmt<W: fmt::Write>(&self, f: &mut fmt::Formatter<W>) -> fmt::Result {
         let at = self.at;
         let why = self.why;
-        write!(f, "refused at {at}: {why}")
+        write!(f, "{REFUSED_AT}{at}: {why}")
     }
 }
 
 impl Error for Fault {}
+
+/// What is said of a growth of memory that was refused.
+pub const OUT_OF_MEMORY: &str = "out of memory";
 
 /// A growth of memory was refused.
 #[derive(Clone, Copy, Debug, PartialEq, Eq)]
@@ -98,7 +117,7 @@ impl fmt::Display for Memory {
     ghost output = { λ _. Some memory_text };
 
     fn fmt<W: fmt::Write>(&self, f: &mut fmt::Formatter<W>) -> fmt::Result {
-        f.write_str("out of memory")
+        f.write_str(OUT_OF_MEMORY)
     }
 }
 

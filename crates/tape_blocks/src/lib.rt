@@ -28,10 +28,10 @@ mod reader;
 mod tape;
 mod writer;
 
-pub use block::Block;
-pub use fault::{Fault, Memory, ReadError, Why};
+pub use block::{Block, TOP};
+pub use fault::{Fault, Memory, OUT_OF_MEMORY, REFUSED_AT, ReadError, Why};
 pub use input::{FromError, read_from};
 pub use law::{one_reading, one_tape};
 pub use reader::{Fed, TapeReader, read_tape};
-pub use tape::{BadTape, TAPE_LIMIT, Tape};
+pub use tape::{BadTape, Tape};
 pub use writer::write_tape;

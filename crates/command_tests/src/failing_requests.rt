@@ -10,7 +10,6 @@ use simulated_system::{
 };
 use std::alloc::{AllocError, Global};
 use std::fs;
-use std::io::Write;
 use std::test::Fail;
 
 // What is asked for.
@@ -97,7 +96,7 @@ const PRINTING: [Row; 4] = [
 ];
 
 // A request's streams, with this output.
-fn streams_with<W: Write>(
+fn streams_with<W: Output>(
     rt: &HostRuntime,
     row: &Row,
     out: W,

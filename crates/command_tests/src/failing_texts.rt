@@ -6,7 +6,6 @@ ghost use Rattle.endings.specs.FaultOutput.{IsSaid};
 use endings::{Failure, FaultOutput, Output, Status, Streams, refuse, show, tell};
 use simulated_system::{BrokenOutput, UnflushedOutput};
 use std::alloc::Global;
-use std::io::Write;
 
 // A text that a failing output takes in two writes.
 const TEXT: &str = "Usage: ldaodt\n";
@@ -15,7 +14,7 @@ const TEXT: &str = "Usage: ldaodt\n";
 const CANNOT_WRITE: &[u8] = b"ldaodt: cannot write output\n";
 
 // Streams with this output and this standard error, and nothing on standard input.
-fn streams_of<W: Write, E: FaultOutput>(out: W, err: E) -> Streams<&'static [u8], W, E> {
+fn streams_of<W: Output, E: FaultOutput>(out: W, err: E) -> Streams<&'static [u8], W, E> {
     Streams {
         input: &[],
         out,

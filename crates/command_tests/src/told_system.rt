@@ -1,11 +1,10 @@
 //! A system that tells what was asked of it, part by part, so that what a request promises of that can be met.
 //!
 //! Where there is no memory for one thing more the process ends, since a list that lacks one would be wrong.
-ghost use Rattle.std.specs.Prelude.{◌≡◌, ◌++◌, [], ◌∷◌, false, Some, None};
-ghost use Rattle.command_tests.specs.ToldSystem.{dialled_by, opened_at, opened_by};
+ghost use Rattle.std.specs.Prelude.{◌≡◌, ◌++◌, [], ◌∷◌, Some};
+ghost use Rattle.command_tests.specs.ToldSystem.{dialled_by, opened_at, opened_by, Tells};
 ghost use Rattle.input_files.specs.Opening.{opening};
 ghost use Rattle.requests.specs.Attempt.{IsAttempted};
-ghost use Rattle.told_disk.specs.ToldSteps.{steps_of};
 
 use crate::attempts::NOBODY;
 use endings::{Status, Streams};
@@ -123,38 +122,25 @@ impl<'a, R: Abort> DeviceOpening for ToldDevices<'a, R> {
 
 /// A system of which each part tells.
 pub(crate) type ToldSystem<'a, R> = System<
+    'a,
     ToldInputs<'a, R>,
-    Outside<'a, ToldDisk<'a>, ToldNetwork<'a, R>, ToldDevices<'a, R>, Simulated<'a>>,
+    ToldDisk<'a>,
+    ToldNetwork<'a, R>,
+    ToldDevices<'a, R>,
+    Simulated<'a>,
 >;
 
-/// Attempts a request in such a system. What `attempt` promises of it speaks of lists that are there.
+// Attempts a request in such a system. What `attempt` promises of it speaks of lists that are there.
 fn attempt_told<'a, R: Abort>(
     system: ToldSystem<'a, R>,
     alloc: Global,
     request: Request<'_>,
     streams: &mut Streams<&[u8], Vec<u8>, Vec<u8>>,
 ) -> (ToldSystem<'a, R>, Status)
-    ensures { IsAttempted request.entry false
-        (record {
-          inputs = Some (opened_by system.entry.inputs.opened.items);
-          outside = record {
-            disk = steps_of system.entry.outside.disk.asked;
-            network = Some (dialled_by system.entry.outside.network.asked.items);
-            devices = Some (opened_at system.entry.outside.devices.asked.items);
-          };
-        })
-        (record {
-          inputs = Some (opened_by result.0.inputs.opened.items);
-          outside = record {
-            disk = steps_of result.0.outside.disk.asked;
-            network = Some (dialled_by result.0.outside.network.asked.items);
-            devices = Some (opened_at result.0.outside.devices.asked.items);
-          };
-        })
-        (record { input = Some streams.old.input.now; out = Some streams.old.out.items; err = record { text = Some streams.old.err.items; failures = None } })
-        (record { input = Some streams.new.input.now; out = Some streams.new.out.items; err = record { text = Some streams.new.err.items; failures = None } })
-        result.1 }
+    ensures attempted { IsAttempted request.entry system.entry result.0 streams.old streams.new result.1 }
+    ensures told { Tells system.entry }
 {
+    let _ = &system.inputs;
     attempt(system, alloc, request, streams, NOBODY)
 }
 
@@ -204,6 +190,19 @@ fn request_line(
     }
 }
 
+// A line for each console that was asked for, and for each time limit.
+fn push_requests(
+    alloc: Global,
+    text: &mut String,
+    verb: &str,
+    requests: &[(String, Option<u32>)],
+) -> Result<(), AllocError> {
+    for (name, limit) in requests {
+        text.push_str(&request_line(alloc, verb, name, *limit)?)?;
+    }
+    Ok(())
+}
+
 // What was asked of a system, as it is shown: a line for each thing, but for a disk, of which it is shown whether
 // anything was asked.
 fn shown<R: Abort>(alloc: Global, system: &ToldSystem<'_, R>) -> Result<String, AllocError> {
@@ -212,18 +211,10 @@ fn shown<R: Abort>(alloc: Global, system: &ToldSystem<'_, R>) -> Result<String, 
         let came = if *is_open { "opened" } else { "not opened" };
         text.push_str(&format!(in alloc; "{came} {name}\n")?)?;
     }
-    for (address, limit) in &system.outside.network.asked {
-        text.push_str(&request_line(alloc, "dialled", address, *limit)?)?;
-    }
-    for (path, limit) in &system.outside.devices.asked {
-        text.push_str(&request_line(alloc, "device", path, *limit)?)?;
-    }
-    if system
-        .outside
-        .disk
-        .asked()
-        .is_some_and(|asked| !asked.is_empty())
-    {
+    let outside = &system.outside;
+    push_requests(alloc, &mut text, "dialled", &outside.network.asked)?;
+    push_requests(alloc, &mut text, "device", &outside.devices.asked)?;
+    if outside.disk.asked().is_some_and(|asked| !asked.is_empty()) {
         text.push_str("disk\n")?;
     }
     Ok(text)
@@ -391,8 +382,8 @@ fn a_request_asks_for_what_its_words_name(rt: HostRuntime) -> Result<(), Fail> {
         let is_so = is_asked(&rt, &rt, *wanted, *status, asked)?;
         assert!(rt; is_so, "row {place}");
     }
-    for name in [TAPE, "told.record", "told.saved"] {
-        fs::remove_file(&rt, name)?;
-    }
+    fs::remove_file(&rt, TAPE)?;
+    fs::remove_file(&rt, "told.record")?;
+    fs::remove_file(&rt, "told.saved")?;
     Ok(())
 }

@@ -1,10 +1,17 @@
 -- A text that is said piece by piece.
-use Rattle.std.proofs.Common.{◌≡◌, ℕ, List, [], ◌++◌, Option, Some, None, Result, Ok, Err, OnErr, length, refl, sym, ap, ◌∙◌, subst, append_assoc, append-nil, arith}
+use Rattle.std.proofs.Common.{◌≡◌, ℕ, List, [], ◌++◌, Option, Some, None, Result, Ok, Err, OnErr, refl, sym, ap, ◌∙◌, subst, append_assoc, append-nil, arith}
 use Rattle.std.proofs.lemmas.List.{length-append}
 use Rattle.std.proofs.KnownBytes.{Appends-nil, Appends-trans}
 use Rattle.std.specs.Io.KnownBytes.{Appends}
 use Rattle.byte_io.specs.Output.{WritesProperPrefix}
-use Rattle.endings.specs.FaultOutput.{StandardError, IsSaidBut, IsSaidInPart, IsSaidWhole, NoneFailed, OneFailed}
+use Rattle.endings.specs.FaultOutput.{StandardError, IsSaidInPart, IsSaidWhole, NoneFailed, OneFailed}
+
+-- all of a text but what is left of it was said
+pub record IsSaidBut (err err' : StandardError) (text left : List ℕ) : Type 0 where
+  pub said : List ℕ
+  pub whole : text ≡ said ++ left
+  pub written : Appends err.text err'.text said
+  pub none_failed : NoneFailed err.failures err'.failures
 
 pub on_any_err : {T E : Type 0} (r : Result T E) (P : Type 0) → P → OnErr r P
 on_any_err (Ok x) P p = tt

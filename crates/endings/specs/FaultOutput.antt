@@ -1,5 +1,5 @@
 -- What is said on standard error, where its type tells what it holds, and how many of its writes failed.
-use Rattle.std.specs.Prelude.{◌≡◌, ◌⊎◌, ℕ, zero, suc, List, ◌++◌, Option, Some, None, Result, Ok, Err, ⊤}
+use Rattle.std.specs.Prelude.{◌≡◌, ◌⊎◌, ℕ, zero, suc, List, Option, Some, None, Result, Ok, Err, ⊤}
 use Rattle.std.specs.Io.KnownBytes.{Appends}
 use Rattle.std.specs.declared.io.Error.{Error}
 use Rattle.byte_io.specs.Output.{WritesProperPrefix}
@@ -10,6 +10,7 @@ pub record StandardError : Type 0 where
   pub text : Option (List ℕ)
   pub failures : Option ℕ
 
+-- what is known of a standard error, by what its type tells
 abbrev pub standard_error : {E : Type 0} → (E → Option (List ℕ)) → (E → Option ℕ) → E → StandardError
 standard_error contents failures err = record { text = contents err; failures = failures err }
 
@@ -28,13 +29,6 @@ abbrev pub CountsWrite : Option ℕ → Option ℕ → Result ℕ Error → Type
 CountsWrite count count' (Ok zero) = OneFailed count count'
 CountsWrite count count' (Ok (suc taken)) = NoneFailed count count'
 CountsWrite count count' (Err error) = OneFailed count count'
-
--- all of a text but what is left of it was said
-pub record IsSaidBut (err err' : StandardError) (text left : List ℕ) : Type 0 where
-  pub said : List ℕ
-  pub whole : text ≡ said ++ left
-  pub written : Appends err.text err'.text said
-  pub none_failed : NoneFailed err.failures err'.failures
 
 -- all of it was said, and nothing else
 pub record IsSaidWhole (err err' : StandardError) (text : List ℕ) : Type 0 where

@@ -1,6 +1,6 @@
 pub mod Explained
 pub mod Failure
 pub mod FaultOutput
+pub mod Held
 pub mod Output
 pub mod Status
-pub mod Streams

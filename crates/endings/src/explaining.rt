@@ -2,7 +2,6 @@
 ghost use Rattle.std.specs.Prelude.{◌≡◌};
 ghost use Rattle.endings.specs.Explained.{IsShown};
 ghost use Rattle.endings.specs.FaultOutput.{IsSaid, standard_error};
-ghost use Rattle.endings.specs.Streams.{held};
 
 use crate::fault_output::{FaultOutput, say};
 use crate::output::Output;
@@ -20,10 +19,7 @@ pub fn show<R: Read, W: Output, E: FaultOutput>(
     text: &str,
     streams: &mut Streams<R, W, E>,
 ) -> Status
-    ensures { IsShown text.now (W.unread streams.new.out)
-        (held R.remaining W.contents E.contents E.failures streams.old)
-        (held R.remaining W.contents E.contents E.failures streams.new)
-        result }
+    ensures { IsShown text.now streams.old streams.new result }
 {
     match write_and_flush(&mut streams.out, text.as_bytes()) {
         Ok(()) => Status::Done,

@@ -1,5 +1,5 @@
 -- A text behind zeros, in the room of six characters.
-use Rattle.std.proofs.Common.{◌≡◌, ℕ, ◌-◌, ◌≤◌, Option, Some, None, List, [], ◌++◌, length, take, drop, replicate, refl, sym, ap, subst, ◌∙◌, arith}
+use Rattle.std.proofs.Common.{◌≡◌, ℕ, ◌-◌, ◌≤◌, Option, Some, None, List, [], ◌++◌, drop, replicate, refl, ap, subst, ◌∙◌, arith}
 use Rattle.std.proofs.lemmas.List.{take-replicate, length-replicate, length-drop, drop_all, append-nil}
 use Rattle.std.specs.Prelude.{IfSome}
 use Rattle.octal.specs.Octal.{IsOct6}

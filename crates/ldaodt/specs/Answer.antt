@@ -1,14 +1,14 @@
 -- What becomes of the words of a command line (this project's own).
-use Rattle.std.specs.Prelude.{◌≡◌, ◌⊎◌, ⊤, ℕ, Bool, List}
+use Rattle.std.specs.Prelude.{◌≡◌, ◌⊎◌, ⊤, ℕ, List}
 use Rattle.std.specs.String.{string_bytes}
 use Rattle.clap.specs.declared.error.kind.ErrorKind.{ErrorKind}
 use Rattle.clap.specs.declared.error.kind.ErrorKind.TheVariants as kind
 use Rattle.requests.specs.Attempt.{IsAttempted}
-use Rattle.machine_requests.specs.System.{Asked}
+use Rattle.machine_requests.specs.Asked.{Asked}
 use Rattle.endings.specs.Explained.{IsShown}
 use Rattle.endings.specs.Failure.{IsTold}
 use Rattle.endings.specs.FaultOutput.{IsSaid}
-use Rattle.endings.specs.Streams.{Held}
+use Rattle.endings.specs.Held.{Held}
 use Rattle.endings.specs.declared.failure.Failure.TheVariants as failure
 use Rattle.requests.specs.declared.request.Request.{Request}
 use Rattle.requests.specs.declared.request.Request.TheVariants.{CheckInput}
@@ -49,15 +49,15 @@ pub record IsMemoryWanting (before after : Held) (ended : Status) : Type 0 where
 
 -- words that ask for nothing to be done are explained: a text that was asked for is shown, or the words are refused, or memory was
 -- wanting
-abbrev pub IsExplained : NoRequest → Bool → Held → Held → Status → Type 0
-IsExplained (Help text) unread before after ended = IsShown (string_bytes text) unread before after ended
-IsExplained (Refused text) unread before after ended = AreWordsRefused (string_bytes text) before after ended
-IsExplained Meaningless unread before after ended = (text : List ℕ) × AreWordsRefused text before after ended
-IsExplained NoMemory unread before after ended = IsMemoryWanting before after ended
+abbrev pub IsExplained : NoRequest → Held → Held → Status → Type 0
+IsExplained (Help text) before after ended = IsShown (string_bytes text) before after ended
+IsExplained (Refused text) before after ended = AreWordsRefused (string_bytes text) before after ended
+IsExplained Meaningless before after ended = (text : List ℕ) × AreWordsRefused text before after ended
+IsExplained NoMemory before after ended = IsMemoryWanting before after ended
 
 -- something was asked for and attempted, the check of the input only where there were no words; or the words were explained, and nothing was
--- asked of the system. By then the output was found unread, or not
-abbrev pub IsAnswered : Type 0 → Bool → Asked → Asked → Held → Held → Status → Type 0
-IsAnswered no_words unread asked asked' before after ended =
-    ((request : Request) × ((request ≡ CheckInput → no_words) × IsAttempted request unread asked asked' before after ended))
-    ⊎ ((answer : NoRequest) × IsExplained answer unread before after ended × (asked' ≡ asked))
+-- asked of the system
+abbrev pub IsAnswered : Type 0 → Asked → Asked → Held → Held → Status → Type 0
+IsAnswered no_words asked asked' before after ended =
+    ((request : Request) × ((request ≡ CheckInput → no_words) × IsAttempted request asked asked' before after ended))
+    ⊎ ((answer : NoRequest) × IsExplained answer before after ended × (asked' ≡ asked))

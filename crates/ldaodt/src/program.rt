@@ -4,9 +4,7 @@ ghost use Rattle.std.specs.Mem.{FitsInMemory};
 ghost use Rattle.requests.specs.declared.request.Request.{Request};
 ghost use Rattle.endings.specs.declared.status.Status.{Status};
 ghost use Rattle.endings.specs.Status.{status_code};
-ghost use Rattle.endings.specs.Streams.{held};
 ghost use Rattle.requests.specs.Attempt.{IsAttempted};
-ghost use Rattle.machine_requests.specs.System.{asked_of};
 ghost use Rattle.ldaodt.specs.Answer.{IsAnswered, IsExplained};
 
 use crate::command_line::{NoRequest, parse};
@@ -41,69 +39,30 @@ pub(crate) fn program<
     E: FaultOutput,
     T: Print,
 >(
-    system: System<F, Outside<'c, D, N, V, C>>,
+    system: System<'c, F, D, N, V, C>,
     alloc: Global,
     words: &[String],
     streams: &mut Streams<R, W, E>,
     terminal: Option<&T>,
-) -> (System<F, Outside<'c, D, N, V, C>>, u8)
+) -> (System<'c, F, D, N, V, C>, u8)
     requires { FitsInMemory R.row }
     // With no words, the tape on the input is checked.
-    ensures checked { words.now ≡ [] → (status : Status) × IsAttempted Request.CheckInput (W.unread streams.new.out)
-        (asked_of F.opened D.asked N.asked V.asked system.entry)
-        (asked_of F.opened D.asked N.asked V.asked result.0)
-        (held R.remaining W.contents E.contents E.failures streams.old)
-        (held R.remaining W.contents E.contents E.failures streams.new)
-        status × (result.1 ≡ status_code status) }
+    ensures checked { words.now ≡ [] → (status : Status)
+        × IsAttempted Request.CheckInput system.entry result.0 streams.old streams.new status × (result.1 ≡ status_code status) }
     // Whatever the words are, they ask for something that is then attempted, or they are explained. Only where
     // there are none, the input is checked.
-    ensures answered { (status : Status) × IsAnswered (words.now ≡ []) (W.unread streams.new.out)
-        (asked_of F.opened D.asked N.asked V.asked system.entry)
-        (asked_of F.opened D.asked N.asked V.asked result.0)
-        (held R.remaining W.contents E.contents E.failures streams.old)
-        (held R.remaining W.contents E.contents E.failures streams.new)
-        status × (result.1 ≡ status_code status) }
-{
-    let (system, status) = answer(system, alloc, words, streams, terminal);
-    (system, status.code())
-}
-
-// Does what the words ask for, or explains them.
-fn answer<
-    'c,
-    F: InputFiles + Drop,
-    D: Disk + Drop,
-    N: Dialling + Drop,
-    V: DeviceOpening + Drop,
-    C: Clock,
-    R: Read,
-    W: Output,
-    E: FaultOutput,
-    T: Print,
->(
-    system: System<F, Outside<'c, D, N, V, C>>,
-    alloc: Global,
-    words: &[String],
-    streams: &mut Streams<R, W, E>,
-    terminal: Option<&T>,
-) -> (System<F, Outside<'c, D, N, V, C>>, Status)
-    requires { FitsInMemory R.row }
-    ensures checked { words.now ≡ [] → IsAttempted Request.CheckInput (W.unread streams.new.out)
-        (asked_of F.opened D.asked N.asked V.asked system.entry)
-        (asked_of F.opened D.asked N.asked V.asked result.0)
-        (held R.remaining W.contents E.contents E.failures streams.old)
-        (held R.remaining W.contents E.contents E.failures streams.new)
-        result.1 }
-    ensures answered { IsAnswered (words.now ≡ []) (W.unread streams.new.out)
-        (asked_of F.opened D.asked N.asked V.asked system.entry)
-        (asked_of F.opened D.asked N.asked V.asked result.0)
-        (held R.remaining W.contents E.contents E.failures streams.old)
-        (held R.remaining W.contents E.contents E.failures streams.new)
-        result.1 }
+    ensures answered { (status : Status)
+        × IsAnswered (words.now ≡ []) system.entry result.0 streams.old streams.new status × (result.1 ≡ status_code status) }
 {
     match parse(alloc, words) {
-        Ok(request) => attempt(system, alloc, request, streams, terminal),
-        Err(answer) => (system, explain(alloc, answer, streams)),
+        Ok(request) => {
+            let (system, status) = attempt(system, alloc, request, streams, terminal);
+            (system, status.code())
+        }
+        Err(answer) => {
+            let status = explain(alloc, answer, streams);
+            (system, status.code())
+        }
     }
 }
 
@@ -113,10 +72,7 @@ fn explain<R: Read, W: Output, E: FaultOutput>(
     answer: NoRequest,
     streams: &mut Streams<R, W, E>,
 ) -> Status
-    ensures { IsExplained answer (W.unread streams.new.out)
-        (held R.remaining W.contents E.contents E.failures streams.old)
-        (held R.remaining W.contents E.contents E.failures streams.new)
-        result }
+    ensures { IsExplained answer streams.old streams.new result }
 {
     match answer {
         NoRequest::Help(text) => show(alloc, &text, streams),

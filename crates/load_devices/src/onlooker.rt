@@ -41,3 +41,24 @@ impl Onlooker for Unwatched {
 
     fn ends(&self) {}
 }
+
+// Somebody, where there is one.
+impl<O: Onlooker> Onlooker for Option<O> {
+    fn begins(&self, done: u32, words: u32) {
+        if let Some(onlooker) = self {
+            onlooker.begins(done, words);
+        }
+    }
+
+    fn sees(&self, sight: Sight) {
+        if let Some(onlooker) = self {
+            onlooker.sees(sight);
+        }
+    }
+
+    fn ends(&self) {
+        if let Some(onlooker) = self {
+            onlooker.ends();
+        }
+    }
+}

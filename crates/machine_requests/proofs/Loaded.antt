@@ -5,7 +5,7 @@ use Rattle.load_devices.specs.Told.{Gains}
 use Rattle.machine_load.proofs.OnDisk.{closed_ok}
 use Rattle.machine_load.specs.Called.{asked_by}
 use Rattle.machine_load.specs.RecordDisk.{DiskAsked, FileKnown, IsClosedAfter, RecordDisk, disk_asked_by, disk_asked_before}
-use Rattle.record_file.specs.Closing.{IsClosed}
+use Rattle.record_file.specs.Closing.{IsRecordClosed}
 use Rattle.record_file.specs.DiskStep.{DiskStep, HasAsked}
 use Rattle.stream_line.specs.Dialling.{Call, LineRequest}
 use Rattle.tape_image.specs.Plan.{PlanValue}
@@ -72,7 +72,7 @@ as_known b asked name p q r =
 
 -- a record that was new, and was closed behind a load
 pub closed_new : (b a : RecordDisk) (asked last : Option (List DiskStep)) (name : List ℕ) → b.asked ≡ asked → b.name ≡ name → b.known ≡ None
-    → HasAsked a.asked last (IsClosed a.name a.known) → (holds : RecordDisk → FileKnown → List DiskStep → Type 0) → DiskAsked (Some b) (Some a) holds
+    → HasAsked a.asked last (IsRecordClosed a.name a.known) → (holds : RecordDisk → FileKnown → List DiskStep → Type 0) → DiskAsked (Some b) (Some a) holds
     → HasAsked asked last (IsClosedAfter holds (record { asked = asked; name = name; known = None }))
 closed_new b a asked last name p q r closed holds h =
     subst (λ d. HasAsked d.asked last (IsClosedAfter holds d)) (as_known b asked name p q r) (closed_ok {A = ⊤} {E = ⊤} (λ _. holds) (Ok tt) b a last h closed)

@@ -4,7 +4,7 @@ use Rattle.std.proofs.lemmas.List.{length-map}
 use Rattle.record_file.proofs.Asking.{tells_none}
 use Rattle.endings.specs.declared.failure.Failure.{Failure}
 use Rattle.endings.specs.declared.failure.Failure.TheVariants.{NoMemory}
-use Rattle.endings.specs.Streams.{Held}
+use Rattle.endings.specs.Held.{Held}
 use Rattle.input_files.specs.Opening.{Name, InputStep, AreTried, AllOpen, HasOpened}
 use Rattle.input_files.proofs.Tried.{no_room}
 use Rattle.machine_requests.specs.Files.{Known, Inputs, Opening, AreOpened, IsUnopened, FailsUnopened, OfFiles, OfTapes, files_of, inputs_of, means_input, only_input, opening_between}

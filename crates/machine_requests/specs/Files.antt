@@ -8,8 +8,9 @@ use Rattle.command_io.specs.declared.fault.CommandFault.{CommandFault}
 use Rattle.command_io.specs.Tapes.{TapeText, AreTaken, AreTapesFault, tapes_of}
 use Rattle.endings.specs.declared.failure.Failure.{Failure}
 use Rattle.endings.specs.Failure.{IsFailureOf}
-use Rattle.endings.specs.Streams.{Held}
+use Rattle.endings.specs.Held.{Held}
 use Rattle.input_files.specs.Opening.{Name, InputStep, AreTried, HasOpened}
+use Rattle.machine_requests.specs.Asked.{Asked}
 
 -- what a reader has left or a writer holds, as far as its type tells
 abbrev pub Known : Type 0
@@ -34,8 +35,13 @@ pub record Opening : Type 0 where
   pub before : Option (List InputStep)
   pub after : Option (List InputStep)
 
+-- the same, by what is told before and after
 abbrev pub opening_between : Option (List InputStep) → Option (List InputStep) → Opening
 opening_between before after = record { before = before; after = after }
+
+-- which input files were opened meanwhile, by what was asked of a system
+abbrev pub opening_in : Asked → Asked → Opening
+opening_in asked asked' = opening_between asked.inputs asked'.inputs
 
 -- the files of these names were opened, in this order, and no others
 abbrev pub AreOpened : Opening → List Name → Type 0

@@ -1,3 +1,4 @@
+pub mod Asked
 pub mod Errand
 pub mod Files
 pub mod Listening
@@ -5,4 +6,3 @@ pub mod Loading
 pub mod Looking
 pub mod Probing
 pub mod Saving
-pub mod System

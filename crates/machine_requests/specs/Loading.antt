@@ -16,12 +16,12 @@ use Rattle.endings.specs.declared.failure.Failure.TheVariants.{CannotWrite}
 use Rattle.endings.specs.declared.status.Status.{Status}
 use Rattle.endings.specs.Failure.{IsLoadFailureOf, IsStopFailure}
 use Rattle.endings.specs.Status.{IsStopStatus}
-use Rattle.endings.specs.Streams.{Held}
+use Rattle.endings.specs.Held.{Held}
 use Rattle.machine_requests.specs.declared.request.Load.{Load as LoadRequest}
 use Rattle.input_files.specs.Opening.{Name}
 use Rattle.machine_requests.specs.Errand.{Told}
-use Rattle.machine_requests.specs.Files.{Known, Opening, IsPlanned, IsUnplanned}
-use Rattle.machine_requests.specs.System.{OutsideAsked, NotElsewhere, asked_towards, call_to}
+use Rattle.machine_requests.specs.Files.{Known, IsPlanned, IsUnplanned, opening_in}
+use Rattle.machine_requests.specs.Asked.{Asked, OutsideAsked, NotElsewhere, asked_towards, call_to}
 use Rattle.machine_requests.specs.Listening.{IsListenedTo, IsHeardInPart, seconds_of, quiet_time}
 
 -- what faults call the record: its file's name, where it has one
@@ -56,13 +56,15 @@ pub record LoadTold : Type 0 where
   pub asked : Option (List LineRequest)
   pub out : Known
 
+-- what this console and this output tell, read by what each of them says of itself
 abbrev pub load_told : {C W : Type 0} → (C → Option (List LineRequest)) → (W → Known) → C → W → LoadTold
 load_told asked_of contents console out = record { asked = asked_of console; out = contents out }
 
--- the same of the console that a load is meant for, and whom that is
+-- what the console that a load is meant for and an output tell
 abbrev pub load_told_of : LoadRequest → OutsideAsked → Known → LoadTold
 load_told_of load asked out = record { asked = asked_towards load.line.now asked; out = out }
 
+-- whom a load calls: the console that it is meant for
 abbrev pub load_call : LoadRequest → Call
 load_call load = call_to load.line.now load.quiet_ms
 
@@ -125,24 +127,23 @@ pub record IsLoadOver (plan : PlanValue) (load : LoadRequest) (call : Call) (bef
   pub err : IfErr outcome (IsPlanFailure plan load call (AsksDisk load.record before.disk after.disk) (load_part before) (load_part after))
 
 -- the tapes of these names were loaded, as one, with the start that is asked for, at the console that is named, and no other was asked for
-pub record AreLoaded (opening : Opening) (names : List Name) (load : LoadRequest) (asked asked' : OutsideAsked) (before after : Held) (status : Status)
-    : Type 0 where
+pub record AreLoaded (names : List Name) (load : LoadRequest) (asked asked' : Asked) (before after : Held) (status : Status) : Type 0 where
   pub plan : PlanValue
-  pub planned : IsPlanned opening names before after plan
-  pub loaded : IsPlanLoaded (starting plan load.start) load (load_call load) (AsksDisk load.record asked.disk asked'.disk)
-      (load_told_of load asked before.out) (load_told_of load asked' after.out) status
-  pub not_elsewhere : NotElsewhere load.line.now asked asked'
+  pub planned : IsPlanned (opening_in asked asked') names before after plan
+  pub loaded : IsPlanLoaded (starting plan load.start) load (load_call load) (AsksDisk load.record asked.outside.disk asked'.outside.disk)
+      (load_told_of load asked.outside before.out) (load_told_of load asked'.outside after.out) status
+  pub not_elsewhere : NotElsewhere load.line.now asked.outside asked'.outside
 
 -- there is a plan, and its load failed
-pub record IsLoadUndone (opening : Opening) (names : List Name) (load : LoadRequest) (asked asked' : OutsideAsked) (before after : Held)
-    (failure : Failure) : Type 0 where
+pub record IsLoadUndone (names : List Name) (load : LoadRequest) (asked asked' : Asked) (before after : Held) (failure : Failure) : Type 0 where
   pub plan : PlanValue
-  pub planned : IsPlanned opening names before after plan
-  pub failed : IsPlanFailure (starting plan load.start) load (load_call load) (AsksDisk load.record asked.disk asked'.disk)
-      (load_told_of load asked before.out) (load_told_of load asked' after.out) failure
-  pub not_elsewhere : NotElsewhere load.line.now asked asked'
+  pub planned : IsPlanned (opening_in asked asked') names before after plan
+  pub failed : IsPlanFailure (starting plan load.start) load (load_call load) (AsksDisk load.record asked.outside.disk asked'.outside.disk)
+      (load_told_of load asked.outside before.out) (load_told_of load asked'.outside after.out) failure
+  pub not_elsewhere : NotElsewhere load.line.now asked.outside asked'.outside
 
 -- their load failed: it has no plan, and of disk and consoles nothing was asked; or it failed on its way
-abbrev pub AreUnloaded : Opening → List Name → LoadRequest → OutsideAsked → OutsideAsked → Held → Held → Failure → Type 0
-AreUnloaded opening names load asked asked' before after failure =
-    ((asked' ≡ asked) × IsUnplanned opening names before after failure) ⊎ IsLoadUndone opening names load asked asked' before after failure
+abbrev pub AreUnloaded : List Name → LoadRequest → Asked → Asked → Held → Held → Failure → Type 0
+AreUnloaded names load asked asked' before after failure =
+    ((asked'.outside ≡ asked.outside) × IsUnplanned (opening_in asked asked') names before after failure)
+    ⊎ IsLoadUndone names load asked asked' before after failure

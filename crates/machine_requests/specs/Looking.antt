@@ -1,7 +1,7 @@
 -- What becomes of a request to look at a real machine.
 use Rattle.std.specs.Prelude.{◌≡◌, ◌⊎◌, List, Result, Ok, Err, IfOk, IfErr}
 use Rattle.tape_image.specs.Plan.{PlanValue}
-use Rattle.machine_look.specs.Look.{LookTold}
+use Rattle.console_reach.specs.Console.{ConsoleTold}
 use Rattle.machine_look.specs.LookFault.{IsVerifyFault}
 use Rattle.machine_look.specs.Verify.{IsReported}
 use Rattle.machine_look.specs.declared.look_fault.LookFault.{LookFault}
@@ -11,60 +11,59 @@ use Rattle.endings.specs.declared.failure.Failure.{Failure}
 use Rattle.endings.specs.declared.status.Status.{Status}
 use Rattle.endings.specs.Failure.{IsLookFailureOf}
 use Rattle.endings.specs.Status.{after_verify}
-use Rattle.endings.specs.Streams.{Held}
+use Rattle.endings.specs.Held.{Held}
 use Rattle.machine_requests.specs.declared.request.Look.{Look}
 use Rattle.input_files.specs.Opening.{Name}
 use Rattle.machine_requests.specs.Errand.{Told}
-use Rattle.machine_requests.specs.Files.{Known, Opening, IsPlanned, IsUnplanned}
-use Rattle.machine_requests.specs.System.{OutsideAsked, AsksConsoleAlone, asked_towards, call_to}
+use Rattle.machine_requests.specs.Files.{Known, IsPlanned, IsUnplanned, opening_in}
+use Rattle.machine_requests.specs.Asked.{Asked, OutsideAsked, AsksConsoleAlone, asked_towards, call_to}
 
 -- what the console that a look is meant for and an output tell
-abbrev pub told_of : Look → OutsideAsked → Known → LookTold
-told_of look asked out = record { asked = asked_towards look.line.now asked; call = call_to look.line.now look.quiet_ms; out = out }
+abbrev pub console_at : Look → OutsideAsked → Known → ConsoleTold
+console_at look asked out = record { asked = asked_towards look.line.now asked; call = call_to look.line.now look.quiet_ms; out = out }
 
 -- memory was looked at for a plan
-abbrev pub IsPlanVerified : PlanValue → Look → LookTold → LookTold → Status → Type 0
+abbrev pub IsPlanVerified : PlanValue → Look → ConsoleTold → ConsoleTold → Status → Type 0
 IsPlanVerified plan look before after status = (end : VerifyEnd) × IsReported plan look.patience before after end × (after_verify end ≡ Ok status)
 
 -- a look for a plan came to nothing
-pub record IsVerifyCutShort (plan : PlanValue) (look : Look) (before after : LookTold) (failure : Failure) : Type 0 where
+pub record IsVerifyCutShort (plan : PlanValue) (look : Look) (before after : ConsoleTold) (failure : Failure) : Type 0 where
   pub fault : LookFault
   pub is_so : IsVerifyFault plan look.patience before after fault
   pub is_called : IsLookFailureOf fault look.line.now look.line.now failure
 
 -- a look for a plan failed: it came to nothing, or it was reported and its line had failed
-abbrev pub IsVerifyFailure : PlanValue → Look → LookTold → LookTold → Failure → Type 0
+abbrev pub IsVerifyFailure : PlanValue → Look → ConsoleTold → ConsoleTold → Failure → Type 0
 IsVerifyFailure plan look before after failure =
     IsVerifyCutShort plan look before after failure
     ⊎ ((end : VerifyEnd) × IsReported plan look.patience before after end × (after_verify end ≡ Err failure))
 
--- what an errand at the console of a call is told of its look
-abbrev pub look_part : Call → Told → LookTold
-look_part call told = record { asked = told.asked; call = call; out = told.out }
+-- what an errand at the console of a call is told of it and of the output
+abbrev pub console_part : Call → Told → ConsoleTold
+console_part call told = record { asked = told.asked; call = call; out = told.out }
 
 -- what a look for a plan came to, with nothing asked of the disk: memory was looked at, or that failed
 pub record IsLookOver (plan : PlanValue) (look : Look) (call : Call) (before after : Told) (outcome : Result Status Failure) : Type 0 where
-  pub ok : IfOk outcome (IsPlanVerified plan look (look_part call before) (look_part call after))
-  pub err : IfErr outcome (IsVerifyFailure plan look (look_part call before) (look_part call after))
+  pub ok : IfOk outcome (IsPlanVerified plan look (console_part call before) (console_part call after))
+  pub err : IfErr outcome (IsVerifyFailure plan look (console_part call before) (console_part call after))
   pub no_disk : after.disk ≡ before.disk
 
 -- memory was looked at for the tapes of these names, as one, at the console that is named, and no other was asked for
-pub record AreVerified (opening : Opening) (names : List Name) (look : Look) (asked asked' : OutsideAsked) (before after : Held) (status : Status)
-    : Type 0 where
+pub record AreVerified (names : List Name) (look : Look) (asked asked' : Asked) (before after : Held) (status : Status) : Type 0 where
   pub plan : PlanValue
-  pub planned : IsPlanned opening names before after plan
-  pub verified : IsPlanVerified plan look (told_of look asked before.out) (told_of look asked' after.out) status
-  pub alone : AsksConsoleAlone look.line.now asked asked'
+  pub planned : IsPlanned (opening_in asked asked') names before after plan
+  pub verified : IsPlanVerified plan look (console_at look asked.outside before.out) (console_at look asked'.outside after.out) status
+  pub alone : AsksConsoleAlone look.line.now asked.outside asked'.outside
 
 -- there is a plan, and the look for it failed
-pub record IsLookBroken (opening : Opening) (names : List Name) (look : Look) (asked asked' : OutsideAsked) (before after : Held) (failure : Failure)
-    : Type 0 where
+pub record IsLookBroken (names : List Name) (look : Look) (asked asked' : Asked) (before after : Held) (failure : Failure) : Type 0 where
   pub plan : PlanValue
-  pub planned : IsPlanned opening names before after plan
-  pub failed : IsVerifyFailure plan look (told_of look asked before.out) (told_of look asked' after.out) failure
-  pub alone : AsksConsoleAlone look.line.now asked asked'
+  pub planned : IsPlanned (opening_in asked asked') names before after plan
+  pub failed : IsVerifyFailure plan look (console_at look asked.outside before.out) (console_at look asked'.outside after.out) failure
+  pub alone : AsksConsoleAlone look.line.now asked.outside asked'.outside
 
 -- the look failed: there is no plan, and no console was asked for, or it failed on its way
-abbrev pub AreUnverified : Opening → List Name → Look → OutsideAsked → OutsideAsked → Held → Held → Failure → Type 0
-AreUnverified opening names look asked asked' before after failure =
-    ((asked' ≡ asked) × IsUnplanned opening names before after failure) ⊎ IsLookBroken opening names look asked asked' before after failure
+abbrev pub AreUnverified : List Name → Look → Asked → Asked → Held → Held → Failure → Type 0
+AreUnverified names look asked asked' before after failure =
+    ((asked'.outside ≡ asked.outside) × IsUnplanned (opening_in asked asked') names before after failure)
+    ⊎ IsLookBroken names look asked asked' before after failure

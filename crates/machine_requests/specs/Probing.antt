@@ -1,7 +1,8 @@
 -- What becomes of a request to probe a console.
 use Rattle.std.specs.Prelude.{◌⊎◌, ◌≡◌, Result, Ok, Err, IfOk, IfErr}
 use Rattle.probe_report.specs.declared.probe_end.ProbeEnd.{ProbeEnd}
-use Rattle.machine_probe.specs.Probe.{IsReported, ProbeTold}
+use Rattle.console_reach.specs.Console.{ConsoleTold}
+use Rattle.machine_probe.specs.Probe.{IsReported}
 use Rattle.machine_probe.specs.ProbeFault.{IsProbeFault}
 use Rattle.machine_probe.specs.declared.probe_fault.ProbeFault.{ProbeFault}
 use Rattle.machine_probe.specs.declared.probe_options.ProbeOptions.{ProbeOptions}
@@ -10,60 +11,48 @@ use Rattle.endings.specs.declared.failure.Failure.{Failure}
 use Rattle.endings.specs.declared.status.Status.{Status}
 use Rattle.endings.specs.Failure.{IsProbeFailureOf}
 use Rattle.endings.specs.Status.{after_probe}
-use Rattle.endings.specs.Streams.{Held}
+use Rattle.endings.specs.Held.{Held}
 use Rattle.machine_requests.specs.declared.request.Probe.{Probe}
 use Rattle.machine_requests.specs.Errand.{Told}
-use Rattle.machine_requests.specs.Files.{Known}
-use Rattle.machine_requests.specs.System.{Asked, AsksConsoleAlone, OutsideAsked, asked_towards, call_to}
+use Rattle.machine_requests.specs.Looking.{console_at, console_part}
+use Rattle.machine_requests.specs.Asked.{Asked, AsksConsoleAlone}
 
 -- what is to be probed, and how, as the request has it
 abbrev pub probe_options : Probe → ProbeOptions
 probe_options request = record { address = request.address; patience = request.look.patience }
 
--- what the console that a probe is meant for and an output tell
-abbrev pub probe_told_of : Probe → OutsideAsked → Known → ProbeTold
-probe_told_of request asked out = record {
-  asked = asked_towards request.look.line.now asked;
-  call = call_to request.look.line.now request.look.quiet_ms;
-  out = out;
-}
-
 -- a console was probed
-abbrev pub IsProbeOver : Probe → ProbeTold → ProbeTold → Status → Type 0
+abbrev pub IsProbeOver : Probe → ConsoleTold → ConsoleTold → Status → Type 0
 IsProbeOver request before after status = (end : ProbeEnd) × IsReported (probe_options request) before after end × (after_probe end ≡ Ok status)
 
 -- a probe came to nothing
-pub record IsProbeCutShort (request : Probe) (before after : ProbeTold) (failure : Failure) : Type 0 where
+pub record IsProbeCutShort (request : Probe) (before after : ConsoleTold) (failure : Failure) : Type 0 where
   pub fault : ProbeFault
   pub is_so : IsProbeFault (probe_options request) before after fault
   pub is_called : IsProbeFailureOf fault request.look.line.now failure
 
 -- a probe failed: it came to nothing, or it was reported and its line had failed
-abbrev pub IsProbeFailure : Probe → ProbeTold → ProbeTold → Failure → Type 0
+abbrev pub IsProbeFailure : Probe → ConsoleTold → ConsoleTold → Failure → Type 0
 IsProbeFailure request before after failure =
     IsProbeCutShort request before after failure
     ⊎ ((end : ProbeEnd) × IsReported (probe_options request) before after end × (after_probe end ≡ Err failure))
 
--- what an errand at the console of a call is told of its probe
-abbrev pub probe_part : Call → Told → ProbeTold
-probe_part call told = record { asked = told.asked; call = call; out = told.out }
-
 -- what a probe came to, with nothing asked of the disk: the console was probed, or that failed
 pub record IsProbeDone (request : Probe) (call : Call) (before after : Told) (outcome : Result Status Failure) : Type 0 where
-  pub ok : IfOk outcome (IsProbeOver request (probe_part call before) (probe_part call after))
-  pub err : IfErr outcome (IsProbeFailure request (probe_part call before) (probe_part call after))
+  pub ok : IfOk outcome (IsProbeOver request (console_part call before) (console_part call after))
+  pub err : IfErr outcome (IsProbeFailure request (console_part call before) (console_part call after))
   pub no_disk : after.disk ≡ before.disk
 
 -- a console was probed, at the name that is given, and nothing else was asked or read
 pub record IsConsoleProbed (request : Probe) (asked asked' : Asked) (before after : Held) (status : Status) : Type 0 where
-  pub probed : IsProbeOver request (probe_told_of request asked.outside before.out) (probe_told_of request asked'.outside after.out) status
+  pub probed : IsProbeOver request (console_at request.look asked.outside before.out) (console_at request.look asked'.outside after.out) status
   pub alone : AsksConsoleAlone request.look.line.now asked.outside asked'.outside
   pub no_file : asked'.inputs ≡ asked.inputs
   pub nothing_read : after.input ≡ before.input
 
 -- or the probe failed
 pub record IsConsoleUnprobed (request : Probe) (asked asked' : Asked) (before after : Held) (failure : Failure) : Type 0 where
-  pub failed : IsProbeFailure request (probe_told_of request asked.outside before.out) (probe_told_of request asked'.outside after.out) failure
+  pub failed : IsProbeFailure request (console_at request.look asked.outside before.out) (console_at request.look asked'.outside after.out) failure
   pub alone : AsksConsoleAlone request.look.line.now asked.outside asked'.outside
   pub no_file : asked'.inputs ≡ asked.inputs
   pub nothing_read : after.input ≡ before.input

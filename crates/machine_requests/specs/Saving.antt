@@ -3,7 +3,7 @@ use Rattle.std.specs.Prelude.{◌≡◌, ◌⊎◌, List, ◌++◌, Option, None
 use Rattle.record_file.specs.DiskStep.{DiskStep, HasAsked}
 use Rattle.machine_look.specs.LookFault.{IsSaveFault}
 use Rattle.machine_look.specs.Save.{IsSavedAndReported, SaveTold}
-use Rattle.machine_look.specs.SaveDisk.{IsSavedOn, disk_asked_before}
+use Rattle.machine_look.specs.SaveDisk.{IsSavedOn, save_disk_asked_before}
 use Rattle.machine_look.specs.ShelfDisk.{ShelfDisk, IsClosed}
 use Rattle.machine_look.specs.declared.look_fault.LookFault.{LookFault}
 use Rattle.machine_look.specs.declared.save_end.SaveEnd.{SaveEnd}
@@ -13,12 +13,12 @@ use Rattle.endings.specs.declared.failure.Failure.{Failure}
 use Rattle.endings.specs.declared.status.Status.{Status}
 use Rattle.endings.specs.Failure.{IsLookFailureOf}
 use Rattle.endings.specs.Status.{after_save}
-use Rattle.endings.specs.Streams.{Held}
+use Rattle.endings.specs.Held.{Held}
 use Rattle.input_files.specs.Opening.{Name}
 use Rattle.machine_requests.specs.declared.request.Save.{Save}
 use Rattle.machine_requests.specs.Errand.{Told}
 use Rattle.machine_requests.specs.Files.{Known}
-use Rattle.machine_requests.specs.System.{Asked, NotElsewhere, OutsideAsked, asked_towards, call_to}
+use Rattle.machine_requests.specs.Asked.{Asked, NotElsewhere, OutsideAsked, asked_towards, call_to}
 
 -- what is to be saved, and how, as the request has it
 abbrev pub options_of : Save → SaveOptions
@@ -47,6 +47,7 @@ pub record IsLetGoAfter (name : Name) (asked : Option (List DiskStep)) (holds : 
   pub closed : IsClosed shelf.room going
   pub all : steps ≡ before ++ going
 
+-- what is said so of the disk on which the tape of this name goes, from what was asked of it before to what was by then
 abbrev pub AsksForTape : Name → Option (List DiskStep) → Option (List DiskStep) → SaidOfShelf
 AsksForTape name asked asked' holds = HasAsked asked asked' (IsLetGoAfter name asked holds)
 
@@ -69,7 +70,7 @@ pub record IsSaveCutShort (name : Name) (save : Save) (on_disk : SaidOfShelf) (b
   pub fault : LookFault
   pub is_so : IsSaveFault (options_of save) before after fault
   pub is_called : IsLookFailureOf fault save.look.line.now name.now failure
-  pub disk : on_disk (disk_asked_before (options_of save) fault)
+  pub disk : on_disk (save_disk_asked_before (options_of save) fault)
 
 -- a save into a file of this name failed: it came to nothing, or it was reported and its line had failed
 abbrev pub IsSaveFailure : Name → Save → SaidOfShelf → SaveTold → SaveTold → Failure → Type 0

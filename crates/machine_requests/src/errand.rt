@@ -3,7 +3,7 @@ ghost use Rattle.std.specs.Prelude.{Result};
 ghost use Rattle.endings.specs.declared.failure.Failure.{Failure};
 ghost use Rattle.endings.specs.declared.status.Status.{Status};
 ghost use Rattle.machine_requests.specs.Errand.{Told, told, told_towards};
-ghost use Rattle.machine_requests.specs.System.{call_to, outside_asked, NotElsewhere};
+ghost use Rattle.machine_requests.specs.Asked.{call_to, NotElsewhere};
 ghost use Rattle.stream_line.specs.Dialling.{Call};
 
 use crate::system::Outside;
@@ -51,12 +51,10 @@ pub(crate) fn run_at<
     out: &mut W,
 ) -> (Outside<'c, D, N, V, C>, Result<Status, Failure<'a>>)
     ensures over { T.is_over errand (call_to path.entry.now quiet_ms)
-        (told_towards path.entry.now (outside_asked D.asked N.asked V.asked outside.entry) (W.contents out.old))
-        (told_towards path.entry.now (outside_asked D.asked N.asked V.asked result.0) (W.contents out.new))
+        (told_towards path.entry.now outside.entry (W.contents out.old))
+        (told_towards path.entry.now result.0 (W.contents out.new))
         result.1 }
-    ensures not_elsewhere { NotElsewhere path.entry.now
-        (outside_asked D.asked N.asked V.asked outside.entry)
-        (outside_asked D.asked N.asked V.asked result.0) }
+    ensures not_elsewhere { NotElsewhere path.entry.now outside.entry result.0 }
 {
     let Outside {
         disk,

@@ -3,26 +3,22 @@ ghost use Rattle.std.specs.Prelude.{◌≡◌, ◌⊎◌, IfOk, IfErr, IsSome};
 ghost use Rattle.std.specs.Mem.{FitsInMemory};
 ghost use Rattle.endings.specs.Failure.{IsStopFailure};
 ghost use Rattle.endings.specs.Status.{IsStopStatus};
-ghost use Rattle.endings.specs.Streams.{held};
 ghost use Rattle.machine_load.specs.Load.{IsNeverBegun};
 ghost use Rattle.machine_load.specs.RecordDisk.{DiskAsked};
-ghost use Rattle.machine_requests.specs.Files.{opening_between};
-ghost use Rattle.machine_requests.specs.Loading.{record_name, load_call, load_told, load_told_of, AreLoaded, AreUnloaded, AsksDisk, IsLoadOver};
+ghost use Rattle.machine_requests.specs.Loading.{load_told, record_name, AreLoaded, AreUnloaded, IsLoadOver};
 ghost use Rattle.machine_requests.specs.Loading.{IsEnded, IsEndFailure, IsPlanLoaded, IsPlanFailure};
-ghost use Rattle.machine_requests.specs.System.{outside_asked, NotElsewhere};
 
 use crate::errand::{Errand, run_at};
 use crate::host::Host;
 use crate::listening::listen_behind;
 use crate::planning::plan_tapes;
 use crate::request::Load;
-use crate::system::{Outside, System};
+use crate::system::System;
 use console_reach::Reach;
-use endings::{Failure, FaultOutput, Status, Streams};
+use endings::{Failure, FaultOutput, Output, Status, Streams};
 use input_files::InputFiles;
-use load_devices::{Line, Onlooker, Unwatched};
+use load_devices::Line;
 use load_engine::Stop;
-use load_progress::ProgressLine;
 use machine_load::{Around, InMemory, Outcome, Surroundings, load};
 use record_file::{Disk, RecordFile};
 use serial_line::DeviceOpening;
@@ -57,98 +53,46 @@ pub fn load_tapes<
     V: DeviceOpening + Drop,
     C: Clock,
     R: Read,
-    W: Write,
+    W: Output,
     E: FaultOutput,
     T: Print,
 >(
-    mut system: System<F, Outside<'c, D, N, V, C>>,
+    mut system: System<'c, F, D, N, V, C>,
     alloc: Global,
     names: &[&'a str],
     load: Load<'a>,
     streams: &mut Streams<R, W, E>,
     terminal: Option<&T>,
-) -> (
-    System<F, Outside<'c, D, N, V, C>>,
-    Result<Status, Failure<'a>>,
-)
+) -> (System<'c, F, D, N, V, C>, Result<Status, Failure<'a>>)
     requires { FitsInMemory R.row }
-    ensures ok { IfOk result.1 (AreLoaded (opening_between (F.opened system.entry.inputs) (F.opened result.0.inputs)) names.now load.entry
-        (outside_asked D.asked N.asked V.asked system.entry.outside)
-        (outside_asked D.asked N.asked V.asked result.0.outside)
-        (held R.remaining W.contents E.contents E.failures streams.old)
-        (held R.remaining W.contents E.contents E.failures streams.new)) }
-    ensures err { IfErr result.1 (AreUnloaded (opening_between (F.opened system.entry.inputs) (F.opened result.0.inputs)) names.now load.entry
-        (outside_asked D.asked N.asked V.asked system.entry.outside)
-        (outside_asked D.asked N.asked V.asked result.0.outside)
-        (held R.remaining W.contents E.contents E.failures streams.old)
-        (held R.remaining W.contents E.contents E.failures streams.new)) }
+    ensures ok { IfOk result.1 (AreLoaded names.now load.entry system.entry result.0 streams.old streams.new) }
+    ensures err { IfErr result.1 (AreUnloaded names.now load.entry system.entry result.0 streams.old streams.new) }
     ensures quiet { streams.new.err ≡ streams.old.err }
 {
     let planned = match plan_tapes(&mut system.inputs, alloc, names, streams) {
         Ok(plan) => plan,
         Err(failure) => return (system, Err(failure)),
     };
-    let plan = planned.starting(load.start);
     let System { inputs, outside } = system;
-    let (outside, outcome) = load_shown(outside, alloc, plan, load, &mut streams.out, terminal);
+    let errand = Loading {
+        host: Host::new(alloc, outside.clock, terminal),
+        plan: planned.starting(load.start),
+        load,
+    };
+    let out = &mut streams.out;
+    let (outside, outcome) = run_at(errand, outside, load.line, load.quiet_ms, out);
     (System { inputs, outside }, outcome)
 }
 
-// Loads a plan, and shows on a terminal how far that is, where there is one.
-fn load_shown<
-    'a,
-    'c,
-    D: Disk + Drop,
-    N: Dialling + Drop,
-    V: DeviceOpening + Drop,
-    C: Clock,
-    W: Write,
-    T: Print,
->(
-    outside: Outside<'c, D, N, V, C>,
-    alloc: Global,
-    plan: Plan,
-    load: Load<'a>,
-    out: &mut W,
-    terminal: Option<&T>,
-) -> (Outside<'c, D, N, V, C>, Result<Status, Failure<'a>>)
-    ensures ok { IfOk result.1 (IsPlanLoaded plan load.entry (load_call load.entry)
-        (AsksDisk load.entry.record (D.asked outside.entry.disk) (D.asked result.0.disk))
-        (load_told_of load.entry (outside_asked D.asked N.asked V.asked outside.entry) (W.contents out.old))
-        (load_told_of load.entry (outside_asked D.asked N.asked V.asked result.0) (W.contents out.new))) }
-    ensures err { IfErr result.1 (IsPlanFailure plan load.entry (load_call load.entry)
-        (AsksDisk load.entry.record (D.asked outside.entry.disk) (D.asked result.0.disk))
-        (load_told_of load.entry (outside_asked D.asked N.asked V.asked outside.entry) (W.contents out.old))
-        (load_told_of load.entry (outside_asked D.asked N.asked V.asked result.0) (W.contents out.new))) }
-    ensures not_elsewhere { NotElsewhere load.entry.line.now
-        (outside_asked D.asked N.asked V.asked outside.entry)
-        (outside_asked D.asked N.asked V.asked result.0) }
-{
-    match terminal {
-        Some(terminal) => {
-            let onlooker = &ProgressLine::new(outside.clock, terminal);
-            let host = Host { alloc, onlooker };
-            let errand = Loading { host, plan, load };
-            run_at(errand, outside, load.line, load.quiet_ms, out)
-        }
-        None => {
-            let onlooker = &Unwatched;
-            let host = Host { alloc, onlooker };
-            let errand = Loading { host, plan, load };
-            run_at(errand, outside, load.line, load.quiet_ms, out)
-        }
-    }
-}
-
-// A load of a plan, as an errand at a console.
+// A load of a plan, as an errand at a console: with a record in a file, or in memory alone.
 #[derive(Drop)]
-struct Loading<'o, 'a, O> {
-    host: Host<'o, O>,
+struct Loading<'o, 'a, K: Clock, T: Print> {
+    host: Host<'o, K, T>,
     plan: Plan,
     load: Load<'a>,
 }
 
-impl<'a, O: Onlooker> Errand<'a> for Loading<'_, 'a, O> {
+impl<'a, K: Clock, T: Print> Errand<'a> for Loading<'_, 'a, K, T> {
     ghost is_over = { λ errand. IsLoadOver errand.plan errand.load };
 
     fn run<C: Reach + Drop, D: Disk + Drop, W: Write>(
@@ -158,46 +102,27 @@ impl<'a, O: Onlooker> Errand<'a> for Loading<'_, 'a, O> {
         out: &mut W,
     ) -> (C, D, Result<Status, Failure<'a>>) {
         let Loading { host, plan, load } = self;
-        load_through(&host, plan, load, console, disk, out)
-    }
-}
-
-// Loads a plan through a console, with a record in a file or in memory alone. Console and disk come back.
-fn load_through<'a, O: Onlooker, C: Reach + Drop, D: Disk + Drop, W: Write>(
-    host: &Host<'_, O>,
-    plan: Plan,
-    load: Load<'a>,
-    console: C,
-    disk: D,
-    out: &mut W,
-) -> (C, D, Result<Status, Failure<'a>>)
-    ensures ok { IfOk result.2 (IsPlanLoaded plan load.entry (C.call console) (AsksDisk load.entry.record (D.asked disk) (D.asked result.1))
-        (load_told C.asked W.contents console out.old)
-        (load_told C.asked W.contents result.0 out.new)) }
-    ensures err { IfErr result.2 (IsPlanFailure plan load.entry (C.call console) (AsksDisk load.entry.record (D.asked disk) (D.asked result.1))
-        (load_told C.asked W.contents console out.old)
-        (load_told C.asked W.contents result.0 out.new)) }
-{
-    match load.record {
-        Some(name) => {
-            let records = RecordFile::new(disk, name);
-            let mut around = Around { console, records };
-            let outcome = load_with(host, plan, load, &mut around, out);
-            let Around { console, records } = around;
-            (console, records.close(), outcome)
-        }
-        None => {
-            let records = InMemory;
-            let mut around = Around { console, records };
-            let outcome = load_with(host, plan, load, &mut around, out);
-            (around.console, disk, outcome)
+        match load.record {
+            Some(name) => {
+                let records = RecordFile::new(disk, name);
+                let mut around = Around { console, records };
+                let outcome = load_with(&host, plan, load, &mut around, out);
+                let Around { console, records } = around;
+                (console, records.close(), outcome)
+            }
+            None => {
+                let records = InMemory;
+                let mut around = Around { console, records };
+                let outcome = load_with(&host, plan, load, &mut around, out);
+                (around.console, disk, outcome)
+            }
         }
     }
 }
 
 // Loads a plan in these surroundings.
-fn load_with<'a, O: Onlooker, S: Surroundings, W: Write>(
-    host: &Host<'_, O>,
+fn load_with<'a, K: Clock, T: Print, S: Surroundings, W: Write>(
+    host: &Host<'_, K, T>,
     plan: Plan,
     request: Load<'a>,
     around: &mut S,
@@ -216,7 +141,7 @@ fn load_with<'a, O: Onlooker, S: Surroundings, W: Write>(
         request.options,
         around,
         out,
-        host.onlooker,
+        &host.progress,
     ) {
         Ok(outcome) => end(request, outcome, out),
         Err(fault) => Err(Failure::of_load(fault, request.line, record_name(request.record))),

@@ -1,34 +1,29 @@
 //! The plan of tapes.
 ghost use Rattle.std.specs.Prelude.{◌≡◌, ◌⊎◌, IfOk, IfErr};
 ghost use Rattle.std.specs.Mem.{FitsInMemory};
-ghost use Rattle.endings.specs.Streams.{held};
 ghost use Rattle.machine_requests.specs.Files.{inputs_of, only_input, opening_between, AreOpened, IsUnopened, OfFiles};
 ghost use Rattle.machine_requests.specs.Files.{FailsToPlan, IsPlanned, IsPlanOf, IsUnplanned};
 
 use crate::names::is_input;
 use command_io::take_tapes;
-use endings::{Failure, FaultOutput, STANDARD_INPUT, Streams};
+use endings::{Failure, FaultOutput, Output, STANDARD_INPUT, Streams};
 use input_files::{InputFiles, open_all};
 use std::alloc::Global;
-use std::io::{Read, Write};
+use std::io::Read;
 use std::slice;
 use tape_image::Plan;
 
 /// The plan of tapes, as one: of standard input's, where `-` is their only name, else of those in the
 /// files. Nothing is written.
-pub(crate) fn plan_tapes<'a, F: InputFiles, R: Read, W: Write, E: FaultOutput>(
+pub(crate) fn plan_tapes<'a, F: InputFiles, R: Read, W: Output, E: FaultOutput>(
     inputs: &mut F,
     alloc: Global,
     names: &[&'a str],
     streams: &mut Streams<R, W, E>,
 ) -> Result<Plan, Failure<'a>>
     requires { FitsInMemory R.row }
-    ensures ok { IfOk result (IsPlanned (opening_between (F.opened inputs.old) (F.opened inputs.new)) names.now
-        (held R.remaining W.contents E.contents E.failures streams.old)
-        (held R.remaining W.contents E.contents E.failures streams.new)) }
-    ensures err { IfErr result (IsUnplanned (opening_between (F.opened inputs.old) (F.opened inputs.new)) names.now
-        (held R.remaining W.contents E.contents E.failures streams.old)
-        (held R.remaining W.contents E.contents E.failures streams.new)) }
+    ensures ok { IfOk result (IsPlanned (opening_between (F.opened inputs.old) (F.opened inputs.new)) names.now streams.old streams.new) }
+    ensures err { IfErr result (IsUnplanned (opening_between (F.opened inputs.old) (F.opened inputs.new)) names.now streams.old streams.new) }
     ensures same_out { streams.new.out ≡ streams.old.out }
     ensures quiet { streams.new.err ≡ streams.old.err }
 {

@@ -1,14 +1,15 @@
 //! Finding out what stands at the other end of a line.
 ghost use Rattle.std.specs.Prelude.{◌≡◌, IfOk, IfErr};
-ghost use Rattle.machine_probe.specs.Probe.{probe_told};
-ghost use Rattle.machine_requests.specs.Probing.{probe_told_of, IsProbeDone, IsProbeOver, IsProbeFailure};
-ghost use Rattle.machine_requests.specs.System.{outside_asked, AsksConsoleAlone};
+ghost use Rattle.machine_requests.specs.Looking.{console_at};
+ghost use Rattle.machine_requests.specs.Probing.{IsProbeDone, IsProbeOver, IsProbeFailure};
+ghost use Rattle.machine_requests.specs.Asked.{AsksConsoleAlone};
 
 use crate::errand::{Errand, run_at};
 use crate::request::Probe;
-use crate::system::{Outside, System};
+use crate::system::System;
 use console_reach::Reach;
 use endings::{Failure, Status};
+use input_files::InputFiles;
 use machine_probe::{ProbeOptions, probe};
 use record_file::Disk;
 use serial_line::DeviceOpening;
@@ -26,30 +27,25 @@ use stream_line::Dialling;
 pub fn probe_console<
     'a,
     'c,
-    F: Drop,
+    F: InputFiles + Drop,
     D: Disk + Drop,
     N: Dialling + Drop,
     V: DeviceOpening + Drop,
     C: Clock,
     W: Write,
 >(
-    system: System<F, Outside<'c, D, N, V, C>>,
+    system: System<'c, F, D, N, V, C>,
     alloc: Global,
     request: Probe<'a>,
     out: &mut W,
-) -> (
-    System<F, Outside<'c, D, N, V, C>>,
-    Result<Status, Failure<'a>>,
-)
+) -> (System<'c, F, D, N, V, C>, Result<Status, Failure<'a>>)
     ensures ok { IfOk result.1 (IsProbeOver request.entry
-        (probe_told_of request.entry (outside_asked D.asked N.asked V.asked system.entry.outside) (W.contents out.old))
-        (probe_told_of request.entry (outside_asked D.asked N.asked V.asked result.0.outside) (W.contents out.new))) }
+        (console_at request.entry.look system.entry.outside (W.contents out.old))
+        (console_at request.entry.look result.0.outside (W.contents out.new))) }
     ensures err { IfErr result.1 (IsProbeFailure request.entry
-        (probe_told_of request.entry (outside_asked D.asked N.asked V.asked system.entry.outside) (W.contents out.old))
-        (probe_told_of request.entry (outside_asked D.asked N.asked V.asked result.0.outside) (W.contents out.new))) }
-    ensures alone { AsksConsoleAlone request.entry.look.line.now
-        (outside_asked D.asked N.asked V.asked system.entry.outside)
-        (outside_asked D.asked N.asked V.asked result.0.outside) }
+        (console_at request.entry.look system.entry.outside (W.contents out.old))
+        (console_at request.entry.look result.0.outside (W.contents out.new))) }
+    ensures alone { AsksConsoleAlone request.entry.look.line.now system.entry.outside result.0.outside }
     ensures no_file { result.0.inputs ≡ system.entry.inputs }
 {
     let System { inputs, outside } = system;
@@ -65,13 +61,13 @@ pub fn probe_console<
 
 // A probe by a clock, as an errand at a console.
 #[derive(Drop)]
-struct Probing<'c, 'a, F> {
-    clock: &'c F,
+struct Probing<'c, 'a, K> {
+    clock: &'c K,
     alloc: Global,
     request: Probe<'a>,
 }
 
-impl<'a, F: Clock> Errand<'a> for Probing<'_, 'a, F> {
+impl<'a, K: Clock> Errand<'a> for Probing<'_, 'a, K> {
     ghost is_over = { λ errand. IsProbeDone errand.request };
 
     fn run<C: Reach + Drop, D: Disk + Drop, W: Write>(
@@ -80,33 +76,17 @@ impl<'a, F: Clock> Errand<'a> for Probing<'_, 'a, F> {
         disk: D,
         out: &mut W,
     ) -> (C, D, Result<Status, Failure<'a>>) {
-        let outcome = probe_through(self.clock, self.alloc, self.request, &mut console, out);
-        (console, disk, outcome)
-    }
-}
-
-// Probes through a console, by this clock.
-fn probe_through<'a, F: Clock, C: Reach, W: Write>(
-    clock: &F,
-    alloc: Global,
-    request: Probe<'a>,
-    console: &mut C,
-    out: &mut W,
-) -> Result<Status, Failure<'a>>
-    ensures ok { IfOk result (IsProbeOver request.entry
-        (probe_told C.asked C.call W.contents console.old out.old)
-        (probe_told C.asked C.call W.contents console.new out.new)) }
-    ensures err { IfErr result (IsProbeFailure request.entry
-        (probe_told C.asked C.call W.contents console.old out.old)
-        (probe_told C.asked C.call W.contents console.new out.new)) }
-    ensures call { C.call console.new ≡ C.call console.old }
-{
-    let options = ProbeOptions {
-        address: request.address,
-        patience: request.look.patience,
-    };
-    match probe(alloc, options, console, out, clock) {
-        Ok(end) => Status::after_probe(end),
-        Err(fault) => Err(Failure::of_probe(fault, request.look.line)),
+        let request = self.request;
+        let options = ProbeOptions {
+            address: request.address,
+            patience: request.look.patience,
+        };
+        match probe(self.alloc, options, &mut console, out, self.clock) {
+            Ok(end) => (console, disk, Status::after_probe(end)),
+            Err(fault) => {
+                let failure = Failure::of_probe(fault, request.look.line);
+                (console, disk, Err(failure))
+            }
+        }
     }
 }

@@ -1,16 +1,15 @@
 //! Saving what a real machine holds.
-ghost use Rattle.std.specs.Prelude.{◌≡◌, None, IfOk, IfErr};
+ghost use Rattle.std.specs.Prelude.{◌≡◌, IfOk, IfErr};
 ghost use Rattle.machine_requests.specs.Saving.{save_told_of, AsksForTape, IsSaveDone, IsSaveFailure, IsSaveOver};
-ghost use Rattle.machine_requests.specs.System.{outside_asked, NotElsewhere};
+ghost use Rattle.machine_requests.specs.Asked.{NotElsewhere};
 
 use crate::errand::{Errand, run_at};
 use crate::host::Host;
 use crate::request::Save;
-use crate::system::{Outside, System};
+use crate::system::System;
 use console_reach::Reach;
 use endings::{Failure, Status};
-use load_devices::{Onlooker, Unwatched};
-use load_progress::ProgressLine;
+use input_files::InputFiles;
 use machine_look::{NewFile, SaveOptions, save};
 use record_file::Disk;
 use serial_line::DeviceOpening;
@@ -32,7 +31,7 @@ use stream_line::Dialling;
 pub fn save_words<
     'a,
     'c,
-    F: Drop,
+    F: InputFiles + Drop,
     D: Disk + Drop,
     N: Dialling + Drop,
     V: DeviceOpening + Drop,
@@ -40,57 +39,43 @@ pub fn save_words<
     W: Write,
     T: Print,
 >(
-    system: System<F, Outside<'c, D, N, V, C>>,
+    system: System<'c, F, D, N, V, C>,
     alloc: Global,
     name: &'a str,
     save: Save<'a>,
     out: &mut W,
     terminal: Option<&T>,
-) -> (
-    System<F, Outside<'c, D, N, V, C>>,
-    Result<Status, Failure<'a>>,
-)
-    ensures ok { IfOk result.1 (IsSaveOver save.entry (AsksForTape name.entry (D.asked system.entry.outside.disk) (D.asked result.0.outside.disk))
-        (save_told_of save.entry (outside_asked D.asked N.asked V.asked system.entry.outside) (W.contents out.old))
-        (save_told_of save.entry (outside_asked D.asked N.asked V.asked result.0.outside) (W.contents out.new))) }
+) -> (System<'c, F, D, N, V, C>, Result<Status, Failure<'a>>)
+    ensures ok { IfOk result.1 (IsSaveOver save.entry (AsksForTape name.entry system.entry.outside.disk result.0.outside.disk)
+        (save_told_of save.entry system.entry.outside (W.contents out.old))
+        (save_told_of save.entry result.0.outside (W.contents out.new))) }
     ensures err { IfErr result.1 (IsSaveFailure name.entry save.entry
-        (AsksForTape name.entry (D.asked system.entry.outside.disk) (D.asked result.0.outside.disk))
-        (save_told_of save.entry (outside_asked D.asked N.asked V.asked system.entry.outside) (W.contents out.old))
-        (save_told_of save.entry (outside_asked D.asked N.asked V.asked result.0.outside) (W.contents out.new))) }
-    ensures not_elsewhere { NotElsewhere save.entry.look.line.now
-        (outside_asked D.asked N.asked V.asked system.entry.outside)
-        (outside_asked D.asked N.asked V.asked result.0.outside) }
+        (AsksForTape name.entry system.entry.outside.disk result.0.outside.disk)
+        (save_told_of save.entry system.entry.outside (W.contents out.old))
+        (save_told_of save.entry result.0.outside (W.contents out.new))) }
+    ensures not_elsewhere { NotElsewhere save.entry.look.line.now system.entry.outside result.0.outside }
     ensures no_file { result.0.inputs ≡ system.entry.inputs }
 {
     let System { inputs, outside } = system;
     let look = save.look;
-    match terminal {
-        Some(terminal) => {
-            let onlooker = &ProgressLine::new(outside.clock, terminal);
-            let host = Host { alloc, onlooker };
-            let errand = Saving { host, name, save };
-            let (outside, outcome) = run_at(errand, outside, look.line, look.quiet_ms, out);
-            (System { inputs, outside }, outcome)
-        }
-        None => {
-            let onlooker = &Unwatched;
-            let host = Host { alloc, onlooker };
-            let errand = Saving { host, name, save };
-            let (outside, outcome) = run_at(errand, outside, look.line, look.quiet_ms, out);
-            (System { inputs, outside }, outcome)
-        }
-    }
+    let errand = Saving {
+        host: Host::new(alloc, outside.clock, terminal),
+        name,
+        save,
+    };
+    let (outside, outcome) = run_at(errand, outside, look.line, look.quiet_ms, out);
+    (System { inputs, outside }, outcome)
 }
 
 // A save into a file of this name, as an errand at a console.
 #[derive(Drop)]
-struct Saving<'o, 'a, O> {
-    host: Host<'o, O>,
+struct Saving<'o, 'a, K: Clock, T: Print> {
+    host: Host<'o, K, T>,
     name: &'a str,
     save: Save<'a>,
 }
 
-impl<'a, O: Onlooker> Errand<'a> for Saving<'_, 'a, O> {
+impl<'a, K: Clock, T: Print> Errand<'a> for Saving<'_, 'a, K, T> {
     ghost is_over = { λ errand. IsSaveDone errand.name errand.save };
 
     fn run<C: Reach + Drop, D: Disk + Drop, W: Write>(
@@ -99,45 +84,26 @@ impl<'a, O: Onlooker> Errand<'a> for Saving<'_, 'a, O> {
         disk: D,
         out: &mut W,
     ) -> (C, D, Result<Status, Failure<'a>>) {
-        let (disk, outcome) = save_through(
-            &self.host,
-            self.name,
-            self.save,
-            &mut console,
-            disk,
-            out,
-        );
-        (console, disk, outcome)
-    }
-}
-
-// Saves through a console. The disk comes back.
-fn save_through<'a, O: Onlooker, C: Reach, D: Disk + Drop, W: Write>(
-    host: &Host<'_, O>,
-    name: &'a str,
-    request: Save<'a>,
-    console: &mut C,
-    disk: D,
-    out: &mut W,
-) -> (D, Result<Status, Failure<'a>>)
-    ensures ok { IfOk result.1 (IsSaveOver request.entry (AsksForTape name.entry (D.asked disk) (D.asked result.0))
-        (record { steps = None; asked = C.asked console.old; call = C.call console.old; out = W.contents out.old })
-        (record { steps = None; asked = C.asked console.new; call = C.call console.new; out = W.contents out.new })) }
-    ensures err { IfErr result.1 (IsSaveFailure name.entry request.entry (AsksForTape name.entry (D.asked disk) (D.asked result.0))
-        (record { steps = None; asked = C.asked console.old; call = C.call console.old; out = W.contents out.old })
-        (record { steps = None; asked = C.asked console.new; call = C.call console.new; out = W.contents out.new })) }
-    ensures call { C.call console.new ≡ C.call console.old }
-{
-    let options = SaveOptions {
-        range: request.range,
-        start: request.start,
-        patience: request.look.patience,
-    };
-    let mut shelf = NewFile::new(disk, name);
-    let saved = save(host.alloc, options, &mut shelf, console, out, host.onlooker);
-    let disk = shelf.close();
-    match saved {
-        Ok(end) => (disk, Status::after_save(end)),
-        Err(fault) => (disk, Err(Failure::of_look(fault, request.look.line, name))),
+        let Saving {
+            host,
+            name,
+            save: request,
+        } = self;
+        let options = SaveOptions {
+            range: request.range,
+            start: request.start,
+            patience: request.look.patience,
+        };
+        let mut shelf = NewFile::new(disk, name);
+        let onlooker = &host.progress;
+        let saved = save(host.alloc, options, &mut shelf, &mut console, out, onlooker);
+        let disk = shelf.close();
+        match saved {
+            Ok(end) => (console, disk, Status::after_save(end)),
+            Err(fault) => {
+                let failure = Failure::of_look(fault, request.look.line, name);
+                (console, disk, Err(failure))
+            }
+        }
     }
 }

@@ -1,9 +1,19 @@
 //! The system in which a request is done.
-ghost use Rattle.std.specs.Prelude.{◌≡◌};
 
-/// What a command at a machine works with. Each part may tell what was asked of it.
+use input_files::InputFiles;
+use record_file::{Disk, Locks};
+use serial_line::{DeviceOpening, Devices};
+use std::marker::Model;
+use std::net::Net;
+use std::rt::Files;
+use std::time::Clock;
+use stream_line::{Dialling, TimedStream};
+
+/// What a command at a machine works with.
+///
+/// Contracts see what was asked of each part, as far as it tells.
 #[derive(Drop)]
-pub struct Outside<'c, D, N, V, C> {
+pub struct Outside<'c, D: Disk, N: Dialling, V: DeviceOpening, C: Clock> {
     /// The disk of records and of saved tapes.
     pub disk: D,
 
@@ -17,26 +27,48 @@ pub struct Outside<'c, D, N, V, C> {
     pub clock: &'c C,
 }
 
+impl<'c, D: Disk, N: Dialling, V: DeviceOpening, C: Clock> Model for Outside<'c, D, N, V, C> {
+    ghost use Rattle.machine_requests.specs.Asked.{OutsideAsked};
+
+    ghost Value = { OutsideAsked };
+
+    ghost view = { λ outside. record { disk = D.asked outside.disk; network = N.asked outside.network; devices = V.asked outside.devices } };
+}
+
 /// A system: the files of tapes and scripts, and what a command at a machine works with.
+///
+/// Contracts see what was asked of each part, as far as it tells.
 #[derive(Drop)]
-pub struct System<F, X> {
-    /// The files, which are read, and which may tell what was opened.
+pub struct System<'c, F: InputFiles, D: Disk, N: Dialling, V: DeviceOpening, C: Clock> {
+    /// The files, which are read.
     pub inputs: F,
 
     /// The rest.
-    pub outside: X,
+    pub outside: Outside<'c, D, N, V, C>,
+}
+
+impl<'c, F: InputFiles, D: Disk, N: Dialling, V: DeviceOpening, C: Clock> Model
+    for System<'c, F, D, N, V, C> {
+    ghost use Rattle.machine_requests.specs.Asked.{Asked};
+
+    ghost Value = { Asked };
+
+    ghost view = { λ system. record { inputs = F.opened system.inputs; outside = system.outside } };
 }
 
 /// A system of which one value is every part.
-pub type SharedSystem<'c, F> = System<&'c F, Outside<'c, &'c F, &'c F, &'c F, F>>;
+pub type SharedSystem<'c, F> = System<'c, &'c F, &'c F, &'c F, &'c F, F>;
 
-impl<'c, F> SharedSystem<'c, F> {
-    /// All parts of a system.
+impl<'c, S: TimedStream + Drop, F: Files + Locks + Net<Stream = S> + Devices + Clock> SharedSystem<
+    'c,
+    F,
+> {
+    ghost use Rattle.std.specs.Prelude.{◌≡◌};
+    ghost use Rattle.machine_requests.specs.Asked.{untold};
+
+    /// All parts of a system, of which none tells what is asked of it.
     pub fn of(system: &'c F) -> SharedSystem<'c, F>
-        ensures inputs { result.inputs ≡ system.entry }
-        ensures disk { result.outside.disk ≡ system.entry }
-        ensures network { result.outside.network ≡ system.entry }
-        ensures devices { result.outside.devices ≡ system.entry }
+        ensures { result ≡ untold }
     {
         System {
             inputs: system,

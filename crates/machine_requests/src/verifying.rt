@@ -1,22 +1,16 @@
 //! Looking whether a real machine holds what tapes say.
 ghost use Rattle.std.specs.Prelude.{◌≡◌, IfOk, IfErr};
 ghost use Rattle.std.specs.Mem.{FitsInMemory};
-ghost use Rattle.endings.specs.Streams.{held};
-ghost use Rattle.machine_look.specs.Look.{look_told};
-ghost use Rattle.machine_requests.specs.Files.{opening_between};
-ghost use Rattle.machine_requests.specs.Looking.{told_of, AreVerified, AreUnverified, IsLookOver, IsPlanVerified, IsVerifyFailure};
-ghost use Rattle.machine_requests.specs.System.{outside_asked, AsksConsoleAlone};
+ghost use Rattle.machine_requests.specs.Looking.{AreVerified, AreUnverified, IsLookOver};
 
 use crate::errand::{Errand, run_at};
 use crate::host::Host;
 use crate::planning::plan_tapes;
 use crate::request::Look;
-use crate::system::{Outside, System};
+use crate::system::System;
 use console_reach::Reach;
-use endings::{Failure, FaultOutput, Status, Streams};
+use endings::{Failure, FaultOutput, Output, Status, Streams};
 use input_files::InputFiles;
-use load_devices::{Onlooker, Unwatched};
-use load_progress::ProgressLine;
 use machine_look::verify;
 use record_file::Disk;
 use serial_line::DeviceOpening;
@@ -48,31 +42,20 @@ pub fn verify_tapes<
     V: DeviceOpening + Drop,
     C: Clock,
     R: Read,
-    W: Write,
+    W: Output,
     E: FaultOutput,
     T: Print,
 >(
-    mut system: System<F, Outside<'c, D, N, V, C>>,
+    mut system: System<'c, F, D, N, V, C>,
     alloc: Global,
     names: &[&'a str],
     look: Look<'a>,
     streams: &mut Streams<R, W, E>,
     terminal: Option<&T>,
-) -> (
-    System<F, Outside<'c, D, N, V, C>>,
-    Result<Status, Failure<'a>>,
-)
+) -> (System<'c, F, D, N, V, C>, Result<Status, Failure<'a>>)
     requires { FitsInMemory R.row }
-    ensures ok { IfOk result.1 (AreVerified (opening_between (F.opened system.entry.inputs) (F.opened result.0.inputs)) names.now look.entry
-        (outside_asked D.asked N.asked V.asked system.entry.outside)
-        (outside_asked D.asked N.asked V.asked result.0.outside)
-        (held R.remaining W.contents E.contents E.failures streams.old)
-        (held R.remaining W.contents E.contents E.failures streams.new)) }
-    ensures err { IfErr result.1 (AreUnverified (opening_between (F.opened system.entry.inputs) (F.opened result.0.inputs)) names.now look.entry
-        (outside_asked D.asked N.asked V.asked system.entry.outside)
-        (outside_asked D.asked N.asked V.asked result.0.outside)
-        (held R.remaining W.contents E.contents E.failures streams.old)
-        (held R.remaining W.contents E.contents E.failures streams.new)) }
+    ensures ok { IfOk result.1 (AreVerified names.now look.entry system.entry result.0 streams.old streams.new) }
+    ensures err { IfErr result.1 (AreUnverified names.now look.entry system.entry result.0 streams.old streams.new) }
     ensures quiet { streams.new.err ≡ streams.old.err }
 {
     let plan = match plan_tapes(&mut system.inputs, alloc, names, streams) {
@@ -80,63 +63,25 @@ pub fn verify_tapes<
         Err(failure) => return (system, Err(failure)),
     };
     let System { inputs, outside } = system;
-    let (outside, outcome) = verify_shown(outside, alloc, &plan, look, &mut streams.out, terminal);
+    let errand = Verifying {
+        host: Host::new(alloc, outside.clock, terminal),
+        plan: &plan,
+        look,
+    };
+    let out = &mut streams.out;
+    let (outside, outcome) = run_at(errand, outside, look.line, look.quiet_ms, out);
     (System { inputs, outside }, outcome)
 }
 
-// Looks, and shows on a terminal how far that is, where there is one.
-fn verify_shown<
-    'a,
-    'c,
-    D: Disk + Drop,
-    N: Dialling + Drop,
-    V: DeviceOpening + Drop,
-    C: Clock,
-    W: Write,
-    T: Print,
->(
-    outside: Outside<'c, D, N, V, C>,
-    alloc: Global,
-    plan: &Plan,
-    look: Look<'a>,
-    out: &mut W,
-    terminal: Option<&T>,
-) -> (Outside<'c, D, N, V, C>, Result<Status, Failure<'a>>)
-    ensures ok { IfOk result.1 (IsPlanVerified plan.now look.entry
-        (told_of look.entry (outside_asked D.asked N.asked V.asked outside.entry) (W.contents out.old))
-        (told_of look.entry (outside_asked D.asked N.asked V.asked result.0) (W.contents out.new))) }
-    ensures err { IfErr result.1 (IsVerifyFailure plan.now look.entry
-        (told_of look.entry (outside_asked D.asked N.asked V.asked outside.entry) (W.contents out.old))
-        (told_of look.entry (outside_asked D.asked N.asked V.asked result.0) (W.contents out.new))) }
-    ensures alone { AsksConsoleAlone look.entry.line.now
-        (outside_asked D.asked N.asked V.asked outside.entry)
-        (outside_asked D.asked N.asked V.asked result.0) }
-{
-    match terminal {
-        Some(terminal) => {
-            let onlooker = &ProgressLine::new(outside.clock, terminal);
-            let host = Host { alloc, onlooker };
-            let errand = Verifying { host, plan, look };
-            run_at(errand, outside, look.line, look.quiet_ms, out)
-        }
-        None => {
-            let onlooker = &Unwatched;
-            let host = Host { alloc, onlooker };
-            let errand = Verifying { host, plan, look };
-            run_at(errand, outside, look.line, look.quiet_ms, out)
-        }
-    }
-}
-
-// A look for a plan, as an errand at a console.
+// A look for a plan, as an errand at a console. Nothing is saved, so that no fault names a file.
 #[derive(Drop)]
-struct Verifying<'o, 'p, 'a, O> {
-    host: Host<'o, O>,
+struct Verifying<'o, 'p, 'a, K: Clock, T: Print> {
+    host: Host<'o, K, T>,
     plan: &'p Plan,
     look: Look<'a>,
 }
 
-impl<'a, O: Onlooker> Errand<'a> for Verifying<'_, '_, 'a, O> {
+impl<'a, K: Clock, T: Print> Errand<'a> for Verifying<'_, '_, 'a, K, T> {
     ghost is_over = { λ errand. IsLookOver errand.plan.now errand.look };
 
     fn run<C: Reach + Drop, D: Disk + Drop, W: Write>(
@@ -145,29 +90,14 @@ impl<'a, O: Onlooker> Errand<'a> for Verifying<'_, '_, 'a, O> {
         disk: D,
         out: &mut W,
     ) -> (C, D, Result<Status, Failure<'a>>) {
-        let outcome = verify_through(&self.host, self.plan, self.look, &mut console, out);
-        (console, disk, outcome)
-    }
-}
-
-// Looks through a console. Nothing is saved, so that no fault names a file.
-fn verify_through<'a, O: Onlooker, C: Reach, W: Write>(
-    host: &Host<'_, O>,
-    plan: &Plan,
-    look: Look<'a>,
-    console: &mut C,
-    out: &mut W,
-) -> Result<Status, Failure<'a>>
-    ensures ok { IfOk result (IsPlanVerified plan.now look.entry
-        (look_told C.asked C.call W.contents console.old out.old)
-        (look_told C.asked C.call W.contents console.new out.new)) }
-    ensures err { IfErr result (IsVerifyFailure plan.now look.entry
-        (look_told C.asked C.call W.contents console.old out.old)
-        (look_told C.asked C.call W.contents console.new out.new)) }
-    ensures call { C.call console.new ≡ C.call console.old }
-{
-    match verify(host.alloc, plan, look.patience, console, out, host.onlooker) {
-        Ok(end) => Status::after_verify(end),
-        Err(fault) => Err(Failure::of_look(fault, look.line, look.line)),
+        let Verifying { host, plan, look } = self;
+        let onlooker = &host.progress;
+        match verify(host.alloc, plan, look.patience, &mut console, out, onlooker) {
+            Ok(end) => (console, disk, Status::after_verify(end)),
+            Err(fault) => {
+                let failure = Failure::of_look(fault, look.line, look.line);
+                (console, disk, Err(failure))
+            }
+        }
     }
 }

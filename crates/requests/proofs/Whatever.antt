@@ -1,21 +1,21 @@
 -- A request's failure says nothing of standard error.
-use Rattle.std.proofs.Common.{List, inl, inr, ⊎_elim}
+use Rattle.std.proofs.Common.{Bool, List, inl, inr, ⊎_elim}
 use Rattle.endings.specs.declared.failure.Failure.{Failure}
 use Rattle.endings.specs.FaultOutput.{StandardError}
-use Rattle.endings.specs.Streams.{Held}
+use Rattle.endings.specs.Held.{Held}
 use Rattle.input_files.specs.Opening.{Name}
 use Rattle.requests.specs.declared.request.Request.{Request}
 use Rattle.requests.specs.declared.request.Request.TheVariants.{CheckInput, Check, Dialogue, Rehearse, «Type» as TypeKeys, Load, Verify, Save, Probe}
 use Rattle.requests.specs.Attempt.{IsFailed}
 use Rattle.machine_requests.specs.Files.{Known, Inputs, Opening, FailsUnopened, IsUnplanned, OfTapes}
-use Rattle.machine_requests.specs.System.{Asked}
+use Rattle.machine_requests.specs.Asked.{Asked}
 
-module _ (asked asked' : Asked) (before : Held) (input out : Known) (err err' : StandardError) (failure : Failure) where
+module _ (asked asked' : Asked) (before : Held) (input out : Known) (unread : Bool) (err err' : StandardError) (failure : Failure) where
   abbrev here : Held
-  here = record { input = input; out = out; err = err }
+  here = record { input = input; out = out; unread = unread; err = err }
 
   abbrev there : Held
-  there = record { input = input; out = out; err = err' }
+  there = record { input = input; out = out; unread = unread; err = err' }
 
   tapes : (opening : Opening) (names : List Name) (P : Inputs → Type 0) → OfTapes opening names before here P → OfTapes opening names before there P
   tapes opening names P is = record { opened = is.opened; is_so = is.is_so }

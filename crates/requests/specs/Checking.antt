@@ -5,7 +5,7 @@ use Rattle.tape_check.specs.CheckFault.{IsCheckFault}
 use Rattle.endings.specs.declared.failure.Failure.{Failure}
 use Rattle.endings.specs.declared.status.Status.{Status}
 use Rattle.endings.specs.declared.status.Status.TheVariants.{Done}
-use Rattle.endings.specs.Streams.{Held}
+use Rattle.endings.specs.Held.{Held}
 use Rattle.input_files.specs.Opening.{Name}
 use Rattle.machine_requests.specs.Files.{Known, Inputs, Opening, OfTapes, files_of, FailsUnopened, only_input}
 use Rattle.requests.specs.Output.{FailsOver}
@@ -19,17 +19,19 @@ abbrev pub IsCheckFailure : Inputs → Known → Known → Failure → Type 0
 IsCheckFailure inputs out out' failure =
     FailsOver inputs (IsCheckFault inputs.held inputs.rests out out') (IsChecked inputs.held inputs.rests out out') failure
 
--- the tape on standard input was checked, or not
+-- the tape on standard input was checked
 abbrev pub IsInputChecked : Held → Held → Status → Type 0
 IsInputChecked before after status = IsCheckedTo (only_input before.input after.input) before.out after.out status
 
+-- it was not
 abbrev pub IsInputUnchecked : Held → Held → Failure → Type 0
 IsInputUnchecked before after failure = IsCheckFailure (only_input before.input after.input) before.out after.out failure
 
--- the tapes of these names were checked, or not
+-- the tapes of these names were checked
 abbrev pub AreChecked : Opening → List Name → Held → Held → Status → Type 0
 AreChecked opening names before after status = OfTapes opening names before after (λ inputs. IsCheckedTo inputs before.out after.out status)
 
+-- they were not: a file can't be opened, or what the inputs hold is to blame
 abbrev pub AreUnchecked : Opening → List Name → Held → Held → Failure → Type 0
 AreUnchecked opening names before after failure =
     FailsUnopened opening (files_of names) before after failure

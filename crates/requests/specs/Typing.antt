@@ -5,7 +5,7 @@ use Rattle.console_typing.specs.Typing.{IsTypedToEnd, IsTypeFault}
 use Rattle.rehearsals.specs.Rehearsal.{machine_of}
 use Rattle.endings.specs.declared.failure.Failure.{Failure}
 use Rattle.endings.specs.declared.failure.Failure.TheVariants.{TooLarge, NoMemory}
-use Rattle.endings.specs.Streams.{Held}
+use Rattle.endings.specs.Held.{Held}
 use Rattle.machine_requests.specs.Files.{HasFault}
 use Rattle.requests.specs.declared.request.Console.{Console}
 use Rattle.requests.specs.Output.{FailsAtFlush}

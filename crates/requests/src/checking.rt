@@ -1,12 +1,11 @@
 //! Checking tapes.
 ghost use Rattle.std.specs.Prelude.{◌≡◌, ◌⊎◌, IfOk, IfErr};
 ghost use Rattle.std.specs.Mem.{FitsInMemory};
-ghost use Rattle.endings.specs.Streams.{held};
 ghost use Rattle.machine_requests.specs.Files.{inputs_of, opening_between, AreOpened, IsUnopened, OfFiles};
 ghost use Rattle.requests.specs.Checking.{AreChecked, AreUnchecked, IsCheckedTo, IsCheckFailure, IsInputChecked, IsInputUnchecked};
 
 use crate::output::flushed;
-use endings::{Failure, FaultOutput, STANDARD_INPUT, Status, Streams};
+use endings::{Failure, FaultOutput, Output, STANDARD_INPUT, Status, Streams};
 use input_files::{InputFiles, open_all};
 use machine_requests::is_input;
 use std::alloc::Global;
@@ -15,19 +14,15 @@ use std::slice;
 use tape_check::check_to;
 
 /// Checks tapes: standard input's, where `-` is their only name, else those in the files.
-pub(crate) fn check_tapes<'a, F: InputFiles, R: Read, W: Write, E: FaultOutput>(
+pub(crate) fn check_tapes<'a, F: InputFiles, R: Read, W: Output, E: FaultOutput>(
     inputs: &mut F,
     alloc: Global,
     names: &[&'a str],
     streams: &mut Streams<R, W, E>,
 ) -> Result<Status, Failure<'a>>
     requires { FitsInMemory R.row }
-    ensures ok { IfOk result (AreChecked (opening_between (F.opened inputs.old) (F.opened inputs.new)) names.now
-        (held R.remaining W.contents E.contents E.failures streams.old)
-        (held R.remaining W.contents E.contents E.failures streams.new)) }
-    ensures err { IfErr result (AreUnchecked (opening_between (F.opened inputs.old) (F.opened inputs.new)) names.now
-        (held R.remaining W.contents E.contents E.failures streams.old)
-        (held R.remaining W.contents E.contents E.failures streams.new)) }
+    ensures ok { IfOk result (AreChecked (opening_between (F.opened inputs.old) (F.opened inputs.new)) names.now streams.old streams.new) }
+    ensures err { IfErr result (AreUnchecked (opening_between (F.opened inputs.old) (F.opened inputs.new)) names.now streams.old streams.new) }
     ensures quiet { streams.new.err ≡ streams.old.err }
 {
     if is_input(names) {
@@ -38,17 +33,13 @@ pub(crate) fn check_tapes<'a, F: InputFiles, R: Read, W: Write, E: FaultOutput>(
 }
 
 /// Checks the tape on standard input.
-pub(crate) fn check_input<R: Read, W: Write, E: FaultOutput>(
+pub(crate) fn check_input<R: Read, W: Output, E: FaultOutput>(
     alloc: Global,
     streams: &mut Streams<R, W, E>,
 ) -> Result<Status, Failure<'static>>
     requires { FitsInMemory R.row }
-    ensures ok { IfOk result (IsInputChecked
-        (held R.remaining W.contents E.contents E.failures streams.old)
-        (held R.remaining W.contents E.contents E.failures streams.new)) }
-    ensures err { IfErr result (IsInputUnchecked
-        (held R.remaining W.contents E.contents E.failures streams.old)
-        (held R.remaining W.contents E.contents E.failures streams.new)) }
+    ensures ok { IfOk result (IsInputChecked streams.old streams.new) }
+    ensures err { IfErr result (IsInputUnchecked streams.old streams.new) }
     ensures quiet { streams.new.err ≡ streams.old.err }
 {
     let tape = slice::from_mut(&mut streams.input);

@@ -1,8 +1,6 @@
 //! Doing a request, and telling how it ended.
 ghost use Rattle.std.specs.Prelude.{◌≡◌, IfOk, IfErr};
 ghost use Rattle.std.specs.Mem.{FitsInMemory};
-ghost use Rattle.endings.specs.Streams.{held};
-ghost use Rattle.machine_requests.specs.System.{asked_of};
 ghost use Rattle.requests.specs.Attempt.{IsDone, IsFailed, IsAttempted};
 
 use crate::checking::{check_input, check_tapes};
@@ -16,7 +14,7 @@ use machine_requests::{Outside, System, load_tapes, probe_console, save_words, v
 use record_file::Disk;
 use serial_line::DeviceOpening;
 use std::alloc::Global;
-use std::io::{Print, Read, Write};
+use std::io::{Print, Read};
 use std::time::Clock;
 use stream_line::Dialling;
 
@@ -43,19 +41,14 @@ pub fn attempt<
     E: FaultOutput,
     T: Print,
 >(
-    system: System<F, Outside<'c, D, N, V, C>>,
+    system: System<'c, F, D, N, V, C>,
     alloc: Global,
     request: Request<'_>,
     streams: &mut Streams<R, W, E>,
     terminal: Option<&T>,
-) -> (System<F, Outside<'c, D, N, V, C>>, Status)
+) -> (System<'c, F, D, N, V, C>, Status)
     requires { FitsInMemory R.row }
-    ensures { IsAttempted request.entry (W.unread streams.new.out)
-        (asked_of F.opened D.asked N.asked V.asked system.entry)
-        (asked_of F.opened D.asked N.asked V.asked result.0)
-        (held R.remaining W.contents E.contents E.failures streams.old)
-        (held R.remaining W.contents E.contents E.failures streams.new)
-        result.1 }
+    ensures { IsAttempted request.entry system.entry result.0 streams.old streams.new result.1 }
 {
     let only_prints = request.only_prints();
     let (system, outcome) = perform(system, alloc, request, streams, terminal);
@@ -81,30 +74,19 @@ fn perform<
     V: DeviceOpening + Drop,
     C: Clock,
     R: Read,
-    W: Write,
+    W: Output,
     E: FaultOutput,
     T: Print,
 >(
-    mut system: System<F, Outside<'c, D, N, V, C>>,
+    mut system: System<'c, F, D, N, V, C>,
     alloc: Global,
     request: Request<'a>,
     streams: &mut Streams<R, W, E>,
     terminal: Option<&T>,
-) -> (
-    System<F, Outside<'c, D, N, V, C>>,
-    Result<Status, Failure<'a>>,
-)
+) -> (System<'c, F, D, N, V, C>, Result<Status, Failure<'a>>)
     requires { FitsInMemory R.row }
-    ensures ok { IfOk result.1 (IsDone request.entry
-        (asked_of F.opened D.asked N.asked V.asked system.entry)
-        (asked_of F.opened D.asked N.asked V.asked result.0)
-        (held R.remaining W.contents E.contents E.failures streams.old)
-        (held R.remaining W.contents E.contents E.failures streams.new)) }
-    ensures err { IfErr result.1 (IsFailed request.entry
-        (asked_of F.opened D.asked N.asked V.asked system.entry)
-        (asked_of F.opened D.asked N.asked V.asked result.0)
-        (held R.remaining W.contents E.contents E.failures streams.old)
-        (held R.remaining W.contents E.contents E.failures streams.new)) }
+    ensures ok { IfOk result.1 (IsDone request.entry system.entry result.0 streams.old streams.new) }
+    ensures err { IfErr result.1 (IsFailed request.entry system.entry result.0 streams.old streams.new) }
     ensures quiet { streams.new.err ≡ streams.old.err }
 {
     match request {

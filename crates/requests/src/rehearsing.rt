@@ -1,13 +1,12 @@
 //! Rehearsing a load.
 ghost use Rattle.std.specs.Prelude.{◌≡◌, ◌⊎◌, ◌∷◌, [], IfOk, IfErr};
 ghost use Rattle.std.specs.Mem.{FitsInMemory};
-ghost use Rattle.endings.specs.Streams.{held};
 ghost use Rattle.machine_requests.specs.Files.{means_input, opening_between, AreOpened, FailsUnopened, IsUnopened, OfFiles};
 ghost use Rattle.requests.specs.Rehearsing.{AreRehearsed, AreUnrehearsed, IsInputRehearsed, IsInputUnrehearsed, IsRehearsalFailure, IsRehearsedInto};
 
 use crate::names::joined;
 use crate::output::flushed;
-use endings::{Failure, FaultOutput, Status, Streams};
+use endings::{Failure, FaultOutput, Output, Status, Streams};
 use input_files::{InputFiles, open, open_with_script};
 use rehearsals::rehearse_to;
 use std::alloc::Global;
@@ -16,7 +15,7 @@ use std::slice;
 
 /// Rehearses the load of tapes by a script: of standard input's tape, where `-` is their only name, else
 /// of those in the files.
-pub(crate) fn rehearse<'a, F: InputFiles, R: Read, W: Write, E: FaultOutput>(
+pub(crate) fn rehearse<'a, F: InputFiles, R: Read, W: Output, E: FaultOutput>(
     inputs: &mut F,
     alloc: Global,
     tape: &'a str,
@@ -26,11 +25,9 @@ pub(crate) fn rehearse<'a, F: InputFiles, R: Read, W: Write, E: FaultOutput>(
 ) -> Result<Status, Failure<'a>>
     requires { FitsInMemory R.row }
     ensures ok { IfOk result (AreRehearsed (opening_between (F.opened inputs.old) (F.opened inputs.new)) tape.entry script.entry more.now
-        (held R.remaining W.contents E.contents E.failures streams.old)
-        (held R.remaining W.contents E.contents E.failures streams.new)) }
+        streams.old streams.new) }
     ensures err { IfErr result (AreUnrehearsed (opening_between (F.opened inputs.old) (F.opened inputs.new)) tape.entry script.entry more.now
-        (held R.remaining W.contents E.contents E.failures streams.old)
-        (held R.remaining W.contents E.contents E.failures streams.new)) }
+        streams.old streams.new) }
     ensures quiet { streams.new.err ≡ streams.old.err }
 {
     if is_only_input(tape, more) {
@@ -48,25 +45,19 @@ fn is_only_input(tape: &str, more: &[&str]) -> bool
 }
 
 // Opens the script and rehearses with the tape on standard input.
-fn rehearse_input<'a, F: InputFiles, R: Read, W: Write, E: FaultOutput>(
+fn rehearse_input<'a, F: InputFiles, R: Read, W: Output, E: FaultOutput>(
     inputs: &mut F,
     alloc: Global,
     script: &'a str,
     streams: &mut Streams<R, W, E>,
 ) -> Result<Status, Failure<'a>>
     requires { FitsInMemory R.row }
-    ensures ok { IfOk result (λ status. AreOpened (opening_between (F.opened inputs.old) (F.opened inputs.new)) (script.entry ∷ []) × IsInputRehearsed
-        (held R.remaining W.contents E.contents E.failures streams.old)
-        (held R.remaining W.contents E.contents E.failures streams.new)
-        status) }
-    ensures err { IfErr result (λ failure. FailsUnopened (opening_between (F.opened inputs.old) (F.opened inputs.new)) (script.entry ∷ [])
-        (held R.remaining W.contents E.contents E.failures streams.old)
-        (held R.remaining W.contents E.contents E.failures streams.new)
-        failure
-        ⊎ (AreOpened (opening_between (F.opened inputs.old) (F.opened inputs.new)) (script.entry ∷ []) × IsInputUnrehearsed script.entry
-        (held R.remaining W.contents E.contents E.failures streams.old)
-        (held R.remaining W.contents E.contents E.failures streams.new)
-        failure)) }
+    ensures ok { IfOk result (λ status. AreOpened (opening_between (F.opened inputs.old) (F.opened inputs.new)) (script.entry ∷ [])
+        × IsInputRehearsed streams.old streams.new status) }
+    ensures err { IfErr result (λ failure.
+        FailsUnopened (opening_between (F.opened inputs.old) (F.opened inputs.new)) (script.entry ∷ []) streams.old streams.new failure
+        ⊎ (AreOpened (opening_between (F.opened inputs.old) (F.opened inputs.new)) (script.entry ∷ [])
+        × IsInputUnrehearsed script.entry streams.old streams.new failure)) }
     ensures quiet { streams.new.err ≡ streams.old.err }
 {
     let mut script_file = open(inputs, alloc, script)?;

@@ -40,7 +40,7 @@ impl Request<'_> {
     ghost use Rattle.std.specs.Prelude.{◌≡◌};
     ghost use Rattle.requests.specs.Attempt.{only_prints};
 
-    // Whether it does nothing but print: it is about no machine.
+    /// Whether it does nothing but print: it is about no machine.
     pub(crate) fn only_prints(&self) -> bool
         ensures { result ≡ only_prints self.now }
     {

@@ -1,13 +1,12 @@
 //! Showing the load of tapes into a simulated console.
 ghost use Rattle.std.specs.Prelude.{◌≡◌, ◌⊎◌, IfOk, IfErr};
 ghost use Rattle.std.specs.Mem.{FitsInMemory};
-ghost use Rattle.endings.specs.Streams.{held};
 ghost use Rattle.machine_requests.specs.Files.{inputs_of, opening_between, AreOpened, IsUnopened, OfFiles};
 ghost use Rattle.requests.specs.Showing.{AreShown, AreUnshown, IsInputShown, IsInputUnshown, IsShowingFailure, IsShownTo};
 
 use crate::output::flushed;
 use crate::request::Console;
-use endings::{Failure, FaultOutput, STANDARD_INPUT, Status, Streams};
+use endings::{Failure, FaultOutput, Output, STANDARD_INPUT, Status, Streams};
 use input_files::{InputFiles, open_all};
 use machine_requests::is_input;
 use rehearsals::dialogue_to;
@@ -18,7 +17,7 @@ use tape_image::Start;
 
 /// Shows the load of tapes into a console, with a start in place of theirs: of standard input's tape,
 /// where `-` is their only name, else of those in the files.
-pub(crate) fn show_dialogue<'a, F: InputFiles, R: Read, W: Write, E: FaultOutput>(
+pub(crate) fn show_dialogue<'a, F: InputFiles, R: Read, W: Output, E: FaultOutput>(
     inputs: &mut F,
     alloc: Global,
     names: &[&'a str],
@@ -26,12 +25,8 @@ pub(crate) fn show_dialogue<'a, F: InputFiles, R: Read, W: Write, E: FaultOutput
     streams: &mut Streams<R, W, E>,
 ) -> Result<Status, Failure<'a>>
     requires { FitsInMemory R.row }
-    ensures ok { IfOk result (AreShown (opening_between (F.opened inputs.old) (F.opened inputs.new)) names.now stage
-        (held R.remaining W.contents E.contents E.failures streams.old)
-        (held R.remaining W.contents E.contents E.failures streams.new)) }
-    ensures err { IfErr result (AreUnshown (opening_between (F.opened inputs.old) (F.opened inputs.new)) names.now stage
-        (held R.remaining W.contents E.contents E.failures streams.old)
-        (held R.remaining W.contents E.contents E.failures streams.new)) }
+    ensures ok { IfOk result (AreShown (opening_between (F.opened inputs.old) (F.opened inputs.new)) names.now stage streams.old streams.new) }
+    ensures err { IfErr result (AreUnshown (opening_between (F.opened inputs.old) (F.opened inputs.new)) names.now stage streams.old streams.new) }
     ensures quiet { streams.new.err ≡ streams.old.err }
 {
     if is_input(names) {
@@ -42,18 +37,14 @@ pub(crate) fn show_dialogue<'a, F: InputFiles, R: Read, W: Write, E: FaultOutput
 }
 
 // Shows the load of the tape on standard input.
-fn show_input<R: Read, W: Write, E: FaultOutput>(
+fn show_input<R: Read, W: Output, E: FaultOutput>(
     alloc: Global,
     stage: (Console, Start),
     streams: &mut Streams<R, W, E>,
 ) -> Result<Status, Failure<'static>>
     requires { FitsInMemory R.row }
-    ensures ok { IfOk result (IsInputShown stage
-        (held R.remaining W.contents E.contents E.failures streams.old)
-        (held R.remaining W.contents E.contents E.failures streams.new)) }
-    ensures err { IfErr result (IsInputUnshown stage
-        (held R.remaining W.contents E.contents E.failures streams.old)
-        (held R.remaining W.contents E.contents E.failures streams.new)) }
+    ensures ok { IfOk result (IsInputShown stage streams.old streams.new) }
+    ensures err { IfErr result (IsInputUnshown stage streams.old streams.new) }
     ensures quiet { streams.new.err ≡ streams.old.err }
 {
     let tape = slice::from_mut(&mut streams.input);

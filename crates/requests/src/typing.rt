@@ -1,29 +1,24 @@
 //! Typing standard input into a simulated console.
 ghost use Rattle.std.specs.Prelude.{◌≡◌, IfOk, IfErr};
-ghost use Rattle.endings.specs.Streams.{held};
 ghost use Rattle.requests.specs.Typing.{IsTypedThrough, IsTypingFailure};
 
 use crate::output::flushed;
 use crate::request::Console;
 use console_typing::type_to;
-use endings::{Failure, FaultOutput, STANDARD_INPUT, Status, Streams};
+use endings::{Failure, FaultOutput, Output, STANDARD_INPUT, Status, Streams};
 use odt_machine::{Odt, OdtError};
 use std::alloc::Global;
-use std::io::{Read, Write};
+use std::io::Read;
 
 /// Types standard input into a simulated console.
-pub(crate) fn type_input<R: Read, W: Write, E: FaultOutput>(
+pub(crate) fn type_input<R: Read, W: Output, E: FaultOutput>(
     alloc: Global,
     console: Console,
     streams: &mut Streams<R, W, E>,
 ) -> Result<Status, Failure<'static>>
-    ensures ok { IfOk result (λ status. IsTypedThrough console
-        (held R.remaining W.contents E.contents E.failures streams.old)
-        (held R.remaining W.contents E.contents E.failures streams.new)
+    ensures ok { IfOk result (λ status. IsTypedThrough console streams.old streams.new
         × (status ≡ Status.Done)) }
-    ensures err { IfErr result (IsTypingFailure console
-        (held R.remaining W.contents E.contents E.failures streams.old)
-        (held R.remaining W.contents E.contents E.failures streams.new)) }
+    ensures err { IfErr result (IsTypingFailure console streams.old streams.new) }
     ensures quiet { streams.new.err ≡ streams.old.err }
 {
     let mut odt = match Odt::new(alloc, console.words, console.style) {

@@ -14,11 +14,13 @@ use clap::ArgMatches;
 use machine_look::AddressRange;
 use octal::read_oct6;
 use std::alloc::Global;
+use tape_blocks::TOP;
 use tape_image::Start;
 
-// Why a word is no start of a load, and none of a saved tape.
+// Why a word is no start of a load.
 const NO_START_ADDRESS: &str = "a start is octal, of one to six digits, and even";
 
+// Why a word is no start of a saved tape.
 const NO_SAVED_START: &str = "a start is octal, of one to six digits";
 
 // Why a word is no address of a word of memory.
@@ -32,9 +34,6 @@ const STARTS_NOTHING: u16 = 0o000001;
 
 // The address of the word at which a probe is made where nothing else is said.
 const PLAIN_WORD: u16 = 0o001000;
-
-// The first address that no word of memory has.
-const TOP: u16 = 0o160000;
 
 /// The start in place of the tapes', by two options of which one is given at most.
 pub(crate) fn start_of(alloc: Global, found: &ArgMatches<'_>) -> Result<Start, NoRequest>
@@ -108,7 +107,7 @@ fn word_of(alloc: Global, text: &str, argument: &str) -> Result<u16, NoRequest>
     ensures { IfOk result (IsWordText text.now) }
 {
     match even(text) {
-        Some(address) if address < TOP => Ok(address),
+        Some(address) if address < TOP as u16 => Ok(address),
         _ => Err(invalid_value(alloc, text, argument, NO_ADDRESS)),
     }
 }

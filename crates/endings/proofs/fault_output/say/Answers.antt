@@ -2,8 +2,8 @@ use Rattle.std.proofs.Common.{◌≢◌, ℕ, zero, suc, List, Option, Ok, ◌-�
 use Rattle.std.proofs.lemmas.List.{take_rest}
 use Rattle.std.proofs.KnownBytes.{Appends-trans}
 use Rattle.std.specs.Io.KnownBytes.{Appends}
-use Rattle.endings.specs.FaultOutput.{StandardError, CountsWrite, IsSaidBut, NoneFailed}
-use Rattle.endings.proofs.Lines.{none_failed_twice}
+use Rattle.endings.specs.FaultOutput.{StandardError, CountsWrite, NoneFailed}
+use Rattle.endings.proofs.Lines.{IsSaidBut, none_failed_twice}
 use Rattle.endings.proofs.fault_output.say.Goals as goal
 
 -- a write that took something has not failed

@@ -1,6 +1,7 @@
 -- What is gone from the text was said.
 use Rattle.std.proofs.Common.{length}
-use Rattle.endings.specs.FaultOutput.{IsSaidBut, standard_error}
+use Rattle.endings.specs.FaultOutput.{standard_error}
+use Rattle.endings.proofs.Lines.{IsSaidBut}
 use Rattle.endings.proofs.fault_output.say.Given as goal
 
 abbrev pub invariant-loop-left : goal.invariant-loop-left

@@ -2,8 +2,8 @@ use Rattle.std.proofs.Common.{◌≡◌, ◌++◌, [], ◌∙◌, ℕ, List, cod
 use Rattle.std.proofs.lemmas.Result.{on_err_weaker}
 use Rattle.endings.specs.declared.failure.Failure.{Failure}
 use Rattle.endings.specs.Failure.{failure_words, failure_name, failure_end, fault_line}
-use Rattle.endings.specs.FaultOutput.{StandardError, IsSaidBut, standard_error}
-use Rattle.endings.proofs.Lines.{on_any_err, none_said, piece_said, piece_cut, line_pieces}
+use Rattle.endings.specs.FaultOutput.{StandardError, standard_error}
+use Rattle.endings.proofs.Lines.{IsSaidBut, on_any_err, none_said, piece_said, piece_cut, line_pieces}
 use Rattle.endings.proofs.telling.write_line.Goals as goal
 
 -- the line, before any of its three pieces is said

@@ -1,8 +1,8 @@
 use Rattle.std.proofs.Common.{sym, subst, ◌∙◌}
 use Rattle.std.specs.Str.Iter.{chars_rest}
 use Rattle.std.proofs.lemmas.Str.{IsUtf8-past_char}
-use Rattle.endings.specs.FaultOutput.{IsSaidBut, IsSaidInPart, IsSaidWhole, standard_error}
-use Rattle.endings.proofs.Lines.{on_any_err, piece_said, piece_cut, all_said}
+use Rattle.endings.specs.FaultOutput.{IsSaidInPart, IsSaidWhole, standard_error}
+use Rattle.endings.proofs.Lines.{IsSaidBut, on_any_err, piece_said, piece_cut, all_said}
 use Rattle.endings.proofs.Names.{shown_text, shown_text-char, shown_text-none, shown_name-some}
 use Rattle.endings.proofs.telling.write_name.Goals as goal
 

@@ -1,7 +1,8 @@
 -- What is said and what is still to be shown are the whole name.
 use Rattle.std.proofs.Common.{IsUtf8}
 use Rattle.std.specs.Str.Iter.{chars_rest}
-use Rattle.endings.specs.FaultOutput.{IsSaidBut, standard_error}
+use Rattle.endings.specs.FaultOutput.{standard_error}
+use Rattle.endings.proofs.Lines.{IsSaidBut}
 use Rattle.endings.proofs.Names.{shown_text}
 use Rattle.endings.proofs.telling.write_name.Given as goal
 

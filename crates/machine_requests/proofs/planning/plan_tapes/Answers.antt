@@ -5,15 +5,15 @@ use Rattle.machine_requests.proofs.planning.plan_tapes.Goals as goal
 
 pub returns-then-is_input-clause-ok : goal.returns-then-is_input-clause-ok
 returns-then-is_input-clause-ok g c =
-    IfOk-weaker c.plan_input.result _ _
+    rw (← c.streams.view_is) (IfOk-weaker c.plan_input.result _ _
     (λ value h. of_input (g.F.InputFiles.opened c.args.inputs.now) c.args.names.now _ _ _ (sym c.is_input.ensures ∙ c.if-is_input.true) h)
-    c.plan_input.ensures.ok
+    c.plan_input.ensures.ok)
 
 pub returns-then-is_input-clause-err : goal.returns-then-is_input-clause-err
 returns-then-is_input-clause-err g c =
-    IfErr-weaker c.plan_input.result _ _
+    rw (← c.streams.view_is) (IfErr-weaker c.plan_input.result _ _
     (λ failure h. inr ((of_input (g.F.InputFiles.opened c.args.inputs.now) c.args.names.now _ _ _ (sym c.is_input.ensures ∙ c.if-is_input.true) h), refl))
-    c.plan_input.ensures.err
+    c.plan_input.ensures.err)
 
 pub returns-else-is_input-clause-ok : goal.returns-else-is_input-clause-ok
 returns-else-is_input-clause-ok g c =

@@ -1,34 +1,39 @@
-use Rattle.std.proofs.Common.{inl, inr, refl, ap, subst}
+use Rattle.std.proofs.Common.{◌∙◌, inl, inr, refl, ap, sym, subst}
 use Rattle.std.proofs.lemmas.Result.{IfOk-weaker, IfErr-weaker}
-use Rattle.machine_requests.specs.Looking.{IsPlanVerified, IsVerifyFailure, told_of}
-use Rattle.machine_requests.specs.System.{outside_asked}
+use Rattle.endings.specs.Held.{Held}
+use Rattle.machine_requests.specs.Files.{IsPlanned, opening_between}
+use Rattle.machine_requests.specs.Looking.{IsPlanVerified, IsVerifyFailure, console_at}
 use Rattle.machine_requests.proofs.verifying.verify_tapes.Goals as goal
 
 pub returns-in-Err-clause-err : goal.returns-in-Err-clause-err
-returns-in-Err-clause-err g c = inl (refl, c.in-Err.ensures.err)
+returns-in-Err-clause-err g c = rw (← c.system.view_is) (inl (refl, c.in-Err.ensures.err))
 
 pub returns-clause-ok : goal.returns-clause-ok
 returns-clause-ok g c =
-    let asked = outside_asked g.D.Disk.asked g.N.Dialling.asked g.V.DeviceOpening.asked in
-    let told' = told_of c.args.look (asked c.verify_shown-outside.result.0) (g.W.Write.contents c.verify_shown-outside.new.out) in
-    IfOk-weaker c.verify_shown-outside.result.1 _ _
+    let told' = console_at c.args.look c.run_at-outside.result.0 (g.W.Write.contents c.run_at-outside.new.out) in
+    let opening = opening_between (g.F.InputFiles.opened c.system.inside.inputs) (g.F.InputFiles.opened c.plan_tapes.new.inputs) in
+    let planned = subst (λ (held : Held). IsPlanned opening c.args.names.now c.args.streams.now held c.in-Ok.plan) (sym c.streams.view_is) c.in-Ok.ensures.ok in
+    rw (← c.system.view_is) (IfOk-weaker c.run_at-outside.result.1 _ _
     (λ status h. record {
       plan = c.in-Ok.plan;
-      planned = record { opened = c.in-Ok.ensures.ok.opened; is_so = c.in-Ok.ensures.ok.is_so };
-      verified = subst (λ out. IsPlanVerified c.in-Ok.plan c.args.look (told_of c.args.look (asked c.args.system.outside) out) told' status) (ap g.W.Write.contents c.in-Ok.ensures.same_out) h;
-      alone = c.verify_shown-outside.ensures.alone;
+      planned = record { opened = planned.opened; is_so = planned.is_so };
+      verified = subst (λ out. IsPlanVerified c.in-Ok.plan c.args.look (console_at c.args.look c.system.inside.outside out) told' status)
+          (ap (λ (held : Held). held.out) c.streams.view_is ∙ c.in-Ok.ensures.same_out) h;
+      alone = record { not_elsewhere = c.run_at-outside.ensures.not_elsewhere; no_disk = c.run_at-outside.ensures.over.no_disk };
     })
-    c.verify_shown-outside.ensures.ok
+    c.run_at-outside.ensures.over.ok)
 
 pub returns-clause-err : goal.returns-clause-err
 returns-clause-err g c =
-    let asked = outside_asked g.D.Disk.asked g.N.Dialling.asked g.V.DeviceOpening.asked in
-    let told' = told_of c.args.look (asked c.verify_shown-outside.result.0) (g.W.Write.contents c.verify_shown-outside.new.out) in
-    IfErr-weaker c.verify_shown-outside.result.1 _ _
+    let told' = console_at c.args.look c.run_at-outside.result.0 (g.W.Write.contents c.run_at-outside.new.out) in
+    let opening = opening_between (g.F.InputFiles.opened c.system.inside.inputs) (g.F.InputFiles.opened c.plan_tapes.new.inputs) in
+    let planned = subst (λ (held : Held). IsPlanned opening c.args.names.now c.args.streams.now held c.in-Ok.plan) (sym c.streams.view_is) c.in-Ok.ensures.ok in
+    rw (← c.system.view_is) (IfErr-weaker c.run_at-outside.result.1 _ _
     (λ failure h. inr (record {
       plan = c.in-Ok.plan;
-      planned = record { opened = c.in-Ok.ensures.ok.opened; is_so = c.in-Ok.ensures.ok.is_so };
-      failed = subst (λ out. IsVerifyFailure c.in-Ok.plan c.args.look (told_of c.args.look (asked c.args.system.outside) out) told' failure) (ap g.W.Write.contents c.in-Ok.ensures.same_out) h;
-      alone = c.verify_shown-outside.ensures.alone;
+      planned = record { opened = planned.opened; is_so = planned.is_so };
+      failed = subst (λ out. IsVerifyFailure c.in-Ok.plan c.args.look (console_at c.args.look c.system.inside.outside out) told' failure)
+          (ap (λ (held : Held). held.out) c.streams.view_is ∙ c.in-Ok.ensures.same_out) h;
+      alone = record { not_elsewhere = c.run_at-outside.ensures.not_elsewhere; no_disk = c.run_at-outside.ensures.over.no_disk };
     }))
-    c.verify_shown-outside.ensures.err
+    c.run_at-outside.ensures.over.err)

@@ -17,13 +17,13 @@ returns-then-is_input-clause-err g c =
 
 pub returns-else-is_input-clause-ok : goal.returns-else-is_input-clause-ok
 returns-else-is_input-clause-ok g c =
-    IfOk-weaker c.check_files.result _ _
+    rw (← c.streams.view_is) (IfOk-weaker c.check_files.result _ _
     (λ value h. of_named _ c.args.names.now _ _ _ (sym c.is_input.ensures ∙ c.if-is_input.false) h.0 h.1 refl)
-    c.check_files.ensures.ok
+    c.check_files.ensures.ok)
 
 pub returns-else-is_input-clause-err : goal.returns-else-is_input-clause-err
 returns-else-is_input-clause-err g c =
     let is = sym c.is_input.ensures ∙ c.if-is_input.false in
-    IfErr-weaker c.check_files.result _ _
+    rw (← c.streams.view_is) (IfErr-weaker c.check_files.result _ _
     (λ failure h. ⊎_elim (λ u. inl (unopened_named _ c.args.names.now _ _ failure is u.0 refl u.1)) (λ o. inr (of_named _ c.args.names.now _ _ _ is o.0 o.1 refl)) h)
-    c.check_files.ensures.err
+    c.check_files.ensures.err)

@@ -32,16 +32,16 @@ returns-then-is_only_input-clause-err g c =
 pub returns-else-is_only_input-clause-ok : goal.returns-else-is_only_input-clause-ok
 returns-else-is_only_input-clause-ok g c =
     let is = sym c.is_only_input.ensures ∙ c.if-is_only_input.false in
-    IfOk-weaker c.rehearse_files.result _ _
+    rw (← c.streams.view_is) (IfOk-weaker c.rehearse_files.result _ _
     (λ status h. record { opened = all_files c.args.tape c.args.script c.args.more.now (AreOpened (opening_between (g.F.InputFiles.opened c.args.inputs.now) (g.F.InputFiles.opened c.rehearse_files.new.inputs))) is h.0; rehearsed = inr (is, h.1, refl); status_is = h.2 })
-    c.rehearse_files.ensures.ok
+    c.rehearse_files.ensures.ok)
 
 pub returns-else-is_only_input-clause-err : goal.returns-else-is_only_input-clause-err
 returns-else-is_only_input-clause-err g c =
     let is = sym c.is_only_input.ensures ∙ c.if-is_only_input.false in
-    IfErr-weaker c.rehearse_files.result _ _
+    rw (← c.streams.view_is) (IfErr-weaker c.rehearse_files.result _ _
     (λ failure h. ⊎_elim
     (λ u. inl (record { unopened = all_files c.args.tape c.args.script c.args.more.now (λ files. IsUnopened (opening_between (g.F.InputFiles.opened c.args.inputs.now) (g.F.InputFiles.opened c.rehearse_files.new.inputs)) files failure) is u.0; nothing_read = refl; nothing_written = u.1 }))
     (λ o. inr (record { opened = all_files c.args.tape c.args.script c.args.more.now (AreOpened (opening_between (g.F.InputFiles.opened c.args.inputs.now) (g.F.InputFiles.opened c.rehearse_files.new.inputs))) is o.0; failed = inr (is, o.1, refl) }))
     h)
-    c.rehearse_files.ensures.err
+    c.rehearse_files.ensures.err)

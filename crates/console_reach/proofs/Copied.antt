@@ -1,16 +1,15 @@
 -- What was heard so far, and then more.
-use Rattle.std.proofs.Common.{◌≡◌, ◌⊎◌, inl, inr, ℕ, ◌+◌, ◌-◌, ◌^◌, List, [], ◌∷◌, ◌++◌, length, map, Option, Some, None, Result, Ok, Err, OnErr, IsSome, refl, sym, subst, ap, ◌∙◌, arith, length-append, append_assoc}
-use Rattle.std.proofs.lemmas.List.{append-nil, map-append}
-use Rattle.std.proofs.KnownBytes.{Appends-nil, Appends-trans}
+use Rattle.std.proofs.Common.{◌≡◌, ◌⊎◌, inl, inr, ℕ, ◌+◌, List, [], ◌∷◌, ◌++◌, length, map, Option, Some, None, Result, Ok, Err, OnErr, refl, sym, subst, ap, ◌∙◌, arith, length-append, append_assoc}
+use Rattle.std.proofs.lemmas.List.{map-append}
+use Rattle.std.proofs.KnownBytes.{Appends-trans}
 use Rattle.std.specs.Io.KnownBytes.{Appends}
 use Rattle.byte_io.specs.Output.{WritesPrefix}
 use Rattle.host_core.specs.declared.heard.Heard.{Heard}
 use Rattle.host_core.specs.declared.heard.Heard.TheVariants.{Got, Quiet}
 use Rattle.load_devices.specs.Told.{Gains}
-use Rattle.load_devices.specs.declared.fault.LineFault.{LineFault}
 use Rattle.load_devices.specs.declared.item.Item.{Item}
 use Rattle.load_devices.specs.declared.item.Item.TheVariants.{Heard as Came}
-use Rattle.console_reach.specs.Listening.{IsCopied, IsCopiedInPart, IsListening, characters_of, silences_behind}
+use Rattle.console_reach.specs.Listening.{IsCopied, IsCopiedInPart, characters_of, silences_behind}
 
 characters_of-append : (xs ys : List Heard) → characters_of (xs ++ ys) ≡ characters_of xs ++ characters_of ys
 characters_of-append [] ys = refl
@@ -22,11 +21,7 @@ silences_behind-append before [] ys = refl
 silences_behind-append before (Got c ∷ xs) ys = silences_behind-append 0 xs ys
 silences_behind-append before (Quiet ∷ xs) ys = silences_behind-append (before + 1) xs ys
 
--- what was told before, and then nothing; and then more
-gains_nothing : (told : Option (List Item)) → Gains told told []
-gains_nothing None = tt
-gains_nothing (Some items) = sym (append-nil items)
-
+-- what was told before, and then more
 gains_more : (a b d : Option (List Item)) (xs ys : List Item) → Gains a b xs → Gains b d ys → Gains a d (xs ++ ys)
 gains_more None b d xs ys first then_ = tt
 gains_more (Some items) None d xs ys first then_ = absurd first
@@ -46,14 +41,6 @@ pub record HeardSoFar (silent count : ℕ) (told told' : Option (List Item)) (ou
   pub silent_is : silences_behind 0 heard ≡ silent
   pub counted : length heard ≡ count
 
-pub nothing_heard : (told : Option (List Item)) (out : Option (List ℕ)) → HeardSoFar 0 0 told told out out
-nothing_heard told out = record {
-  heard = [];
-  copied = record { on_line = gains_nothing told; written = Appends-nil out };
-  silent_is = refl;
-  counted = refl;
-}
-
 pub more_heard : (silent count : ℕ) (next : Heard) (a b d : Option (List Item)) (o p q : Option (List ℕ))
     → HeardSoFar silent count a b o p → IsCopied (next ∷ []) b d p q → HeardSoFar (silences_behind silent (next ∷ [])) (count + 1) a d o q
 more_heard silent count next a b d o p q before more = record {
@@ -61,21 +48,6 @@ more_heard silent count next a b d o p q before more = record {
   copied = copied_more before.heard (next ∷ []) a b d o p q before.copied more;
   silent_is = silences_behind-append 0 before.heard (next ∷ []) ∙ ap (λ s. silences_behind s (next ∷ [])) before.silent_is;
   counted = omega (arith, length-append before.heard (next ∷ []), before.counted);
-}
-
--- the listening is over, since so much was heard or was silent
-pub all_heard : (silences silent count : ℕ) (fault : Option LineFault) (a b : Option (List Item)) (o p : Option (List ℕ))
-    → HeardSoFar silent count a b o p → (silent ≡ silences) ⊎ (count ≡ 2 ^ 64 - 1) → IsListening silences fault a b o p
-all_heard silences silent count fault a b o p before (inl enough) = record { heard = before.heard; copied = before.copied; all = inl (before.silent_is ∙ enough) }
-all_heard silences silent count fault a b o p before (inr most) = record { heard = before.heard; copied = before.copied; all = inr (inr (before.counted ∙ most)) }
-
--- the line failed behind what was heard
-pub failed_behind : (silences silent count : ℕ) (fault : Option LineFault) (a b d : Option (List Item)) (o p q : Option (List ℕ))
-    → HeardSoFar silent count a b o p → IsSome fault → IsCopied [] b d p q → IsListening silences fault a d o q
-failed_behind silences silent count fault a b d o p q before failed none = record {
-  heard = before.heard ++ [];
-  copied = copied_more before.heard [] a b d o p q before.copied none;
-  all = inr (inl failed);
 }
 
 -- what was written before, and then more but for one character at its end

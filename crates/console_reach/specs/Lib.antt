@@ -1,3 +1,4 @@
+pub mod Console
 pub mod Listening
 pub mod Path
 pub mod Reached

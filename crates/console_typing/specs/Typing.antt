@@ -8,7 +8,8 @@ use Rattle.byte_io.specs.Output.{WritesProperPrefix}
 use Rattle.command_io.specs.declared.fault.CommandFault.{CommandFault}
 use Rattle.command_io.specs.declared.fault.CommandFault.TheVariants.{ReadKeys, Write}
 
--- the most keys that are typed (this project's choice)
+-- the most keys that are typed: 2 to the 20th, which is more than twice what each word of the largest memory takes, with its address; so
+-- typing ends also where the input does not (this project's choice)
 abbrev pub key_limit : ℕ
 key_limit = 1048576
 

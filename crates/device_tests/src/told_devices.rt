@@ -66,8 +66,8 @@ impl<'a, R: Abort> DeviceOpening for ToldDevices<'a, R> {
     }
 }
 
-/// Reaches the device at a path. The devices come back, and tell that it was opened once, whatever came of it, and within
-/// which time it is read where it opened.
+// Reaches the device at a path. The devices come back, and tell that it was opened once, whatever came of it, and within
+// which time it is read where it opened.
 fn reach_once<'a, R: Abort>(
     devices: ToldDevices<'a, R>,
     bench: &'a Bench,
@@ -93,6 +93,16 @@ const ROWS: [(&str, u32, Option<LineFault>, &[u32]); 3] = [
     (PATH, 0, Some(LineFault::Receive), &[0]),
 ];
 
+// Whether each request sets the time limit of its place.
+fn set_limits(requests: &[(String, Option<u32>)], limits: &[u32]) -> bool {
+    for (limit, request) in limits.iter().zip(requests) {
+        if request.1 != Some(*limit) {
+            return false;
+        }
+    }
+    true
+}
+
 #[test]
 fn a_device_is_opened_once(rt: HostRuntime) {
     let bench = Bench::new(&[], &[], Pace::Still);
@@ -103,8 +113,6 @@ fn a_device_is_opened_once(rt: HostRuntime) {
         assert!(rt; devices.asked.len() == 1 + limits.len(), "{path}");
         assert!(rt; devices.asked[0].0.as_str() == *path, "{path}");
         assert!(rt; devices.asked[0].1 == None, "{path}");
-        for (limit, request) in limits.iter().zip(&devices.asked[1..]) {
-            assert!(rt; request.1 == Some(*limit), "{path}");
-        }
+        assert!(rt; set_limits(&devices.asked[1..], limits), "{path}");
     }
 }

@@ -4,7 +4,6 @@ use Rattle.std.specs.List.{remove, list_any}
 use Rattle.odt_machine.specs.Machine.{Machine}
 use Rattle.odt_machine.specs.KeyTable.{take_of, after_key}
 use Rattle.host_core.specs.declared.heard.Heard.{Heard}
-use Rattle.line_world.specs.Wire.{Wire}
 use Rattle.load_devices.specs.declared.fault.LineFault.{LineFault}
 use Rattle.load_devices.specs.declared.item.Item.{Item}
 use Rattle.load_devices.specs.declared.item.Item.TheVariants.{Sent, Heard as Came}
@@ -42,10 +41,6 @@ through_moves m losses (c ∷ answer) front before n = one (list_any (is_answer 
     one false less more = (more.0, rw (append_assoc front (c ∷ []) answer, append_assoc front (c ∷ []) (let_through losses (before + 1) answer)) at more.1)
 
 -- ---- one item
-
--- the key alone is under way
-under_way : Machine → List ℕ → ℕ → Wire
-under_way m up key = record { machine = m; down = key ∷ []; up = up; lost = 0 }
 
 pub sent_moved : (line : LineValue) (key : ℕ) → HasMoved line (Sent key) (with_sent line key)
 sent_moved line key = one (list_any (is_key (line.keys + 1)) line.losses)

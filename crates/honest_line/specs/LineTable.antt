@@ -1,6 +1,7 @@
 -- A line in memory: what it shows, and what its calls make of it.
-use Rattle.std.specs.Prelude.{ℕ, ◌+◌, ◌==◌, ◌||◌, Bool, true, false, nat_lt, if◌then◌else◌, List, [], ◌∷◌, ◌++◌, length, Option, Some, None}
+use Rattle.std.specs.Prelude.{ℕ, ◌+◌, ◌-◌, ◌==◌, ◌||◌, Bool, true, false, nat_lt, if◌then◌else◌, List, [], ◌∷◌, ◌++◌, length, Option, Some, None}
 use Rattle.std.specs.List.{list_any}
+use Rattle.odt_machine.specs.Answer.{longest_answer}
 use Rattle.odt_machine.specs.Machine.{Machine}
 use Rattle.odt_machine.specs.KeyTable.{take_of, after_key}
 use Rattle.host_core.specs.declared.heard.Heard.{Heard}
@@ -98,13 +99,14 @@ rest_waiting (c ∷ waiting) = waiting
 abbrev pub with_heard : LineValue → LineValue
 with_heard line = record line { waiting = rest_waiting line.waiting; items = line.items ++ Came (first_heard line.waiting) ∷ [] }
 
--- the most answer characters for which the line has room (this project's choice)
+-- the most answer characters for which the line has room: a host here types only where nothing waits, so that seven of the longest answers are
+-- enough for whoever types on (this project's choice)
 abbrev pub waiting_room : ℕ
 waiting_room = 64
 
 -- the most that may wait when a key is sent: the answer to it has room then
 abbrev pub most_before_key : ℕ
-most_before_key = 55
+most_before_key = waiting_room - longest_answer
 
 -- a send fails with Send by its number, and with Full also where so many answer characters wait that the answer may have no room
 abbrev pub send_refusal : LineValue → Option LineFault

@@ -13,7 +13,7 @@ impl Loss {
     ghost use Rattle.std.specs.Prelude.{◌≡◌};
     ghost use Rattle.honest_line.specs.LineTable.{is_key, is_answer};
 
-    // Whether this is the key with the number.
+    /// Whether this is the key with the number.
     pub(crate) fn is_key(&self, number: u64) -> bool
         ensures { result ≡ is_key number self.now }
     {
@@ -23,7 +23,7 @@ impl Loss {
         }
     }
 
-    // Whether this is the answer character with the number.
+    /// Whether this is the answer character with the number.
     pub(crate) fn is_answer(&self, number: u64) -> bool
         ensures { result ≡ is_answer number self.now }
     {

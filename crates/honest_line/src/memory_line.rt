@@ -16,11 +16,11 @@ use std::alloc::Global;
 use std::marker::Model;
 use tape_blocks::Memory;
 
-// The most answer characters that ever wait.
-const MOST_WAITING: usize = 64;
+// The most answer characters for which the line has room.
+const WAITING_ROOM: usize = 64;
 
-// The most answer characters that may wait when a key is sent: the longest answer has nine more.
-const MOST_WAITING_FOR_KEY: usize = 55;
+// The most answer characters that may wait when a key is sent: there is room then for the longest answer, of nine.
+const MOST_BEFORE_KEY: usize = 55;
 
 /// A line in memory, with a simulated console at its other end. It shows what was said on it, loses
 /// the characters that it is told to lose, and can be made to fail.
@@ -29,7 +29,7 @@ const MOST_WAITING_FOR_KEY: usize = 55;
 #[derive(Drop)]
 pub struct MemoryLine {
     odt: Odt,
-    waiting: ArrayVec<u8, MOST_WAITING>,
+    waiting: ArrayVec<u8, WAITING_ROOM>,
     items: Vec<Item>,
     losses: Vec<Loss>,
     room: u32,
@@ -198,7 +198,7 @@ impl Line for MemoryLine {
         ensures unmoved { OnErr result (IsUnmoved self.old self.new) }
         ensures reached { (opening : Machine) → IsReached opening self.old → IsReached opening self.new }
     {
-        let is_full = self.waiting.len() > MOST_WAITING_FOR_KEY;
+        let is_full = self.waiting.len() > MOST_BEFORE_KEY;
         if let Some(fault) = self.judge(LineFault::Send, is_full) {
             return Err(fault);
         }
@@ -246,7 +246,7 @@ fn loses_answer(losses: &[Loss], number: u64) -> bool
 // What the line lets through of an answer waits behind the answers before it, of which the machine
 // gave so many characters.
 fn let_through(
-    waiting: &mut ArrayVec<u8, MOST_WAITING>,
+    waiting: &mut ArrayVec<u8, WAITING_ROOM>,
     losses: &[Loss],
     before: u64,
     answer: &[u8],

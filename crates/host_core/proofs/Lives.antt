@@ -3,7 +3,6 @@ use Rattle.std.specs.Prelude.{option_to_list}
 use Rattle.std.proofs.Common.{◌≡◌, ◌+◌, ◌≤◌, true, List, [], ◌∷◌, length, refl, arith, ◌∙◌, ap, length-append}
 use Rattle.host_core.specs.declared.heard.Heard.{Heard}
 use Rattle.host_core.specs.Core.{Core}
-use Rattle.host_core.specs.Bound.{character_bound}
 use Rattle.host_core.specs.Host.{IsHost}
 use Rattle.host_core.specs.Laws.{led, replay, KeepsBound, IsSilent}
 use Rattle.host_core.specs.PhaseTable.{move}
@@ -30,10 +29,6 @@ led_sent core (heard ∷ more) =
 pub keeps_bound : (core : Core) → IsHost core → KeepsBound core
 keeps_bound core h heard =
     omega (arith, within_bound (led core heard) (led_kept core heard h), led_sent core heard, ap (λ plan. length plan.words) (led_plan core heard), led_patience core heard)
-
--- the bound at the largest plan and patience
-largest_bound : character_bound 28672 4294967295 ≡ 98784878599
-largest_bound = refl
 
 pub within_largest : (core : Core) → IsHost core → core.sent ≤ 98784878599
 within_largest core h = omega (arith, within_bound core h, h.image.few, h.long)

@@ -1,8 +1,8 @@
 -- The phase table: what the host does on what it hears (this project's choice). A host types one
 -- character at a time, and waits in a phase for what the console has to answer. Places are counted
 -- as in the phases: the digits of a number from 1, the digits of a reading that were heard from 0.
-use Rattle.std.specs.Prelude.{ℕ, ◌+◌, ◌-◌, ◌*◌, true, ◌==◌, ◌||◌, nat_lt, if◌then◌else◌, length, Option, Some, None}
-use Rattle.octal.specs.Octal.{digit_of, is_digit}
+use Rattle.std.specs.Prelude.{ℕ, ◌+◌, ◌*◌, true, ◌==◌, nat_lt, if◌then◌else◌, length, Option, Some, None}
+use Rattle.octal.specs.Octal.{digit_of, digit_value, is_digit, is_first_digit}
 use Rattle.tape_image.specs.Word.{WordValue, merged}
 use Rattle.host_core.specs.Console.{resynchronise, question_mark, carriage_return, line_feed, prompt, slash, space, go}
 use Rattle.host_core.specs.Core.{Core, word_under_way, start_of}
@@ -44,7 +44,7 @@ slash_hears visit c = if c == slash then Listen (Before visit) else Stray
 
 -- the first of a reading's six digits, which is 0 or 1
 abbrev pub first_digit_hears : Visit → ℕ → Turn
-first_digit_hears visit c = if c == 48 || c == 49 then Listen (Value visit (c - 48) 1) else Stray
+first_digit_hears visit c = if is_first_digit c then Listen (Value visit (digit_value c) 1) else Stray
 
 -- Before: the reading of the word, with or without a space before it, or `?` where there is no memory
 abbrev pub before_hears : ℕ → Visit → ℕ → Turn
@@ -66,7 +66,7 @@ read word visit value = if merged word value == value then Verified else differs
 abbrev pub value_hears : WordValue → Visit → ℕ → ℕ → ℕ → Turn
 value_hears word visit value place c =
     if place == 0 then first_digit_hears visit c
-    else (if nat_lt place 6 then (if is_digit c then Listen (Value visit (8 * value + (c - 48)) (place + 1)) else Stray)
+    else (if nat_lt place 6 then (if is_digit c then Listen (Value visit (8 * value + digit_value c) (place + 1)) else Stray)
     else (if c == space then read word visit value else Stray))
 
 -- Deposit: the echo of each of the six digits, then CR

@@ -96,14 +96,6 @@ impl HostCore {
         self.life.progress
     }
 
-    /// How many mishaps a life survives.
-    pub fn patience(&self) -> u32
-        ensures value { result ≡ self.now.patience }
-        ensures kept { IsHost self.now }
-    {
-        self.patience
-    }
-
     /// The mishaps of this life so far.
     pub fn spent(&self) -> u32
         ensures value { result ≡ self.now.spent }

@@ -12,7 +12,7 @@
 //! just been read and stands.
 #![tactic(auto)]
 
-mod console;
+pub mod console;
 mod heard;
 mod host;
 mod life;

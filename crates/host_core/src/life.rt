@@ -8,23 +8,23 @@ use tape_image::Plan;
 
 /// One life of the host: what changes from step to step.
 #[derive(Clone, Copy)]
-pub struct Life {
-    pub progress: Progress,
-    pub spent: u32,
-    pub sent: u64,
-    pub phase: Phase,
+pub(crate) struct Life {
+    pub(crate) progress: Progress,
+    pub(crate) spent: u32,
+    pub(crate) sent: u64,
+    pub(crate) phase: Phase,
 }
 
 /// A life after a step, and the character that the step sends.
 #[derive(Clone, Copy)]
-pub struct Outcome {
-    pub life: Life,
-    pub key: Option<u8>,
+pub(crate) struct Outcome {
+    pub(crate) life: Life,
+    pub(crate) key: Option<u8>,
 }
 
 impl Life {
     /// The beginning of a life: after the mark nothing is typed; with all words verified and no start nothing is left to do.
-    pub fn begun(plan: &Plan, progress: Progress) -> Life
+    pub(crate) fn begun(plan: &Plan, progress: Progress) -> Life
         ensures { (patience : ℕ) → core_of plan.now patience result ≡ begun plan.now progress.verified progress.going patience }
     {
         let phase = if progress.going {
@@ -43,7 +43,7 @@ impl Life {
     }
 
     /// One more word is verified.
-    pub fn with_word(self) -> Life
+    pub(crate) fn with_word(self) -> Life
         requires { self.progress.verified + 1 < 2 ^ 32 }
         ensures { result ≡ record self { progress = record { verified = self.progress.verified + 1; going = self.progress.going } } }
     {
@@ -58,7 +58,7 @@ impl Life {
     }
 
     /// The mark is set.
-    pub fn with_mark(self) -> Life
+    pub(crate) fn with_mark(self) -> Life
         ensures { result ≡ record self { progress = record { verified = self.progress.verified; going = true } } }
     {
         Life {
@@ -71,7 +71,7 @@ impl Life {
     }
 
     /// One mishap more.
-    pub fn with_mishap(self) -> Life
+    pub(crate) fn with_mishap(self) -> Life
         requires { self.spent + 1 < 2 ^ 32 }
         ensures { result ≡ record self { spent = self.spent + 1 } }
     {
@@ -82,7 +82,7 @@ impl Life {
     }
 
     /// Goes on in this phase, nothing is sent.
-    pub fn listens(self, phase: Phase) -> Outcome
+    pub(crate) fn listens(self, phase: Phase) -> Outcome
         ensures { result ≡ record { life = record self { phase = phase }; key = None } }
     {
         Outcome {
@@ -92,7 +92,7 @@ impl Life {
     }
 
     /// Sends the character and goes on in this phase.
-    pub fn sends(self, key: u8, phase: Phase) -> Outcome
+    pub(crate) fn sends(self, key: u8, phase: Phase) -> Outcome
         requires { self.sent + 1 < 2 ^ 64 }
         ensures { result ≡ record { life = record self { sent = self.sent + 1; phase = phase }; key = Some key } }
     {

@@ -18,7 +18,7 @@ use tape_image::{Word, merge};
 const DIGITS: u8 = 6;
 
 /// The answer to `Z`: its echo or none, `?`, one CR or two, LF, and the prompt.
-pub fn sync(place: u8, c: u8) -> Turn
+pub(crate) fn sync(place: u8, c: u8) -> Turn
     ensures { result ≡ sync_hears place c }
 {
     match (place, c) {
@@ -48,7 +48,7 @@ fn digit_echo(number: u16, place: u8, c: u8, next: Phase, last: Turn) -> Turn
 }
 
 /// The echo of each digit of the address, then `/` is typed.
-pub fn address(address: u16, visit: Visit, place: u8, c: u8) -> Turn
+pub(crate) fn address(address: u16, visit: Visit, place: u8, c: u8) -> Turn
     requires { IsPlace place }
     ensures { result ≡ address_hears address visit place c }
 {
@@ -57,7 +57,7 @@ pub fn address(address: u16, visit: Visit, place: u8, c: u8) -> Turn
 }
 
 /// The echo of `/`.
-pub fn slash(visit: Visit, c: u8) -> Turn
+pub(crate) fn slash(visit: Visit, c: u8) -> Turn
     ensures { result ≡ slash_hears visit c }
 {
     match c {
@@ -67,7 +67,7 @@ pub fn slash(visit: Visit, c: u8) -> Turn
 }
 
 /// The beginning of a reading, with or without a space, or `?` where no memory answers.
-pub fn before(address: u16, visit: Visit, c: u8) -> Turn
+pub(crate) fn before(address: u16, visit: Visit, c: u8) -> Turn
     ensures { result ≡ before_hears address visit c }
 {
     match c {
@@ -89,7 +89,7 @@ fn first_digit(visit: Visit, c: u8) -> Turn
 
 /// The rest of a reading: six digits in all, and the space after them. With five digits and a space
 /// one of six may have been lost, so that is a mishap.
-pub fn value(word: Word, visit: Visit, value: u16, place: u8, c: u8) -> Turn
+pub(crate) fn value(word: Word, visit: Visit, value: u16, place: u8, c: u8) -> Turn
     requires { value < value_room place }
     ensures { result ≡ value_hears word visit value place c }
 {
@@ -120,7 +120,7 @@ fn whole_reading(word: Word, visit: Visit, value: u16) -> Turn
 }
 
 /// The echo of each digit of the number that is stored, then CR is typed.
-pub fn deposit(value: u16, place: u8, c: u8) -> Turn
+pub(crate) fn deposit(value: u16, place: u8, c: u8) -> Turn
     requires { IsPlace place }
     ensures { result ≡ deposit_hears value place c }
 {
@@ -129,7 +129,7 @@ pub fn deposit(value: u16, place: u8, c: u8) -> Turn
 }
 
 /// The answer to CR: one CR or two, LF, and the prompt.
-pub fn after_return(reason: Reason, place: u8, c: u8) -> Turn
+pub(crate) fn after_return(reason: Reason, place: u8, c: u8) -> Turn
     ensures { result ≡ return_hears reason place c }
 {
     match (place, c) {
@@ -145,7 +145,7 @@ pub fn after_return(reason: Reason, place: u8, c: u8) -> Turn
 }
 
 /// The echo of each digit of the start address, then `G` is typed.
-pub fn start(start: u16, place: u8, c: u8) -> Turn
+pub(crate) fn start(start: u16, place: u8, c: u8) -> Turn
     requires { IsPlace place }
     ensures { result ≡ start_hears start place c }
 {
@@ -153,7 +153,7 @@ pub fn start(start: u16, place: u8, c: u8) -> Turn
 }
 
 /// The echo of `G`. It is never sent again: the program may be running.
-pub fn go(c: u8) -> Turn
+pub(crate) fn go(c: u8) -> Turn
     ensures { result ≡ go_hears c }
 {
     match c {
@@ -163,7 +163,7 @@ pub fn go(c: u8) -> Turn
 }
 
 /// Nothing came for the quiet time.
-pub fn quiet(phase: Phase) -> Turn
+pub(crate) fn quiet(phase: Phase) -> Turn
     ensures { result ≡ waits phase }
 {
     match phase {
@@ -175,7 +175,7 @@ pub fn quiet(phase: Phase) -> Turn
 }
 
 /// The digit of `number` at a place from 1 to 6, as a character.
-pub fn digit(number: u16, place: u8) -> u8
+pub(crate) fn digit(number: u16, place: u8) -> u8
     requires { IsPlace place }
     ensures { result ≡ digit_of number place }
 {

@@ -6,11 +6,12 @@ use Rattle.std.specs.Bool.{OnTrue}
 use Rattle.std.specs.List.{remove}
 use Rattle.std.specs.Prelude.{OnOk, OnErr}
 use Rattle.std.specs.Result.{IfOk, IfErr, IsErr, IsErrAnd}
+use Rattle.load_devices.specs.Failures.{fault_of}
 use Rattle.record_file.proofs.Asking.{tells_join, tells_none}
 use Rattle.record_file.specs.DiskStep.{Tells}
 use Rattle.endings.specs.declared.failure.Failure.{Failure}
 use Rattle.endings.specs.declared.failure.Failure.TheVariants.{CannotRead, NoMemory}
-use Rattle.input_files.specs.Opening.{Name, InputStep, NotOpened, opening, HasOpened, IsTried, Once, Again, AreTried, AllOpen, Opens, Shut, NoRoom, NoRoomToRetry, IsUnbuffered, failure_of}
+use Rattle.input_files.specs.Opening.{Name, InputStep, NotOpened, opening, HasOpened, IsTried, Once, Again, AreTried, AllOpen, Opens, Shut, NoRoom, NoRoomToRetry, IsUnbuffered}
 
 -- a tape, a script and further tapes, without the script
 pub tapes_left : {X : Type 0} (first with_script all left : List X) (n : ℕ) → length first ≡ 1 → length with_script ≡ length first + 1 → length all ≡ length with_script + n →
@@ -47,7 +48,7 @@ again name opened a b c first second =
     (NotOpened name ∷ opening name opened ∷ [], tells_join a b c (NotOpened name ∷ []) (opening name opened ∷ []) first second, Again opened)
 
 buffered_as : {A : Type 0} (name : Name) (opened : Bool) (result : Result A Failure) (steps : List InputStep) → OnOk result (opened ≡ true)
-    → IfErr result (IsUnbuffered name opened) → IsTried name.now opened steps → AreTried (name ∷ []) (failure_of result) steps
+    → IfErr result (IsUnbuffered name opened) → IsTried name.now opened steps → AreTried (name ∷ []) (fault_of result) steps
 buffered_as name opened (Ok reader) steps ok err tried =
     subst (AreTried (name ∷ []) None) (append-nil steps) (Opens name [] None steps [] (subst (λ o. IsTried name.now o steps) ok tried) AllOpen)
 buffered_as name opened (Err (CannotRead other)) steps ok err tried =
@@ -59,7 +60,7 @@ buffered_as name opened (Err other) steps ok err tried = absurd err
 
 -- a name that was tried, and its file put behind a buffer, or not
 pub buffered : {A : Type 0} (name : Name) (opened : Bool) (result : Result A Failure) (a b : Option (List InputStep)) → OnOk result (opened ≡ true)
-    → IfErr result (IsUnbuffered name opened) → HasOpened a b (IsTried name.now opened) → HasOpened a b (AreTried (name ∷ []) (failure_of result))
+    → IfErr result (IsUnbuffered name opened) → HasOpened a b (IsTried name.now opened) → HasOpened a b (AreTried (name ∷ []) (fault_of result))
 buffered name opened result a b ok err tried = (tried.0, tried.1, buffered_as name opened result tried.0 ok err tried.2)
 
 pub no_retry : (name : Name) (a b : Option (List InputStep)) → Tells a b (NotOpened name.now ∷ []) → HasOpened a b (AreTried (name ∷ []) (Some NoMemory))
@@ -102,7 +103,7 @@ no_room xs ys a b h = opened_first xs ys (Some NoMemory) a b b h ([], tells_none
 
 -- what is known of the error that a result has
 pub failed_as : {T : Type 0} (names : List Name) (result : Result T Failure) (failure : Failure) (a b : Option (List InputStep)) → IsErrAnd result (λ e. e ≡ failure)
-    → HasOpened a b (AreTried names (Some failure)) → HasOpened a b (AreTried names (failure_of result))
+    → HasOpened a b (AreTried names (Some failure)) → HasOpened a b (AreTried names (fault_of result))
 failed_as names (Ok value) failure a b is h = absurd is
 failed_as names (Err error) failure a b is h = subst (λ f. HasOpened a b (AreTried names (Some f))) (sym is) h
 

@@ -1,5 +1,5 @@
 -- The files that are opened by their names, in an order.
-use Rattle.std.specs.Prelude.{◌≡◌, ℕ, Bool, true, false, List, [], ◌∷◌, ◌++◌, Option, Some, None, Result, Ok, Err}
+use Rattle.std.specs.Prelude.{◌≡◌, ℕ, Bool, true, false, List, [], ◌∷◌, ◌++◌, Option, Some, None}
 use Rattle.std.specs.Borrow.{Bor}
 use Rattle.record_file.specs.DiskStep.{Tells}
 use Rattle.endings.specs.declared.failure.Failure.{Failure}
@@ -14,6 +14,7 @@ pub data InputStep : Type 0 where
   Opened : List ℕ → InputStep
   NotOpened : List ℕ → InputStep
 
+-- a file was to be opened by this name, and whether it was
 abbrev pub opening : List ℕ → Bool → InputStep
 opening name true = Opened name
 opening name false = NotOpened name
@@ -26,11 +27,6 @@ HasOpened old new P = (steps : List InputStep) × Tells old new steps × P steps
 pub data IsTried (name : List ℕ) : Bool → List InputStep → Type 0 where
   Once : (opened : Bool) → IsTried name opened (opening name opened ∷ [])
   Again : (opened : Bool) → IsTried name opened (NotOpened name ∷ opening name opened ∷ [])
-
--- how files fail to be opened, if they do
-abbrev pub failure_of : {A : Type 0} → Result A Failure → Option Failure
-failure_of (Ok files) = None
-failure_of (Err failure) = Some failure
 
 -- the files of these names are opened one behind the other: all of them; or up to the first that does not open, which is the one that is named;
 -- or up to where memory is wanting, which may be behind a first try that failed

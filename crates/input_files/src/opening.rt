@@ -1,8 +1,9 @@
 //! Opening files in the order of their names.
 ghost use Rattle.std.specs.Prelude.{◌≡◌, ◌+◌, ◌∷◌, [], length, true, false, is_ok, IfOk, IfErr, OnOk, OnErr};
 ghost use Rattle.std.specs.Bool.{OnTrue};
+ghost use Rattle.load_devices.specs.Failures.{fault_of};
 ghost use Rattle.record_file.specs.DiskStep.{Tells};
-ghost use Rattle.input_files.specs.Opening.{HasOpened, NotOpened, IsTried, AreTried, IsUnbuffered, failure_of};
+ghost use Rattle.input_files.specs.Opening.{HasOpened, NotOpened, IsTried, AreTried, IsUnbuffered};
 
 use crate::source::{Role, Source};
 use crate::system::InputFiles;
@@ -24,7 +25,7 @@ pub fn open<'a, F: InputFiles>(
     alloc: Global,
     name: &'a str,
 ) -> Result<BufReader<F::File>, Failure<'a>>
-    ensures tried { HasOpened (F.opened rt.old) (F.opened rt.new) (AreTried (name.entry ∷ []) (failure_of result)) }
+    ensures tried { HasOpened (F.opened rt.old) (F.opened rt.new) (AreTried (name.entry ∷ []) (fault_of result)) }
 {
     buffered(alloc, name, rt.open_input(name))
 }
@@ -36,7 +37,7 @@ pub fn open_all<'a, F: InputFiles>(
     names: &[&'a str],
 ) -> Result<Vec<Source<F::File>>, Failure<'a>>
     ensures ok { IfOk result (λ files. length files.items ≡ length names.now) }
-    ensures tried { HasOpened (F.opened rt.old) (F.opened rt.new) (AreTried names.now (failure_of result)) }
+    ensures tried { HasOpened (F.opened rt.old) (F.opened rt.new) (AreTried names.now (fault_of result)) }
 {
     let mut files = Vec::new(alloc);
     open_more(rt, alloc, names, Role::Tape, &mut files)?;
@@ -52,7 +53,7 @@ pub fn open_with_script<'a, F: InputFiles>(
     more: &[&'a str],
 ) -> Result<(Vec<Source<F::File>>, Source<F::File>), Failure<'a>>
     ensures ok { IfOk result (λ files. length files.0.items ≡ length (tape.entry ∷ more.now)) }
-    ensures tried { HasOpened (F.opened rt.old) (F.opened rt.new) (AreTried (tape.entry ∷ script.entry ∷ more.now) (failure_of result)) }
+    ensures tried { HasOpened (F.opened rt.old) (F.opened rt.new) (AreTried (tape.entry ∷ script.entry ∷ more.now) (fault_of result)) }
 {
     let mut tapes = open_all(rt, alloc, &[tape])?;
     open_more(rt, alloc, &[script], Role::Script, &mut tapes)?;
@@ -70,7 +71,7 @@ fn open_more<'a, F: InputFiles>(
     files: &mut Vec<Source<F::File>>,
 ) -> Result<(), Failure<'a>>
     ensures ok { OnOk result (length files.new.items ≡ length files.old.items + length names.now) }
-    ensures tried { HasOpened (F.opened rt.old) (F.opened rt.new) (AreTried names.now (failure_of result)) }
+    ensures tried { HasOpened (F.opened rt.old) (F.opened rt.new) (AreTried names.now (fault_of result)) }
 {
     for name in names {
         let file = open_beside(rt, alloc, name, files)?;
@@ -88,7 +89,7 @@ fn open_beside<'a, F: InputFiles>(
     name: &'a str,
     others: &mut [Source<F::File>],
 ) -> Result<BufReader<F::File>, Failure<'a>>
-    ensures tried { HasOpened (F.opened rt.old) (F.opened rt.new) (AreTried (name.entry ∷ []) (failure_of result)) }
+    ensures tried { HasOpened (F.opened rt.old) (F.opened rt.new) (AreTried (name.entry ∷ []) (fault_of result)) }
 {
     match opened_beside(rt, alloc, name, others) {
         Ok(opened) => buffered(alloc, name, opened),

@@ -44,10 +44,6 @@ pushed_head w h k small =
     pushed_by : (v c n : ℕ) → 8 * v + digit_value c ≡ n → n < 65536 → pushed v c ≡ n
     pushed_by v c n e small = omega arith
 
--- the first digit is 0 or 1
-pub first_digit : (w : ℕ) → w < 65536 → digit_of w 1 ≡ 48 + head w 1
-first_digit w h = omega arith
-
 pub last_step : (w j : ℕ) → j < 6 → last_digits w (6 - j) ≡ digit_of w (j + 1) ∷ last_digits w (6 - (j + 1))
 last_step w = below_six (λ j. last_digits w (6 - j) ≡ digit_of w (j + 1) ∷ last_digits w (6 - (j + 1))) refl refl refl refl refl refl
 

@@ -50,12 +50,6 @@ silent_fields m core (d ∷ down) up lost new now k none empty host queue = absu
 silent_fields m core [] (u ∷ up) lost new now k none empty host queue = absurd (cc)
 silent_fields m core [] [] lost new now k none empty host queue = rw (host, queue) (kept_silence m core lost (kept core Silence k.host) k)
 
--- no key is under way where an answer is
-pub none_down : (m : Machine) (core : Core) (down up : List ℕ) (lost c : ℕ) → IsKept (scene m core down up lost) → Some c ≡ slice_get up 0 → down ≡ []
-none_down m core [] up lost c k first = refl
-none_down m core (d ∷ down) [] lost c k first = absurd (cc)
-none_down m core (d ∷ down) (u ∷ up) lost c k first = let none = k.one_way.1 in absurd (cc)
-
 -- a list that is found empty is
 pub nothing_there : (xs : List ℕ) (b : Bool) → b ≡ eqb (length xs) 0 → b ≡ true → xs ≡ []
 nothing_there [] b is empty = refl

@@ -1,4 +1,5 @@
--- What the machine's mode is after so many typed digits, and what its exact answer still holds.
+-- Parts of the world: what a key under way can meet there (`Ground`), and where one word is loaded (`Site`). And what the machine's mode is after
+-- so many typed digits, and what its exact answer still holds.
 use Rattle.std.specs.Prelude.{ℕ, zero, suc, ◌≡◌, ◌-◌, ◌==◌, Bool, true, if◌then◌else◌, List, [], ◌∷◌, unwrap_or}
 use Rattle.octal.specs.Octal.{head, digit_of}
 use Rattle.tape_image.specs.Word.{WordValue, merged}

@@ -11,7 +11,7 @@ pub record Wire : Type 0 where
   pub up : List ℕ
   pub lost : ℕ
 
--- the most answer characters that may wait for a host at its beginning; no more ever wait. Three of the longest answers have room, and
+-- the most answer characters that may wait for a host at its beginning; in a world no more ever wait. Three of the longest answers have room, and
 -- a few characters of noise (this project's choice)
 abbrev pub most_waiting : ℕ
 most_waiting = 32

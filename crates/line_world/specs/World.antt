@@ -103,7 +103,8 @@ abbrev pub IsCleanRun : Scene → List Event → Type 0
 IsCleanRun w [] = IsSome (ended w.core.phase)
 IsCleanRun w (event ∷ events) = (ended w.core.phase ≡ None) × (event ≡ first_event w) × IsCleanRun (happens w event) events
 
--- a bound on what is still to happen on a line that loses nothing: it falls with each such event
+-- a bound on what is still to happen on a line that loses nothing: it falls with each such event. A key under way counts more than its answer can
+-- have characters, which are at most nine, and one that may still be sent counts more than one under way
 abbrev pub work_left : Scene → ℕ
 work_left w =
     12 * (character_bound (length w.core.plan.words) w.core.patience - w.core.sent) + 11 * length w.down + length w.up

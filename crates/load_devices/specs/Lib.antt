@@ -2,3 +2,4 @@ pub mod Dialogue
 pub mod Failures
 pub mod KeepTable
 pub mod Told
+pub mod Turns

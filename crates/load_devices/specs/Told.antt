@@ -8,7 +8,7 @@ Gains (Some items) None more = ⊥
 Gains (Some items) (Some grown) more = grown ≡ items ++ more
 
 -- a told list stays as it was
-abbrev pub Keeps : {A : Type 0} → Option (List A) → Option (List A) → Type 0
-Keeps None new = ⊤
-Keeps (Some items) None = ⊥
-Keeps (Some items) (Some same) = same ≡ items
+abbrev pub SaysNothing : {A : Type 0} → Option (List A) → Option (List A) → Type 0
+SaysNothing None new = ⊤
+SaysNothing (Some items) None = ⊥
+SaysNothing (Some items) (Some same) = same ≡ items

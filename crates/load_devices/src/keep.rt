@@ -1,5 +1,5 @@
 ghost use Rattle.std.specs.Prelude.{◌≡◌, ℕ, List, [], ◌∷◌, ◌↔◌, Option, None, IsTrue, IsSome, OnOk, OnErr, ⊤};
-ghost use Rattle.load_devices.specs.Told.{Gains, Keeps};
+ghost use Rattle.load_devices.specs.Told.{Gains, SaysNothing};
 ghost use Rattle.load_devices.specs.declared.item.Kept.{Kept};
 ghost use Rattle.load_devices.specs.declared.fault.KeepFault.{KeepFault};
 ghost use Rattle.load_devices.specs.Failures.{count_after, fault_of};
@@ -30,7 +30,7 @@ pub trait Keep {
     /// Keeps one more verified word.
     fn add(&mut self, word: Word) -> Result<(), KeepFault>
         ensures kept { OnOk result (Gains (told self.old) (told self.new) (Kept.Word word ∷ [])) }
-        ensures not_kept { OnErr result (Keeps (told self.old) (told self.new)) }
+        ensures not_kept { OnErr result (SaysNothing (told self.old) (told self.new)) }
         ensures keeps { OnOk result (keeps self.old (Kept.Word word) self.new) }
         ensures fails { OnErr result (fails self.old (Kept.Word word) self.new) }
         ensures counted { fault_count self.new ≡ count_after (fault_count self.old) result }
@@ -39,7 +39,7 @@ pub trait Keep {
     /// Keeps the start mark.
     fn mark(&mut self) -> Result<(), KeepFault>
         ensures kept { OnOk result (Gains (told self.old) (told self.new) (Kept.Go ∷ [])) }
-        ensures not_kept { OnErr result (Keeps (told self.old) (told self.new)) }
+        ensures not_kept { OnErr result (SaysNothing (told self.old) (told self.new)) }
         ensures keeps { OnOk result (keeps self.old Kept.Go self.new) }
         ensures fails { OnErr result (fails self.old Kept.Go self.new) }
         ensures counted { fault_count self.new ≡ count_after (fault_count self.old) result }

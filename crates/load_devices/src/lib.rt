@@ -12,6 +12,7 @@ mod keep;
 mod line;
 mod memory_keep;
 mod onlooker;
+mod turns;
 
 pub use fault::{KeepFault, LineFault};
 pub use item::{Item, Kept};
@@ -19,3 +20,4 @@ pub use keep::Keep;
 pub use line::Line;
 pub use memory_keep::MemoryKeep;
 pub use onlooker::{Onlooker, Sight, Unwatched};
+pub use turns::MOST_TURNS;

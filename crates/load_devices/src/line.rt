@@ -1,5 +1,5 @@
 ghost use Rattle.std.specs.Prelude.{◌≡◌, ℕ, List, [], ◌∷◌, ◌↔◌, Option, None, IsTrue, IsSome, IfOk, OnOk, OnErr};
-ghost use Rattle.load_devices.specs.Told.{Gains, Keeps};
+ghost use Rattle.load_devices.specs.Told.{Gains, SaysNothing};
 ghost use Rattle.load_devices.specs.declared.item.Item.{Item};
 ghost use Rattle.load_devices.specs.declared.fault.LineFault.{LineFault};
 ghost use Rattle.load_devices.specs.Failures.{count_after, fault_of};
@@ -24,14 +24,14 @@ pub trait Line {
     /// Sends a character to the console.
     fn send(&mut self, key: u8) -> Result<(), LineFault>
         ensures sent { OnOk result (Gains (told self.old) (told self.new) (Item.Sent key ∷ [])) }
-        ensures not_sent { OnErr result (Keeps (told self.old) (told self.new)) }
+        ensures not_sent { OnErr result (SaysNothing (told self.old) (told self.new)) }
         ensures counted { fault_count self.new ≡ count_after (fault_count self.old) result }
         ensures fault { last_fault self.new ≡ fault_of result };
 
     /// Waits for one character from the console, at most for the line's quiet time.
     fn hear(&mut self) -> Result<Heard, LineFault>
         ensures heard { IfOk result (λ heard. Gains (told self.old) (told self.new) (Item.Heard heard ∷ [])) }
-        ensures not_heard { OnErr result (Keeps (told self.old) (told self.new)) }
+        ensures not_heard { OnErr result (SaysNothing (told self.old) (told self.new)) }
         ensures counted { fault_count self.new ≡ count_after (fault_count self.old) result }
         ensures fault { last_fault self.new ≡ fault_of result };
 

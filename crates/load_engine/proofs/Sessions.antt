@@ -15,7 +15,7 @@ use Rattle.load_devices.specs.declared.item.Item.TheVariants.{Sent, Heard as Cam
 use Rattle.load_devices.specs.declared.item.Kept.{Kept}
 use Rattle.load_devices.specs.declared.item.Kept.TheVariants.{Go}
 use Rattle.load_devices.specs.Dialogue.{said, dialogue, keys_of, news_between}
-use Rattle.load_devices.specs.Told.{Gains, Keeps}
+use Rattle.load_devices.specs.Told.{Gains, SaysNothing}
 use Rattle.load_engine.specs.declared.stop.Stop.{Stop}
 use Rattle.load_engine.specs.declared.stop.Stop.TheVariants.{Ended, LineFailed, KeepFailed, TurnsOver}
 use Rattle.load_engine.specs.Session.{GoesOn, IsSaid, IsKeptNews, Session, HasGained, KeepsMarkFirst, IsFailure}
@@ -27,7 +27,7 @@ pub gains_none : {A : Type 0} → (old : Option (List A)) → Gains old old []
 gains_none None = tt
 gains_none (Some items) = sym (append-nil items)
 
-pub gains_kept : {A : Type 0} → (old new : Option (List A)) → Keeps old new → Gains old new []
+pub gains_kept : {A : Type 0} → (old new : Option (List A)) → SaysNothing old new → Gains old new []
 gains_kept None new k = tt
 gains_kept (Some items) None k = absurd k
 gains_kept (Some items) (Some same) k = k ∙ sym (append-nil items)

@@ -13,7 +13,7 @@ use Rattle.load_devices.specs.declared.item.Kept.{Kept}
 use Rattle.load_devices.specs.declared.item.Kept.TheVariants.{Go}
 use Rattle.load_devices.specs.Dialogue.{said, keys_of, news_between}
 use Rattle.load_devices.specs.Failures.{fault_of}
-use Rattle.load_devices.specs.Told.{Gains, Keeps}
+use Rattle.load_devices.specs.Told.{Gains, SaysNothing}
 use Rattle.load_engine.specs.declared.stop.Stop.{Stop}
 use Rattle.load_engine.specs.declared.stop.Stop.TheVariants.{LineFailed, KeepFailed}
 use Rattle.load_engine.specs.Session.{Session}
@@ -47,7 +47,7 @@ kept_none {K} told old new news same is =
     subst (λ o. Gains (told old) (told new) (option_to_list o)) (sym is) (let P : K → Type 0 = λ k. Gains (told old) (told k) [] in subst P (sym same) (gains_none (told old)))
 
 -- the line fails at the hear
-pub turn_deaf : (fault : LineFault) (core : Core) (line line' : Option (List Item)) (keep : Option (List Kept)) → Keeps line line' →
+pub turn_deaf : (fault : LineFault) (core : Core) (line line' : Option (List Item)) (keep : Option (List Kept)) → SaysNothing line line' →
     Session 1 (Some (LineFailed fault)) core core line line' keep keep
 turn_deaf fault core line line' keep k = record {
   heard = [];
@@ -65,7 +65,7 @@ turn_deaf fault core line line' keep k = record {
 
 -- the keeper fails
 pub turn_unkept : (fault : KeepFault) (old new : Core) (heard : Heard) (key : Option ℕ) (item : Kept) (line line' : Option (List Item)) (keep keep' : Option (List Kept)) →
-    ended old.phase ≡ None → IsStep old new heard key (Some item) → Gains line line' (Came heard ∷ []) → Keeps keep keep' →
+    ended old.phase ≡ None → IsStep old new heard key (Some item) → Gains line line' (Came heard ∷ []) → SaysNothing keep keep' →
     Session 1 (Some (KeepFailed fault)) old new line line' keep keep'
 turn_unkept fault old new heard None item line line' keep keep' running step g k = let none : IsSome {T = ℕ} None = step.with_key refl in absurd (cc)
 turn_unkept fault old new heard (Some key) item line line' keep keep' running step g k = record {
@@ -84,7 +84,7 @@ turn_unkept fault old new heard (Some key) item line line' keep keep' running st
 
 -- the line fails at the send
 pub turn_unsent : (fault : LineFault) (old new : Core) (heard : Heard) (key : Option ℕ) (news : Option Kept) (line line' line'' : Option (List Item)) (keep keep' : Option (List Kept)) →
-    ended old.phase ≡ None → IsStep old new heard key news → IsSome key → Gains line line' (Came heard ∷ []) → Keeps line' line'' → Gains keep keep' (option_to_list news) →
+    ended old.phase ≡ None → IsStep old new heard key news → IsSome key → Gains line line' (Came heard ∷ []) → SaysNothing line' line'' → Gains keep keep' (option_to_list news) →
     Session 1 (Some (LineFailed fault)) old new line line'' keep keep'
 turn_unsent fault old new heard None news line line' line'' keep keep' running step some g same k = absurd (cc)
 turn_unsent fault old new heard (Some key) news line line' line'' keep keep' running step some g same k = record {

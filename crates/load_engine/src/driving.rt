@@ -6,7 +6,7 @@ ghost use Rattle.host_core.specs.Host.{IsHost};
 ghost use Rattle.host_core.specs.PhaseTable.{move};
 ghost use Rattle.load_devices.specs.Dialogue.{news_between, said};
 ghost use Rattle.load_devices.specs.Failures.{count_after, fault_of};
-ghost use Rattle.load_devices.specs.Told.{Gains, Keeps};
+ghost use Rattle.load_devices.specs.Told.{Gains, SaysNothing};
 ghost use Rattle.load_engine.specs.Belief.{IsBelievableOver, TellsStartOver};
 ghost use Rattle.load_engine.specs.Failing.{Counts, NamesFault};
 ghost use Rattle.load_engine.specs.Keeping.{KeptBy};
@@ -85,7 +85,7 @@ fn turn<L: Line, K: Keep, O: Onlooker>(
     Ok(())
 }
 
-/// What a step of the core gives the devices to do.
+// What a step of the core gives the devices to do.
 #[derive(Clone, Copy)]
 struct Errands {
     news: Option<Kept>,
@@ -124,7 +124,7 @@ fn step<O: Onlooker>(core: &mut HostCore, heard: Heard, onlooker: &O) -> Errands
 // Sends the character, where there is one.
 fn send_key<L: Line>(line: &mut L, key: Option<u8>) -> Result<(), LineFault>
     ensures sent { OnOk result (Gains (L.told line.old) (L.told line.new) (said key)) }
-    ensures not_sent { OnErr result (Keeps (L.told line.old) (L.told line.new)) }
+    ensures not_sent { OnErr result (SaysNothing (L.told line.old) (L.told line.new)) }
     ensures had_key { OnErr result (IsSome key) }
     ensures counted { L.fault_count line.new ≡ count_after (L.fault_count line.old) result }
     ensures fault { OnErr result (L.last_fault line.new ≡ fault_of result) }
@@ -138,7 +138,7 @@ fn send_key<L: Line>(line: &mut L, key: Option<u8>) -> Result<(), LineFault>
 // Has one thing kept.
 fn keep_news<K: Keep>(keep: &mut K, news: Kept) -> Result<(), KeepFault>
     ensures kept { OnOk result (Gains (K.told keep.old) (K.told keep.new) (news ∷ [])) }
-    ensures not_kept { OnErr result (Keeps (K.told keep.old) (K.told keep.new)) }
+    ensures not_kept { OnErr result (SaysNothing (K.told keep.old) (K.told keep.new)) }
     ensures keeps { OnOk result (K.keeps keep.old news keep.new) }
     ensures fails { OnErr result (K.fails keep.old news keep.new) }
     ensures counted { K.fault_count keep.new ≡ count_after (K.fault_count keep.old) result }

@@ -20,7 +20,7 @@ use Rattle.load_record.specs.Reading.{Says}
 use Rattle.load_record.specs.RecordText.{record_text}
 
 -- what a life finds and what it leaves: the machine, with what is under way on its line, and the text of the record
-pub record Setting : Type 0 where
+pub record WireAndRecord : Type 0 where
   pub wire : Wire
   pub text : List ℕ
 
@@ -63,7 +63,7 @@ pub record IsLeft (plan : PlanValue) (progress : Progress) (core : Core) (items 
   pub alone : progress.going ≡ true → new ≡ old
 
 -- one life, from what it finds to what it leaves
-pub record IsLife (plan : PlanValue) (old : Setting) (life : Life) (new : Setting) : Type 0 where
+pub record IsLife (plan : PlanValue) (old : WireAndRecord) (life : Life) (new : WireAndRecord) : Type 0 where
   pub patient : life.patience < 2 ^ 32
   pub goes_on : GoesOnFrom plan old.text life.progress
   -- it says what its core decides, and may be stopped at any moment
@@ -75,9 +75,9 @@ pub record IsLife (plan : PlanValue) (old : Setting) (life : Life) (new : Settin
   pub left : IsLeft plan life.progress (last_core plan life) life.items old.text new.text
 
 -- lives one after another, the latest first: each finds what the one before it left
-abbrev pub Lived : PlanValue → Setting → List Life → Setting → Type 0
+abbrev pub Lived : PlanValue → WireAndRecord → List Life → WireAndRecord → Type 0
 Lived plan old [] new = new ≡ old
-Lived plan old (life ∷ earlier) new = (between : Setting) × Lived plan old earlier between × IsLife plan between life new
+Lived plan old (life ∷ earlier) new = (between : WireAndRecord) × Lived plan old earlier between × IsLife plan between life new
 
 -- the keys that all these lives sent, in their order
 abbrev pub typed : List Life → List ℕ
@@ -86,7 +86,7 @@ typed (life ∷ earlier) = typed earlier ++ keys_of life.items
 
 -- the first life may begin here: few characters wait and no key is under way, the machine runs no program, and what the record
 -- says, which has no mark, is true of memory
-pub record MayOpen (plan : PlanValue) (old : Setting) : Type 0 where
+pub record MayOpen (plan : PlanValue) (old : WireAndRecord) : Type 0 where
   pub few : length old.wire.up ≤ most_waiting
   pub none_down : old.wire.down ≡ []
   pub progress : Progress
@@ -96,14 +96,14 @@ pub record MayOpen (plan : PlanValue) (old : Setting) : Type 0 where
 
 -- what the latest life, where there was one, may be trusted with: memory is safe against the one before the first life, and an end
 -- and each mishap have their losses
-abbrev pub IsLatestTrusted : PlanValue → List ℕ → List Life → Setting → Type 0
+abbrev pub IsLatestTrusted : PlanValue → List ℕ → List Life → WireAndRecord → Type 0
 IsLatestTrusted plan before [] now = ⊤
 IsLatestTrusted plan before (life ∷ earlier) now =
     IsTrusted before (last_core plan life) now.wire.machine.memory (typed (life ∷ earlier)) (length (option_to_list life.unsent) + now.wire.lost)
 
 -- what came of all these lives: the record that is left says a progress, which is true of memory; memory is safe against the one
 -- before the first life; `G`, if it was sent, was the last key of all, and then the record has the mark; and no program runs but by it
-pub record AreTrusted (plan : PlanValue) (before : List ℕ) (lives : List Life) (now : Setting) : Type 0 where
+pub record AreTrusted (plan : PlanValue) (before : List ℕ) (lives : List Life) (now : WireAndRecord) : Type 0 where
   pub progress : Progress
   pub says : Says plan now.text (Ok progress)
   pub safe : IsSafe before (begun plan progress.verified progress.going 0) now.wire.machine.memory
@@ -115,5 +115,5 @@ pub record AreTrusted (plan : PlanValue) (before : List ℕ) (lives : List Life)
 -- lives may be trusted, however many they are and wherever each was stopped
 abbrev pub LivesAreTrusted : Type 0
 LivesAreTrusted =
-    (plan : PlanValue) (old new : Setting) (lives : List Life) → IsPlan plan →
+    (plan : PlanValue) (old new : WireAndRecord) (lives : List Life) → IsPlan plan →
     MayOpen plan old → Lived plan old lives new → AreTrusted plan old.wire.machine.memory lives new

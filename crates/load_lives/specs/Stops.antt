@@ -15,7 +15,7 @@ use Rattle.load_engine.specs.declared.stop.Stop.{Stop}
 use Rattle.load_engine.specs.Session.{Session}
 use Rattle.load_record.specs.declared.version.Version.TheVariants.{Second}
 use Rattle.load_record.specs.RecordText.{mark_text, open_run, record_text, second_piece}
-use Rattle.load_lives.specs.Lives.{Setting, Life, last_core, GoesOnFrom, Reopens, IsLeft, IsLife}
+use Rattle.load_lives.specs.Lives.{WireAndRecord, Life, last_core, GoesOnFrom, Reopens, IsLeft, IsLife}
 
 -- what went out of a dialogue of which the line tells this: that, or all of it, where the call that failed sent its key after all
 abbrev pub WentOut : List Item → List Item → List Item → Type 0
@@ -25,7 +25,7 @@ WentOut all told items = (items ≡ told) ⊎ (items ≡ all)
 abbrev pub SessionsAreLives : Type 0
 SessionsAreLives =
     (plan : PlanValue) (progress : Progress) (patience : ℕ) (turns : ℕ) (stop : Option Stop) (core : Core)
-    (line line' : Option (List Item)) (keep keep' : Option (List Kept)) (items : List Item) (found : Wire) (old new : Setting) →
+    (line line' : Option (List Item)) (keep keep' : Option (List Kept)) (items : List Item) (found : Wire) (old new : WireAndRecord) →
     patience < 2 ^ 32 → GoesOnFrom plan old.text progress →
     (session : Session turns stop (begun plan progress.verified progress.going patience) core line line' keep keep') →
     WentOut (dialogue (begun plan progress.verified progress.going patience) session.heard) session.said items →

@@ -1,7 +1,8 @@
 //! The line on a terminal that shows how far a load or a reading of memory is.
 //!
 //! A `ProgressLine` is an `Onlooker`, whom the engine tells of each step. What it shows is promised to be
-//! a function of what the host has come to and of the time: `Showing` and `GoingOn` are its texts.
+//! a function of what the host has come to and of the time: a `Showing`, and at first, where a load goes on,
+//! what is verified already.
 //!
 //! The commands that take their time are shown so: `machine_requests` gives one to `machine_load` and
 //! `machine_look`.
@@ -13,4 +14,4 @@ mod showing;
 mod tally;
 
 pub use progress_line::ProgressLine;
-pub use showing::{GoingOn, Showing};
+pub use showing::Showing;

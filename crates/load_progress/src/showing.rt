@@ -40,12 +40,12 @@ impl fmt::Display for Showing {
 /// That it goes on behind words that were done before, as it is shown until the first key. Only the
 /// person knows whether memory kept them.
 #[derive(Clone, Copy, Debug, PartialEq, Eq)]
-pub struct GoingOn {
+pub(crate) struct GoingOn {
     /// How many words were done before.
-    pub done: u32,
+    pub(crate) done: u32,
 
     /// How many there are.
-    pub words: u32,
+    pub(crate) words: u32,
 }
 
 impl fmt::Display for GoingOn {

@@ -8,36 +8,36 @@ use host_core::Heard;
 use load_devices::Sight;
 
 // More characters than these a console answers to no key.
-const LONGEST_ANSWER: u32 = 32;
+const MOST_ANSWERED: u32 = 32;
 
 /// How far it is.
 #[derive(Clone, Copy)]
 pub(crate) struct Tally {
     /// How many words there are.
-    pub words: u32,
+    pub(crate) words: u32,
 
     /// How many were done when it began.
-    pub done_at_first: u32,
+    pub(crate) done_at_first: u32,
 
     /// How many are done.
-    pub done: u32,
+    pub(crate) done: u32,
 
     /// Whether there was a key.
-    pub has_sent: bool,
+    pub(crate) has_sent: bool,
 
     /// How many mishaps the host has met.
-    pub mishaps: u32,
+    pub(crate) mishaps: u32,
 
     /// How many characters were heard since the last key.
-    pub heard: u32,
+    pub(crate) heard: u32,
 
     /// When it began, in milliseconds of the clock, where the clock had a time.
-    pub begun: Option<u64>,
+    pub(crate) begun: Option<u64>,
 }
 
 impl Tally {
     /// It begins.
-    pub fn new(done: u32, words: u32, begun: Option<u64>) -> Tally
+    pub(crate) fn new(done: u32, words: u32, begun: Option<u64>) -> Tally
         ensures { result ≡ beginning done words begun }
     {
         Tally {
@@ -52,7 +52,7 @@ impl Tally {
     }
 
     /// What is known once the host has taken a step.
-    pub fn seeing(self, sight: Sight) -> Tally
+    pub(crate) fn seeing(self, sight: Sight) -> Tally
         ensures { result ≡ after_sight self sight }
     {
         Tally {
@@ -66,15 +66,15 @@ impl Tally {
 
     /// Whether the line is listened to until it is silent: no key was sent yet, or more was heard since
     /// the last one than a console answers to it.
-    pub fn is_listening(self) -> bool
+    pub(crate) fn is_listening(self) -> bool
         ensures { result ≡ is_listening self }
     {
-        !self.has_sent || self.heard > LONGEST_ANSWER
+        !self.has_sent || self.heard > MOST_ANSWERED
     }
 
     /// Whether it is worth a showing behind an earlier tally: a word more or a mishap more, and all that
     /// happens while the line is listened to, up to the key that ends that.
-    pub fn is_news(self, earlier: Tally) -> bool
+    pub(crate) fn is_news(self, earlier: Tally) -> bool
         ensures { IsTrue result ↔ (IsTrue (is_listening earlier) ⊎ IsTrue (is_listening self) ⊎ (self.done ≢ earlier.done)
             ⊎ (self.mishaps ≢ earlier.mishaps)) }
     {
@@ -85,7 +85,7 @@ impl Tally {
     }
 
     /// What is shown of it at a time, in milliseconds of the clock, where the clock has one.
-    pub fn showing(self, now: Option<u64>) -> Showing
+    pub(crate) fn showing(self, now: Option<u64>) -> Showing
         ensures { result ≡ showing_of self now }
     {
         let done = self.done.saturating_sub(self.done_at_first);

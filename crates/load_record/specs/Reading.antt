@@ -6,6 +6,7 @@ use Rattle.octal.specs.Octal.{octal_text}
 use Rattle.tape_image.specs.Word.{WordValue}
 use Rattle.tape_image.specs.Plan.{PlanValue}
 use Rattle.host_core.specs.declared.progress.Progress.{Progress}
+use Rattle.byte_io.specs.Text.{line_end}
 use Rattle.load_record.specs.declared.version.Version.{Version}
 use Rattle.load_record.specs.declared.version.Version.TheVariants.{First, Second}
 use Rattle.load_record.specs.declared.run.OpenRun.{OpenRun}
@@ -15,7 +16,7 @@ use Rattle.load_record.specs.Lines.{header, mark_line, HoldsWords, value_text, r
 
 -- the character is LF
 abbrev pub is_line_end : ℕ → Bool
-is_line_end c = c == 10
+is_line_end c = c == line_end
 
 -- the text is these lines, LF behind each, and then a torn piece without LF
 pub record IsCut (text : List ℕ) (lines : List (List ℕ)) (torn : List ℕ) : Type 0 where

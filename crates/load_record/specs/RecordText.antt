@@ -2,6 +2,7 @@
 use Rattle.std.specs.Prelude.{ℕ, Bool, true, false, if◌then◌else◌, List, [], ◌∷◌, ◌++◌, take, Option, Some, None}
 use Rattle.tape_image.specs.Word.{WordValue, word_fields}
 use Rattle.tape_image.specs.Plan.{PlanValue}
+use Rattle.byte_io.specs.Text.{line, line_end}
 use Rattle.load_record.specs.declared.version.Version.{Version}
 use Rattle.load_record.specs.declared.version.Version.TheVariants.{First, Second}
 use Rattle.load_record.specs.declared.run.OpenRun.{OpenRun}
@@ -10,11 +11,11 @@ use Rattle.load_record.specs.Lines.{header, mark_line, half_line, value_text, ru
 -- LF behind the run line that stands open, if one does
 abbrev pub ending : Option OpenRun → List ℕ
 ending None = []
-ending (Some run) = 10 ∷ []
+ending (Some run) = line_end ∷ []
 
 -- where no run goes on: a full word opens a run line, another has a whole line
 abbrev pub begun_text : WordValue → List ℕ
-begun_text w = if is_full w then run_text (w ∷ []) else half_line w ++ 10 ∷ []
+begun_text w = if is_full w then run_text (w ∷ []) else line (half_line w)
 
 -- the run line that stands open then
 abbrev pub begun_run : WordValue → Option OpenRun
@@ -37,7 +38,7 @@ second_run (Some run) w = if goes_on run w then Some (longer run) else begun_run
 
 -- what is written of a word
 abbrev pub piece : Version → Option OpenRun → WordValue → List ℕ
-piece First run w = word_fields w ++ 10 ∷ []
+piece First run w = line (word_fields w)
 piece Second run w = second_piece run w
 
 -- the run line that stands open after it: in version 1 each line ends with its word
@@ -61,11 +62,11 @@ open_run version plan k = run_over version None (take k plan.words)
 
 -- the mark, behind the end of the run line that stands open
 abbrev pub mark_text : Option OpenRun → List ℕ
-mark_text run = ending run ++ (mark_line ++ 10 ∷ [])
+mark_text run = ending run ++ line mark_line
 
 -- the header and the first k words of a plan
 unfoldable pub words_text : Version → PlanValue → ℕ → List ℕ
-words_text version plan k = header version ++ 10 ∷ pieces version None (take k plan.words)
+words_text version plan k = header version ++ line_end ∷ pieces version None (take k plan.words)
 
 -- the record of the first k words of a plan, and of the mark
 abbrev pub record_text : Version → PlanValue → ℕ → Bool → List ℕ

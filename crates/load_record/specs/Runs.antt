@@ -3,6 +3,7 @@ use Rattle.std.specs.Prelude.{◌≡◌, ℕ, List, [], ◌∷◌, ◌++◌, tak
 use Rattle.std.specs.List.{AllZip, flat_map}
 use Rattle.tape_image.specs.Word.{WordValue}
 use Rattle.tape_image.specs.Plan.{PlanValue}
+use Rattle.byte_io.specs.Text.{line, line_end}
 use Rattle.load_record.specs.declared.version.Version.TheVariants.{Second}
 use Rattle.load_record.specs.Lines.{header, HoldsWords, IsRun}
 use Rattle.load_record.specs.RecordText.{ending, open_run, words_text}
@@ -15,7 +16,7 @@ AreLongest (words ∷ next ∷ more) = (IsRun (words ++ take 1 next) → ⊥) ×
 
 -- lines, each with its end
 abbrev pub ended_lines : List (List ℕ) → List ℕ
-ended_lines lines = flat_map (λ line. line ++ 10 ∷ []) lines
+ended_lines lines = flat_map line lines
 
 -- these lines hold these words, and each holds as many as it may
 pub record HoldLongest (lines : List (List ℕ)) (words : List WordValue) : Type 0 where
@@ -29,4 +30,4 @@ abbrev pub RunsAreLongest : Type 0
 RunsAreLongest =
     (plan : PlanValue) (k : ℕ) →
     (lines : List (List ℕ)) × HoldLongest lines (take k plan.words)
-    × (words_text Second plan k ++ ending (open_run Second plan k) ≡ header Second ++ 10 ∷ ended_lines lines)
+    × (words_text Second plan k ++ ending (open_run Second plan k) ≡ header Second ++ line_end ∷ ended_lines lines)

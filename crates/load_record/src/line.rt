@@ -1,5 +1,6 @@
 //! What the lines of a record look like, by the word.
-ghost use Rattle.std.specs.Prelude.{◌≡◌, [], ◌∷◌, ◌++◌};
+ghost use Rattle.std.specs.Prelude.{◌≡◌, [], ◌∷◌};
+ghost use Rattle.byte_io.specs.Text.{line, line_end};
 ghost use Rattle.tape_image.specs.Word.{word_fields};
 ghost use Rattle.load_record.specs.Lines.{half_line, run_text, value_text};
 
@@ -40,7 +41,7 @@ pub(crate) fn half_line(word: Word) -> [u8; 22]
 
 /// LF, and then a run line that begins: the word's address, a space and its value.
 pub(crate) fn ended_run_text(word: Word) -> [u8; 14]
-    ensures { result ≡ 10 ∷ run_text (word ∷ []) }
+    ensures { result ≡ line_end ∷ run_text (word ∷ []) }
 {
     let [a, b, c, d, e, f] = oct6(word.address());
     let [g, h, i, j, k, l] = oct6(word.value());
@@ -49,7 +50,7 @@ pub(crate) fn ended_run_text(word: Word) -> [u8; 14]
 
 /// LF, and then the ended line of a word of which the tape has one byte alone.
 pub(crate) fn ended_half_line(word: Word) -> [u8; 24]
-    ensures { result ≡ 10 ∷ (half_line word ++ 10 ∷ []) }
+    ensures { result ≡ line_end ∷ line (half_line word) }
 {
     let [a, b, c, d, e, f] = oct6(word.address());
     let [g, h, i, j, k, l] = oct6(word.mask());

@@ -3,6 +3,7 @@ ghost use Rattle.std.specs.Prelude.{◌≡◌, ℕ, ◌≤◌, List, ◌++◌, [
 ghost use Rattle.std.specs.Io.KnownBytes.{Appends, Keeps};
 ghost use Rattle.load_record.specs.declared.version.Version.TheVariants.{Second};
 ghost use Rattle.byte_io.specs.Output.{WritesProperPrefix};
+ghost use Rattle.byte_io.specs.Text.{line_end};
 ghost use Rattle.load_record.specs.RecordText.{ending, joins, mark_text, open_run, pieces, run_over, second_piece, second_run, words_text};
 
 use crate::line::{ended_half_line, ended_run_text, value_text};
@@ -110,7 +111,7 @@ pub(crate) fn write_mark<W: Write>(
 // Where to begin in a text whose first byte, an LF, ends the run line that stands open: behind it
 // where none does.
 fn front_of_line(run: Option<OpenRun>) -> usize
-    ensures front { (text : List ℕ) → drop result (10 ∷ text) ≡ ending run ++ text }
+    ensures front { (text : List ℕ) → drop result (line_end ∷ text) ≡ ending run ++ text }
     ensures first { result ≤ 1 }
 {
     match run {

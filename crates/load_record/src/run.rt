@@ -13,15 +13,15 @@ const BOTH_BYTES: u16 = 0o177777;
 #[derive(Clone, Copy)]
 pub(crate) struct OpenRun {
     /// The address after that of its last word.
-    pub next: u16,
+    pub(crate) next: u16,
 
     /// How many words it has.
-    pub count: u8,
+    pub(crate) count: u8,
 }
 
 impl OpenRun {
     /// A run line that begins at the address, with no word yet.
-    pub fn at(address: u16) -> OpenRun
+    pub(crate) fn at(address: u16) -> OpenRun
         ensures { result ≡ run_at address }
     {
         OpenRun {
@@ -32,14 +32,14 @@ impl OpenRun {
 
     /// Whether the word can be added to the line: it is full, it lies at the next address, and the
     /// line has fewer than 16 words.
-    pub fn goes_on(self, word: Word) -> bool
+    pub(crate) fn goes_on(self, word: Word) -> bool
         ensures { result ≡ goes_on self word }
     {
         word.address() == self.next && self.count < LONGEST_RUN && is_full(word)
     }
 
     /// The line with this word added.
-    pub fn with(self, word: Word) -> OpenRun
+    pub(crate) fn with(self, word: Word) -> OpenRun
         requires { IsTrue (goes_on self word) }
         ensures { result ≡ longer self }
     {

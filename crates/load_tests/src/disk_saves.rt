@@ -1,7 +1,7 @@
 //! Saves of a machine in memory, with the tape on a disk that tells what it was asked.
 ghost use Rattle.std.specs.Prelude.{IfErr, OnOk, option_map};
 ghost use Rattle.machine_look.specs.Beside.{room_of};
-ghost use Rattle.machine_look.specs.SaveDisk.{disk_asked_before, IsSavedOn};
+ghost use Rattle.machine_look.specs.SaveDisk.{save_disk_asked_before, IsSavedOn};
 ghost use Rattle.record_file.specs.DiskStep.{HasAsked};
 ghost use Rattle.told_disk.specs.ToldSteps.{steps_of, written_to};
 
@@ -26,7 +26,7 @@ pub(crate) fn save_on_disk<W: Write>(
         (record { asked = steps_of shelf.old.disk.asked; name = shelf.old.name.now; room = option_map (room_of written_to) shelf.old.beside })
         (record { asked = steps_of shelf.new.disk.asked; name = shelf.new.name.now; room = option_map (room_of written_to) shelf.new.beside }))) }
     ensures disk_in_vain { IfErr result (λ fault. HasAsked (steps_of shelf.old.disk.asked) (steps_of shelf.new.disk.asked)
-        (disk_asked_before options fault
+        (save_disk_asked_before options fault
         (record { asked = steps_of shelf.old.disk.asked; name = shelf.old.name.now; room = option_map (room_of written_to) shelf.old.beside })
         (record { asked = steps_of shelf.new.disk.asked; name = shelf.new.name.now; room = option_map (room_of written_to) shelf.new.beside }))) }
 {

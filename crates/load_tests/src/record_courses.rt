@@ -16,11 +16,13 @@ const ONE_WORD: [u8; 16] = [
     0x01, 0x00, 0x08, 0x00, 0x00, 0x02, 0x34, 0x12, 0xAF, 0x01, 0x00, 0x06, 0x00, 0x00, 0x02, 0xF7,
 ];
 
-// The record, what it leads to or is called too, and the file beside it.
+/// The record.
 pub(crate) const RECORD: &str = "d.record";
 
+// What it leads to, or is called too.
 const OTHER: &str = "d.other";
 
+// The file beside it.
 const BESIDE: &str = "d.record.ldaodt-new";
 
 // A record of version 1, which has other lines than one that is written.
@@ -335,7 +337,7 @@ const IN_USE: &str = "+ look d.record\n\
     + open to write d.record\n\
     - hold d.record\n";
 
-// Opens the record, and holds it as another load does.
+/// Opens the record, and holds it as another load does.
 pub(crate) fn held(rt: &HostRuntime) -> Option<File> {
     let file = File::options()
         .read(true)

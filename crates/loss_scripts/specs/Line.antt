@@ -4,8 +4,9 @@ use Rattle.std.specs.Char.{digit_value}
 use Rattle.std.specs.Str.Parse.{AllDigits, digits_value}
 use Rattle.octal.specs.Octal.{IsOct6}
 use Rattle.odt_machine.specs.Machine.{largest_words}
-use Rattle.odt_machine.specs.Style.{style_number}
+use Rattle.odt_machine.specs.Style.{largest_style, style_number}
 use Rattle.line_world.specs.declared.event.Event.TheVariants.{Take, Hear, LoseDown, LoseUp, Quiet, Restart}
+use Rattle.line_world.specs.Wire.{most_waiting}
 use Rattle.loss_scripts.specs.declared.line.Line.{Line}
 use Rattle.loss_scripts.specs.declared.line.Line.TheVariants as line
 use Rattle.loss_scripts.specs.declared.line.Setting.{Setting}
@@ -42,13 +43,13 @@ abbrev pub AreCodes : List ℕ → List ℕ → Type 0
 AreCodes text [] = text ≡ []
 AreCodes text (c ∷ cs) = (rest : List ℕ) × BeginsWithCode text c rest × AreCodes rest cs
 
--- the line of one to 32 waiting characters
+-- the line of one or more waiting characters, of no more than may wait
 pub record IsWait (text characters : List ℕ) : Type 0 where
   pub rest : List ℕ
   pub spelled : text ≡ codes "wait" ++ rest
   pub codes : AreCodes rest characters
   pub some : 0 < length characters
-  pub few : length characters ≤ 32
+  pub few : length characters ≤ most_waiting
 
 -- the line that puts a word into memory: two numbers of six octal digits
 pub record IsPut (text : List ℕ) (address value : ℕ) : Type 0 where
@@ -61,7 +62,7 @@ pub record IsPut (text : List ℕ) (address value : ℕ) : Type 0 where
 -- what a setup line says, one row for each form
 abbrev pub IsSetting : List ℕ → Setting → Type 0
 IsSetting text (Words n) = HasNumber text (codes "words ") 0 largest_words n
-IsSetting text (OfStyle style) = HasNumber text (codes "style ") 0 7 (style_number style)
+IsSetting text (OfStyle style) = HasNumber text (codes "style ") 0 largest_style (style_number style)
 IsSetting text (Patience n) = HasNumber text (codes "patience ") 0 4294967295 n
 IsSetting text (Wait waiting) = IsWait text waiting.items
 IsSetting text (Put address value) = IsPut text address value

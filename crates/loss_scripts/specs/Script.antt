@@ -18,11 +18,12 @@ use Rattle.loss_scripts.specs.declared.script.ScriptFault.{ScriptFault}
 use Rattle.loss_scripts.specs.declared.script.ScriptFault.TheVariants.{Refused, Memory}
 use Rattle.loss_scripts.specs.Line.{IsLine}
 
--- the most bytes that a script may have (this project's choice)
+-- the most bytes that a script may have: 2 to the 20th, which is twice what a line for each word of the largest memory takes; so an input
+-- without end is refused (this project's choice)
 abbrev pub script_limit : ℕ
 script_limit = 1048576
 
--- the patience of a host where no line names one (this project's choice)
+-- the patience of a host where nothing names one (this project's choice)
 abbrev pub plain_patience : ℕ
 plain_patience = 8
 

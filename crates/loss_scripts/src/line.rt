@@ -3,7 +3,7 @@ ghost use Rattle.std.specs.Prelude.{◌≡◌, ℕ, ◌+◌, ◌-◌, ◌*◌, �
 ghost use Rattle.std.specs.Char.{digit_value};
 ghost use Rattle.loss_scripts.specs.Line.{IsNumber, HasNumber, AreCodes, IsWait, IsPut, IsSetting, IsCounted, BeginsWithCode, IsStep, IsBlank, IsLine};
 ghost use Rattle.octal.specs.Octal.{IsOct6};
-ghost use Rattle.odt_machine.specs.Style.{style_number};
+ghost use Rattle.odt_machine.specs.Style.{largest_style, style_number};
 
 use arrayvec::ArrayVec;
 use line_world::{Event, MOST_WAITING};
@@ -16,10 +16,13 @@ const MOST_DIGITS: usize = 10;
 // A word of memory is written as so many octal digits.
 const OCTAL_DIGITS: usize = 6;
 
+// The largest number of a style, as the numbers of a line are.
 const LAST_STYLE: u32 = LARGEST_STYLE as u32;
 
+// The last place at which a line can name a lost character.
 const LAST_PLACE: u32 = 255;
 
+// The most times that one line can ask for a step.
 const MOST_TIMES: u32 = 1_000_000;
 
 /// The characters that wait for the host at the opening, the oldest first.
@@ -188,8 +191,8 @@ fn put(text: &[u8]) -> Option<(u16, u16)>
 
 // The style of a line that names it.
 fn style(text: &[u8]) -> Option<Style>
-    ensures found { IfSome result (λ style. HasNumber text.now (codes "style ") 0 7 (style_number style)) }
-    ensures none { IfNone result ((n : ℕ) → HasNumber text.now (codes "style ") 0 7 n → ⊥) }
+    ensures found { IfSome result (λ style. HasNumber text.now (codes "style ") 0 largest_style (style_number style)) }
+    ensures none { IfNone result ((n : ℕ) → HasNumber text.now (codes "style ") 0 largest_style n → ⊥) }
 {
     let number = number_after(text, b"style ", 0, LAST_STYLE)?;
     Style::from_number(number as u8)

@@ -12,12 +12,13 @@ ghost use Rattle.loss_scripts.specs.Draft.{HasNamed, Joins};
 
 use crate::line::{Line, Setting, Step, Waiting, read_line};
 use odt_machine::{LARGEST_WORDS, PLAIN_STYLE, Style};
-use std::alloc::{AllocError, AllocFailed, Global};
+use std::alloc::{AllocError, Global};
 
 /// The most bytes that a script may have.
 pub const SCRIPT_LIMIT: usize = 1_048_576;
 
-const DEFAULT_PATIENCE: u32 = 8;
+/// The patience of a host where nothing names one.
+pub const PLAIN_PATIENCE: u32 = 8;
 
 /// A line that puts a word into memory.
 #[derive(Clone, Copy)]
@@ -168,7 +169,7 @@ impl Draft {
         Script {
             words: words.unwrap_or(LARGEST_WORDS),
             style: style.unwrap_or(PLAIN_STYLE),
-            patience: patience.unwrap_or(DEFAULT_PATIENCE),
+            patience: patience.unwrap_or(PLAIN_PATIENCE),
             waiting: waiting.unwrap_or_default(),
             puts,
             steps,

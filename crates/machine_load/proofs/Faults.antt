@@ -5,7 +5,7 @@ use Rattle.tape_image.specs.Plan.{PlanValue}
 use Rattle.byte_io.specs.Output.{WritesPrefix}
 use Rattle.host_core.specs.Core.{Core}
 use Rattle.load_engine.specs.declared.stop.Stop.{Stop}
-use Rattle.machine_load.specs.Step.{reading, Connect as Connected, begin_step}
+use Rattle.machine_load.specs.Step.{reading, Connected, begin_step}
 use Rattle.machine_load.proofs.Steps.{gains_more, gains_nothing}
 use Rattle.machine_load.specs.Load.{Around, Setting, Asks, KeepsRecord, IsLoad}
 use Rattle.machine_load.specs.LoadReport.{load_report}

@@ -3,6 +3,7 @@ use Rattle.std.proofs.Common.{◌≡◌, ◌≤◌, ◌<◌, ◌^◌, ℕ, Bool,
 use Rattle.std.specs.Prelude.{Contains}
 use Rattle.std.specs.Io.KnownBytes.{Keeps}
 use Rattle.std.proofs.KnownBytes.{Keeps-trans}
+use Rattle.tape_blocks.specs.Told.{IsAsTold}
 use Rattle.tape_image.specs.Plan.{PlanValue, IsPlan}
 use Rattle.host_core.specs.declared.progress.Progress.{Progress}
 use Rattle.host_core.specs.Console.{go}
@@ -10,19 +11,19 @@ use Rattle.host_core.specs.Core.{Core, begun, ended}
 use Rattle.line_world.specs.Wire.{Wire}
 use Rattle.load_devices.specs.declared.item.Item.{Item}
 use Rattle.load_devices.specs.Dialogue.{dialogue, keys_of}
+use Rattle.load_devices.specs.Turns.{most_turns}
 use Rattle.honest_line.specs.Moves.{Passes}
 use Rattle.load_engine.specs.declared.stop.Stop.{Stop}
 use Rattle.load_engine.specs.declared.stop.Stop.TheVariants.{Ended, LineFailed, KeepFailed, TurnsOver}
 use Rattle.load_lives.specs.Keepers.{WentOutAt, HasLeft}
-use Rattle.load_lives.specs.Lives.{Life, GoesOnFrom, IsLeft, IsLife, Reopens, last_core}
-use Rattle.load_lives.specs.Lives.{Setting as Found}
+use Rattle.load_lives.specs.Lives.{Life, WireAndRecord, GoesOnFrom, IsLeft, IsLife, Reopens, last_core}
 use Rattle.load_lives.specs.Stops.{WentOut}
 use Rattle.load_record.specs.Reading.{Says}
 use Rattle.load_lives.proofs.Keepers.{keepers_leave}
 use Rattle.load_lives.proofs.Stopping.{sessions_are_lives}
 use Rattle.machine_load.specs.Driving.{Finish, IsDrivenLife, IsIdleLife, IsLived}
 use Rattle.machine_load.specs.Lives.{GoesOut, LoadsAreLives, of_file}
-use Rattle.machine_load.specs.Load.{Around, IsRecordText, words_taken}
+use Rattle.machine_load.specs.Load.{Around, words_taken}
 
 -- a life that goes on began without the mark
 unmarked : (plan : PlanValue) (verified patience : ℕ) (going : Bool) → ended (begun plan verified going patience).phase ≡ None → going ≡ false
@@ -35,7 +36,7 @@ fewer true n = omega arith
 fewer false n = omega arith
 
 -- what is told of a record is its text
-told_text : (told : Option (List ℕ)) (text old : List ℕ) → IsRecordText told text → told ≡ Some old → text ≡ old
+told_text : (told : Option (List ℕ)) (text old : List ℕ) → IsAsTold told text → told ≡ Some old → text ≡ old
 told_text None text old is same = absurd (cc same)
 told_text (Some told) text old is same = is ∙ some_of told old same
   where
@@ -71,11 +72,11 @@ none_sent : Contains (keys_of []) go → ⊥
 none_sent (k, below, is) = omega (arith, below)
 
 -- a life of this plan came to this core, and said these items
-abbrev Lives : PlanValue → Core → List Item → Found → Found → Type 0
+abbrev Lives : PlanValue → Core → List Item → WireAndRecord → WireAndRecord → Type 0
 Lives plan last items old new = (life : Life) × (last_core plan life ≡ last) × (life.items ≡ items) × IsLife plan old life new
 
 -- a life that goes on with a progress, once its record was read
-module _ (plan : PlanValue) (progress : Progress) (patience : ℕ) (told : Option (List ℕ)) (between after : Around) (finish : Finish) (items : List Item) (found : Wire) (old new : Found) (fits : IsPlan plan) (long : patience < 2 ^ 32) (goes : GoesOnFrom plan old.text progress) (was : told ≡ Some old.text) (read : Keeps told between.record_text) (is : after.record_text ≡ Some new.text) (reopens : Reopens old.wire found) (passes : Passes found items new.wire) where
+module _ (plan : PlanValue) (progress : Progress) (patience : ℕ) (told : Option (List ℕ)) (between after : Around) (finish : Finish) (items : List Item) (found : Wire) (old new : WireAndRecord) (fits : IsPlan plan) (long : patience < 2 ^ 32) (goes : GoesOnFrom plan old.text progress) (was : told ≡ Some old.text) (read : Keeps told between.record_text) (is : after.record_text ≡ Some new.text) (reopens : Reopens old.wire found) (passes : Passes found items new.wire) where
   -- one that is over at once
   idle_life : IsIdleLife (begun plan progress.verified progress.going patience) between after finish → items ≡ [] → Lives plan finish.last items old new
   idle_life idle out = (
@@ -100,13 +101,13 @@ module _ (plan : PlanValue) (progress : Progress) (patience : ℕ) (told : Optio
   driven_life : {writable : Bool} (life : IsDrivenLife of_file writable (begun plan progress.verified progress.going patience) between after finish)
       → WentOutAt finish.stop (dialogue (begun plan progress.verified progress.going patience) life.driven.session.heard) life.driven.session.said items → Lives plan finish.last items old new
   driven_life life out =
-      sessions_are_lives plan progress patience 10000000 (Some finish.stop) finish.last life.driven.line.said life.line'.said None None items found old new long goes life.driven.session
+      sessions_are_lives plan progress patience most_turns (Some finish.stop) finish.last life.driven.line.said life.line'.said None None items found old new long goes life.driven.session
       (went_out finish.stop _ _ items out) reopens passes
       (subst (IsLeft plan progress finish.last items old.text) (same_text left.0 new.text (sym left.1 ∙ sym life.left ∙ is)) left.2)
     where
       left : HasLeft plan progress finish.last items old.text life.keeper'
       left =
-          keepers_leave plan progress patience 10000000 finish.stop finish.last life.driven.line.said life.line'.said None None life.driven.keeper life.keeper' items old.text fits long goes
+          keepers_leave plan progress patience most_turns finish.stop finish.last life.driven.line.said life.line'.said None None life.driven.keeper life.keeper' items old.text fits long goes
           (unmarked plan progress.verified patience progress.going life.driven.goes_on) life.driven.begun_so life.driven.session out life.driven.kept_by
 
   lived : {writable : Bool} (life : IsLived of_file writable (begun plan progress.verified progress.going patience) between after finish) → GoesOut life items → Lives plan finish.last items old new

@@ -2,18 +2,14 @@
 use Rattle.std.proofs.Common.{◌≡◌, ℕ, List, [], ◌++◌, Option, Some, None, Result, Ok, Err, refl, sym, subst, ◌∙◌, inl, inr}
 use Rattle.std.specs.Prelude.{MatchOption, OnOk, OnErr}
 use Rattle.std.specs.Result.{IfOk, IfErr}
-use Rattle.load_record.specs.declared.reader.RecordError.{RecordError}
 use Rattle.record_file.proofs.Asking.{tells_join, tells_none}
 use Rattle.record_file.specs.Beginning.{IsBegun, IsNotBegun}
-use Rattle.record_file.specs.Closing.{IsClosed, Remains}
+use Rattle.record_file.specs.Closing.{IsRecordClosed, Remains}
 use Rattle.record_file.specs.DiskStep.{DiskStep, HasAsked}
 use Rattle.record_file.specs.Reading.{IsRead, IsNotRead}
-use Rattle.record_file.specs.RecordFault.{IsUnread, IsUnbegun}
 use Rattle.record_file.specs.declared.old_record.OldRecord.{OldRecord}
 use Rattle.record_file.specs.declared.record_fault.RecordFault.{RecordFault}
-use Rattle.record_file.specs.declared.record_fault.RecordFault.TheVariants as why
-use Rattle.machine_load.specs.LoadFault.{fault_of_record}
-use Rattle.machine_load.specs.RecordDisk.{RecordDisk, FileKnown, DiskAsked, IsNotReadOn, IsReadAnswered, IsBegunOf, IsNotBegunOf, IsBegunOn, IsNotBegunOn, IsBeginAnswered, IsReadFirst, IsReadAndBegun, IsReadNotBegun, IsOnlyRead, IsClosedAfter, disk_asked_by, disk_asked_before, IsLivedOn, IsNotLivedOn}
+use Rattle.machine_load.specs.RecordDisk.{RecordDisk, FileKnown, DiskAsked, IsReadAnswered, IsBegunOf, IsNotBegunOf, IsNotBegunOn, IsBeginAnswered, IsReadFirst, IsReadAndBegun, IsReadNotBegun, IsOnlyRead, IsClosedAfter, disk_asked_by, disk_asked_before, IsLivedOn, IsNotLivedOn}
 use Rattle.machine_load.specs.declared.fault.LoadFault.{LoadFault}
 use Rattle.machine_load.specs.declared.fault.LoadFault.TheVariants.{ReadRecord, RecordInUse, Record, Connect, WriteRecord, WriteOutput, Memory}
 
@@ -54,17 +50,6 @@ begin_answered before after (Err fault) text name asked failed remains none = (n
 pub opened_on : (a b : Option RecordDisk) (old : OldRecord) → IsReadAnswered a b (Ok old) → DiskAsked a b IsOnlyRead
 opened_on a b old h = asked_as (λ disk known'. IsRead disk.name old.text.items disk.known known') IsOnlyRead a b (λ disk known' steps r. record { text = old.text.items; read = r }) h
 
--- a record that was read and refused
-pub refused_on : (a b : Option RecordDisk) (old : OldRecord) (error : RecordError) → IsReadAnswered a b (Ok old) → DiskAsked a b (disk_asked_before (Record error))
-refused_on a b old error h = opened_on a b old h
-
--- one that was not read
-pub unread_on : (a b : Option RecordDisk) (fault : RecordFault) → IsUnread fault → IsReadAnswered a b (Err fault) → DiskAsked a b (disk_asked_before (fault_of_record fault))
-unread_on a b why.Read is h = h
-unread_on a b why.InUse is h = h
-unread_on a b why.Memory is h = asked_as IsNotReadOn (disk_asked_before Memory) a b (λ disk known' steps n. inl n) h
-unread_on a b why.Write is h = absurd is
-
 -- ---- and then beginning
 
 then_on : (P : List ℕ → FileKnown → FileKnown → List DiskStep → Type 0) (a b c : Option RecordDisk) → DiskAsked a b IsOnlyRead
@@ -90,16 +75,6 @@ then_on P (Some d) (Some e) (Some f) o h = (
 
 only_read_on : (a b c : Option RecordDisk) → DiskAsked a b IsOnlyRead → c ≡ b → DiskAsked a c IsOnlyRead
 only_read_on a b c o same = subst (λ after. DiskAsked a after IsOnlyRead) (sym same) o
-
--- between a connection and the end of a life nothing else was asked
-pub begun_on : (a b c d : Option RecordDisk) → b ≡ a → DiskAsked b c IsBegunOn → d ≡ c → DiskAsked a d IsBegunOn
-begun_on a b c d before h after = subst (λ x. DiskAsked a x IsBegunOn) (sym after) (subst (λ x. DiskAsked x c IsBegunOn) before h)
-
-pub not_begun_on : (a b c : Option RecordDisk) (fault : RecordFault) → IsUnbegun fault → b ≡ a → DiskAsked b c IsNotBegunOn → IsNotLivedOn a c (fault_of_record fault)
-not_begun_on a b c why.Write is before h = inr (subst (λ x. DiskAsked x c IsNotBegunOn) before h)
-not_begun_on a b c why.Memory is before h = subst (λ x. DiskAsked x c IsNotBegunOn) before h
-not_begun_on a b c why.Read is before h = absurd is
-not_begun_on a b c why.InUse is before h = absurd is
 
 -- ---- a load
 
@@ -129,7 +104,7 @@ not_lived_on a b c WriteOutput o h = absurd h
 -- ---- and its record closed
 
 closed_after : (P : RecordDisk → FileKnown → List DiskStep → Type 0) (before after : RecordDisk) (last : Option (List DiskStep)) → DiskAsked (Some before) (Some after) P
-    → HasAsked after.asked last (IsClosed after.name after.known) → HasAsked before.asked last (IsClosedAfter P before)
+    → HasAsked after.asked last (IsRecordClosed after.name after.known) → HasAsked before.asked last (IsClosedAfter P before)
 closed_after P before after last h c = (
   h.1.0 ++ c.0,
   tells_join before.asked after.asked last h.1.0 c.0 h.1.1 c.1,
@@ -138,19 +113,19 @@ closed_after P before after last h c = (
     before = h.1.0;
     going = c.0;
     is_so = h.1.2;
-    closed = subst (λ name. IsClosed name after.known c.0) h.0 c.2;
+    closed = subst (λ name. IsRecordClosed name after.known c.0) h.0 c.2;
     all = refl;
   },
 )
 
 pub closed_ok : {A E : Type 0} (P : A → RecordDisk → FileKnown → List DiskStep → Type 0) (result : Result A E) (before after : RecordDisk) (last : Option (List DiskStep))
-    → IfOk result (λ value. DiskAsked (Some before) (Some after) (P value)) → HasAsked after.asked last (IsClosed after.name after.known)
+    → IfOk result (λ value. DiskAsked (Some before) (Some after) (P value)) → HasAsked after.asked last (IsRecordClosed after.name after.known)
     → IfOk result (λ value. HasAsked before.asked last (IsClosedAfter (P value) before))
 closed_ok P (Ok value) before after last h c = closed_after (P value) before after last h c
 closed_ok P (Err error) before after last h c = tt
 
 pub closed_err : {A E : Type 0} (P : E → RecordDisk → FileKnown → List DiskStep → Type 0) (result : Result A E) (before after : RecordDisk) (last : Option (List DiskStep))
-    → IfErr result (λ error. DiskAsked (Some before) (Some after) (P error)) → HasAsked after.asked last (IsClosed after.name after.known)
+    → IfErr result (λ error. DiskAsked (Some before) (Some after) (P error)) → HasAsked after.asked last (IsRecordClosed after.name after.known)
     → IfErr result (λ error. HasAsked before.asked last (IsClosedAfter (P error) before))
 closed_err P (Ok value) before after last h c = tt
 closed_err P (Err error) before after last h c = closed_after (P error) before after last h c

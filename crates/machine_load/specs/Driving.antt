@@ -9,6 +9,7 @@ use Rattle.load_devices.specs.declared.fault.LineFault.{LineFault}
 use Rattle.load_devices.specs.declared.item.Item.{Item}
 use Rattle.load_devices.specs.declared.item.Kept.{Kept}
 use Rattle.load_devices.specs.Dialogue.{news_between}
+use Rattle.load_devices.specs.Turns.{most_turns}
 use Rattle.load_engine.specs.Belief.{IsBelievableOver, TellsStartOver}
 use Rattle.load_engine.specs.Failing.{Counts, NamesFault}
 use Rattle.load_engine.specs.Keeping.{KeptBy}
@@ -18,7 +19,7 @@ use Rattle.console_reach.specs.Reached.{IsFresh}
 use Rattle.byte_io.specs.Output.{WritesAllBut}
 use Rattle.machine_load.specs.Load.{Around, Setting, Asks, IsIdle, IsLoadOf}
 use Rattle.machine_load.specs.LoadReport.{load_report}
-use Rattle.machine_load.specs.Step.{Connect, BeginRecord, EndRecord}
+use Rattle.machine_load.specs.Step.{Connected, RecordBegun, RecordGivenBack}
 use Rattle.machine_load.specs.declared.options.LoadOptions.{LoadOptions}
 
 -- what a line tells at a moment: what was said on it, how many calls of it failed, and the fault of the last one
@@ -54,7 +55,7 @@ keeper_tells kept failures fault keeps fails begins text = record {
   text = text;
 }
 
--- from one core to another the engine had 10,000,000 turns, over a fresh line and a keeper that was begun with the words that were
+-- from one core to another the engine had the most turns, over a fresh line and a keeper that was begun with the words that were
 -- verified already, and it stopped so; then line and keeper tell this
 pub record IsDrivenOver {K : Type 0} (tells : KeeperTells K) (first last : Core) (stop : Stop) (line' : LineTold) (keeper' : K) : Type 0 where
   pub goes_on : ended first.phase ≡ None
@@ -63,7 +64,7 @@ pub record IsDrivenOver {K : Type 0} (tells : KeeperTells K) (first last : Core)
   pub keeper : K
   pub begun_so : tells.begins keeper first.plan first.verified
   -- what was heard, said and kept, in its order
-  pub session : Session 10000000 (Some stop) first last line.said line'.said (tells.kept keeper) (tells.kept keeper')
+  pub session : Session most_turns (Some stop) first last line.said line'.said (tells.kept keeper) (tells.kept keeper')
   pub end : TellsEnd stop last
   -- which device failed
   pub counted : Counts (Some stop) line.failures line'.failures (tells.failures keeper) (tells.failures keeper')
@@ -95,7 +96,7 @@ pub record IsIdleLife (first : Core) (before after : Around) (finish : Finish) :
 -- what its keeper has kept
 pub record IsDrivenLife {K : Type 0} (tells : KeeperTells K) (writable : Bool) (first : Core) (before after : Around) (finish : Finish) : Type 0 where
   pub may_write : writable ≡ true
-  pub asked : Asks before after (Connect ∷ BeginRecord ∷ EndRecord ∷ [])
+  pub asked : Asks before after (Connected ∷ RecordBegun ∷ RecordGivenBack ∷ [])
   pub line' : LineTold
   pub has_line : finish.line ≡ Some line'
   pub keeper' : K

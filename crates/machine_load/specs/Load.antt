@@ -1,6 +1,7 @@
 -- A load: what a record says, what was done on the line, and what was reported.
 use Rattle.std.specs.Prelude.{◌≡◌, ◌⊎◌, ℕ, Bool, true, false, ◌&&◌, not, if◌then◌else◌, List, [], ◌∷◌, Option, Some, None, Ok, ⊤}
 use Rattle.std.specs.Io.KnownBytes.{Appends, Keeps}
+use Rattle.tape_blocks.specs.Told.{IsAsTold}
 use Rattle.tape_image.specs.Plan.{PlanValue}
 use Rattle.host_core.specs.declared.phase.End.{End}
 use Rattle.host_core.specs.declared.phase.End.TheVariants.{Loaded, MaybeStarted}
@@ -9,6 +10,7 @@ use Rattle.host_core.specs.Core.{Core, begun, ended}
 use Rattle.load_devices.specs.declared.item.Item.{Item}
 use Rattle.load_devices.specs.declared.item.Kept.{Kept}
 use Rattle.load_devices.specs.Told.{Gains}
+use Rattle.load_devices.specs.Turns.{most_turns}
 use Rattle.load_engine.specs.declared.stop.Stop.{Stop}
 use Rattle.load_engine.specs.declared.stop.Stop.TheVariants.{Ended}
 use Rattle.load_engine.specs.Session.{Session, TellsEnd}
@@ -18,7 +20,7 @@ use Rattle.load_record.specs.Reading.{Says}
 use Rattle.byte_io.specs.Output.{WritesAllBut}
 use Rattle.machine_load.specs.LoadReport.{load_report}
 use Rattle.record_file.specs.OldRecord.{HoldsNoRecord}
-use Rattle.machine_load.specs.Step.{Step, reading, Connect, BeginRecord, EndRecord}
+use Rattle.machine_load.specs.Step.{Step, reading, Connected, RecordBegun, RecordGivenBack}
 use Rattle.machine_load.specs.declared.options.LoadOptions.{LoadOptions}
 
 -- what the surroundings of a load tell: what was asked of them, with what was answered, and what the record is
@@ -47,11 +49,6 @@ Asks before after steps = Gains before.steps after.steps steps
 abbrev pub KeepsRecord : Around → Around → Type 0
 KeepsRecord before after = Keeps before.record_text after.record_text
 
--- the record is this text, as far as it is told
-abbrev pub IsRecordText : Option (List ℕ) → List ℕ → Type 0
-IsRecordText None text = ⊤
-IsRecordText (Some told) text = text ≡ told
-
 -- how many words count as verified: all that the record says; none where each is to be looked at again, unless the start was typed
 abbrev pub words_taken : Bool → Progress → ℕ
 words_taken recheck said = if recheck && not said.going then 0 else said.verified
@@ -59,7 +56,7 @@ words_taken recheck said = if recheck && not said.going then 0 else said.verifie
 -- the record says this progress of the plan
 pub record SaysProgress (record_told : Option (List ℕ)) (plan : PlanValue) (said : Progress) : Type 0 where
   pub text : List ℕ
-  pub is_record : IsRecordText record_told text
+  pub is_record : IsAsTold record_told text
   pub is_ours : HoldsNoRecord text → ⊥
   pub says : Says plan text (Ok said)
 
@@ -69,13 +66,13 @@ pub record IsOpening (record_told : Option (List ℕ)) (plan : PlanValue) (optio
   pub opened : SaysProgress record_told plan said
   pub core_is : core ≡ begun plan (words_taken options.recheck said) said.going options.patience
 
--- an engine that had 10,000,000 turns led the one core to the other, and stopped so
+-- an engine that had the most turns led the one core to the other, and stopped so
 pub record IsDriven (old new : Core) (stop : Stop) : Type 0 where
   pub line : Option (List Item)
   pub line' : Option (List Item)
   pub keeper : Option (List Kept)
   pub keeper' : Option (List Kept)
-  pub session : Session 10000000 (Some stop) old new line line' keeper keeper'
+  pub session : Session most_turns (Some stop) old new line line' keeper keeper'
   pub end : TellsEnd stop new
 
 -- the life is over before it has begun
@@ -95,9 +92,9 @@ pub record IsDrivenOn (old new : Core) (stop : Stop) : Type 0 where
   pub driven : IsDriven old new stop
 
 -- a record that was begun anew is that of the plan's first k words, where it is told
-abbrev pub IsBegun : Option (List ℕ) → PlanValue → ℕ → Type 0
-IsBegun None plan k = ⊤
-IsBegun (Some text) plan k = text ≡ record_text Second plan k false
+abbrev pub IsTextBegun : Option (List ℕ) → PlanValue → ℕ → Type 0
+IsTextBegun None plan k = ⊤
+IsTextBegun (Some text) plan k = text ≡ record_text Second plan k false
 
 -- the life ends as it began, with nobody asked and the record left alone
 pub record IsIdle (old new : Core) (stop : Stop) (before after : Around) : Type 0 where
@@ -110,7 +107,7 @@ pub record IsIdle (old new : Core) (stop : Stop) (before after : Around) : Type 
 pub record IsBusy (writable : Bool) (old new : Core) (stop : Stop) (before after : Around) : Type 0 where
   pub may_write : writable ≡ true
   pub driven : IsDrivenOn old new stop
-  pub asked : Asks before after (Connect ∷ BeginRecord ∷ EndRecord ∷ [])
+  pub asked : Asks before after (Connected ∷ RecordBegun ∷ RecordGivenBack ∷ [])
 
 -- a life, once it has opened
 abbrev pub IsLoadLife : Bool → Core → Core → Stop → Around → Around → Type 0

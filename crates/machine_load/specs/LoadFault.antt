@@ -1,36 +1,36 @@
 -- How a load comes to nothing, and what was done before.
 use Rattle.std.specs.Prelude.{◌≡◌, ◌⊎◌, ℕ, Bool, true, false, List, [], ◌∷◌, Option, Err}
-use Rattle.std.specs.Io.KnownBytes.{Keeps as Untouched}
+use Rattle.std.specs.Io.KnownBytes.{Keeps}
+use Rattle.tape_blocks.specs.Told.{IsAsTold}
 use Rattle.tape_image.specs.Plan.{PlanValue}
 use Rattle.load_record.specs.declared.reader.RecordError.{RecordError}
 use Rattle.load_record.specs.Reading.{Says}
 use Rattle.load_record.specs.declared.reader.RecordError.TheVariants.{NotARecord}
-use Rattle.machine_load.specs.Load.{Around, Setting, Asks, KeepsRecord, IsRecordText, IsCutShort}
+use Rattle.machine_load.specs.Load.{Around, Setting, Asks, KeepsRecord, IsCutShort}
 use Rattle.record_file.specs.OldRecord.{HoldsNoRecord}
-use Rattle.machine_load.specs.Step.{Step, reading, ReadProtected, Connect, InUse, NotRead, NotConnected, NotBegun, OutOfMemory}
+use Rattle.machine_load.specs.Step.{Step, reading, ReadProtected, Connected, InUse, NotRead, NotConnected, NotBegun, OutOfMemory}
 use Rattle.machine_load.specs.declared.options.LoadOptions.{LoadOptions}
 use Rattle.machine_load.specs.declared.fault.LoadFault.{LoadFault}
-use Rattle.machine_load.specs.declared.fault.LoadFault.TheVariants.{Record, RecordInUse, WriteRecord, WriteOutput, Memory}
-use Rattle.machine_load.specs.declared.fault.LoadFault.TheVariants.{ReadRecord as RecordNotRead, Connect as LineNotConnected}
+use Rattle.machine_load.specs.declared.fault.LoadFault.TheVariants.{ReadRecord, RecordInUse, Record, Connect, WriteRecord, WriteOutput, Memory}
 use Rattle.record_file.specs.declared.record_fault.RecordFault.{RecordFault}
 use Rattle.record_file.specs.declared.record_fault.RecordFault.TheVariants as record_fault
 
 -- the record's text says no progress of the plan, for this reason, or was never a record
 pub record IsRefusedRecord (record_told : Option (List ℕ)) (plan : PlanValue) (why : RecordError) : Type 0 where
   pub text : List ℕ
-  pub is_record : IsRecordText record_told text
+  pub is_record : IsAsTold record_told text
   pub is_refused : Says plan text (Err why) ⊎ ((why ≡ NotARecord) × HoldsNoRecord text)
 
 -- what a record that failed makes of the load
 abbrev pub fault_of_record : RecordFault → LoadFault
-fault_of_record record_fault.Read = RecordNotRead
+fault_of_record record_fault.Read = ReadRecord
 fault_of_record record_fault.InUse = RecordInUse
 fault_of_record record_fault.Write = WriteRecord
 fault_of_record record_fault.Memory = Memory
 
 -- how a life fails to open: its record can't be read, or is another load's at the time, or is read and refused
 abbrev pub IsOpeningFault : PlanValue → Around → Around → LoadFault → Type 0
-IsOpeningFault plan before after RecordNotRead = Asks before after (NotRead ∷ [])
+IsOpeningFault plan before after ReadRecord = Asks before after (NotRead ∷ [])
 IsOpeningFault plan before after RecordInUse = Asks before after (InUse ∷ [])
 IsOpeningFault plan before after (Record why) =
     ((writable : Bool) × Asks before after (reading writable ∷ [])) × IsRefusedRecord before.record_text plan why
@@ -45,22 +45,22 @@ pub record AsksNothing (before after : Around) : Type 0 where
 -- how an opened life comes to no line or no record: one that may not be written fails before there is a connection; and without a
 -- connection the record is as it was
 abbrev pub IsDrivingFault : Bool → Around → Around → LoadFault → Type 0
-IsDrivingFault writable before after LineNotConnected = (writable ≡ true) × Asks before after (NotConnected ∷ []) × KeepsRecord before after
+IsDrivingFault writable before after Connect = (writable ≡ true) × Asks before after (NotConnected ∷ []) × KeepsRecord before after
 IsDrivingFault writable before after WriteRecord =
-    ((writable ≡ false) × AsksNothing before after) ⊎ ((writable ≡ true) × Asks before after (Connect ∷ NotBegun ∷ []))
-IsDrivingFault writable before after Memory = (writable ≡ true) × Asks before after (Connect ∷ OutOfMemory ∷ [])
+    ((writable ≡ false) × AsksNothing before after) ⊎ ((writable ≡ true) × Asks before after (Connected ∷ NotBegun ∷ []))
+IsDrivingFault writable before after Memory = (writable ≡ true) × Asks before after (Connected ∷ OutOfMemory ∷ [])
 IsDrivingFault writable before after other = ⊥
 
 -- so far was gone, with nothing reported
 pub record StopsSilently (before after : Setting) (done : List Step) : Type 0 where
   pub steps_are : Asks before.around after.around done
-  pub nothing_reported : Untouched before.out after.out
+  pub nothing_reported : Keeps before.out after.out
 
 -- so far was gone, with nothing reported, and with the record as it was
 pub record StopsAfter (before after : Setting) (done : List Step) : Type 0 where
   pub steps_are : Asks before.around after.around done
   pub record_same : KeepsRecord before.around after.around
-  pub nothing_reported : Untouched before.out after.out
+  pub nothing_reported : Keeps before.out after.out
 
 -- the record was read, and nothing else came of the load
 abbrev pub StopsAfterReading : Setting → Setting → Type 0
@@ -68,17 +68,17 @@ StopsAfterReading before after = (writable : Bool) × StopsAfter before after (r
 
 -- where memory may be wanting, with nothing reported: for the record, and for the record begun anew, before the first key
 abbrev pub IsWantOfMemory : Setting → Setting → Type 0
-IsWantOfMemory before after = StopsAfter before after (OutOfMemory ∷ []) ⊎ StopsSilently before after (reading true ∷ Connect ∷ OutOfMemory ∷ [])
+IsWantOfMemory before after = StopsAfter before after (OutOfMemory ∷ []) ⊎ StopsSilently before after (reading true ∷ Connected ∷ OutOfMemory ∷ [])
 
 -- how a load comes to nothing: a record that can't be read, is another load's at the time, is refused or is protected comes before the
 -- connection, a connection that can't be made before the record is touched, a record that can't be written before the first key, a report
 -- that can't be written last
 abbrev pub IsLoadFault : PlanValue → LoadOptions → Setting → Setting → LoadFault → Type 0
-IsLoadFault plan options before after RecordNotRead = StopsAfter before after (NotRead ∷ [])
+IsLoadFault plan options before after ReadRecord = StopsAfter before after (NotRead ∷ [])
 IsLoadFault plan options before after RecordInUse = StopsAfter before after (InUse ∷ [])
 IsLoadFault plan options before after (Record why) = StopsAfterReading before after × IsRefusedRecord before.around.record_text plan why
-IsLoadFault plan options before after LineNotConnected = StopsAfter before after (reading true ∷ NotConnected ∷ [])
+IsLoadFault plan options before after Connect = StopsAfter before after (reading true ∷ NotConnected ∷ [])
 IsLoadFault plan options before after WriteRecord =
-    StopsAfter before after (ReadProtected ∷ []) ⊎ StopsSilently before after (reading true ∷ Connect ∷ NotBegun ∷ [])
+    StopsAfter before after (ReadProtected ∷ []) ⊎ StopsSilently before after (reading true ∷ Connected ∷ NotBegun ∷ [])
 IsLoadFault plan options before after WriteOutput = IsCutShort plan options before after
 IsLoadFault plan options before after Memory = IsWantOfMemory before after

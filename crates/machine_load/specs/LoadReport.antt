@@ -7,8 +7,8 @@ use Rattle.load_engine.specs.declared.stop.Stop.TheVariants.{Ended, LineFailed, 
 use Rattle.byte_io.specs.Text.{line}
 
 -- the characters sent, the mishaps, and how many words of the plan are verified
-abbrev pub counts_text : Core → List ℕ
-counts_text core =
+abbrev pub load_counts_text : Core → List ℕ
+load_counts_text core =
     codes "sent " ++ decimal core.sent ++ codes " spent " ++ decimal core.spent ++ codes " verified " ++ decimal core.verified
     ++ codes " of " ++ decimal (length core.plan.words)
 
@@ -21,4 +21,4 @@ stop_name TurnsOver = codes "TurnsOver"
 
 -- the counts, and how the load stopped
 abbrev pub load_report : Core → Stop → List ℕ
-load_report core stop = line (counts_text core) ++ line (codes "end " ++ stop_name stop)
+load_report core stop = line (load_counts_text core) ++ line (codes "end " ++ stop_name stop)

@@ -1,7 +1,7 @@
 -- What a load asks of the disk on which its record is: the record is read once, and then begun anew once, or not at all.
 use Rattle.std.specs.Prelude.{◌≡◌, ◌⊎◌, ℕ, Bool, List, [], ◌++◌, Option, Some, None, Result, Ok, Err, ⊤}
 use Rattle.record_file.specs.Beginning.{IsBegun, IsNotBegun}
-use Rattle.record_file.specs.Closing.{IsClosed, Remains}
+use Rattle.record_file.specs.Closing.{IsRecordClosed, Remains}
 use Rattle.record_file.specs.DiskStep.{DiskStep, HasAsked}
 use Rattle.record_file.specs.Reading.{IsRead, IsNotRead}
 use Rattle.record_file.specs.declared.made.Made.{Made}
@@ -48,9 +48,11 @@ abbrev pub IsNotBegunOf : List ℕ → FileKnown → FileKnown → List DiskStep
 IsNotBegunOf name None known' steps = (steps ≡ []) × (known' ≡ None)
 IsNotBegunOf name (Some kind) known' steps = IsNotBegun name kind.0 steps × (known' ≡ None)
 
+-- a record on a disk was begun anew, by what is known of its file
 abbrev pub IsBegunOn : RecordDisk → FileKnown → List DiskStep → Type 0
 IsBegunOn disk known' steps = IsBegunOf disk.name disk.known known' steps
 
+-- or it was not
 abbrev pub IsNotBegunOn : RecordDisk → FileKnown → List DiskStep → Type 0
 IsNotBegunOn disk known' steps = IsNotBegunOf disk.name disk.known known' steps
 
@@ -76,10 +78,11 @@ pub record IsReadFirst (P : List ℕ → FileKnown → FileKnown → List DiskSt
   pub then_so : P disk.name known known' rest
   pub all : steps ≡ reading ++ rest
 
--- it was read once, and then begun anew once, or in vain
+-- it was read once, and then begun anew once
 abbrev pub IsReadAndBegun : RecordDisk → FileKnown → List DiskStep → Type 0
 IsReadAndBegun = IsReadFirst IsBegunOf
 
+-- it was read once, and then not begun
 abbrev pub IsReadNotBegun : RecordDisk → FileKnown → List DiskStep → Type 0
 IsReadNotBegun = IsReadFirst IsNotBegunOf
 
@@ -104,7 +107,7 @@ pub record IsClosedAfter (P : RecordDisk → FileKnown → List DiskStep → Typ
   pub before : List DiskStep
   pub going : List DiskStep
   pub is_so : P disk known before
-  pub closed : IsClosed disk.name known going
+  pub closed : IsRecordClosed disk.name known going
   pub all : steps ≡ before ++ going
 
 -- ---- parts of a load

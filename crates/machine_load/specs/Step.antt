@@ -8,11 +8,11 @@ use Rattle.record_file.specs.declared.record_fault.RecordFault.TheVariants as fa
 -- the record of earlier lives is read, or a record that is protected, a connection is made, the record is begun anew, and its keeper is
 -- given back; or one of these fails, since another load holds the record, or for another reason, or memory is wanting
 pub data Step : Type 0 where
-  ReadRecord : Step
+  RecordRead : Step
   ReadProtected : Step
-  Connect : Step
-  BeginRecord : Step
-  EndRecord : Step
+  Connected : Step
+  RecordBegun : Step
+  RecordGivenBack : Step
   InUse : Step
   NotRead : Step
   NotConnected : Step
@@ -21,7 +21,7 @@ pub data Step : Type 0 where
 
 -- the record was read, and may be written or may not
 abbrev pub reading : Bool → Step
-reading writable = if writable then ReadRecord else ReadProtected
+reading writable = if writable then RecordRead else ReadProtected
 
 -- what a record that failed was asked for in vain
 abbrev pub failing : RecordFault → Step
@@ -30,15 +30,17 @@ failing fault.InUse = InUse
 failing fault.Write = NotBegun
 failing fault.Memory = OutOfMemory
 
--- what was answered where the record was asked for, and a connection, and a record begun anew
+-- what was answered where the record was asked for
 abbrev pub read_step : Result OldRecord RecordFault → Step
 read_step (Ok old) = reading old.writable
 read_step (Err fault) = failing fault
 
+-- what was answered where a connection was asked for
 abbrev pub connect_step : {A : Type 0} → Result A LineFault → Step
-connect_step (Ok line) = Connect
+connect_step (Ok line) = Connected
 connect_step (Err fault) = NotConnected
 
+-- what was answered where the record was to be begun anew
 abbrev pub begin_step : {A : Type 0} → Result A RecordFault → Step
-begin_step (Ok keeper) = BeginRecord
+begin_step (Ok keeper) = RecordBegun
 begin_step (Err fault) = failing fault

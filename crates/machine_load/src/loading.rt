@@ -11,6 +11,7 @@ ghost use Rattle.load_engine.specs.Session.{KeepsMarkFirst, Session, TellsEnd};
 ghost use Rattle.host_core.specs.Opening.{refusal_of};
 ghost use Rattle.load_record.specs.Reading.{Says};
 ghost use Rattle.load_devices.specs.Told.{Gains};
+ghost use Rattle.load_devices.specs.Turns.{most_turns};
 ghost use Rattle.byte_io.specs.Output.{WritesPrefix};
 ghost use Rattle.machine_load.specs.Called.{asked_by, IsAskedBefore};
 ghost use Rattle.stream_line.specs.Dialling.{asked_once};
@@ -20,7 +21,7 @@ ghost use Rattle.machine_load.specs.LoadFault.{IsLoadFault, IsOpeningFault, IsDr
 ghost use Rattle.machine_load.specs.LoadReport.{load_report};
 ghost use Rattle.machine_load.specs.RecordDisk.{DiskAsked, disk_asked_by, disk_asked_before, IsBegunOn, IsOnlyRead, IsLivedOn, IsNotLivedOn};
 ghost use Rattle.record_file.specs.OldRecord.{HoldsNoRecord};
-ghost use Rattle.machine_load.specs.Step.{reading, Connect, BeginRecord, EndRecord};
+ghost use Rattle.machine_load.specs.Step.{reading, Connected, RecordBegun, RecordGivenBack};
 
 use crate::fault::LoadFault;
 use crate::options::LoadOptions;
@@ -29,16 +30,13 @@ use crate::report::load_report;
 use crate::surroundings::Surroundings;
 use byte_io::{WriteFault, write_and_flush};
 use host_core::{HostCore, Progress};
-use load_devices::{Keep, Line, Onlooker};
+use load_devices::{Keep, Line, MOST_TURNS, Onlooker};
 use load_engine::{Stop, drive};
 use load_record::{RecordError, read_record};
 use record_file::holds_no_record;
 use std::alloc::Global;
 use std::io::Write;
 use tape_image::Plan;
-
-// The most turns of a load.
-const TURNS: u64 = 10_000_000;
 
 /// Loads a plan through the console that the surroundings connect to, and reports how far that came.
 ///
@@ -86,9 +84,9 @@ pub fn load<S: Surroundings, W: Write, O: Onlooker>(
         (setting S.steps S.record_text W.contents around.old out.old)
         (setting S.steps S.record_text W.contents around.new out.new)) }
 {
-    let (core, writable) = open(alloc, plan, options, around)?;
+    let (core, writable) = first_core(alloc, plan, options, around)?;
     let lived = live(alloc, core, writable, around, onlooker)?;
-    tell(&lived.core, lived.stop, out)?;
+    report_life(&lived.core, lived.stop, out)?;
     Ok(lived.outcome())
 }
 
@@ -116,7 +114,7 @@ impl<L> Lived<L> {
 }
 
 // The life that begins with what the record says, and whether the record may be written.
-fn open<S: Surroundings>(
+fn first_core<S: Surroundings>(
     alloc: Global,
     plan: Plan,
     options: LoadOptions,
@@ -256,7 +254,7 @@ fn drive_watched<L: Line + Drop, K: Keep + Drop, O: Onlooker>(
     mut keeper: K,
     onlooker: &O,
 ) -> (Driven<L>, K)
-    ensures turns { Session 10000000 (Some result.0.stop) core result.0.core
+    ensures turns { Session most_turns (Some result.0.stop) core result.0.core
         (L.told line) (L.told result.0.line) (K.told keeper) (K.told result.1) }
     ensures end { TellsEnd result.0.stop result.0.core }
     ensures counted { Counts (Some result.0.stop)
@@ -270,13 +268,13 @@ fn drive_watched<L: Line + Drop, K: Keep + Drop, O: Onlooker>(
 {
     let words = core.plan().words().len() as u32;
     onlooker.begins(core.progress().verified, words);
-    let (core, stop) = drive(core, &mut line, &mut keeper, TURNS, onlooker);
+    let (core, stop) = drive(core, &mut line, &mut keeper, MOST_TURNS, onlooker);
     onlooker.ends();
     (Driven { core, stop, line }, keeper)
 }
 
 // Reports a life.
-fn tell<W: Write>(core: &HostCore, stop: Stop, out: &mut W) -> Result<(), WriteFault>
+fn report_life<W: Write>(core: &HostCore, stop: Stop, out: &mut W) -> Result<(), WriteFault>
     ensures ok { OnOk result (Appends (W.contents out.old) (W.contents out.new) (load_report core.now stop)) }
     ensures err { OnErr result (WritesPrefix (W.contents out.old) (W.contents out.new) (load_report core.now stop)) }
 {

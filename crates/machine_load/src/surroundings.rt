@@ -1,13 +1,14 @@
 ghost use Rattle.std.specs.Prelude.{◌≡◌, ℕ, List, [], ◌∷◌, Option, None, IfOk, IfErr, OnOk, ⊤};
 ghost use Rattle.std.specs.Io.KnownBytes.{Keeps};
+ghost use Rattle.tape_blocks.specs.Told.{IsAsTold};
 ghost use Rattle.load_devices.specs.Told.{Gains};
-ghost use Rattle.machine_load.specs.Load.{IsBegun, IsRecordText};
+ghost use Rattle.machine_load.specs.Load.{IsTextBegun};
 ghost use Rattle.machine_load.specs.RecordDisk.{RecordDisk, IsReadAnswered, IsBeginAnswered};
 ghost use Rattle.record_file.specs.RecordFault.{IsUnread, IsUnbegun};
 ghost use Rattle.console_reach.specs.Reached.{IsFresh};
 ghost use Rattle.stream_line.specs.Dialling.{LineRequest, Call, ToDevice, asked_for};
 ghost use Rattle.tape_image.specs.Plan.{PlanValue};
-ghost use Rattle.machine_load.specs.Step.{Step, EndRecord, read_step, connect_step, begin_step};
+ghost use Rattle.machine_load.specs.Step.{Step, RecordGivenBack, read_step, connect_step, begin_step};
 
 use load_devices::{Keep, Line, LineFault};
 use record_file::{OldRecord, RecordFault};
@@ -48,7 +49,7 @@ pub trait Surroundings {
     /// over. It is changed in nothing.
     fn read_record(&mut self, alloc: Global) -> Result<OldRecord, RecordFault>
         ensures step { Gains (steps self.old) (steps self.new) (read_step result ∷ []) }
-        ensures text { IfOk result (λ old. IsRecordText (record_text self.old) old.text.items) }
+        ensures text { IfOk result (λ old. IsAsTold (record_text self.old) old.text.items) }
         ensures fault { IfErr result IsUnread }
         ensures same { Keeps (record_text self.old) (record_text self.new) }
         ensures asked { asked self.new ≡ asked self.old }
@@ -72,14 +73,14 @@ pub trait Surroundings {
     ) -> Result<Self::Keeper, RecordFault>
         ensures step { Gains (steps self.old) (steps self.new) (begin_step result ∷ []) }
         ensures fault { IfErr result IsUnbegun }
-        ensures begun { OnOk result (IsBegun (record_text self.new) plan.now verified) }
+        ensures begun { OnOk result (IsTextBegun (record_text self.new) plan.now verified) }
         ensures keeper { IfOk result (λ keeper. begins keeper plan.now verified) }
         ensures asked { asked self.new ≡ asked self.old }
         ensures disk { IsBeginAnswered (disk self.old) (disk self.new) result };
 
     /// Takes back the keeper of a life that is over: the record is what it has kept.
     fn end_record(&mut self, keeper: Self::Keeper)
-        ensures step { Gains (steps self.old) (steps self.new) (EndRecord ∷ []) }
+        ensures step { Gains (steps self.old) (steps self.new) (RecordGivenBack ∷ []) }
         ensures text { record_text self.new ≡ kept_text keeper }
         ensures asked { asked self.new ≡ asked self.old }
         ensures disk { disk self.new ≡ disk self.old };

@@ -3,6 +3,7 @@ use Rattle.std.proofs.Common.{◌≡◌, ℕ, ◌+◌, ◌≤◌, List, [], leng
 use Rattle.odt_machine.specs.Machine.{Machine}
 use Rattle.load_devices.specs.declared.item.Item.{Item}
 use Rattle.load_devices.specs.Dialogue.{keys_of}
+use Rattle.load_devices.specs.Turns.{most_turns}
 use Rattle.honest_line.specs.Honest.{IsHonest}
 use Rattle.reading_core.specs.declared.phase.End.{End}
 use Rattle.reading_core.specs.declared.phase.End.TheVariants.{Complete, GaveUp, NoWord}
@@ -36,14 +37,14 @@ believed_said turns stop first last line line' s reads =
     } in
     inquired_believable turns stop first last (Some []) (Some s.said) reads told s.said ([], refl, refl)
 
-pub is_look : (first last : Reader) (stop : Stop) (line line' : Option (List Item)) → IsReader first → Inquired 10000000 (Some stop) first last line line' → TellsEnd stop last
+pub is_look : (first last : Reader) (stop : Stop) (line line' : Option (List Item)) → IsReader first → Inquired most_turns (Some stop) first last line line' → TellsEnd stop last
     → last.addresses ≡ first.addresses → last.patience ≡ first.patience → last.sent ≤ reading_bound (length last.addresses) last.patience → IsReader last → IsLook first last stop
 is_look first last stop line line' reads inquired end addresses patience bound kept = record {
   line = line;
   line' = line';
   inquired = inquired;
   end = end;
-  believed = believed_said 10000000 stop first last line line' inquired reads;
+  believed = believed_said most_turns stop first last line line' inquired reads;
   addresses = addresses;
   patience = patience;
   bound = bound;
@@ -53,7 +54,7 @@ is_look first last stop line line' reads inquired end addresses patience bound k
 -- a reader that has an end from the beginning needs no line
 pub no_look : (reader : Reader) (end : End) → IsReader reader → ended reader.phase ≡ Some end → IsLook reader reader (Ended end)
 no_look reader end reads is =
-    let nothing : Inquired 10000000 (Some (Ended end)) reader reader None None = record {
+    let nothing : Inquired most_turns (Some (Ended end)) reader reader None None = record {
       heard = [];
       said = [];
       reader = refl;

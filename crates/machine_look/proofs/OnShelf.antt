@@ -6,7 +6,7 @@ use Rattle.std.specs.Io.KnownBytes.{Appends}
 use Rattle.std.specs.Prelude.{OnSome, option_map, is_err, ⊤}
 use Rattle.std.specs.String.{string_bytes}
 use Rattle.record_file.specs.Beginning.{IsMakingHeld, new_name}
-use Rattle.record_file.specs.DiskStep.{DiskStep, HasAsked, Tells, Did, Failed, answered, told, LookAtName, FindFile, Open, Link, Rename, Remove, SyncFile}
+use Rattle.record_file.specs.DiskStep.{DiskStep, HasAsked, Tells, Did, Failed, answered, step_by, LookAtName, FindFile, Open, Link, Rename, Remove, SyncFile}
 use Rattle.record_file.specs.Folder.{IsFolderOf}
 use Rattle.record_file.specs.declared.disk.Access.TheVariants.{ReadOnly}
 use Rattle.record_file.proofs.Asking.{tells_join, tells_none}
@@ -132,10 +132,10 @@ has_room_on opened contents name room beside a b c own fresh search made =
 -- ---- the tape
 
 pub on_disk : (name name' : List ℕ) (written : Option (List ℕ)) (found : Bool) (a b c : Option (List DiskStep)) → name ≡ name'
-    → Tells a b (Did (SyncFile written) ∷ []) → Tells b c (told (FindFile name written) found ∷ []) → HasAsked a c (IsOnDisk name' written found)
+    → Tells a b (Did (SyncFile written) ∷ []) → Tells b c (step_by (FindFile name written) found ∷ []) → HasAsked a c (IsOnDisk name' written found)
 on_disk name name' written found a b c is synced looked = subst (λ n. HasAsked a c (IsOnDisk n written found)) is (
-  Did (SyncFile written) ∷ told (FindFile name written) found ∷ [],
-  tells_join a b c (Did (SyncFile written) ∷ []) (told (FindFile name written) found ∷ []) synced looked,
+  Did (SyncFile written) ∷ step_by (FindFile name written) found ∷ [],
+  tells_join a b c (Did (SyncFile written) ∷ []) (step_by (FindFile name written) found ∷ []) synced looked,
   Synced found,
 )
 
@@ -190,7 +190,3 @@ in_no_room contents name text folder before after a is none = subst
 pub closed : {T : Type 0} (contents : T → Option (List ℕ)) (before : Option (Beside T)) (beside : Beside T) (a b : Option (List DiskStep)) → before ≡ Some beside
     → HasAsked a b (IsGone (room_of contents beside).name (room_of contents beside).written) → HasAsked a b (IsClosed (option_map (room_of contents) before))
 closed contents before beside a b is h = subst (λ room. HasAsked a b (IsClosed (option_map (room_of contents) room))) (sym is) h
-
-pub closed_none : {T : Type 0} (contents : T → Option (List ℕ)) (before : Option (Beside T)) (a : Option (List DiskStep)) → before ≡ None
-    → HasAsked a a (IsClosed (option_map (room_of contents) before))
-closed_none contents before a is = subst (λ room. HasAsked a a (IsClosed (option_map (room_of contents) room))) (sym is) ([], tells_none a, refl)

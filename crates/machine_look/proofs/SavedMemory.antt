@@ -3,6 +3,7 @@ use Rattle.std.proofs.Common.{◌≡◌, ℕ, zero, suc, ◌+◌, ◌-◌, ◌*�
 use Rattle.std.proofs.lemmas.Bool.{cases_lt, ne_eqb}
 use Rattle.std.proofs.lemmas.List.{get_or_append_left}
 use Rattle.std.proofs.Math.Seq.{get_or-append_seam}
+use Rattle.tape_image.specs.Word.{whole_word}
 use Rattle.tape_blocks.specs.Block.{top}
 use Rattle.odt_machine.specs.Machine.{word_at}
 use Rattle.reading_core.specs.Addresses.{IsRange, addresses_from, addresses_between}
@@ -14,7 +15,7 @@ use Rattle.reading_engine.specs.declared.stop.Stop.{Stop}
 use Rattle.machine_look.specs.declared.saving.SaveOptions.{SaveOptions}
 use Rattle.machine_look.specs.Look.{AsksOnce, IsLook}
 use Rattle.machine_look.specs.Save.{IsRead, SaveTold, addresses_in}
-use Rattle.machine_look.specs.SavedTape.{whole_word, words_read, StandFrom}
+use Rattle.machine_look.specs.SavedTape.{words_read, StandFrom}
 use Rattle.machine_look.proofs.Looks.{is_true}
 use Rattle.machine_look.proofs.SavedWords.{holds_what_was_read}
 

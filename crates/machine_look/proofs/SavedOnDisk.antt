@@ -9,7 +9,7 @@ use Rattle.machine_look.specs.declared.saving.SaveOptions.{SaveOptions}
 use Rattle.machine_look.specs.declared.shelf.ShelfFault.{ShelfFault}
 use Rattle.machine_look.specs.declared.shelf.ShelfFault.TheVariants as why
 use Rattle.machine_look.specs.LookFault.{fault_of_shelf}
-use Rattle.machine_look.specs.SaveDisk.{text_of, IsLeftAlone, IsKeptOn, IsNotKeptOn, IsReservedFirst, IsOnlyReserved, IsSavedOn, IsNotSavedOn, disk_asked_before}
+use Rattle.machine_look.specs.SaveDisk.{text_of, IsLeftAlone, IsKeptOn, IsNotKeptOn, IsReservedFirst, IsOnlyReserved, IsSavedOn, IsNotSavedOn, save_disk_asked_before}
 use Rattle.machine_look.specs.Shelf.{IsPutFault}
 use Rattle.machine_look.specs.ShelfDisk.{ShelfDisk, ShelfAsked, ShelfAskedIn, HasNoRoom, HasRoomIn, IsPutOn}
 
@@ -45,10 +45,10 @@ not_put_on opened text text' a b why.Memory is can h = absurd can
 
 -- no room was made
 pub not_reserved_on : (options : SaveOptions) (a b : Option ShelfDisk) (fault : ShelfFault) → ShelfAsked a b (HasNoRoom fault)
-    → ShelfAsked a b (disk_asked_before options (fault_of_shelf fault))
-not_reserved_on options a b why.IsThere h = as_asked (HasNoRoom why.IsThere) (disk_asked_before options IsThere) a b (λ d e steps x. inl x) h
-not_reserved_on options a b why.Write h = as_asked (HasNoRoom why.Write) (disk_asked_before options WriteTape) a b (λ d e steps x. inl x) h
-not_reserved_on options a b why.Memory h = as_asked (HasNoRoom why.Memory) (disk_asked_before options Memory) a b (λ d e steps x. inr (inl x)) h
+    → ShelfAsked a b (save_disk_asked_before options (fault_of_shelf fault))
+not_reserved_on options a b why.IsThere h = as_asked (HasNoRoom why.IsThere) (save_disk_asked_before options IsThere) a b (λ d e steps x. inl x) h
+not_reserved_on options a b why.Write h = as_asked (HasNoRoom why.Write) (save_disk_asked_before options WriteTape) a b (λ d e steps x. inl x) h
+not_reserved_on options a b why.Memory h = as_asked (HasNoRoom why.Memory) (save_disk_asked_before options Memory) a b (λ d e steps x. inr (inl x)) h
 
 then_on : (P : List ℕ → ShelfDisk → ShelfDisk → List DiskStep → Type 0) (opened : List ℕ → Type 0) (a b c : Option ShelfDisk) → ShelfAsked a b (HasRoomIn opened)
     → ShelfAskedIn opened b c P → ShelfAsked a c (IsReservedFirst P)
@@ -81,18 +81,18 @@ not_saved_on options opened a b c from numbers fault is r h =
     (subst (λ f. ShelfAskedIn opened b c (λ folder. IsPutOn folder (text_of f numbers options.start) (Some fault))) is h))
 
 never : (fault : LookFault) (options : SaveOptions) (opened : List ℕ → Type 0) (a b c : Option ShelfDisk) → ShelfAsked a b (HasRoomIn opened)
-    → ShelfAskedIn opened b c (λ folder disk disk' steps. ⊥) → ShelfAsked a c (disk_asked_before options fault)
-never fault options opened a b c r h = as_asked (IsReservedFirst (λ folder disk disk' steps. ⊥)) (disk_asked_before options fault) a c (λ d e steps x. absurd x.then_so)
+    → ShelfAskedIn opened b c (λ folder disk disk' steps. ⊥) → ShelfAsked a c (save_disk_asked_before options fault)
+never fault options opened a b c r h = as_asked (IsReservedFirst (λ folder disk disk' steps. ⊥)) (save_disk_asked_before options fault) a c (λ d e steps x. absurd x.then_so)
     (then_on (λ folder disk disk' steps. ⊥) opened a b c r h)
 
 pub not_kept_on : (options : SaveOptions) (opened : List ℕ → Type 0) (a b c : Option ShelfDisk) (from : ℕ) (numbers : List ℕ) (fault : LookFault) → from ≡ options.range.from
     → ShelfAsked a b (HasRoomIn opened) → ShelfAskedIn opened b c (IsNotKeptOn (text_of from numbers options.start) fault)
-    → ShelfAsked a c (disk_asked_before options fault)
+    → ShelfAsked a c (save_disk_asked_before options fault)
 not_kept_on options opened a b c from numbers IsThere is r h =
-    as_asked (IsNotSavedOn options why.IsThere) (disk_asked_before options IsThere) a c (λ d e steps x. inr x) (not_saved_on options opened a b c from numbers why.IsThere is r h)
+    as_asked (IsNotSavedOn options why.IsThere) (save_disk_asked_before options IsThere) a c (λ d e steps x. inr x) (not_saved_on options opened a b c from numbers why.IsThere is r h)
 not_kept_on options opened a b c from numbers WriteTape is r h =
-    as_asked (IsNotSavedOn options why.Write) (disk_asked_before options WriteTape) a c (λ d e steps x. inr x) (not_saved_on options opened a b c from numbers why.Write is r h)
+    as_asked (IsNotSavedOn options why.Write) (save_disk_asked_before options WriteTape) a c (λ d e steps x. inr x) (not_saved_on options opened a b c from numbers why.Write is r h)
 not_kept_on options opened a b c from numbers Memory is r h =
-    as_asked IsOnlyReserved (disk_asked_before options Memory) a c (λ d e steps x. inr (inr x)) (then_on (λ folder. IsLeftAlone) opened a b c r h)
+    as_asked IsOnlyReserved (save_disk_asked_before options Memory) a c (λ d e steps x. inr (inr x)) (then_on (λ folder. IsLeftAlone) opened a b c r h)
 not_kept_on options opened a b c from numbers Connect is r h = never Connect options opened a b c r h
 not_kept_on options opened a b c from numbers WriteOutput is r h = never WriteOutput options opened a b c r h

@@ -10,7 +10,7 @@ use Rattle.std.proofs.lemmas.List.Elements.{All-nil, All-cons, All-head, All-tai
 use Rattle.tape_blocks.specs.Block.{block_at, low_first, top}
 use Rattle.tape_blocks.specs.Tape.{TapeValue}
 use Rattle.tape_image.specs.Memory.{half}
-use Rattle.tape_image.specs.Word.{WordValue, IsWord, covers}
+use Rattle.tape_image.specs.Word.{WordValue, IsWord, covers, whole_word}
 use Rattle.tape_image.specs.Image.{byte_in, byte_at}
 use Rattle.tape_image.specs.Plan.{IsPlan, plan_of, program_start, given_byte}
 use Rattle.tape_image.proofs.Blocks.{byte_in-before, byte_in-inside, byte_in-behind, option_or-none}
@@ -19,7 +19,7 @@ use Rattle.tape_image.proofs.Given.{Rises}
 use Rattle.tape_image.proofs.Images.{get-image_of}
 use Rattle.tape_image.proofs.Plans.{IsPlan-of_blocks, program_start-even}
 use Rattle.tape_image.proofs.SameWords.{plan_words}
-use Rattle.machine_look.specs.SavedTape.{saved_tape, saved_blocks, whole_word, words_read, HoldsWhatWasRead, StandFrom}
+use Rattle.machine_look.specs.SavedTape.{saved_tape, saved_blocks, words_read, HoldsWhatWasRead, StandFrom}
 use Rattle.machine_look.proofs.SavedBlocks.{no_bytes, first_bytes, good_blocks, holds_bytes}
 
 -- ---- the bytes of one word

@@ -18,7 +18,8 @@ use Rattle.machine_look.specs.declared.difference.Difference.{Difference}
 use Rattle.machine_look.specs.declared.verify_end.VerifyEnd.{VerifyEnd}
 use Rattle.machine_look.specs.declared.verify_end.VerifyEnd.TheVariants.{Same, Differs}
 use Rattle.machine_look.specs.Differences.{differences}
-use Rattle.machine_look.specs.Look.{AsksOnce, IsLook, LookTold, OverHonestLine}
+use Rattle.console_reach.specs.Console.{ConsoleTold}
+use Rattle.machine_look.specs.Look.{AsksOnce, IsLook, OverHonestLine}
 use Rattle.machine_look.specs.Verify.{AllStand, IsSameWith, IsVerified}
 use Rattle.machine_look.specs.VerifyReport.{report_text, verify_end, verify_report}
 use Rattle.machine_look.proofs.Found.{none_differ}
@@ -61,7 +62,7 @@ all_stand words first last stop look are same machine now lost may honest =
 
 -- ---- a verification
 
-pub verified_of : (plan : PlanValue) (patience : ℕ) (before after : LookTold) (first last : Reader) (stop : Stop) (end : VerifyEnd) → first ≡ begun (addresses_of plan.words) [] patience → IsLook first last stop
+pub verified_of : (plan : PlanValue) (patience : ℕ) (before after : ConsoleTold) (first last : Reader) (stop : Stop) (end : VerifyEnd) → first ≡ begun (addresses_of plan.words) [] patience → IsLook first last stop
     → AsksOnce (ended first.phase) before.call before.asked after.asked → end ≡ verify_end (length (differences plan.words last.values)) stop → IsVerified plan patience before after last stop end
 verified_of plan patience before after first last stop end is look asks ends =
     let moved : IsLook (begun (addresses_of plan.words) [] patience) last stop = subst (λ r. IsLook r last stop) is look in

@@ -2,6 +2,7 @@
 use Rattle.std.specs.Prelude.{◌≡◌, ℕ, ◌≤◌, List, length, Option, Some, None}
 use Rattle.odt_machine.specs.Machine.{Machine}
 use Rattle.load_devices.specs.Told.{Gains}
+use Rattle.load_devices.specs.Turns.{most_turns}
 use Rattle.load_devices.specs.declared.item.Item.{Item}
 use Rattle.honest_line.specs.Honest.{IsHonest}
 use Rattle.stream_line.specs.Dialling.{Call, LineRequest, asked_once}
@@ -14,11 +15,11 @@ use Rattle.reading_engine.specs.Belief.{IsBelievableAt}
 use Rattle.reading_engine.specs.Inquired.{Inquired, TellsEnd}
 use Rattle.reading_engine.specs.declared.stop.Stop.{Stop}
 
--- an engine that had 10,000,000 turns led the one reader to the other, with what was said meanwhile, and stopped so
+-- an engine that had the most turns led the one reader to the other, with what was said meanwhile, and stopped so
 pub record IsLook (first last : Reader) (stop : Stop) : Type 0 where
   pub line : Option (List Item)
   pub line' : Option (List Item)
-  pub inquired : Inquired 10000000 (Some stop) first last line line'
+  pub inquired : Inquired most_turns (Some stop) first last line line'
   pub end : TellsEnd stop last
   -- where what was said is honest, memory is what it was and what was read is what it holds
   pub believed : IsBelievableAt stop first last inquired.said
@@ -31,15 +32,6 @@ pub record IsLook (first last : Reader) (stop : Stop) : Type 0 where
 abbrev pub OverHonestLine : {first last : Reader} {stop : Stop} → IsLook first last stop → (Machine → Machine → Type 0) → Type 0
 OverHonestLine {first} look holds =
     (machine now : Machine) (lost : ℕ) → MayLook first machine → IsHonest machine look.inquired.said lost now → holds machine now
-
--- what a look's console and output tell: what was asked for a line, where that one leads, and what this one holds
-pub record LookTold : Type 0 where
-  pub asked : Option (List LineRequest)
-  pub call : Call
-  pub out : Option (List ℕ)
-
-abbrev pub look_told : {R W : Type 0} → (R → Option (List LineRequest)) → (R → Call) → (W → Option (List ℕ)) → R → W → LookTold
-look_told asked_of call_of contents console out = record { asked = asked_of console; call = call_of console; out = contents out }
 
 -- the console was asked for once, where there is something to look at, and else nothing was asked
 abbrev pub AsksOnce : Option End → Call → Option (List LineRequest) → Option (List LineRequest) → Type 0

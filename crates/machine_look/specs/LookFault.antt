@@ -12,7 +12,7 @@ use Rattle.machine_look.specs.declared.look_fault.LookFault.TheVariants.{IsThere
 use Rattle.machine_look.specs.declared.saving.SaveOptions.{SaveOptions}
 use Rattle.machine_look.specs.declared.shelf.ShelfFault.{ShelfFault}
 use Rattle.machine_look.specs.declared.shelf.ShelfFault.TheVariants as shelf_fault
-use Rattle.machine_look.specs.Look.{LookTold}
+use Rattle.console_reach.specs.Console.{ConsoleTold}
 use Rattle.machine_look.specs.Save.{IsUnput, IsSavedUnreported, SaveTold}
 use Rattle.machine_look.specs.Shelf.{Step, Reserve, NotReserved, NotPut}
 use Rattle.machine_look.specs.Verify.{IsCutShort}
@@ -25,7 +25,7 @@ fault_of_shelf shelf_fault.Memory = Memory
 
 -- how `verify` comes to nothing: want of memory before the console is reached, a console that can't be reached before anything is written,
 -- a report that can't be written whole last
-abbrev pub IsVerifyFault : PlanValue → ℕ → LookTold → LookTold → LookFault → Type 0
+abbrev pub IsVerifyFault : PlanValue → ℕ → ConsoleTold → ConsoleTold → LookFault → Type 0
 IsVerifyFault plan patience before after Connect =
     (ended (begun (addresses_of plan.words) [] patience).phase ≡ None) × IsAskedInVain before.call before.asked after.asked × Keeps before.out after.out
 IsVerifyFault plan patience before after WriteOutput = IsCutShort plan patience before after

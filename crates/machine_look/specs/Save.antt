@@ -3,6 +3,7 @@ use Rattle.std.specs.Prelude.{◌≡◌, ℕ, List, [], ◌∷◌, length, map, 
 use Rattle.std.specs.Io.KnownBytes.{Appends, Keeps}
 use Rattle.tape_blocks.specs.Tape.{TapeValue, plain_text}
 use Rattle.tape_image.specs.Plan.{plan_of}
+use Rattle.tape_image.specs.Word.{whole_word}
 use Rattle.odt_machine.specs.Machine.{Machine, word_at}
 use Rattle.load_devices.specs.Told.{Gains}
 use Rattle.stream_line.specs.Dialling.{Call, LineRequest, asked_once}
@@ -15,7 +16,7 @@ use Rattle.machine_look.specs.declared.save_end.SaveEnd.{SaveEnd}
 use Rattle.machine_look.specs.declared.saving.SaveOptions.{SaveOptions}
 use Rattle.machine_look.specs.declared.shelf.ShelfFault.{ShelfFault}
 use Rattle.machine_look.specs.Look.{IsLook, OverHonestLine}
-use Rattle.machine_look.specs.SavedTape.{saved_tape, whole_word, HoldsWhatWasRead}
+use Rattle.machine_look.specs.SavedTape.{saved_tape, HoldsWhatWasRead}
 use Rattle.machine_look.specs.SaveReport.{save_end, save_report}
 use Rattle.machine_look.specs.Shelf.{Step, Reserve, Put, NotPut}
 

@@ -58,12 +58,12 @@ IsNotSavedOn options fault disk disk' steps = (numbers : List ℕ)
     × IsReservedFirst (λ folder. IsPutOn folder (text_of options.range.from numbers options.start) (Some fault)) disk disk' steps
 
 -- what was asked by how a save came to nothing: a console that was not reached, and want of memory, leave no more than the room
-abbrev pub disk_asked_before : SaveOptions → LookFault → ShelfDisk → ShelfDisk → List DiskStep → Type 0
-disk_asked_before options IsThere disk disk' steps =
+abbrev pub save_disk_asked_before : SaveOptions → LookFault → ShelfDisk → ShelfDisk → List DiskStep → Type 0
+save_disk_asked_before options IsThere disk disk' steps =
     HasNoRoom shelf_fault.IsThere disk disk' steps ⊎ IsNotSavedOn options shelf_fault.IsThere disk disk' steps
-disk_asked_before options WriteTape disk disk' steps =
+save_disk_asked_before options WriteTape disk disk' steps =
     HasNoRoom shelf_fault.Write disk disk' steps ⊎ IsNotSavedOn options shelf_fault.Write disk disk' steps
-disk_asked_before options Connect disk disk' steps = IsOnlyReserved disk disk' steps
-disk_asked_before options WriteOutput disk disk' steps = IsSavedOn options disk disk' steps
-disk_asked_before options Memory disk disk' steps =
+save_disk_asked_before options Connect disk disk' steps = IsOnlyReserved disk disk' steps
+save_disk_asked_before options WriteOutput disk disk' steps = IsSavedOn options disk disk' steps
+save_disk_asked_before options Memory disk disk' steps =
     IsLeftAlone disk disk' steps ⊎ (HasNoRoom shelf_fault.Memory disk disk' steps ⊎ IsOnlyReserved disk disk' steps)

@@ -19,17 +19,17 @@ save_end (LineHasFailed fault) = LineFailed fault
 save_end TurnsAreOver = TurnsOver
 
 -- the name of an end
-abbrev pub end_name : SaveEnd → List ℕ
-end_name Saved = codes "Saved"
-end_name (NoWord address) = codes "NoWord " ++ octal_text address
-end_name GaveUp = codes "GaveUp"
-end_name TurnsOver = codes "TurnsOver"
-end_name (LineFailed fault) = codes "LineFailed"
+abbrev pub save_end_name : SaveEnd → List ℕ
+save_end_name Saved = codes "Saved"
+save_end_name (NoWord address) = codes "NoWord " ++ octal_text address
+save_end_name GaveUp = codes "GaveUp"
+save_end_name TurnsOver = codes "TurnsOver"
+save_end_name (LineFailed fault) = codes "LineFailed"
 
 -- the characters sent, the mishaps, and how many of the words were read
-abbrev pub counts_text : Reader → List ℕ
-counts_text reader = life_text reader ++ codes " read " ++ decimal (length reader.values) ++ codes " of " ++ decimal (length reader.addresses)
+abbrev pub save_counts_text : Reader → List ℕ
+save_counts_text reader = life_text reader ++ codes " read " ++ decimal (length reader.values) ++ codes " of " ++ decimal (length reader.addresses)
 
 -- the counts, and the end
 abbrev pub save_report : Reader → Stop → List ℕ
-save_report reader stop = line (counts_text reader) ++ line (codes "end " ++ end_name (save_end stop))
+save_report reader stop = line (save_counts_text reader) ++ line (codes "end " ++ save_end_name (save_end stop))

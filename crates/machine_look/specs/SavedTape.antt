@@ -4,7 +4,7 @@ use Rattle.std.specs.List.{flat_map}
 use Rattle.std.specs.FinMap.{get}
 use Rattle.tape_blocks.specs.Block.{BlockValue, block_at, low_first}
 use Rattle.tape_blocks.specs.Tape.{TapeValue}
-use Rattle.tape_image.specs.Word.{WordValue}
+use Rattle.tape_image.specs.Word.{WordValue, whole_word}
 use Rattle.tape_image.specs.Plan.{plan_of, given_byte, program_start}
 
 -- block number k of the numbers from an address on: 256 of them, or as many as are left, each with its low byte first
@@ -19,10 +19,6 @@ saved_blocks from numbers (suc n) = saved_blocks from numbers n ++ saved_block f
 -- the tape of the numbers that stand from an address on, in as few blocks as hold them
 abbrev pub saved_tape : ℕ → List ℕ → ℕ → TapeValue
 saved_tape from numbers start = record { blocks = saved_blocks from numbers ((length numbers + 255) / 256); start = start }
-
--- a number that was read as a word of a plan: all of it counts
-abbrev pub whole_word : ℕ → ℕ → WordValue
-whole_word address number = record { address = address; mask = 0o177777; value = number }
 
 -- the words that were read: the numbers at the first of the addresses
 abbrev pub words_read : List ℕ → List ℕ → List WordValue

@@ -10,10 +10,12 @@ pub data Step : Type 0 where
   Put : List ℕ → Step
   NotPut : List ℕ → ShelfFault → Step
 
+-- what was answered where room was asked for
 abbrev pub reserve_step : Result ⊤ ShelfFault → Step
 reserve_step (Ok done) = Reserve
 reserve_step (Err fault) = NotReserved fault
 
+-- what was answered where a tape of this text was to be put there
 abbrev pub put_step : List ℕ → Result ⊤ ShelfFault → Step
 put_step text (Ok done) = Put text
 put_step text (Err fault) = NotPut text fault

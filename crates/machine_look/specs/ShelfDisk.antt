@@ -1,24 +1,21 @@
 -- What is asked of a disk to make room there for a tape, and to put it there.
 use Rattle.std.specs.Prelude.{◌≡◌, ◌⊎◌, ℕ, List, [], ◌∷◌, ◌++◌, Bool, true, false, Option, Some, None, Result, Ok, Err, OnSome, ⊤}
 use Rattle.std.specs.Io.KnownBytes.{Appends}
+use Rattle.load_devices.specs.Failures.{fault_of}
+use Rattle.byte_io.specs.Text.{name_slash}
 use Rattle.record_file.specs.Beginning.{IsMakingHeld, new_name}
-use Rattle.record_file.specs.DiskStep.{DiskStep, Did, Failed, HasAsked, told}
+use Rattle.record_file.specs.DiskStep.{DiskStep, Did, Failed, HasAsked, step_by}
 use Rattle.record_file.specs.DiskStep.{LookAtName, FindFile, Open, Link, Rename, Remove, SyncFolder, SyncFile}
 use Rattle.record_file.specs.Folder.{IsFolderOf}
 use Rattle.record_file.specs.declared.disk.Access.TheVariants.{ReadOnly}
 use Rattle.machine_look.specs.declared.shelf.ShelfFault.{ShelfFault}
 use Rattle.machine_look.specs.declared.shelf.ShelfFault.TheVariants.{IsThere, Write, Memory}
 
--- why something was not done, where it was not
-abbrev pub refusal : Result ⊤ ShelfFault → Option ShelfFault
-refusal (Ok done) = None
-refusal (Err fault) = Some fault
-
 -- ---- room
 
 -- no file has this name: it is empty, or a folder's
 abbrev pub IsNoFileName : List ℕ → Type 0
-IsNoFileName name = (name ≡ []) ⊎ ((front : List ℕ) × (name ≡ front ++ 47 ∷ []))
+IsNoFileName name = (name ≡ []) ⊎ ((front : List ℕ) × (name ≡ front ++ name_slash ∷ []))
 
 -- a name is looked for. Nothing has it; or something has; or that can't be found out, or no file has such a name, of which nothing is asked
 pub data IsSearch (name : List ℕ) : Option ShelfFault → List DiskStep → Type 0 where
@@ -46,12 +43,12 @@ pub data IsNotReserved (name : List ℕ) : ShelfFault → List DiskStep → Type
 
 -- a name goes, where the file of which this was written still has it
 pub data IsGone (name : List ℕ) (written : Option (List ℕ)) : List DiskStep → Type 0 where
-  Goes : (removed : Bool) → IsGone name written (Did (FindFile name written) ∷ told (Remove name) removed ∷ [])
+  Goes : (removed : Bool) → IsGone name written (Did (FindFile name written) ∷ step_by (Remove name) removed ∷ [])
   HasAnother : IsGone name written (Failed (FindFile name written) ∷ [])
 
 -- a file is brought to the disk, and then its name is still its own
 pub data IsOnDisk (name : List ℕ) (written : Option (List ℕ)) : Bool → List DiskStep → Type 0 where
-  Synced : (found : Bool) → IsOnDisk name written found (Did (SyncFile written) ∷ told (FindFile name written) found ∷ [])
+  Synced : (found : Bool) → IsOnDisk name written found (Did (SyncFile written) ∷ step_by (FindFile name written) found ∷ [])
   Unsynced : IsOnDisk name written false (Failed (SyncFile written) ∷ [])
 
 -- a file is given a second name, which no system does where something has it; where that can't be, it is renamed, once nothing was found to
@@ -149,4 +146,4 @@ pub record IsPutOn (folder text : List ℕ) (fault : Option ShelfFault) (disk di
 
 -- what was asked by what came of putting a tape of this text there
 abbrev pub IsPutAnswered : (List ℕ → Type 0) → List ℕ → Option ShelfDisk → Option ShelfDisk → Result ⊤ ShelfFault → Type 0
-IsPutAnswered opened text before after answer = ShelfAskedIn opened before after (λ folder. IsPutOn folder text (refusal answer))
+IsPutAnswered opened text before after answer = ShelfAskedIn opened before after (λ folder. IsPutOn folder text (fault_of answer))

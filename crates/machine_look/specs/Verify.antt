@@ -12,7 +12,8 @@ use Rattle.reading_engine.specs.declared.stop.Stop.{Stop}
 use Rattle.machine_look.specs.declared.verify_end.VerifyEnd.{VerifyEnd}
 use Rattle.machine_look.specs.declared.verify_end.VerifyEnd.TheVariants.{Same}
 use Rattle.machine_look.specs.Differences.{differences}
-use Rattle.machine_look.specs.Look.{AsksOnce, IsLook, LookTold, OverHonestLine}
+use Rattle.console_reach.specs.Console.{ConsoleTold}
+use Rattle.machine_look.specs.Look.{AsksOnce, IsLook, OverHonestLine}
 use Rattle.machine_look.specs.VerifyReport.{verify_end, verify_report}
 
 -- every word lies in memory and stands there
@@ -25,21 +26,21 @@ abbrev pub IsSameWith : List WordValue → Machine → Machine → Type 0
 IsSameWith words before now = (now.memory ≡ before.memory) × AllStand words now.memory
 
 -- a plan's words were looked at, and so it ended; where it ends as `Same` over an honest line, every word stands
-pub record IsVerified (plan : PlanValue) (patience : ℕ) (before after : LookTold) (last : Reader) (stop : Stop) (end : VerifyEnd) : Type 0 where
+pub record IsVerified (plan : PlanValue) (patience : ℕ) (before after : ConsoleTold) (last : Reader) (stop : Stop) (end : VerifyEnd) : Type 0 where
   pub look : IsLook (begun (addresses_of plan.words) [] patience) last stop
   pub asked : AsksOnce (ended (begun (addresses_of plan.words) [] patience).phase) before.call before.asked after.asked
   pub end_is : end ≡ verify_end (length (differences plan.words last.values)) stop
   pub stand : end ≡ Same → OverHonestLine look (IsSameWith plan.words)
 
 -- it was reported, too
-pub record IsReported (plan : PlanValue) (patience : ℕ) (before after : LookTold) (end : VerifyEnd) : Type 0 where
+pub record IsReported (plan : PlanValue) (patience : ℕ) (before after : ConsoleTold) (end : VerifyEnd) : Type 0 where
   pub last : Reader
   pub stop : Stop
   pub verified : IsVerified plan patience before after last stop end
   pub reported : Appends before.out after.out (verify_report plan.words last stop)
 
 -- the same, with a report that may be cut short
-pub record IsCutShort (plan : PlanValue) (patience : ℕ) (before after : LookTold) : Type 0 where
+pub record IsCutShort (plan : PlanValue) (patience : ℕ) (before after : ConsoleTold) : Type 0 where
   pub last : Reader
   pub stop : Stop
   pub end : VerifyEnd

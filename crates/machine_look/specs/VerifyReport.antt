@@ -22,13 +22,13 @@ verify_end differ (LineHasFailed fault) = LineFailed fault
 verify_end differ TurnsAreOver = TurnsOver
 
 -- the name of an end
-abbrev pub end_name : VerifyEnd → List ℕ
-end_name Same = codes "Same"
-end_name Differs = codes "Differs"
-end_name (NoWord address) = codes "NoWord " ++ octal_text address
-end_name GaveUp = codes "GaveUp"
-end_name TurnsOver = codes "TurnsOver"
-end_name (LineFailed fault) = codes "LineFailed"
+abbrev pub verify_end_name : VerifyEnd → List ℕ
+verify_end_name Same = codes "Same"
+verify_end_name Differs = codes "Differs"
+verify_end_name (NoWord address) = codes "NoWord " ++ octal_text address
+verify_end_name GaveUp = codes "GaveUp"
+verify_end_name TurnsOver = codes "TurnsOver"
+verify_end_name (LineFailed fault) = codes "LineFailed"
 
 -- a word's address, mask and value, and the whole word that memory holds there
 abbrev pub difference_text : Difference → List ℕ
@@ -39,15 +39,15 @@ abbrev pub life_text : Reader → List ℕ
 life_text reader = codes "sent " ++ decimal reader.sent ++ codes " spent " ++ decimal reader.spent
 
 -- the characters sent, the mishaps, how many of the words were looked at and how many of these differ
-abbrev pub counts_text : ℕ → Reader → ℕ → List ℕ
-counts_text words reader differ =
+abbrev pub verify_counts_text : ℕ → Reader → ℕ → List ℕ
+verify_counts_text words reader differ =
     life_text reader ++ codes " looked " ++ decimal (length reader.values) ++ codes " of " ++ decimal words ++ codes " differ " ++ decimal differ
 
 -- a line for each difference, the counts, and the end
 abbrev pub report_text : List Difference → ℕ → Reader → Stop → List ℕ
 report_text found words reader stop =
-    flat_map (λ d. line (difference_text d)) found ++ line (counts_text words reader (length found))
-    ++ line (codes "end " ++ end_name (verify_end (length found) stop))
+    flat_map (λ d. line (difference_text d)) found ++ line (verify_counts_text words reader (length found))
+    ++ line (codes "end " ++ verify_end_name (verify_end (length found) stop))
 
 -- what `verify` prints of a reading of words
 abbrev pub verify_report : List WordValue → Reader → Stop → List ℕ

@@ -7,18 +7,18 @@ use tape_image::{Word, stands};
 
 /// A word that memory does not have.
 #[derive(Clone, Copy, Debug)]
-pub struct Difference {
+pub(crate) struct Difference {
     /// The word of the plan.
-    pub word: Word,
+    pub(crate) word: Word,
 
     /// The whole word that memory holds at its address.
-    pub now: u16,
+    pub(crate) now: u16,
 }
 
 /// Puts the differences between the words of a plan and the numbers that were read at the first of
 /// their addresses, in this order, where there is room for as many. A number that has the word's bits
 /// under its mask is no difference.
-pub fn differences(found: &mut Vec<Difference>, words: &[Word], numbers: &[u16])
+pub(crate) fn differences(found: &mut Vec<Difference>, words: &[Word], numbers: &[u16])
     requires few { length numbers.now ≤ length words.now }
     requires room { vec_len found.old + length numbers.now ≤ vec_capacity found.old }
     ensures items { found.new.items ≡ found.old.items ++ differences words.now numbers.now }

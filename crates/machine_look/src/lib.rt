@@ -24,13 +24,11 @@ mod verify_end;
 mod verify_report;
 mod verifying;
 
-pub use difference::{Difference, differences};
 pub use look_fault::LookFault;
 pub use looking::look;
 pub use new_file::NewFile;
 pub use range::AddressRange;
 pub use save_end::SaveEnd;
-pub use saved_tape::tape_of;
 pub use saving::{SaveOptions, save};
 pub use shelf::{Shelf, ShelfFault};
 pub use verify_end::VerifyEnd;

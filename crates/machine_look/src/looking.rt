@@ -1,5 +1,6 @@
 //! Looking at a machine, over a line that is given or reached.
 ghost use Rattle.std.specs.Prelude.{◌≡◌, ◌≤◌, None, Some, length, IfOk, IfErr, OnErr, OnOk};
+ghost use Rattle.load_devices.specs.Turns.{most_turns};
 ghost use Rattle.reading_core.specs.Bound.{reading_bound};
 ghost use Rattle.reading_core.specs.Invariant.{IsReader};
 ghost use Rattle.reading_core.specs.Reader.{ended};
@@ -11,12 +12,9 @@ ghost use Rattle.machine_look.specs.Look.{AsksOnce, IsLook};
 
 use crate::look_fault::LookFault;
 use console_reach::Reach;
-use load_devices::{Line, Onlooker};
+use load_devices::{Line, MOST_TURNS, Onlooker};
 use reading_core::ReadingCore;
 use reading_engine::{Stop, inquire};
-
-// The most turns of a look.
-const TURNS: u64 = 10_000_000;
 
 /// Lends the core to the line for at most 10,000,000 turns, as `inquire` does, and the line comes back. An
 /// onlooker is told of each step.
@@ -25,7 +23,7 @@ pub fn look<L: Line + Drop, O: Onlooker>(
     mut line: L,
     onlooker: &O,
 ) -> ((ReadingCore, Stop), L)
-    ensures turns { Inquired 10000000 (Some result.0.1) core result.0.0 (L.told line) (L.told result.1) }
+    ensures turns { Inquired most_turns (Some result.0.1) core result.0.0 (L.told line) (L.told result.1) }
     ensures end { TellsEnd result.0.1 result.0.0 }
     ensures counted { Counts (Some result.0.1) (L.fault_count line) (L.fault_count result.1) }
     ensures fault { NamesFault (Some result.0.1) (L.last_fault result.1) }
@@ -36,7 +34,7 @@ pub fn look<L: Line + Drop, O: Onlooker>(
     ensures kept { IsReader result.0.0 }
 {
     onlooker.begins(0, core.addresses().len() as u32);
-    let answer = inquire(core, &mut line, TURNS, onlooker);
+    let answer = inquire(core, &mut line, MOST_TURNS, onlooker);
     onlooker.ends();
     (answer, line)
 }

@@ -2,22 +2,20 @@
 ghost use Rattle.std.specs.Prelude.{◌≡◌, ◌∷◌, List, ℕ, None, Some, [], IfErr, IfOk, IfSome, OnSome, is_some, option_map};
 ghost use Rattle.std.specs.Bool.{OnTrue};
 ghost use Rattle.std.specs.String.{string_bytes};
+ghost use Rattle.load_devices.specs.Failures.{fault_of};
 ghost use Rattle.record_file.specs.Beginning.{IsMakingHeld, new_name};
 ghost use Rattle.record_file.specs.DiskStep.{HasAsked, Failed, Link, LookAtName};
 ghost use Rattle.record_file.specs.Folder.{IsFolderOf};
 ghost use Rattle.machine_look.specs.Beside.{IsFolderOpened, room_of};
 ghost use Rattle.machine_look.specs.Shelf.{IsPutFault};
-ghost use Rattle.machine_look.specs.ShelfDisk.{IsReserved, IsNotReserved, IsNoFileName, IsSearch, refusal};
+ghost use Rattle.machine_look.specs.ShelfDisk.{IsReserved, IsNotReserved, IsNoFileName, IsSearch};
 ghost use Rattle.machine_look.specs.ShelfDisk.{IsClosed, IsGone, IsNamed, IsNaming, IsOnDisk, IsPut, IsSettling};
 
 use crate::shelf::{Shelf, ShelfFault};
 use byte_io::write_and_flush;
-use record_file::{Access, Disk, folder_of, make_new};
+use record_file::{Access, BESIDE, Disk, folder_of, make_new};
 use std::alloc::Global;
 use std::io::ErrorKind;
-
-// What the name of the file that is written has more than that of the tape.
-const BESIDE: &str = ".ldaodt-new";
 
 /// A file that is not there yet, for the tape of a save.
 ///
@@ -143,7 +141,7 @@ fn put_into<D: Disk>(
 ) -> Result<(), ShelfFault>
     ensures fault { IfErr result IsPutFault }
     ensures asked { (folder : List ℕ) → D.is_opened_as beside.folder folder
-        → HasAsked (D.asked disk.old) (D.asked disk.new) (IsPut name.now folder text.now (room_of D.File.contents beside) (refusal result)) }
+        → HasAsked (D.asked disk.old) (D.asked disk.new) (IsPut name.now folder text.now (room_of D.File.contents beside) (fault_of result)) }
 {
     if write_and_flush(&mut beside.file, text).is_err() {
         let_go(disk, beside.name.as_str(), &beside.file);
@@ -163,7 +161,7 @@ fn name_written<D: Disk>(
     ensures fault { IfErr result IsPutFault }
     ensures asked { (folder : List ℕ) → D.is_opened_as beside.now.folder folder
         → HasAsked (D.asked disk.old) (D.asked disk.new)
-        (IsNamed (string_bytes beside.now.name) folder name.now (D.File.contents beside.now.file) (refusal result)) }
+        (IsNamed (string_bytes beside.now.name) folder name.now (D.File.contents beside.now.file) (fault_of result)) }
 {
     if !is_on_disk(disk, beside) {
         return Err(ShelfFault::Write);
@@ -190,7 +188,7 @@ fn settle<D: Disk>(disk: &mut D, beside: &Beside<D::File>, name: &str) -> Result
     ensures fault { IfErr result IsPutFault }
     ensures asked { (folder : List ℕ) → D.is_opened_as beside.now.folder folder
         → HasAsked (D.asked disk.old) (D.asked disk.new)
-        (IsSettling (string_bytes beside.now.name) folder name.now (D.File.contents beside.now.file) (refusal result)) }
+        (IsSettling (string_bytes beside.now.name) folder name.now (D.File.contents beside.now.file) (fault_of result)) }
 {
     let_go(disk, beside.name.as_str(), &beside.file);
     match disk.sync_folder(&beside.folder) {
@@ -206,7 +204,7 @@ fn settle<D: Disk>(disk: &mut D, beside: &Beside<D::File>, name: &str) -> Result
 // for right before.
 fn give_name<D: Disk>(disk: &mut D, own: &str, name: &str) -> Result<(), ShelfFault>
     ensures fault { IfErr result IsPutFault }
-    ensures asked { HasAsked (D.asked disk.old) (D.asked disk.new) (IsNaming own.now name.now (refusal result)) }
+    ensures asked { HasAsked (D.asked disk.old) (D.asked disk.new) (IsNaming own.now name.now (fault_of result)) }
 {
     match disk.link(own, name) {
         Ok(()) => Ok(()),
@@ -219,7 +217,7 @@ fn give_name<D: Disk>(disk: &mut D, own: &str, name: &str) -> Result<(), ShelfFa
 fn rename_to_free<D: Disk>(disk: &mut D, own: &str, name: &str) -> Result<(), ShelfFault>
     ensures fault { IfErr result IsPutFault }
     ensures asked { HasAsked (D.asked disk.old) (D.asked disk.new)
-        (λ steps. IsNaming own.now name.now (refusal result) (Failed (Link own.now name.now) ∷ steps)) }
+        (λ steps. IsNaming own.now name.now (fault_of result) (Failed (Link own.now name.now) ∷ steps)) }
 {
     match find_free(disk, name) {
         Ok(()) => match disk.rename(own, name) {
@@ -243,7 +241,7 @@ fn let_go<D: Disk>(disk: &mut D, name: &str, file: &D::File)
 // something has it, and `Write` where nothing can have it or that can't be found out.
 fn find_free<D: Disk>(disk: &mut D, name: &str) -> Result<(), ShelfFault>
     ensures fault { IfErr result IsPutFault }
-    ensures asked { HasAsked (D.asked disk.old) (D.asked disk.new) (IsSearch name.now (refusal result)) }
+    ensures asked { HasAsked (D.asked disk.old) (D.asked disk.new) (IsSearch name.now (fault_of result)) }
 {
     if names_no_file(name) {
         return Err(ShelfFault::Write);

@@ -1,6 +1,8 @@
 ghost use Rattle.std.specs.Prelude.{◌≡◌, ◌↔◌, IsSome, IfSome};
 ghost use Rattle.reading_core.specs.Addresses.{IsRange};
 
+use tape_blocks::TOP;
+
 /// A first and a last address of words, both of them meant: even, below 160000 (octal), and in this order.
 #[derive(Clone, Copy, Debug, PartialEq, Eq)]
 pub struct AddressRange {
@@ -16,7 +18,7 @@ impl AddressRange {
         ensures made { IsSome result ↔ IsRange from to }
         ensures value { IfSome result (λ range. (range.from ≡ from) × (range.to ≡ to)) }
     {
-        if from % 2 == 0 && to % 2 == 0 && to < 0o160000 && from <= to {
+        if from % 2 == 0 && to % 2 == 0 && to < TOP as u16 && from <= to {
             Some(AddressRange { from, to })
         } else {
             None
@@ -24,7 +26,7 @@ impl AddressRange {
     }
 
     /// The first address.
-    pub fn from(self) -> u16
+    pub(crate) fn from(self) -> u16
         ensures value { result ≡ self.from }
         ensures in_order { IsRange self.from self.to }
     {
@@ -32,7 +34,7 @@ impl AddressRange {
     }
 
     /// The last address.
-    pub fn to(self) -> u16
+    pub(crate) fn to(self) -> u16
         ensures value { result ≡ self.to }
         ensures in_order { IsRange self.from self.to }
     {

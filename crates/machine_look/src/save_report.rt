@@ -2,7 +2,7 @@
 ghost use Rattle.std.specs.Prelude.{◌≡◌, ◌+◌, ◌≤◌, ◌++◌, [], codes};
 ghost use Rattle.arrayvec.specs.ArrayVec.{array_vec_len};
 ghost use Rattle.byte_io.specs.Text.{line};
-ghost use Rattle.machine_look.specs.SaveReport.{counts_text, end_name, save_end, save_report};
+ghost use Rattle.machine_look.specs.SaveReport.{save_counts_text, save_end_name, save_end, save_report};
 
 use crate::save_end::SaveEnd;
 use crate::verify_report::{LastLines, push_life, push_no_word};
@@ -35,7 +35,7 @@ pub(crate) fn save_end(stop: Stop) -> SaveEnd
 
 fn push_counts(text: &mut LastLines, core: &ReadingCore)
     requires { text.old.items ≡ [] }
-    ensures items { text.new.items ≡ line (counts_text core.now) }
+    ensures items { text.new.items ≡ line (save_counts_text core.now) }
     ensures length { array_vec_len text.new ≤ 103 }
 {
     push_life(text, core);
@@ -48,7 +48,7 @@ fn push_counts(text: &mut LastLines, core: &ReadingCore)
 
 fn push_end(text: &mut LastLines, end: SaveEnd)
     requires { array_vec_len text.old ≤ 103 }
-    ensures { text.new.items ≡ text.old.items ++ line (codes "end " ++ end_name end) }
+    ensures { text.new.items ≡ text.old.items ++ line (codes "end " ++ save_end_name end) }
 {
     push_bytes(text, b"end ");
     push_end_name(text, end);
@@ -57,7 +57,7 @@ fn push_end(text: &mut LastLines, end: SaveEnd)
 
 fn push_end_name(text: &mut LastLines, end: SaveEnd)
     requires { array_vec_len text.old ≤ 107 }
-    ensures items { text.new.items ≡ text.old.items ++ end_name end }
+    ensures items { text.new.items ≡ text.old.items ++ save_end_name end }
     ensures length { array_vec_len text.new ≤ array_vec_len text.old + 13 }
 {
     match end {

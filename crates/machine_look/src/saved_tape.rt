@@ -1,7 +1,7 @@
 //! The tape of what was read.
 ghost use Rattle.std.specs.Prelude.{◌≡◌, ℕ, ◌+◌, ◌*◌, ◌%◌, ◌<◌, ◌≤◌, List, length, IfOk};
 ghost use Rattle.std.specs.List.{flat_map};
-ghost use Rattle.tape_blocks.specs.Block.{block_at, low_first};
+ghost use Rattle.tape_blocks.specs.Block.{block_at, low_first, top};
 ghost use Rattle.machine_look.specs.SavedTape.{HoldsWhatWasRead, StandFrom, saved_block, saved_tape};
 
 use std::alloc::{AllocError, Global};
@@ -12,9 +12,14 @@ const BLOCK_WORDS: usize = 256;
 
 /// The tape of the numbers that stand in memory from an address on, in blocks of 512 bytes, of which the
 /// last may be shorter, and with this start address. The error is want of memory.
-pub fn tape_of(alloc: Global, from: u16, numbers: &[u16], start: u16) -> Result<Tape, AllocError>
+pub(crate) fn tape_of(
+    alloc: Global,
+    from: u16,
+    numbers: &[u16],
+    start: u16,
+) -> Result<Tape, AllocError>
     requires even { from % 2 ≡ 0 }
-    requires below { from + 2 * length numbers.now ≤ 0o160000 }
+    requires below { from + 2 * length numbers.now ≤ top }
     ensures made { IfOk result (λ tape. tape ≡ saved_tape from numbers.now start) }
 
     // So a load of it gives memory back what was read, and changes nothing else.
@@ -36,7 +41,7 @@ fn saved_block(
     numbers: &[u16],
     number: usize,
 ) -> Result<Block, AllocError>
-    requires below { from + 2 * length numbers.now ≤ 0o160000 }
+    requires below { from + 2 * length numbers.now ≤ top }
     requires within { 256 * number < length numbers.now }
     ensures { IfOk result (λ block. block ≡ saved_block from numbers.now number) }
 {

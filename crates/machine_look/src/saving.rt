@@ -1,10 +1,11 @@
 //! The command `save`: what memory holds, as a tape.
 ghost use Rattle.std.specs.Prelude.{◌≡◌, ◌*◌, ◌+◌, ◌%◌, ◌<◌, ◌≤◌, length, IfErr, IfOk, OnOk};
+ghost use Rattle.tape_blocks.specs.Block.{top};
 ghost use Rattle.load_devices.specs.Told.{Gains};
 ghost use Rattle.machine_look.specs.LookFault.{IsKeepFault, IsSaveFault};
 ghost use Rattle.machine_look.specs.Save.{IsSavedAndReported, puts, save_told};
 ghost use Rattle.machine_look.specs.SavedTape.{saved_tape};
-ghost use Rattle.machine_look.specs.SaveDisk.{disk_asked_before, IsKeptOn, IsNotKeptOn, IsSavedOn, text_of};
+ghost use Rattle.machine_look.specs.SaveDisk.{save_disk_asked_before, IsKeptOn, IsNotKeptOn, IsSavedOn, text_of};
 ghost use Rattle.machine_look.specs.ShelfDisk.{ShelfAsked, ShelfAskedIn};
 
 use crate::look_fault::LookFault;
@@ -54,7 +55,7 @@ pub fn save<S: Shelf, R: Reach, W: Write, O: Onlooker>(
     onlooker: &O,
 ) -> Result<SaveEnd, LookFault>
     ensures disk { OnOk result (ShelfAsked (S.disk shelf.old) (S.disk shelf.new) (IsSavedOn options)) }
-    ensures disk_in_vain { IfErr result (λ fault. ShelfAsked (S.disk shelf.old) (S.disk shelf.new) (disk_asked_before options fault)) }
+    ensures disk_in_vain { IfErr result (λ fault. ShelfAsked (S.disk shelf.old) (S.disk shelf.new) (save_disk_asked_before options fault)) }
     ensures reported { IfOk result (IsSavedAndReported options
         (save_told S.steps R.asked R.call W.contents shelf.old console.old out.old)
         (save_told S.steps R.asked R.call W.contents shelf.new console.new out.new)) }
@@ -81,7 +82,7 @@ fn keep<S: Shelf>(
     shelf: &mut S,
 ) -> Result<(), LookFault>
     requires even { from % 2 ≡ 0 }
-    requires below { from + 2 * length numbers.now ≤ 0o160000 }
+    requires below { from + 2 * length numbers.now ≤ top }
     ensures disk { OnOk result (ShelfAskedIn (S.is_opened_as shelf.old) (S.disk shelf.old) (S.disk shelf.new) (IsKeptOn from numbers.now start)) }
     ensures disk_in_vain { IfErr result (λ fault.
         ShelfAskedIn (S.is_opened_as shelf.old) (S.disk shelf.old) (S.disk shelf.new) (IsNotKeptOn (text_of from numbers.now start) fault)) }

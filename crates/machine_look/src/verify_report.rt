@@ -6,7 +6,7 @@ ghost use Rattle.arrayvec.specs.ArrayVec.{array_vec_len};
 ghost use Rattle.octal.specs.Octal.{octal_text};
 ghost use Rattle.tape_image.specs.Memory.{most_words};
 ghost use Rattle.byte_io.specs.Text.{line};
-ghost use Rattle.machine_look.specs.VerifyReport.{counts_text, difference_text, end_name, life_text, report_text, verify_end};
+ghost use Rattle.machine_look.specs.VerifyReport.{verify_counts_text, difference_text, verify_end_name, life_text, report_text, verify_end};
 
 use crate::difference::Difference;
 use crate::verify_end::VerifyEnd;
@@ -93,7 +93,7 @@ fn difference_line(difference: Difference) -> ArrayVec<u8, LINE_ROOM>
 
 // The counts of the host's life, and how it ended.
 fn last_lines(core: &ReadingCore, differ: usize, end: VerifyEnd) -> LastLines
-    ensures items { result.items ≡ line (counts_text (length core.now.addresses) core.now differ) ++ line (codes "end " ++ end_name end) }
+    ensures items { result.items ≡ line (verify_counts_text (length core.now.addresses) core.now differ) ++ line (codes "end " ++ verify_end_name end) }
     ensures length { array_vec_len result ≤ 151 }
 {
     let mut text = LastLines::new();
@@ -104,7 +104,7 @@ fn last_lines(core: &ReadingCore, differ: usize, end: VerifyEnd) -> LastLines
 
 fn push_counts(text: &mut LastLines, core: &ReadingCore, differ: usize)
     requires { text.old.items ≡ [] }
-    ensures items { text.new.items ≡ line (counts_text (length core.now.addresses) core.now differ) }
+    ensures items { text.new.items ≡ line (verify_counts_text (length core.now.addresses) core.now differ) }
     ensures length { array_vec_len text.new ≤ 133 }
 {
     push_life(text, core);
@@ -131,7 +131,7 @@ pub(crate) fn push_life(text: &mut LastLines, core: &ReadingCore)
 
 fn push_end(text: &mut LastLines, end: VerifyEnd)
     requires { array_vec_len text.old ≤ 133 }
-    ensures items { text.new.items ≡ text.old.items ++ line (codes "end " ++ end_name end) }
+    ensures items { text.new.items ≡ text.old.items ++ line (codes "end " ++ verify_end_name end) }
     ensures length { array_vec_len text.new ≤ 151 }
 {
     push_bytes(text, b"end ");
@@ -141,7 +141,7 @@ fn push_end(text: &mut LastLines, end: VerifyEnd)
 
 fn push_end_name(text: &mut LastLines, end: VerifyEnd)
     requires { array_vec_len text.old ≤ 137 }
-    ensures items { text.new.items ≡ text.old.items ++ end_name end }
+    ensures items { text.new.items ≡ text.old.items ++ verify_end_name end }
     ensures length { array_vec_len text.new ≤ array_vec_len text.old + 13 }
 {
     match end {

@@ -1,6 +1,6 @@
 //! The command `verify`: whether memory holds what a plan says.
 ghost use Rattle.std.specs.Prelude.{◌≡◌, IfErr, IfOk};
-ghost use Rattle.machine_look.specs.Look.{look_told};
+ghost use Rattle.console_reach.specs.Console.{console_told};
 ghost use Rattle.machine_look.specs.LookFault.{IsVerifyFault};
 ghost use Rattle.machine_look.specs.Verify.{IsReported};
 
@@ -33,12 +33,12 @@ pub fn verify<R: Reach, W: Write, O: Onlooker>(
     onlooker: &O,
 ) -> Result<VerifyEnd, LookFault>
     ensures reported { IfOk result (IsReported plan.now patience
-        (look_told R.asked R.call W.contents console.old out.old)
-        (look_told R.asked R.call W.contents console.new out.new)) }
+        (console_told R.asked R.call W.contents console.old out.old)
+        (console_told R.asked R.call W.contents console.new out.new)) }
     ensures call { R.call console.new ≡ R.call console.old }
     ensures fault { IfErr result (IsVerifyFault plan.now patience
-        (look_told R.asked R.call W.contents console.old out.old)
-        (look_told R.asked R.call W.contents console.new out.new)) }
+        (console_told R.asked R.call W.contents console.old out.old)
+        (console_told R.asked R.call W.contents console.new out.new)) }
 {
     let core = ReadingCore::of_plan(alloc, plan, patience)?;
     let words = plan.words();

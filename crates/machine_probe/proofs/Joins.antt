@@ -1,14 +1,10 @@
 -- How the runs of a probe come to stand one behind another.
 use Rattle.std.proofs.Common.{◌≡◌, ℕ, ◌+◌, ◌-◌, ◌*◌, ◌/◌, true, false, Bool, List, [], ◌∷◌, ◌++◌, Option, Some, None, inl, inr, refl, arith, ap, sym, subst, ◌∙◌, append_assoc, append-nil}
 use Rattle.load_devices.specs.declared.item.Item.{Item}
-use Rattle.load_devices.specs.Told.{Gains, Keeps}
+use Rattle.load_devices.specs.Told.{Gains, SaysNothing}
 use Rattle.load_engine.proofs.Sessions.{gains_join, gains_kept, gains_none}
-use Rattle.memory_end.specs.declared.search.Search.{Search}
-use Rattle.memory_end.specs.Ending.{FindsEnd}
-use Rattle.memory_end.specs.Passes.{Searches, three_passes}
 use Rattle.reading_law.specs.Rows.{in_a_row}
 use Rattle.probe_report.specs.declared.findings.Attempt.{Attempt}
-use Rattle.probe_report.specs.declared.findings.Extent.{Extent}
 use Rattle.probe_report.specs.declared.findings.Findings.{Findings}
 use Rattle.probe_report.specs.declared.findings.Sighting.{Sighting}
 use Rattle.probe_report.specs.declared.findings.Sighting.TheVariants.{Number, NoWord, GaveUp, TurnsOver, LineFailed}
@@ -26,7 +22,7 @@ use Rattle.trial_engine.specs.Attempted.{Attempted, TellsEnd as TellsEndOfTrial}
 use Rattle.trial_law.specs.Again.{looker}
 use Rattle.machine_probe.specs.declared.probe_options.ProbeOptions.{ProbeOptions}
 use Rattle.machine_probe.specs.declared.putting_back.Deposit.{Deposit}
-use Rattle.machine_probe.specs.Came.{attempt_of, extent_of, first_of, sighting_of}
+use Rattle.machine_probe.specs.Came.{attempt_of, first_of, sighting_of}
 use Rattle.machine_probe.specs.Follow.{IsBrokenOff, IsProbe, Made, forgets, goes_on, is_number, number_in, stores}
 use Rattle.machine_probe.specs.PuttingBack.{IsPutBack, PutsBack}
 use Rattle.machine_probe.specs.Rooms.{HasDeposit}
@@ -103,15 +99,6 @@ pub puts_is : (options : ProbeOptions) (old turns : ℕ) (is_back : Bool) (line 
 puts_is options old turns is_back line line' limit s =
     one (PutsBack options.address old options.patience (turns_of options.patience) is_back) line line' s.said
     (subst (λ (n : ℕ). PutsBack options.address old options.patience n is_back s.said) limit s.puts) s.on_line
-
--- what the search answers is one
-pub search_is : (options : ProbeOptions) (search : Search) (turns : ℕ) (extent : Extent) (line line' : Option (List Item)) → turns ≡ turns_of options.patience → FindsEnd turns options.patience search line line' →
-    extent ≡ extent_of search → OnLine (IsSearch options extent) line line'
-search_is options search turns extent line line' limit s came = record {
-  parts = s.parts;
-  are = record { search = search; passes = subst (λ (n : ℕ). Searches three_passes n options.patience 0 search s.parts) limit s.passes; extent_is = came; found = s.believed };
-  on_line = s.on_line;
-}
 
 -- ---- runs that are made, or not
 
@@ -199,7 +186,7 @@ pub unsearched : (options : ProbeOptions) (f : Findings) (put_back : Option Bool
     OnLine (Made (is_number f.first) (λ attempt. One (IsTrialOf options (number_in f.first) attempt)) f.trial) l1 l2 →
     OnLine (Made (goes_on f.trial) (λ sighting. One (LooksAt options sighting)) f.second) l2 l3 →
     OnLine (Made (stores (verdict_of f)) (λ is_back. One (PutsBack options.address (number_in f.first) options.patience (turns_of options.patience) is_back)) put_back) l3 l4 →
-    verdict ≡ verdict_of f → forgets verdict ≡ true → Keeps l4 l5 → OnLine (IsBrokenOff options) l0 l5
+    verdict ≡ verdict_of f → forgets verdict ≡ true → SaysNothing l4 l5 → OnLine (IsBrokenOff options) l0 l5
 unsearched options f put_back verdict l0 l1 l2 l3 l4 l5 a b c d judged is kept =
     let same = ap forgets (sym judged) ∙ is in
     let rest = gains_join l3 l4 l5 [] [] (nothing_made _ _ put_back l3 l4 (forgets_not_stores (verdict_of f) same) d) (gains_kept l4 l5 kept) in

@@ -2,7 +2,7 @@
 use Rattle.std.proofs.Common.{◌≡◌, List, [], ◌∷◌, ◌++◌, Option, Some, None, ap, sym, ◌∙◌}
 use Rattle.tape_blocks.specs.Told.{IsAsTold}
 use Rattle.load_devices.specs.declared.item.Item.{Item}
-use Rattle.load_devices.specs.Told.{Gains, Keeps}
+use Rattle.load_devices.specs.Told.{Gains, SaysNothing}
 use Rattle.probe_report.specs.Notes.{Noted, noted}
 use Rattle.machine_probe.specs.Noted.{AreNotesSince}
 
@@ -10,7 +10,7 @@ pub noted_at_first : (told : Option (List Item)) → IsAsTold told [] → AreNot
 noted_at_first None fresh = tt
 noted_at_first (Some items) fresh = ap noted fresh
 
-pub still_noted : (first told told' : Option (List Item)) (notes : Noted) → Keeps told told' → AreNotesSince first told notes → AreNotesSince first told' notes
+pub still_noted : (first told told' : Option (List Item)) (notes : Noted) → SaysNothing told told' → AreNotesSince first told notes → AreNotesSince first told' notes
 still_noted None told told' notes keeps are = tt
 still_noted (Some first) None told' notes keeps are = absurd are
 still_noted (Some first) (Some items) None notes keeps are = absurd keeps

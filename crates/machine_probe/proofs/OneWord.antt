@@ -8,10 +8,10 @@ use Rattle.tape_blocks.specs.Tape.{TapeValue}
 use Rattle.tape_blocks.specs.declared.fault.Memory.{Memory}
 use Rattle.tape_image.specs.Image.{Image, IsImageOf, byte_in}
 use Rattle.tape_image.specs.Memory.{half}
-use Rattle.tape_image.specs.Word.{IsWord, covers}
+use Rattle.tape_image.specs.Word.{IsWord, covers, whole_word}
 use Rattle.tape_image.specs.Plan.{AreWordsOf, AreTheWordsOf, PlanValue, given_byte, plan_of, program_start}
 use Rattle.reading_core.specs.Addresses.{IsAddress}
-use Rattle.machine_probe.specs.PuttingBack.{IsPlanOfWord, old_word}
+use Rattle.machine_probe.specs.PuttingBack.{IsPlanOfWord}
 
 -- ---- its bytes
 
@@ -25,7 +25,7 @@ covers_both : (b : ℕ) → covers b 65535 ≡ true
 covers_both b = elim (b % 2 == 0) as (λ t. (cond t (65535 % 256) (65535 / 256) == 255) ≡ true) [ true ↦ refl | false ↦ refl ]
 
 -- what the word gives for a byte
-given : (address old b : ℕ) (t : Bool) → eqb (address / 2) (b / 2) ≡ t → given_byte (old_word address old ∷ []) b ≡ cond t (Some (half b old)) None
+given : (address old b : ℕ) (t : Bool) → eqb (address / 2) (b / 2) ≡ t → given_byte (whole_word address old ∷ []) b ≡ cond t (Some (half b old)) None
 given address old b t e =
     ap (λ s. cond {A = Option ℕ} (s && covers b 65535) (Some (half b old)) None) e
     ∙ ap (λ c. cond {A = Option ℕ} (t && c) (Some (half b old)) None) (covers_both b)
@@ -37,7 +37,7 @@ has address old b d is =
     ap (λ t. cond {A = Option ℕ} t (slice_get (two_bytes old) (b - address)) None) (le-leb address b (omega arith))
     ∙ (let place : b - address ≡ d = omega arith in ap (slice_get (two_bytes old)) place)
 
-behind : (address old b d : ℕ) → address % 2 ≡ 0 → b ≡ address + d → given_byte (old_word address old ∷ []) b ≡ byte_in (block_at address (two_bytes old)) b
+behind : (address old b d : ℕ) → address % 2 ≡ 0 → b ≡ address + d → given_byte (whole_word address old ∷ []) b ≡ byte_in (block_at address (two_bytes old)) b
 behind address old b zero even is =
     given address old b true (eq-eqb (address / 2) (b / 2) (omega arith))
     ∙ ap (λ t. Some (cond t (old % 256) (old / 256))) (eq-eqb (b % 2) 0 (omega arith))
@@ -50,31 +50,31 @@ behind address old b (suc (suc d)) even is =
     given address old b false (ne_eqb (address / 2) (b / 2) (λ e. omega arith))
     ∙ sym (has address old b (suc (suc d)) is)
 
-before : (address old b : ℕ) → address % 2 ≡ 0 → b < address → given_byte (old_word address old ∷ []) b ≡ byte_in (block_at address (two_bytes old)) b
+before : (address old b : ℕ) → address % 2 ≡ 0 → b < address → given_byte (whole_word address old ∷ []) b ≡ byte_in (block_at address (two_bytes old)) b
 before address old b even below =
     given address old b false (ne_eqb (address / 2) (b / 2) (λ e. omega arith))
     ∙ sym (ap (λ t. cond {A = Option ℕ} t (slice_get (two_bytes old) (b - address)) None) (lt-leb address b below))
 
-same_byte : (address old b : ℕ) → address % 2 ≡ 0 → given_byte (old_word address old ∷ []) b ≡ byte_in (block_at address (two_bytes old)) b
+same_byte : (address old b : ℕ) → address % 2 ≡ 0 → given_byte (whole_word address old ∷ []) b ≡ byte_in (block_at address (two_bytes old)) b
 same_byte address old b even =
-    elim (leb address b) as (λ t. leb address b ≡ t → given_byte (old_word address old ∷ []) b ≡ byte_in (block_at address (two_bytes old)) b) [
+    elim (leb address b) as (λ t. leb address b ≡ t → given_byte (whole_word address old ∷ []) b ≡ byte_in (block_at address (two_bytes old)) b) [
       | true ↦ λ e. let from = leb-true address b e in behind address old b (b - address) even (omega arith)
       | false ↦ λ e. before address old b even (leb-false address b e)
     ] refl
 
 -- ---- its words
 
-whole_word : (address old : ℕ) → IsAddress address → old < 65536 → IsWord (old_word address old)
-whole_word address old is fits = record {
+is_whole_word : (address old : ℕ) → IsAddress address → old < 65536 → IsWord (whole_word address old)
+is_whole_word address old is fits = record {
   even = is.even;
   below = is.below;
   inside = record { one_mask = inr (inr refl); low = λ e. absurd (cc); high = λ e. absurd (cc) };
   fits = fits;
 }
 
-one_word : (address old : ℕ) (image : Image) → IsAddress address → old < 65536 → IsImageOf (block_at address (two_bytes old) ∷ []) image → AreWordsOf image (old_word address old ∷ [])
+one_word : (address old : ℕ) (image : Image) → IsAddress address → old < 65536 → IsImageOf (block_at address (two_bytes old) ∷ []) image → AreWordsOf image (whole_word address old ∷ [])
 one_word address old image is fits of = record {
-  each = All-cons IsWord (old_word address old) [] (whole_word address old is fits) (All-nil IsWord);
+  each = All-cons IsWord (whole_word address old) [] (is_whole_word address old is fits) (All-nil IsWord);
   rising = λ i j d less below. absurd (omega arith);
   bytes = λ b. same_byte address old b is.even ∙ sym (of b);
 }
@@ -82,7 +82,7 @@ one_word address old image is fits of = record {
 plan_of_word : (address old : ℕ) (plan : PlanValue) → IsAddress address → old < 65536 → IsImageOf (block_at address (two_bytes old) ∷ []) plan.image → AreTheWordsOf plan.image plan.words →
     plan.start ≡ None → IsPlanOfWord address old plan
 plan_of_word address old plan is fits image words start = record {
-  words = sym ((words (old_word address old ∷ [])).0 (one_word address old plan.image is fits image));
+  words = sym ((words (whole_word address old ∷ [])).0 (one_word address old plan.image is fits image));
   no_start = start;
 }
 

@@ -1,6 +1,6 @@
 -- What a load of one word says.
 use Rattle.std.proofs.Common.{◌≡◌, ℕ, ◌+◌, ◌<◌, Bool, true, false, List, [], ◌∷◌, length, Option, Some, refl, arith, ap, sym, subst, ◌∙◌}
-use Rattle.tape_image.specs.Word.{Stands}
+use Rattle.tape_image.specs.Word.{Stands, whole_word}
 use Rattle.tape_image.specs.Plan.{PlanValue}
 use Rattle.tape_image.proofs.Halves.{halves_make_word, merged-Stands}
 use Rattle.odt_machine.specs.Machine.{Machine, IsMachine, is_word, word_at}
@@ -21,7 +21,7 @@ use Rattle.load_engine.specs.declared.stop.Stop.{Stop}
 use Rattle.load_engine.specs.declared.stop.Stop.TheVariants.{Ended, LineFailed, KeepFailed, TurnsOver}
 use Rattle.load_engine.specs.Session.{Session, TellsEnd}
 use Rattle.machine_probe.specs.declared.putting_back.Deposit.{Deposit}
-use Rattle.machine_probe.specs.PuttingBack.{HoldsAgain, IsDeposit, IsPlanOfWord, IsPutBack, is_loaded, old_word}
+use Rattle.machine_probe.specs.PuttingBack.{HoldsAgain, IsDeposit, IsPlanOfWord, IsPutBack, is_loaded}
 
 -- ---- the end
 
@@ -45,13 +45,13 @@ loaded_at (Start place) b is fits = absurd (cc is)
 loaded_at Go b is fits = absurd (cc is)
 
 -- a whole word that stands is the one that memory holds
-stands_whole : (address old now : ℕ) → Stands (old_word address old) now → now ≡ old
-stands_whole address old now stands = sym (merged-Stands (old_word address old) now stands) ∙ halves_make_word old
+stands_whole : (address old now : ℕ) → Stands (whole_word address old) now → now ≡ old
+stands_whole address old now stands = sym (merged-Stands (whole_word address old) now stands) ∙ halves_make_word old
 
 -- ---- over an honest line
 
 -- a host that verified the one word of its plan
-holds : (before : List ℕ) (address old : ℕ) (last : Core) (now : List ℕ) (keys : List ℕ) (lost : ℕ) → last.plan.words ≡ old_word address old ∷ [] → last.verified ≡ length last.plan.words → IsTrusted before last now keys lost →
+holds : (before : List ℕ) (address old : ℕ) (last : Core) (now : List ℕ) (keys : List ℕ) (lost : ℕ) → last.plan.words ≡ whole_word address old ∷ [] → last.verified ≡ length last.plan.words → IsTrusted before last now keys lost →
     (is_word now address ≡ true) × (word_at now address ≡ old)
 holds before address old last now keys lost words all trusted =
     let one : 0 < last.verified = subst (λ n. 0 < n) (sym (all ∙ ap length words)) (omega arith) in (

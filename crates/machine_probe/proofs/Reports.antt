@@ -17,7 +17,8 @@ use Rattle.tape_blocks.specs.Told.{IsAsTold}
 use Rattle.machine_probe.specs.declared.probe_options.ProbeOptions.{ProbeOptions}
 use Rattle.machine_probe.specs.Follow.{IsBrokenOff, IsProbe}
 use Rattle.machine_probe.specs.Noted.{AreNotesSince}
-use Rattle.machine_probe.specs.Probe.{IsCutShort, IsReport, IsReportFrom, IsReportOver, IsReported, IsReportedOver, ProbeTold}
+use Rattle.console_reach.specs.Console.{ConsoleTold}
+use Rattle.machine_probe.specs.Probe.{IsCutShort, IsReport, IsReportFrom, IsReportOver, IsReported, IsReportedOver}
 use Rattle.machine_probe.specs.ProbeFault.{IsBrokenOffFrom, IsProbeFault, IsUnreported}
 use Rattle.machine_probe.specs.declared.probe_fault.ProbeFault.{ProbeFault}
 use Rattle.machine_probe.specs.declared.probe_fault.ProbeFault.TheVariants.{Connect, WriteOutput, Memory}
@@ -65,7 +66,7 @@ pub over_of : {L : Type 0} (told : L → Option (List Item)) (options : ProbeOpt
 over_of {L} told options call call' asked asked' out out' text written end asks (line, line', report) is appended =
     (line, line', record { asked = asks; text = text; report = report; reported = subst (Appends out out') is appended })
 
-pub some_of : {L : Type 0} (told : L → Option (List Item)) (options : ProbeOptions) (before after : ProbeTold) (end : ProbeEnd) → IsReportedOver told options before after end → IsReported options before after end
+pub some_of : {L : Type 0} (told : L → Option (List Item)) (options : ProbeOptions) (before after : ConsoleTold) (end : ProbeEnd) → IsReportedOver told options before after end → IsReported options before after end
 some_of {L} told options before after end (line, line', reported) = (told line, told line', reported)
 
 pub cut_of : {L : Type 0} (told : L → Option (List Item)) (options : ProbeOptions) (call call' : Call) (asked asked' : Option (List LineRequest)) (out out' : Option (List ℕ)) (text written : List ℕ) (end : ProbeEnd) →

@@ -4,7 +4,8 @@ use Rattle.std.specs.Io.KnownBytes.{Appends}
 use Rattle.byte_io.specs.Output.{WritesAllBut}
 use Rattle.load_devices.specs.declared.item.Item.{Item}
 use Rattle.load_devices.specs.Told.{Gains}
-use Rattle.stream_line.specs.Dialling.{Call, LineRequest, asked_once}
+use Rattle.stream_line.specs.Dialling.{asked_once}
+use Rattle.console_reach.specs.Console.{ConsoleTold}
 use Rattle.reading_law.specs.Rows.{in_a_row}
 use Rattle.probe_report.specs.declared.findings.Findings.{Findings}
 use Rattle.probe_report.specs.declared.pace.Pace.{Pace}
@@ -17,15 +18,6 @@ use Rattle.machine_probe.specs.declared.probe_options.ProbeOptions.{ProbeOptions
 use Rattle.machine_probe.specs.Belief.{IsBelievable, IsBelievableOver}
 use Rattle.machine_probe.specs.Follow.{IsProbe}
 use Rattle.machine_probe.specs.Noted.{AreNotesSince}
-
--- what a probe's console and output tell: what was asked for a line, where that one leads, and what this one holds
-pub record ProbeTold : Type 0 where
-  pub asked : Option (List LineRequest)
-  pub call : Call
-  pub out : Option (List ℕ)
-
-abbrev pub probe_told : {R W : Type 0} → (R → Option (List LineRequest)) → (R → Call) → (W → Option (List ℕ)) → R → W → ProbeTold
-probe_told asked_of call_of contents console out = record { asked = asked_of console; call = call_of console; out = contents out }
 
 -- the runs of a probe were made over a line on which nothing was said before: these are their findings, and what was noted
 pub record IsProbed (options : ProbeOptions) (line line' : Option (List Item)) (f : Findings) (notes : Noted) : Type 0 where
@@ -49,14 +41,14 @@ pub record IsReport (options : ProbeOptions) (line line' : Option (List Item)) (
   pub end_is : end ≡ probe_end f notes.prompt
 
 -- the console was asked for once, and the report was written
-pub record IsReportedOn (options : ProbeOptions) (line line' : Option (List Item)) (before after : ProbeTold) (end : ProbeEnd) : Type 0 where
+pub record IsReportedOn (options : ProbeOptions) (line line' : Option (List Item)) (before after : ConsoleTold) (end : ProbeEnd) : Type 0 where
   pub asked : Gains before.asked after.asked (asked_once before.call)
   pub text : List ℕ
   pub report : IsReport options line line' text end
   pub reported : Appends before.out after.out text
 
 -- the same, with a report that may be cut short
-pub record IsCutShortOn (options : ProbeOptions) (line line' : Option (List Item)) (before after : ProbeTold) : Type 0 where
+pub record IsCutShortOn (options : ProbeOptions) (line line' : Option (List Item)) (before after : ConsoleTold) : Type 0 where
   pub asked : Gains before.asked after.asked (asked_once before.call)
   pub text : List ℕ
   pub end : ProbeEnd
@@ -65,14 +57,15 @@ pub record IsCutShortOn (options : ProbeOptions) (line line' : Option (List Item
   pub reported : WritesAllBut before.out after.out text missing
 
 -- over some line
-abbrev pub IsReported : ProbeOptions → ProbeTold → ProbeTold → ProbeEnd → Type 0
+abbrev pub IsReported : ProbeOptions → ConsoleTold → ConsoleTold → ProbeEnd → Type 0
 IsReported options before after end = (line : Option (List Item)) × (line' : Option (List Item)) × IsReportedOn options line line' before after end
 
-abbrev pub IsCutShort : ProbeOptions → ProbeTold → ProbeTold → Type 0
+-- over some line, with a report that may be cut short
+abbrev pub IsCutShort : ProbeOptions → ConsoleTold → ConsoleTold → Type 0
 IsCutShort options before after = (line : Option (List Item)) × (line' : Option (List Item)) × IsCutShortOn options line line' before after
 
 -- over a line of this type, which tells what was said on it
-abbrev pub IsReportedOver : {L : Type 0} → (L → Option (List Item)) → ProbeOptions → ProbeTold → ProbeTold → ProbeEnd → Type 0
+abbrev pub IsReportedOver : {L : Type 0} → (L → Option (List Item)) → ProbeOptions → ConsoleTold → ConsoleTold → ProbeEnd → Type 0
 IsReportedOver {L} told options before after end = (line : L) × (line' : L) × IsReportedOn options (told line) (told line') before after end
 
 -- the same of the report alone

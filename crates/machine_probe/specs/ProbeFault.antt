@@ -9,7 +9,8 @@ use Rattle.machine_probe.specs.declared.probe_fault.ProbeFault.{ProbeFault}
 use Rattle.machine_probe.specs.declared.probe_fault.ProbeFault.TheVariants.{Connect, WriteOutput, Memory}
 use Rattle.machine_probe.specs.declared.probe_options.ProbeOptions.{ProbeOptions}
 use Rattle.machine_probe.specs.Follow.{IsBrokenOff}
-use Rattle.machine_probe.specs.Probe.{IsCutShort, ProbeTold}
+use Rattle.console_reach.specs.Console.{ConsoleTold}
+use Rattle.machine_probe.specs.Probe.{IsCutShort}
 use Rattle.machine_probe.specs.Runs.{OnLine}
 
 -- nothing was asked, or for the console, once
@@ -17,7 +18,7 @@ abbrev pub AsksAtMostOnce : Call → Option (List LineRequest) → Option (List 
 AsksAtMostOnce call asked asked' = (asked' ≡ asked) ⊎ Gains asked asked' (asked_once call)
 
 -- a console that can't be reached and want of memory before anything is written, a report that can't be written whole last
-abbrev pub IsProbeFault : ProbeOptions → ProbeTold → ProbeTold → ProbeFault → Type 0
+abbrev pub IsProbeFault : ProbeOptions → ConsoleTold → ConsoleTold → ProbeFault → Type 0
 IsProbeFault options before after Connect = IsAskedInVain before.call before.asked after.asked × Keeps before.out after.out
 IsProbeFault options before after WriteOutput = IsCutShort options before after
 IsProbeFault options before after Memory = AsksAtMostOnce before.call before.asked after.asked × Keeps before.out after.out

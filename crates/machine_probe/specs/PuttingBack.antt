@@ -1,6 +1,6 @@
 -- Putting an old number back into a word.
 use Rattle.std.specs.Prelude.{◌≡◌, ℕ, Bool, true, false, List, [], ◌∷◌, Option, Some, None}
-use Rattle.tape_image.specs.Word.{WordValue}
+use Rattle.tape_image.specs.Word.{whole_word}
 use Rattle.tape_image.specs.Plan.{PlanValue}
 use Rattle.odt_machine.specs.Machine.{Machine, IsMachine, is_word, word_at}
 use Rattle.odt_machine.specs.Laws.{is_running}
@@ -16,13 +16,9 @@ use Rattle.load_engine.specs.declared.stop.Stop.TheVariants.{Ended}
 use Rattle.load_engine.specs.Session.{Session, TellsEnd}
 use Rattle.machine_probe.specs.declared.putting_back.Deposit.{Deposit}
 
--- the word at an address, both bytes of it, with the old number
-abbrev pub old_word : ℕ → ℕ → WordValue
-old_word address old = record { address = address; mask = 0o177777; value = old }
-
 -- a plan that has this word alone, and starts nothing
 pub record IsPlanOfWord (address old : ℕ) (plan : PlanValue) : Type 0 where
-  pub words : plan.words ≡ old_word address old ∷ []
+  pub words : plan.words ≡ whole_word address old ∷ []
   pub no_start : plan.start ≡ None
 
 -- a host at the beginning of a load of this word, and a keeper that keeps nothing yet

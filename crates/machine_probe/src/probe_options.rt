@@ -12,7 +12,7 @@ pub struct ProbeOptions {
 }
 
 impl ProbeOptions {
-    // The most turns of a run: so few that a line which never falls silent ends it within minutes.
+    /// The most turns of a run: so few that a line which never falls silent ends it within minutes.
     pub(crate) fn turns(self) -> u64
         ensures { result ≡ turns_of self.patience }
     {

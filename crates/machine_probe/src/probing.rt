@@ -5,7 +5,8 @@ ghost use Rattle.stream_line.specs.Dialling.{asked_once};
 ghost use Rattle.tape_blocks.specs.Told.{IsAsTold};
 ghost use Rattle.reading_core.specs.Addresses.{IsAddress};
 ghost use Rattle.probe_report.specs.ProbeText.{longest_report};
-ghost use Rattle.machine_probe.specs.Probe.{IsReportFrom, IsReportOver, IsReported, IsReportedOver, probe_told};
+ghost use Rattle.console_reach.specs.Console.{console_told};
+ghost use Rattle.machine_probe.specs.Probe.{IsReportFrom, IsReportOver, IsReported, IsReportedOver};
 ghost use Rattle.machine_probe.specs.ProbeFault.{IsBrokenOffFrom, IsProbeFault, IsUnreported, IsWanting};
 ghost use Rattle.machine_probe.specs.Rooms.{AreLookers};
 
@@ -43,15 +44,15 @@ pub fn probe<R: Reach, W: Write, C: Clock>(
 ) -> Result<ProbeEnd, ProbeFault>
     requires { IsAddress options.address }
     ensures reported { IfOk result (IsReported options
-        (probe_told R.asked R.call W.contents console.old out.old)
-        (probe_told R.asked R.call W.contents console.new out.new)) }
+        (console_told R.asked R.call W.contents console.old out.old)
+        (console_told R.asked R.call W.contents console.new out.new)) }
     ensures over_line { IfOk result (IsReportedOver R.Line.told options
-        (probe_told R.asked R.call W.contents console.old out.old)
-        (probe_told R.asked R.call W.contents console.new out.new)) }
+        (console_told R.asked R.call W.contents console.old out.old)
+        (console_told R.asked R.call W.contents console.new out.new)) }
     ensures call { R.call console.new ≡ R.call console.old }
     ensures fault { IfErr result (IsProbeFault options
-        (probe_told R.asked R.call W.contents console.old out.old)
-        (probe_told R.asked R.call W.contents console.new out.new)) }
+        (console_told R.asked R.call W.contents console.old out.old)
+        (console_told R.asked R.call W.contents console.new out.new)) }
     ensures wanting { IfErr result (λ fault. fault ≡ ProbeFault.Memory → IsWanting R.Line.told options
         (R.call console.old) (R.asked console.old) (R.asked console.new)) }
 {

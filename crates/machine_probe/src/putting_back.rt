@@ -20,10 +20,10 @@ const BYTE: u16 = 256;
 #[derive(Drop)]
 pub(crate) struct Deposit {
     /// The host, at the beginning of its life.
-    pub core: HostCore,
+    pub(crate) core: HostCore,
 
     /// What keeps the one word, once it is verified.
-    pub keeper: MemoryKeep,
+    pub(crate) keeper: MemoryKeep,
 }
 
 impl Deposit {

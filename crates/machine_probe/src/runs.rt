@@ -2,7 +2,7 @@
 ghost use Rattle.std.specs.Prelude.{◌≡◌, true, IfOk, OnErr};
 ghost use Rattle.reading_core.specs.Addresses.{IsAddress};
 ghost use Rattle.reading_core.specs.Invariant.{IsReader};
-ghost use Rattle.load_devices.specs.Told.{Keeps};
+ghost use Rattle.load_devices.specs.Told.{SaysNothing};
 ghost use Rattle.trial_law.specs.Again.{looker};
 ghost use Rattle.probe_report.specs.Judging.{verdict_of};
 ghost use Rattle.machine_probe.specs.Came.{attempt_of, extent_of, first_of, sighting_of, trial_end_of};
@@ -26,13 +26,13 @@ use trial_engine::{Stop as TrialStop, attempt};
 /// The hosts of the two looks.
 #[derive(Drop)]
 pub(crate) struct Lookers {
-    pub first: ReadingCore,
-    pub second: ReadingCore,
+    pub(crate) first: ReadingCore,
+    pub(crate) second: ReadingCore,
 }
 
 impl Lookers {
     /// Two hosts that look at the word. The one error is want of memory.
-    pub fn new(alloc: Global, options: ProbeOptions) -> Result<Lookers, AllocError>
+    pub(crate) fn new(alloc: Global, options: ProbeOptions) -> Result<Lookers, AllocError>
         requires { IsAddress options.address }
         ensures { IfOk result (AreLookers options) }
     {
@@ -237,7 +237,7 @@ fn find_memory<L: Line>(
     line: &mut L,
 ) -> Result<Option<Extent>, AllocError>
     ensures searched { IfOk result (λ search. OnLine (Made (forgets verdict) (IsSearch options) search) (L.told line.old) (L.told line.new)) }
-    ensures wanting { OnErr result ((forgets verdict ≡ true) × Keeps (L.told line.old) (L.told line.new)) }
+    ensures wanting { OnErr result ((forgets verdict ≡ true) × SaysNothing (L.told line.old) (L.told line.new)) }
 {
     match verdict {
         Verdict::Forgets => {

@@ -3,10 +3,8 @@ ghost use Rattle.std.specs.Prelude.{◌≡◌};
 ghost use Rattle.machine_probe.specs.Stopwatch.{mean};
 
 use host_core::Heard;
+use host_core::console::PROMPT;
 use probe_report::Pace;
-
-// The console's prompt, with which a look ends.
-const PROMPT: u8 = b'@';
 
 // The keys of a look: the six digits of an address, `/` and CR.
 const KEYS: u64 = 8;
@@ -36,7 +34,7 @@ pub(crate) struct Stopwatch {
 
 impl Stopwatch {
     /// Nothing was timed.
-    pub fn new() -> Stopwatch {
+    pub(crate) fn new() -> Stopwatch {
         Stopwatch {
             looks: 0,
             look_time: 0,
@@ -47,7 +45,7 @@ impl Stopwatch {
     }
 
     /// A key was sent at this time, where the clock had one. A digit begins a look where none is timed.
-    pub fn with_key(self, key: u8, time: Option<u64>) -> Stopwatch {
+    pub(crate) fn with_key(self, key: u8, time: Option<u64>) -> Stopwatch {
         let look = match (self.look, time) {
             (Some(look), Some(time)) => look.with_key(time),
             (None, Some(time)) if is_digit(key) => Some(Look::begun(time)),
@@ -58,7 +56,7 @@ impl Stopwatch {
 
     /// This was heard at this time, where the clock had one. A prompt ends the look that is timed, and
     /// after a silence it is timed no more.
-    pub fn with_heard(self, heard: Heard, time: Option<u64>) -> Stopwatch {
+    pub(crate) fn with_heard(self, heard: Heard, time: Option<u64>) -> Stopwatch {
         match (heard, self.look, time) {
             (Heard::Got(c), Some(look), Some(time)) => self.with_answer(
                 look.answered(time),
@@ -92,7 +90,7 @@ impl Stopwatch {
     }
 
     /// The mean times of a key and of a look, where a look was timed.
-    pub fn pace(self) -> Pace
+    pub(crate) fn pace(self) -> Pace
         ensures key { result.key ≡ mean self.key_time self.keys }
         ensures look { result.look ≡ mean self.look_time self.looks }
     {

@@ -1,5 +1,6 @@
 -- The passes of looks that find where memory ends (this project's choice).
 use Rattle.std.specs.Prelude.{◌≡◌, ℕ, zero, suc, ◌+◌, ◌-◌, ◌*◌, ◌%◌, ◌≤◌, List, [], ◌∷◌, length, vec_capacity, Some}
+use Rattle.tape_blocks.specs.Block.{top}
 use Rattle.load_devices.specs.declared.item.Item.{Item}
 use Rattle.reading_core.specs.declared.phase.End.TheVariants.{Complete, NoWord}
 use Rattle.reading_core.specs.Reader.{Reader, begun}
@@ -21,7 +22,7 @@ pub record ArePieces (from : ℕ) (pieces : Pieces) : Type 0 where
   pub even : from % 2 ≡ 0
   pub whole : pieces.bytes % 2 ≡ 0
   pub some : 2 ≤ pieces.bytes
-  pub below : from + pieces.bytes * pieces.count ≤ 0o160000
+  pub below : from + pieces.bytes * pieces.count ≤ top
 
 -- room for a pass over these pieces
 pub record IsRoom (pieces : Pieces) (room : Room) : Type 0 where

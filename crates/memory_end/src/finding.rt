@@ -1,5 +1,5 @@
 ghost use Rattle.std.specs.Prelude.{◌≡◌, IfOk, OnErr};
-ghost use Rattle.load_devices.specs.Told.{Keeps};
+ghost use Rattle.load_devices.specs.Told.{SaysNothing};
 ghost use Rattle.memory_end.specs.Ending.{FindsEnd, stop_of};
 ghost use Rattle.memory_end.specs.Passes.{ArePieces, IsRoom};
 ghost use Rattle.memory_end.specs.Steps.{Stepped, LiesWithin, passed, stop_in};
@@ -44,7 +44,7 @@ pub fn find_end<L: Line>(
     ensures found { IfOk result (λ search. FindsEnd turns patience search (L.told line.old) (L.told line.new)) }
     ensures counted { IfOk result (λ search. Counts (stop_of search) (L.fault_count line.old) (L.fault_count line.new)) }
     ensures fault { IfOk result (λ search. NamesFault (stop_of search) (L.last_fault line.new)) }
-    ensures unsaid { OnErr result (Keeps (L.told line.old) (L.told line.new)) }
+    ensures unsaid { OnErr result (SaysNothing (L.told line.old) (L.told line.new)) }
     ensures uncounted { OnErr result (L.fault_count line.new ≡ L.fault_count line.old) }
 {
     let limits = Limits { patience, turns };

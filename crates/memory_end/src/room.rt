@@ -9,14 +9,14 @@ use std::alloc::{AllocError, Global};
 
 /// Room for the addresses of a pass and for the numbers that are read there.
 #[derive(Drop)]
-pub struct Room {
-    pub addresses: Vec<u16>,
-    pub numbers: Vec<u16>,
+pub(crate) struct Room {
+    pub(crate) addresses: Vec<u16>,
+    pub(crate) numbers: Vec<u16>,
 }
 
 impl Room {
     /// Room for a pass over these pieces. The one error is want of memory.
-    pub fn new(alloc: Global, pieces: Pieces) -> Result<Room, AllocError>
+    pub(crate) fn new(alloc: Global, pieces: Pieces) -> Result<Room, AllocError>
         ensures { IfOk result (IsRoom pieces) }
     {
         Ok(Room {
@@ -27,7 +27,7 @@ impl Room {
 
     /// A host that reads the last word of each of the pieces, which stand from an address on. It takes
     /// no memory.
-    pub fn core(self, from: u16, pieces: Pieces, patience: u32) -> ReadingCore
+    pub(crate) fn core(self, from: u16, pieces: Pieces, patience: u32) -> ReadingCore
         requires room { IsRoom pieces self }
         requires pieces { ArePieces from pieces }
         ensures begun { result ≡ begun (last_words from pieces.bytes pieces.count) [] patience }

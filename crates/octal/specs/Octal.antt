@@ -1,11 +1,15 @@
 -- Octal numbers as the console prints and reads them (the console ODT chapter of DEC's
 -- Microcomputer Processor Handbook).
-use Rattle.std.specs.Prelude.{◌≡◌, ℕ, ◌+◌, ◌-◌, ◌*◌, ◌/◌, ◌%◌, ◌^◌, ◌≤◌, Bool, ◌&&◌, ◌==◌, nat_le, if◌then◌else◌, IsTrue}
+use Rattle.std.specs.Prelude.{◌≡◌, ℕ, ◌+◌, ◌-◌, ◌*◌, ◌/◌, ◌%◌, ◌^◌, ◌≤◌, Bool, ◌&&◌, ◌||◌, ◌==◌, nat_le, if◌then◌else◌, IsTrue}
 use Rattle.std.specs.Prelude.{All, List, [], ◌∷◌, length, slice_index}
 
 -- the character is an octal digit, `0` to `7`
 abbrev pub is_digit : ℕ → Bool
 is_digit c = nat_le 48 c && nat_le c 55
+
+-- the character is a digit with which a word's octal text begins, `0` or `1`: a word has sixteen bits
+abbrev pub is_first_digit : ℕ → Bool
+is_first_digit c = c == 48 || c == 49
 
 -- the number that a digit's character stands for
 abbrev pub digit_value : ℕ → ℕ

@@ -34,7 +34,8 @@ ModeFits memory (Opened address) = IsTrue (is_word memory address)
 ModeFits memory (Typing address value digits) = IsTrue (is_word memory address) × (1 ≤ digits) × (digits ≤ 7)
 ModeFits memory (Running address) = ⊤
 
--- the most words that a machine has: those below 160000 (octal), where the I/O page begins
+-- the most words that a machine has: those below 160000 (octal), where the I/O page begins. `most_words` of tape_image is the same number, since
+-- neither of tape and machine may stand on the other
 abbrev pub largest_words : ℕ
 largest_words = 28672
 

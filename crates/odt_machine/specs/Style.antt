@@ -7,6 +7,10 @@ use Rattle.odt_machine.specs.declared.style.Style.{Style}
 abbrev pub style_number : Style → ℕ
 style_number s = (if s.space_before then 1 else 0) + (if s.two_returns then 2 else 0) + (if s.echo_illegal then 4 else 0)
 
+-- the largest number of a style: that with all three
+abbrev pub largest_style : ℕ
+largest_style = 7
+
 -- the style of number 0
 abbrev pub plain_style : Style
 plain_style = record { space_before = false; two_returns = false; echo_illegal = false }

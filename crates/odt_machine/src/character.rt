@@ -10,13 +10,13 @@ pub const LINE_FEED: u8 = b'\n';
 pub const PROMPT: u8 = b'@';
 
 /// What the console prints for an illegal key, and where no memory answers.
-pub const QUESTION_MARK: u8 = b'?';
+pub(crate) const QUESTION_MARK: u8 = b'?';
 
 /// Stands after the digits of an opened word.
 pub const SPACE: u8 = b' ';
 
 /// Opens the word at the address typed before it.
-pub const SLASH: u8 = b'/';
+pub(crate) const SLASH: u8 = b'/';
 
 /// Starts the program at the address typed before it.
-pub const GO: u8 = b'G';
+pub(crate) const GO: u8 = b'G';

@@ -24,7 +24,7 @@ pub enum Key {
 
 impl Key {
     /// The key that `character` is.
-    pub fn of(character: u8) -> Key
+    pub(crate) fn of(character: u8) -> Key
         ensures { result ≡ key_of character }
     {
         match character {

@@ -20,8 +20,7 @@ mod mode;
 mod style;
 
 pub use answer::Answer;
-pub use character::{CARRIAGE_RETURN, GO, LINE_FEED, PROMPT, QUESTION_MARK, SLASH, SPACE};
-pub use key::Key;
+pub use character::{CARRIAGE_RETURN, LINE_FEED, PROMPT, SPACE};
 pub use machine::{LARGEST_WORDS, Odt, OdtError};
 pub use mode::Mode;
 pub use style::{LARGEST_STYLE, PLAIN_STYLE, Style};

@@ -1,4 +1,4 @@
-ghost use Rattle.std.specs.Prelude.{◌≡◌, ℕ, ◌<◌, ◌≤◌, MatchOption};
+ghost use Rattle.std.specs.Prelude.{◌≡◌, ℕ, ◌≤◌, MatchOption};
 ghost use Rattle.odt_machine.specs.Style.{style_number};
 
 /// What the console's answers leave open: three choices, each a machine's own.
@@ -38,15 +38,5 @@ impl Style {
             two_returns: number / 2 % 2 == 1,
             echo_illegal: number / 4 == 1,
         })
-    }
-
-    /// This style's number, 0 to 7.
-    pub fn number(self) -> u8
-        ensures value { result ≡ style_number self }
-        ensures range { result < 8 }
-    {
-        u8::from(self.space_before)
-            + 2 * u8::from(self.two_returns)
-            + 4 * u8::from(self.echo_illegal)
     }
 }

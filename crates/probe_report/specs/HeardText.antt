@@ -1,6 +1,7 @@
 -- What a probe prints of what it heard, where no answer fitted (this project's own).
 use Rattle.std.specs.Prelude.{ℕ, ◌+◌, ◌/◌, ◌%◌, ◌==◌, ◌||◌, nat_lt, nat_le, if◌then◌else◌, List, [], ◌∷◌, ◌++◌, length, codes}
 use Rattle.std.specs.List.{flat_map}
+use Rattle.host_core.specs.Console.{carriage_return, line_feed}
 use Rattle.byte_io.specs.Text.{line}
 use Rattle.probe_report.specs.declared.probe_end.ProbeEnd.{ProbeEnd}
 use Rattle.probe_report.specs.declared.probe_end.ProbeEnd.TheVariants.{NoPrompt, GaveUp, TurnsOver}
@@ -13,8 +14,8 @@ octal_escape c = 92 ∷ (48 + c / 64) ∷ (48 + c / 8 % 8) ∷ (48 + c % 8) ∷ 
 -- a character as it is shown: CR as \r, LF as \n, a backslash as two, each other one that is no printable character of ASCII in octal
 abbrev pub readable : ℕ → List ℕ
 readable c =
-    if c == 13 then 92 ∷ 114 ∷ []
-    else if c == 10 then 92 ∷ 110 ∷ []
+    if c == carriage_return then 92 ∷ 114 ∷ []
+    else if c == line_feed then 92 ∷ 110 ∷ []
     else if c == 92 then 92 ∷ 92 ∷ []
     else if nat_lt c 32 || nat_le 127 c then octal_escape c
     else c ∷ []

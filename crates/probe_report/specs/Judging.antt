@@ -23,5 +23,6 @@ abbrev pub on_looks : Sighting → Option Attempt → Option Sighting → Verdic
 on_looks (Number old) (Some attempt) (Some (Number now)) = on_numbers old now attempt.end
 on_looks first trial second = Unknown
 
+-- the same of all that was found
 abbrev pub verdict_of : Findings → Verdict
 verdict_of findings = on_looks findings.first findings.trial findings.second

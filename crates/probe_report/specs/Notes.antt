@@ -1,5 +1,6 @@
 -- What is noted of what was said on a line (this project's choice).
 use Rattle.std.specs.Prelude.{ℕ, ◌-◌, Bool, true, false, ◌==◌, ◌&&◌, ◌||◌, List, [], ◌∷◌, length, drop, Option, Some, None}
+use Rattle.host_core.specs.Console.{prompt}
 use Rattle.host_core.specs.declared.heard.Heard.TheVariants.{Got, Quiet}
 use Rattle.load_devices.specs.declared.item.Item.{Item}
 use Rattle.load_devices.specs.declared.item.Item.TheVariants.{Sent, Heard as Came}
@@ -14,7 +15,7 @@ characters (Sent key ∷ items) = characters items
 -- one of them is the prompt, `@`
 abbrev pub has_prompt : List ℕ → Bool
 has_prompt [] = false
-has_prompt (c ∷ cs) = c == 64 || has_prompt cs
+has_prompt (c ∷ cs) = c == prompt || has_prompt cs
 
 -- a character is the key that was typed last
 abbrev pub echoes : Option ℕ → ℕ → Bool

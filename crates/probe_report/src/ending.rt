@@ -6,7 +6,7 @@ use crate::findings::{Attempt, Extent, Findings, Sighting, TrialEnd};
 use crate::probe_end::ProbeEnd;
 
 /// How a probe ends with these findings, where a prompt was heard or not.
-pub fn end_of(findings: &Findings, prompt: bool) -> ProbeEnd
+pub(crate) fn end_of(findings: &Findings, prompt: bool) -> ProbeEnd
     ensures { result ≡ probe_end findings.now prompt }
 {
     match findings.first {

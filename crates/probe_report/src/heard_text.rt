@@ -10,7 +10,7 @@ use std::alloc::AllocError;
 
 /// Puts what was heard last and which heading helps, where a probe ended without an answer that fits. The
 /// error is want of memory.
-pub fn put_heard(text: &mut Vec<u8>, end: ProbeEnd, notes: &Notes) -> Result<(), AllocError>
+pub(crate) fn put_heard(text: &mut Vec<u8>, end: ProbeEnd, notes: &Notes) -> Result<(), AllocError>
     ensures { OnOk result (text.new.items ≡ text.old.items ++ heard_lines end notes.now) }
 {
     match end {

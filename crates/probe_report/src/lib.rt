@@ -16,7 +16,6 @@ mod probe_end;
 mod report;
 mod style_text;
 
-pub use ending::end_of;
 pub use findings::{Attempt, Extent, Findings, Sighting, TrialEnd};
 pub use judging::{Verdict, judge};
 pub use notes::Notes;

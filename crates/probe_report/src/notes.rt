@@ -1,14 +1,13 @@
 //! What is noted of what is said on a line.
 ghost use Rattle.std.specs.Prelude.{◌≡◌, ℕ, ◌==◌, ◌&&◌, ◌||◌, List, [], ◌∷◌, ◌++◌};
+ghost use Rattle.host_core.specs.Console.{prompt};
 ghost use Rattle.load_devices.specs.declared.item.Item.{Item};
 ghost use Rattle.probe_report.specs.Notes.{echoes, last_of, noted};
 
 use arrayvec::ArrayVec;
 use host_core::Heard;
+use host_core::console::PROMPT;
 use std::marker::Model;
-
-// The console's prompt.
-const PROMPT: u8 = b'@';
 
 // How many of the characters that were heard last are kept.
 const TAIL: usize = 40;
@@ -66,21 +65,21 @@ impl Notes {
     }
 
     /// Whether a prompt was heard.
-    pub fn prompt(&self) -> bool
+    pub(crate) fn prompt(&self) -> bool
         ensures { result ≡ self.now.prompt }
     {
         self.prompt
     }
 
     /// Whether each character that was heard is the key that was typed last.
-    pub fn only_echoes(&self) -> bool
+    pub(crate) fn only_echoes(&self) -> bool
         ensures { result ≡ self.now.only_echoes }
     {
         self.only_echoes
     }
 
     /// The last 40 characters that were heard, the oldest first.
-    pub fn tail(&self) -> &[u8]
+    pub(crate) fn tail(&self) -> &[u8]
         ensures { result.now ≡ self.now.tail }
     {
         &self.tail
@@ -99,7 +98,7 @@ fn still_echoes(so_far: bool, last_key: Option<u8>, c: u8) -> bool
 
 // Whether a prompt was heard, with one character more.
 fn prompt_by_now(so_far: bool, c: u8) -> bool
-    ensures { result ≡ (so_far || c == 64) }
+    ensures { result ≡ (so_far || c == prompt) }
 {
     so_far || c == PROMPT
 }

@@ -23,7 +23,7 @@ const MINUTE: u64 = 60 * SECOND;
 const HOUR: u64 = 60 * MINUTE;
 
 /// Puts the line of the time that a key takes, where it is known. The error is want of memory.
-pub fn put_key(text: &mut Vec<u8>, pace: Pace) -> Result<(), AllocError>
+pub(crate) fn put_key(text: &mut Vec<u8>, pace: Pace) -> Result<(), AllocError>
     ensures { OnOk result (text.new.items ≡ text.old.items ++ key_lines pace.key) }
 {
     let Some(key) = pace.key else {
@@ -39,7 +39,7 @@ pub fn put_key(text: &mut Vec<u8>, pace: Pace) -> Result<(), AllocError>
 
 /// Puts the line of the time that a load of so many words takes, where it is known. The error is want of
 /// memory.
-pub fn put_load(text: &mut Vec<u8>, pace: Pace, words: u16) -> Result<(), AllocError>
+pub(crate) fn put_load(text: &mut Vec<u8>, pace: Pace, words: u16) -> Result<(), AllocError>
     ensures { OnOk result (text.new.items ≡ text.old.items ++ load_lines pace.look words) }
 {
     let Some(look) = pace.look else {

@@ -9,7 +9,7 @@ use std::io::Write;
 use trial_core::{Seen, Sight};
 
 /// Puts the lines of the style that a trial saw, if there was one. The error is want of memory.
-pub fn put_style(text: &mut Vec<u8>, trial: Option<Attempt>) -> Result<(), AllocError>
+pub(crate) fn put_style(text: &mut Vec<u8>, trial: Option<Attempt>) -> Result<(), AllocError>
     ensures { OnOk result (text.new.items ≡ text.old.items ++ style_lines trial) }
 {
     match trial {

@@ -1,8 +1,8 @@
 -- Each turn of the table keeps what holds of every reader.
-use Rattle.std.proofs.Common.{◌≡◌, ℕ, ◌+◌, ◌-◌, ◌^◌, ◌<◌, ◌≤◌, Bool, true, false, ◌==◌, nat_lt, ◌||◌, if◌then◌else◌, List, [], length, take, refl, arith, length-append, length-take}
+use Rattle.std.proofs.Common.{◌≡◌, ℕ, ◌+◌, ◌-◌, ◌^◌, ◌<◌, ◌≤◌, Bool, true, false, ◌==◌, nat_lt, ◌||◌, if◌then◌else◌, List, [], length, refl, arith, length-append}
 use Rattle.std.specs.Prelude.{All}
 use Rattle.std.proofs.lemmas.Bool.Decides.{nat_tests}
-use Rattle.std.proofs.lemmas.List.Elements.{All-nil, All-push, All-take}
+use Rattle.std.proofs.lemmas.List.Elements.{All-nil, All-push}
 use borrow.Author.Tests.{ltb-true, ltb-false, eqb-true}
 use Rattle.octal.specs.Octal.{digit_of, is_digit}
 use Rattle.host_core.specs.declared.heard.Heard.{Heard}
@@ -17,8 +17,8 @@ use Rattle.reading_core.specs.declared.turn.Turn.TheVariants.{Listen, Key, Read,
 use Rattle.reading_core.specs.Addresses.{AreAddresses}
 use Rattle.reading_core.specs.Bound.{used_in, reading_bound}
 use Rattle.reading_core.specs.Invariant.{IsReader, Basis, basis_of, PhaseFits, EndFits, HasWord}
-use Rattle.reading_core.specs.Reader.{Reader, address_nr, begun, restarted}
-use Rattle.reading_core.specs.ReadingTable.{Asked, ask, is_read, taken, turn_of, hears, waits, sync_hears, address_hears, first_digit_hears, before_hears, value_hears, close_hears, next_word}
+use Rattle.reading_core.specs.Reader.{Reader, address_nr, begun}
+use Rattle.reading_core.specs.ReadingTable.{Asked, ask, taken, turn_of, hears, waits, sync_hears, address_hears, first_digit_hears, before_hears, value_hears, close_hears, next_word}
 
 -- what a turn needs of the reader that takes it, n being the characters that its phase may have used
 abbrev pub TurnFits : Turn → Basis → ℕ → Type 0
@@ -142,19 +142,6 @@ turn_fits r Quiet h = waits_fits (basis_of r) r.phase h.fits
 pub kept : (r : Reader) (heard : Heard) → IsReader r → IsReader (ask r heard).next
 kept r heard h = taken_kept r (turn_of r heard) h (turn_fits r heard h)
 
--- a turn that takes a number finds a word under way
-read_has_word : (b : Basis) (turn : Turn) (n : ℕ) → TurnFits turn b n → is_read turn ≡ true → HasWord b
-read_has_word b (Read value) n f e = f.0
-read_has_word b (Listen phase) n f e = cc e
-read_has_word b (Key key phase) n f e = cc e
-read_has_word b Next n f e = cc e
-read_has_word b (Stop end) n f e = cc e
-read_has_word b Stray n f e = cc e
-read_has_word b Timeout n f e = cc e
-
-pub has_word : (r : Reader) (heard : Heard) → IsReader r → is_read (turn_of r heard) ≡ true → length r.values < length r.addresses
-has_word r heard h e = read_has_word (basis_of r) (turn_of r heard) (used_in r.phase) (turn_fits r heard h) e
-
 used_le : (phase : Phase) (b : Basis) → PhaseFits phase b → used_in phase ≤ 9
 used_le Settle b f = omega arith
 used_le (Sync place) b f = omega arith
@@ -179,6 +166,3 @@ begun_kept addresses values patience asked le numbers long = begun_test addresse
 
 pub fresh_kept : (addresses : List ℕ) (patience : ℕ) → AreAddresses addresses → patience < 2 ^ 32 → IsReader (begun addresses [] patience)
 fresh_kept addresses patience asked long = begun_kept addresses [] patience asked (omega arith) (All-nil (λ v. v < 65536)) long
-
-pub restart_kept : (r : Reader) (kept : ℕ) → IsReader r → IsReader (restarted r kept)
-restart_kept r kept h = begun_kept r.addresses (take kept r.values) r.patience h.asked (simp length-take (omega (arith, h.within))) (All-take (λ v. v < 65536) kept r.values h.numbers) h.long

@@ -1,12 +1,13 @@
 -- Which words are read, and in which order.
 use Rattle.std.specs.Prelude.{◌≡◌, ℕ, zero, suc, ◌+◌, ◌-◌, ◌*◌, ◌/◌, ◌%◌, ◌<◌, ◌≤◌, All, AllPairs, List, [], ◌∷◌, ◌++◌, length, map}
+use Rattle.tape_blocks.specs.Block.{top}
 use Rattle.tape_image.specs.Memory.{most_words}
 use Rattle.tape_image.specs.Word.{WordValue}
 
 -- a word's address is even, and below 160000 (this project's choice)
 pub record IsAddress (a : ℕ) : Type 0 where
   pub even : a % 2 ≡ 0
-  pub below : a < 0o160000
+  pub below : a < top
 
 -- addresses of words that rise; there are at most as many as even numbers below 160000
 pub record AreAddresses (addresses : List ℕ) : Type 0 where

@@ -9,7 +9,7 @@ use Rattle.reading_core.specs.Addresses.{AreAddresses}
 use Rattle.reading_core.specs.Reader.{Reader, address_nr}
 use Rattle.reading_core.specs.Bound.{used}
 
--- what phases and ends are judged by: all of a reader but its phase and the characters sent
+-- what phases and ends of the reading host alone are judged by: all of a reader but its phase and the characters sent
 pub record Basis : Type 0 where
   pub addresses : List ℕ
   pub values : List ℕ

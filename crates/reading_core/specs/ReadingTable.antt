@@ -2,8 +2,8 @@
 -- character at a time and waits in a phase for what the console has to answer. Of a word it types the address,
 -- `/`, and after the six digits that memory holds CR, which closes the word as it was. Places count the digits
 -- of an address from 1 and the digits of a reading from 0.
-use Rattle.std.specs.Prelude.{ℕ, ◌+◌, ◌-◌, ◌*◌, Bool, true, false, ◌==◌, ◌||◌, nat_lt, if◌then◌else◌, List, [], ◌∷◌, ◌++◌, length, Option, Some, None}
-use Rattle.octal.specs.Octal.{digit_of, is_digit}
+use Rattle.std.specs.Prelude.{ℕ, ◌+◌, ◌*◌, Bool, true, false, ◌==◌, nat_lt, if◌then◌else◌, List, [], ◌∷◌, ◌++◌, length, Option, Some, None}
+use Rattle.octal.specs.Octal.{digit_of, digit_value, is_digit, is_first_digit}
 use Rattle.host_core.specs.declared.heard.Heard.{Heard}
 use Rattle.host_core.specs.declared.heard.Heard.TheVariants.{Got, Quiet}
 use Rattle.host_core.specs.Console.{resynchronise, question_mark, carriage_return, line_feed, prompt, slash, space}
@@ -36,7 +36,7 @@ slash_hears c = if c == slash then Listen Before else Stray
 
 -- the first of a reading's six digits, which is 0 or 1
 abbrev pub first_digit_hears : ℕ → Turn
-first_digit_hears c = if c == 48 || c == 49 then Listen (Value (c - 48) 1) else Stray
+first_digit_hears c = if is_first_digit c then Listen (Value (digit_value c) 1) else Stray
 
 -- Before: the reading of the word, with or without a space before it, or `?` where there is no memory
 abbrev pub before_hears : ℕ → ℕ → Turn
@@ -49,7 +49,7 @@ before_hears address c =
 abbrev pub value_hears : ℕ → ℕ → ℕ → Turn
 value_hears value place c =
     if place == 0 then first_digit_hears c
-    else (if nat_lt place 6 then (if is_digit c then Listen (Value (8 * value + (c - 48)) (place + 1)) else Stray)
+    else (if nat_lt place 6 then (if is_digit c then Listen (Value (8 * value + digit_value c) (place + 1)) else Stray)
     else (if c == space then Read value else Stray))
 
 -- Close: the answer to CR, one CR or two, up to the prompt

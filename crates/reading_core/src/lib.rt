@@ -10,7 +10,6 @@
 //! machine, `reading_engine` lends the core to a line.
 #![tactic(auto)]
 
-pub mod console;
 mod life;
 mod phase;
 mod reading;

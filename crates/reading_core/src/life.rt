@@ -5,22 +5,22 @@ use crate::phase::{End, Phase};
 
 /// What changes from step to step in one life of the host, beside the numbers that were read.
 #[derive(Clone, Copy)]
-pub struct Life {
-    pub spent: u32,
-    pub sent: u64,
-    pub phase: Phase,
+pub(crate) struct Life {
+    pub(crate) spent: u32,
+    pub(crate) sent: u64,
+    pub(crate) phase: Phase,
 }
 
 /// A life after a step, and the character that the step sends.
 #[derive(Clone, Copy)]
-pub struct Outcome {
-    pub life: Life,
-    pub key: Option<u8>,
+pub(crate) struct Outcome {
+    pub(crate) life: Life,
+    pub(crate) key: Option<u8>,
 }
 
 impl Life {
     /// The beginning of a life: with every word read nothing is left to do.
-    pub fn begun(addresses: usize, read: usize) -> Life
+    pub(crate) fn begun(addresses: usize, read: usize) -> Life
         ensures { result ≡ record { spent = 0; sent = 0; phase = first_phase addresses read } }
     {
         let phase = if read == addresses {
@@ -36,7 +36,7 @@ impl Life {
     }
 
     /// One mishap more.
-    pub fn with_mishap(self) -> Life
+    pub(crate) fn with_mishap(self) -> Life
         requires { self.spent + 1 < 2 ^ 32 }
         ensures { result ≡ record self { spent = self.spent + 1 } }
     {
@@ -47,7 +47,7 @@ impl Life {
     }
 
     /// Goes on in this phase, nothing is sent.
-    pub fn listens(self, phase: Phase) -> Outcome
+    pub(crate) fn listens(self, phase: Phase) -> Outcome
         ensures { result ≡ record { life = record self { phase = phase }; key = None } }
     {
         Outcome {
@@ -57,7 +57,7 @@ impl Life {
     }
 
     /// Sends the character and goes on in this phase.
-    pub fn sends(self, key: u8, phase: Phase) -> Outcome
+    pub(crate) fn sends(self, key: u8, phase: Phase) -> Outcome
         requires { self.sent + 1 < 2 ^ 64 }
         ensures { result ≡ record { life = record self { sent = self.sent + 1; phase = phase }; key = Some key } }
     {

@@ -7,12 +7,12 @@ ghost use Rattle.reading_core.specs.Laws.{KeepsBound};
 ghost use Rattle.reading_core.specs.Reader.{address_under_way, begun, ended, reader_of, restarted};
 ghost use Rattle.reading_core.specs.ReadingTable.{ask, is_read, next_word, taken, turn_of, values_after};
 
-use crate::console::{CARRIAGE_RETURN, RESYNCHRONISE};
 use crate::life::{Life, Outcome};
 use crate::phase::{End, Phase};
 use crate::table;
 use crate::turn::Turn;
 use host_core::Heard;
+use host_core::console::{CARRIAGE_RETURN, RESYNCHRONISE};
 use std::alloc::{AllocError, Global};
 use std::marker::Model;
 use tape_image::Plan;
@@ -44,9 +44,8 @@ impl Model for ReadingCore {
 }
 
 impl ReadingCore {
-    /// A host that has read nothing of these addresses, and survives `patience` mishaps. With no
-    /// address it has ended already, as `Complete`. The one error is want of memory, for the numbers.
-    pub fn new(alloc: Global, addresses: Vec<u16>, patience: u32) -> Result<ReadingCore, AllocError>
+    // A host as `in_room` begins it. The one error is want of memory, for the numbers.
+    fn new(alloc: Global, addresses: Vec<u16>, patience: u32) -> Result<ReadingCore, AllocError>
         requires { AreAddresses addresses.items }
         ensures begun { IfOk result (λ core. core ≡ begun addresses.items [] patience) }
         ensures kept { IfOk result IsReader }
@@ -55,7 +54,9 @@ impl ReadingCore {
         Ok(ReadingCore::in_room(addresses, values, patience))
     }
 
-    /// The same, where the room for the numbers was made before: no memory is taken.
+    /// A host that has read nothing of these addresses, and survives `patience` mishaps. With no
+    /// address it has ended already, as `Complete`. The room for the numbers was made before: no
+    /// memory is taken.
     pub fn in_room(addresses: Vec<u16>, room: Vec<u16>, patience: u32) -> ReadingCore
         requires asked { AreAddresses addresses.items }
         requires empty { room.items ≡ [] }
@@ -120,14 +121,6 @@ impl ReadingCore {
         ensures kept { IsReader self.now }
     {
         &self.values
-    }
-
-    /// How many mishaps a life survives.
-    pub fn patience(&self) -> u32
-        ensures value { result ≡ self.now.patience }
-        ensures kept { IsReader self.now }
-    {
-        self.patience
     }
 
     /// The mishaps of this life so far.

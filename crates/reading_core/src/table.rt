@@ -5,18 +5,18 @@ ghost use Rattle.octal.specs.Octal.{digit_of};
 ghost use Rattle.host_core.specs.Host.{IsPlace, value_room};
 ghost use Rattle.reading_core.specs.ReadingTable.{sync_hears, address_hears, slash_hears, first_digit_hears, before_hears, value_hears, close_hears, waits};
 
-use crate::console::{
-    CARRIAGE_RETURN, LINE_FEED, PROMPT, QUESTION_MARK, RESYNCHRONISE, SLASH, SPACE,
-};
 use crate::phase::{End, Phase};
 use crate::turn::Turn;
+use host_core::console::{
+    CARRIAGE_RETURN, LINE_FEED, PROMPT, QUESTION_MARK, RESYNCHRONISE, SLASH, SPACE,
+};
 use octal::oct6;
 
-/// How many octal digits the host types of every address.
+// How many octal digits the host types of every address.
 const DIGITS: u8 = 6;
 
 /// The answer to `Z`: its echo or none, `?`, one CR or two, LF, and the prompt.
-pub fn sync(place: u8, c: u8) -> Turn
+pub(crate) fn sync(place: u8, c: u8) -> Turn
     ensures { result ≡ sync_hears place c }
 {
     match (place, c) {
@@ -31,7 +31,7 @@ pub fn sync(place: u8, c: u8) -> Turn
 }
 
 /// The echo of each digit of the address: the next is typed, and after the sixth `/`.
-pub fn address(address: u16, place: u8, c: u8) -> Turn
+pub(crate) fn address(address: u16, place: u8, c: u8) -> Turn
     requires { IsPlace place }
     ensures { result ≡ address_hears address place c }
 {
@@ -45,7 +45,7 @@ pub fn address(address: u16, place: u8, c: u8) -> Turn
 }
 
 /// The echo of `/`.
-pub fn slash(c: u8) -> Turn
+pub(crate) fn slash(c: u8) -> Turn
     ensures { result ≡ slash_hears c }
 {
     match c {
@@ -55,7 +55,7 @@ pub fn slash(c: u8) -> Turn
 }
 
 /// The beginning of a reading, with or without a space, or `?` where no memory answers.
-pub fn before(address: u16, c: u8) -> Turn
+pub(crate) fn before(address: u16, c: u8) -> Turn
     ensures { result ≡ before_hears address c }
 {
     match c {
@@ -77,7 +77,7 @@ fn first_digit(c: u8) -> Turn
 
 /// The rest of a reading: six digits in all, and the space after them. With five digits and a space
 /// one of six may have been lost, so that is a mishap and no number.
-pub fn value(value: u16, place: u8, c: u8) -> Turn
+pub(crate) fn value(value: u16, place: u8, c: u8) -> Turn
     requires { value < value_room place }
     ensures { result ≡ value_hears value place c }
 {
@@ -92,7 +92,7 @@ pub fn value(value: u16, place: u8, c: u8) -> Turn
 }
 
 /// The answer to CR: one CR or two, LF, and the prompt.
-pub fn close(place: u8, c: u8) -> Turn
+pub(crate) fn close(place: u8, c: u8) -> Turn
     ensures { result ≡ close_hears place c }
 {
     match (place, c) {
@@ -105,7 +105,7 @@ pub fn close(place: u8, c: u8) -> Turn
 }
 
 /// Nothing came for the quiet time.
-pub fn quiet(phase: Phase) -> Turn
+pub(crate) fn quiet(phase: Phase) -> Turn
     ensures { result ≡ waits phase }
 {
     match phase {
@@ -116,7 +116,7 @@ pub fn quiet(phase: Phase) -> Turn
 }
 
 /// The digit of `number` at a place from 1 to 6, as a character.
-pub fn digit(number: u16, place: u8) -> u8
+pub(crate) fn digit(number: u16, place: u8) -> u8
     requires { IsPlace place }
     ensures { result ≡ digit_of number place }
 {

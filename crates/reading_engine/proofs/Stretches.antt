@@ -6,7 +6,7 @@ use Rattle.load_devices.specs.declared.fault.LineFault.{LineFault}
 use Rattle.load_devices.specs.declared.item.Item.{Item}
 use Rattle.load_devices.specs.declared.item.Item.TheVariants.{Sent, Heard as Came}
 use Rattle.load_devices.specs.Dialogue.{said}
-use Rattle.load_devices.specs.Told.{Gains, Keeps}
+use Rattle.load_devices.specs.Told.{Gains, SaysNothing}
 use Rattle.load_engine.proofs.Sessions.{gains_kept, gains_join}
 use Rattle.reading_core.specs.declared.phase.End.{End}
 use Rattle.reading_core.specs.Laws.{led}
@@ -85,13 +85,13 @@ inquired_over turns a b line line' s =
 -- ---- one turn
 
 -- the line fails at the hear
-pub turn_deaf : (fault : LineFault) (r : Reader) (line line' : Option (List Item)) → Keeps line line' → Inquired 1 (Some (LineFailed fault)) r r line line'
+pub turn_deaf : (fault : LineFault) (r : Reader) (line line' : Option (List Item)) → SaysNothing line line' → Inquired 1 (Some (LineFailed fault)) r r line line'
 turn_deaf fault r line line' k =
     record { heard = []; said = []; reader = refl; goes_on = tt; within = omega arith; items = inl (refl, omega arith); on_line = gains_kept line line' k }
 
 -- the line fails at the send
 pub turn_unsent : (fault : LineFault) (old new : Reader) (heard : Heard) (key : ℕ) (line line' line'' : Option (List Item)) → ended old.phase ≡ None → new ≡ (ask old heard).next → (ask old heard).key ≡ Some key →
-    Gains line line' (Came heard ∷ []) → Keeps line' line'' → Inquired 1 (Some (LineFailed fault)) old new line line''
+    Gains line line' (Came heard ∷ []) → SaysNothing line' line'' → Inquired 1 (Some (LineFailed fault)) old new line line''
 turn_unsent fault old new heard key line line' line'' goes next sends hears k = record {
   heard = heard ∷ [];
   said = Came heard ∷ [];

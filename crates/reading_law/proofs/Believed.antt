@@ -18,7 +18,7 @@ use Rattle.reading_core.specs.Reader.{Reader}
 use Rattle.reading_core.specs.Invariant.{IsReader}
 use Rattle.reading_core.specs.Laws.{led, replay}
 use Rattle.reading_core.specs.ReadingTable.{ask}
-use Rattle.reading_law.specs.Inquiry.{Inquiry, over, after}
+use Rattle.reading_law.specs.Inquiry.{Inquiry, over}
 use Rattle.reading_law.specs.Law.{HoldsRead, HasCause, IsHarmless, OnlyLook}
 use Rattle.reading_law.specs.Belief.{dialogue, MayLook, IsReadyMachine, IsTrue, HonestReadingsAreTrue, ReadingsLeaveItReady, UnsaidReadingsAreTrue}
 use Rattle.reading_law.proofs.Harmless.{mirrored_events, harmless}

@@ -4,7 +4,7 @@ use Rattle.std.specs.Prelude.{MatchOption, option_map}
 use Rattle.std.specs.Result.{IfOk, IfErr}
 use Rattle.record_file.proofs.Asking.{tells_join, tells_none}
 use Rattle.record_file.specs.Beginning.{Course, Replaced, GivenUp, course, new_name, IsRenaming, Whole, Unsynced, NotRenamed, Moved, IsWriting, NotHeld, NoRoom, NotWritten, Written, IsBeside, OutOfReach, NoMemory, NoFolder, AtFolder, IsLetGo, IsWrittenOver, IsNotWrittenOver, IsBegun, Beside, InPlace, IsNotBegun, NotBeside, NotInPlace}
-use Rattle.record_file.specs.Closing.{IsClosed}
+use Rattle.record_file.specs.Closing.{IsRecordClosed}
 use Rattle.record_file.specs.DiskStep.{DiskStep, HasAsked}
 use Rattle.record_file.specs.Holding.{IsHolding}
 use Rattle.record_file.specs.Reading.{kind_after, IsRead, Held, Absent, IsNotRead, LetGo}
@@ -109,9 +109,9 @@ replaced_remains name made after a b kept keeper is h =
 -- ---- closing
 
 pub closed_none : {T : Type 0} (name : List ℕ) (a : Option (List DiskStep)) (before : Option (HeldFile T)) → before ≡ None
-    → HasAsked a a (IsClosed name (option_map kind_of before))
-closed_none name a before is = subst (λ b. HasAsked a a (IsClosed name (option_map kind_of b))) (sym is) ([], tells_none a, refl)
+    → HasAsked a a (IsRecordClosed name (option_map kind_of before))
+closed_none name a before is = subst (λ b. HasAsked a a (IsRecordClosed name (option_map kind_of b))) (sym is) ([], tells_none a, refl)
 
 pub closed_held : {T : Type 0} (name : List ℕ) (a b : Option (List DiskStep)) (before : Option (HeldFile T)) (held : HeldFile T) → before ≡ Some held
-    → HasAsked a b (IsLetGo name held.made) → HasAsked a b (IsClosed name (option_map kind_of before))
-closed_held name a b before held is h = subst (λ x. HasAsked a b (IsClosed name (option_map kind_of x))) (sym is) h
+    → HasAsked a b (IsLetGo name held.made) → HasAsked a b (IsRecordClosed name (option_map kind_of before))
+closed_held name a b before held is h = subst (λ x. HasAsked a b (IsRecordClosed name (option_map kind_of x))) (sym is) h

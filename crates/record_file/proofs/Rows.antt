@@ -1,9 +1,9 @@
 -- Rows of the tables of what is asked, by what came of a call.
 use Rattle.std.proofs.Common.{◌≡◌, ℕ, ◌+◌, ◌<◌, ◌≤◌, ◌⊎◌, inl, inr, ◌∙◌, sym, subst, refl, List, [], ◌∷◌, ◌++◌, Bool, true, false, Option, Some, None, Result, Ok, Err}
-use Rattle.record_file.specs.Beginning.{IsLeft, Left, Strange as StrangeNew, Taken, IsMaking, Fresh, Again, IsMakingHeld, new_name, Course, NotReplaced, GivenUp, Replaced, IsRenaming, Whole, Unsynced, NotRenamed, Moved, IsFolderSync, IsCut, IsLetGo, Goes, LeadsElsewhere, Stays, StaysBehindLink, IsWriting, NotHeld as NotHeldNew, NoRoom, NotWritten, Written, IsBeside, IsReady, ReadyDevice, ReadyFile, IsUnready, MovedAway, IsWrittenOver, Device as OverDevice, PlainFile as OverFile, AtFolder, course, IsMakingSynced, OldFile, NewFile, NewBehindLink, Unresolved}
-use Rattle.record_file.specs.Course.{is_done, is_some, renamed}
+use Rattle.record_file.specs.Beginning.{IsLeftover, Left, Strange as StrangeNew, Taken, IsMaking, Fresh, Again, IsMakingHeld, new_name, Course, NotReplaced, GivenUp, Replaced, IsRenaming, Whole, Unsynced, NotRenamed, Moved, IsFolderSync, IsFileCut, IsLetGo, Goes, LeadsElsewhere, Stays, StaysBehindLink, IsWriting, NotHeld as NotHeldNew, NoRoom, NotWritten, Written, IsBeside, IsReady, ReadyDevice, ReadyFile, IsUnready, MovedAway, IsWrittenOver, Device as OverDevice, PlainFile as OverFile, AtFolder, course, IsMakingSynced, OldFile, NewFile, NewBehindLink, Unresolved}
+use Rattle.record_file.specs.Course.{is_done, was_made, renamed}
 use Rattle.record_file.proofs.Asking.{tells_join}
-use Rattle.record_file.specs.DiskStep.{DiskStep, HasAsked, Tells, LedTo, Resolve, Look, LookAtName, FindSoleFile, Open, Hold, Rename, Remove, SyncFolder, Did, Failed, told, answered, IsLook, Seen, Unseen, IsLookAtName, SeenThere, UnseenThere}
+use Rattle.record_file.specs.DiskStep.{DiskStep, HasAsked, Tells, LedTo, Resolve, Look, LookAtName, FindSoleFile, Open, Hold, Rename, Remove, SyncFolder, Did, Failed, step_by, answered, IsNameSeen, Seen, Unseen, IsLookAtName, SeenThere, UnseenThere}
 use Rattle.record_file.specs.Folder.{IsFolderOf}
 use Rattle.record_file.specs.Holding.{hold_steps, IsHeld, PlainFile, Device, Unknown, InUse, Moved as HeldMoved, DeviceMoved, IsFound, IsMade, Linked, Appeared, LeadsNowhere, IsOpened, Found, Strange, IsTry, Taken as TakenIn, NotHeld, AreVain, OneMore, IsHeldAtLast, IsNotHeld}
 use Rattle.record_file.specs.declared.disk.Access.TheVariants.{ReadOnly, New, Created}
@@ -17,7 +17,7 @@ use Rattle.record_file.specs.declared.record_fault.RecordFault.{RecordFault}
 use Rattle.record_file.specs.declared.made.Made.{Made}
 use Rattle.record_file.specs.declared.made.Made.TheVariants.{Before, Here, BehindLink}
 
-pub seen : (name : List ℕ) (as_it_should : Bool) → IsLook name as_it_should (Did (Look name) ∷ [])
+pub seen : (name : List ℕ) (as_it_should : Bool) → IsNameSeen name as_it_should (Did (Look name) ∷ [])
 seen name true = Seen
 seen name false = Unseen true
 
@@ -43,11 +43,11 @@ moved name true (Err error) = DeviceMoved false
 moved name false (Ok value) = HeldMoved true
 moved name false (Err error) = HeldMoved false
 
-pub left : (new : List ℕ) (held : Bool) → IsLeft new held (Did (LookAtName new) ∷ Did (Open ReadOnly new) ∷ told (Hold new) held ∷ [])
+pub left : (new : List ℕ) (held : Bool) → IsLeftover new held (Did (LookAtName new) ∷ Did (Open ReadOnly new) ∷ step_by (Hold new) held ∷ [])
 left new true = Left
 left new false = Taken
 
-pub strange_new : {A E : Type 0} (new : List ℕ) (look : Result A E) → IsLeft new false (answered (LookAtName new) look ∷ [])
+pub strange_new : {A E : Type 0} (new : List ℕ) (look : Result A E) → IsLeftover new false (answered (LookAtName new) look ∷ [])
 strange_new new (Ok value) = StrangeNew true
 strange_new new (Err error) = StrangeNew false
 
@@ -55,39 +55,39 @@ pub fresh : {A E : Type 0} (new : List ℕ) (making : Result A E) → IsMaking n
 fresh new (Ok file) = Fresh true
 fresh new (Err error) = Fresh false
 
-pub again : {A B E F : Type 0} (new : List ℕ) (removal : Result A E) (making : Result B F) (steps : List DiskStep) → IsLeft new true steps
+pub again : {A B E F : Type 0} (new : List ℕ) (removal : Result A E) (making : Result B F) (steps : List DiskStep) → IsLeftover new true steps
     → IsMaking new (is_done making) (Failed (Open New new) ∷ (steps ++ answered (Remove new) removal ∷ answered (Open New new) making ∷ []))
 again new (Ok u) (Ok file) steps l = Again steps true true l
 again new (Ok u) (Err error) steps l = Again steps true false l
 again new (Err e) (Ok file) steps l = Again steps false true l
 again new (Err e) (Err error) steps l = Again steps false false l
 
-pub goes : {A E : Type 0} (name : List ℕ) (made : Made) (removal : Result A E) (steps : List DiskStep) → made ≡ Here → IsLook name true steps
+pub goes : {A E : Type 0} (name : List ℕ) (made : Made) (removal : Result A E) (steps : List DiskStep) → made ≡ Here → IsNameSeen name true steps
     → IsLetGo name made (steps ++ answered (Remove name) removal ∷ [])
 goes name made (Ok u) steps is Seen = subst (λ m. IsLetGo name m (Did (Look name) ∷ Did (Remove name) ∷ [])) (sym is) (Goes true)
 goes name made (Err e) steps is Seen = subst (λ m. IsLetGo name m (Did (Look name) ∷ Failed (Remove name) ∷ [])) (sym is) (Goes false)
 
-pub leads_elsewhere : (name : List ℕ) (made : Made) (steps : List DiskStep) → made ≡ Here → IsLook name false steps → IsLetGo name made steps
-leads_elsewhere name made steps is (Unseen found) = subst (λ m. IsLetGo name m (told (Look name) found ∷ [])) (sym is) (LeadsElsewhere found)
+pub leads_elsewhere : (name : List ℕ) (made : Made) (steps : List DiskStep) → made ≡ Here → IsNameSeen name false steps → IsLetGo name made steps
+leads_elsewhere name made steps is (Unseen found) = subst (λ m. IsLetGo name m (step_by (Look name) found ∷ [])) (sym is) (LeadsElsewhere found)
 
 pub stays : (name : List ℕ) (made : Made) → (made ≡ Before) ⊎ (made ≡ BehindLink) → IsLetGo name made []
 stays name made (inl is) = subst (λ m. IsLetGo name m []) (sym is) Stays
 stays name made (inr is) = subst (λ m. IsLetGo name m []) (sym is) StaysBehindLink
 
-pub whole : (name new folder : List ℕ) (made : Made) (steps : List DiskStep) → IsLook name true steps
+pub whole : (name new folder : List ℕ) (made : Made) (steps : List DiskStep) → IsNameSeen name true steps
     → IsRenaming name new folder made Replaced Before (steps ++ Did (Rename new name) ∷ Did (SyncFolder folder) ∷ [])
 whole name new folder made steps Seen = Whole
 
-pub unsynced : (name new folder : List ℕ) (made : Made) (steps : List DiskStep) → IsLook name true steps
+pub unsynced : (name new folder : List ℕ) (made : Made) (steps : List DiskStep) → IsNameSeen name true steps
     → IsRenaming name new folder made GivenUp Before (steps ++ Did (Rename new name) ∷ Failed (SyncFolder folder) ∷ [])
 unsynced name new folder made steps Seen = Unsynced
 
-pub not_renamed : {A E : Type 0} (name new folder : List ℕ) (made : Made) (removal : Result A E) (steps : List DiskStep) → IsLook name true steps
+pub not_renamed : {A E : Type 0} (name new folder : List ℕ) (made : Made) (removal : Result A E) (steps : List DiskStep) → IsNameSeen name true steps
     → IsRenaming name new folder made NotReplaced made (steps ++ Failed (Rename new name) ∷ answered (Remove new) removal ∷ [])
 not_renamed name new folder made (Ok u) steps Seen = NotRenamed true
 not_renamed name new folder made (Err e) steps Seen = NotRenamed false
 
-pub moved_away : {A E : Type 0} (name new folder : List ℕ) (made : Made) (removal : Result A E) (steps : List DiskStep) → IsLook name false steps
+pub moved_away : {A E : Type 0} (name new folder : List ℕ) (made : Made) (removal : Result A E) (steps : List DiskStep) → IsNameSeen name false steps
     → IsRenaming name new folder made GivenUp made (steps ++ answered (Remove new) removal ∷ [])
 moved_away name new folder made (Ok u) steps (Unseen found) = Moved found true
 moved_away name new folder made (Err e) steps (Unseen found) = Moved found false
@@ -190,13 +190,13 @@ written name new folder made way after a b c is m r =
     (m.0 ++ r.0, tells_join a b c m.0 r.0 m.1 r.1, Written way after m.0 r.0 (subst (λ n. IsMakingHeld n true m.0) is m.2) (subst (λ n. IsRenaming name n folder made way after r.0) is r.2))
 
 -- what a new file was asked, where it is known what came of it
-pub held_none : {A : Type 0} (new : List ℕ) (a b : Option (List DiskStep)) (kept : Option A) → kept ≡ None → HasAsked a b (IsMakingHeld new (is_some {E = RecordFault} (Ok kept)))
+pub held_none : {A : Type 0} (new : List ℕ) (a b : Option (List DiskStep)) (kept : Option A) → kept ≡ None → HasAsked a b (IsMakingHeld new (was_made {E = RecordFault} (Ok kept)))
     → HasAsked a b (IsMakingHeld new false)
-held_none new a b kept is h = subst (λ k. HasAsked a b (IsMakingHeld new (is_some {E = RecordFault} (Ok k)))) is h
+held_none new a b kept is h = subst (λ k. HasAsked a b (IsMakingHeld new (was_made {E = RecordFault} (Ok k)))) is h
 
 pub held_some : {A : Type 0} (new : List ℕ) (a b : Option (List DiskStep)) (kept : Option A) (file : A) → kept ≡ Some file
-    → HasAsked a b (IsMakingHeld new (is_some {E = RecordFault} (Ok kept))) → HasAsked a b (IsMakingHeld new true)
-held_some new a b kept file is h = subst (λ k. HasAsked a b (IsMakingHeld new (is_some {E = RecordFault} (Ok k)))) is h
+    → HasAsked a b (IsMakingHeld new (was_made {E = RecordFault} (Ok kept))) → HasAsked a b (IsMakingHeld new true)
+held_some new a b kept file is h = subst (λ k. HasAsked a b (IsMakingHeld new (was_made {E = RecordFault} (Ok k)))) is h
 
 pub beside_failed : {A E : Type 0} (name : List ℕ) (made after : Made) (a b : Option (List DiskStep)) (result : Result (Option A) E) → IsErr result
     → HasAsked a b (IsBeside name made GivenUp after) → HasAsked a b (IsBeside name made (course result) after)
@@ -215,21 +215,21 @@ pub ready_device : (name : List ℕ) (made : Made) (device : Bool) (a b : Option
     → HasAsked a b (IsMakingSynced name made true) → HasAsked a b (IsReady name made device)
 ready_device name made device a b is h = (h.0, h.1, subst (λ d. IsReady name made d h.0) (sym is) (ReadyDevice h.0 h.2))
 
-looked : (name : List ℕ) (made : Made) (steps look : List DiskStep) → IsMakingSynced name made true steps → IsLook name true look
+looked : (name : List ℕ) (made : Made) (steps look : List DiskStep) → IsMakingSynced name made true steps → IsNameSeen name true look
     → IsReady name made false (steps ++ look)
 looked name made steps look s Seen = ReadyFile steps s
 
 pub ready_file : (name : List ℕ) (made : Made) (device : Bool) (a b c : Option (List DiskStep)) → device ≡ false
-    → HasAsked a b (IsMakingSynced name made true) → HasAsked b c (IsLook name true) → HasAsked a c (IsReady name made device)
+    → HasAsked a b (IsMakingSynced name made true) → HasAsked b c (IsNameSeen name true) → HasAsked a c (IsReady name made device)
 ready_file name made device a b c is h l =
     (h.0 ++ l.0, tells_join a b c h.0 l.0 h.1 l.1, subst (λ d. IsReady name made d (h.0 ++ l.0)) (sym is) (looked name made h.0 l.0 h.2 l.2))
 
-looked_in_vain : (name : List ℕ) (made : Made) (steps look : List DiskStep) → IsMakingSynced name made true steps → IsLook name false look
+looked_in_vain : (name : List ℕ) (made : Made) (steps look : List DiskStep) → IsMakingSynced name made true steps → IsNameSeen name false look
     → IsUnready name made (steps ++ look)
 looked_in_vain name made steps look s (Unseen found) = MovedAway found steps s
 
 pub unready_file : (name : List ℕ) (made : Made) (a b c : Option (List DiskStep)) → HasAsked a b (IsMakingSynced name made true)
-    → HasAsked b c (IsLook name false) → HasAsked a c (IsUnready name made)
+    → HasAsked b c (IsNameSeen name false) → HasAsked a c (IsUnready name made)
 unready_file name made a b c h l = (h.0 ++ l.0, tells_join a b c h.0 l.0 h.1 l.1, looked_in_vain name made h.0 l.0 h.2 l.2)
 
 pub over_device : (name : List ℕ) (made : Made) (text : Option (List ℕ)) (device known : Bool) (a b : Option (List DiskStep)) → known ≡ device → known ≡ true
@@ -238,10 +238,10 @@ over_device name made text device known a b same is =
     subst (λ d. HasAsked a b (IsReady name made d) → HasAsked a b (IsWrittenOver name made text d)) (sym is ∙ same) (λ h. (h.0, h.1, OverDevice h.0 h.2))
 
 pub over_file : (name : List ℕ) (made : Made) (text cut : Option (List ℕ)) (device known : Bool) (a b c : Option (List DiskStep)) → known ≡ device → known ≡ false
-    → cut ≡ text → HasAsked a b (IsReady name made device) → HasAsked b c (IsCut cut true) → HasAsked a c (IsWrittenOver name made text device)
+    → cut ≡ text → HasAsked a b (IsReady name made device) → HasAsked b c (IsFileCut cut true) → HasAsked a c (IsWrittenOver name made text device)
 over_file name made text cut device known a b c same is t h q =
     subst (λ d. HasAsked a b (IsReady name made d) → HasAsked a c (IsWrittenOver name made text d)) (sym is ∙ same)
-    (λ r. (r.0 ++ q.0, tells_join a b c r.0 q.0 r.1 q.1, OverFile r.0 q.0 r.2 (subst (λ x. IsCut x true q.0) t q.2)))
+    (λ r. (r.0 ++ q.0, tells_join a b c r.0 q.0 r.1 q.1, OverFile r.0 q.0 r.2 (subst (λ x. IsFileCut x true q.0) t q.2)))
     h
 
 -- ---- tries

@@ -1,7 +1,7 @@
 -- What is asked of a system of files to begin a record anew.
 use Rattle.std.specs.Prelude.{ℕ, List, [], ◌∷◌, ◌++◌, Bool, true, false, Option, Some, None, Result, Ok, Err, codes}
 use Rattle.record_file.specs.DiskStep.{Look, LookAtName, FindSoleFile, Resolve, Open, Hold, Rename, Remove, SyncFolder, Cut, SyncFile}
-use Rattle.record_file.specs.DiskStep.{DiskStep, Did, Failed, LedTo, told}
+use Rattle.record_file.specs.DiskStep.{DiskStep, Did, Failed, LedTo, step_by}
 use Rattle.record_file.specs.Folder.{IsFolderOf}
 use Rattle.record_file.specs.declared.disk.Access.TheVariants.{ReadOnly, New}
 use Rattle.record_file.specs.declared.made.Made.{Made}
@@ -14,23 +14,23 @@ abbrev pub new_name : List ℕ → List ℕ
 new_name name = name ++ codes ".ldaodt-new"
 
 -- a file of this name was left by a load that is over, since nobody holds it; or that is not so, or can't be found out
-pub data IsLeft (new : List ℕ) : Bool → List DiskStep → Type 0 where
-  Left : IsLeft new true (Did (LookAtName new) ∷ Did (Open ReadOnly new) ∷ Did (Hold new) ∷ [])
-  Strange : (found : Bool) → IsLeft new false (told (LookAtName new) found ∷ [])
-  Closed : IsLeft new false (Did (LookAtName new) ∷ Failed (Open ReadOnly new) ∷ [])
-  Taken : IsLeft new false (Did (LookAtName new) ∷ Did (Open ReadOnly new) ∷ Failed (Hold new) ∷ [])
+pub data IsLeftover (new : List ℕ) : Bool → List DiskStep → Type 0 where
+  Left : IsLeftover new true (Did (LookAtName new) ∷ Did (Open ReadOnly new) ∷ Did (Hold new) ∷ [])
+  Strange : (found : Bool) → IsLeftover new false (step_by (LookAtName new) found ∷ [])
+  Closed : IsLeftover new false (Did (LookAtName new) ∷ Failed (Open ReadOnly new) ∷ [])
+  Taken : IsLeftover new false (Did (LookAtName new) ∷ Did (Open ReadOnly new) ∷ Failed (Hold new) ∷ [])
 
 -- the new file is made, or not; one that was left goes before
 pub data IsMaking (new : List ℕ) : Bool → List DiskStep → Type 0 where
-  Fresh : (made : Bool) → IsMaking new made (told (Open New new) made ∷ [])
-  Kept : (steps : List DiskStep) → IsLeft new false steps → IsMaking new false (Failed (Open New new) ∷ steps)
-  Again : (steps : List DiskStep) (removed made : Bool) → IsLeft new true steps
-      → IsMaking new made (Failed (Open New new) ∷ (steps ++ told (Remove new) removed ∷ told (Open New new) made ∷ []))
+  Fresh : (made : Bool) → IsMaking new made (step_by (Open New new) made ∷ [])
+  Kept : (steps : List DiskStep) → IsLeftover new false steps → IsMaking new false (Failed (Open New new) ∷ steps)
+  Again : (steps : List DiskStep) (removed made : Bool) → IsLeftover new true steps
+      → IsMaking new made (Failed (Open New new) ∷ (steps ++ step_by (Remove new) removed ∷ step_by (Open New new) made ∷ []))
 
 -- and it is held, or not
 pub data IsMakingHeld (new : List ℕ) : Bool → List DiskStep → Type 0 where
   NotMade : (steps : List DiskStep) → IsMaking new false steps → IsMakingHeld new false steps
-  IsThere : (steps : List DiskStep) (held : Bool) → IsMaking new true steps → IsMakingHeld new held (steps ++ told (Hold new) held ∷ [])
+  IsThere : (steps : List DiskStep) (held : Bool) → IsMaking new true steps → IsMakingHeld new held (steps ++ step_by (Hold new) held ∷ [])
 
 -- ---- the new record in the old one's place
 
@@ -40,6 +40,7 @@ pub data Course : Type 0 where
   NotReplaced : Course
   GivenUp : Course
 
+-- what comes of it where there is a keeper of the new record, or none, or a fault
 abbrev pub course : {A E : Type 0} → Result (Option A) E → Course
 course (Ok (Some keeper)) = Replaced
 course (Ok None) = NotReplaced
@@ -50,15 +51,16 @@ course (Err fault) = GivenUp
 pub data IsRenaming (name new folder : List ℕ) (made : Made) : Course → Made → List DiskStep → Type 0 where
   Whole : IsRenaming name new folder made Replaced Before (Did (Look name) ∷ Did (Rename new name) ∷ Did (SyncFolder folder) ∷ [])
   Unsynced : IsRenaming name new folder made GivenUp Before (Did (Look name) ∷ Did (Rename new name) ∷ Failed (SyncFolder folder) ∷ [])
-  NotRenamed : (removed : Bool) → IsRenaming name new folder made NotReplaced made (Did (Look name) ∷ Failed (Rename new name) ∷ told (Remove new) removed ∷ [])
-  Moved : (found removed : Bool) → IsRenaming name new folder made GivenUp made (told (Look name) found ∷ told (Remove new) removed ∷ [])
+  NotRenamed : (removed : Bool)
+      → IsRenaming name new folder made NotReplaced made (Did (Look name) ∷ Failed (Rename new name) ∷ step_by (Remove new) removed ∷ [])
+  Moved : (found removed : Bool) → IsRenaming name new folder made GivenUp made (step_by (Look name) found ∷ step_by (Remove new) removed ∷ [])
 
 -- the new file is made, held and written, and then renamed; one that can't be written goes
 pub data IsWriting (name folder : List ℕ) (made : Made) : Course → Made → List DiskStep → Type 0 where
   NotHeld : (steps : List DiskStep) → IsMakingHeld (new_name name) false steps → IsWriting name folder made NotReplaced made steps
   NoRoom : (steps : List DiskStep) → IsMakingHeld (new_name name) false steps → IsWriting name folder made GivenUp made steps
   NotWritten : (steps : List DiskStep) (removed : Bool) → IsMakingHeld (new_name name) true steps
-      → IsWriting name folder made GivenUp made (steps ++ told (Remove (new_name name)) removed ∷ [])
+      → IsWriting name folder made GivenUp made (steps ++ step_by (Remove (new_name name)) removed ∷ [])
   Written : (course : Course) (after : Made) (steps renaming : List DiskStep) → IsMakingHeld (new_name name) true steps
       → IsRenaming name (new_name name) folder made course after renaming → IsWriting name folder made course after (steps ++ renaming)
 
@@ -75,7 +77,7 @@ pub data IsBeside (name : List ℕ) (made : Made) : Course → Made → List Dis
 -- the folder of a name is opened and synced, or one of these fails
 pub data IsFolderSync (name : List ℕ) : Bool → List DiskStep → Type 0 where
   FolderOpened : (folder : List ℕ) (synced : Bool) → IsFolderOf name folder
-      → IsFolderSync name synced (Did (Open ReadOnly folder) ∷ told (SyncFolder folder) synced ∷ [])
+      → IsFolderSync name synced (Did (Open ReadOnly folder) ∷ step_by (SyncFolder folder) synced ∷ [])
   NotOpened : (folder : List ℕ) → IsFolderOf name folder → IsFolderSync name false (Failed (Open ReadOnly folder) ∷ [])
 
 -- where this load made the file, that is brought to the disk; behind a link it is the folder of the name to which that leads
@@ -87,16 +89,16 @@ pub data IsMakingSynced (name : List ℕ) : Made → Bool → List DiskStep → 
   Unresolved : IsMakingSynced name BehindLink false (Failed (Resolve name) ∷ [])
 
 -- a file of which this was written is cut behind that, and synced
-pub data IsCut (text : Option (List ℕ)) : Bool → List DiskStep → Type 0 where
-  CutAndSynced : (synced : Bool) → IsCut text synced (Did (Cut text) ∷ told (SyncFile text) synced ∷ [])
-  NotCut : IsCut text false (Failed (Cut text) ∷ [])
+pub data IsFileCut (text : Option (List ℕ)) : Bool → List DiskStep → Type 0 where
+  CutAndSynced : (synced : Bool) → IsFileCut text synced (Did (Cut text) ∷ step_by (SyncFile text) synced ∷ [])
+  NotCut : IsFileCut text false (Failed (Cut text) ∷ [])
 
 -- a file that this load made under this very name goes with it, where the name still leads to it
 pub data IsLetGo (name : List ℕ) : Made → List DiskStep → Type 0 where
   Stays : IsLetGo name Before []
   StaysBehindLink : IsLetGo name BehindLink []
-  LeadsElsewhere : (found : Bool) → IsLetGo name Here (told (Look name) found ∷ [])
-  Goes : (removed : Bool) → IsLetGo name Here (Did (Look name) ∷ told (Remove name) removed ∷ [])
+  LeadsElsewhere : (found : Bool) → IsLetGo name Here (step_by (Look name) found ∷ [])
+  Goes : (removed : Bool) → IsLetGo name Here (Did (Look name) ∷ step_by (Remove name) removed ∷ [])
 
 -- the file can be written where it is: that it was made is on the disk, and its name still leads to it, which of a device is not looked up
 pub data IsReady (name : List ℕ) (made : Made) : Bool → List DiskStep → Type 0 where
@@ -106,19 +108,19 @@ pub data IsReady (name : List ℕ) (made : Made) : Bool → List DiskStep → Ty
 -- or it can't: that may not be on the disk, or the file is one that is not written over, or its name leads elsewhere by now
 pub data IsUnready (name : List ℕ) (made : Made) : List DiskStep → Type 0 where
   NotWritable : (synced : Bool) (steps : List DiskStep) → IsMakingSynced name made synced steps → IsUnready name made steps
-  MovedAway : (found : Bool) (steps : List DiskStep) → IsMakingSynced name made true steps → IsUnready name made (steps ++ told (Look name) found ∷ [])
+  MovedAway : (found : Bool) (steps : List DiskStep) → IsMakingSynced name made true steps → IsUnready name made (steps ++ step_by (Look name) found ∷ [])
 
 -- the record was written where it is; a device is not cut
 pub data IsWrittenOver (name : List ℕ) (made : Made) (text : Option (List ℕ)) : Bool → List DiskStep → Type 0 where
   Device : (steps : List DiskStep) → IsReady name made true steps → IsWrittenOver name made text true steps
-  PlainFile : (steps cutting : List DiskStep) → IsReady name made false steps → IsCut text true cutting
+  PlainFile : (steps cutting : List DiskStep) → IsReady name made false steps → IsFileCut text true cutting
       → IsWrittenOver name made text false (steps ++ cutting)
 
 -- it was not: the file is let go before anything is written to it, and stays behind that
 pub data IsNotWrittenOver (name : List ℕ) (made : Made) : List DiskStep → Type 0 where
   Unready : (steps going : List DiskStep) → IsUnready name made steps → IsLetGo name made going → IsNotWrittenOver name made (steps ++ going)
   Unwritten : (device : Bool) (steps : List DiskStep) → IsReady name made device steps → IsNotWrittenOver name made steps
-  Uncut : (text : Option (List ℕ)) (steps cutting : List DiskStep) → IsReady name made false steps → IsCut text false cutting
+  Uncut : (text : Option (List ℕ)) (steps cutting : List DiskStep) → IsReady name made false steps → IsFileCut text false cutting
       → IsNotWrittenOver name made (steps ++ cutting)
 
 -- ---- the whole

@@ -6,9 +6,9 @@ use Rattle.record_file.specs.declared.made.Made.{Made}
 use Rattle.record_file.specs.declared.made.Made.TheVariants.{Before}
 
 -- the file of which this is known is let go; where none is held nothing is asked
-abbrev pub IsClosed : List ℕ → Option (Made × Bool) → List DiskStep → Type 0
-IsClosed name None steps = steps ≡ []
-IsClosed name (Some kind) steps = IsLetGo name kind.0 steps
+abbrev pub IsRecordClosed : List ℕ → Option (Made × Bool) → List DiskStep → Type 0
+IsRecordClosed name None steps = steps ≡ []
+IsRecordClosed name (Some kind) steps = IsLetGo name kind.0 steps
 
 -- closing takes nothing away: no file is held, or one that counts as one that was there
 abbrev pub Remains : Option (Made × Bool) → Type 0

@@ -29,14 +29,17 @@ pub data DiskStep : Type 0 where
   Failed : Request → DiskStep
   LedTo : List ℕ → List ℕ → DiskStep
 
-abbrev pub told : Request → Bool → DiskStep
-told request true = Did request
-told request false = Failed request
+-- a request, and whether it was done
+abbrev pub step_by : Request → Bool → DiskStep
+step_by request true = Did request
+step_by request false = Failed request
 
+-- a request, and what was answered to it
 abbrev pub answered : {A E : Type 0} → Request → Result A E → DiskStep
 answered request (Ok value) = Did request
 answered request (Err error) = Failed request
 
+-- a name was to be followed, to the one that it leads to
 abbrev pub resolved : {A E : Type 0} → List ℕ → Result (PathBuf A) E → DiskStep
 resolved name (Ok target) = LedTo name (path_buf_bytes target)
 resolved name (Err error) = Failed (Resolve name)
@@ -53,10 +56,11 @@ abbrev pub HasAsked : Option (List DiskStep) → Option (List DiskStep) → (Lis
 HasAsked old new P = (steps : List DiskStep) × Tells old new steps × P steps
 
 -- a name was looked at, and found to be as it should be only where something is there
-pub data IsLook (name : List ℕ) : Bool → List DiskStep → Type 0 where
-  Seen : IsLook name true (Did (Look name) ∷ [])
-  Unseen : (found : Bool) → IsLook name false (told (Look name) found ∷ [])
+pub data IsNameSeen (name : List ℕ) : Bool → List DiskStep → Type 0 where
+  Seen : IsNameSeen name true (Did (Look name) ∷ [])
+  Unseen : (found : Bool) → IsNameSeen name false (step_by (Look name) found ∷ [])
 
+-- the same of what stands under a name itself, which may be a link
 pub data IsLookAtName (name : List ℕ) : Bool → List DiskStep → Type 0 where
   SeenThere : IsLookAtName name true (Did (LookAtName name) ∷ [])
-  UnseenThere : (found : Bool) → IsLookAtName name false (told (LookAtName name) found ∷ [])
+  UnseenThere : (found : Bool) → IsLookAtName name false (step_by (LookAtName name) found ∷ [])

@@ -1,6 +1,6 @@
 -- What is asked of a system of files to open and hold the file of a record.
 use Rattle.std.specs.Prelude.{◌≡◌, ℕ, ◌+◌, ◌<◌, ◌≤◌, List, [], ◌∷◌, ◌++◌, Bool, true, false, Option, Some, None}
-use Rattle.record_file.specs.DiskStep.{DiskStep, Look, LookAtName, Open, Hold, Did, Failed, told}
+use Rattle.record_file.specs.DiskStep.{DiskStep, Look, LookAtName, Open, Hold, Did, Failed, step_by}
 use Rattle.record_file.specs.declared.disk.Access.TheVariants.{ReadOnly, ReadWrite, New, Created}
 use Rattle.record_file.specs.declared.made.Made.{Made}
 use Rattle.record_file.specs.declared.made.Made.TheVariants.{Before, Here, BehindLink}
@@ -16,19 +16,19 @@ pub data IsMade (name : List ℕ) : Option Made → List DiskStep → Type 0 whe
   Plain : IsMade name (Some Here) (Did (Open New name) ∷ [])
   Linked : IsMade name (Some BehindLink) (Failed (Open New name) ∷ Did (LookAtName name) ∷ Did (Open Created name) ∷ [])
   Unmade : IsMade name None (Failed (Open New name) ∷ [])
-  Appeared : (found : Bool) → IsMade name None (Failed (Open New name) ∷ told (LookAtName name) found ∷ [])
+  Appeared : (found : Bool) → IsMade name None (Failed (Open New name) ∷ step_by (LookAtName name) found ∷ [])
   LeadsNowhere : IsMade name None (Failed (Open New name) ∷ Did (LookAtName name) ∷ Failed (Open Created name) ∷ [])
 
 -- what the name leads to is looked at, and then opened; where nothing is there a file is made. It may be no file that could hold a record
 pub data IsOpened (name : List ℕ) : Option Made → List DiskStep → Type 0 where
   Found : (made : Option Made) (steps : List DiskStep) → IsFound name made steps → IsOpened name made (Did (Look name) ∷ steps)
   Absent : (made : Option Made) (steps : List DiskStep) → IsMade name made steps → IsOpened name made (Failed (Look name) ∷ steps)
-  Strange : (found : Bool) → IsOpened name None (told (Look name) found ∷ [])
+  Strange : (found : Bool) → IsOpened name None (step_by (Look name) found ∷ [])
 
 -- a file is held, where it is no device, or somebody else holds it
 abbrev pub hold_steps : List ℕ → Bool → Bool → List DiskStep
 hold_steps name true held = []
-hold_steps name false held = told (Hold name) held ∷ []
+hold_steps name false held = step_by (Hold name) held ∷ []
 
 -- an open file is held, whether or not it is a device, which nobody holds, and its name still leads to it; or nothing is known of it, or
 -- another load holds it, or the name leads elsewhere by now
@@ -37,8 +37,8 @@ pub data IsHeld (name : List ℕ) : Option Bool → List DiskStep → Type 0 whe
   Device : IsHeld name (Some true) (Did (Look name) ∷ [])
   Unknown : IsHeld name None []
   InUse : IsHeld name None (Failed (Hold name) ∷ [])
-  Moved : (found : Bool) → IsHeld name None (Did (Hold name) ∷ told (Look name) found ∷ [])
-  DeviceMoved : (found : Bool) → IsHeld name None (told (Look name) found ∷ [])
+  Moved : (found : Bool) → IsHeld name None (Did (Hold name) ∷ step_by (Look name) found ∷ [])
+  DeviceMoved : (found : Bool) → IsHeld name None (step_by (Look name) found ∷ [])
 
 -- one try, which holds a file that was made so and is a device or none; or it holds nothing
 pub data IsTry (name : List ℕ) : Option (Made × Bool) → List DiskStep → Type 0 where
@@ -70,6 +70,7 @@ pub record IsNotHeld (name : List ℕ) (steps : List DiskStep) : Type 0 where
   pub few : count ≤ 8
   pub tries : AreVain name count steps
 
+-- a record's file was to be held: it is, and this is known of it; or it is not
 abbrev pub IsHolding : List ℕ → Option (Made × Bool) → List DiskStep → Type 0
 IsHolding name (Some kind) = IsHeldAtLast name kind
 IsHolding name None = IsNotHeld name

@@ -1,5 +1,6 @@
 -- What the record's file held before a load.
 use Rattle.std.specs.Prelude.{◌≡◌, ℕ, List, ◌++◌, Contains}
+use Rattle.byte_io.specs.Text.{line_end}
 use Rattle.load_record.specs.declared.version.Version.{Version}
 use Rattle.load_record.specs.Lines.{header}
 
@@ -9,5 +10,5 @@ BeginsHeader version text = (missing : List ℕ) × (text ++ missing ≡ header 
 
 -- a text that was never a record, cut off or whole: it has no line, and is the beginning of no header
 pub record HoldsNoRecord (text : List ℕ) : Type 0 where
-  pub no_line : Contains text 10 → ⊥
+  pub no_line : Contains text line_end → ⊥
   pub no_header : (version : Version) → BeginsHeader version text → ⊥

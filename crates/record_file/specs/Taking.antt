@@ -21,6 +21,7 @@ IsOpenedAs P name other = ⊤
 abbrev pub kind_of : {T : Type 0} → HeldFile T → Made × Bool
 kind_of held = (held.made, held.device)
 
+-- what is known of the file that a try holds, where it holds one
 abbrev pub tried : {T : Type 0} → Try T → Option (Made × Bool)
 tried (try.Held held) = Some (kind_of held)
 tried other = None

@@ -1,6 +1,6 @@
 //! A file beside another, which comes to that one's name once it is written.
 ghost use Rattle.std.specs.Prelude.{◌≡◌, [], ◌∷◌, IfOk, OnSome, Some};
-ghost use Rattle.record_file.specs.Beginning.{IsLeft, IsMaking};
+ghost use Rattle.record_file.specs.Beginning.{IsLeftover, IsMaking};
 ghost use Rattle.record_file.specs.Course.{is_done};
 ghost use Rattle.record_file.specs.DiskStep.{HasAsked, Failed, Open};
 ghost use Rattle.record_file.specs.Folder.{IsFolderOf};
@@ -8,6 +8,9 @@ ghost use Rattle.record_file.specs.Folder.{IsFolderOf};
 use crate::disk::{Access, Disk};
 use std::io;
 use std::io::ErrorKind;
+
+/// What the name of a file beside another has more than that one's.
+pub const BESIDE: &str = ".ldaodt-new";
 
 /// The folder in which a file of this name is.
 pub fn folder_of(name: &str) -> &str
@@ -48,7 +51,7 @@ fn make_again<D: Disk>(disk: &mut D, name: &str, error: io::Error) -> io::Result
 
 // Whether a file was left by a program that is over: nobody holds it.
 fn is_left<D: Disk>(disk: &mut D, name: &str) -> bool
-    ensures asked { HasAsked (D.asked disk.old) (D.asked disk.new) (IsLeft name.now result) }
+    ensures asked { HasAsked (D.asked disk.old) (D.asked disk.new) (IsLeftover name.now result) }
 {
     match disk.look_at_name(name) {
         Ok(metadata) if metadata.is_file() => match disk.open(Access::ReadOnly, name) {

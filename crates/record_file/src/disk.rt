@@ -1,7 +1,7 @@
 //! Where files are: what is asked of the system for a record, and for the tape of a save.
 ghost use Rattle.std.specs.Prelude.{◌≡◌, [], ◌∷◌, ℕ, List, Option, None, IfOk, OnSome, ⊤};
 ghost use Rattle.record_file.specs.DiskStep.{Look, LookAtName, FindSoleFile, FindFile, Open, Hold, Link, Rename, Remove, SyncFolder, Cut, SyncFile};
-ghost use Rattle.record_file.specs.DiskStep.{DiskStep, Tells, answered, resolved, told};
+ghost use Rattle.record_file.specs.DiskStep.{DiskStep, Tells, answered, resolved, step_by};
 
 use crate::locks::Locks;
 use std::alloc::Global;
@@ -72,11 +72,11 @@ pub trait Disk {
 
     /// Whether a plain file stands under the name itself, which has no other name.
     fn is_sole_file(&mut self, name: &str) -> bool
-        ensures asked { Tells (asked self.old) (asked self.new) (told (FindSoleFile name.now) result ∷ []) };
+        ensures asked { Tells (asked self.old) (asked self.new) (step_by (FindSoleFile name.now) result ∷ []) };
 
     /// Whether an open file stands under the name itself.
     fn has_name(&mut self, name: &str, file: &Self::File) -> bool
-        ensures asked { Tells (asked self.old) (asked self.new) (told (FindFile name.now (Self.File.contents file.now)) result ∷ []) };
+        ensures asked { Tells (asked self.old) (asked self.new) (step_by (FindFile name.now (Self.File.contents file.now)) result ∷ []) };
 
     /// The name without links to which this one leads.
     fn resolve(&mut self, alloc: Global, name: &str) -> io::Result<PathBuf<Global>>
@@ -91,7 +91,7 @@ pub trait Disk {
     /// Holds an open file until it is closed, which the program's death does, too. False where somebody
     /// else holds it. Where the file system knows no locks nobody can hold it, and it counts as held.
     fn hold(&mut self, file: &Self::File) -> bool
-        ensures asked { (name : List ℕ) → is_opened_as file.now name → Tells (asked self.old) (asked self.new) (told (Hold name) result ∷ []) };
+        ensures asked { (name : List ℕ) → is_opened_as file.now name → Tells (asked self.old) (asked self.new) (step_by (Hold name) result ∷ []) };
 
     /// Gives a file a second name, which nothing has.
     fn link(&mut self, from: &str, to: &str) -> io::Result<()>

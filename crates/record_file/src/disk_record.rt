@@ -5,13 +5,13 @@ ghost use Rattle.load_devices.specs.declared.fault.KeepFault.TheVariants as keep
 ghost use Rattle.load_record.specs.declared.version.Version.TheVariants.{Second};
 ghost use Rattle.load_record.specs.RecordText.{record_text};
 ghost use Rattle.record_file.specs.Beginning.{course, IsMakingHeld, IsRenaming, IsBeside, IsFolderSync, IsMakingSynced};
-ghost use Rattle.record_file.specs.Beginning.{IsCut, IsReady, IsUnready, IsWrittenOver, IsNotWrittenOver};
-ghost use Rattle.record_file.specs.Course.{is_done, is_some, renamed};
+ghost use Rattle.record_file.specs.Beginning.{IsFileCut, IsReady, IsUnready, IsWrittenOver, IsNotWrittenOver};
+ghost use Rattle.record_file.specs.Course.{is_done, was_made, renamed};
 ghost use Rattle.record_file.specs.DiskRecord.{HasBegun};
 ghost use Rattle.record_file.specs.DiskStep.{HasAsked};
 ghost use Rattle.record_file.specs.RecordFault.{IsUnbegun};
 
-use crate::beside::{folder_of, make_new};
+use crate::beside::{BESIDE, folder_of, make_new};
 use crate::disk::{Access, Disk};
 use crate::durable::DurableWriter;
 use crate::held_file::{HeldFile, is_named, let_go};
@@ -23,9 +23,6 @@ use std::alloc::Global;
 use std::fs::OpenFile;
 use std::io::{ErrorKind, Write};
 use tape_image::Plan;
-
-// What the name of the new file has more than that of the record.
-const BESIDE: &str = ".ldaodt-new";
 
 /// A record on the disk: what its keeper has flushed survives a loss of power.
 pub type DiskRecord<F> = FileKeep<DurableWriter<F>>;
@@ -190,7 +187,7 @@ fn sync_making<D: Disk>(
 // of that name.
 fn make_beside<D: Disk>(disk: &mut D, name: &str) -> Result<Option<D::File>, RecordFault>
     ensures fault { IfErr result IsUnbegun }
-    ensures asked { HasAsked (D.asked disk.old) (D.asked disk.new) (IsMakingHeld name.now (is_some result)) }
+    ensures asked { HasAsked (D.asked disk.old) (D.asked disk.new) (IsMakingHeld name.now (was_made result)) }
 {
     match make_new(disk, name) {
         Ok(file) => {
@@ -222,7 +219,7 @@ fn begun<T: OpenFile + Write + Drop>(
 // Cuts off what stands behind that which was written, and brings that to the disk.
 fn cut_behind<D: Disk>(disk: &mut D, writer: &DurableWriter<D::File>) -> Result<(), RecordFault>
     ensures fault { IfErr result IsUnbegun }
-    ensures asked { HasAsked (D.asked disk.old) (D.asked disk.new) (IsCut (D.File.contents writer.now.file) (is_done result)) }
+    ensures asked { HasAsked (D.asked disk.old) (D.asked disk.new) (IsFileCut (D.File.contents writer.now.file) (is_done result)) }
 {
     if disk.cut(&writer.file, writer.length).is_err() {
         return Err(RecordFault::Write);

@@ -1,7 +1,7 @@
 //! The file of a record, which one load at a time holds.
 ghost use Rattle.std.specs.Prelude.{◌≡◌, OnErr, ◌∷◌, IfErr, IfOk, None, Some, option_map, true, false, Bool};
 ghost use Rattle.record_file.specs.Beginning.{IsLetGo};
-ghost use Rattle.record_file.specs.DiskStep.{HasAsked, Tells, IsLook, IsLookAtName, Failed, Open};
+ghost use Rattle.record_file.specs.DiskStep.{HasAsked, Tells, IsNameSeen, IsLookAtName, Failed, Open};
 ghost use Rattle.record_file.specs.Holding.{IsFound, IsMade, IsOpened, hold_steps, IsHeld, IsTry, IsHolding, IsNotHeld};
 ghost use Rattle.record_file.specs.Taking.{made_of, IsOpenedAs, kind_of, tried, device_of, IsMadeSo};
 ghost use Rattle.record_file.specs.Reading.{kind_after};
@@ -37,7 +37,7 @@ impl FileId {
     }
 }
 
-// A file that was opened and is not held yet.
+/// A file that was opened and is not held yet.
 #[derive(Drop)]
 pub(crate) struct Opened<T: Drop> {
     file: T,
@@ -45,7 +45,7 @@ pub(crate) struct Opened<T: Drop> {
     writable: bool,
 }
 
-// What came of opening a record's file.
+/// What came of opening a record's file.
 #[derive(Drop)]
 pub(crate) enum Opening<T: Drop> {
     Opened(Opened<T>),
@@ -77,7 +77,7 @@ pub(crate) struct HeldFile<T: Drop> {
     pub(crate) writable: bool,
 }
 
-// What came of one try to hold a record's file.
+/// What came of one try to hold a record's file.
 #[derive(Drop)]
 pub(crate) enum Try<T: Drop> {
     Held(HeldFile<T>),
@@ -201,7 +201,7 @@ fn is_free<D: Disk>(disk: &mut D, name: &str, file: &D::File, device: bool) -> b
 
 /// Whether a name leads to a file that is held.
 pub(crate) fn is_named<D: Disk>(disk: &mut D, name: &str, held: &HeldFile<D::File>) -> bool
-    ensures asked { HasAsked (D.asked disk.old) (D.asked disk.new) (IsLook name.now result) }
+    ensures asked { HasAsked (D.asked disk.old) (D.asked disk.new) (IsNameSeen name.now result) }
 {
     match disk.look(name) {
         Ok(metadata) => FileId::of(&metadata) == held.id,

@@ -21,7 +21,7 @@ mod old_record;
 mod record_fault;
 mod record_file;
 
-pub use beside::{folder_of, make_new};
+pub use beside::{BESIDE, folder_of, make_new};
 pub use disk::{Access, Disk};
 pub use disk_record::DiskRecord;
 pub use durable::{DurableWriter, SyncWrite};

@@ -1,5 +1,6 @@
 //! What the record's file held before a load.
 ghost use Rattle.std.specs.Prelude.{◌↔◌, Contains, IsTrue};
+ghost use Rattle.byte_io.specs.Text.{line_end};
 ghost use Rattle.record_file.specs.OldRecord.{BeginsHeader, HoldsNoRecord};
 
 use load_record::Version;
@@ -37,7 +38,7 @@ fn begins(text: &[u8], version: Version) -> bool
 
 /// Whether a text has a line: an LF stands in it.
 pub(crate) fn has_line(text: &[u8]) -> bool
-    ensures { IsTrue result ↔ Contains text.now 10 }
+    ensures { IsTrue result ↔ Contains text.now line_end }
 {
     text.contains(&b'\n')
 }

@@ -1,7 +1,7 @@
 //! The record's file over a whole load.
 ghost use Rattle.std.specs.Prelude.{◌≡◌, Option, None, IfErr, IfOk, IsSome, IsTrue, OnErr, OnOk, MatchOption, option_map};
 ghost use Rattle.record_file.specs.Beginning.{IsBegun, IsNotBegun};
-ghost use Rattle.record_file.specs.Closing.{IsClosed, Remains};
+ghost use Rattle.record_file.specs.Closing.{IsRecordClosed, Remains};
 ghost use Rattle.record_file.specs.DiskRecord.{HasBegun};
 ghost use Rattle.record_file.specs.DiskStep.{HasAsked};
 ghost use Rattle.record_file.specs.Reading.{IsRead, IsNotRead};
@@ -119,7 +119,7 @@ impl<'a, D: Disk + Drop> RecordFile<'a, D> {
     /// Where the load made the file under this very name, and nothing was written to it, it is removed, while it
     /// is held. One that was made where a link leads to stays, empty.
     pub fn close(self) -> D
-        ensures asked { HasAsked (D.asked self.entry.disk) (D.asked result) (IsClosed self.entry.name.now (option_map kind_of self.entry.held)) }
+        ensures asked { HasAsked (D.asked self.entry.disk) (D.asked result) (IsRecordClosed self.entry.name.now (option_map kind_of self.entry.held)) }
     {
         let RecordFile {
             mut disk,

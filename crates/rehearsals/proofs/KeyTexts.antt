@@ -1,7 +1,6 @@
 -- Lines of keys: what is gathered, what ends a line, and what one more key adds.
 use Rattle.std.proofs.Common.{◌≡◌, ℕ, ◌==◌, Bool, true, false, if◌then◌else◌, List, [], ◌∷◌, ◌++◌, length, map, Option, arith, refl, sym, ap, ◌∙◌, subst, append_assoc, append-nil, codes}
 use Rattle.std.proofs.Common.{Result, Ok, Err, OnOk, OnErr}
-use Rattle.std.proofs.lemmas.Bool.Decides.{nat_tests}
 use Rattle.std.specs.List.{flat_map, AllByRecursion}
 use Rattle.std.specs.Io.KnownBytes.{Appends}
 use Rattle.std.proofs.KnownBytes.{Appends-nil}
@@ -98,10 +97,6 @@ line_noted g a now before after echoes off written holds = record {
   written = subst (Appends before after) (last_is (g ++ a ∷ []) (some_more g a)) written;
   text = λ more. ap (flat_map key_line) (ended_line g a more echoes off) ∙ flat_map-cons key_line (g ++ a ∷ []) (key_lines more);
 }
-
-pub length_by_test : (xs : List ℕ) (test : Bool) → test ≡ (length xs == 0) → test ≡ true → length xs ≡ 0
-length_by_test [] test is on = refl
-length_by_test (x ∷ xs) test is on = absurd (grind (arith, nat_tests))
 
 -- a line that is written whole ends with the key that was not echoed
 pub line_ends : {T E : Type 0} (r : Result T E) (a : Answered) (old mid now : Exchange) (before after : Option (List ℕ))

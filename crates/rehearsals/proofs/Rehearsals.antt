@@ -16,7 +16,7 @@ use Rattle.rehearsals.specs.Report.{report}
 use Rattle.byte_io.specs.Input.{IsTaken}
 use Rattle.tape_blocks.specs.Told.{IsAsTold}
 use Rattle.command_io.specs.Tapes.{AreTapes, AreAllTaken}
-use Rattle.loss_scripts.specs.Script.{IsScript, IsRefusedScript, IsRefusedLine, script_limit}
+use Rattle.loss_scripts.specs.Script.{IsRefusedScript, IsRefusedLine, script_limit}
 use Rattle.rehearsals.specs.Rehearsal.{IsScriptInput, IsScriptInputFault, IsPlayFault, IsRehearseFault, IsRehearsal, IsRehearsed, AllLie, after_puts, machine_of, opening}
 use Rattle.command_io.specs.declared.fault.CommandFault.{CommandFault}
 use Rattle.command_io.specs.declared.fault.CommandFault.TheVariants as fault
@@ -27,13 +27,6 @@ use Rattle.command_io.proofs.TapeInput.{left_of, whole, ends}
 all_taken : (before after : Option (List ℕ)) (bytes : List ℕ) → IsTaken before after (script_limit + 1) bytes → length bytes ≤ script_limit → IsAsTold before bytes
 all_taken before after bytes taken few =
     subst (IsAsTold before) (ap (λ rest. bytes ++ rest) (ends after (taken.to_end (omega arith))) ∙ append-nil bytes) (whole before after bytes taken.consumed)
-
-pub script_input : (before after : Option (List ℕ)) (bytes read : List ℕ) (script : Script) → IsTaken before after (script_limit + 1) bytes → read ≡ bytes → IsScript read script → IsScriptInput before script
-script_input before after bytes read script taken same is = record {
-  text = bytes;
-  is_input = all_taken before after bytes taken (subst (λ t. length t ≤ script_limit) same is.within);
-  is_script = subst (λ t. IsScript t script) same is;
-}
 
 -- what is refused of the bytes taken is refused of the input
 pub refused_input : (before after : Option (List ℕ)) (bytes read : List ℕ) (number : ℕ) → IsTaken before after (script_limit + 1) bytes → read ≡ bytes → IsRefusedScript read number

@@ -13,15 +13,16 @@ use Rattle.line_world.specs.Opening.{opened}
 use Rattle.line_world.specs.Runs.{RunsTo}
 use Rattle.command_io.specs.declared.fault.CommandFault.{CommandFault}
 use Rattle.command_io.specs.declared.fault.CommandFault.TheVariants as fault
+use Rattle.loss_scripts.specs.Script.{plain_patience}
 use Rattle.rehearsals.specs.KeyLines.{answered_keys, key_text}
 use Rattle.rehearsals.specs.Rehearsal.{machine_of}
 use Rattle.rehearsals.specs.Report.{report}
 use Rattle.byte_io.specs.Output.{WritesProperPrefix}
 use Rattle.command_io.specs.Tapes.{TapeText, AreTaken, AreAllTaken, AreTapesFault, tapes_of}
 
--- how many mishaps the host survives in a dialogue
+-- how many mishaps the host survives in a dialogue: as many as in a rehearsal whose script names no patience
 abbrev pub dialogue_patience : ℕ
-dialogue_patience = 8
+dialogue_patience = plain_patience
 
 -- the world of a dialogue at its opening: a zeroed machine, and a host that has done nothing yet
 abbrev pub dialogue_opening : List TapeValue → ℕ → Style → Start → Scene

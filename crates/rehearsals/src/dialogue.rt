@@ -17,13 +17,11 @@ use byte_io::write_whole;
 use command_io::{CommandFault, take_tapes};
 use host_core::End;
 use line_world::World;
+use loss_scripts::PLAIN_PATIENCE;
 use odt_machine::Style;
 use std::alloc::Global;
 use std::io::{Read, Write};
 use tape_image::{Plan, Start};
-
-// How many mishaps the host survives.
-const PATIENCE: u32 = 8;
 
 /// Loads tapes, one from each input, as one into a zeroed machine on a line that loses nothing, and
 /// prints what is typed and answered as it goes, and at the end the report. The program begins where
@@ -49,7 +47,7 @@ pub fn dialogue_to<R: Read, W: Write>(
     let taken = take_tapes(alloc, tapes)?;
     let odt = zeroed(alloc, words, style)?;
     let plan = Plan::of_all(alloc, &taken.tapes)?;
-    let mut world = open(plan.starting(start), odt, PATIENCE, &[]);
+    let mut world = open(plan.starting(start), odt, PLAIN_PATIENCE, &[]);
     let end = talk(alloc, &mut world, out)?;
     write_report(alloc, &world, out)?;
     Ok(end)

@@ -2,6 +2,7 @@
 ghost use Rattle.std.specs.Prelude.{◌≡◌, ◌++◌, ◌∷◌, [], List, codes, OnOk, OnErr, IfErr};
 ghost use Rattle.std.specs.Io.KnownBytes.{Appends};
 ghost use Rattle.byte_io.specs.Output.{WritesPrefix};
+ghost use Rattle.byte_io.specs.Text.{line};
 ghost use Rattle.rehearsals.specs.Dialogue.{IsTalkFault};
 ghost use Rattle.rehearsals.specs.KeyLines.{Answered, Gathers, Holds, Notes, key_text, last_line, shown};
 
@@ -22,7 +23,7 @@ pub(crate) struct Exchange {
 
 impl Exchange {
     /// Nothing was typed yet.
-    pub fn new(alloc: Global) -> Exchange
+    pub(crate) fn new(alloc: Global) -> Exchange
         ensures { Gathers [] result }
     {
         Exchange {
@@ -32,7 +33,7 @@ impl Exchange {
     }
 
     /// Notes a key and its answer, and writes the line that they end, if they do.
-    pub fn note<W: Write>(
+    pub(crate) fn note<W: Write>(
         &mut self,
         key: u8,
         answer: &[u8],
@@ -53,7 +54,7 @@ impl Exchange {
     }
 
     /// Writes the line under way, if keys are gathered.
-    pub fn finish<W: Write>(&mut self, out: &mut W) -> Result<(), CommandFault>
+    pub(crate) fn finish<W: Write>(&mut self, out: &mut W) -> Result<(), CommandFault>
         ensures ok { OnOk result ((held : List Answered) → Holds held self.old →
             Appends (W.contents out.old) (W.contents out.new) (last_line held) × Holds [] self.new) }
         ensures front { OnErr result ((held : List Answered) → Holds held self.old → WritesPrefix (W.contents out.old) (W.contents out.new) (last_line held)) }
@@ -72,7 +73,7 @@ impl Exchange {
 
 // A line: the keys, and then the answers.
 fn end_line(keys: &mut Vec<u8>, answers: &[u8]) -> Result<(), AllocError>
-    ensures { OnOk result (keys.new.items ≡ (keys.old.items ++ codes " -> " ++ answers.now) ++ 10 ∷ []) }
+    ensures { OnOk result (keys.new.items ≡ line (keys.old.items ++ codes " -> " ++ answers.now)) }
 {
     keys.extend_from_slice(b" -> ")?;
     keys.extend_from_slice(answers)?;

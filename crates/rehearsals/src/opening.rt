@@ -5,6 +5,7 @@ ghost use Rattle.host_core.specs.Core.{begun};
 ghost use Rattle.host_core.specs.Host.{IsHost};
 ghost use Rattle.odt_machine.specs.Machine.{IsMachine};
 ghost use Rattle.line_world.specs.Opening.{opened};
+ghost use Rattle.line_world.specs.Wire.{most_waiting};
 ghost use Rattle.rehearsals.specs.Rehearsal.{after_puts, AllLie, IsRefusedPut, IsMachineFault, machine_of};
 
 use command_io::CommandFault;
@@ -19,7 +20,7 @@ use tape_image::Plan;
 /// answers wait for it.
 pub(crate) fn open(plan: Plan, odt: Odt, patience: u32, waiting: &[u8]) -> World
     requires prompt { odt.mode ≡ Prompt }
-    requires few { length waiting.now ≤ 32 }
+    requires few { length waiting.now ≤ most_waiting }
     ensures world { result ≡ opened odt (begun plan 0 false patience) waiting.now }
     ensures host { IsHost result.core }
 {

@@ -104,9 +104,20 @@ fn is_marked(pages: &[[u8; PAGE]], mark: u8) -> bool {
 
 // Takes what memory there is.
 fn take_all(alloc: Global, taken: &mut Vec<Vec<u8>>) -> Result<(), AllocError> {
+    take_large(alloc, taken)?;
+    take_small(alloc, taken)
+}
+
+// Takes blocks of powers of two, from 2048 bytes on, the largest first.
+fn take_large(alloc: Global, taken: &mut Vec<Vec<u8>>) -> Result<(), AllocError> {
     for power in (11..47u32).rev() {
         take(alloc, taken, 1 << power)?;
     }
+    Ok(())
+}
+
+// Takes small blocks, the largest first.
+fn take_small(alloc: Global, taken: &mut Vec<Vec<u8>>) -> Result<(), AllocError> {
     for steps in (1..=SMALL / STEP).rev() {
         take(alloc, taken, STEP * steps)?;
     }

@@ -425,8 +425,8 @@ impl<'a> Files for System<'a> {
     }
 }
 
-impl Locks for System<'_> {
-    fn hold(&self, file: &Self::File) -> bool {
+impl<'a> Locks for System<'a> {
+    fn hold(&self, file: &RoomyFile<'a>) -> bool {
         note(self.notes, file.holding).is_ok()
             && !matches!(file.file.try_lock(), Err(TryLockError::WouldBlock))
     }

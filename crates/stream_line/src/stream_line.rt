@@ -54,7 +54,7 @@ impl<S: TimedStream + Drop> StreamLine<S> {
         Ok(StreamLine::over(stream))
     }
 
-    // A line over a stream whose reads are limited to the quiet time.
+    /// A line over a stream whose reads are limited to the quiet time.
     pub(crate) fn over(stream: S) -> StreamLine<S>
         ensures { result ≡ fresh_line (S.to_come stream) (S.contents stream) (S.silences stream) (S.is_over stream) }
     {

@@ -11,7 +11,6 @@ mod Needs
 mod Parts
 mod Plain
 mod Readings
-mod SixteenBytes
 mod Standings
 mod Steps
 mod Totality

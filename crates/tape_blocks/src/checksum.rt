@@ -2,7 +2,7 @@ ghost use Rattle.std.specs.Prelude.{◌≡◌, ◌%◌, ◌≤◌, length, sum};
 ghost use Rattle.tape_blocks.specs.Tape.{tape_limit};
 
 /// The sum of the bytes modulo 256, which is 0 over a whole block.
-pub fn byte_sum(bytes: &[u8]) -> u32
+pub(crate) fn byte_sum(bytes: &[u8]) -> u32
     requires { length bytes.now ≤ tape_limit }
     ensures { result ≡ sum bytes.now % 256 }
 {

@@ -8,7 +8,7 @@ use crate::fault::{Fault, Why};
 use byteorder::{ByteOrder, LittleEndian};
 
 /// What stands first in a text that begins with no byte 00.
-pub enum Head<'a> {
+pub(crate) enum Head<'a> {
     /// The beginning of a block, or nothing: the text ends before the block does.
     Part,
 
@@ -21,7 +21,7 @@ pub enum Head<'a> {
 
 /// What stands first in the text that is these two joined, of which the first is the block's header
 /// as far as it is there. The text stands at this place of the input.
-pub fn head_of<'a>(header: &[u8], body: &'a [u8], at: usize) -> Result<Head<'a>, Fault>
+pub(crate) fn head_of<'a>(header: &[u8], body: &'a [u8], at: usize) -> Result<Head<'a>, Fault>
     requires split { IsSplit header.now body.now }
     requires within { at + length (header.now ++ body.now) ≤ tape_limit }
     requires no_blank { (rest : List ℕ) → header.now ++ body.now ≡ 0 ∷ rest → ⊥ }

@@ -2,7 +2,7 @@ use crate::fault::ReadError;
 
 /// How reading a tape ended, if it did.
 #[derive(Clone, Copy)]
-pub enum Outcome {
+pub(crate) enum Outcome {
     /// The tape goes on.
     Open,
 

@@ -18,16 +18,16 @@ use std::mem;
 /// The blocks that were read, the place behind them, and the bytes of the next block that are there:
 /// its header as far as it came, and then its data and checksum.
 #[derive(Drop)]
-pub struct Progress {
+pub(crate) struct Progress {
     alloc: Global,
-    pub blocks: Vec<Block>,
-    pub place: usize,
+    pub(crate) blocks: Vec<Block>,
+    pub(crate) place: usize,
     header: ArrayVec<u8, HEADER>,
     body: Vec<u8>,
 }
 
 /// How far reading on came.
-pub enum Step {
+pub(crate) enum Step {
     /// So many bytes were taken, and the tape goes on.
     Took(usize),
 
@@ -37,7 +37,7 @@ pub enum Step {
 
 impl Progress {
     /// Nothing is read. Takes no memory.
-    pub fn new(alloc: Global) -> Progress
+    pub(crate) fn new(alloc: Global) -> Progress
         ensures part { IsPart result }
         ensures nothing { IsReadBy result [] }
     {
@@ -51,7 +51,7 @@ impl Progress {
     }
 
     /// Reads on over a piece, to its end or to the tape's.
-    pub fn read_on(&mut self, piece: &[u8]) -> Result<Step, ReadError>
+    pub(crate) fn read_on(&mut self, piece: &[u8]) -> Result<Step, ReadError>
         requires { IsPart self.old }
         ensures step { IsStep self.old piece.now self.new result }
         ensures whole { TakesAll piece.now result }
@@ -200,7 +200,7 @@ impl Progress {
     }
 
     /// How many bytes more every tape has that begins so, at least.
-    pub fn needs(&self) -> usize
+    pub(crate) fn needs(&self) -> usize
         requires { IsPart self.now }
         ensures some { 0 < result }
         ensures known { (fed more : List ℕ) (blocks : List BlockValue) (start : ℕ) → IsReadBy self.now fed → IsTape (fed ++ more) blocks start
@@ -219,7 +219,7 @@ impl Progress {
     }
 
     /// The fault where nothing follows.
-    pub fn missing(&self) -> Fault
+    pub(crate) fn missing(&self) -> Fault
         requires { IsPart self.now }
         ensures { (fed : List ℕ) → IsReadBy self.now fed → result ≡ missing_fault fed self.now.place }
     {

@@ -145,7 +145,7 @@ impl TapeReader {
 
     /// How many bytes more the tape has, as far as that is known: no tape that begins with what was
     /// fed has fewer. 0 where no piece is wanted any more.
-    pub fn needs(&self) -> usize
+    pub(crate) fn needs(&self) -> usize
         ensures goes_on { IsOpen self.now → 0 < result }
         ensures known { (fed more : List ℕ) (blocks : List BlockValue) (start : ℕ) → IsOpen self.now → StandsAt self.now fed
             → IsTape (fed ++ more) blocks start → result ≤ length more }

@@ -9,7 +9,7 @@ use std::fmt;
 use std::marker::Model;
 
 /// The most bytes that a tape may have, up to the end of its transfer block (this project's choice).
-pub const TAPE_LIMIT: usize = 1_048_576;
+pub(crate) const TAPE_LIMIT: usize = 1_048_576;
 
 /// Why a list of blocks makes no tape. Blocks are numbered from 0.
 #[derive(Clone, Copy, Debug, PartialEq, Eq)]

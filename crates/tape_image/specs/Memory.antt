@@ -10,7 +10,8 @@ half b word = if b % 2 == 0 then word % 256 else word / 256
 abbrev pub byte_of : List ℕ → ℕ → ℕ
 byte_of memory b = half b (slice_index memory (b / 2))
 
--- the most words that a memory has: those below 160000 (octal), where the I/O page begins
+-- the most words that a memory has: those below 160000 (octal), where the I/O page begins. `largest_words` of odt_machine is the same number, since
+-- neither of tape and machine may stand on the other
 abbrev pub most_words : ℕ
 most_words = 28672
 

@@ -11,6 +11,10 @@ pub record WordValue : Type 0 where
   pub mask : ℕ
   pub value : ℕ
 
+-- the word at an address of which the tape gives both bytes, as this number
+abbrev pub whole_word : ℕ → ℕ → WordValue
+whole_word address number = record { address = address; mask = 0o177777; value = number }
+
 -- a word is stored as its three fields
 abbrev pub word_code : Coded WordValue
 word_code =

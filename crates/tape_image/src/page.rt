@@ -9,14 +9,14 @@ use std::alloc::AllocError;
 use std::marker::Model;
 
 /// How many addresses a page has.
-pub const PAGE: usize = 512;
+pub(crate) const PAGE: usize = 512;
 
 /// The bytes that an image has for 512 addresses in a row, each with a mark that says whether it is
 /// one of the image's.
 ///
 /// Contracts see an image: the marked bytes by their offsets in the page, 0 to 511.
 #[derive(Debug, Drop)]
-pub struct Page {
+pub(crate) struct Page {
     marks: [bool; PAGE],
     bytes: [u8; PAGE],
 }
@@ -36,7 +36,7 @@ impl Model for Page {
 
 impl Page {
     /// A page with no byte of an image.
-    pub fn empty() -> Page
+    pub(crate) fn empty() -> Page
         ensures { result ≡ empty }
     {
         Page {
@@ -46,7 +46,7 @@ impl Page {
     }
 
     /// Lays the run over the page, its first byte at the offset.
-    pub fn lay(&mut self, offset: usize, run: &[u8])
+    pub(crate) fn lay(&mut self, offset: usize, run: &[u8])
         requires { offset + length run.now ≤ 512 }
         ensures { IsLaid (byte_in (block_at offset run.now)) self.old self.new }
     {
@@ -57,7 +57,7 @@ impl Page {
 
     /// Appends the words of the page, which is the one of this number. The one error is want of memory
     /// for them.
-    pub fn push_words(&self, number: usize, words: &mut Vec<Word>) -> Result<(), AllocError>
+    pub(crate) fn push_words(&self, number: usize, words: &mut Vec<Word>) -> Result<(), AllocError>
         requires { number < 112 }
         ensures { IfOk result (λ _. AddsPageWords number self.now words.old.items words.new.items) }
     {
@@ -74,7 +74,7 @@ impl Page {
     }
 
     /// The image's byte at the offset, if it has one there.
-    pub fn byte_at(&self, offset: usize) -> Option<u8>
+    pub(crate) fn byte_at(&self, offset: usize) -> Option<u8>
         requires { offset < 512 }
         ensures { result ≡ get self.now offset }
     {

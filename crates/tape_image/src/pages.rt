@@ -18,7 +18,7 @@ const PAGES: usize = 112;
 ///
 /// Contracts see the image.
 #[derive(Debug, Drop)]
-pub struct Pages {
+pub(crate) struct Pages {
     table: Vec<Option<Box<Page>>>,
 }
 
@@ -41,7 +41,7 @@ impl Model for Pages {
 
 impl Pages {
     /// The pages of no block. The one error is want of memory, for the table.
-    pub fn new(alloc: Global) -> Result<Pages, AllocError>
+    pub(crate) fn new(alloc: Global) -> Result<Pages, AllocError>
         ensures { IfOk result (λ pages. pages ≡ empty) }
     {
         let mut table = Vec::with_capacity(alloc, PAGES)?;
@@ -52,7 +52,7 @@ impl Pages {
     }
 
     /// Lays the blocks over the image in their order. The one error is want of memory, for a page.
-    pub fn lay_blocks(&mut self, alloc: Global, blocks: &[Block]) -> Result<(), AllocError>
+    pub(crate) fn lay_blocks(&mut self, alloc: Global, blocks: &[Block]) -> Result<(), AllocError>
         requires { All IsBlock blocks.now }
         ensures { IfOk result (λ _. IsLaid (byte_at blocks.now) self.old self.new) }
     {
@@ -107,7 +107,7 @@ impl Pages {
 
     /// The words of the image, in the order of their addresses. The one error is want of memory for
     /// them.
-    pub fn words(&self, alloc: Global) -> Result<Vec<Word>, AllocError>
+    pub(crate) fn words(&self, alloc: Global) -> Result<Vec<Word>, AllocError>
         ensures { IfOk result (λ words. words.items ≡ words_of self.now) }
     {
         let mut words = Vec::new(alloc);
@@ -120,7 +120,7 @@ impl Pages {
     }
 
     /// The image's byte at the address, if it has one there.
-    pub fn byte_at(&self, address: u16) -> Option<u8>
+    pub(crate) fn byte_at(&self, address: u16) -> Option<u8>
         ensures { result ≡ get self.now address }
     {
         let address = address as usize;

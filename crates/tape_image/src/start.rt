@@ -15,7 +15,7 @@ pub enum Start {
 }
 
 /// Where the program begins: an odd start address says that it does not.
-pub fn program_start(start: u16) -> Option<u16>
+pub(crate) fn program_start(start: u16) -> Option<u16>
     ensures { result ≡ program_start start }
 {
     (start % 2 == 0).then_some(start)

@@ -1,9 +1,11 @@
 ghost use Rattle.std.specs.Prelude.{◌≡◌, ℕ, ◌%◌, ◌<◌, ◌↔◌, IsTrue, IsSome, IfSome};
+ghost use Rattle.tape_blocks.specs.Block.{top};
 ghost use Rattle.tape_image.specs.Memory.{half};
 ghost use Rattle.tape_image.specs.Word.{IsWord, IsInside, covers, merged, merged_half, Stands};
 ghost use Rattle.tape_image.specs.Plan.{word_of};
 
 use std::marker::Model;
+use tape_blocks::TOP;
 
 // The mask of the low byte, at the word's own address.
 const LOW_BYTE: u16 = 0o377;
@@ -13,9 +15,6 @@ const HIGH_BYTE: u16 = 0o177400;
 
 // The mask of both bytes.
 const BOTH_BYTES: u16 = 0o177777;
-
-/// 160000 octal, where memory ends and the I/O page begins: no image reaches it (this project's choice).
-pub(crate) const TOP: u16 = 0o160000;
 
 // How many values a byte has: a word is its low byte plus so many times its high byte.
 const BYTE: u16 = 256;
@@ -53,7 +52,7 @@ impl Word {
         ensures made { IsSome result ↔ IsWord (record { address = address; mask = mask; value = value }) }
         ensures value { IfSome result (λ word. word ≡ record { address = address; mask = mask; value = value }) }
     {
-        if address % 2 == 0 && address < TOP && is_inside(mask, value) {
+        if address % 2 == 0 && address < TOP as u16 && is_inside(mask, value) {
             Some(Word {
                 address,
                 mask,
@@ -67,7 +66,7 @@ impl Word {
     /// The word of these bytes of an image, at an even address and the next, if there is one.
     pub(crate) fn of_bytes(address: u16, low: Option<u8>, high: Option<u8>) -> Option<Word>
         requires even { address % 2 ≡ 0 }
-        requires below { address < TOP }
+        requires below { address < top }
         ensures { result ≡ word_of address low high }
     {
         let (mask, value) = match (low, high) {

@@ -22,8 +22,8 @@ pub(crate) fn tape_of(blocks: Vec<Block>, start: u16) -> Option<Tape> {
     }
 }
 
-/// Adds a block of these bytes.
-pub(crate) fn push_block(
+// Adds a block of these bytes.
+fn push_block(
     alloc: Global,
     blocks: &mut Vec<Block>,
     address: u16,

@@ -1,7 +1,7 @@
 //! A disk that tells what it was asked.
 ghost use Rattle.std.specs.Prelude.{◌≡◌, ◌∷◌, [], None, IfOk, MatchResult};
 ghost use Rattle.std.specs.String.{string_bytes};
-ghost use Rattle.record_file.specs.DiskStep.{Tells, told};
+ghost use Rattle.record_file.specs.DiskStep.{Tells, step_by};
 ghost use Rattle.told_disk.specs.ToldSteps.{request_of, step_of, steps_of};
 
 use crate::file::ToldFile;
@@ -84,7 +84,7 @@ impl<'a> ToldDisk<'a> {
     // Puts what was asked behind the list, with whether it was done.
     fn tell(&mut self, request: Result<Request, AllocError>, done: bool)
         ensures asked { MatchResult request
-            (λ request. Tells (steps_of self.old.asked) (steps_of self.new.asked) (told (request_of request) done ∷ []))
+            (λ request. Tells (steps_of self.old.asked) (steps_of self.new.asked) (step_by (request_of request) done ∷ []))
             (λ _. self.new.asked ≡ None) }
     {
         match request {

@@ -15,10 +15,6 @@ use Rattle.trial_core.specs.Trial.{IsTrial}
 use Rattle.trial_core.specs.TrialTable.{Asked, IsTrying, KeyTries, ask, listens, noted, sends, taken, turn_of}
 use Rattle.trial_core.proofs.Trials.{kept, tries}
 
-pub led_kept : (t : Trial) (heard : List Heard) → IsTrial t → IsTrial (led t heard)
-led_kept t [] h = h
-led_kept t (heard ∷ more) h = led_kept (ask t heard).next more (kept t heard h)
-
 key_tries : (key : Option ℕ) → KeyTries key → All IsTrying (option_to_list key)
 key_tries None h = All-nil IsTrying
 key_tries (Some c) h = All-cons IsTrying c [] h (All-nil IsTrying)

@@ -1,5 +1,6 @@
 -- What a trial sees of a console's style, in the answers that it hears (this project's choice).
-use Rattle.std.specs.Prelude.{ℕ, ◌==◌, ◌||◌, if◌then◌else◌}
+use Rattle.std.specs.Prelude.{ℕ, ◌==◌, if◌then◌else◌}
+use Rattle.octal.specs.Octal.{is_first_digit}
 use Rattle.host_core.specs.declared.heard.Heard.{Heard}
 use Rattle.host_core.specs.declared.heard.Heard.TheVariants.{Got}
 use Rattle.host_core.specs.Console.{resynchronise, question_mark, carriage_return, line_feed, space}
@@ -32,7 +33,7 @@ returns_seen seen c = record seen { two_returns = and_then seen.two_returns (sho
 -- behind the echo of `/`: a space, or the first digit, which is 0 or 1
 abbrev pub space_seen : Seen → ℕ → Seen
 space_seen seen c =
-    record seen { space_before = and_then seen.space_before (if c == space then Yes else if c == 48 || c == 49 then No else Unseen) }
+    record seen { space_before = and_then seen.space_before (if c == space then Yes else if is_first_digit c then No else Unseen) }
 
 -- the answer to `Z`, at a place
 abbrev pub reply_seen : Seen → ℕ → ℕ → Seen

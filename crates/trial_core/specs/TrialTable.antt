@@ -1,8 +1,8 @@
 -- The table of a host that tries whether a console forgets digits: what it does on what it hears (this project's choice). It
 -- opens the word at its address as a host does that only looks, types three digits into it, and then `Z`. It types no CR, which
 -- alone stores, and no `G`, which alone starts a program.
-use Rattle.std.specs.Prelude.{◌≡◌, ℕ, ◌+◌, true, ◌==◌, ◌||◌, ◌⊎◌, nat_lt, if◌then◌else◌, Option, Some, None, ⊤}
-use Rattle.octal.specs.Octal.{digit_of, is_digit}
+use Rattle.std.specs.Prelude.{◌≡◌, ℕ, ◌+◌, true, ◌==◌, ◌⊎◌, nat_lt, if◌then◌else◌, Option, Some, None, ⊤}
+use Rattle.octal.specs.Octal.{digit_of, is_digit, is_first_digit}
 use Rattle.host_core.specs.declared.heard.Heard.{Heard}
 use Rattle.host_core.specs.declared.heard.Heard.TheVariants.{Got, Quiet}
 use Rattle.host_core.specs.Console.{resynchronise, question_mark, carriage_return, line_feed, prompt, slash, space}
@@ -44,7 +44,7 @@ slash_hears c = if c == slash then Listen Before else Stray
 
 -- the first of a reading's six digits, which is 0 or 1
 abbrev pub first_digit_hears : ℕ → Turn
-first_digit_hears c = if c == 48 || c == 49 then Listen (Value 1) else Stray
+first_digit_hears c = if is_first_digit c then Listen (Value 1) else Stray
 
 -- Before: the reading of the word, with or without a space before it, or `?` where there is no memory
 abbrev pub before_hears : ℕ → Turn

@@ -4,9 +4,10 @@
 //! forgets them leaves the word as it was. Of the keys that ODT knows it types digits and `/` alone, so
 //! no CR, which stores, and no `G`, which starts a program. On its way it notes the console's style.
 //!
-//! The contract of `step` is the table of the phases. `digits_for` chooses digits that tell a console
-//! which stores them from one that forgets. `trial_law` shows what this means for a machine,
-//! `trial_engine` lends the trial to a line, and `machine_probe` looks before and behind it.
+//! The contract of `step` is the table of the phases. Which digits are typed depends on what the word
+//! holds: they tell a console that stores them from one that forgets. `trial_law` shows what this
+//! means for a machine, `trial_engine` lends the trial to a line, and `machine_probe` looks before and
+//! behind it.
 #![tactic(auto)]
 
 mod digits;
@@ -17,7 +18,6 @@ mod table;
 mod trial;
 mod turn;
 
-pub use digits::digits_for;
 pub use phase::{End, Phase};
 pub use sight::{Seen, Sight};
 pub use trial::{Asked, Trial};

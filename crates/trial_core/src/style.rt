@@ -5,7 +5,7 @@ ghost use Rattle.trial_core.specs.Style.{and_then, echo_seen, reply_seen, return
 use crate::phase::Phase;
 use crate::sight::{Seen, Sight};
 use host_core::Heard;
-use reading_core::console::{CARRIAGE_RETURN, LINE_FEED, QUESTION_MARK, RESYNCHRONISE, SPACE};
+use host_core::console::{CARRIAGE_RETURN, LINE_FEED, QUESTION_MARK, RESYNCHRONISE, SPACE};
 
 impl Sight {
     // What was seen, once it was seen again.
@@ -23,14 +23,14 @@ impl Sight {
 
 impl Seen {
     /// Nothing was seen.
-    pub const NOTHING: Seen = Seen {
+    pub(crate) const NOTHING: Seen = Seen {
         space_before: Sight::Unseen,
         two_returns: Sight::Unseen,
         echo_illegal: Sight::Unseen,
     };
 
     /// What was seen, once one thing more was heard in a phase.
-    pub fn after(self, phase: Phase, heard: Heard) -> Seen
+    pub(crate) fn after(self, phase: Phase, heard: Heard) -> Seen
         ensures { result ≡ seen_after self phase heard }
     {
         let Heard::Got(c) = heard else {

@@ -8,10 +8,10 @@ ghost use Rattle.trial_core.specs.TrialTable.{finished, reply, synced, typed_dig
 
 use crate::phase::{End, Phase};
 use crate::turn::{Reply, Turn};
-use octal::oct6;
-use reading_core::console::{
+use host_core::console::{
     CARRIAGE_RETURN, LINE_FEED, PROMPT, QUESTION_MARK, RESYNCHRONISE, SLASH, SPACE,
 };
+use octal::oct6;
 
 // How many octal digits the host types of an address, and the console prints of a word.
 const DIGITS: u8 = 6;
@@ -20,7 +20,7 @@ const DIGITS: u8 = 6;
 const TRIED_DIGITS: u8 = 3;
 
 /// The answer to `Z`: its echo or none, `?`, one CR or two, LF, and the prompt.
-pub fn reply(place: u8, c: u8) -> Reply
+pub(crate) fn reply(place: u8, c: u8) -> Reply
     ensures { result ≡ reply place c }
 {
     match (place, c) {
@@ -35,7 +35,7 @@ pub fn reply(place: u8, c: u8) -> Reply
 }
 
 /// Behind the first answer to `Z` the address is typed.
-pub fn synced(address: u16, reply: Reply) -> Turn
+pub(crate) fn synced(address: u16, reply: Reply) -> Turn
     ensures { result ≡ synced address reply }
 {
     match reply {
@@ -46,7 +46,7 @@ pub fn synced(address: u16, reply: Reply) -> Turn
 }
 
 /// The echo of each digit of the address: the next is typed, and after the sixth `/`.
-pub fn address(address: u16, place: u8, c: u8) -> Turn
+pub(crate) fn address(address: u16, place: u8, c: u8) -> Turn
     requires { IsPlace place }
     ensures { result ≡ address_hears address place c }
 {
@@ -60,7 +60,7 @@ pub fn address(address: u16, place: u8, c: u8) -> Turn
 }
 
 /// The echo of `/`.
-pub fn slash(c: u8) -> Turn
+pub(crate) fn slash(c: u8) -> Turn
     ensures { result ≡ slash_hears c }
 {
     match c {
@@ -70,7 +70,7 @@ pub fn slash(c: u8) -> Turn
 }
 
 /// The beginning of a reading, with or without a space, or `?` where no memory answers.
-pub fn before(c: u8) -> Turn
+pub(crate) fn before(c: u8) -> Turn
     ensures { result ≡ before_hears c }
 {
     match c {
@@ -91,7 +91,7 @@ fn first_digit(c: u8) -> Turn
 }
 
 /// The rest of a reading: behind six digits and a space the word is open, and the first digit is typed.
-pub fn value(digits: u16, place: u8, c: u8) -> Turn
+pub(crate) fn value(digits: u16, place: u8, c: u8) -> Turn
     ensures { result ≡ value_hears digits place c }
 {
     match (place, c) {
@@ -103,7 +103,7 @@ pub fn value(digits: u16, place: u8, c: u8) -> Turn
 }
 
 /// The echo of each digit that is typed into the open word: the next is typed, and after the third `Z`.
-pub fn typed(digits: u16, place: u8, c: u8) -> Turn
+pub(crate) fn typed(digits: u16, place: u8, c: u8) -> Turn
     requires from { 1 ≤ place }
     requires to { place ≤ 3 }
     ensures { result ≡ typed_hears digits place c }
@@ -118,7 +118,7 @@ pub fn typed(digits: u16, place: u8, c: u8) -> Turn
 }
 
 /// Behind the last answer to `Z` the trial is over.
-pub fn finished(reply: Reply) -> Turn
+pub(crate) fn finished(reply: Reply) -> Turn
     ensures { result ≡ finished reply }
 {
     match reply {
@@ -129,7 +129,7 @@ pub fn finished(reply: Reply) -> Turn
 }
 
 /// Nothing came for the quiet time.
-pub fn quiet(phase: Phase) -> Turn
+pub(crate) fn quiet(phase: Phase) -> Turn
     ensures { result ≡ waits phase }
 {
     match phase {

@@ -11,7 +11,7 @@ use crate::sight::Seen;
 use crate::table;
 use crate::turn::Turn;
 use host_core::Heard;
-use reading_core::console::RESYNCHRONISE;
+use host_core::console::RESYNCHRONISE;
 
 /// A host that tries whether a console forgets digits: it says which character to type next.
 ///

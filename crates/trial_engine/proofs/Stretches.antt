@@ -6,9 +6,8 @@ use Rattle.load_devices.specs.declared.fault.LineFault.{LineFault}
 use Rattle.load_devices.specs.declared.item.Item.{Item}
 use Rattle.load_devices.specs.declared.item.Item.TheVariants.{Sent, Heard as Came}
 use Rattle.load_devices.specs.Dialogue.{said}
-use Rattle.load_devices.specs.Told.{Gains, Keeps}
-use Rattle.load_engine.proofs.Sessions.{gains_none, gains_kept, gains_join}
-use Rattle.trial_core.specs.declared.phase.End.{End}
+use Rattle.load_devices.specs.Told.{Gains, SaysNothing}
+use Rattle.load_engine.proofs.Sessions.{gains_kept, gains_join}
 use Rattle.trial_core.specs.declared.trial.Trial.{Trial}
 use Rattle.trial_core.specs.Laws.{led}
 use Rattle.trial_core.specs.Trial.{ended}
@@ -64,10 +63,7 @@ attempted_join turns more stop a b c line line' line'' s t = let all : length s.
   on_line = gains_join line line' line'' s.said t.said s.on_line t.on_line;
 }
 
--- ---- a stretch of no turns, and one that stops
-
-pub attempted_none : (t : Trial) (line : Option (List Item)) → Attempted 0 None t t line line
-attempted_none t line = record { heard = []; said = []; trial = refl; goes_on = tt; within = omega arith; items = (refl, omega arith); on_line = gains_none line }
+-- ---- a stretch that stops
 
 more_left : (fault : LineFault) (turns all : ℕ) (heard : List Heard) (items now : List Item) → turns ≤ all → IsSaid (Some (LineFailed fault)) (turns - length heard) items now → IsSaid (Some (LineFailed fault)) (all - length heard) items now
 more_left fault turns all heard items now le (inl s) = inl (s.0, omega (arith, le, s.1))
@@ -78,24 +74,16 @@ pub attempted_wider : (fault : LineFault) (turns all : ℕ) (a b : Trial) (line 
 attempted_wider fault turns all a b line line' le s =
     record { heard = s.heard; said = s.said; trial = s.trial; goes_on = s.goes_on; within = omega (arith, s.within, le); items = more_left fault turns all s.heard (trial_dialogue a s.heard) s.said le s.items; on_line = s.on_line }
 
-pub attempted_ended : (end : End) (turns all : ℕ) (a b : Trial) (line line' : Option (List Item)) → turns ≤ all → Attempted turns None a b line line' → Attempted all (Some (Ended end)) a b line line'
-attempted_ended end turns all a b line line' le s =
-    record { heard = s.heard; said = s.said; trial = s.trial; goes_on = s.goes_on; within = omega (arith, s.within, le); items = s.items.0; on_line = s.on_line }
-
-pub attempted_over : (turns : ℕ) (a b : Trial) (line line' : Option (List Item)) → Attempted turns None a b line line' → Attempted turns (Some TurnsOver) a b line line'
-attempted_over turns a b line line' s =
-    record { heard = s.heard; said = s.said; trial = s.trial; goes_on = s.goes_on; within = s.within; items = s.items; on_line = s.on_line }
-
 -- ---- one turn
 
 -- the line fails at the hear
-pub turn_deaf : (fault : LineFault) (t : Trial) (line line' : Option (List Item)) → Keeps line line' → Attempted 1 (Some (LineFailed fault)) t t line line'
+pub turn_deaf : (fault : LineFault) (t : Trial) (line line' : Option (List Item)) → SaysNothing line line' → Attempted 1 (Some (LineFailed fault)) t t line line'
 turn_deaf fault t line line' k =
     record { heard = []; said = []; trial = refl; goes_on = tt; within = omega arith; items = inl (refl, omega arith); on_line = gains_kept line line' k }
 
 -- the line fails at the send
 pub turn_unsent : (fault : LineFault) (old new : Trial) (heard : Heard) (key : ℕ) (line line' line'' : Option (List Item)) → ended old.phase ≡ None → new ≡ (ask old heard).next → (ask old heard).key ≡ Some key →
-    Gains line line' (Came heard ∷ []) → Keeps line' line'' → Attempted 1 (Some (LineFailed fault)) old new line line''
+    Gains line line' (Came heard ∷ []) → SaysNothing line' line'' → Attempted 1 (Some (LineFailed fault)) old new line line''
 turn_unsent fault old new heard key line line' line'' goes next sends hears k = record {
   heard = heard ∷ [];
   said = Came heard ∷ [];

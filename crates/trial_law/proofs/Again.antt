@@ -2,19 +2,16 @@
 use Rattle.std.proofs.Common.{◌≡◌, ℕ, ◌^◌, ◌<◌, List, [], ◌∷◌, length, get_or, refl, arith, ap, sym, subst, ◌∙◌}
 use Rattle.std.specs.Prelude.{All}
 use Rattle.std.proofs.lemmas.List.Elements.{All-nil, All-cons, All-head, All-tail}
-use Rattle.odt_machine.specs.Machine.{Machine, word_at}
+use Rattle.odt_machine.specs.Machine.{word_at}
 use Rattle.host_core.specs.declared.heard.Heard.{Heard}
 use Rattle.reading_core.specs.Addresses.{AreAddresses, IsAddress}
-use Rattle.reading_core.specs.Invariant.{IsReader}
 use Rattle.reading_core.specs.Laws.{led}
 use Rattle.reading_core.specs.Reader.{Reader}
 use Rattle.reading_core.proofs.Lives.{led_addresses}
-use Rattle.reading_core.proofs.Turns.{fresh_kept}
-use Rattle.reading_law.specs.Belief.{IsReadyMachine, MayLook}
 use Rattle.reading_law.specs.Law.{HoldsRead}
 use Rattle.trial_law.specs.Again.{IsSame, OneLineFindsTheWordAgain, ProbesFindTheWordAgain, looker}
 use Rattle.trial_law.specs.Runs.{AreHarmless, IsBorneOut, MayBeSuchAHost, Look, Run, Try}
-use Rattle.trial_law.proofs.Runs.{IsHarmless, may_begin, no_harm, run_harmless}
+use Rattle.trial_law.proofs.Runs.{IsHarmless, no_harm, run_harmless}
 
 -- ---- a host that looks at one word
 
@@ -24,12 +21,6 @@ one_address address is = record {
   rising = λ i j d before low. absurd (omega (arith, before, low));
   few = omega arith;
 }
-
-pub looker_kept : (address patience : ℕ) → IsAddress address → patience < 2 ^ 32 → IsReader (looker address patience)
-looker_kept address patience is long = fresh_kept (address ∷ []) patience (one_address address is) long
-
-pub may_look : (address patience : ℕ) (machine : Machine) → IsReadyMachine machine → MayLook (looker address patience) machine
-may_look address patience machine ready = may_begin (address ∷ []) patience machine ready
 
 -- ---- the numbers
 

@@ -138,10 +138,14 @@ const KEEP_FAULTS: [(KeepFault, &str); 2] = [
 ];
 
 #[test]
-fn faults_have_texts(rt: HostRuntime) {
+fn faults_of_lines_have_texts(rt: HostRuntime) {
     for (fault, text) in &LINE_FAULTS {
         check_that(&rt, is_written(rt.alloc(), fault, text) == Some(true), text);
     }
+}
+
+#[test]
+fn faults_of_keepers_have_texts(rt: HostRuntime) {
     for (fault, text) in &KEEP_FAULTS {
         check_that(&rt, is_written(rt.alloc(), fault, text) == Some(true), text);
     }

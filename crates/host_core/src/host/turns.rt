@@ -15,7 +15,7 @@ use crate::turn::Turn;
 use tape_image::Word;
 
 impl HostCore {
-    // The answer of the phase table.
+    /// The answer of the phase table.
     pub(super) fn turn(&self, heard: Heard) -> Turn
         ensures { result ≡ turn_of self.now heard }
     {
@@ -59,7 +59,7 @@ impl HostCore {
         self.plan.start().unwrap_or(0)
     }
 
-    // What the turn does to the life, and the character that it sends.
+    /// What the turn does to the life, and the character that it sends.
     pub(super) fn taken(&self, turn: Turn) -> Outcome
         requires { IsHost (taken self.now turn).next }
         ensures next { core_of self.now.plan self.now.patience result.life ≡ (taken self.now turn).next }

@@ -39,7 +39,7 @@ impl Odt {
         true
     }
 
-    // Whether a word lies at the address: it is even and below the top.
+    /// Whether a word lies at the address: it is even and below the top.
     pub(super) fn has_word(&self, address: u16) -> bool
         ensures { result ≡ is_word self.now.memory address }
     {

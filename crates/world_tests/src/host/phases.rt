@@ -117,13 +117,20 @@ fn is_taken_so(alloc: Global, row: &Row, character: u8) -> Option<bool> {
     }
 }
 
+// Whether a host that has heard the text takes every character as the row says.
+fn are_taken_so(alloc: Global, row: &Row) -> bool {
+    for character in 0..=255 {
+        if is_taken_so(alloc, row, character) != Some(true) {
+            return false;
+        }
+    }
+    true
+}
+
 #[test]
 fn each_phase_lists_its_characters(rt: HostRuntime) {
     for row in &WAITING {
-        for character in 0..=255 {
-            let is_so = is_taken_so(rt.alloc(), row, character) == Some(true);
-            check_that(&rt, is_so, row.0);
-        }
+        check_that(&rt, are_taken_so(rt.alloc(), row), row.0);
     }
 }
 

@@ -12,7 +12,7 @@ use Rattle.machine_look.specs.SavedTape.{saved_tape}
 use Rattle.machine_look.specs.Shelf.{Reserve}
 use Rattle.machine_look.proofs.Faults.{error_is, gains_none, gains_then, no_value, not_kept, not_reserved}
 use Rattle.machine_look.proofs.SavedMemory.{read_of, reads_low}
-use Rattle.machine_look.specs.SaveDisk.{IsLeftAlone, disk_asked_before}
+use Rattle.machine_look.specs.SaveDisk.{IsLeftAlone, save_disk_asked_before}
 use Rattle.machine_look.specs.ShelfDisk.{ShelfAsked}
 use Rattle.machine_look.proofs.Faults.{no_ok}
 use Rattle.machine_look.proofs.SavedOnDisk.{as_asked, left_alone, not_kept_on, not_reserved_on, only_reserved, saved_on}
@@ -128,9 +128,9 @@ returns-in_err-core-clause-disk g c = no_ok c.from_residual.result _ _ c.from_re
 pub returns-in_err-core-clause-disk_in_vain : goal.returns-in_err-core-clause-disk_in_vain
 returns-in_err-core-clause-disk_in_vain g c =
     error_is c.from_residual.result Memory
-    (λ fault. ShelfAsked (g.S.Shelf.disk c.args.shelf.now) (g.S.Shelf.disk c.args.shelf.now) (disk_asked_before c.args.options fault))
+    (λ fault. ShelfAsked (g.S.Shelf.disk c.args.shelf.now) (g.S.Shelf.disk c.args.shelf.now) (save_disk_asked_before c.args.options fault))
     c.from_residual.ensures.1
-    (as_asked IsLeftAlone (disk_asked_before c.args.options Memory) (g.S.Shelf.disk c.args.shelf.now) (g.S.Shelf.disk c.args.shelf.now) (λ d e steps x. inl x) (left_alone (g.S.Shelf.disk c.args.shelf.now)))
+    (as_asked IsLeftAlone (save_disk_asked_before c.args.options Memory) (g.S.Shelf.disk c.args.shelf.now) (g.S.Shelf.disk c.args.shelf.now) (λ d e steps x. inl x) (left_alone (g.S.Shelf.disk c.args.shelf.now)))
 
 pub returns-in_err-reserve-clause-disk : goal.returns-in_err-reserve-clause-disk
 returns-in_err-reserve-clause-disk g c = no_ok c.from_residual-in_err-reserve.result _ _ c.from_residual-in_err-reserve.ensures.1
@@ -138,7 +138,7 @@ returns-in_err-reserve-clause-disk g c = no_ok c.from_residual-in_err-reserve.re
 pub returns-in_err-reserve-clause-disk_in_vain : goal.returns-in_err-reserve-clause-disk_in_vain
 returns-in_err-reserve-clause-disk_in_vain g c =
     error_is c.from_residual-in_err-reserve.result (fault_of_shelf c.in_err-reserve.field-0.0)
-    (λ fault. ShelfAsked (g.S.Shelf.disk c.args.shelf.now) (g.S.Shelf.disk c.reserve.new.self) (disk_asked_before c.args.options fault))
+    (λ fault. ShelfAsked (g.S.Shelf.disk c.args.shelf.now) (g.S.Shelf.disk c.reserve.new.self) (save_disk_asked_before c.args.options fault))
     c.from_residual-in_err-reserve.ensures.1
     (not_reserved_on c.args.options (g.S.Shelf.disk c.args.shelf.now) (g.S.Shelf.disk c.reserve.new.self) c.in_err-reserve.field-0.0 c.in_err-reserve.ensures.disk)
 
@@ -148,9 +148,9 @@ returns-in_err-core-2-clause-disk g c = no_ok c.from_residual-in_err-core-2.resu
 pub returns-in_err-core-2-clause-disk_in_vain : goal.returns-in_err-core-2-clause-disk_in_vain
 returns-in_err-core-2-clause-disk_in_vain g c =
     error_is c.from_residual-in_err-core-2.result c.in_err-core-2.field-0.0
-    (λ fault. ShelfAsked (g.S.Shelf.disk c.args.shelf.now) (g.S.Shelf.disk c.reserve.new.self) (disk_asked_before c.args.options fault))
+    (λ fault. ShelfAsked (g.S.Shelf.disk c.args.shelf.now) (g.S.Shelf.disk c.reserve.new.self) (save_disk_asked_before c.args.options fault))
     c.from_residual-in_err-core-2.ensures.1
-    (subst (λ fault. ShelfAsked (g.S.Shelf.disk c.args.shelf.now) (g.S.Shelf.disk c.reserve.new.self) (disk_asked_before c.args.options fault)) (sym c.in_err-core-2.ensures.fault.0)
+    (subst (λ fault. ShelfAsked (g.S.Shelf.disk c.args.shelf.now) (g.S.Shelf.disk c.reserve.new.self) (save_disk_asked_before c.args.options fault)) (sym c.in_err-core-2.ensures.fault.0)
     (only_reserved (g.S.Shelf.is_opened_as c.reserve.new.self) (g.S.Shelf.disk c.args.shelf.now) (g.S.Shelf.disk c.reserve.new.self) c.in_ok-reserve.ensures.disk))
 
 pub returns-in_err-keep-clause-disk : goal.returns-in_err-keep-clause-disk
@@ -159,7 +159,7 @@ returns-in_err-keep-clause-disk g c = no_ok c.from_residual-in_err-keep.result _
 pub returns-in_err-keep-clause-disk_in_vain : goal.returns-in_err-keep-clause-disk_in_vain
 returns-in_err-keep-clause-disk_in_vain g c =
     error_is c.from_residual-in_err-keep.result c.in_err-keep.field-0.0
-    (λ fault. ShelfAsked (g.S.Shelf.disk c.args.shelf.now) (g.S.Shelf.disk c.keep.new.shelf) (disk_asked_before c.args.options fault))
+    (λ fault. ShelfAsked (g.S.Shelf.disk c.args.shelf.now) (g.S.Shelf.disk c.keep.new.shelf) (save_disk_asked_before c.args.options fault))
     c.from_residual-in_err-keep.ensures.1
     (not_kept_on c.args.options (g.S.Shelf.is_opened_as c.reserve.new.self) (g.S.Shelf.disk c.args.shelf.now) (g.S.Shelf.disk c.reserve.new.self) (g.S.Shelf.disk c.keep.new.shelf) c.from-from.result c.values.result.now c.in_err-keep.field-0.0
     c.from-from.ensures.value c.in_ok-reserve.ensures.disk c.in_err-keep.ensures.disk_in_vain)
@@ -170,7 +170,7 @@ returns-in_err-write_and_flush-clause-disk g c = no_ok c.from_residual-in_err-wr
 pub returns-in_err-write_and_flush-clause-disk_in_vain : goal.returns-in_err-write_and_flush-clause-disk_in_vain
 returns-in_err-write_and_flush-clause-disk_in_vain g c =
     error_is c.from_residual-in_err-write_and_flush.result WriteOutput
-    (λ fault. ShelfAsked (g.S.Shelf.disk c.args.shelf.now) (g.S.Shelf.disk c.keep.new.shelf) (disk_asked_before c.args.options fault))
+    (λ fault. ShelfAsked (g.S.Shelf.disk c.args.shelf.now) (g.S.Shelf.disk c.keep.new.shelf) (save_disk_asked_before c.args.options fault))
     c.from_residual-in_err-write_and_flush.ensures.1
     (saved_on c.args.options (g.S.Shelf.is_opened_as c.reserve.new.self) (g.S.Shelf.disk c.args.shelf.now) (g.S.Shelf.disk c.reserve.new.self) (g.S.Shelf.disk c.keep.new.shelf) c.from-from.result c.values.result.now
     c.from-from.ensures.value c.in_ok-reserve.ensures.disk c.in_ok-keep.ensures.disk)

@@ -7,7 +7,7 @@ use host_core::{End, HostCore, Progress};
 use load_devices::{Line, MemoryKeep, Unwatched};
 use load_engine::{Stop, drive};
 use std::alloc::{AllocError, Global};
-use tape_blocks::{Block, Memory, Tape};
+use tape_blocks::{Block, Tape};
 use tape_image::Plan;
 
 // An odd start address, which asks for no start.
@@ -38,10 +38,16 @@ impl Deposit {
         requires { IsAddress address }
         ensures { IfOk result (IsDeposit address old patience) }
     {
-        match deposit_of(alloc, address, old, patience) {
-            Ok(deposit) => Ok(deposit),
-            Err(Memory) => Err(AllocError),
-        }
+        let plan = plan_of(alloc, address, old)?;
+        let nothing = Progress {
+            verified: 0,
+            going: false,
+        };
+        let core = HostCore::new(plan, nothing, patience).unwrap();
+        let Ok(keeper) = MemoryKeep::new(alloc, 1, None) else {
+            return Err(AllocError);
+        };
+        Ok(Deposit { core, keeper })
     }
 }
 
@@ -66,27 +72,16 @@ fn is_loaded(stop: Stop) -> bool
     }
 }
 
-fn deposit_of(alloc: Global, address: u16, old: u16, patience: u32) -> Result<Deposit, Memory>
-    requires { IsAddress address }
-    ensures { IfOk result (IsDeposit address old patience) }
-{
-    let plan = plan_of(alloc, address, old)?;
-    let nothing = Progress {
-        verified: 0,
-        going: false,
-    };
-    let core = HostCore::new(plan, nothing, patience).unwrap();
-    let keeper = MemoryKeep::new(alloc, 1, None)?;
-    Ok(Deposit { core, keeper })
-}
-
 // The plan of this one word.
-fn plan_of(alloc: Global, address: u16, old: u16) -> Result<Plan, Memory>
+fn plan_of(alloc: Global, address: u16, old: u16) -> Result<Plan, AllocError>
     requires { IsAddress address }
     ensures { IfOk result (IsPlanOfWord address old) }
 {
     let bytes = vec![in alloc; (old % BYTE) as u8, (old / BYTE) as u8]?;
     let blocks = vec![in alloc; Block { address, bytes }]?;
     let tape = Tape::new(blocks, NO_START).unwrap();
-    Plan::of(alloc, &tape)
+    match Plan::of(alloc, &tape) {
+        Ok(plan) => Ok(plan),
+        Err(_) => Err(AllocError),
+    }
 }

@@ -40,8 +40,7 @@ end_status end.MaybeStarted = Uncertain
 abbrev pub IsStopStatus : Stop → Status → Type 0
 IsStopStatus (stop.Ended end) status = status ≡ end_status end
 IsStopStatus stop.TurnsOver status = status ≡ NotLoaded
-IsStopStatus (stop.LineFailed fault) status = ⊥
-IsStopStatus (stop.KeepFailed fault) status = ⊥
+IsStopStatus other status = ⊥
 
 -- how the program ends after a `verify` that ended so: where its line failed, that is a failure and no ending
 abbrev pub after_verify : VerifyEnd → Result Status Failure

@@ -13,11 +13,10 @@ use machine_load::LoadOptions;
 use machine_look::AddressRange;
 use requests::{Load, Look, Outside, Probe, Request, Save, System, attempt};
 use serial_line::{Device, DeviceOpening, Devices};
-use simulated_system::{AMPLE, DEVICE, ONE_WORD, QUIET_MS, System as Simulated};
+use simulated_system::{AMPLE, Console, DEVICE, ONE_WORD, QUIET_MS, System as Simulated};
 use std::alloc::{AllocError, Global};
-use std::net::Net;
+use std::fs::File;
 use std::process::Abort;
-use std::rt::Files;
 use std::test::Fail;
 use std::time::Clock;
 use std::{fs, io};
@@ -30,7 +29,7 @@ use told_disk::ToldDisk;
 pub(crate) struct ToldInputs<'a, R: Abort> {
     rt: &'a R,
     alloc: Global,
-    system: &'a Simulated<'a>,
+    files: &'a HostRuntime,
     opened: Vec<(String, bool)>,
 }
 
@@ -46,13 +45,13 @@ impl<R: Abort> ToldInputs<'_, R> {
     }
 }
 
-impl<'a, R: Abort> InputFiles for ToldInputs<'a, R> {
-    type File = <Simulated<'a> as Files>::File;
+impl<R: Abort> InputFiles for ToldInputs<'_, R> {
+    type File = File;
 
     ghost opened = { λ inputs. Some (opened_by inputs.opened.items) };
 
-    fn open_input(&mut self, name: &str) -> io::Result<<Simulated<'a> as Files>::File> {
-        let opened = fs::open(self.system, name);
+    fn open_input(&mut self, name: &str) -> io::Result<File> {
+        let opened = fs::open(self.files, name);
         self.tell(name, opened.is_ok());
         opened
     }
@@ -67,19 +66,19 @@ pub(crate) struct ToldNetwork<'a, R: Abort> {
     asked: Vec<(String, Option<u32>)>,
 }
 
-impl<'a, R: Abort> Dialling for ToldNetwork<'a, R> {
-    type Stream = <Simulated<'a> as Net>::Stream;
+impl<R: Abort> Dialling for ToldNetwork<'_, R> {
+    type Stream = Console;
 
     ghost asked = { λ network. Some (dialled_by network.asked.items) };
 
-    fn dial(&mut self, address: &str) -> io::Result<<Simulated<'a> as Net>::Stream> {
+    fn dial(&mut self, address: &str) -> io::Result<Console> {
         let copy = String::from_str(self.alloc, address).expect(self.rt, "no memory");
         self.asked.push((copy, None)).expect(self.rt, "no memory");
         let mut network = self.system;
         network.dial(address)
     }
 
-    fn limit(&mut self, stream: &<Simulated<'a> as Net>::Stream, quiet_ms: u32) -> io::Result<()> {
+    fn limit(&mut self, stream: &Console, quiet_ms: u32) -> io::Result<()> {
         let request = (String::new(self.alloc), Some(quiet_ms));
         self.asked.push(request).expect(self.rt, "no memory");
         let mut network = self.system;
@@ -97,12 +96,12 @@ pub(crate) struct ToldDevices<'a, R: Abort> {
     asked: Vec<(String, Option<u32>)>,
 }
 
-impl<'a, R: Abort> DeviceOpening for ToldDevices<'a, R> {
-    type Terminal = <Simulated<'a> as Devices>::Terminal;
+impl<R: Abort> DeviceOpening for ToldDevices<'_, R> {
+    type Terminal = Console;
 
     ghost asked = { λ devices. Some (opened_at devices.asked.items) };
 
-    fn open_device(&mut self, path: &str) -> io::Result<<Simulated<'a> as Devices>::Terminal> {
+    fn open_device(&mut self, path: &str) -> io::Result<Console> {
         let copy = String::from_str(self.alloc, path).expect(self.rt, "no memory");
         self.asked.push((copy, None)).expect(self.rt, "no memory");
         self.system.open_terminal(path)
@@ -110,10 +109,10 @@ impl<'a, R: Abort> DeviceOpening for ToldDevices<'a, R> {
 
     fn limit<'b, C: Clock>(
         &mut self,
-        terminal: <Simulated<'a> as Devices>::Terminal,
+        terminal: Console,
         clock: &'b C,
         quiet_ms: u32,
-    ) -> Device<'b, <Simulated<'a> as Devices>::Terminal, C> {
+    ) -> Device<'b, Console, C> {
         let request = (String::new(self.alloc), Some(quiet_ms));
         self.asked.push(request).expect(self.rt, "no memory");
         Device::new(terminal, clock, quiet_ms)
@@ -147,19 +146,19 @@ fn attempt_told<'a, R: Abort>(
 // A system of which nothing was asked.
 fn told_over<'a, R: Abort>(
     rt: &'a R,
-    alloc: Global,
-    disk: ToldDisk<'a>,
+    files: &'a HostRuntime,
     system: &'a Simulated<'a>,
 ) -> ToldSystem<'a, R> {
+    let alloc = files.alloc();
     System {
         inputs: ToldInputs {
             rt,
             alloc,
-            system,
+            files,
             opened: Vec::new(alloc),
         },
         outside: Outside {
-            disk,
+            disk: ToldDisk::new(files, &[]),
             network: ToldNetwork {
                 rt,
                 alloc,
@@ -355,16 +354,16 @@ const ROWS: [(Wanted, Status, &str); 12] = [
 ];
 
 // Whether a request ends so, and just this is asked of the system for it.
-fn is_asked(
-    rt: &impl Abort,
-    files: &HostRuntime,
+fn is_asked<'a, R: Abort>(
+    rt: &'a R,
+    files: &'a HostRuntime,
     wanted: Wanted,
     status: Status,
     asked: &str,
 ) -> Result<bool, AllocError> {
     let alloc = files.alloc();
     let simulated = Simulated::new(files, AMPLE);
-    let system = told_over(rt, alloc, ToldDisk::new(files, &[]), &simulated);
+    let system = told_over(rt, files, &simulated);
     let mut streams = Streams {
         input: &[][..],
         out: Vec::new(alloc),

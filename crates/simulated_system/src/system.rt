@@ -129,7 +129,7 @@ pub struct Console {
     answer: ArrayVec<u8, 64>,
     reads: u32,
     deaf: bool,
-    greeting: &'static [u8],
+    greeting: ArrayVec<u8, 64>,
 
     /// How many characters it answered, and which of them is lost.
     answered: u32,
@@ -139,12 +139,14 @@ pub struct Console {
 impl Console {
     // The console over this machine, which has answered nothing yet.
     fn over(odt: Odt, setting: Setting) -> Console {
+        let mut greeting = ArrayVec::new();
+        let _ = greeting.try_extend_from_slice(setting.greeting);
         Console {
             odt,
             answer: ArrayVec::new(),
             reads: setting.reads,
             deaf: setting.deaf,
-            greeting: setting.greeting,
+            greeting,
             answered: 0,
             loses: setting.loses,
         }
@@ -185,7 +187,7 @@ impl Write for Console {
                 let answer = self.odt.take(*key);
                 self.answers(&answer);
                 if *key == b'G' {
-                    let _ = self.answer.try_extend_from_slice(self.greeting);
+                    let _ = self.answer.try_extend_from_slice(&self.greeting);
                 }
                 Ok(1)
             }

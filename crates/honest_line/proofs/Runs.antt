@@ -12,7 +12,7 @@ use Rattle.line_world.specs.declared.event.Event.{Event}
 use Rattle.line_world.specs.declared.event.Event.TheVariants.{Take, Hear, LoseDown, LoseUp, Quiet}
 use Rattle.line_world.specs.Scene.{Scene, over}
 use Rattle.line_world.specs.Wire.{Wire, with_answer, without_down, without_up, heard, sent}
-use Rattle.line_world.specs.World.{takes, hears, times_out, happens, after, typed_hearing, typed_timeout, typed_in, typed}
+use Rattle.line_world.specs.World.{takes, host_hears, times_out, happens, after, typed_hearing, typed_timeout, typed_in, typed}
 use Rattle.load_devices.specs.declared.item.Item.{Item}
 use Rattle.load_devices.specs.Dialogue.{said, dialogue}
 use Rattle.honest_line.specs.Moves.{Moves, MovesTimes, MovesOn, Gives, Passes}
@@ -81,7 +81,7 @@ moves_lead core x y moves = times_lead core moves.0 x y moves.1
 
 -- ---- a thing heard is an event, in which its key is sent
 
-hearing : (core : Core) (x : Wire) (c : ℕ) (rest up : List ℕ) → up ≡ c ∷ rest → unwrap_or (hears (over core x) up) (over core x) ≡ over (move core (Got c)).next (sent (heard x rest) (option_to_list (move core (Got c)).key))
+hearing : (core : Core) (x : Wire) (c : ℕ) (rest up : List ℕ) → up ≡ c ∷ rest → unwrap_or (host_hears (over core x) up) (over core x) ≡ over (move core (Got c)).next (sent (heard x rest) (option_to_list (move core (Got c)).key))
 hearing core x c rest up is = rw is refl
 
 hearing_types : (core : Core) (x : Wire) (c : ℕ) (rest up : List ℕ) → up ≡ c ∷ rest → typed_hearing (over core x) up ≡ option_to_list (move core (Got c)).key

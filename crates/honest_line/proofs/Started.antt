@@ -27,7 +27,7 @@ use Rattle.host_core.proofs.Walk.{sync_walk, address_walk, slash_walk, before_wa
 use Rattle.line_world.specs.declared.event.Event.{Event}
 use Rattle.line_world.specs.declared.event.Event.TheVariants.{Take, Hear, LoseDown, LoseUp, Quiet, Restart}
 use Rattle.line_world.specs.Scene.{Scene, over}
-use Rattle.line_world.specs.World.{takes, hears as hears_in, times_out, happens, after}
+use Rattle.line_world.specs.World.{takes, host_hears as hears_in, times_out, happens, after}
 use Rattle.line_world.specs.Wire.{Wire}
 use Rattle.line_world.specs.Invariant.{IsKept, InPhase}
 use Rattle.line_world.specs.Site.{Site, site, Ground, ground}

@@ -16,7 +16,7 @@ use Rattle.host_core.proofs.Frame.{moved}
 use Rattle.line_world.specs.declared.event.Event.{Event}
 use Rattle.line_world.specs.declared.event.Event.TheVariants.{Take, Hear, LoseDown, LoseUp, Quiet, Restart}
 use Rattle.line_world.specs.Scene.{Scene}
-use Rattle.line_world.specs.World.{takes, hears, times_out, happens, after}
+use Rattle.line_world.specs.World.{takes, host_hears, times_out, happens, after}
 use Rattle.line_world.specs.Site.{site_of, IsThere, ground}
 use Rattle.line_world.specs.Invariant.{IsKept}
 use Rattle.line_world.specs.Safe.{OnlyImage, IsLoaded, IsSafe}
@@ -35,7 +35,7 @@ takes_kept : (m : Machine) (core : Core) (down up : List ℕ) (lost : ℕ) → I
 takes_kept m core [] up lost k = k
 takes_kept m core (c ∷ down) up lost k = kept_take m core c down up lost (machine_taken m core c down up lost k) k
 
-hears_kept : (m : Machine) (core : Core) (down up : List ℕ) (lost : ℕ) → IsKept (scene m core down up lost) → IsKept (unwrap_or (hears (scene m core down up lost) up) (scene m core down up lost))
+hears_kept : (m : Machine) (core : Core) (down up : List ℕ) (lost : ℕ) → IsKept (scene m core down up lost) → IsKept (unwrap_or (host_hears (scene m core down up lost) up) (scene m core down up lost))
 hears_kept m core down [] lost k = k
 hears_kept m core down (c ∷ up) lost k = kept_hear m core c down up lost (kept core (Got c) k.host) k
 
@@ -84,7 +84,7 @@ takes_steps m core (c ∷ down) up lost k = record {
   bytes = bytes_after (ground (scene m core (c ∷ down) up lost)) (take_of m c).memory k.host.image (key_takes m core c down up lost k).memory;
 }
 
-hears_steps : (m : Machine) (core : Core) (down up : List ℕ) (lost : ℕ) → Steps (scene m core down up lost) (unwrap_or (hears (scene m core down up lost) up) (scene m core down up lost))
+hears_steps : (m : Machine) (core : Core) (down up : List ℕ) (lost : ℕ) → Steps (scene m core down up lost) (unwrap_or (host_hears (scene m core down up lost) up) (scene m core down up lost))
 hears_steps m core down [] lost = stays (scene m core down [] lost)
 hears_steps m core down (c ∷ up) lost = record { plan = (moved core (Got c)).plan; bytes = same_bytes core.plan.image m.memory }
 

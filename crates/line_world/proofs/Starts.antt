@@ -18,7 +18,7 @@ use Rattle.host_core.proofs.Frame.{moved, silent, on_move}
 use Rattle.line_world.specs.declared.event.Event.{Event}
 use Rattle.line_world.specs.declared.event.Event.TheVariants.{Take, Hear, LoseDown, LoseUp, Quiet, Restart}
 use Rattle.line_world.specs.Scene.{Scene}
-use Rattle.line_world.specs.World.{takes, hears, times_out, stepped, happens, after, typed_hearing, typed_timeout, typed_in, typed}
+use Rattle.line_world.specs.World.{takes, host_hears, times_out, stepped, happens, after, typed_hearing, typed_timeout, typed_in, typed}
 use Rattle.line_world.specs.Site.{Ground, ground}
 use Rattle.line_world.specs.Lawful.{LawfulBefore, LawfulKey}
 use Rattle.line_world.specs.Invariant.{IsKept}
@@ -172,7 +172,7 @@ starts_move m core heard old up lost k next =
     (mark_sends core (turn_of core heard))
     (moved core heard).going
 
-hearing_starts : (m : Machine) (core : Core) (down up : List ℕ) (lost : ℕ) → IsKept (scene m core down up lost) → StartsOnce core (unwrap_or (hears (scene m core down up lost) up) (scene m core down up lost)).core (typed_hearing (scene m core down up lost) up)
+hearing_starts : (m : Machine) (core : Core) (down up : List ℕ) (lost : ℕ) → IsKept (scene m core down up lost) → StartsOnce core (unwrap_or (host_hears (scene m core down up lost) up) (scene m core down up lost)).core (typed_hearing (scene m core down up lost) up)
 hearing_starts m core down [] lost k = nothing_typed core
 hearing_starts m core (d ∷ down) (c ∷ up) lost k = let none = k.one_way.1 in absurd (cc)
 hearing_starts m core [] (c ∷ up) lost k = starts_move m core (Got c) (c ∷ up) up lost k (kept_hear m core c [] up lost (kept core (Got c) k.host) k)

@@ -14,7 +14,7 @@ use Rattle.host_core.specs.Core.{Core}
 use Rattle.line_world.specs.declared.event.Event.{Event}
 use Rattle.line_world.specs.declared.event.Event.TheVariants.{Take, Hear, LoseDown, LoseUp, Quiet, Restart}
 use Rattle.line_world.specs.Scene.{Scene}
-use Rattle.line_world.specs.World.{takes, hears, times_out, happens, after, is_timeout, had_timeout}
+use Rattle.line_world.specs.World.{takes, host_hears, times_out, happens, after, is_timeout, had_timeout}
 use Rattle.line_world.specs.Site.{site, Ground, ground}
 use Rattle.line_world.specs.Pending.{IsStopped}
 use Rattle.line_world.specs.Lawful.{TakesDigit, TakesSlash, TakesReturn, LawfulBefore, LawfulKey}
@@ -114,7 +114,7 @@ takes_short m core [] up lost k short = short
 takes_short m core (c ∷ down) [] lost k short = (key_takes m core c down [] lost k).short
 takes_short m core (c ∷ down) (d ∷ up) lost k short = let none = k.one_way.1 in absurd (cc)
 
-hears_short : (w : Scene) (up : List ℕ) → length up ≤ 9 → length w.up ≤ 9 → length (unwrap_or (hears w up) w).up ≤ 9
+hears_short : (w : Scene) (up : List ℕ) → length up ≤ 9 → length w.up ≤ 9 → length (unwrap_or (host_hears w up) w).up ≤ 9
 hears_short w [] short here = here
 hears_short w (c ∷ up) short here = omega arith
 

@@ -25,9 +25,9 @@ takes w [] = None
 takes w (c ∷ rest) = Some (answered w rest (take_of w.machine c))
 
 -- Hear, where an answer character is under way
-abbrev pub hears : Scene → List ℕ → Option Scene
-hears w [] = None
-hears w (c ∷ rest) = Some (stepped w rest (move w.core (Got c)))
+abbrev pub host_hears : Scene → List ℕ → Option Scene
+host_hears w [] = None
+host_hears w (c ∷ rest) = Some (stepped w rest (move w.core (Got c)))
 
 -- Quiet, where nothing is under way
 abbrev pub times_out : Scene → List ℕ → List ℕ → Option Scene
@@ -37,7 +37,7 @@ times_out w down up = None
 -- the world after an event, or none where the event is not possible
 abbrev pub occurs : Scene → Event → Option Scene
 occurs w Take = takes w w.down
-occurs w Hear = hears w w.up
+occurs w Hear = host_hears w w.up
 occurs w (LoseDown k) = if nat_lt k (length w.down) then Some (over w.core (without_down (wire_of w) k)) else None
 occurs w (LoseUp k) = if nat_lt k (length w.up) then Some (over w.core (without_up (wire_of w) k)) else None
 occurs w Quiet = times_out w w.down w.up

@@ -9,7 +9,7 @@ use Rattle.host_core.proofs.Frame.{moved}
 use Rattle.line_world.specs.declared.event.Event.{Event}
 use Rattle.line_world.specs.declared.event.Event.TheVariants.{Take, Hear, LoseDown, LoseUp, Quiet, Restart}
 use Rattle.line_world.specs.Scene.{Scene}
-use Rattle.line_world.specs.World.{takes, hears, times_out, happens, after, typed}
+use Rattle.line_world.specs.World.{takes, host_hears, times_out, happens, after, typed}
 use Rattle.line_world.specs.Site.{IsThere, ground}
 use Rattle.line_world.specs.Invariant.{IsKept}
 use Rattle.line_world.specs.Promises.{StartsOnce}
@@ -34,7 +34,7 @@ takes_stand m core [] up lost i k below there = there
 takes_stand m core (c ∷ down) up lost i k below there =
     stands_after (ground (scene m core (c ∷ down) up lost)) (take_of m c).memory i k.host.image (key_takes m core c down up lost k).memory below there
 
-hears_stand : (m : Machine) (core : Core) (down up : List ℕ) (lost i : ℕ) → Stands i (scene m core down up lost) → Stands i (unwrap_or (hears (scene m core down up lost) up) (scene m core down up lost))
+hears_stand : (m : Machine) (core : Core) (down up : List ℕ) (lost i : ℕ) → Stands i (scene m core down up lost) → Stands i (unwrap_or (host_hears (scene m core down up lost) up) (scene m core down up lost))
 hears_stand m core down [] lost i there = there
 hears_stand m core down (c ∷ up) lost i there = subst (λ p. IsThere (place p m i)) (sym (moved core (Got c)).plan) there
 

@@ -17,7 +17,7 @@ use Rattle.reading_core.specs.declared.turn.Turn.TheVariants.{Listen, Key, Read,
 use Rattle.reading_core.specs.Reader.{Reader, address_under_way, restarted}
 use Rattle.reading_core.specs.ReadingTable.{ask, taken, turn_of, hears, waits, sends, listens, sync_hears, address_hears, first_digit_hears, before_hears, value_hears, close_hears}
 use Rattle.reading_core.proofs.Turns.{either}
-use Rattle.reading_law.specs.Inquiry.{Inquiry, wire_of, over, takes, hears as world_hears, times_out, happens, typed_hearing, typed_timeout, typed_in, typed}
+use Rattle.reading_law.specs.Inquiry.{Inquiry, wire_of, over, takes, host_hears as world_hears, times_out, happens, typed_hearing, typed_timeout, typed_in, typed}
 use Rattle.reading_law.specs.Law.{IsLooking, OnlyLook}
 
 -- a phase that may follow right after `/` was typed

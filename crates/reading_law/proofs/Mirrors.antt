@@ -16,7 +16,7 @@ use Rattle.line_world.specs.declared.event.Event.{Event}
 use Rattle.line_world.specs.declared.event.Event.TheVariants.{Take, Hear, LoseDown, LoseUp, Quiet, Restart}
 use Rattle.line_world.specs.Scene.{Scene, over as load_over}
 use Rattle.line_world.specs.Wire.{without_down, without_up, forgiven}
-use Rattle.line_world.specs.World.{stepped as load_stepped, takes as load_takes, hears as load_hears, times_out as load_times_out, happens as load_happens}
+use Rattle.line_world.specs.World.{stepped as load_stepped, takes as load_takes, host_hears as load_hears, times_out as load_times_out, happens as load_happens}
 use Rattle.line_world.specs.Opening.{opened as load_opened}
 use Rattle.line_world.specs.Site.{Site, site, site_of, held_number, IsThere, last_digits, ground}
 use Rattle.line_world.specs.Pending.{IsRemnant, RestFits}
@@ -34,7 +34,7 @@ use Rattle.reading_core.specs.Reader.{Reader, address_under_way, begun, restarte
 use Rattle.reading_core.specs.ReadingTable.{ask, turn_of, hears as hears_row, waits, values_after, sync_hears, address_hears, first_digit_hears, before_hears, value_hears, close_hears}
 use Rattle.reading_core.proofs.Lives.{asked}
 use Rattle.reading_core.proofs.Turns.{either}
-use Rattle.reading_law.specs.Inquiry.{Inquiry, wire_of, over, takes, hears, times_out, happens, opened}
+use Rattle.reading_law.specs.Inquiry.{Inquiry, wire_of, over, takes, host_hears, times_out, happens, opened}
 use Rattle.reading_law.specs.Law.{HoldsRead}
 use Rattle.reading_law.proofs.Saying.{plan_for, words_for, word_for, image_for, nr_for, length_for, is_plan, unchanged, merged_for}
 use Rattle.reading_law.proofs.Loading.{core_for, phase_for, move_is, HearsRight, ReadsWord, begun_for, restarted_for}
@@ -104,7 +104,7 @@ takes_as : (memory : List ℕ) (w : Inquiry) (down : List ℕ) → unwrap_or (lo
 takes_as memory w [] = refl
 takes_as memory w (c ∷ down) = refl
 
-hears_as : (memory : List ℕ) (w : Inquiry) (up : List ℕ) → ((c : ℕ) (rest : List ℕ) → up ≡ c ∷ rest → HearsRight memory w.reader (Got c)) → unwrap_or (load_hears (as_load memory w) up) (as_load memory w) ≡ as_load memory (unwrap_or (hears w up) w)
+hears_as : (memory : List ℕ) (w : Inquiry) (up : List ℕ) → ((c : ℕ) (rest : List ℕ) → up ≡ c ∷ rest → HearsRight memory w.reader (Got c)) → unwrap_or (load_hears (as_load memory w) up) (as_load memory w) ≡ as_load memory (unwrap_or (host_hears w up) w)
 hears_as memory w [] right = refl
 hears_as memory w (c ∷ up) right = ap (load_stepped (as_load memory w) up) (move_is memory w.reader (Got c) (right c up refl))
 
@@ -224,7 +224,7 @@ restart_holds memory r kept h i low =
     let less : i < min kept (length r.values) = subst (λ n. i < n) (length-take kept r.values) low in
     get_or-take kept r.values i 0 (omega (arith, less)) ∙ h i (omega (arith, less))
 
-hearing_holds : (memory : List ℕ) (w : Inquiry) (up : List ℕ) → Fits memory w.reader w.reader.phase → Holds memory w.reader → ((c : ℕ) (rest : List ℕ) → up ≡ c ∷ rest → HearsRight memory w.reader (Got c)) → Holds memory (unwrap_or (hears w up) w).reader
+hearing_holds : (memory : List ℕ) (w : Inquiry) (up : List ℕ) → Fits memory w.reader w.reader.phase → Holds memory w.reader → ((c : ℕ) (rest : List ℕ) → up ≡ c ∷ rest → HearsRight memory w.reader (Got c)) → Holds memory (unwrap_or (host_hears w up) w).reader
 hearing_holds memory w [] fits h right = h
 hearing_holds memory w (c ∷ up) fits h right = holds_after memory w.reader (Got c) fits h (right c up refl)
 

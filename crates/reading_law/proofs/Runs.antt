@@ -10,7 +10,7 @@ use Rattle.reading_core.specs.Laws.{led, replay}
 use Rattle.reading_core.specs.ReadingTable.{ask}
 use Rattle.line_world.specs.declared.event.Event.{Event}
 use Rattle.line_world.specs.declared.event.Event.TheVariants.{Take, Hear, LoseDown, LoseUp, Quiet}
-use Rattle.reading_law.specs.Inquiry.{Inquiry, over, takes, hears, times_out, happens, after, typed_hearing, typed_timeout, typed_in, typed}
+use Rattle.reading_law.specs.Inquiry.{Inquiry, over, takes, host_hears, times_out, happens, after, typed_hearing, typed_timeout, typed_in, typed}
 use Rattle.line_world.specs.Wire.{Wire, with_answer, without_down, without_up, heard, sent}
 use Rattle.load_devices.specs.declared.item.Item.{Item}
 use Rattle.load_devices.specs.Dialogue.{said}
@@ -81,7 +81,7 @@ moves_lead r x y moves = times_lead r moves.0 x y moves.1
 
 -- ---- a thing heard is an event, in which its key is sent
 
-hearing : (r : Reader) (x : Wire) (c : ℕ) (rest up : List ℕ) → up ≡ c ∷ rest → unwrap_or (hears (over r x) up) (over r x) ≡ over (ask r (Got c)).next (sent (heard x rest) (option_to_list (ask r (Got c)).key))
+hearing : (r : Reader) (x : Wire) (c : ℕ) (rest up : List ℕ) → up ≡ c ∷ rest → unwrap_or (host_hears (over r x) up) (over r x) ≡ over (ask r (Got c)).next (sent (heard x rest) (option_to_list (ask r (Got c)).key))
 hearing r x c rest up is = rw is refl
 
 hearing_types : (r : Reader) (x : Wire) (c : ℕ) (rest up : List ℕ) → up ≡ c ∷ rest → typed_hearing (over r x) up ≡ option_to_list (ask r (Got c)).key

@@ -37,9 +37,9 @@ takes w [] = None
 takes w (c ∷ rest) = Some (over w.reader (with_answer (wire_of w) rest (take_of w.machine c)))
 
 -- Hear, where an answer character is under way
-abbrev pub hears : Inquiry → List ℕ → Option Inquiry
-hears w [] = None
-hears w (c ∷ rest) = Some (stepped w rest (ask w.reader (Got c)))
+abbrev pub host_hears : Inquiry → List ℕ → Option Inquiry
+host_hears w [] = None
+host_hears w (c ∷ rest) = Some (stepped w rest (ask w.reader (Got c)))
 
 -- Quiet, where nothing is under way
 abbrev pub times_out : Inquiry → List ℕ → List ℕ → Option Inquiry
@@ -49,7 +49,7 @@ times_out w down up = None
 -- the world after an event, or none where the event is not possible
 abbrev pub occurs : Inquiry → Event → Option Inquiry
 occurs w Take = takes w w.down
-occurs w Hear = hears w w.up
+occurs w Hear = host_hears w w.up
 occurs w (LoseDown k) = if nat_lt k (length w.down) then Some (over w.reader (without_down (wire_of w) k)) else None
 occurs w (LoseUp k) = if nat_lt k (length w.up) then Some (over w.reader (without_up (wire_of w) k)) else None
 occurs w Quiet = times_out w w.down w.up

@@ -26,5 +26,5 @@ pub record IsStartTrue (core : Core) (machine : Machine) (keys : List ℕ) : Typ
 
 -- so it is over every machine and honest line, for a host that went from one core to another while these items were sent and heard
 abbrev pub TellsStart : Core → Core → List Item → Type 0
-TellsStart core next items =
-    (machine now : Machine) (lost : ℕ) → MayBegin core machine → IsHonest machine items lost now → IsStartTrue next now (keys_of items)
+TellsStart old new items =
+    (machine machine' : Machine) (lost : ℕ) → MayBegin old machine → IsHonest machine items lost machine' → IsStartTrue new machine' (keys_of items)

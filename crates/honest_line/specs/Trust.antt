@@ -23,7 +23,7 @@ pub record MayBegin (core : Core) (machine : Machine) : Type 0 where
   pub lies : (i : ℕ) → i < core.verified → WordLies core.plan machine.memory i
   pub stands : (i : ℕ) → i < core.verified → Stands (word_nr core.plan.words i) (word_at machine.memory (word_nr core.plan.words i).address)
 
--- what came of it: the record is true of memory and memory is safe; `G` is the last of the keys if it is one of them, and then the mark
+-- what came of it: what counts as verified is true of memory and memory is safe; `G` is the last of the keys if it is one of them, and then the mark
 -- is set; and no mishap and no end is without its losses
 pub record IsTrusted (before : List ℕ) (core : Core) (now : List ℕ) (keys : List ℕ) (lost : ℕ) : Type 0 where
   pub safe : IsSafe before core now
@@ -35,9 +35,9 @@ pub record IsTrusted (before : List ℕ) (core : Core) (now : List ℕ) (keys : 
 -- a host that went from one core to another while these items were sent and heard may be trusted over every machine and honest line, and
 -- so many losses more than the line had pay for its mishaps
 abbrev pub IsTrustworthy : Core → Core → List Item → ℕ → Type 0
-IsTrustworthy core next items more =
-    (machine now : Machine) (lost : ℕ) → MayBegin core machine → IsHonest machine items lost now →
-    IsTrusted machine.memory next now.memory (keys_of items) (lost + more)
+IsTrustworthy old new items more =
+    (machine machine' : Machine) (lost : ℕ) → MayBegin old machine → IsHonest machine items lost machine' →
+    IsTrusted machine.memory new machine'.memory (keys_of items) (lost + more)
 
 -- a host that heard an honest line may be trusted
 abbrev pub DialoguesAreTrustworthy : Type 0

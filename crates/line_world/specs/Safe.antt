@@ -1,4 +1,4 @@
--- Safety of a memory against an earlier one: of the host it speaks of the plan, the record and the mark alone.
+-- Safety of a memory against an earlier one: of the host it speaks of the plan, the words that count as verified, and the mark alone.
 use Rattle.std.specs.Prelude.{ℕ, ◌≡◌, ◌<◌, ◌⊎◌, true, List, length, Some}
 use Rattle.std.specs.FinMap.{get}
 use Rattle.tape_image.specs.Memory.{byte_of, top_of}
@@ -7,7 +7,7 @@ use Rattle.tape_image.specs.Plan.{PlanValue}
 use Rattle.tape_image.specs.Image.{Image}
 use Rattle.host_core.specs.Core.{Core, word_nr}
 use Rattle.tape_image.specs.Overlay.{IsOverlay}
-use Rattle.odt_machine.specs.Machine.{is_word, word_at as memory_word}
+use Rattle.odt_machine.specs.Machine.{is_word, word_at}
 
 -- the plan's word numbered i lies in memory
 abbrev pub WordLies : PlanValue → List ℕ → ℕ → Type 0
@@ -23,9 +23,9 @@ pub record IsLoaded (before : List ℕ) (plan : PlanValue) (now : List ℕ) : Ty
   pub lies : (i : ℕ) → i < length plan.words → WordLies plan now i
   pub overlay : IsOverlay before plan.image now
 
--- a host's record is true of a memory, and safe against an earlier memory
+-- what a host counts as verified is true of a memory, which is safe against an earlier one
 pub record IsSafe (before : List ℕ) (core : Core) (now : List ℕ) : Type 0 where
   pub lies : (i : ℕ) → i < core.verified → WordLies core.plan now i
-  pub stands : (i : ℕ) → i < core.verified → Stands (word_nr core.plan.words i) (memory_word now (word_nr core.plan.words i).address)
+  pub stands : (i : ℕ) → i < core.verified → Stands (word_nr core.plan.words i) (word_at now (word_nr core.plan.words i).address)
   pub bytes : OnlyImage before core.plan.image now
   pub going : core.going ≡ true → IsLoaded before core.plan now

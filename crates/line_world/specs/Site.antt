@@ -9,7 +9,7 @@ use Rattle.host_core.specs.Core.{word_nr}
 use Rattle.odt_machine.specs.declared.style.Style.{Style}
 use Rattle.odt_machine.specs.declared.mode.Mode.{Mode}
 use Rattle.odt_machine.specs.declared.mode.Mode.TheVariants.{Prompt, Number, Opened, Typing}
-use Rattle.odt_machine.specs.Machine.{Machine, is_word, word_at as memory_word}
+use Rattle.odt_machine.specs.Machine.{Machine, is_word, word_at}
 use Rattle.line_world.specs.Scene.{Scene}
 
 -- of the world, what a key under way can meet: the machine, and of the host its plan and its mark
@@ -43,7 +43,7 @@ site w = site_of w w.core.verified
 
 -- what memory holds at the word's address
 abbrev pub held_number : Site → ℕ
-held_number t = memory_word t.memory t.word.address
+held_number t = word_at t.memory t.word.address
 
 -- the word's address lies in memory
 abbrev pub Lies : Site → Type 0

@@ -20,6 +20,6 @@ unpaid stop = 0
 -- where a life may begin over the line's machine and at most 32 characters wait: the host may be trusted and is right about the
 -- start, with the losses of what passed meanwhile
 abbrev pub LoadsSafely : Stop → Core → Core → LineValue → LineValue → Type 0
-LoadsSafely stop core next old new =
-    (said : List Item) (lost : ℕ) → Passed old new said lost → MayBegin core old.machine → length old.waiting ≤ most_waiting →
-    IsTrusted old.machine.memory next new.machine.memory (keys_of said) (lost + unpaid stop) × IsStartTrue next new.machine (keys_of said)
+LoadsSafely stop old new line line' =
+    (said : List Item) (lost : ℕ) → Passed line line' said lost → MayBegin old line.machine → length line.waiting ≤ most_waiting →
+    IsTrusted line.machine.memory new line'.machine.memory (keys_of said) (lost + unpaid stop) × IsStartTrue new line'.machine (keys_of said)

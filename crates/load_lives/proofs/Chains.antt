@@ -233,13 +233,13 @@ went plan before keys between life new fits s l =
     let sound : IsSound plan recorded = says_sound plan between.text recorded l.goes_on.says in
     let same : s.progress ≡ recorded = says_once plan between.text s.progress recorded s.says l.goes_on.says in
     let rests : Rests plan recorded between.wire = subst (λ (p : Progress). Rests plan p between.wire) same s.rests in
-    let kept : IsKept (over first l.found) = renewed plan recorded life.progress life.patience between.wire l.found fits sound l.goes_on.fewer l.goes_on.same_mark l.patient rests l.reopens in
-    let machine : l.found.machine ≡ between.wire.machine = reopened_machine between.wire l.found l.reopens in
-    let words : ((i : ℕ) → i < standing plan recorded → IsThere (place plan l.found.machine i)) = λ i below. subst (λ (m : Machine). IsThere (place plan m i)) (sym machine) (rests.words i below) in
-    let bytes : OnlyImage before plan.image l.found.machine.memory = subst (λ (m : Machine). OnlyImage before plan.image m.memory) (sym machine) s.bytes in
-    let run : Ran (over first l.found) replayed (over last end) =
-    ran (over first l.found) (over last end) replayed kept (dialogue_leads life.heard first l.found end (whole_passes first life.heard life.items life.unsent l.found new.wire l.stopped l.passes)) in
-    let safe : IsSafe before last new.wire.machine.memory = run.since before (safe_of before (over first l.found) kept bytes) in
+    let kept : IsKept (over first l.line.found) = renewed plan recorded life.progress life.patience between.wire l.line.found fits sound l.goes_on.fewer l.goes_on.same_mark l.patient rests l.line.reopens in
+    let machine : l.line.found.machine ≡ between.wire.machine = reopened_machine between.wire l.line.found l.line.reopens in
+    let words : ((i : ℕ) → i < standing plan recorded → IsThere (place plan l.line.found.machine i)) = λ i below. subst (λ (m : Machine). IsThere (place plan m i)) (sym machine) (rests.words i below) in
+    let bytes : OnlyImage before plan.image l.line.found.machine.memory = subst (λ (m : Machine). OnlyImage before plan.image m.memory) (sym machine) s.bytes in
+    let run : Ran (over first l.line.found) replayed (over last end) =
+    ran (over first l.line.found) (over last end) replayed kept (dialogue_leads life.heard first l.line.found end (whole_passes first life.heard life.items life.unsent l.line.found new.wire l.stopped l.line.passes)) in
+    let safe : IsSafe before last new.wire.machine.memory = run.since before (safe_of before (over first l.line.found) kept bytes) in
     let plan_same : last.plan ≡ plan = led_plan first life.heard in
     let keys_are : replayed ≡ keys_of life.items ++ keys_of (said life.unsent) = sym (keys_of-dialogue life.heard first) ∙ (ap keys_of l.stopped ∙ keys_join life.items (said life.unsent)) in
     let marked_before : (Contains keys go → first.going ≡ true) = λ h. l.goes_on.same_mark ∙ (ap (λ (p : Progress). p.going) (sym same) ∙ s.marked h) in
@@ -248,13 +248,13 @@ went plan before keys between life new fits s l =
     let left : Remains plan recorded life.progress last life.items new.text =
     remains plan recorded life.progress last life.items between.text new.text fits l.goes_on.same_mark run.starts.stays
     (λ unset. can_be_read plan life.progress.verified life.progress.going life.patience life.heard unset kept.host run.starts) sets l.goes_on.says l.left in
-    let back_to : (left.progress.going ≡ false → last.going ≡ true → Unmarked first last l.found new.wire) = λ unset set.
-    taken_back first life.heard life.items life.unsent l.found new.wire kept (not_set first.going (λ h. let on = left.stays h in absurd (cc))) set run.starts (λ h. let on = left.sent h in absurd (cc)) l.stopped l.passes in
+    let back_to : (left.progress.going ≡ false → last.going ≡ true → Unmarked first last l.line.found new.wire) = λ unset set.
+    taken_back first life.heard life.items life.unsent l.line.found new.wire kept (not_set first.going (λ h. let on = left.stays h in absurd (cc))) set run.starts (λ h. let on = left.sent h in absurd (cc)) l.stopped l.line.passes in
     let ends : EndsAtGo (keys ++ keys_of life.items) = keys_end keys life.items life.unsent replayed keys_are s.last run.starts.last (λ h. run.starts.silent (marked_before h)) in record {
       stood = record {
         progress = left.progress;
         says = left.says;
-        rests = rests_now plan first last l.found new.wire lost replayed recorded left.progress refl plan_same sound words run left.from left.marked back_to;
+        rests = rests_now plan first last l.line.found new.wire lost replayed recorded left.progress refl plan_same sound words run left.from left.marked back_to;
         bytes = subst (λ (p : PlanValue). OnlyImage before p.image new.wire.machine.memory) plan_same safe.bytes;
         last = ends;
         marked = λ h. elim (Contains-append_cases keys (keys_of life.items) go h) [ inl early ↦ left.stays (marked_before early) | inr now ↦ left.sent now ];

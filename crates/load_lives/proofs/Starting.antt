@@ -26,7 +26,7 @@ reopened_run left found keys (inr (waiting, few, new)) may = at_rest left waitin
 pub typed_run : (plan : PlanValue) (lives : List Life) (old new : WireAndRecord) → (MayRun old.wire → ⊥) → Lived plan old lives new → MayRun new.wire → Contains (typed lives) go
 typed_run plan [] old new still same may = absurd (still (subst (λ (s : WireAndRecord). MayRun s.wire) same may))
 typed_run plan (life ∷ earlier) old new still (between, lived, l) may =
-    elim (reopened_run between.wire l.found (keys_of life.items) l.reopens (passes_back life.items l.found new.wire l.passes may)) [
+    elim (reopened_run between.wire l.line.found (keys_of life.items) l.line.reopens (passes_back life.items l.line.found new.wire l.line.passes may)) [
       | inl before ↦ Contains-append_left (typed earlier) (keys_of life.items) go (typed_run plan earlier old between still lived before)
       | inr now ↦ Contains-append_right (typed earlier) (keys_of life.items) go now
     ]

@@ -62,6 +62,12 @@ pub record IsLeft (plan : PlanValue) (progress : Progress) (core : Core) (items 
   pub whole : Contains (keys_of items) go → new ≡ record_text Second plan core.verified true
   pub alone : progress.going ≡ true → new ≡ old
 
+-- what was said passed over the line that a life found, from how it was left to how the life leaves it
+pub record PassesOver (left : Wire) (items : List Item) (left' : Wire) : Type 0 where
+  pub found : Wire
+  pub reopens : Reopens left found
+  pub passes : Passes found items left'
+
 -- one life, from what it finds to what it leaves
 pub record IsLife (plan : PlanValue) (old : WireAndRecord) (life : Life) (new : WireAndRecord) : Type 0 where
   pub patient : life.patience < 2 ^ 32
@@ -69,9 +75,7 @@ pub record IsLife (plan : PlanValue) (old : WireAndRecord) (life : Life) (new : 
   -- it says what its core decides, and may be stopped at any moment
   pub stopped : dialogue (first_core plan life) life.heard ≡ life.items ++ said life.unsent
   -- the line delivers and loses as a line may
-  pub found : Wire
-  pub reopens : Reopens old.wire found
-  pub passes : Passes found life.items new.wire
+  pub line : PassesOver old.wire life.items new.wire
   pub left : IsLeft plan life.progress (last_core plan life) life.items old.text new.text
 
 -- lives one after another, the latest first: each finds what the one before it left

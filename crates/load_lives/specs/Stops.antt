@@ -6,16 +6,14 @@ use Rattle.tape_image.specs.Word.{WordValue}
 use Rattle.host_core.specs.declared.heard.Heard.{Heard}
 use Rattle.host_core.specs.declared.progress.Progress.{Progress}
 use Rattle.host_core.specs.Core.{Core, begun}
-use Rattle.line_world.specs.Wire.{Wire}
 use Rattle.load_devices.specs.declared.item.Item.{Item}
 use Rattle.load_devices.specs.declared.item.Kept.{Kept}
 use Rattle.load_devices.specs.Dialogue.{said, dialogue}
-use Rattle.honest_line.specs.Moves.{Passes}
 use Rattle.load_engine.specs.declared.stop.Stop.{Stop}
 use Rattle.load_engine.specs.Session.{Session}
 use Rattle.load_record.specs.declared.version.Version.TheVariants.{Second}
 use Rattle.load_record.specs.RecordText.{mark_text, open_run, record_text, second_piece}
-use Rattle.load_lives.specs.Lives.{WireAndRecord, Life, last_core, GoesOnFrom, Reopens, IsLeft, IsLife}
+use Rattle.load_lives.specs.Lives.{WireAndRecord, Life, last_core, GoesOnFrom, PassesOver, IsLeft, IsLife}
 
 -- what went out of a dialogue of which the line tells this: that, or all of it, where the call that failed sent its key after all
 abbrev pub WentOut : List Item → List Item → List Item → Type 0
@@ -25,11 +23,11 @@ WentOut all told items = (items ≡ told) ⊎ (items ≡ all)
 abbrev pub SessionsAreLives : Type 0
 SessionsAreLives =
     (plan : PlanValue) (progress : Progress) (patience : ℕ) (turns : ℕ) (stop : Option Stop) (core : Core)
-    (line line' : Option (List Item)) (keep keep' : Option (List Kept)) (items : List Item) (found : Wire) (old new : WireAndRecord) →
+    (line line' : Option (List Item)) (keep keep' : Option (List Kept)) (items : List Item) (old new : WireAndRecord) →
     patience < 2 ^ 32 → GoesOnFrom plan old.text progress →
     (session : Session turns stop (begun plan progress.verified progress.going patience) core line line' keep keep') →
     WentOut (dialogue (begun plan progress.verified progress.going patience) session.heard) session.said items →
-    Reopens old.wire found → Passes found items new.wire → IsLeft plan progress core items old.text new.text →
+    PassesOver old.wire items new.wire → IsLeft plan progress core items old.text new.text →
     (life : Life) × (last_core plan life ≡ core) × (life.items ≡ items) × IsLife plan old life new
 
 -- a host that is killed has said a front of what it would have said, and this is what a stopped life says: it heard the first of these

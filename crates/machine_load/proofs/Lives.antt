@@ -8,15 +8,13 @@ use Rattle.tape_image.specs.Plan.{PlanValue, IsPlan}
 use Rattle.host_core.specs.declared.progress.Progress.{Progress}
 use Rattle.host_core.specs.Console.{go}
 use Rattle.host_core.specs.Core.{Core, begun, ended}
-use Rattle.line_world.specs.Wire.{Wire}
 use Rattle.load_devices.specs.declared.item.Item.{Item}
 use Rattle.load_devices.specs.Dialogue.{dialogue, keys_of}
 use Rattle.load_devices.specs.Turns.{most_turns}
-use Rattle.honest_line.specs.Moves.{Passes}
 use Rattle.load_engine.specs.declared.stop.Stop.{Stop}
 use Rattle.load_engine.specs.declared.stop.Stop.TheVariants.{Ended, LineFailed, KeepFailed, TurnsOver}
 use Rattle.load_lives.specs.Keepers.{WentOutAt, HasLeft}
-use Rattle.load_lives.specs.Lives.{Life, WireAndRecord, GoesOnFrom, IsLeft, IsLife, Reopens, last_core}
+use Rattle.load_lives.specs.Lives.{Life, WireAndRecord, GoesOnFrom, IsLeft, IsLife, PassesOver, last_core}
 use Rattle.load_lives.specs.Stops.{WentOut}
 use Rattle.load_record.specs.Reading.{Says}
 use Rattle.load_lives.proofs.Keepers.{keepers_leave}
@@ -76,7 +74,7 @@ abbrev Lives : PlanValue → Core → List Item → WireAndRecord → WireAndRec
 Lives plan last items old new = (life : Life) × (last_core plan life ≡ last) × (life.items ≡ items) × IsLife plan old life new
 
 -- a life that goes on with a progress, once its record was read
-module _ (plan : PlanValue) (progress : Progress) (patience : ℕ) (told : Option (List ℕ)) (between after : Around) (finish : Finish) (items : List Item) (found : Wire) (old new : WireAndRecord) (fits : IsPlan plan) (long : patience < 2 ^ 32) (goes : GoesOnFrom plan old.text progress) (was : told ≡ Some old.text) (read : Keeps told between.record_text) (is : after.record_text ≡ Some new.text) (reopens : Reopens old.wire found) (passes : Passes found items new.wire) where
+module _ (plan : PlanValue) (progress : Progress) (patience : ℕ) (told : Option (List ℕ)) (between after : Around) (finish : Finish) (items : List Item) (old new : WireAndRecord) (fits : IsPlan plan) (long : patience < 2 ^ 32) (goes : GoesOnFrom plan old.text progress) (was : told ≡ Some old.text) (read : Keeps told between.record_text) (is : after.record_text ≡ Some new.text) (passes : PassesOver old.wire items new.wire) where
   -- one that is over at once
   idle_life : IsIdleLife (begun plan progress.verified progress.going patience) between after finish → items ≡ [] → Lives plan finish.last items old new
   idle_life idle out = (
@@ -87,9 +85,7 @@ module _ (plan : PlanValue) (progress : Progress) (patience : ℕ) (told : Optio
       patient = long;
       goes_on = goes;
       stopped = refl;
-      found = found;
-      reopens = reopens;
-      passes = subst (λ list. Passes found list new.wire) out passes;
+      line = subst (λ list. PassesOver old.wire list new.wire) out passes;
       left = record { cut = inl same; whole = λ has. absurd (none_sent has); alone = λ set. same };
     },
   )
@@ -101,8 +97,8 @@ module _ (plan : PlanValue) (progress : Progress) (patience : ℕ) (told : Optio
   driven_life : {writable : Bool} (life : IsDrivenLife of_file writable (begun plan progress.verified progress.going patience) between after finish)
       → WentOutAt finish.stop (dialogue (begun plan progress.verified progress.going patience) life.driven.session.heard) life.driven.session.said items → Lives plan finish.last items old new
   driven_life life out =
-      sessions_are_lives plan progress patience most_turns (Some finish.stop) finish.last life.driven.line.said life.line'.said None None items found old new long goes life.driven.session
-      (went_out finish.stop _ _ items out) reopens passes
+      sessions_are_lives plan progress patience most_turns (Some finish.stop) finish.last life.driven.line.said life.line'.said None None items old new long goes life.driven.session
+      (went_out finish.stop _ _ items out) passes
       (subst (IsLeft plan progress finish.last items old.text) (same_text left.0 new.text (sym left.1 ∙ sym life.left ∙ is)) left.2)
     where
       left : HasLeft plan progress finish.last items old.text life.keeper'
@@ -115,9 +111,9 @@ module _ (plan : PlanValue) (progress : Progress) (patience : ℕ) (told : Optio
   lived (inr life) out = driven_life life out
 
 pub loads_are_lives : LoadsAreLives
-loads_are_lives plan options before after finish load items found old new fits long was is out reopens passes =
+loads_are_lives plan options before after finish load items old new fits long was is out passes =
     subst (λ (core : Core). (life : IsLived of_file load.writable core load.between after finish) → GoesOut life items → Lives plan finish.last items old new) (sym load.opened.core_is)
-    (lived plan progress options.patience before.record_text load.between after finish items found old new fits long goes was load.record_read is reopens passes) load.life out
+    (lived plan progress options.patience before.record_text load.between after finish items old new fits long goes was load.record_read is passes) load.life out
   where
     said : Progress
     said = load.opened.said

@@ -3,13 +3,11 @@ use Rattle.std.specs.Prelude.{◌≡◌, ◌^◌, ◌<◌, Bool, List, [], Some,
 use mathlib.Core.Logic.{inl, inr}
 use Rattle.tape_image.specs.Plan.{PlanValue, IsPlan}
 use Rattle.host_core.specs.Core.{Core}
-use Rattle.line_world.specs.Wire.{Wire}
 use Rattle.load_devices.specs.declared.item.Item.{Item}
 use Rattle.load_devices.specs.Dialogue.{dialogue}
-use Rattle.honest_line.specs.Moves.{Passes}
 use Rattle.load_record.specs.Keeper.{Keeper, HasKept, HasCutShort, HoldsRecord, fault_now}
 use Rattle.load_lives.specs.Keepers.{WentOutAt}
-use Rattle.load_lives.specs.Lives.{Life, Reopens, IsLife, WireAndRecord, last_core}
+use Rattle.load_lives.specs.Lives.{Life, PassesOver, IsLife, WireAndRecord, last_core}
 use Rattle.machine_load.specs.Driving.{KeeperTells, keeper_tells, Finish, IsLived, IsLoadLived}
 use Rattle.machine_load.specs.Load.{Around}
 use Rattle.machine_load.specs.declared.options.LoadOptions.{LoadOptions}
@@ -32,7 +30,7 @@ GoesOut {writable} {first} {before} {after} {finish} (inr life) items =
 abbrev pub LoadsAreLives : Type 0
 LoadsAreLives =
     (plan : PlanValue) (options : LoadOptions) (before after : Around) (finish : Finish) (load : IsLoadLived of_file plan options before after finish)
-    (items : List Item) (found : Wire) (old new : WireAndRecord) → IsPlan plan → options.patience < 2 ^ 32 →
+    (items : List Item) (old new : WireAndRecord) → IsPlan plan → options.patience < 2 ^ 32 →
     before.record_text ≡ Some old.text → after.record_text ≡ Some new.text →
-    GoesOut load.life items → Reopens old.wire found → Passes found items new.wire →
+    GoesOut load.life items → PassesOver old.wire items new.wire →
     (life : Life) × (last_core plan life ≡ finish.last) × (life.items ≡ items) × IsLife plan old life new

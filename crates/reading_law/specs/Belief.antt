@@ -38,9 +38,9 @@ pub record IsTrue (before : List ℕ) (r : Reader) (now : List ℕ) (typed : Lis
 -- a host that went from one reader to another while these items were sent and heard may be believed over every machine
 -- and honest line, and so many losses more than the line had pay for its mishaps
 abbrev pub IsBelievable : Reader → Reader → List Item → ℕ → Type 0
-IsBelievable r next items more =
-    (machine now : Machine) (lost : ℕ) → MayLook r machine → IsHonest machine items lost now →
-    IsTrue machine.memory next now.memory (keys_of items) (lost + more)
+IsBelievable old new items more =
+    (machine machine' : Machine) (lost : ℕ) → MayLook old machine → IsHonest machine items lost machine' →
+    IsTrue machine.memory new machine'.memory (keys_of items) (lost + more)
 
 -- a reading host that heard an honest line may be believed
 abbrev pub HonestReadingsAreTrue : Type 0
@@ -60,5 +60,5 @@ pub record IsReadyMachine (machine : Machine) : Type 0 where
 -- behind a reading that heard an honest line the next host may begin
 abbrev pub ReadingsLeaveItReady : Type 0
 ReadingsLeaveItReady =
-    (r : Reader) (things : List Heard) (machine now : Machine) (lost : ℕ) → IsReader r → MayLook r machine →
-    IsHonest machine (dialogue r things) lost now → IsReadyMachine now
+    (r : Reader) (things : List Heard) (machine machine' : Machine) (lost : ℕ) → IsReader r → MayLook r machine →
+    IsHonest machine (dialogue r things) lost machine' → IsReadyMachine machine'

@@ -23,6 +23,18 @@ half_line w = codes "H " ++ word_fields w
 abbrev pub value_text : WordValue → List ℕ
 value_text w = 32 ∷ octal_text w.value
 
+-- how long that is: a space and six digits
+abbrev pub value_length : ℕ
+value_length = 7
+
+-- how long the address is that begins a run line: six digits
+abbrev pub address_length : ℕ
+address_length = 6
+
+-- the most words of a run line: so it is 118 characters long at most (this project's choice)
+abbrev pub longest_run : ℕ
+longest_run = 16
+
 -- the values of some words one after another
 abbrev pub values_text : List WordValue → List ℕ
 values_text [] = []
@@ -45,16 +57,16 @@ run_at address = record { next = address; count = 0 }
 abbrev pub longer : OpenRun → OpenRun
 longer run = record { next = run.next + 2; count = run.count + 1 }
 
--- the word goes on a run line: it is full, it lies at the next address, and fewer than 16 words stand there
+-- the word goes on a run line: it is full, it lies at the next address, and there is room for one more
 abbrev pub goes_on : OpenRun → WordValue → Bool
-goes_on run w = w.address == run.next && (nat_lt run.count 16 && is_full w)
+goes_on run w = w.address == run.next && (nat_lt run.count longest_run && is_full w)
 
 -- the words go on a run line one after another
 abbrev pub GoOn : OpenRun → List WordValue → Type 0
 GoOn run [] = ⊤
 GoOn run (w ∷ ws) = IsTrue (goes_on run w) × GoOn (longer run) ws
 
--- the words of a run line: one to 16 full words at consecutive even addresses
+-- the words of a run line: one or more full words at consecutive even addresses, no more than it may have
 abbrev pub IsRun : List WordValue → Type 0
 IsRun [] = ⊥
 IsRun (w ∷ ws) = GoOn (run_at w.address) (w ∷ ws)

@@ -12,7 +12,7 @@ use Rattle.load_record.specs.declared.version.Version.TheVariants.{First, Second
 use Rattle.load_record.specs.declared.run.OpenRun.{OpenRun}
 use Rattle.load_record.specs.declared.reader.RecordError.{RecordError}
 use Rattle.load_record.specs.declared.reader.RecordError.TheVariants.{NotARecord, Foreign}
-use Rattle.load_record.specs.Lines.{header, mark_line, HoldsWords, value_text, run_at, longer, goes_on}
+use Rattle.load_record.specs.Lines.{header, mark_line, HoldsWords, value_text, value_length, address_length, run_at, longer, goes_on}
 
 -- the character is LF
 abbrev pub is_line_end : ℕ → Bool
@@ -26,7 +26,7 @@ pub record IsCut (text : List ℕ) (lines : List (List ℕ)) (torn : List ℕ) :
 abbrev pub values_held : OpenRun → List WordValue → List ℕ → ℕ
 values_held run [] text = run.count
 values_held run (w ∷ ws) text =
-    if goes_on run w && starts_with nat_eq text (value_text w) then values_held (longer run) ws (drop 7 text) else run.count
+    if goes_on run w && starts_with nat_eq text (value_text w) then values_held (longer run) ws (drop value_length text) else run.count
 
 -- how many of the next words a torn piece holds. In version 2 it may be the beginning of a run line: each whole
 -- value behind the first word's address counts, whatever follows it
@@ -34,11 +34,11 @@ abbrev pub torn_words : Version → List WordValue → List ℕ → ℕ
 torn_words First next torn = 0
 torn_words Second [] torn = 0
 torn_words Second (w ∷ ws) torn =
-    if starts_with nat_eq torn (octal_text w.address) then values_held (run_at w.address) (w ∷ ws) (drop 6 torn) else 0
+    if starts_with nat_eq torn (octal_text w.address) then values_held (run_at w.address) (w ∷ ws) (drop address_length torn) else 0
 
 -- how many of the next words a whole run line holds: it is as long as their text
 abbrev pub run_words : List WordValue → List ℕ → ℕ
-run_words next line = if length line == 6 + 7 * torn_words Second next line then torn_words Second next line else 0
+run_words next line = if length line == address_length + value_length * torn_words Second next line then torn_words Second next line else 0
 
 -- of the words that come next the line holds so many, and 0 where it holds none
 pub record HoldsCount (version : Version) (line : List ℕ) (next : List WordValue) (count : ℕ) : Type 0 where

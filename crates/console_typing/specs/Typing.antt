@@ -45,7 +45,7 @@ pub record IsTypedToEnd (input input' : Option (List ℕ)) (machine machine' : M
   pub so_far : IsTypedSoFar input input' machine machine' out out' count
   pub to_end : count < key_limit → IsAtEnd input'
 
--- some characters were typed, and a prefix of the answers to them was written and nothing else
+-- some characters were typed, and a proper prefix of the answers to them was written and nothing else
 pub record IsTypedInPart (input input' : Option (List ℕ)) (machine machine' : Machine) (out out' : Option (List ℕ)) : Type 0 where
   pub keys : List ℕ
   pub typed : IsTyped input input' machine machine' keys

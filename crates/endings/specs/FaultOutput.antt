@@ -35,7 +35,7 @@ pub record IsSaidWhole (err err' : StandardError) (text : List ℕ) : Type 0 whe
   pub written : Appends err.text err'.text text
   pub none_failed : NoneFailed err.failures err'.failures
 
--- a prefix of it was said, and nothing else: one write failed, and none was made behind it
+-- a proper prefix of it was said, and nothing else: one write failed, and none was made behind it
 pub record IsSaidInPart (err err' : StandardError) (text : List ℕ) : Type 0 where
   pub written : WritesProperPrefix err.text err'.text text
   pub one_failed : OneFailed err.failures err'.failures

@@ -37,7 +37,7 @@ pub record Wrote (before after : Keeper) (text : List ℕ) (run : Option OpenRun
   pub now_open : after.run ≡ run
   pub no_failure : after.failures ≡ 0
 
--- a call that fails is counted; it has written a front of its text, and nothing where a call had failed before
+-- a call that fails is counted; it has written a prefix of its text, and nothing where a call had failed before
 pub record Failed (before after : Keeper) (text : List ℕ) : Type 0 where
   pub counted : after.failures ≡ one_more before.failures
   pub part : WritesPrefix before.text after.text text
@@ -54,7 +54,7 @@ abbrev pub HasKept : Keeper → Kept → Keeper → Type 0
 HasKept before (Word word) after = Wrote before after (second_piece before.run word) (second_run before.run word)
 HasKept before Go after = Wrote before after (mark_text before.run) None
 
--- a thing was not kept: a front of its text was written, if anything
+-- a thing was not kept: a prefix of its text was written, if anything
 abbrev pub HasCutShort : Keeper → Kept → Keeper → Type 0
 HasCutShort before (Word word) after = Failed before after (second_piece before.run word)
 HasCutShort before Go after = Failed before after (mark_text before.run)

@@ -21,6 +21,18 @@ pub record IsNumber (text : List ℕ) (n : ℕ) : Type 0 where
   pub digits : AllDigits 10 text
   pub value : digits_value 10 text ≡ n
 
+-- the largest number of 32 bits: a patience, a count of restarts' words and a life's number are no larger
+abbrev pub largest_number : ℕ
+largest_number = 4294967295
+
+-- the last place in a queue that a line can name: no queue of a rehearsal is longer than that (this project's choice)
+abbrev pub last_place : ℕ
+last_place = 255
+
+-- the most that one line repeats an event (this project's choice)
+abbrev pub most_times : ℕ
+most_times = 1000000
+
 -- a keyword with its space, and then a number from low to high
 pub record HasNumber (text keyword : List ℕ) (low high n : ℕ) : Type 0 where
   pub rest : List ℕ
@@ -63,23 +75,23 @@ pub record IsPut (text : List ℕ) (address value : ℕ) : Type 0 where
 abbrev pub IsSetting : List ℕ → Setting → Type 0
 IsSetting text (Words n) = HasNumber text (codes "words ") 0 largest_words n
 IsSetting text (OfStyle style) = HasNumber text (codes "style ") 0 largest_style (style_number style)
-IsSetting text (Patience n) = HasNumber text (codes "patience ") 0 4294967295 n
+IsSetting text (Patience n) = HasNumber text (codes "patience ") 0 largest_number n
 IsSetting text (Wait waiting) = IsWait text waiting.items
 IsSetting text (Put address value) = IsPut text address value
 
 -- an event so many times: the keyword alone for once, or with a count
 abbrev pub IsCounted : List ℕ → List ℕ → List ℕ → ℕ → Type 0
-IsCounted text alone counted n = ((text ≡ alone) × (n ≡ 1)) ⊎ HasNumber text counted 1 1000000 n
+IsCounted text alone counted n = ((text ≡ alone) × (n ≡ 1)) ⊎ HasNumber text counted 1 most_times n
 
 -- what an event line says, one row for each form
 abbrev pub IsStep : List ℕ → Step → Type 0
 IsStep text (Times Take n) = IsCounted text (codes "take") (codes "take ") n
 IsStep text (Times Hear n) = IsCounted text (codes "hear") (codes "hear ") n
-IsStep text (Times (LoseDown k) n) = HasNumber text (codes "down ") 0 255 k × (n ≡ 1)
-IsStep text (Times (LoseUp k) n) = HasNumber text (codes "up ") 0 255 k × (n ≡ 1)
+IsStep text (Times (LoseDown k) n) = HasNumber text (codes "down ") 0 last_place k × (n ≡ 1)
+IsStep text (Times (LoseUp k) n) = HasNumber text (codes "up ") 0 last_place k × (n ≡ 1)
 IsStep text (Times Quiet n) = (text ≡ codes "quiet") × (n ≡ 1)
-IsStep text (Times (Restart k) n) = HasNumber text (codes "restart ") 0 4294967295 k × (n ≡ 1)
-IsStep text (Until n) = HasNumber text (codes "to ") 1 4294967295 n
+IsStep text (Times (Restart k) n) = HasNumber text (codes "restart ") 0 largest_number k × (n ≡ 1)
+IsStep text (Until n) = HasNumber text (codes "to ") 1 largest_number n
 IsStep text Clean = text ≡ codes "clean"
 
 -- an empty line, or a comment, which begins with a number sign

@@ -26,9 +26,7 @@ of_opening plan options before after out RecordInUse fails same = record { steps
 of_opening plan options before after out (Record why) fails same =
     ((fails.0.0, record { steps_are = fails.0.1; record_same = same; nothing_reported = Keeps-refl out }), fails.1)
 of_opening plan options before after out Memory fails same = inl (record { steps_are = fails; record_same = same; nothing_reported = Keeps-refl out })
-of_opening plan options before after out Connect fails same = absurd fails
-of_opening plan options before after out WriteRecord fails same = absurd fails
-of_opening plan options before after out WriteOutput fails same = absurd fails
+of_opening plan options before after out other fails same = absurd fails
 
 -- a report that fails is that of the load
 pub of_report : (plan : PlanValue) (options : LoadOptions) (before after : Setting) (last : Core) (stop : Stop)
@@ -49,10 +47,7 @@ of_busy plan options before between after out WriteRecord read same (inr unbegun
     inr (record { steps_are = gains_more _ _ _ _ _ read unbegun.1; nothing_reported = Keeps-refl out })
 of_busy plan options before between after out Memory read same fails =
     inr (record { steps_are = gains_more _ _ _ _ _ read fails.1; nothing_reported = Keeps-refl out })
-of_busy plan options before between after out ReadRecord read same fails = absurd fails
-of_busy plan options before between after out RecordInUse read same fails = absurd fails
-of_busy plan options before between after out (Record why) read same fails = absurd fails
-of_busy plan options before between after out WriteOutput read same fails = absurd fails
+of_busy plan options before between after out other read same fails = absurd fails
 
 -- an opened life over a protected record comes to nothing
 of_protected : (plan : PlanValue) (options : LoadOptions) (before between after : Around) (out : Option (List ℕ)) (fault : LoadFault)
@@ -66,10 +61,7 @@ of_protected plan options before between after out WriteRecord read same (inl pr
 of_protected plan options before between after out WriteRecord read same (inr unbegun) = absurd (cc (unbegun.0))
 of_protected plan options before between after out Connect read same fails = absurd (cc (fails.0))
 of_protected plan options before between after out Memory read same fails = absurd (cc (fails.0))
-of_protected plan options before between after out ReadRecord read same fails = absurd fails
-of_protected plan options before between after out RecordInUse read same fails = absurd fails
-of_protected plan options before between after out (Record why) read same fails = absurd fails
-of_protected plan options before between after out WriteOutput read same fails = absurd fails
+of_protected plan options before between after out other read same fails = absurd fails
 
 -- an opened life that comes to nothing, before anything is reported
 pub of_driving : (plan : PlanValue) (options : LoadOptions) (writable : Bool) (before between after : Around) (out : Option (List ℕ)) (fault : LoadFault)
@@ -83,8 +75,7 @@ pub not_begun : (before between after : Around) (why : RecordFault) → IsUnbegu
     → Asks before between (Connected ∷ []) → Asks between after (begin_step {A = Unit {0}} (Err why) ∷ []) → IsDrivingFault true before after (fault_of_record why)
 not_begun before between after why.Write is connected fails = inr (refl, gains_more _ _ _ _ _ connected fails)
 not_begun before between after why.Memory is connected fails = (refl, gains_more _ _ _ _ _ connected fails)
-not_begun before between after why.Read is connected fails = absurd is
-not_begun before between after why.InUse is connected fails = absurd is
+not_begun before between after other is connected fails = absurd is
 
 -- what is known of the error that a result has is known of the result
 pub error_is : {T E : Type 0} (r : Result T E) (error : E) (P : E → Type 0) → IsErrAnd r (λ e. e ≡ error) → P error → IfErr r P

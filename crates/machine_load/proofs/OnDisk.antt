@@ -96,10 +96,7 @@ not_lived_on a b c Connect o h = only_read_on a b c o h
 not_lived_on a b c WriteRecord o (inl same) = asked_as IsOnlyRead (disk_asked_before WriteRecord) a c (λ disk known' steps x. inl x) (only_read_on a b c o same)
 not_lived_on a b c WriteRecord o (inr h) = not_begun_then WriteRecord a b c (λ disk known' steps x. inr x) o h
 not_lived_on a b c Memory o h = not_begun_then Memory a b c (λ disk known' steps x. inr x) o h
-not_lived_on a b c ReadRecord o h = absurd h
-not_lived_on a b c RecordInUse o h = absurd h
-not_lived_on a b c (Record error) o h = absurd h
-not_lived_on a b c WriteOutput o h = absurd h
+not_lived_on a b c other o h = absurd h
 
 -- ---- and its record closed
 

@@ -189,23 +189,14 @@ pub tapes_fault : (inputs rests : List (Option (List ℕ))) (out : Option (List 
 tapes_fault inputs rests out words style start (fault.Tape number refusal) keeps failed = (failed, keeps)
 tapes_fault inputs rests out words style start (fault.ReadTape number) keeps failed = (failed, keeps)
 tapes_fault inputs rests out words style start fault.Memory keeps failed = inl keeps
-tapes_fault inputs rests out words style start (fault.Script line) keeps failed = absurd failed
-tapes_fault inputs rests out words style start fault.TooLarge keeps failed = absurd failed
-tapes_fault inputs rests out words style start fault.ReadScript keeps failed = absurd failed
-tapes_fault inputs rests out words style start fault.ReadKeys keeps failed = absurd failed
-tapes_fault inputs rests out words style start fault.Write keeps failed = absurd failed
+tapes_fault inputs rests out words style start other keeps failed = absurd failed
 
 -- no machine was made
 pub machine_fault : (inputs rests : List (Option (List ℕ))) (out : Option (List ℕ)) (words : ℕ) (style : Style) (start : Start) (why : CommandFault) → AreAllTaken inputs rests → Keeps out out → IsMachineFault words why
     → IsDialogueFault inputs rests out out words style start why
 machine_fault inputs rests out words style start fault.TooLarge taken keeps failed = (taken, failed, keeps)
 machine_fault inputs rests out words style start fault.Memory taken keeps failed = inl keeps
-machine_fault inputs rests out words style start (fault.Tape number refusal) taken keeps failed = absurd failed
-machine_fault inputs rests out words style start (fault.Script line) taken keeps failed = absurd failed
-machine_fault inputs rests out words style start (fault.ReadTape number) taken keeps failed = absurd failed
-machine_fault inputs rests out words style start fault.ReadScript taken keeps failed = absurd failed
-machine_fault inputs rests out words style start fault.ReadKeys taken keeps failed = absurd failed
-machine_fault inputs rests out words style start fault.Write taken keeps failed = absurd failed
+machine_fault inputs rests out words style start other taken keeps failed = absurd failed
 
 some_report : (counts end mode words : List ℕ) → 0 < length (((line counts ++ end) ++ mode) ++ words)
 some_report counts end mode words = omega (arith, length-append ((line counts ++ end) ++ mode) words, length-append (line counts ++ end) mode, length-append (line counts) end, length-append counts (10 ∷ []))
@@ -248,12 +239,7 @@ module _ (inputs rests : List (Option (List ℕ))) (words : ℕ) (style : Style)
       told : (other : CommandFault) → IsTalkFault other → IsDialogueFault inputs rests before now words style start other
       told fault.Write talk = part
       told fault.Memory talk = inr part
-      told (fault.Tape number refusal) talk = absurd talk
-      told (fault.Script line) talk = absurd talk
-      told fault.TooLarge talk = absurd talk
-      told (fault.ReadTape number) talk = absurd talk
-      told fault.ReadScript talk = absurd talk
-      told fault.ReadKeys talk = absurd talk
+      told other talk = absurd talk
 
   -- the report was not made
   no_report : (last : Scene) (end : End) (before now : Option (List ℕ)) → Talks world last end before now → IsDialogueInPart inputs rests before now words style start
@@ -277,12 +263,7 @@ module _ (inputs rests : List (Option (List ℕ))) (words : ℕ) (style : Style)
   pub report_failed : (last : Scene) (end : End) (before between now : Option (List ℕ)) (why : CommandFault) → Talks world last end before between → IsReportFault between now (report last) why → IsDialogueFault inputs rests before now words style start why
   report_failed last end before between now fault.Write talks failed = report_in_part last end before between now talks failed
   report_failed last end before between now fault.Memory talks failed = inr (no_report last end before now (subst (Talks world last end before) (sym failed) talks))
-  report_failed last end before between now (fault.Tape number refusal) talks failed = absurd failed
-  report_failed last end before between now (fault.Script line) talks failed = absurd failed
-  report_failed last end before between now fault.TooLarge talks failed = absurd failed
-  report_failed last end before between now (fault.ReadTape number) talks failed = absurd failed
-  report_failed last end before between now fault.ReadScript talks failed = absurd failed
-  report_failed last end before between now fault.ReadKeys talks failed = absurd failed
+  report_failed last end before between now other talks failed = absurd failed
 
   -- all was written
   pub dialogue_made : (last : Scene) (end : End) (before between now : Option (List ℕ)) → Talks world last end before between → Appends between now (report last) → IsDialogue inputs rests before now words style start end

@@ -17,7 +17,7 @@ use Rattle.byte_io.specs.Input.{IsTaken}
 use Rattle.tape_blocks.specs.Told.{IsAsTold}
 use Rattle.command_io.specs.Tapes.{AreTapes, AreAllTaken}
 use Rattle.loss_scripts.specs.Script.{IsRefusedScript, IsRefusedLine, script_limit}
-use Rattle.rehearsals.specs.Rehearsal.{IsScriptInput, IsScriptInputFault, IsPlayFault, IsRehearseFault, IsRehearsal, IsRehearsed, AllLie, after_puts, machine_of, opening}
+use Rattle.rehearsals.specs.Rehearsal.{IsScriptInput, IsScriptInputFault, IsPlayFault, IsRehearseFault, IsRehearsal, IsRehearsed, AllLie, after_puts, machine_of, rehearsal_opening}
 use Rattle.command_io.specs.declared.fault.CommandFault.{CommandFault}
 use Rattle.command_io.specs.declared.fault.CommandFault.TheVariants as fault
 use Rattle.loss_scripts.specs.declared.script.Script.{Script}
@@ -43,12 +43,7 @@ pub play_fault : (inputs rests : List (Option (List ℕ))) (script out : Option 
 play_fault inputs rests script out played (fault.Script number) taken is keeps refused =
     (taken, record { text = is.text; is_input = is.is_input; refused = inr (played, is.is_script, refused) }, keeps)
 play_fault inputs rests script out played fault.Memory taken is keeps refused = keeps
-play_fault inputs rests script out played (fault.Tape number refusal) taken is keeps refused = absurd refused
-play_fault inputs rests script out played fault.TooLarge taken is keeps refused = absurd refused
-play_fault inputs rests script out played (fault.ReadTape number) taken is keeps refused = absurd refused
-play_fault inputs rests script out played fault.ReadScript taken is keeps refused = absurd refused
-play_fault inputs rests script out played fault.ReadKeys taken is keeps refused = absurd refused
-play_fault inputs rests script out played fault.Write taken is keeps refused = absurd refused
+play_fault inputs rests script out played other taken is keeps refused = absurd refused
 
 -- what a script that was not taken says of the inputs
 pub script_fault : (inputs rests : List (Option (List ℕ))) (script out : Option (List ℕ)) (why : CommandFault) → AreAllTaken inputs rests → Keeps out out → IsScriptInputFault script why
@@ -56,11 +51,7 @@ pub script_fault : (inputs rests : List (Option (List ℕ))) (script out : Optio
 script_fault inputs rests script out (fault.Script number) taken keeps refused = (taken, record { text = refused.0; is_input = refused.1; refused = inl refused.2 }, keeps)
 script_fault inputs rests script out fault.ReadScript taken keeps refused = (taken, keeps)
 script_fault inputs rests script out fault.Memory taken keeps refused = keeps
-script_fault inputs rests script out (fault.Tape number refusal) taken keeps refused = absurd refused
-script_fault inputs rests script out fault.TooLarge taken keeps refused = absurd refused
-script_fault inputs rests script out (fault.ReadTape number) taken keeps refused = absurd refused
-script_fault inputs rests script out fault.ReadKeys taken keeps refused = absurd refused
-script_fault inputs rests script out fault.Write taken keeps refused = absurd refused
+script_fault inputs rests script out other taken keeps refused = absurd refused
 
 -- a machine after puts
 abbrev machine_with : Machine → List PutLine → Machine
@@ -83,7 +74,7 @@ pub rehearsal_made : (tapes : List TapeValue) (script : Script) (plan : PlanValu
     → (numbers : List ℕ) × Played world steps last numbers × (told ≡ start ++ not_possible_lines numbers) → text ≡ told ++ report last → IsRehearsal tapes script text
 rehearsal_made tapes script plan odt put world last puts steps waiting start told text odt_is puts_are is lie waits plan_is world_is steps_are none played text_is =
     let machine = put_is script.style script.words odt put puts script.puts.items odt_is puts_are is in
-    let opens : world ≡ opening tapes script = world_is ∙ ap (λ p. opened put (begun p 0 false script.patience) waiting) plan_is ∙ ap (λ m. opened m (begun (plan_of_all tapes) 0 false script.patience) waiting) machine
+    let opens : world ≡ rehearsal_opening tapes script = world_is ∙ ap (λ p. opened put (begun p 0 false script.patience) waiting) plan_is ∙ ap (λ m. opened m (begun (plan_of_all tapes) 0 false script.patience) waiting) machine
     ∙ ap (λ ws. opened (machine_of script.style (after_puts (replicate script.words 0) script.puts.items)) (begun (plan_of_all tapes) 0 false script.patience) ws) waits in
     record {
       lie = lie_is odt.memory (replicate script.words 0) puts script.puts.items (ap (λ (m : Machine). m.memory) odt_is) puts_are lie;

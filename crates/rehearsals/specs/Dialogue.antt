@@ -50,7 +50,7 @@ pub record IsDialogue (inputs inputs' : List (Option (List ℕ))) (out out' : Op
   pub is_text : IsDialogueText inputs inputs' words style start end text
   pub written : Appends out out' text
 
--- only a prefix of the dialogue's text was written, and nothing else
+-- a proper prefix of the dialogue's text was written, and nothing else
 pub record IsDialogueInPart (inputs inputs' : List (Option (List ℕ))) (out out' : Option (List ℕ)) (words : ℕ) (style : Style) (start : Start) : Type 0 where
   pub end : End
   pub text : List ℕ
@@ -58,7 +58,7 @@ pub record IsDialogueInPart (inputs inputs' : List (Option (List ℕ))) (out out
   pub written : WritesProperPrefix out out' text
 
 -- how a dialogue fails: a refusal or a failed read of a tape's input, by its number; or, where tapes were taken, a machine of more than 28,672 words; all
--- before anything is written. A failed write leaves a prefix of the text written, and so does want of memory, where anything is written by then
+-- before anything is written. A failed write leaves a proper prefix of the text written, and so does want of memory, where anything is written by then
 abbrev pub IsDialogueFault : List (Option (List ℕ)) → List (Option (List ℕ)) → Option (List ℕ) → Option (List ℕ) → ℕ → Style → Start → CommandFault → Type 0
 IsDialogueFault inputs inputs' out out' words style start (fault.Tape number refusal) =
     AreTapesFault inputs inputs' (fault.Tape number refusal) × Keeps out out'

@@ -45,8 +45,8 @@ abbrev pub machine_of : Style → List ℕ → Machine
 machine_of style memory = record { style = style; memory = memory; mode = Prompt }
 
 -- the world that tapes and a script open: the words are put into a zeroed machine, the host has done nothing yet
-abbrev pub opening : List TapeValue → Script → Scene
-opening tapes script =
+abbrev pub rehearsal_opening : List TapeValue → Script → Scene
+rehearsal_opening tapes script =
     opened (machine_of script.style (after_puts (replicate script.words 0) script.puts.items))
     (begun (plan_of_all tapes) 0 false script.patience) script.waiting.items
 
@@ -55,7 +55,7 @@ pub record IsRehearsal (tapes : List TapeValue) (script : Script) (text : List �
   pub lie : AllLie (replicate script.words 0) script.puts.items
   pub last : Scene
   pub numbers : List ℕ
-  pub played : Played (opening tapes script) script.steps.items last numbers
+  pub played : Played (rehearsal_opening tapes script) script.steps.items last numbers
   pub told : text ≡ not_possible_lines numbers ++ report last
 
 -- the input is this script
@@ -79,7 +79,7 @@ pub record IsRehearsed (inputs inputs' : List (Option (List ℕ))) (script_input
   pub rehearsal : IsRehearsal (tapes_of texts) script text
 
 -- how a rehearsal fails: a refusal or a failed read of a tape's input, by its number; the script's only where the tapes were taken first; or want of
--- memory, all before anything is written; or a failed write, with a prefix of the text written
+-- memory, all before anything is written; or a failed write, with a proper prefix of the text written
 abbrev pub IsRehearseFault : List (Option (List ℕ)) → List (Option (List ℕ)) → Option (List ℕ) → Option (List ℕ) → Option (List ℕ) → CommandFault → Type 0
 IsRehearseFault inputs inputs' script out out' (fault.Tape number refusal) = AreTapesFault inputs inputs' (fault.Tape number refusal) × Keeps out out'
 IsRehearseFault inputs inputs' script out out' (fault.ReadTape number) = AreTapesFault inputs inputs' (fault.ReadTape number) × Keeps out out'

@@ -7,7 +7,7 @@ use Rattle.command_io.specs.declared.fault.CommandFault.{CommandFault}
 use Rattle.command_io.specs.declared.fault.CommandFault.TheVariants.{Tape, ReadTape, Write, Memory}
 
 -- a tape is refused only where its input is, by its number, or can't be read, or want of memory, before anything is written;
--- or a failed write, with a prefix of the text written
+-- or a failed write, with a proper prefix of the text written
 abbrev pub IsCheckFault : List (Option (List ℕ)) → List (Option (List ℕ)) → Option (List ℕ) → Option (List ℕ) → CommandFault → Type 0
 IsCheckFault inputs inputs' out out' (Tape number fault) = AreTapesFault inputs inputs' (Tape number fault) × Keeps out out'
 IsCheckFault inputs inputs' out out' (ReadTape number) = AreTapesFault inputs inputs' (ReadTape number) × Keeps out out'

@@ -52,7 +52,7 @@ pub record IsChecked (inputs inputs' : List (Option (List ℕ))) (out out' : Opt
   pub taken : AreTaken inputs inputs' texts
   pub written : Appends out out' (check_text texts)
 
--- the same, but only a prefix of the text for `check` was written
+-- the same, but a proper prefix of the text for `check` was written
 pub record IsCheckedInPart (inputs inputs' : List (Option (List ℕ))) (out out' : Option (List ℕ)) : Type 0 where
   pub texts : List TapeText
   pub taken : AreTaken inputs inputs' texts

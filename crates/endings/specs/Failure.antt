@@ -6,10 +6,10 @@ use Rattle.std.specs.Char.{is_control}
 use Rattle.std.specs.Char.Escape.{escape_default}
 use Rattle.std.specs.List.{flat_map}
 use Rattle.std.specs.Str.{chars}
-use Rattle.tape_blocks.specs.Fault.{fault_text, memory_text}
+use Rattle.tape_blocks.specs.declared.fault.Fault.{Fault}
+use Rattle.tape_blocks.specs.Fault.{fault_text, memory_text, refused_tape_text}
 use Rattle.endings.specs.FaultOutput.{StandardError, IsSaid}
 use Rattle.endings.specs.declared.failure.Failure.{Failure}
-use Rattle.endings.specs.declared.failure.OneTape.{OneTape}
 use Rattle.endings.specs.declared.failure.Failure.TheVariants.{CannotRead, CannotWrite, CannotWriteFile, FileIsThere, RecordInUse, CannotConnect}
 use Rattle.endings.specs.declared.failure.Failure.TheVariants.{LineFailed, StartInDoubt, TapeRefused, OneTapeRefused, ScriptRefused, RecordRefused}
 use Rattle.endings.specs.declared.failure.Failure.TheVariants.{TooLarge, BadWord, NoMemory}
@@ -38,7 +38,7 @@ status_of (CannotConnect address) = DeviceFailed
 status_of LineFailed = DeviceFailed
 status_of StartInDoubt = DeviceFailed
 status_of (TapeRefused refusal) = Refused
-status_of (OneTapeRefused tape) = Refused
+status_of (OneTapeRefused number refusal) = Refused
 status_of (ScriptRefused number) = Refused
 status_of (RecordRefused reason) = Refused
 status_of TooLarge = BadCommandLine
@@ -46,8 +46,12 @@ status_of BadWord = BadCommandLine
 status_of NoMemory = OutOfMemory
 
 -- the number of one of several tapes, and why it is refused
-abbrev pub one_tape_text : OneTape → List ℕ
-one_tape_text tape = decimal tape.number ++ (codes " " ++ fault_text tape.fault)
+abbrev pub one_tape_text : ℕ → Fault → List ℕ
+one_tape_text number fault = decimal number ++ (codes " " ++ fault_text fault)
+
+-- the line at which a script or a record is refused
+abbrev pub refused_line_text : ℕ → List ℕ
+refused_line_text number = codes "refused at " ++ (codes "line " ++ decimal number)
 
 -- a character of a name, as a fault shows it: a control character by its escape, any other as it is
 abbrev pub shown_char : ℕ → List ℕ
@@ -68,11 +72,11 @@ failure_words (FileIsThere name) = []
 failure_words (RecordInUse name) = codes "record in use: "
 failure_words LineFailed = codes "line failed"
 failure_words StartInDoubt = codes "line failed\nldaodt: the start may have gone out: look at the machine first"
-failure_words (TapeRefused refusal) = codes "tape " ++ fault_text refusal
-failure_words (OneTapeRefused tape) = codes "tape " ++ one_tape_text tape
-failure_words (ScriptRefused number) = codes "script refused at line " ++ decimal number
+failure_words (TapeRefused refusal) = refused_tape_text refusal
+failure_words (OneTapeRefused number refusal) = codes "tape " ++ one_tape_text number refusal
+failure_words (ScriptRefused number) = codes "script " ++ refused_line_text number
 failure_words (RecordRefused why.NotARecord) = codes "record refused: NotARecord"
-failure_words (RecordRefused (why.Foreign number)) = codes "record refused at line " ++ decimal number
+failure_words (RecordRefused (why.Foreign number)) = codes "record " ++ refused_line_text number
 failure_words TooLarge = codes "machine too large"
 failure_words BadWord = codes "a word of the command line is not UTF-8"
 failure_words NoMemory = memory_text
@@ -176,7 +180,7 @@ IsStopFailure other marked file failure = ⊥
 -- the failure that a command's fault is, where its tapes and its script have these names: of several tapes the number is told
 abbrev pub IsFailureOf : CommandFault → List (Bor (List ℕ)) → List ℕ → Failure → Type 0
 IsFailureOf (fault.Tape number refusal) tapes script failure =
-    failure ≡ (if nat_lt 1 (length tapes) then OneTapeRefused (record { number = number; fault = refusal }) else TapeRefused refusal)
+    failure ≡ (if nat_lt 1 (length tapes) then OneTapeRefused number refusal else TapeRefused refusal)
 IsFailureOf (fault.Script number) tapes script failure = failure ≡ ScriptRefused number
 IsFailureOf fault.TooLarge tapes script failure = failure ≡ TooLarge
 IsFailureOf (fault.ReadTape number) tapes script failure = NamesTape (slice_get tapes (number - 1)) failure

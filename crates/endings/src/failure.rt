@@ -36,8 +36,8 @@ pub enum Failure<'a> {
     /// The only tape is refused.
     TapeRefused(Fault),
 
-    /// One of several tapes is refused.
-    OneTapeRefused(OneTape),
+    /// One of several tapes is refused: its number, from 1, and what is wrong with it.
+    OneTapeRefused(usize, Fault),
 
     /// The script is refused at this line.
     ScriptRefused(u32),
@@ -67,7 +67,7 @@ impl<'a> Failure<'a> {
         match fault {
             CommandFault::Tape(number, fault) => {
                 if tapes.len() > 1 {
-                    Failure::OneTapeRefused(OneTape { number, fault })
+                    Failure::OneTapeRefused(number, fault)
                 } else {
                     Failure::TapeRefused(fault)
                 }
@@ -146,23 +146,13 @@ impl<'a> Failure<'a> {
             | Failure::LineFailed
             | Failure::StartInDoubt => Status::DeviceFailed,
             Failure::TapeRefused(_)
-            | Failure::OneTapeRefused(_)
+            | Failure::OneTapeRefused(..)
             | Failure::ScriptRefused(_)
             | Failure::RecordRefused(_) => Status::Refused,
             Failure::TooLarge | Failure::BadWord => Status::BadCommandLine,
             Failure::NoMemory => Status::NoMemory,
         }
     }
-}
-
-/// Why one of several tapes is refused.
-#[derive(Clone, Copy)]
-pub struct OneTape {
-    /// Its number, from 1.
-    pub number: usize,
-
-    /// What is wrong with it, and at which byte.
-    pub fault: Fault,
 }
 
 /// What standard input is called in place of a file's name.

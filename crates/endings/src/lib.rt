@@ -18,7 +18,7 @@ mod streams;
 mod telling;
 
 pub use explaining::{refuse, show};
-pub use failure::{Failure, OneTape, STANDARD_INPUT};
+pub use failure::{Failure, STANDARD_INPUT};
 pub use fault_output::FaultOutput;
 pub use output::{Output, PipedOutput};
 pub use status::Status;

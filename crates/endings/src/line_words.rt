@@ -1,14 +1,14 @@
 //! The words of a failure's line. They are put together in room that is there, since formatting may fail.
-ghost use Rattle.std.specs.Prelude.{◌≡◌, ◌≤◌, ◌++◌, ◌+◌, codes, decimal, length};
+ghost use Rattle.std.specs.Prelude.{◌≡◌, ◌≤◌, ◌++◌, ◌+◌, codes, length};
 ghost use Rattle.arrayvec.specs.ArrayVec.{array_vec_len};
-ghost use Rattle.endings.specs.Failure.{failure_words, one_tape_text};
+ghost use Rattle.endings.specs.Failure.{failure_words, one_tape_text, refused_line_text};
 ghost use Rattle.tape_blocks.specs.Fault.{fault_text};
 
-use crate::failure::{Failure, OneTape};
+use crate::failure::Failure;
 use arrayvec::ArrayVec;
 use byte_io::{push_bytes, push_decimal};
 use load_record::RecordError;
-use tape_blocks::{Fault, OUT_OF_MEMORY, REFUSED_AT};
+use tape_blocks::{Fault, OUT_OF_MEMORY, REFUSED_AT, TAPE};
 
 /// The words of a line, with room for the longest and for its end.
 pub(crate) type LineWords = ArrayVec<u8, 128>;
@@ -43,16 +43,16 @@ fn push_words(words: &mut LineWords, failure: Failure<'_>)
             b"line failed\nldaodt: the start may have gone out: look at the machine first",
         ),
         Failure::TapeRefused(fault) => {
-            push_bytes(words, b"tape ");
+            push_bytes(words, TAPE.as_bytes());
             push_fault(words, fault);
         }
-        Failure::OneTapeRefused(tape) => push_tape(words, tape),
-        Failure::ScriptRefused(line) => push_place(words, b"script refused at line ", line),
+        Failure::OneTapeRefused(number, fault) => push_tape(words, number, fault),
+        Failure::ScriptRefused(line) => push_place(words, b"script ", line),
         Failure::RecordRefused(RecordError::NotARecord) => {
             push_bytes(words, b"record refused: NotARecord");
         }
         Failure::RecordRefused(RecordError::Foreign(line)) => {
-            push_place(words, b"record refused at line ", line);
+            push_place(words, b"record ", line);
         }
         Failure::TooLarge => push_bytes(words, b"machine too large"),
         Failure::BadWord => push_bytes(words, b"a word of the command line is not UTF-8"),
@@ -61,25 +61,27 @@ fn push_words(words: &mut LineWords, failure: Failure<'_>)
 }
 
 // Puts the words of one of several tapes behind others.
-fn push_tape(words: &mut LineWords, tape: OneTape)
+fn push_tape(words: &mut LineWords, number: usize, fault: Fault)
     requires { array_vec_len words.old ≤ 8 }
-    ensures words { words.new.items ≡ words.old.items ++ (codes "tape " ++ one_tape_text tape) }
+    ensures words { words.new.items ≡ words.old.items ++ (codes "tape " ++ one_tape_text number fault) }
     ensures short { array_vec_len words.new ≤ 127 }
 {
-    push_bytes(words, b"tape ");
-    push_decimal(words, tape.number as u64);
+    push_bytes(words, TAPE.as_bytes());
+    push_decimal(words, number as u64);
     push_bytes(words, b" ");
-    push_fault(words, tape.fault);
+    push_fault(words, fault);
 }
 
-// Puts words and the number of a line behind others.
-fn push_place(words: &mut LineWords, place: &[u8], line: u32)
+// Puts what is refused, and the number of its line, behind other words.
+fn push_place(words: &mut LineWords, refused: &[u8], line: u32)
     requires before { array_vec_len words.old ≤ 8 }
-    requires place { length place.now ≤ 30 }
-    ensures words { words.new.items ≡ words.old.items ++ (place.now ++ decimal line) }
+    requires short_word { length refused.now ≤ 30 }
+    ensures words { words.new.items ≡ words.old.items ++ (refused.now ++ refused_line_text line) }
     ensures short { array_vec_len words.new ≤ 127 }
 {
-    push_bytes(words, place);
+    push_bytes(words, refused);
+    push_bytes(words, REFUSED_AT.as_bytes());
+    push_bytes(words, b"line ");
     push_decimal(words, u64::from(line));
 }
 

@@ -7,8 +7,9 @@ use Rattle.host_core.specs.declared.phase.Visit.TheVariants.{Look, Check}
 use Rattle.host_core.specs.declared.phase.Reason.TheVariants.{Store, Close}
 use Rattle.host_core.specs.Core.{Core}
 
--- the most that one life sends for a plan of n words: 22 for a word, 7 for the start, and 23 for each
--- mishap that it survives and for its beginning (this project's choice)
+-- the most that one life sends for a plan of n words: 22 for a word, which are its address and `/`, six digits and CR, its address and
+-- `/` once more, and CR; 7 for the start, six digits and `G`; and 23 for each mishap that it survives and for its beginning, no more
+-- than `Z` and a word that was given up (this project's choice)
 abbrev pub character_bound : ℕ → ℕ → ℕ
 character_bound n patience = 22 * n + 7 + 23 * (patience + 1)
 

@@ -1,5 +1,5 @@
 -- A load: what a record says, what was done on the line, and what was reported.
-use Rattle.std.specs.Prelude.{◌≡◌, ◌⊎◌, ℕ, Bool, true, false, ◌&&◌, not, if◌then◌else◌, List, [], ◌∷◌, Option, Some, None, Ok, ⊤}
+use Rattle.std.specs.Prelude.{◌≡◌, ◌⊎◌, ℕ, Bool, true, false, ◌&&◌, not, if◌then◌else◌, List, [], ◌∷◌, Option, Some, None, Ok}
 use Rattle.std.specs.Io.KnownBytes.{Appends, Keeps}
 use Rattle.tape_blocks.specs.Told.{IsAsTold}
 use Rattle.tape_image.specs.Plan.{PlanValue}
@@ -93,8 +93,7 @@ pub record IsDrivenOn (old new : Core) (stop : Stop) : Type 0 where
 
 -- a record that was begun anew is that of the plan's first k words, where it is told
 abbrev pub IsTextBegun : Option (List ℕ) → PlanValue → ℕ → Type 0
-IsTextBegun None plan k = ⊤
-IsTextBegun (Some text) plan k = text ≡ record_text Second plan k false
+IsTextBegun told plan k = IsAsTold told (record_text Second plan k false)
 
 -- the life ends as it began, with nobody asked and the record left alone
 pub record IsIdle (old new : Core) (stop : Stop) (before after : Around) : Type 0 where

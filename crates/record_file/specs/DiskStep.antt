@@ -51,9 +51,9 @@ Tells None (Some told) more = ⊥
 Tells (Some items) None more = ⊤
 Tells (Some items) (Some grown) more = grown ≡ items ++ more
 
--- where a system of files tells what it was asked, that has grown by steps of which this holds
-abbrev pub HasAsked : Option (List DiskStep) → Option (List DiskStep) → (List DiskStep → Type 0) → Type 0
-HasAsked old new P = (steps : List DiskStep) × Tells old new steps × P steps
+-- where somebody tells what was asked, that has grown by steps of which this holds
+abbrev pub HasAsked : {A : Type 0} → Option (List A) → Option (List A) → (List A → Type 0) → Type 0
+HasAsked {A} old new P = (steps : List A) × Tells old new steps × P steps
 
 -- a name was looked at, and found to be as it should be only where something is there
 pub data IsNameSeen (name : List ℕ) : Bool → List DiskStep → Type 0 where

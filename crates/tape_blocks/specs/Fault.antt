@@ -25,7 +25,11 @@ memory_text = codes "out of memory"
 abbrev pub fault_text : Fault → List ℕ
 fault_text fault = codes "refused at " ++ decimal fault.at ++ codes ": " ++ why_text fault.why
 
+-- the same, said of a tape
+abbrev pub refused_tape_text : Fault → List ℕ
+refused_tape_text fault = codes "tape " ++ fault_text fault
+
 -- what is said of an input that was not read
 abbrev pub read_error_text : ReadError → List ℕ
-read_error_text (Tape fault) = codes "tape " ++ fault_text fault
+read_error_text (Tape fault) = refused_tape_text fault
 read_error_text Memory = memory_text

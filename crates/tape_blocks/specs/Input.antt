@@ -5,7 +5,7 @@ use Rattle.std.specs.Io.KnownBytes.{Consumes, IsAtEnd}
 use Rattle.tape_blocks.specs.Block.{BlockValue}
 use Rattle.tape_blocks.specs.Tape.{TapeValue, IsTape, tape_limit}
 use Rattle.tape_blocks.specs.Refusal.{IsRefused}
-use Rattle.tape_blocks.specs.Fault.{read_error_text}
+use Rattle.tape_blocks.specs.Fault.{memory_text, refused_tape_text}
 use Rattle.tape_blocks.specs.Standing.{IsRefusedForGood}
 use Rattle.tape_blocks.specs.TapeReader.{IsForMore}
 use Rattle.tape_blocks.specs.declared.fault.Fault.{Fault}
@@ -47,6 +47,6 @@ from_read_error Memory = NoMemory
 
 -- what is said of an input that gave no tape
 abbrev pub from_error_text : FromError → List ℕ
-from_error_text (TapeOf fault) = read_error_text (Tape fault)
-from_error_text NoMemory = read_error_text Memory
+from_error_text (TapeOf fault) = refused_tape_text fault
+from_error_text NoMemory = memory_text
 from_error_text Io = codes "a read failed"

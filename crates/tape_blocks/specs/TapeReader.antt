@@ -72,7 +72,7 @@ IsFinished fed (Ok tape) = (n : ℕ) × IsReading fed (Ok (tape, n))
 IsFinished fed (Err (Tape fault)) = IsReading fed (Err (Tape fault))
 IsFinished fed (Err Memory) = ⊤
 
--- how many bytes of a piece belong to the tape
+-- where a tape ends in a piece: how many of its bytes are the tape's; 0 where the tape goes on
 abbrev pub used_of : Fed → ℕ
 used_of More = 0
 used_of (DoneAt used) = used

@@ -66,6 +66,9 @@ impl fmt::Display for Why {
     }
 }
 
+/// What stands before a tape's fault where it is printed as that of a tape.
+pub const TAPE: &str = "tape ";
+
 /// What stands before the place of a fault where it is printed.
 pub const REFUSED_AT: &str = "refused at ";
 
@@ -129,12 +132,6 @@ impl From<AllocError> for Memory {
     }
 }
 
-impl<T: Drop> From<AllocFailed<T>> for Memory {
-    fn from(_e: AllocFailed<T>) -> Memory {
-        Memory
-    }
-}
-
 /// Why an input was not read.
 #[derive(Clone, Copy, Debug, PartialEq, Eq)]
 pub enum ReadError {
@@ -153,8 +150,8 @@ impl fmt::Display for ReadError {
 
     fn fmt<W: fmt::Write>(&self, f: &mut fmt::Formatter<W>) -> fmt::Result {
         match self {
-            ReadError::Tape(fault) => write!(f, "tape {fault}"),
-            ReadError::Memory => write!(f, "{Memory}"),
+            ReadError::Tape(fault) => write!(f, "{TAPE}{fault}"),
+            ReadError::Memory => f.write_str(OUT_OF_MEMORY),
         }
     }
 }

@@ -2,7 +2,7 @@
 ghost use Rattle.std.specs.Prelude.{◌≡◌};
 ghost use Rattle.tape_blocks.specs.Input.{IsReadFrom};
 
-use crate::fault::{Fault, ReadError};
+use crate::fault::{Fault, OUT_OF_MEMORY, ReadError, TAPE};
 use crate::reader::{Fed, TapeReader};
 use crate::tape::{TAPE_LIMIT, Tape};
 use std::alloc::{AllocError, Global};
@@ -34,8 +34,8 @@ impl fmt::Display for FromError {
 
     fn fmt<W: fmt::Write>(&self, f: &mut fmt::Formatter<W>) -> fmt::Result {
         match self {
-            FromError::Tape(fault) => write!(f, "{}", ReadError::Tape(*fault)),
-            FromError::Memory => write!(f, "{}", ReadError::Memory),
+            FromError::Tape(fault) => write!(f, "{TAPE}{fault}"),
+            FromError::Memory => f.write_str(OUT_OF_MEMORY),
             FromError::Io => f.write_str("a read failed"),
         }
     }

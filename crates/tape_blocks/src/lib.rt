@@ -29,7 +29,7 @@ mod tape;
 mod writer;
 
 pub use block::{Block, TOP};
-pub use fault::{Fault, Memory, OUT_OF_MEMORY, REFUSED_AT, ReadError, Why};
+pub use fault::{Fault, Memory, OUT_OF_MEMORY, REFUSED_AT, ReadError, TAPE, Why};
 pub use input::{FromError, read_from};
 pub use law::{one_reading, one_tape};
 pub use reader::{Fed, TapeReader, read_tape};

@@ -1,3 +1,3 @@
 pub mod Faults
 pub mod TapeInput
-pub mod TapesInput
+mod TapesInput

@@ -30,7 +30,7 @@ ends None h = refl
 ends (Some ys) h = h
 
 -- bytes that were taken and are refused, at the end or whatever follows: the input is refused
-pub refused_input : (before after : Option (List ℕ)) (taken : List ℕ) (fault : Fault) → Consumes before after taken → IsRefused taken fault.at fault.why → IsAtEnd after ⊎ IsRefusedForGood taken fault → IsRefusedInput before fault
+refused_input : (before after : Option (List ℕ)) (taken : List ℕ) (fault : Fault) → Consumes before after taken → IsRefused taken fault.at fault.why → IsAtEnd after ⊎ IsRefusedForGood taken fault → IsRefusedInput before fault
 refused_input before after taken fault consumed refused cause = record {
   input = taken ++ left_of after;
   is_input = whole before after taken consumed;

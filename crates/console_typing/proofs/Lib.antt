@@ -1,1 +1,1 @@
-pub mod Typing
+mod Typing

@@ -8,11 +8,11 @@ use std::io::{ErrorKind, Write};
 /// A writer of which one call, a write or a flush, fails once, as an interrupted one: it counts its
 /// calls, so that one more shows. A write takes `taken` bytes at most.
 #[derive(Drop)]
-pub struct Brittle {
-    pub text: Vec<u8>,
+pub(crate) struct Brittle {
+    pub(crate) text: Vec<u8>,
     taken: usize,
-    pub calls: u32,
-    pub flushes: u32,
+    pub(crate) calls: u32,
+    pub(crate) flushes: u32,
     fails_at: u32,
 }
 

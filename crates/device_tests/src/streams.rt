@@ -8,7 +8,7 @@ use std::time::Duration;
 
 /// A network where each name has two addresses, and nobody listens at the first.
 #[derive(Drop)]
-pub struct TwoAddresses<'a> {
+pub(crate) struct TwoAddresses<'a> {
     rt: &'a HostRuntime,
     second: SocketAddr,
     tried: Cell<u32>,
@@ -59,10 +59,10 @@ impl Net for TwoAddresses<'_> {
 
 /// What a stream was set to, and how often it was read, written and flushed.
 #[derive(Drop)]
-pub struct Notes {
-    pub calls: Cell<u32>,
-    pub time_limit: Cell<Option<Duration>>,
-    pub is_prompt: Cell<bool>,
+pub(crate) struct Notes {
+    pub(crate) calls: Cell<u32>,
+    pub(crate) time_limit: Cell<Option<Duration>>,
+    pub(crate) is_prompt: Cell<bool>,
 }
 
 impl Notes {
@@ -79,11 +79,11 @@ impl Notes {
 /// A stream of which some calls fail in one way: so many, from the first of them on, counted from 0. A
 /// read that does not fail gives an `A`, and a write takes everything.
 #[derive(Drop)]
-pub struct Faulty<'a> {
-    pub kind: ErrorKind,
-    pub first: u32,
-    pub faults: u32,
-    pub notes: &'a Notes,
+pub(crate) struct Faulty<'a> {
+    pub(crate) kind: ErrorKind,
+    pub(crate) first: u32,
+    pub(crate) faults: u32,
+    pub(crate) notes: &'a Notes,
 }
 
 impl Faulty<'_> {
@@ -134,9 +134,9 @@ impl OpenStream for Faulty<'_> {
 
 /// A stream that says a script, a byte with each read: `-` is a silence, and the last goes on for ever.
 #[derive(Drop)]
-pub struct Spoken<'a> {
-    pub script: &'static [u8],
-    pub reads: &'a Cell<usize>,
+pub(crate) struct Spoken<'a> {
+    pub(crate) script: &'static [u8],
+    pub(crate) reads: &'a Cell<usize>,
 }
 
 impl Read for Spoken<'_> {

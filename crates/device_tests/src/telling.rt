@@ -1,5 +1,5 @@
 //! A stream that does as a test says, and tells its bytes, its end and how often its time limit was met.
-ghost use Rattle.std.specs.Prelude.{◌≡◌, ◌+◌, ◌^◌, ◌<◌, length};
+ghost use Rattle.std.specs.Prelude.{◌+◌, ◌^◌, ◌<◌, length};
 
 use std::io;
 use std::io::{ErrorKind, Write};
@@ -9,7 +9,7 @@ use stream_line::TimedStream;
 
 /// What a read comes to.
 #[derive(Clone, Copy)]
-pub enum Step {
+pub(crate) enum Step {
     /// This byte came.
     Byte(u8),
 
@@ -26,7 +26,7 @@ pub enum Step {
 /// A stream whose reads come to these steps one after another, and behind them to its end. It takes all
 /// that is written.
 #[derive(Drop)]
-pub struct Telling<'a> {
+pub(crate) struct Telling<'a> {
     steps: &'a [Step],
     silences: u64,
     ghost room: { silences + length steps.now < 2 ^ 64 },
@@ -34,7 +34,7 @@ pub struct Telling<'a> {
 
 impl<'a> Telling<'a> {
     /// A stream that was not read yet.
-    pub fn new(steps: &'a [Step]) -> Telling<'a>
+    pub(crate) fn new(steps: &'a [Step]) -> Telling<'a>
         requires { length steps.now < 2 ^ 32 }
     {
         Telling { steps, silences: 0 }

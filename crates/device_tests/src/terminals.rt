@@ -8,7 +8,7 @@ use std::time::{Clock, Duration};
 
 /// What a read or a write of the terminal meets.
 #[derive(Clone, Copy)]
-pub enum Turn {
+pub(crate) enum Turn {
     /// This byte is there, or one byte is taken.
     Passes(u8),
 
@@ -24,7 +24,7 @@ pub enum Turn {
 
 /// What the clock does in a pause.
 #[derive(Clone, Copy)]
-pub enum Pace {
+pub(crate) enum Pace {
     /// Each pause lasts so many microseconds longer than was asked for.
     Late(u64),
 
@@ -42,27 +42,27 @@ pub enum Pace {
 }
 
 /// The time at which the clocks begin, in microseconds.
-pub const DAWN: u64 = 1_000_000_000;
+pub(crate) const DAWN: u64 = 1_000_000_000;
 
 /// An hour in microseconds.
-pub const HOUR: u64 = 3_600_000_000;
+pub(crate) const HOUR: u64 = 3_600_000_000;
 
 /// A system of which one device can be opened. The last turn of a list goes on for ever, and an empty list is a
 /// terminal at which nothing ever comes.
 #[derive(Drop)]
-pub struct Bench {
-    pub reads: &'static [Turn],
-    pub writes: &'static [Turn],
-    pub pace: Pace,
+pub(crate) struct Bench {
+    pub(crate) reads: &'static [Turn],
+    pub(crate) writes: &'static [Turn],
+    pub(crate) pace: Pace,
 
     /// How often the terminal was read and written, and how many pauses were made.
-    pub read: Cell<usize>,
-    pub written: Cell<usize>,
-    pub pauses: Cell<u32>,
+    pub(crate) read: Cell<usize>,
+    pub(crate) written: Cell<usize>,
+    pub(crate) pauses: Cell<u32>,
 
     /// For how many microseconds pauses were asked in all, and the clock's time in microseconds.
-    pub asked: Cell<u64>,
-    pub now: Cell<u64>,
+    pub(crate) asked: Cell<u64>,
+    pub(crate) now: Cell<u64>,
 }
 
 impl Bench {
@@ -99,7 +99,7 @@ fn next(turns: &[Turn], count: &Cell<usize>) -> Turn {
 
 /// The terminal of a system.
 #[derive(Drop)]
-pub struct Scripted<'a> {
+pub(crate) struct Scripted<'a> {
     bench: &'a Bench,
     is_gone: bool,
 }
@@ -145,7 +145,7 @@ impl IsTerminal for Scripted<'_> {
 }
 
 /// The path of the one device.
-pub const PATH: &str = "/dev/ttyUSB0";
+pub(crate) const PATH: &str = "/dev/ttyUSB0";
 
 impl<'a> Devices for &'a Bench {
     type Terminal = Scripted<'a>;

@@ -1,2 +1,2 @@
-pub mod Lines
-pub mod Names
+mod Lines
+mod Names

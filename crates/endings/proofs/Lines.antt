@@ -11,7 +11,7 @@ pub record IsSaidBut (err err' : StandardError) (text left : List ℕ) : Type 0 
   pub said : List ℕ
   pub whole : text ≡ said ++ left
   pub written : Appends err.text err'.text said
-  pub none_failed : NoneFailed err.failures err'.failures
+  none_failed : NoneFailed err.failures err'.failures
 
 pub on_any_err : {T E : Type 0} (r : Result T E) (P : Type 0) → P → OnErr r P
 on_any_err (Ok x) P p = tt
@@ -27,7 +27,7 @@ pub none_failed_twice : (f g h : Option ℕ) → NoneFailed f g → NoneFailed g
 none_failed_twice None g h before behind = tt
 none_failed_twice (Some count) g h before behind = subst (λ x. NoneFailed x h) before behind
 
-pub one_failed_behind : (f g h : Option ℕ) → NoneFailed f g → OneFailed g h → OneFailed f h
+one_failed_behind : (f g h : Option ℕ) → NoneFailed f g → OneFailed g h → OneFailed f h
 one_failed_behind None g h before behind = tt
 one_failed_behind (Some count) g h before behind = subst (λ x. OneFailed x h) before behind
 

@@ -133,7 +133,7 @@ impl<'a> Failure<'a> {
     }
 
     /// The exit status that tells of this failure.
-    pub fn status(&self) -> Status
+    pub(crate) fn status(&self) -> Status
         ensures { result ≡ status_of self.now }
     {
         match self {

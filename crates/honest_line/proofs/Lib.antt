@@ -1,7 +1,7 @@
 pub mod Wires
 pub mod Runs
 pub mod Trusted
-pub mod Lines
-pub mod Lendings
+mod Lines
+mod Lendings
 pub mod Going
 pub mod Started

@@ -17,7 +17,7 @@ use Rattle.honest_line.proofs.Wires.{none_moves, one_first, moves_join}
 -- ---- what is let through
 
 -- one character more of an answer
-pub through_more : (losses : List Loss) (number : ℕ) (answer : List ℕ) (i d : ℕ) → i < length answer →
+through_more : (losses : List Loss) (number : ℕ) (answer : List ℕ) (i d : ℕ) → i < length answer →
     let_through losses number (drop i answer) ≡ unless_lost (list_any (is_answer (number + 1)) losses) (get_or answer i d) ++ let_through losses (number + 1) (drop (i + 1) answer)
 through_more losses number answer i d below = ap (let_through losses number) (drop-cons answer i d below ∙ ap (λ k. get_or answer i d ∷ drop k answer) (sym (add-one i)))
 
@@ -71,13 +71,13 @@ sent_items : (test : Bool) (line : LineValue) (key : ℕ) → (delivered test li
 sent_items true line key = refl
 sent_items false line key = refl
 
-pub sent_reached : (opening : Machine) (line : LineValue) (key : ℕ) (refusal : Option LineFault) → IsReached opening line → IsReached opening (sent_or_not refusal line key)
+sent_reached : (opening : Machine) (line : LineValue) (key : ℕ) (refusal : Option LineFault) → IsReached opening line → IsReached opening (sent_or_not refusal line key)
 sent_reached opening line key None reached =
     more_reached opening line (with_sent (called line None) key) (Sent key) reached (sent_moved (called line None) key)
     (sent_items (list_any (is_key (line.keys + 1)) line.losses) (record (called line None) { items = line.items ++ Sent key ∷ []; keys = line.keys + 1 }) key)
 sent_reached opening line key (Some fault) reached = reached
 
-pub heard_reached : (opening : Machine) (line : LineValue) (refusal : Option LineFault) → IsReached opening line → IsReached opening (heard_or_not refusal line)
+heard_reached : (opening : Machine) (line : LineValue) (refusal : Option LineFault) → IsReached opening line → IsReached opening (heard_or_not refusal line)
 heard_reached opening line None reached = more_reached opening line (with_heard (called line None)) (Came (first_heard line.waiting)) reached (heard_moved (called line None)) refl
 heard_reached opening line (Some fault) reached = reached
 

@@ -161,7 +161,7 @@ started_event w (LoseUp n) k s = lost_if StartedIn w _ (ltb n (length w.up)) s (
 started_event w Quiet k s = silence_started w.machine w.core w.down w.up w.lost s
 started_event w (Restart kept) k s = λ e. absurd (begins_otherwise w.core.plan (min kept w.core.verified) w.core.going e)
 
-pub started_events : (w : Scene) (events : List Event) → IsKept w → StartedIn w → StartedIn (after w events)
+started_events : (w : Scene) (events : List Event) → IsKept w → StartedIn w → StartedIn (after w events)
 started_events w [] k s = s
 started_events w (event ∷ events) k s = started_events (happens w event) events (kept_event w event k) (started_event w event k s)
 
@@ -177,7 +177,7 @@ passes_started core things machine waiting end host may few passes =
     subst StartedIn run.world (started_events (over core (resting machine waiting 0)) run.events (begin_kept core machine waiting host may few) (begin_started core machine waiting may))
 
 -- no program runs but by a `G` that was sent
-pub runs_by_go : (machine now : Machine) (items : List Item) (lost : ℕ) → is_running machine.mode ≡ false → IsHonest machine items lost now → RunsByGo now (keys_of items)
+runs_by_go : (machine now : Machine) (items : List Item) (lost : ℕ) → is_running machine.mode ≡ false → IsHonest machine items lost now → RunsByGo now (keys_of items)
 runs_by_go machine now items lost stopped honest runs =
     let start : is_running honest.end.machine.mode ≡ true = ap (λ (m : Machine). is_running m.mode) honest.machine_is ∙ runs in
     elim (passes_back items (resting machine honest.waiting 0) honest.end honest.passes (inl start)) [ inl before ↦ absurd (cc) | inr has ↦ has ]

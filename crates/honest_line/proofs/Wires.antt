@@ -22,11 +22,11 @@ times_then : (n : ℕ) (x y z : Wire) → MovesTimes n x y → MovesOn y z → M
 times_then zero x y z same more = subst (λ w. MovesOn w z) same more
 times_then (suc n) x y z (w, move, rest) more = one_first x w z move (times_then n w y z rest more)
 
-pub moves_then : (x y z : Wire) → MovesOn x y → MovesOn y z → MovesOn x z
+moves_then : (x y z : Wire) → MovesOn x y → MovesOn y z → MovesOn x z
 moves_then x y z first more = times_then first.0 x y z first.1 more
 
 -- a view of the wire that moves leave alone
-abbrev pub Carries : (Wire → Wire) → Type 0
+abbrev Carries : (Wire → Wire) → Type 0
 Carries f = (x y : Wire) → Moves x y → Moves (f x) (f y)
 
 times_carried : (f : Wire → Wire) → Carries f → (n : ℕ) (x y : Wire) → MovesTimes n x y → MovesTimes n (f x) (f y)
@@ -45,7 +45,7 @@ sent_carries keys x y (inr (inl (k, below, now))) =
 sent_carries keys x y (inr (inr (k, below, now))) = inr (inr (k, below, ap (λ z. sent z keys) now))
 
 -- moves may stand before the list
-pub moves_first : (items : List Item) (x y z : Wire) → MovesOn x y → Passes y items z → Passes x items z
+moves_first : (items : List Item) (x y z : Wire) → MovesOn x y → Passes y items z → Passes x items z
 moves_first [] x y z moves passes = moves_then x y z moves passes
 moves_first (Sent key ∷ items) x y z moves passes = moves_first items (sent x (key ∷ [])) (sent y (key ∷ [])) z (moves_carried (λ w. sent w (key ∷ [])) (sent_carries (key ∷ [])) x y moves) passes
 moves_first (Came what ∷ items) x y z moves (v, w, before, gives, passes) = (v, w, moves_then x y v moves before, gives, passes)
@@ -72,7 +72,7 @@ gives_later : (k : ℕ) (what : Heard) (x y : Wire) → Gives x what y → Gives
 gives_later k (Got c) x y (rest, is, now) = (rest, is, ap (later k) now)
 gives_later k Quiet x y (none, empty, now) = (none, empty, ap (later k) now)
 
-pub passes_later : (k : ℕ) (items : List Item) (x y : Wire) → Passes x items y → Passes (later k x) items (later k y)
+passes_later : (k : ℕ) (items : List Item) (x y : Wire) → Passes x items y → Passes (later k x) items (later k y)
 passes_later k [] x y moves = moves_carried (later k) (later_carries k) x y moves
 passes_later k (Sent key ∷ items) x y passes = passes_later k items (sent x (key ∷ [])) y passes
 passes_later k (Came what ∷ items) x y (z, v, before, gives, passes) =

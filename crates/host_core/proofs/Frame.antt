@@ -65,7 +65,7 @@ pub moved : (core : Core) (heard : Heard) → IsMoved core (move core heard)
 moved core heard = taken_moved core (turn_of core heard)
 
 -- a turn that sends nothing and verifies nothing
-abbrev pub IsStill : Turn → Type 0
+abbrev IsStill : Turn → Type 0
 IsStill (Listen phase) = Unit {0}
 IsStill (Stop end) = Unit {0}
 IsStill _ = ⊥

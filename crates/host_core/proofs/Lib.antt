@@ -1,7 +1,7 @@
 pub mod Frame
 pub mod Lives
 pub mod Marks
-pub mod Readings
+mod Readings
 pub mod Starts
 pub mod Turns
 pub mod Walk

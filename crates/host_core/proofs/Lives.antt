@@ -21,7 +21,7 @@ pub led_patience : (core : Core) (heard : List Heard) → (led core heard).patie
 led_patience core [] = refl
 led_patience core (heard ∷ more) = led_patience (move core heard).next more ∙ (moved core heard).patience
 
-pub led_sent : (core : Core) (heard : List Heard) → (led core heard).sent ≡ core.sent + length (replay core heard)
+led_sent : (core : Core) (heard : List Heard) → (led core heard).sent ≡ core.sent + length (replay core heard)
 led_sent core [] = omega arith
 led_sent core (heard ∷ more) =
     omega (arith, led_sent (move core heard).next more, (moved core heard).sent, length-append (option_to_list (move core heard).key) (replay (move core heard).next more))

@@ -30,12 +30,12 @@ use Rattle.host_core.proofs.Turns.{TurnFits, turn_fits, kept}
 use Rattle.host_core.proofs.Lives.{led_plan}
 
 -- in the phase Start the last keys are the digits of the start address so far
-abbrev pub TypedFits : Phase → ℕ → List ℕ → Type 0
+abbrev TypedFits : Phase → ℕ → List ℕ → Type 0
 TypedFits (Start place) start typed = (before : List ℕ) × (typed ≡ before ++ take place (octal_text start))
 TypedFits _ start typed = Unit {0}
 
 -- what is typed in a turn goes on so, and the mark comes after all six digits
-abbrev pub Types : Phase → ℕ → Turn → Type 0
+abbrev Types : Phase → ℕ → Turn → Type 0
 Types phase start (Listen next) = (typed : List ℕ) → TypedFits phase start typed → TypedFits next start typed
 Types phase start (Key key next) = (go ≡ key → ⊥) × ((typed : List ℕ) → TypedFits phase start typed → TypedFits next start (typed ++ key ∷ []))
 Types phase start Mark = (typed : List ℕ) → TypedFits phase start typed → (before : List ℕ) × (typed ≡ before ++ octal_text start)
@@ -102,7 +102,7 @@ waits_types start Go = tt
 waits_types start (Ended end) = λ _ _. tt
 
 -- what a life has typed: no `G` yet, or the whole start address and `G` with every word verified
-abbrev pub IsTyped : Core → List ℕ → Type 0
+abbrev IsTyped : Core → List ℕ → Type 0
 IsTyped core typed =
     ((Contains typed go → ⊥) × TypedFits core.phase (start_of core) typed) ⊎
     (EndsWithStart (start_of core) typed × (core.verified ≡ length core.plan.words) × (core.going ≡ true))

@@ -64,7 +64,7 @@ given_up : (core : Core) → IsHost core → core.patience ≤ core.spent → Tu
 given_up core h out f =
     record { image = h.image; within = h.within; patient = h.patient; long = h.long; fits = omega (arith, h.patient, out); mark = no_mark core.going core.plan.start (Ended GaveUp) f.0; paid = omega (arith, h.paid, f.1) }
 
-pub taken_kept : (core : Core) (turn : Turn) → IsHost core → TurnFits turn (basis_of core) (used_in core.phase) → IsHost (taken core turn).next
+taken_kept : (core : Core) (turn : Turn) → IsHost core → TurnFits turn (basis_of core) (used_in core.phase) → IsHost (taken core turn).next
 taken_kept core (Listen phase) h f = record { image = h.image; within = h.within; patient = h.patient; long = h.long; fits = f.0; mark = f.1; paid = omega (arith, h.paid, f.2) }
 taken_kept core (Key key phase) h f = record { image = h.image; within = h.within; patient = h.patient; long = h.long; fits = f.0; mark = no_mark core.going core.plan.start phase f.1; paid = omega (arith, h.paid, f.2) }
 taken_kept core Verified h f =
@@ -171,7 +171,7 @@ go_fits b c f =
     go_walk (λ t. TurnFits t b 8) c (f.1, ended_mark b.going b.plan.start Started f.0.has_start, omega arith)
     (f.1, ended_mark b.going b.plan.start Uncertain f.0.has_start, omega arith)
 
-pub hears_fits : (b : Basis) (start : ℕ) (phase : Phase) (c : ℕ) → IsPlan b.plan → PhaseFits phase b → MarkFits b.going b.plan.start phase → TurnFits (hears (word_nr b.plan.words b.verified) start phase c) b (used_in phase)
+hears_fits : (b : Basis) (start : ℕ) (phase : Phase) (c : ℕ) → IsPlan b.plan → PhaseFits phase b → MarkFits b.going b.plan.start phase → TurnFits (hears (word_nr b.plan.words b.verified) start phase c) b (used_in phase)
 hears_fits b start Settle c p f m = (tt, m, omega arith)
 hears_fits b start (Sync place) c p f m =
     let e : b.going ≡ false = unmarked b.going b.plan.start (Sync place) m (λ x. x) in
@@ -188,7 +188,7 @@ hears_fits b start (Start place) c p f m = start_fits b start place c (unmarked 
 hears_fits b start Go c p f m = go_fits b c f
 hears_fits b start (Ended end) c p f m = (f, m, omega arith)
 
-pub waits_fits : (b : Basis) (phase : Phase) → PhaseFits phase b → MarkFits b.going b.plan.start phase → TurnFits (waits phase) b (used_in phase)
+waits_fits : (b : Basis) (phase : Phase) → PhaseFits phase b → MarkFits b.going b.plan.start phase → TurnFits (waits phase) b (used_in phase)
 waits_fits b Settle f m = (omega arith, unmarked b.going b.plan.start Settle m (λ x. x), omega arith)
 waits_fits b (Sync place) f m = (unmarked b.going b.plan.start (Sync place) m (λ x. x), omega arith)
 waits_fits b (Address visit place) f m = (unmarked b.going b.plan.start (Address visit place) m (λ x. x), omega (arith, f.1.to, visit_le visit))

@@ -37,7 +37,7 @@ slash_walk P visit c lost done = either P (c == 47) _ _ (λ _. done) (λ _. lost
 first_is : (c : ℕ) → (c == 48 || c == 49) ≡ true → (48 ≤ c) × (c ≤ 49)
 first_is c h = grind (arith, nat_tests)
 
-pub first_digit_walk : (P : Turn → Type 0) (visit : Visit) (c : ℕ) → P Stray → (48 ≤ c → c ≤ 49 → P (Listen (Value visit (c - 48) 1))) → P (first_digit_hears visit c)
+first_digit_walk : (P : Turn → Type 0) (visit : Visit) (c : ℕ) → P Stray → (48 ≤ c → c ≤ 49 → P (Listen (Value visit (c - 48) 1))) → P (first_digit_hears visit c)
 first_digit_walk P visit c lost on = either P (c == 48 || c == 49) _ _ (λ first. on (first_is c first).0 (first_is c first).1) (λ _. lost)
 
 pub before_walk : (P : Turn → Type 0) (address : ℕ) (visit : Visit) (c : ℕ) → P Stray → P (Listen (Value visit 0 0)) → P (Stop (NoWord address)) → (48 ≤ c → c ≤ 49 → P (Listen (Value visit (c - 48) 1))) → P (before_hears address visit c)

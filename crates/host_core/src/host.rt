@@ -1,4 +1,4 @@
-ghost use Rattle.std.specs.Prelude.{◌≡◌, ℕ, ◌≤◌, ◌⊎◌, ◌↔◌, true, false, length, IsTrue, IfOk, IfErr, OnOk, Some, None};
+ghost use Rattle.std.specs.Prelude.{◌≡◌, ◌≤◌, ◌⊎◌, ◌↔◌, true, false, length, IsTrue, IfOk, IfErr, OnOk, Some, None};
 ghost use Rattle.host_core.specs.Bound.{character_bound};
 ghost use Rattle.host_core.specs.Console.{go};
 ghost use Rattle.host_core.specs.Core.{IsFresh, begun, ended, first_phase, restarted};

@@ -1,4 +1,4 @@
-ghost use Rattle.std.specs.Prelude.{◌≡◌, ℕ};
+ghost use Rattle.std.specs.Prelude.{◌≡◌};
 ghost use Rattle.tape_image.specs.Plan.{IsPlan};
 ghost use Rattle.host_core.specs.Opening.{refusal_of};
 

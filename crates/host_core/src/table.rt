@@ -1,6 +1,6 @@
 // The phase table: for each phase, what the host does on a character.
 
-ghost use Rattle.std.specs.Prelude.{◌≡◌, ℕ, ◌<◌, ◌≤◌};
+ghost use Rattle.std.specs.Prelude.{◌≡◌, ◌<◌};
 ghost use Rattle.octal.specs.Octal.{digit_of};
 ghost use Rattle.host_core.specs.PhaseTable.{sync_hears, echo_hears, address_hears, slash_hears, first_digit_hears, before_hears};
 ghost use Rattle.host_core.specs.PhaseTable.{read, value_hears, deposit_hears, return_hears, start_hears, go_hears, waits};

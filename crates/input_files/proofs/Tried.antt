@@ -89,11 +89,11 @@ behind_others xs ys end last a b (Shut name names tries t) is h = absurd (cc is)
 behind_others xs ys end last a b (NoRoom names) is h = absurd (cc is)
 behind_others xs ys end last a b (NoRoomToRetry name names) is h = absurd (cc is)
 
-pub failed_first : (xs ys : List Name) (failure : Failure) (a b : Option (List InputStep)) → HasOpened a b (AreTried xs (Some failure))
+failed_first : (xs ys : List Name) (failure : Failure) (a b : Option (List InputStep)) → HasOpened a b (AreTried xs (Some failure))
     → HasOpened a b (AreTried (xs ++ ys) (Some failure))
 failed_first xs ys failure a b h = (h.0, h.1, before_others xs ys (Some failure) failure h.0 h.2 refl)
 
-pub opened_first : (xs ys : List Name) (end : Option Failure) (a b c : Option (List InputStep)) → HasOpened a b (AreTried xs None)
+opened_first : (xs ys : List Name) (end : Option Failure) (a b c : Option (List InputStep)) → HasOpened a b (AreTried xs None)
     → HasOpened b c (AreTried ys end) → HasOpened a c (AreTried (xs ++ ys) end)
 opened_first xs ys end a b c h k = (h.0 ++ k.0, tells_join a b c h.0 k.0 h.1 k.1, behind_others xs ys None end h.0 k.0 h.2 refl k.2)
 

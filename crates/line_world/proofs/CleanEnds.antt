@@ -208,7 +208,7 @@ whole_ends w now end e stand is = record {
 }
 
 -- where every word of the plan lies in memory, all of them are loaded
-pub clean_whole : (w : Scene) (events : List Event) (end : End) → IsAtOpening w → IsKept w → IsCleanRun w events → ended (after w events).core.phase ≡ Some end →
+clean_whole : (w : Scene) (events : List Event) (end : End) → IsAtOpening w → IsKept w → IsCleanRun w events → ended (after w events).core.phase ≡ Some end →
     ((i : ℕ) → i < length w.core.plan.words → LiesIn w i) → EndsWhole w (after w events) end
 clean_whole w events end o k run is lies =
     let now = after w events in
@@ -220,7 +220,7 @@ clean_whole w events end o k run is lies =
     ]
 
 -- where one does not, the load stops at the first of them
-pub clean_missing : (w : Scene) (events : List Event) (end : End) → IsAtOpening w → IsKept w → IsCleanRun w events → ended (after w events).core.phase ≡ Some end →
+clean_missing : (w : Scene) (events : List Event) (end : End) → IsAtOpening w → IsKept w → IsCleanRun w events → ended (after w events).core.phase ≡ Some end →
     (i : ℕ) → i < length w.core.plan.words → (LiesIn w i → ⊥) → ((j : ℕ) → j < i → LiesIn w j) → StopsAtWord w (after w events) end i
 clean_missing w events end o k run is i inside past before =
     let now = after w events in

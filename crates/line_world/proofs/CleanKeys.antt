@@ -39,16 +39,16 @@ use Rattle.line_world.proofs.Stores.{with_memory, lies_same}
 use Rattle.line_world.proofs.KeysLeft.{left, Leads, IsBusy, visit_keys, check_keys, hears_leads}
 
 -- between answers no key is under way
-abbrev pub Idle : Phase → List ℕ → Type 0
+abbrev Idle : Phase → List ℕ → Type 0
 Idle Settle down = down ≡ []
 Idle phase down = Unit {0}
 
 -- the keys for the words from the one numbered k on, and for the start
-abbrev pub keys_from : Core → List ℕ → ℕ → List ℕ
+abbrev keys_from : Core → List ℕ → ℕ → List ℕ
 keys_from core memory k = words_keys (drop k core.plan.words) memory ++ start_keys core.plan.start
 
 -- the keys that are left in a world
-abbrev pub keys_left : Scene → List ℕ
+abbrev keys_left : Scene → List ℕ
 keys_left w = left w.core.phase (site w) (keys_from w.core w.machine.memory w.core.verified) (keys_from w.core w.machine.memory (w.core.verified + 1))
 
 -- the keys from a word on are those of a look at it, and then those from the next word on
@@ -91,7 +91,7 @@ left_next m core old up lost false (Some s) past is =
     rw at (sym (here_start core m.memory (over core.verified (length core.plan.words) past) ∙ ap start_keys is))
 
 -- a turn that leads on types the next of the keys that are left
-pub left_turn : (m : Machine) (core : Core) (old up : List ℕ) (lost : ℕ) (turn : Turn) (keys : List ℕ) →
+left_turn : (m : Machine) (core : Core) (old up : List ℕ) (lost : ℕ) (turn : Turn) (keys : List ℕ) →
     Leads (site (scene m core [] old lost)) (keys_from core m.memory core.verified) (keys_from core m.memory (core.verified + 1)) turn keys →
     after_turn m core old up lost (taken core turn) ≡ keys
 left_turn m core old up lost (Listen phase) keys h = h
@@ -282,7 +282,7 @@ clean_next w k next =
     still w next i s lies = rw s.plan (lies_same w.machine.memory next.machine.memory (word_nr w.core.plan.words i).address s.bytes.size lies)
 
 -- the keys typed up to the end are the keys that were left
-pub types_left : (w : Scene) (events : List Event) → IsClean w → IsCleanRun w events → typed w events ≡ keys_left w
+types_left : (w : Scene) (events : List Event) → IsClean w → IsCleanRun w events → typed w events ≡ keys_left w
 types_left w [] k run = at_end w.core.phase _ _ _ run
   where
     at_end : (phase : Phase) (t : Site) (here later : List ℕ) → IsSome (ended phase) → [] ≡ left phase t here later

@@ -22,7 +22,7 @@ below_six P a b c d e f (suc (suc (suc (suc (suc (suc k)))))) h = absurd (omega 
 pub head_step : (w : ℕ) → w < 65536 → (k : ℕ) → k < 6 → 8 * head w k + head w (k + 1) % 8 ≡ head w (k + 1)
 head_step w h = below_six (λ k. 8 * head w k + head w (k + 1) % 8 ≡ head w (k + 1)) (omega arith) (omega arith) (omega arith) (omega arith) (omega arith) (omega arith)
 
-pub head_small : (w : ℕ) → w < 65536 → (k : ℕ) → k < 6 → head w (k + 1) < 65536
+head_small : (w : ℕ) → w < 65536 → (k : ℕ) → k < 6 → head w (k + 1) < 65536
 head_small w h = below_six (λ k. head w (k + 1) < 65536) (omega arith) (omega arith) (omega arith) (omega arith) (omega arith) (omega arith)
 
 pub digit_is : (n : ℕ) → is_digit (48 + n % 8) ≡ true
@@ -31,7 +31,7 @@ digit_is n = grind (arith, nat_tests)
 pub digit_key : (w k : ℕ) → key_of (digit_of w k) ≡ Digit
 digit_key w k = rw (digit_is (head w k)) refl
 
-pub digit_back : (w k : ℕ) → digit_of w k - 48 ≡ head w k % 8
+digit_back : (w k : ℕ) → digit_of w k - 48 ≡ head w k % 8
 digit_back w k = omega arith
 
 pub pushed_head : (w : ℕ) → w < 65536 → (k : ℕ) → k < 6 → pushed (head w k) (digit_of w (k + 1)) ≡ head w (k + 1)

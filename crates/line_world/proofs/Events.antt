@@ -150,7 +150,7 @@ safe_of before w k only = record {
 }
 
 -- the world's memory is safe against an earlier one
-abbrev pub SafeIn : List ℕ → Scene → Type 0
+abbrev SafeIn : List ℕ → Scene → Type 0
 SafeIn before w = IsSafe before w.core w.machine.memory
 
 safe_step : (before : List ℕ) (w next : Scene) → OnlyImage before w.core.plan.image w.machine.memory → IsKept next → Steps w next → SafeIn before next

@@ -44,11 +44,11 @@ TurnFits m core up lost Stray = core.spent < lost
 TurnFits m core up lost Timeout = (up ≡ []) × (core.spent < lost) × IsStopped m.mode
 
 -- the words that stand for sure are the same or more, and stand
-abbrev pub WordsStand : Machine → Core → Type 0
+abbrev WordsStand : Machine → Core → Type 0
 WordsStand m core = (i : ℕ) → i < standing core → IsThere (site_of (scene m core [] [] 0) i)
 
 -- the host goes on in a phase, and nothing is sent
-pub kept_listen : (m : Machine) (core next : Core) (old up : List ℕ) (lost : ℕ) → IsKept (scene m core [] old lost) → length up ≤ length old →
+kept_listen : (m : Machine) (core next : Core) (old up : List ℕ) (lost : ℕ) → IsKept (scene m core [] old lost) → length up ≤ length old →
     IsHost next → WordsStand m next → RunsWith next.going m.mode → next.spent ≤ lost → next.sent ≡ core.sent → PhaseHolds next.phase m next [] up lost → IsKept (scene m next [] up lost)
 kept_listen m core next old up lost k shorter host words running spent sent phase = record {
   machine = k.machine;
@@ -63,7 +63,7 @@ kept_listen m core next old up lost k shorter host words running spent sent phas
 }
 
 -- the host sends a key, and nothing else is under way
-pub kept_send : (m : Machine) (core next : Core) (key : ℕ) (old : List ℕ) (lost : ℕ) → IsKept (scene m core [] old lost) →
+kept_send : (m : Machine) (core next : Core) (key : ℕ) (old : List ℕ) (lost : ℕ) → IsKept (scene m core [] old lost) →
     IsHost next → WordsStand m next → RunsWith next.going m.mode → next.spent ≤ lost → next.sent ≡ core.sent + 1 → PhaseHolds next.phase m next (key ∷ []) [] lost → IsKept (scene m next (key ∷ []) [] lost)
 kept_send m core next key old lost k host words running spent sent phase = record {
   machine = k.machine;

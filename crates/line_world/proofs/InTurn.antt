@@ -10,11 +10,11 @@ use Rattle.line_world.specs.Scene.{Scene}
 use Rattle.line_world.specs.Runs.{RunsTo}
 use Rattle.line_world.specs.World.{occurs, happens, after, possible_count, first_event, IsCleanRun}
 
-pub after_more : (w : Scene) (events : List Event) (event : Event) → after w (events ++ event ∷ []) ≡ happens (after w events) event
+after_more : (w : Scene) (events : List Event) (event : Event) → after w (events ++ event ∷ []) ≡ happens (after w events) event
 after_more w [] event = refl
 after_more w (e ∷ events) event = after_more (happens w e) events event
 
-pub count_more : (w : Scene) (events : List Event) (event : Event) → possible_count w (events ++ event ∷ []) ≡ possible_count w events + (if is_some (occurs (after w events) event) then 1 else 0)
+count_more : (w : Scene) (events : List Event) (event : Event) → possible_count w (events ++ event ∷ []) ≡ possible_count w events + (if is_some (occurs (after w events) event) then 1 else 0)
 count_more w [] event = omega arith
 count_more w (e ∷ events) event = omega (arith, count_more (happens w e) events event)
 
@@ -37,15 +37,15 @@ more_count w old events i n d possible below before count is =
     rw (take_more events i d below, count_more w (take i events) (get_or events i d), ← before, ← is, ← count) refl
 
 -- events of a line that loses nothing, with no end on the way so far
-abbrev pub IsCleanSoFar : Scene → List Event → Type 0
+abbrev IsCleanSoFar : Scene → List Event → Type 0
 IsCleanSoFar w [] = Unit {0}
 IsCleanSoFar w (event ∷ events) = (ended w.core.phase ≡ None) × (event ≡ first_event w) × IsCleanSoFar (happens w event) events
 
-pub clean_more : (w : Scene) (events : List Event) (event : Event) → IsCleanSoFar w events → ended (after w events).core.phase ≡ None → event ≡ first_event (after w events) → IsCleanSoFar w (events ++ event ∷ [])
+clean_more : (w : Scene) (events : List Event) (event : Event) → IsCleanSoFar w events → ended (after w events).core.phase ≡ None → event ≡ first_event (after w events) → IsCleanSoFar w (events ++ event ∷ [])
 clean_more w [] event clean live is = (live, is, tt)
 clean_more w (e ∷ events) event clean live is = (clean.0, clean.1, clean_more (happens w e) events event clean.2 live is)
 
-pub clean_end : (w : Scene) (events : List Event) → IsCleanSoFar w events → IsSome (ended (after w events).core.phase) → IsCleanRun w events
+clean_end : (w : Scene) (events : List Event) → IsCleanSoFar w events → IsSome (ended (after w events).core.phase) → IsCleanRun w events
 clean_end w [] clean end = end
 clean_end w (e ∷ events) clean end = (clean.0, clean.1, clean_end (happens w e) events clean.2 end)
 

@@ -51,7 +51,7 @@ pub typing_lies : (m : Machine) (a v n : ℕ) → IsMachine m → m.mode ≡ Typ
 typing_lies m a v n is mode = (subst (ModeFits m.memory) mode is.mode).0
 
 -- the key that a phase waits for is lawful
-pub phase_lawful : (phase : Phase) (m : Machine) (core : Core) (c lost : ℕ) → IsMachine m → PhaseFits phase (basis_of core) → (core.going ≡ true → IsPastMark phase) → PhaseHolds phase m core (c ∷ []) [] lost → LawfulKey core.going (ground (scene m core (c ∷ []) [] lost)) c
+phase_lawful : (phase : Phase) (m : Machine) (core : Core) (c lost : ℕ) → IsMachine m → PhaseFits phase (basis_of core) → (core.going ≡ true → IsPastMark phase) → PhaseHolds phase m core (c ∷ []) [] lost → LawfulKey core.going (ground (scene m core (c ∷ []) [] lost)) c
 phase_lawful Settle m core c lost machine fits past h = h
 phase_lawful (Ended end) m core c lost machine fits past h = h.0
 phase_lawful (Sync k) m core c lost machine fits past h = before_mark _ c past (inr (inr (inr (h.key.1, h.key.2))))

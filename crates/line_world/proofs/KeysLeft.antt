@@ -20,7 +20,7 @@ use Rattle.line_world.proofs.Parts.{differ}
 use Rattle.line_world.proofs.Digits.{below_six, at_place, digit_is, not_first}
 
 -- the digits of a number behind the k-th, and what follows them
-abbrev pub digits_behind : ℕ → ℕ → List ℕ → List ℕ
+abbrev digits_behind : ℕ → ℕ → List ℕ → List ℕ
 digits_behind n k more =
     if k == 1 then digit_of n 2 ∷ digit_of n 3 ∷ digit_of n 4 ∷ digit_of n 5 ∷ digit_of n 6 ∷ more
     else if k == 2 then digit_of n 3 ∷ digit_of n 4 ∷ digit_of n 5 ∷ digit_of n 6 ∷ more

@@ -1,24 +1,24 @@
-pub mod Parts
-pub mod Digits
-pub mod Rows
+mod Parts
+mod Digits
+mod Rows
 pub mod Frame
-pub mod Losses
-pub mod Silence
+mod Losses
+mod Silence
 pub mod Keys
-pub mod Sites
+mod Sites
 pub mod Stores
 pub mod Taking
 pub mod NewLives
-pub mod Hearing
-pub mod Machines
+mod Hearing
+mod Machines
 pub mod Events
 pub mod Tame
 pub mod Starts
 pub mod Work
 pub mod Opening
-pub mod Fields
-pub mod InTurn
-pub mod KeysLeft
-pub mod CleanKeys
-pub mod CleanEnds
-pub mod CleanLine
+mod Fields
+mod InTurn
+mod KeysLeft
+mod CleanKeys
+mod CleanEnds
+mod CleanLine

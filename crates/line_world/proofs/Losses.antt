@@ -17,7 +17,7 @@ use Rattle.line_world.proofs.Parts.{part_remove, part_length}
 use Rattle.line_world.proofs.Frame.{scene}
 
 -- an end stays paid for
-pub end_later : (end : End) (memory : List ℕ) (patience spent lost : ℕ) → EndIsPaid end memory patience spent lost → EndIsPaid end memory patience spent (lost + 1)
+end_later : (end : End) (memory : List ℕ) (patience spent lost : ℕ) → EndIsPaid end memory patience spent lost → EndIsPaid end memory patience spent (lost + 1)
 end_later Loaded memory patience spent lost h = tt
 end_later Started memory patience spent lost h = tt
 end_later Uncertain memory patience spent lost h = omega arith

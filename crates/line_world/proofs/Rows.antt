@@ -43,7 +43,7 @@ first_value : (w : ℕ) → w < 65536 → digit_value (digit_of w 1) ≡ head w 
 first_value w small = omega arith
 
 -- a digit of a number, after the digits before it
-pub row_number : (s : Style) (memory : List ℕ) (w : ℕ) → w < 65536 → (k : ℕ) → IsPlace k → row s memory (number_mode w (k - 1)) (key_of (digit_of w k)) (digit_of w k) ≡ record { mode = number_mode w k; memory = memory; answer = digit_of w k ∷ [] }
+row_number : (s : Style) (memory : List ℕ) (w : ℕ) → w < 65536 → (k : ℕ) → IsPlace k → row s memory (number_mode w (k - 1)) (key_of (digit_of w k)) (digit_of w k) ≡ record { mode = number_mode w k; memory = memory; answer = digit_of w k ∷ [] }
 row_number s memory w small = at_place (λ k. row s memory (number_mode w (k - 1)) (key_of (digit_of w k)) (digit_of w k) ≡ record { mode = number_mode w k; memory = memory; answer = digit_of w k ∷ [] })
     (first_row s memory (digit_of w 1) (head w 1) (digit_key w 1) (first_value w small))
     (number_row s memory (head w 1) 1 (digit_of w 2) (head w 2) (digit_key w 2) (pushed_head w small 1 (lit< tt)))
@@ -53,7 +53,7 @@ row_number s memory w small = at_place (λ k. row s memory (number_mode w (k - 1
     (number_row s memory (head w 5) 5 (digit_of w 6) (head w 6) (digit_key w 6) (pushed_head w small 5 (lit< tt)))
 
 -- a digit of a value, after the digits before it
-pub row_typing : (s : Style) (memory : List ℕ) (a w : ℕ) → w < 65536 → (k : ℕ) → IsPlace k → row s memory (typing_mode a w (k - 1)) (key_of (digit_of w k)) (digit_of w k) ≡ record { mode = typing_mode a w k; memory = memory; answer = digit_of w k ∷ [] }
+row_typing : (s : Style) (memory : List ℕ) (a w : ℕ) → w < 65536 → (k : ℕ) → IsPlace k → row s memory (typing_mode a w (k - 1)) (key_of (digit_of w k)) (digit_of w k) ≡ record { mode = typing_mode a w k; memory = memory; answer = digit_of w k ∷ [] }
 row_typing s memory a w small = at_place (λ k. row s memory (typing_mode a w (k - 1)) (key_of (digit_of w k)) (digit_of w k) ≡ record { mode = typing_mode a w k; memory = memory; answer = digit_of w k ∷ [] })
     (opened_row s memory a (digit_of w 1) (head w 1) (digit_key w 1) (first_value w small))
     (typing_row s memory a (head w 1) 1 (digit_of w 2) (head w 2) (digit_key w 2) (pushed_head w small 1 (lit< tt)))
@@ -67,7 +67,7 @@ slash_row s memory v true text = refl
 slash_row s memory v false text = refl
 
 -- `/` after a whole address
-pub row_slash : (t : Site) → row t.style t.memory (number_mode t.word.address 6) (key_of 47) 47 ≡ record { mode = opened_mode t; memory = t.memory; answer = 47 ∷ reading t }
+row_slash : (t : Site) → row t.style t.memory (number_mode t.word.address 6) (key_of 47) 47 ≡ record { mode = opened_mode t; memory = t.memory; answer = 47 ∷ reading t }
 row_slash t = slash_row t.style t.memory t.word.address (is_word t.memory t.word.address) (word_text t.style (held_number t))
 
 -- `Z` in any mode but Running
@@ -79,7 +79,7 @@ row_resync s memory (Typing a v n) h = refl
 row_resync s memory (Running p) h = absurd h
 
 -- CR on an open word
-pub row_close : (s : Style) (memory : List ℕ) (mode : Mode) → IsOpened mode → row s memory mode (key_of 13) 13 ≡ record { mode = Prompt; memory = memory; answer = prompt_from s.two_returns 0 }
+row_close : (s : Style) (memory : List ℕ) (mode : Mode) → IsOpened mode → row s memory mode (key_of 13) 13 ≡ record { mode = Prompt; memory = memory; answer = prompt_from s.two_returns 0 }
 row_close s memory Prompt h = absurd h
 row_close s memory (Number v n) h = absurd h
 row_close s memory (Opened a) h = refl
@@ -91,7 +91,7 @@ pub row_go : (s : Style) (memory : List ℕ) (v n : ℕ) → v % 2 ≡ 0 → row
 row_go s memory v n even = rw even refl
 
 -- memory after the key
-abbrev pub memory_after : Phase → Site → List ℕ
+abbrev memory_after : Phase → Site → List ℕ
 memory_after (Return Store k) t = stored t.memory t.word.address (wanted t)
 memory_after phase t = t.memory
 

@@ -18,7 +18,7 @@ use Rattle.line_world.specs.Invariant.{IsKept, RunsWith}
 use Rattle.line_world.proofs.Frame.{scene, TurnFits, PhaseHolds, kept_turn}
 
 -- something is still to come
-abbrev pub IsFilled : List ℕ → Type 0
+abbrev IsFilled : List ℕ → Type 0
 IsFilled [] = ⊥
 IsFilled (c ∷ rest) = Unit {0}
 
@@ -36,7 +36,7 @@ filled_digits : (w n : ℕ) → IsFilled (last_digits w n)
 filled_digits w zero = tt
 filled_digits w (suc n) = tt
 
-pub filled_reading : (t : Site) → IsFilled (reading t)
+filled_reading : (t : Site) → IsFilled (reading t)
 filled_reading t = filled_if (is_word t.memory t.word.address) _ _ (filled_if t.style.space_before _ _ tt (filled_digits (held_number t) 6)) tt
 
 -- where nothing is under way, a loss was there that no mishap has paid for
@@ -45,7 +45,7 @@ broken [] spent lost filled paid = absurd filled
 broken (c ∷ rest) spent lost filled (inl whole) = absurd (cc)
 broken (c ∷ rest) spent lost filled (inr paid) = paid
 
-pub stopped : (going : Bool) (mode : Mode) → RunsWith going mode → (going ≡ true → ⊥) → IsStopped mode
+stopped : (going : Bool) (mode : Mode) → RunsWith going mode → (going ≡ true → ⊥) → IsStopped mode
 stopped going Prompt runs unmarked = tt
 stopped going (Number v n) runs unmarked = tt
 stopped going (Opened a) runs unmarked = tt

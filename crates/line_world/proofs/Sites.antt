@@ -35,7 +35,7 @@ start_fits (Some s) h = h
 pub start_even : (p : PlanValue) → IsPlan p → unwrap_or p.start 0 % 2 ≡ 0
 start_even p is = (start_fits p.start is.start_even).0
 
-pub start_low : (p : PlanValue) → IsPlan p → unwrap_or p.start 0 < 65536
+start_low : (p : PlanValue) → IsPlan p → unwrap_or p.start 0 < 65536
 start_low p is = (start_fits p.start is.start_even).1
 
 pub plan_site : (m : Machine) (core : Core) (down up : List ℕ) (lost i : ℕ) → IsPlan core.plan → IsSite (site_of (scene m core down up lost) i)

@@ -68,7 +68,7 @@ unset : (a b : Bool) → (a ≡ true → b ≡ true) → b ≡ false → a ≡ f
 unset true b up e = absurd (not_both b e (up refl))
 unset false b up e = refl
 
-pub starts_join : (a b c : Core) (xs ys : List ℕ) → StartsOnce a b xs → StartsOnce b c ys → StartsOnce a c (xs ++ ys)
+starts_join : (a b c : Core) (xs ys : List ℕ) → StartsOnce a b xs → StartsOnce b c ys → StartsOnce a c (xs ++ ys)
 starts_join a b c xs ys x y = record {
   last = ends_join xs ys x.last y.last (λ h. y.silent (x.marked.0 h).1);
   silent = λ e. none_left xs ys (x.silent e) (y.silent (x.stays e));

@@ -13,7 +13,7 @@ use Rattle.line_world.specs.Safe.{OnlyImage}
 use Rattle.line_world.proofs.Keys.{Stores}
 
 -- an even address below the top has its word
-pub lies_below : (memory : List ℕ) (a : ℕ) → is_word memory a ≡ true → a / 2 < length memory
+lies_below : (memory : List ℕ) (a : ℕ) → is_word memory a ≡ true → a / 2 < length memory
 lies_below memory a h = grind (arith, nat_tests)
 
 -- the place of a word in another memory

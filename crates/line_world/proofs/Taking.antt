@@ -46,7 +46,7 @@ stores_length g memory (inl same) = ap length same
 stores_length g memory (inr (i, below, lies, same)) = ap length same ∙ length-set g.machine.memory _ _
 
 -- the machine after a key, as the key table says it
-abbrev pub machine_with : Machine → Taken → Machine
+abbrev machine_with : Machine → Taken → Machine
 machine_with m t = record m { mode = t.mode; memory = t.memory }
 
 -- the phase after Take

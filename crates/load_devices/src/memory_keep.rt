@@ -1,7 +1,6 @@
-ghost use Rattle.std.specs.Prelude.{◌≡◌, ℕ, [], ◌∷◌, ◌↔◌, Some, IsTrue, IsSome, IfOk, OnOk, OnErr};
-ghost use Rattle.load_devices.specs.Failures.{count_after, fault_of};
+ghost use Rattle.std.specs.Prelude.{◌≡◌, Some, IfOk};
+ghost use Rattle.load_devices.specs.Failures.{fault_of};
 ghost use Rattle.load_devices.specs.KeepTable.{empty_keep, after_keeping, keep_refusal};
-ghost use Rattle.load_devices.specs.Told.{Gains, SaysNothing};
 
 use crate::fault::KeepFault;
 use crate::item::Kept;

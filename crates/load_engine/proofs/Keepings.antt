@@ -15,7 +15,7 @@ each_join : {K : Type 0} (keeps : K → Kept → K → Type 0) (old next new : K
 each_join {K} keeps old next new [] more same each = let P : K → Type 0 = λ k. KeepsEach keeps k more new in subst P same each
 each_join {K} keeps old next new (item ∷ items) more (between, one, rest) each = (between, one, each_join keeps between next new items more rest each)
 
-pub kept_join : {K : Type 0} (keeps fails : K → Kept → K → Type 0) (stop : Option Stop) (old next new : K) (items more : List Kept) → KeepsEach keeps old items next → KeptBy keeps fails stop next more new →
+kept_join : {K : Type 0} (keeps fails : K → Kept → K → Type 0) (stop : Option Stop) (old next new : K) (items more : List Kept) → KeepsEach keeps old items next → KeptBy keeps fails stop next more new →
     KeptBy keeps fails stop old (items ++ more) new
 kept_join {K} keeps fails (Some (KeepFailed fault)) old next new items more each by = record {
   kept = items ++ by.kept;

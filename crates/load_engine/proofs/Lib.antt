@@ -1,6 +1,6 @@
-pub mod Beliefs
-pub mod Keepings
-pub mod Lendings
+mod Beliefs
+mod Keepings
+mod Lendings
 pub mod News
 pub mod Sessions
-pub mod Turns
+mod Turns

@@ -50,14 +50,14 @@ taken_grows core Stray =
 taken_grows core Timeout =
     on_move (λ m. core.verified ≤ m.next.verified) (nat_lt core.spent core.patience) (sends (record core { spent = core.spent + 1 }) resynchronise (Sync 0)) (listens core (Ended GaveUp)) (λ _. omega arith) (λ _. omega arith)
 
-pub move_forward : (core : Core) (heard : Heard) → IsHost core → IsForward core (move core heard).next
+move_forward : (core : Core) (heard : Heard) → IsHost core → IsForward core (move core heard).next
 move_forward core heard h = record {
   plan = (moved core heard).plan;
   verified = taken_grows core (turn_of core heard);
   marked = λ set. ((silent core heard h set).verified, (moved core heard).going set);
 }
 
-pub forward_joins : (a b c : Core) → IsForward a b → IsForward b c → IsForward a c
+forward_joins : (a b c : Core) → IsForward a b → IsForward b c → IsForward a c
 forward_joins a b c one two = record {
   plan = two.plan ∙ one.plan;
   verified = omega (arith, one.verified, two.verified);
@@ -87,7 +87,7 @@ the_mark true new e f = absurd (cc)
 the_mark false true e f = refl
 the_mark false false e f = absurd (cc)
 
-pub news_mark : (old new : Core) → new.verified ≡ old.verified → old.going ≡ false → new.going ≡ true → news_between old new ≡ Go ∷ []
+news_mark : (old new : Core) → new.verified ≡ old.verified → old.going ≡ false → new.going ≡ true → news_between old new ≡ Go ∷ []
 news_mark old new same was is =
     rw (no_words old.plan.words old.verified new.verified same, the_mark old.going new.going was is) refl
 
@@ -96,7 +96,7 @@ one_word words old new other e within =
     let one : new - old ≡ 1 = omega arith in
     ap (λ n. take n (drop old words)) one ∙ ap (λ rest. take 1 rest) (drop_more words old other within)
 
-pub news_word : (old new : Core) (other : WordValue) → new.verified ≡ old.verified + 1 → old.verified < length old.plan.words → new.going ≡ old.going →
+news_word : (old new : Core) (other : WordValue) → new.verified ≡ old.verified + 1 → old.verified < length old.plan.words → new.going ≡ old.going →
     news_between old new ≡ Word (get_or old.plan.words old.verified other) ∷ []
 news_word old new other one within same =
     rw (one_word old.plan.words old.verified new.verified other one within, no_mark old.going new.going same) refl
@@ -133,7 +133,7 @@ pub word_at : (words same : List WordValue) (i j : ℕ) (word : WordValue) → w
 word_at words same i j word is e f = is ∙ (ap (λ list. get_or list i word) e ∙ ap (λ k. get_or same k word) f)
 
 -- a list of one is the one
-pub only_news : (news : Option Kept) (item : Kept) → option_to_list news ≡ item ∷ [] → news ≡ Some item
+only_news : (news : Option Kept) (item : Kept) → option_to_list news ≡ item ∷ [] → news ≡ Some item
 only_news None item e = absurd (cc)
 only_news (Some news) item e = ap Some (cc)
 

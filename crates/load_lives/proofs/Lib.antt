@@ -3,6 +3,6 @@ mod Running
 mod LastTurns
 mod Records
 mod Starting
-pub mod Chains
+mod Chains
 pub mod Stopping
 pub mod Keepers

@@ -25,7 +25,7 @@ use Rattle.load_lives.proofs.Renewals.{place}
 -- ---- a word that stands goes on standing
 
 -- the plan's word numbered i stands in a world
-abbrev pub Stands : ℕ → Scene → Type 0
+abbrev Stands : ℕ → Scene → Type 0
 Stands i w = IsThere (place w.core.plan w.machine i)
 
 takes_stand : (m : Machine) (core : Core) (down up : List ℕ) (lost i : ℕ) → IsKept (scene m core down up lost) → i < length core.plan.words → Stands i (scene m core down up lost) →

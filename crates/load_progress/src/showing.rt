@@ -1,5 +1,4 @@
 //! The texts of the progress line.
-ghost use Rattle.std.specs.Prelude.{◌≡◌};
 
 use crate::pace::percent;
 use std::fmt;

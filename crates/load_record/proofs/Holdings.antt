@@ -25,28 +25,28 @@ holds_some Second line words (inl h) = let e = ap length h.alone in omega arith
 holds_some Second line [] (inr h) = absurd h.run
 holds_some Second line (w ∷ words) (inr h) = omega arith
 
-pub word_held : (line : List ℕ) (w : WordValue) (ws : List WordValue) → line ≡ word_fields w → HoldsCount First line (w ∷ ws) 1
+word_held : (line : List ℕ) (w : WordValue) (ws : List WordValue) → line ≡ word_fields w → HoldsCount First line (w ∷ ws) 1
 word_held line w ws spelled = record {
   few = omega arith;
   holds = λ some. record { word = w; alone = refl; spelled = spelled };
   only = λ words later next h. sym (ap length h.alone);
 }
 
-pub word_not_held : (line : List ℕ) (w : WordValue) (ws : List WordValue) → (line ≡ word_fields w → ⊥) → HoldsCount First line (w ∷ ws) 0
+word_not_held : (line : List ℕ) (w : WordValue) (ws : List WordValue) → (line ≡ word_fields w → ⊥) → HoldsCount First line (w ∷ ws) 0
 word_not_held line w ws other = record {
   few = omega arith;
   holds = λ some. absurd (omega arith);
   only = λ words later next h. absurd (other (h.spelled ∙ ap word_fields (sym (first_alone w h.word ws words later next h.alone))));
 }
 
-pub half_held : (line : List ℕ) (w : WordValue) (ws : List WordValue) → is_full w ≡ false → line ≡ half_line w → HoldsCount Second line (w ∷ ws) 1
+half_held : (line : List ℕ) (w : WordValue) (ws : List WordValue) → is_full w ≡ false → line ≡ half_line w → HoldsCount Second line (w ∷ ws) 1
 half_held line w ws half spelled = record {
   few = omega arith;
   holds = λ some. inl record { word = w; alone = refl; half = half; spelled = spelled };
   only = λ words later next h. elim h [ inl h ↦ sym (ap length h.alone) | inr h ↦ absurd (no_half_run w ws words later half next h.run) ];
 }
 
-pub half_not_held : (line : List ℕ) (w : WordValue) (ws : List WordValue) → is_full w ≡ false → (line ≡ half_line w → ⊥) → HoldsCount Second line (w ∷ ws) 0
+half_not_held : (line : List ℕ) (w : WordValue) (ws : List WordValue) → is_full w ≡ false → (line ≡ half_line w → ⊥) → HoldsCount Second line (w ∷ ws) 0
 half_not_held line w ws half other = record {
   few = omega arith;
   holds = λ some. absurd (omega arith);
@@ -100,7 +100,7 @@ run_not_found w ws line full other = record {
   ];
 }
 
-pub run_held : (w : WordValue) (ws : List WordValue) (line : List ℕ) → is_full w ≡ true → HoldsCount Second line (w ∷ ws) (run_words (w ∷ ws) line)
+run_held : (w : WordValue) (ws : List WordValue) (line : List ℕ) → is_full w ≡ true → HoldsCount Second line (w ∷ ws) (run_words (w ∷ ws) line)
 run_held w ws line full =
     let n = torn_words Second (w ∷ ws) line in
     elim (length line == 6 + 7 * n) as (λ t. (length line == 6 + 7 * n) ≡ t → HoldsCount Second line (w ∷ ws) (cond t n 0)) [

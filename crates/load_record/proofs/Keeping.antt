@@ -18,7 +18,7 @@ use Rattle.byte_io.proofs.Fronts.{front_prefix, front_whole}
 use Rattle.load_record.proofs.Writing.{Appends-kept, front_kept, no_front}
 
 -- what a call answers, and how it leaves the count
-abbrev pub Counts : Keeper → Keeper → Result (Unit {0}) KeepFault → Type 0
+abbrev Counts : Keeper → Keeper → Result (Unit {0}) KeepFault → Type 0
 Counts before after result = IfErr result (λ fault. (fault ≡ Write) × (after.failures ≡ min (before.failures + 1) (2 ^ 64 - 1)))
 
 -- what a call did that failed

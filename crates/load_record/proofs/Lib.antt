@@ -1,16 +1,16 @@
-pub mod Cuts
+mod Cuts
 pub mod Runs
-pub mod Holdings
-pub mod Steps
+mod Holdings
+mod Steps
 pub mod Readings
 pub mod Sound
-pub mod SoFar
-pub mod Joined
-pub mod Fronts
-pub mod Written
+mod SoFar
+mod Joined
+mod Fronts
+mod Written
 pub mod RecordLaws
-pub mod FirstLines
-pub mod Writing
+mod FirstLines
+mod Writing
 pub mod Pieces
 pub mod Keeping
-pub mod LongestRuns
+mod LongestRuns

@@ -34,7 +34,7 @@ half_piece run w off half =
     ap (λ t. cond t (value_text w) (ending run ++ begun_text w)) off ∙ ap (λ t. ending run ++ cond t (run_text (w ∷ [])) (half_line w ++ 10 ∷ [])) half
 
 -- the pieces of some words and of one more
-pub run_over-more : (version : Version) (run : Option OpenRun) (words : List WordValue) (w : WordValue) → run_over version run (words ++ w ∷ []) ≡ run_after version (run_over version run words) w
+run_over-more : (version : Version) (run : Option OpenRun) (words : List WordValue) (w : WordValue) → run_over version run (words ++ w ∷ []) ≡ run_after version (run_over version run words) w
 run_over-more version run [] w = refl
 run_over-more version run (v ∷ words) w = run_over-more version (run_after version run v) words w
 
@@ -44,11 +44,11 @@ pieces-append version run (v ∷ words) more =
     ap (λ l. piece version run v ++ l) (pieces-append version (run_after version run v) words more)
     ∙ sym (append_assoc (piece version run v) (pieces version (run_after version run v) words) (pieces version (run_over version (run_after version run v) words) more))
 
-pub pieces-more : (version : Version) (run : Option OpenRun) (words : List WordValue) (w : WordValue) → pieces version run (words ++ w ∷ []) ≡ pieces version run words ++ piece version (run_over version run words) w
+pieces-more : (version : Version) (run : Option OpenRun) (words : List WordValue) (w : WordValue) → pieces version run (words ++ w ∷ []) ≡ pieces version run words ++ piece version (run_over version run words) w
 pieces-more version run words w = pieces-append version run words (w ∷ []) ∙ ap (λ l. pieces version run words ++ l) (append-nil (piece version (run_over version run words) w))
 
 -- the words before one and the word itself
-pub take-word : (words : List WordValue) (k : ℕ) (w : WordValue) → slice_get words k ≡ Some w → take (k + 1) words ≡ take k words ++ w ∷ []
+take-word : (words : List WordValue) (k : ℕ) (w : WordValue) → slice_get words k ≡ Some w → take (k + 1) words ≡ take k words ++ w ∷ []
 take-word words k w e = take_more words k w (slice_get_within words k w e) ∙ ap (λ x. take k words ++ x ∷ []) (get_or_from_slice_get words k w w e)
 
 -- the text of one word more is the text of those before it, and its piece

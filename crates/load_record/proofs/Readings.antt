@@ -14,7 +14,7 @@ use Rattle.load_record.proofs.Holdings.{holds_some}
 use Rattle.load_record.proofs.Runs.{no_half_run, length-run_text}
 
 -- a header names one version
-pub one_version : (v w : Version) → header v ≡ header w → v ≡ w
+one_version : (v w : Version) → header v ≡ header w → v ≡ w
 one_version First First e = refl
 one_version First Second e = absurd (let digits : 49 ≡ 50 = ap (λ l. get_or l 7 0) e in omega arith)
 one_version Second First e = absurd (let digits : 50 ≡ 49 = ap (λ l. get_or l 7 0) e in omega arith)
@@ -42,7 +42,7 @@ words_or_mark version plan line before after other w m =
     let n = ap length w.next ∙ length-append w.words w.later in
     let a = m.due.all in omega arith
 
-pub adds_once : (version : Version) (plan : PlanValue) (line : List ℕ) (before after other : Progress)
+adds_once : (version : Version) (plan : PlanValue) (line : List ℕ) (before after other : Progress)
     → Adds version plan line before after → Adds version plan line before other → after ≡ other
 adds_once version plan line before after other (inl w) (inl u) =
     w.after_is ∙ ap (λ (n : ℕ). record { verified = before.verified + n; going = before.going }) (holds_once version line w.words u.words w.later u.later (sym w.next ∙ u.next) w.holds u.holds) ∙ sym u.after_is
@@ -50,7 +50,7 @@ adds_once version plan line before after other (inl w) (inr m) = absurd (words_o
 adds_once version plan line before after other (inr m) (inl w) = absurd (words_or_mark version plan line before other after w m)
 adds_once version plan line before after other (inr m) (inr n) = m.after_is ∙ sym n.after_is
 
-pub lead_once : (version : Version) (plan : PlanValue) (lines : List (List ℕ)) (before after other : Progress)
+lead_once : (version : Version) (plan : PlanValue) (lines : List (List ℕ)) (before after other : Progress)
     → Lead version plan lines before after → Lead version plan lines before other → after ≡ other
 lead_once version plan [] before after other a b = a ∙ sym b
 lead_once version plan (line ∷ lines) before after other a b =

@@ -59,7 +59,7 @@ one_counted run w ws text on rest =
       count_is = let more = rest.count_is in omega arith;
     }
 
-pub counted : (run : OpenRun) (next : List WordValue) (text : List ℕ) → Counted run next text
+counted : (run : OpenRun) (next : List WordValue) (text : List ℕ) → Counted run next text
 counted run [] text = none_counted run [] text refl
 counted run (w ∷ ws) text =
     elim (goes_on run w && starts_with nat_eq text (value_text w))
@@ -102,7 +102,7 @@ held_fits run address next text count result r c e =
     let few = held_few run next text in let none = ap (λ (x : OpenRun). x.count) r in omega arith
 
 -- values that go on a run are counted, whatever follows where no value does
-pub values_counted : (run : OpenRun) (words later : List WordValue) → GoOn run words → values_held run (words ++ later) (values_text words) ≡ run.count + length words
+values_counted : (run : OpenRun) (words later : List WordValue) → GoOn run words → values_held run (words ++ later) (values_text words) ≡ run.count + length words
 values_counted run [] [] go = sym (search arith)
 values_counted run [] (w ∷ later) go =
     let none : (goes_on run w && starts_with nat_eq [] (value_text w)) ≡ false = search rules in
@@ -113,12 +113,12 @@ values_counted run (w ∷ words) later go =
     let more = values_counted (longer run) words later go.1 in
     ap (λ t. cond t (values_held (longer run) (words ++ later) (values_text words)) run.count) on ∙ more ∙ (omega arith)
 
-pub length-values_text : (words : List WordValue) → length (values_text words) ≡ 7 * length words
+length-values_text : (words : List WordValue) → length (values_text words) ≡ 7 * length words
 length-values_text [] = refl
 length-values_text (w ∷ words) = let more = length-values_text words in omega arith
 
 -- the first word of a run is full
-pub run_begins_full : (w : WordValue) (ws : List WordValue) → IsRun (w ∷ ws) → is_full w ≡ true
+run_begins_full : (w : WordValue) (ws : List WordValue) → IsRun (w ∷ ws) → is_full w ≡ true
 run_begins_full w ws run =
     let on = both (w.address == w.address) (nat_lt 0 16 && is_full w) run.0 in
     (both (nat_lt 0 16) (is_full w) on.1).1

@@ -77,7 +77,7 @@ pub drop-past : (at : ℕ) (words all later : List WordValue) → drop at all �
 drop-past at words all later e = sym (drop-drop (length words) at all) ∙ ap (drop (length words)) e ∙ drop_at words later (length words) refl
 
 -- a whole line of the next words, where no run line stands open
-pub ended_line : (version : Version) (plan : PlanValue) (lines : List (List ℕ)) (line : List ℕ) (words later : List WordValue) (at : ℕ)
+ended_line : (version : Version) (plan : PlanValue) (lines : List (List ℕ)) (line : List ℕ) (words later : List WordValue) (at : ℕ)
     → Lead version plan lines nothing (words_only at) → drop at plan.words ≡ words ++ later → HoldsWords version line words
     → Lead version plan (lines ++ line ∷ []) nothing (words_only (at + length words))
 ended_line version plan lines line words later at led next holds =

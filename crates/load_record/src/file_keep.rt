@@ -1,5 +1,5 @@
 //! Writing a record, a word at a time.
-ghost use Rattle.std.specs.Prelude.{◌≡◌, [], ◌++◌, ℕ, ◌+◌, ◌-◌, ◌^◌, min, ◌<◌, ◌↔◌, IsTrue, IsOk, OnOk, OnErr, IfOk, IfErr, Some, None, slice_get, true, false};
+ghost use Rattle.std.specs.Prelude.{◌≡◌, [], ◌++◌, ℕ, ◌+◌, ◌-◌, ◌<◌, ◌↔◌, IsTrue, IsOk, OnOk, IfOk, IfErr, Some, None, slice_get, true, false};
 ghost use Rattle.std.specs.Io.KnownBytes.{Keeps};
 ghost use Rattle.tape_image.specs.Plan.{PlanValue};
 ghost use Rattle.load_devices.specs.Failures.{one_more};

@@ -1,6 +1,6 @@
 //! Writing a record to a writer, piece by piece.
-ghost use Rattle.std.specs.Prelude.{◌≡◌, ℕ, ◌≤◌, List, ◌++◌, [], ◌∷◌, drop, OnErr, OnOk, IfOk, None};
-ghost use Rattle.std.specs.Io.KnownBytes.{Appends, Keeps};
+ghost use Rattle.std.specs.Prelude.{◌≡◌, ℕ, ◌≤◌, List, ◌++◌, ◌∷◌, drop, OnErr, OnOk, IfOk, None};
+ghost use Rattle.std.specs.Io.KnownBytes.{Appends};
 ghost use Rattle.load_record.specs.declared.version.Version.TheVariants.{Second};
 ghost use Rattle.byte_io.specs.Output.{WritesProperPrefix};
 ghost use Rattle.byte_io.specs.Text.{line_end};

@@ -1,8 +1,8 @@
-pub mod Numbers
-pub mod Forms
-pub mod Codes
-pub mod Lines
-pub mod Drafts
-pub mod Scripts
-pub mod OneLine
-pub mod OneScript
+mod Numbers
+mod Forms
+mod Codes
+mod Lines
+mod Drafts
+mod Scripts
+mod OneLine
+mod OneScript

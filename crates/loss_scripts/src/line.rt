@@ -1,7 +1,6 @@
 //! The lines of a script: what each says, by its form.
-ghost use Rattle.std.specs.Prelude.{◌≡◌, ℕ, ◌+◌, ◌-◌, ◌*◌, ◌<◌, ◌≤◌, ◌++◌, ◌∷◌, List, [], length, take, IfSome, IfNone, IsTrue, ◌↔◌, codes};
-ghost use Rattle.std.specs.Char.{digit_value};
-ghost use Rattle.loss_scripts.specs.Line.{IsNumber, HasNumber, AreCodes, IsWait, IsPut, IsSetting, IsCounted, BeginsWithCode, IsStep, IsBlank, IsLine};
+ghost use Rattle.std.specs.Prelude.{◌≡◌, ℕ, ◌+◌, ◌-◌, ◌*◌, ◌<◌, ◌≤◌, ◌++◌, List, IfSome, IfNone, IsTrue, ◌↔◌, codes};
+ghost use Rattle.loss_scripts.specs.Line.{IsNumber, HasNumber, IsWait, IsPut, IsSetting, IsCounted, BeginsWithCode, IsStep, IsLine};
 ghost use Rattle.octal.specs.Octal.{IsOct6};
 ghost use Rattle.odt_machine.specs.Style.{largest_style, style_number};
 

@@ -1,6 +1,6 @@
 //! Scripts of rehearsals, read whole or refused at a line.
-ghost use Rattle.std.specs.Prelude.{◌≡◌, ℕ, ◌+◌, ◌*◌, ◌<◌, ◌≤◌, ◌++◌, ◌∷◌, List, []};
-ghost use Rattle.std.specs.Prelude.{length, IfSome, IfNone, IfOk, OnErr, IsTrue, MatchResult, MatchBool, position, ◌==◌};
+ghost use Rattle.std.specs.Prelude.{◌≡◌, ℕ, ◌+◌, ◌*◌, ◌<◌, ◌≤◌, ◌∷◌, List, []};
+ghost use Rattle.std.specs.Prelude.{length, IfOk, MatchResult, MatchBool, position, ◌==◌};
 ghost use Rattle.std.specs.List.{AllZip};
 ghost use Rattle.std.specs.Str.Lines.{lines, strip_carriage_return};
 ghost use Rattle.loss_scripts.specs.declared.line.Line.{Line};

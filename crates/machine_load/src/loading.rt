@@ -21,7 +21,7 @@ ghost use Rattle.machine_load.specs.LoadFault.{IsLoadFault, IsOpeningFault, IsDr
 ghost use Rattle.machine_load.specs.LoadReport.{load_report};
 ghost use Rattle.machine_load.specs.RecordDisk.{DiskAsked, disk_asked_by, disk_asked_before, IsBegunOn, IsOnlyRead, IsLivedOn, IsNotLivedOn};
 ghost use Rattle.record_file.specs.OldRecord.{HoldsNoRecord};
-ghost use Rattle.machine_load.specs.Step.{reading, Connected, RecordBegun, RecordGivenBack};
+ghost use Rattle.machine_load.specs.Step.{reading};
 
 use crate::fault::LoadFault;
 use crate::options::LoadOptions;

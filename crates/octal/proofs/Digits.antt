@@ -6,7 +6,7 @@ use Rattle.std.proofs.lemmas.Bool.Decides.{nat_tests}
 use Rattle.octal.specs.Octal.{is_digit, digit_value, octal_value, IsOct6, pushed, octal_text}
 
 -- a digit's character is from 48 to 55
-pub digit_range : (c : ℕ) → IsTrue (is_digit c) → (48 ≤ c) × (c ≤ 55)
+digit_range : (c : ℕ) → IsTrue (is_digit c) → (48 ≤ c) × (c ≤ 55)
 digit_range c h = grind (arith, nat_tests)
 
 -- a word is written by one text alone

@@ -13,11 +13,11 @@ digit_of-is_digit w k = is_digit_of (head w k)
     is_digit_of n = grind (arith, nat_tests)
 
 -- the first digit is `0` or `1`
-pub digit_of-first : (w : ℕ) → w < 65536 → digit_of w 1 ≤ 49
+digit_of-first : (w : ℕ) → w < 65536 → digit_of w 1 ≤ 49
 digit_of-first w wide = omega arith
 
 -- a word's six digits stand for it
-pub octal_value-octal_text : (w : ℕ) → w < 65536 → octal_value (octal_text w) ≡ w
+octal_value-octal_text : (w : ℕ) → w < 65536 → octal_value (octal_text w) ≡ w
 octal_value-octal_text w wide = omega arith
 
 -- a word's six digits are its octal text

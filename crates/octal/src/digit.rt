@@ -1,4 +1,4 @@
-ghost use Rattle.std.specs.Prelude.{◌≡◌, ℕ, if◌then◌else◌};
+ghost use Rattle.std.specs.Prelude.{◌≡◌, if◌then◌else◌};
 ghost use Rattle.octal.specs.Octal.{is_digit, pushed};
 
 /// The number `value` with the digit `character` typed after it: `(8 * value + digit) % 65536`,

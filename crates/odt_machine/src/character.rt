@@ -7,7 +7,7 @@ pub const CARRIAGE_RETURN: u8 = b'\r';
 pub const LINE_FEED: u8 = b'\n';
 
 /// What the console prints when it waits for an address.
-pub const PROMPT: u8 = b'@';
+pub(crate) const PROMPT: u8 = b'@';
 
 /// What the console prints for an illegal key, and where no memory answers.
 pub(crate) const QUESTION_MARK: u8 = b'?';

@@ -1,11 +1,11 @@
-ghost use Rattle.std.specs.Prelude.{◌≡◌, ℕ};
+ghost use Rattle.std.specs.Prelude.{◌≡◌};
 ghost use Rattle.odt_machine.specs.Key.{key_of};
 
 use crate::character::{CARRIAGE_RETURN, GO, SLASH};
 
 /// What a typed character is to the console.
 #[derive(Clone, Copy, Debug, PartialEq, Eq)]
-pub enum Key {
+pub(crate) enum Key {
     /// An octal digit, `0` to `7`.
     Digit,
 

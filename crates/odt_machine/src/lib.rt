@@ -20,7 +20,7 @@ mod mode;
 mod style;
 
 pub use answer::Answer;
-pub use character::{CARRIAGE_RETURN, LINE_FEED, PROMPT, SPACE};
+pub use character::{CARRIAGE_RETURN, LINE_FEED, SPACE};
 pub use machine::{LARGEST_WORDS, Odt, OdtError};
 pub use mode::Mode;
 pub use style::{LARGEST_STYLE, PLAIN_STYLE, Style};

@@ -1,4 +1,4 @@
-ghost use Rattle.std.specs.Prelude.{◌≡◌, ℕ, ◌<◌, ◌≤◌, ◌↔◌, replicate, IsTrue, IsOk, IfOk, IfErr, Some};
+ghost use Rattle.std.specs.Prelude.{◌≡◌, ◌<◌, ◌↔◌, replicate, IsTrue, IsOk, IfOk, IfErr, Some};
 ghost use Rattle.odt_machine.specs.Error.{error_text};
 ghost use Rattle.odt_machine.specs.Machine.{ModeFits, IsMachine, largest_words};
 

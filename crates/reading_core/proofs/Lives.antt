@@ -62,7 +62,7 @@ pub led_patience : (r : Reader) (heard : List Heard) → (led r heard).patience 
 led_patience r [] = refl
 led_patience r (heard ∷ more) = led_patience (ask r heard).next more ∙ (asked r heard).patience
 
-pub led_sent : (r : Reader) (heard : List Heard) → (led r heard).sent ≡ r.sent + length (replay r heard)
+led_sent : (r : Reader) (heard : List Heard) → (led r heard).sent ≡ r.sent + length (replay r heard)
 led_sent r [] = omega arith
 led_sent r (heard ∷ more) =
     omega (arith, led_sent (ask r heard).next more, (asked r heard).sent, length-append (option_to_list (ask r heard).key) (replay (ask r heard).next more))

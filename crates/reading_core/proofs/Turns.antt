@@ -21,7 +21,7 @@ use Rattle.reading_core.specs.Reader.{Reader, address_nr, begun}
 use Rattle.reading_core.specs.ReadingTable.{Asked, ask, taken, turn_of, hears, waits, sync_hears, address_hears, first_digit_hears, before_hears, value_hears, close_hears, next_word}
 
 -- what a turn needs of the reader that takes it, n being the characters that its phase may have used
-abbrev pub TurnFits : Turn → Basis → ℕ → Type 0
+abbrev TurnFits : Turn → Basis → ℕ → Type 0
 TurnFits (Listen phase) b n = PhaseFits phase b × (n ≤ used_in phase)
 TurnFits (Key key phase) b n = PhaseFits phase b × (n + 1 ≤ used_in phase)
 TurnFits (Read value) b n = HasWord b × (value < 65536) × (n ≤ 8)
@@ -161,7 +161,7 @@ begun_test : (addresses values : List ℕ) (patience : ℕ) (done : Bool) → (l
 begun_test addresses values patience true e asked le numbers long = record { asked = asked; within = le; numbers = numbers; patient = omega arith; long = long; fits = eqb-true _ _ e; paid = omega arith }
 begun_test addresses values patience false e asked le numbers long = record { asked = asked; within = le; numbers = numbers; patient = omega arith; long = long; fits = tt; paid = omega arith }
 
-pub begun_kept : (addresses values : List ℕ) (patience : ℕ) → AreAddresses addresses → length values ≤ length addresses → All (λ v. v < 65536) values → patience < 2 ^ 32 → IsReader (begun addresses values patience)
+begun_kept : (addresses values : List ℕ) (patience : ℕ) → AreAddresses addresses → length values ≤ length addresses → All (λ v. v < 65536) values → patience < 2 ^ 32 → IsReader (begun addresses values patience)
 begun_kept addresses values patience asked le numbers long = begun_test addresses values patience (length values == length addresses) refl asked le numbers long
 
 pub fresh_kept : (addresses : List ℕ) (patience : ℕ) → AreAddresses addresses → patience < 2 ^ 32 → IsReader (begun addresses [] patience)

@@ -1,4 +1,4 @@
-ghost use Rattle.std.specs.Prelude.{◌≡◌, ℕ, ◌+◌, ◌^◌, ◌<◌, ◌≤◌, [], true, length, vec_capacity, IfOk, Some};
+ghost use Rattle.std.specs.Prelude.{◌≡◌, ◌+◌, ◌^◌, ◌<◌, ◌≤◌, [], true, length, vec_capacity, IfOk, Some};
 ghost use Rattle.host_core.specs.declared.heard.Heard.TheVariants.{Got};
 ghost use Rattle.reading_core.specs.Addresses.{AreAddresses, IsRange, addresses_between, addresses_of};
 ghost use Rattle.reading_core.specs.Bound.{reading_bound};

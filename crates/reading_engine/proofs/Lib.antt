@@ -1,3 +1,3 @@
 pub mod Beliefs
-pub mod Calls
-pub mod Stretches
+mod Calls
+mod Stretches

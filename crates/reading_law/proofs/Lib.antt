@@ -1,7 +1,7 @@
 pub mod Believed
-pub mod Harmless
-pub mod Loading
-pub mod Looks
+mod Harmless
+mod Loading
+mod Looks
 pub mod Mirrors
 pub mod Runs
-pub mod Saying
+mod Saying

@@ -29,7 +29,7 @@ use Rattle.reading_law.proofs.Saying.{plan_for, words_for, nr_for, length_for}
 
 -- ---- the same of the loading host
 
-abbrev pub end_for : End → LoadEnd
+abbrev end_for : End → LoadEnd
 end_for Complete = Loaded
 end_for GaveUp = LoadGaveUp
 end_for (NoWord a) = LoadNoWord a
@@ -44,7 +44,7 @@ phase_for (Value value place) = LoadValue Look value place
 phase_for (Close place) = Return Closes place
 phase_for (Ended end) = LoadEnded (end_for end)
 
-abbrev pub turn_for : Turn → LoadTurn
+abbrev turn_for : Turn → LoadTurn
 turn_for (Listen phase) = LoadListen (phase_for phase)
 turn_for (Key key phase) = LoadKey key (phase_for phase)
 turn_for (Read value) = Verified
@@ -65,7 +65,7 @@ core_for memory r = record {
   phase = phase_for r.phase;
 }
 
-abbrev pub move_for : List ℕ → Asked → Move
+abbrev move_for : List ℕ → Asked → Move
 move_for memory a = record { next = core_for memory a.next; key = a.key }
 
 -- ---- a turn

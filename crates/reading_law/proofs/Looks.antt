@@ -21,18 +21,18 @@ use Rattle.reading_law.specs.Inquiry.{Inquiry, wire_of, over, takes, host_hears 
 use Rattle.reading_law.specs.Law.{IsLooking, OnlyLook}
 
 -- a phase that may follow right after `/` was typed
-abbrev pub AfterSlash : Phase → Type 0
+abbrev AfterSlash : Phase → Type 0
 AfterSlash (Sync place) = ⊥
 AfterSlash (Address place) = ⊥
 AfterSlash (Close place) = ⊥
 AfterSlash phase = Unit {0}
 
 -- where `/` was the last key, the phase is such a one
-abbrev pub Agrees : Bool → Phase → Type 0
+abbrev Agrees : Bool → Phase → Type 0
 Agrees slash phase = slash ≡ true → AfterSlash phase
 
 -- the key that is sent, if any, is a looking one, and the phase agrees
-abbrev pub LooksOn : Bool → Option ℕ → Phase → Type 0
+abbrev LooksOn : Bool → Option ℕ → Phase → Type 0
 LooksOn slash None phase = Agrees slash phase
 LooksOn slash (Some key) phase = IsLooking slash key × Agrees (key == 47) phase
 
@@ -152,7 +152,7 @@ turn_looks : (slash : Bool) (r : Reader) (heard : Heard) → Agrees slash r.phas
 turn_looks slash r (Got c) a = hears_look slash (address_under_way r) r.phase c a
 turn_looks slash r Silence a = waits_look slash r.phase a
 
-pub ask_looks : (slash : Bool) (r : Reader) (heard : Heard) → Agrees slash r.phase → LooksOn slash (ask r heard).key (ask r heard).next.phase
+ask_looks : (slash : Bool) (r : Reader) (heard : Heard) → Agrees slash r.phase → LooksOn slash (ask r heard).key (ask r heard).next.phase
 ask_looks slash r heard a = taken_looks slash r (turn_of r heard) (turn_looks slash r heard a)
 
 -- ---- events

@@ -45,7 +45,7 @@ abbrev pub as_load : List ℕ → Inquiry → Scene
 as_load memory w = record { machine = w.machine; core = core_for memory w.reader; down = w.down; up = w.up; lost = w.lost }
 
 -- each number that was read is what memory holds at its address
-abbrev pub Holds : List ℕ → Reader → Type 0
+abbrev Holds : List ℕ → Reader → Type 0
 Holds memory r = (i : ℕ) → i < length r.values → get_or r.values i 0 ≡ word_at memory (get_or r.addresses i 0)
 
 -- what lasts: memory is what it was, the loading host's invariant holds, and so do the numbers

@@ -42,7 +42,7 @@ each_is : (memory : List ℕ) (a : ℕ) → IsWide memory → IsAddress a → Is
 each_is memory a wide is =
     record { even = is.even; below = is.below; inside = record { one_mask = inr (inr refl); low = λ e. absurd (cc e); high = λ e. absurd (cc e) }; fits = wide (a / 2) }
 
-pub each_for : (memory addresses : List ℕ) → IsWide memory → AreAddresses addresses → All IsWord (words_for memory addresses)
+each_for : (memory addresses : List ℕ) → IsWide memory → AreAddresses addresses → All IsWord (words_for memory addresses)
 each_for memory addresses wide are = All-map IsWord (word_for memory) addresses (λ k d low. each_is memory _ wide (are.each k d low))
 
 pub nr_for : (memory addresses : List ℕ) (i : ℕ) → i < length addresses → word_nr (words_for memory addresses) i ≡ word_for memory (get_or addresses i 0)

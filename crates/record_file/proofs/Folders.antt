@@ -11,7 +11,7 @@ use Rattle.record_file.specs.Folder.{StandsBeforeSlash, IsFolderOf, Root, Named}
 pub no_slash : (text : List ℕ) → RFindsChar 47 text None → Contains text 47 → ⊥
 no_slash text none has = rfind_char 47 text None none (omega arith) has.0 has.1 (sym (get_or_default_zero text has.0 47 has.1) ∙ has.2)
 
-pub before_slash : (name front rest : List ℕ) → SplitsAroundMatch (RFindsChar 47) name front rest → StandsBeforeSlash name front
+before_slash : (name front rest : List ℕ) → SplitsAroundMatch (RFindsChar 47) name front rest → StandsBeforeSlash name front
 before_slash name front rest s = (drop j name, parts, no_slash (drop j name) s.2.0) where
   i : ℕ
   i = s.0

@@ -9,10 +9,10 @@ use Rattle.load_record.proofs.Runs.{begins, begins_with}
 use Rattle.record_file.specs.OldRecord.{BeginsHeader, HoldsNoRecord}
 
 -- a text that a header begins with is a beginning of it, and the other way round
-pub is_beginning : (version : Version) (text : List ℕ) → starts_with nat_eq (header version) text ≡ true → BeginsHeader version text
+is_beginning : (version : Version) (text : List ℕ) → starts_with nat_eq (header version) text ≡ true → BeginsHeader version text
 is_beginning version text on = (drop (length text) (header version), sym (begins (header version) text on))
 
-pub has_beginning : (version : Version) (text : List ℕ) → BeginsHeader version text → starts_with nat_eq (header version) text ≡ true
+has_beginning : (version : Version) (text : List ℕ) → BeginsHeader version text → starts_with nat_eq (header version) text ≡ true
 has_beginning version text h = subst (λ whole. starts_with nat_eq whole text ≡ true) h.1 (begins_with text h.0)
 
 -- what the test says of a text, where it was made of the header
@@ -24,7 +24,7 @@ tests_header version text whole b is tests =
       means = subst (λ w. b ≡ starts_with nat_eq w text) is tests
 
 -- no line and the beginning of neither header
-pub is_none : (text : List ℕ) → (Contains text 10 → ⊥) → (BeginsHeader First text → ⊥) → (BeginsHeader Second text → ⊥) → HoldsNoRecord text
+is_none : (text : List ℕ) → (Contains text 10 → ⊥) → (BeginsHeader First text → ⊥) → (BeginsHeader Second text → ⊥) → HoldsNoRecord text
 is_none text line first second = record {
   no_line = line;
   no_header = λ version h. neither version h;

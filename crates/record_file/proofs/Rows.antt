@@ -92,7 +92,7 @@ pub moved_away : {A E : Type 0} (name new folder : List ℕ) (made : Made) (remo
 moved_away name new folder made (Ok u) steps (Unseen found) = Moved found true
 moved_away name new folder made (Err e) steps (Unseen found) = Moved found false
 
-pub not_written : {A E : Type 0} (name folder : List ℕ) (made : Made) (removal : Result A E) (steps : List DiskStep) → IsMakingHeld (new_name name) true steps
+not_written : {A E : Type 0} (name folder : List ℕ) (made : Made) (removal : Result A E) (steps : List DiskStep) → IsMakingHeld (new_name name) true steps
     → IsWriting name folder made GivenUp made (steps ++ answered (Remove (new_name name)) removal ∷ [])
 not_written name folder made (Ok u) steps h = NotWritten steps true h
 not_written name folder made (Err e) steps h = NotWritten steps false h

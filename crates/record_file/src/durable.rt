@@ -47,15 +47,15 @@ impl<F: Write + OpenFile> SyncWrite for F {
 #[derive(Drop)]
 pub struct DurableWriter<F: SyncWrite> {
     /// Where it writes.
-    pub file: F,
+    pub(crate) file: F,
 
     /// How many bytes it has written.
-    pub length: u64,
+    pub(crate) length: u64,
 }
 
 impl<F: SyncWrite> DurableWriter<F> {
     /// A writer to a file, which has written nothing yet.
-    pub fn new(file: F) -> DurableWriter<F>
+    pub(crate) fn new(file: F) -> DurableWriter<F>
         ensures { result ≡ record { file = file; length = 0 } }
     {
         DurableWriter { file, length: 0 }

@@ -1,5 +1,5 @@
 //! The file of a record, which one load at a time holds.
-ghost use Rattle.std.specs.Prelude.{◌≡◌, OnErr, ◌∷◌, IfErr, IfOk, None, Some, option_map, true, false, Bool};
+ghost use Rattle.std.specs.Prelude.{◌≡◌, OnErr, ◌∷◌, IfErr, IfOk, None, Some, option_map, true, false};
 ghost use Rattle.record_file.specs.Beginning.{IsLetGo};
 ghost use Rattle.record_file.specs.DiskStep.{HasAsked, Tells, IsNameSeen, IsLookAtName, Failed, Open};
 ghost use Rattle.record_file.specs.Holding.{IsFound, IsMade, IsOpened, hold_steps, IsHeld, IsTry, IsHolding, IsNotHeld};

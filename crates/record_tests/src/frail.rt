@@ -16,14 +16,14 @@ use std::io::{ErrorKind, Write};
 use tape_image::Plan;
 
 /// The record of the smallest tape's word, of version 1, without the mark.
-pub const VERIFIED: &[u8] = b"LDAODT 1\n001000 177777 011064\n";
+pub(crate) const VERIFIED: &[u8] = b"LDAODT 1\n001000 177777 011064\n";
 
 /// The whole record of a load of the smallest tape.
-pub const RECORD: &[u8] = b"LDAODT 2\n001000 011064\nG\n";
+pub(crate) const RECORD: &[u8] = b"LDAODT 2\n001000 011064\nG\n";
 
 /// An output that is looked at once the load has let it go.
 #[derive(Drop)]
-pub struct SharedOutput<'a> {
+pub(crate) struct SharedOutput<'a> {
     output: &'a RefCell<BrokenOutput>,
 }
 
@@ -49,24 +49,24 @@ impl LastingWrite for SharedOutput<'_> {
 
 /// A console in memory, and a record whose input and output may fail.
 #[derive(Drop)]
-pub struct Frail<'a> {
-    pub input: BrokenInput<'a>,
+pub(crate) struct Frail<'a> {
+    pub(crate) input: BrokenInput<'a>,
 
     /// Whether the record's file may be written.
-    pub writable: bool,
+    pub(crate) writable: bool,
 
     /// Why the record is not even tried, where that is so.
-    pub refusal: Option<RecordFault>,
+    pub(crate) refusal: Option<RecordFault>,
 
-    pub alloc: Global,
+    pub(crate) alloc: Global,
 
     /// The machine, until somebody is connected to it.
-    pub odt: Option<Odt>,
+    pub(crate) odt: Option<Odt>,
 
     /// At which call the line to it fails, and from there on, where there is one.
-    pub fail_at: Option<u64>,
+    pub(crate) fail_at: Option<u64>,
 
-    pub output: &'a RefCell<BrokenOutput>,
+    pub(crate) output: &'a RefCell<BrokenOutput>,
 }
 
 impl<'a> Surroundings for Frail<'a> {
@@ -120,9 +120,9 @@ pub(crate) fn machine(alloc: Global, word: u16) -> Option<Odt> {
 
 /// How a load stopped that was reported, and whether the host had come to the start.
 #[derive(Clone, Copy, PartialEq, Eq)]
-pub struct Stopped {
-    pub stop: Stop,
-    pub marked: bool,
+pub(crate) struct Stopped {
+    pub(crate) stop: Stop,
+    pub(crate) marked: bool,
 }
 
 /// Loads the smallest tape, and answers how that ends, or None where there is no memory for the tape.

@@ -13,7 +13,7 @@ use Rattle.rehearsals.specs.KeyLines.{Answered, Gathers, Holds, Notes, is_echo, 
 use Rattle.byte_io.proofs.Fronts.{front_longer, front_none}
 
 -- each of the keys was merely echoed
-abbrev pub Echoes : List Answered → Type 0
+abbrev Echoes : List Answered → Type 0
 Echoes keys = AllByRecursion (λ a. is_echo a ≡ true) keys
 
 -- a key that was not echoed ends the line of the echoed ones before it

@@ -1,7 +1,7 @@
-pub mod Plays
-pub mod Openings
-pub mod Rehearsals
-pub mod KeyTexts
-pub mod CleanRuns
-pub mod Dialogues
-pub mod Reports
+mod Plays
+mod Openings
+mod Rehearsals
+mod KeyTexts
+mod CleanRuns
+mod Dialogues
+mod Reports

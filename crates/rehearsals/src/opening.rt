@@ -1,5 +1,5 @@
 //! The worlds that commands open.
-ghost use Rattle.std.specs.Prelude.{◌≡◌, ℕ, ◌≤◌, false, length, replicate, IfOk, IfErr, [], OnOk};
+ghost use Rattle.std.specs.Prelude.{◌≡◌, ◌≤◌, false, length, replicate, IfOk, IfErr, OnOk};
 ghost use Rattle.odt_machine.specs.declared.mode.Mode.TheVariants.{Prompt};
 ghost use Rattle.host_core.specs.Core.{begun};
 ghost use Rattle.host_core.specs.Host.{IsHost};

@@ -1,5 +1,5 @@
 //! The command `rehearse`: a script of losses, played over a simulated machine.
-ghost use Rattle.std.specs.Prelude.{◌≡◌, ◌<◌, ◌≤◌, ◌+◌, replicate, map, OnOk, IfOk, IfErr, List, ℕ};
+ghost use Rattle.std.specs.Prelude.{◌<◌, ◌≤◌, ◌+◌, replicate, map, OnOk, IfOk, IfErr, List, ℕ};
 ghost use Rattle.std.specs.Io.KnownBytes.{Appends};
 ghost use Rattle.odt_machine.specs.Machine.{largest_words};
 ghost use Rattle.loss_scripts.specs.Script.{script_limit};

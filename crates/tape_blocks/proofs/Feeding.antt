@@ -72,7 +72,7 @@ length-zeros zero = refl
 length-zeros (suc n) = let h = length-zeros n in omega arith
 
 -- a list that is refused for good lacks no bytes
-pub for_good-final : (fed : List ℕ) (fault : Fault) → IsRefusedForGood fed fault → IsForMore fault.why → ⊥
+for_good-final : (fed : List ℕ) (fault : Fault) → IsRefusedForGood fed fault → IsForMore fault.why → ⊥
 for_good-final fed fault h =
     let more : List ℕ = zeros (tape_limit + 1) in
     let input : List ℕ = fed ++ more in
@@ -103,7 +103,7 @@ under_way_says fed blocks place part u = (
 stands_as : (r : ReaderValue) (o : Outcome) (fed : List ℕ) → r.outcome ≡ o → StandsAt r fed → StandsAs o r fed
 stands_as r o fed e h = subst (λ x. StandsAs x r fed) e h
 
-pub stands_by : (r : ReaderValue) (o : Outcome) (fed : List ℕ) → r.outcome ≡ o → StandsAs o r fed → StandsAt r fed
+stands_by : (r : ReaderValue) (o : Outcome) (fed : List ℕ) → r.outcome ≡ o → StandsAs o r fed → StandsAt r fed
 stands_by r o fed e h = subst (λ x. StandsAs x r fed) (sym e) h
 
 pub done_answers : (r : ReaderValue) (start : ℕ) (fed piece : List ℕ) → r.outcome ≡ Done start → StandsAt r fed → IsFed fed piece (Ok (DoneAt 0))
@@ -137,7 +137,7 @@ pub open_finishes : (r : ReaderValue) (fed : List ℕ) → r.outcome ≡ Open �
 open_finishes r fed e h = (under_way_says fed r.blocks r.place r.part (stands_as r Open fed e h)).0
 
 -- behind a piece that was read to its end
-pub took_stands : (p : Progress) (fed : List ℕ) → IsPart p → IsReadBy p fed → IsUnderWay fed p.blocks.items p.place (part_of p)
+took_stands : (p : Progress) (fed : List ℕ) → IsPart p → IsReadBy p fed → IsUnderWay fed p.blocks.items p.place (part_of p)
 took_stands p fed part read =
     let l = IsReadTo-length fed p.place p.blocks.items (part_of p) read in
     let w = part.within in

@@ -33,7 +33,7 @@ pub record IsTaking (before after : Option (List ℕ)) (reader : ReaderValue) (t
   pub limited : taken < input_limit
 
 -- the reader's need, as its contract says it
-abbrev pub Needs : ReaderValue → ℕ → Type 0
+abbrev Needs : ReaderValue → ℕ → Type 0
 Needs reader need =
     (fed more : List ℕ) (blocks : List BlockValue) (start : ℕ) → IsOpen reader → StandsAt reader fed → IsTape (fed ++ more) blocks start → need ≤ length more
 

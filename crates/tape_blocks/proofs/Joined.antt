@@ -68,7 +68,7 @@ counted-tests s header body count c m =
     let text : List ℕ = header ++ body in
     first_fault-append_none (length text) m (take 3 (tests_of s text)) (sum_test s text ∷ []) (header_stays s header body None c.says.passes m)
 
-pub count_is : (s : ℕ) (header body : List ℕ) (count : ℕ) → IsCounted s header body count → count ≡ count_of (header ++ body)
+count_is : (s : ℕ) (header body : List ℕ) (count : ℕ) → IsCounted s header body count → count ≡ count_of (header ++ body)
 count_is s header body count c = c.says.count_is ∙ sym (same_count header body c.says.there)
 
 pub body_short : (s : ℕ) (header body : List ℕ) (count : ℕ) → NoBlank (header ++ body) → IsCounted s header body count
@@ -87,7 +87,7 @@ pub record IsWhole (s : ℕ) (header body : List ℕ) (count : ℕ) : Type 0 whe
   pub counted : IsCounted s header body count
   pub whole : count < 6 + length body
 
-pub six : (s : ℕ) (header body : List ℕ) (count : ℕ) → IsWhole s header body count → length header ≡ 6
+six : (s : ℕ) (header body : List ℕ) (count : ℕ) → IsWhole s header body count → length header ≡ 6
 six s header body count w =
     let more : count < 6 + length body = w.whole in
     let enough : 6 ≤ count = w.counted.says.enough in
@@ -128,7 +128,7 @@ bad_sum s header body count blank w wrong = λ m.
     (not_true _ (λ e. wrong (block_sum s header body count w ∙ eqb-true _ _ e))))
 
 -- all four tests of the frame pass
-pub frame_right : (s : ℕ) (header body : List ℕ) (count : ℕ) → IsWhole s header body count
+frame_right : (s : ℕ) (header body : List ℕ) (count : ℕ) → IsWhole s header body count
     → (sum header % 256 + sum (take (count - 6 + 1) body) % 256) % 256 ≡ 0
     → (m : Fault) → first_fault (length (header ++ body)) m (take 4 (tests_of s (header ++ body))) ≡ None
 frame_right s header body count w right m =
@@ -139,13 +139,13 @@ frame_right s header body count w right m =
       good = eq-eqb _ _ (sym (block_sum s header body count w) ∙ right);
     })
 
-pub data_is : (s : ℕ) (header body : List ℕ) (count : ℕ) → IsWhole s header body count → take (count - 6) body ≡ data_of (header ++ body)
+data_is : (s : ℕ) (header body : List ℕ) (count : ℕ) → IsWhole s header body count → take (count - 6) body ≡ data_of (header ++ body)
 data_is s header body count w =
     let a : length header ≡ 6 = six s header body count w in
     ap (λ k. take (k - 6) body) (count_is s header body count w.counted)
     ∙ ap (take (count_of (header ++ body) - 6)) (sym (ap (λ k. drop k (header ++ body)) (sym a) ∙ drop-append_seam header body))
 
-pub address_in : (s : ℕ) (header body : List ℕ) (count : ℕ) → IsWhole s header body count → address_of header ≡ address_of (header ++ body)
+address_in : (s : ℕ) (header body : List ℕ) (count : ℕ) → IsWhole s header body count → address_of header ≡ address_of (header ++ body)
 address_in s header body count w =
     let a : length header ≡ 6 = six s header body count w in
     sym (same_address header body (omega arith))

@@ -11,7 +11,7 @@ use Rattle.tape_blocks.specs.declared.fault.Why.TheVariants.{Stray, BadMark, Bad
 use Rattle.tape_blocks.proofs.FirstBlock.{framed-states, framed_passes, passes_framed, passed, first_fault-append_some, length-framed}
 
 -- the tests of a text beside those of a longer one: the same as far as the bytes that they need are there and they pass
-abbrev pub SameTests : ℕ → List Test → List Test → Type 0
+abbrev SameTests : ℕ → List Test → List Test → Type 0
 SameTests n [] [] = Unit {0}
 SameTests n [] (u ∷ us) = ⊥
 SameTests n (t ∷ ts) [] = ⊥
@@ -66,7 +66,7 @@ SameTests-take (suc k) n (t ∷ ts) [] same = absurd same
 SameTests-take (suc k) n (t ∷ ts) (u ∷ us) same = λ there. let s = same there in (s.0, λ passes. SameTests-take k n ts us (s.1 passes))
 
 -- tests that a longer text passes: the shorter one passes them too, or a byte is missing
-pub first_fault-before :
+first_fault-before :
     (n k : ℕ) (ts us : List Test) → SameTests n ts us → ((m : Fault) → first_fault k m us ≡ None)
     → ((m : Fault) → first_fault n m ts ≡ Some m) ⊎ ((m : Fault) → first_fault n m ts ≡ None)
 first_fault-before n k [] [] same none = inr (λ m. refl)
@@ -190,7 +190,7 @@ chosen_wants : (b : Bool) (r : Fault → Option Fault) (f : Fault) → ((m : Fau
 chosen_wants true r f all = (refl, all)
 chosen_wants false r f all = absurd (not_each (Some f) (λ m. sym (all m)))
 
-pub wants : (n : ℕ) (t : Test) (ts : List Test) → ((m : Fault) → first_fault n m (t ∷ ts) ≡ Some m) → t.needs ≤ n → Wants n t ts
+wants : (n : ℕ) (t : Test) (ts : List Test) → ((m : Fault) → first_fault n m (t ∷ ts) ≡ Some m) → t.needs ≤ n → Wants n t ts
 wants n t ts all h =
     let c = chosen_wants t.passes (λ m. first_fault n m ts) t.fault (λ m. sym (past_needs n m t ts h) ∙ all m) in
     record { passes = c.0; later = c.1 }

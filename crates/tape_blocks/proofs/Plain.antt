@@ -30,7 +30,7 @@ length-plain_text tape =
     let f = length-framed tape.start [] in
     omega arith
 
-pub plain_text-tape : (tape : TapeValue) → IsSound tape → IsTape (plain_text tape) tape.blocks tape.start
+plain_text-tape : (tape : TapeValue) → IsSound tape → IsTape (plain_text tape) tape.blocks tape.start
 plain_text-tape tape s = record {
   pieces = map block tape.blocks;
   front = record { joined = refl; allowed = subst (All IsBlock) (sym (blocks_of-blocks tape.blocks)) s.each_block };

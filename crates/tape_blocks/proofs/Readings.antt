@@ -17,7 +17,7 @@ some_same : {X : Type 0} {x y : X} → Some x ≡ Some y → x ≡ y
 some_same e = cc e
 
 -- a front is never longer than one behind which no piece stands
-pub no_longer_front :
+no_longer_front :
     (text : List ℕ) (ps qs : List Piece) (x y : List ℕ) → NoPiece x → IsFront text ps x → IsFront text qs y
     → length (text_of qs) ≤ length (text_of ps)
 no_longer_front text ps qs x y n f g =
@@ -50,7 +50,7 @@ refused input ps rest fault f e = record {
 }
 
 -- a refusal is the only one
-pub one_refusal :
+one_refusal :
     (input : List ℕ) (at place : ℕ) (why reason : Why) → IsRefused input at why → IsRefused input place reason
     → fault_at at why ≡ fault_at place reason
 one_refusal input at place why reason a b =

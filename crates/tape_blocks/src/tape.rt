@@ -1,4 +1,4 @@
-ghost use Rattle.std.specs.Prelude.{◌≡◌, ◌<◌, ◌^◌, ◌↔◌, ℕ, List, length, take, All, IsTrue, IfOk, IfErr, IfNone, MatchOption};
+ghost use Rattle.std.specs.Prelude.{◌≡◌, ◌<◌, ◌^◌, ◌↔◌, ℕ, List, length, All, IsTrue, IfOk, IfErr, IfNone, MatchOption};
 ghost use Rattle.tape_blocks.specs.Block.{BlockValue, IsBlock, HoldsBytes, block_at};
 ghost use Rattle.tape_blocks.specs.Tape.{IsSound, IsTape, plain_text, tape_limit, written_length};
 ghost use Rattle.tape_blocks.specs.BadTape.{IsBadTape, IsFirstAt};

@@ -1,3 +1,3 @@
-pub mod TapeSize
-pub mod Canonical
-pub mod Texts
+mod TapeSize
+mod Canonical
+mod Texts

@@ -26,7 +26,7 @@ gives_apart v w b p q less e =
     omega arith)
 
 -- where the addresses rise, the byte that a word gives is the byte that all of them give
-pub given_byte-at : (words : List WordValue) (b k : ℕ) (d : WordValue) → All IsWord words → AllPairs Rises words → k < length words → gives (get_or words k d) b ≡ true → given_byte words b ≡ Some (half b (get_or words k d).value)
+given_byte-at : (words : List WordValue) (b k : ℕ) (d : WordValue) → All IsWord words → AllPairs Rises words → k < length words → gives (get_or words k d) b ≡ true → given_byte words b ≡ Some (half b (get_or words k d).value)
 given_byte-at [] b k d each rising l e = absurd (omega arith)
 given_byte-at (w ∷ words) b zero d each rising l e = ap (λ t. cond t (Some (half b w.value)) (given_byte words b)) e
 given_byte-at (w ∷ words) b (suc k) d each rising l e =

@@ -30,7 +30,7 @@ half-merged b w old =
     ]
 
 -- under the mask a merged byte is the word's
-pub half-merged_given : (b : ℕ) (w : WordValue) (old : ℕ) → covers b w.mask ≡ true → half b (merged w old) ≡ half b w.value
+half-merged_given : (b : ℕ) (w : WordValue) (old : ℕ) → covers b w.mask ≡ true → half b (merged w old) ≡ half b w.value
 half-merged_given b w old e = half-merged b w old ∙ ap (λ t. cond t (half b w.value) (half b old)) e
 
 -- a word stands where it was merged

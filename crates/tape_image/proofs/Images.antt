@@ -34,7 +34,7 @@ get_above o p r n q more e =
     ap (λ t. cond t o r) (ne_eqb q n (λ same. omega arith)) ∙ e ∙ ap (λ t. cond t p None) (le-ltb q n (omega arith)) ∙ ap (λ t. cond t p None) (sym (le-ltb q (suc n) (omega arith)))
 
 -- the image below n answers as f does there, and none from n on
-pub get-image_below : (f : ℕ → Option ℕ) (n q : ℕ) → get (image_below f n) q ≡ cond (ltb q n) (f q) None
+get-image_below : (f : ℕ → Option ℕ) (n q : ℕ) → get (image_below f n) q ≡ cond (ltb q n) (f q) None
 unfolding image_below
 get-image_below f zero q = get-empty nat_cmp q ∙ ap (λ t. cond t (f q) None) (sym (le-ltb q 0 (omega arith)))
 get-image_below f (suc n) q =

@@ -1,15 +1,15 @@
 pub mod Halves
-pub mod Stores
+mod Stores
 pub mod Blocks
 pub mod Images
-pub mod Parts
-pub mod PageBytes
-pub mod Tables
+mod Parts
+mod PageBytes
+mod Tables
 pub mod Laying
 pub mod Words
 pub mod Given
 pub mod Standing
 pub mod Plans
-pub mod Tapes
+mod Tapes
 pub mod SameWords
 pub mod OverlayLaw

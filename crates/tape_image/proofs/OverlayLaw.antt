@@ -16,11 +16,11 @@ use Rattle.tape_image.proofs.Stores.{byte_of-with_word, with_word}
 use Rattle.tape_image.proofs.Given.{gives-address, image_at_word, given_byte-none}
 
 -- one word keeps the size
-pub length-merge_at : (memory : List ℕ) (w : WordValue) → length (merge_at memory w) ≡ length memory
+length-merge_at : (memory : List ℕ) (w : WordValue) → length (merge_at memory w) ≡ length memory
 length-merge_at memory w = elim (ltb (w.address / 2) (length memory)) as (λ t. length (cond t (with_word memory w) memory) ≡ length memory) [ true ↦ length-set memory _ _ | false ↦ refl ]
 
 -- and changes the bytes that it gives, to its own
-pub byte_of-merge_at : (memory : List ℕ) (w : WordValue) (b : ℕ) → b < top_of memory → byte_of (merge_at memory w) b ≡ cond (gives w b) (half b w.value) (byte_of memory b)
+byte_of-merge_at : (memory : List ℕ) (w : WordValue) (b : ℕ) → b < top_of memory → byte_of (merge_at memory w) b ≡ cond (gives w b) (half b w.value) (byte_of memory b)
 byte_of-merge_at memory w b l =
     elim (ltb (w.address / 2) (length memory)) as (λ t. ltb (w.address / 2) (length memory) ≡ t → byte_of (cond t (with_word memory w) memory) b ≡ cond (gives w b) (half b w.value) (byte_of memory b)) [
       | true ↦ λ e. byte_of-with_word memory w b (ltb-true _ _ e)
@@ -31,7 +31,7 @@ byte_of-merge_at memory w b l =
     ] refl
 
 -- words keep the size
-pub length-merge_all : (memory : List ℕ) (words : List WordValue) → length (merge_all memory words) ≡ length memory
+length-merge_all : (memory : List ℕ) (words : List WordValue) → length (merge_all memory words) ≡ length memory
 unfolding merge_all
 length-merge_all memory [] = refl
 length-merge_all memory (w ∷ words) = length-merge_all (merge_at memory w) words ∙ length-merge_at memory w
@@ -41,7 +41,7 @@ later_over_first true later own v old same = ap (λ x. cond later v x) (same ref
 later_over_first false later own v old same = refl
 
 -- if each word that gives the byte at b gives v, the words leave v there where one gives it, and else the byte before
-pub byte_of-merge_all : (words : List WordValue) (memory : List ℕ) (b v : ℕ) → b < top_of memory → All (λ w. gives w b ≡ true → half b w.value ≡ v) words → byte_of (merge_all memory words) b ≡ cond (list_any (λ w. gives w b) words) v (byte_of memory b)
+byte_of-merge_all : (words : List WordValue) (memory : List ℕ) (b v : ℕ) → b < top_of memory → All (λ w. gives w b ≡ true → half b w.value ≡ v) words → byte_of (merge_all memory words) b ≡ cond (list_any (λ w. gives w b) words) v (byte_of memory b)
 unfolding merge_all
 byte_of-merge_all [] memory b v l all = refl
 byte_of-merge_all (w ∷ words) memory b v l all =

@@ -26,7 +26,7 @@ pub page-unmarked : (n m : ℕ) (bytes : List ℕ) → image_below (marked_byte 
 page-unmarked n m bytes = image_below-none (marked_byte (replicate n false) bytes) m (λ a. ap (λ t. then_some t (get_or bytes a 0)) (unmarked n a))
 
 -- a run that is written over bytes, and whose marks are set, is laid over what was marked
-pub marked_byte-run : (marks : List Bool) (bytes run : List ℕ) (o k a : ℕ) → k ≡ length run → o + k ≤ length marks → o + k ≤ length bytes
+marked_byte-run : (marks : List Bool) (bytes run : List ℕ) (o k a : ℕ) → k ≡ length run → o + k ≤ length marks → o + k ≤ length bytes
     → marked_byte (put_mid o k marks (replicate k true)) (put_mid o k bytes run) a ≡ option_or (byte_in (block_at o run) a) (marked_byte marks bytes a)
 marked_byte-run marks bytes run o k a same m b =
     elim (part_of o k a) [

@@ -11,12 +11,12 @@ use Rattle.tape_image.proofs.Stores.{with_word, byte_of-with_word}
 use Rattle.tape_image.proofs.Given.{gives-address, image_at_word}
 
 -- the byte of a word that stands is the word's, where the mask has it
-pub half-standing : (b : ℕ) (w : WordValue) (now : ℕ) → Stands w now → covers b w.mask ≡ true → half b now ≡ half b w.value
+half-standing : (b : ℕ) (w : WordValue) (now : ℕ) → Stands w now → covers b w.mask ≡ true → half b now ≡ half b w.value
 half-standing b w now s =
     elim (eqb (b % 2) 0) as (λ t. eqb (cond t (w.mask % 256) (w.mask / 256)) 255 ≡ true → cond t (now % 256) (now / 256) ≡ cond t (w.value % 256) (w.value / 256)) [ true ↦ s.low | false ↦ s.high ]
 
 -- the byte that the words give is that of one of them
-pub given_byte-Some : (words : List WordValue) (b byte : ℕ) → given_byte words b ≡ Some byte → (k : ℕ) × ((d : WordValue) → (k < length words) × (gives (get_or words k d) b ≡ true) × (half b (get_or words k d).value ≡ byte))
+given_byte-Some : (words : List WordValue) (b byte : ℕ) → given_byte words b ≡ Some byte → (k : ℕ) × ((d : WordValue) → (k < length words) × (gives (get_or words k d) b ≡ true) × (half b (get_or words k d).value ≡ byte))
 given_byte-Some [] b byte e = absurd (cc e)
 given_byte-Some (w ∷ words) b byte e =
     elim (gives w b) as (λ t. gives w b ≡ t → cond t (Some (half b w.value)) (given_byte words b) ≡ Some byte → (k : ℕ) × ((d : WordValue) → (k < length (w ∷ words)) × (gives (get_or (w ∷ words) k d) b ≡ true) × (half b (get_or (w ∷ words) k d).value ≡ byte))) [

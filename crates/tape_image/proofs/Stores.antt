@@ -7,11 +7,11 @@ use Rattle.tape_image.specs.Word.{WordValue, covers, gives, merged}
 use Rattle.tape_image.proofs.Halves.{half-merged}
 
 -- a stored word changes its own two bytes
-pub byte_of-store_same : (memory : List ℕ) (i v b : ℕ) → i < length memory → b / 2 ≡ i → byte_of (slice_set memory i v) b ≡ half b v
+byte_of-store_same : (memory : List ℕ) (i v b : ℕ) → i < length memory → b / 2 ≡ i → byte_of (slice_set memory i v) b ≡ half b v
 byte_of-store_same memory i v b l e = ap (λ k. half b (slice_index (slice_set memory i v) k)) e ∙ ap (half b) (get_or-set_same memory i v 0 l)
 
 -- and no other
-pub byte_of-store_other : (memory : List ℕ) (i v b : ℕ) → b / 2 ≢ i → byte_of (slice_set memory i v) b ≡ byte_of memory b
+byte_of-store_other : (memory : List ℕ) (i v b : ℕ) → b / 2 ≢ i → byte_of (slice_set memory i v) b ≡ byte_of memory b
 byte_of-store_other memory i v b ne = ap (half b) (get_or-set_other memory i (b / 2) v 0 ne)
 
 -- the memory with the word merged in at its address

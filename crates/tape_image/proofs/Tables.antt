@@ -15,7 +15,7 @@ use Rattle.tape_image.proofs.Blocks.{byte_in-before, byte_in-behind}
 use Rattle.tape_image.proofs.Laying.{byte_in-moved}
 
 -- a table answers with its pages' bytes
-pub get-table : (table : List (Option (Box Image))) (a : ℕ) → length table ≡ 112 → get (image_below (byte_in_table table) 57344) a ≡ byte_in_table table a
+get-table : (table : List (Option (Box Image))) (a : ℕ) → length table ≡ 112 → get (image_below (byte_in_table table) 57344) a ≡ byte_in_table table a
 get-table table a size =
     get-image_below_all (byte_in_table table) 57344 a (λ above. ap (λ o. byte_in_page o (a % 512)) (slice_get_past table (a / 512) (omega arith)))
 

@@ -20,14 +20,14 @@ abbrev pub IsByte : Option ℕ → Type 0
 IsByte o = IfSome o (λ byte. byte < 256)
 
 -- the word of two bytes is a word
-pub word_of-IsWord : (a : ℕ) (low high : Option ℕ) → a % 2 ≡ 0 → a < 0o160000 → IsByte low → IsByte high → IfSome (word_of a low high) IsWord
+word_of-IsWord : (a : ℕ) (low high : Option ℕ) → a % 2 ≡ 0 → a < 0o160000 → IsByte low → IsByte high → IfSome (word_of a low high) IsWord
 word_of-IsWord a None None even below l h = tt
 word_of-IsWord a (Some low) None even below l h = record { even = even; below = below; inside = record { one_mask = inl refl; low = λ e. absurd (cc e); high = λ e. omega arith }; fits = omega arith }
 word_of-IsWord a None (Some high) even below l h = record { even = even; below = below; inside = record { one_mask = inr (inl refl); low = λ e. omega arith; high = λ e. absurd (cc e) }; fits = omega arith }
 word_of-IsWord a (Some low) (Some high) even below l h = record { even = even; below = below; inside = record { one_mask = inr (inr refl); low = λ e. absurd (cc e); high = λ e. absurd (cc e) }; fits = omega arith }
 
 -- and lies at the address
-pub address-word_of : (a : ℕ) (low high : Option ℕ) → IfSome (word_of a low high) (λ w. w.address ≡ a)
+address-word_of : (a : ℕ) (low high : Option ℕ) → IfSome (word_of a low high) (λ w. w.address ≡ a)
 address-word_of a None None = tt
 address-word_of a (Some low) None = refl
 address-word_of a None (Some high) = refl

@@ -1,6 +1,6 @@
 ghost use Rattle.std.specs.Prelude.{◌≡◌, ◌+◌, ◌*◌, ◌<◌, ◌≤◌, length, IfOk, All};
 ghost use Rattle.std.specs.FinMap.{empty, get};
-ghost use Rattle.tape_blocks.specs.Block.{BlockValue, IsBlock, block_at};
+ghost use Rattle.tape_blocks.specs.Block.{IsBlock, block_at};
 ghost use Rattle.tape_image.specs.Image.{byte_at, byte_in};
 ghost use Rattle.tape_image.specs.Pages.{IsLaid};
 ghost use Rattle.tape_image.specs.Plan.{words_of};

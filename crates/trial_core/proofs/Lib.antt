@@ -1,3 +1,3 @@
 pub mod Lives
 pub mod Trials
-pub mod Turns
+mod Turns

@@ -32,7 +32,7 @@ ReplyFits (On place) = place ≤ 5
 ReplyFits Over = ⊤
 ReplyFits Wrong = ⊤
 
-pub digit_tries : (w k : ℕ) → IsTrying (digit_of w k)
+digit_tries : (w k : ℕ) → IsTrying (digit_of w k)
 digit_tries w k = inl (cc (digit_of-is_digit w k))
 
 pub z_tries : IsTrying resynchronise

@@ -1,6 +1,6 @@
 // What a trial sees of a console's style.
 ghost use Rattle.std.specs.Prelude.{◌≡◌};
-ghost use Rattle.trial_core.specs.Style.{and_then, echo_seen, reply_seen, returns_seen, seen_after, shown, space_seen};
+ghost use Rattle.trial_core.specs.Style.{and_then, reply_seen, seen_after, shown, space_seen};
 
 use crate::phase::Phase;
 use crate::sight::{Seen, Sight};

@@ -14,7 +14,7 @@ use Rattle.trial_engine.specs.Attempted.{Attempted, IsSaid}
 use Rattle.trial_engine.specs.Harmless.{IsHarmless, IsHarmlessOver}
 
 -- what was said of a dialogue is all of it, or all but its last key
-pub said_told : (stop : Option Stop) (left : ℕ) (all said : List Item) → IsSaid stop left all said → IsToldOf all said
+said_told : (stop : Option Stop) (left : ℕ) (all said : List Item) → IsSaid stop left all said → IsToldOf all said
 said_told None left all said s = inl s.0
 said_told (Some (Ended end)) left all said s = inl s
 said_told (Some TurnsOver) left all said s = inl s.0

@@ -1,2 +1,2 @@
-pub mod Harm
-pub mod Stretches
+mod Harm
+mod Stretches

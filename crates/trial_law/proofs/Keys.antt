@@ -79,7 +79,7 @@ key_tries c (inr (inr is)) = subst (λ d. TriesKey (key_of d)) (sym is) tt
 left_same : (m : Machine) → IsLeftAlone m m
 left_same m = record { memory = refl; stopped = λ e. e; console = λ is. is }
 
-pub left_then : (a b c : Machine) → IsLeftAlone a b → IsLeftAlone b c → IsLeftAlone a c
+left_then : (a b c : Machine) → IsLeftAlone a b → IsLeftAlone b c → IsLeftAlone a c
 left_then a b c first next = record {
   memory = next.memory ∙ first.memory;
   stopped = λ e. next.stopped (first.stopped e);

@@ -1,9 +1,9 @@
-pub mod Again
-pub mod Answers
+mod Again
+mod Answers
 pub mod Keys
 pub mod Rows
 pub mod Runs
 pub mod Splits
-pub mod Tidy
+mod Tidy
 pub mod Told
 pub mod Trials

@@ -5,7 +5,7 @@ use std::cell::Cell;
 
 /// Counts the steps that it is told of, and keeps the last.
 #[derive(Drop)]
-pub struct Watch {
+pub(crate) struct Watch {
     steps: Cell<usize>,
     last: Cell<Option<Sight>>,
 }

@@ -1,4 +1,4 @@
-ghost use Rattle.std.specs.Prelude.{◌≡◌, ℕ, ◌≤◌, [], length, IsTrue};
+ghost use Rattle.std.specs.Prelude.{◌≡◌, ◌≤◌, [], length, IsTrue};
 ghost use Rattle.octal.specs.Octal.{is_digit, pushed as pushed_value};
 ghost use Rattle.odt_machine.specs.Answer.{illegal_text, longest_answer};
 ghost use Rattle.odt_machine.specs.Key.{key_of};

@@ -1,6 +1,5 @@
 """The fast loader: that its tape is what its source makes, that it means the same wherever it lies, and that its page
 counts right. That it does what it should is tried by examples/fast-loader/try-in-simh, which needs SIMH."""
-import os
 import re
 import runpy
 import subprocess

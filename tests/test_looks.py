@@ -16,7 +16,7 @@ import unittest
 from concurrent.futures import ThreadPoolExecutor
 
 from common import Case, Console, DeafConsole, LossyConsole, SlowConsole
-from outside import NO_OUTPUT, PROGRAM, Answer, bytes_of, tape_of
+from outside import NO_OUTPUT, PROGRAM, bytes_of, tape_of
 
 FAILED = "ldaodt: line failed\n"
 

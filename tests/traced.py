@@ -2,7 +2,6 @@
 answered otherwise than by the system. For Linux on x86-64, where the program is one thread.
 """
 import ctypes
-import errno
 import os
 import signal
 import struct

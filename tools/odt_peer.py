@@ -24,7 +24,7 @@ import sys
 import threading
 import time
 
-ILLEGAL, RUNNING = "illegal", "running"
+RUNNING = "running"
 
 
 class Machine:

@@ -1,14 +1,12 @@
 //! The ways to a console, and what is heard of it once a load is over.
 //!
-//! Whoever needs a line asks a `Reach` for it: a `Port` connects to HOST:PORT, a `Wire` opens a serial
-//! device, and `is_path` tells which of both a name is. A line that was reached is fresh: nothing was
-//! said on it and none of its calls failed. It is asked for once, by the name that was given, where the
-//! network or the devices tell what they were asked; a way lets its caller have these again. `listen`
-//! copies what is heard of a line to an output: what was written is promised to be what was heard, in its
-//! order, and nothing was sent.
+//! Whoever needs a line asks a `Reach` for it: a `Port` connects to HOST:PORT, a `Wire` opens a serial device, and
+//! `is_path` tells which of both a name is. A line that was reached is fresh: nothing was said on it and none of
+//! its calls failed. It is asked for once, by the name that was given, where the network or the devices tell what
+//! they were asked; a way lets its caller have these again. `listen` copies what is heard of a line to an output:
+//! what was written is promised to be what was heard, in its order, and nothing was sent.
 //!
-//! The commands that need a machine stand on it: `machine_load`, `machine_look`,
-//! `machine_probe` and `machine_requests`.
+//! Used by `machine_load`, `machine_look`, `machine_probe` and `machine_requests`.
 #![tactic(auto)]
 
 mod listening;

@@ -3,7 +3,7 @@
 //! All that a request names are opened before any is read, and the first that can't be opened is named: where
 //! the system tells what it opened (`InputFiles`), the contracts say just this, and that nothing else was
 //! opened. There may be more files than descriptors: then what is open is read ahead and closed (`Source`),
-//! which its reader can't tell, and the file is tried once more.
+//! which its reader can't tell, and the file is tried once more. Used by `machine_requests` and `requests`.
 #![tactic(auto)]
 
 mod opening;

@@ -5,7 +5,7 @@
 //! other keys. So a look at a word, a trial of it and a second look leave memory as it was, and both
 //! looks read the same number; and any number of looks and trials do no harm. One line on which several
 //! hosts ran, one after another, is a line for each of them: what was still under way between two of
-//! them was taken or lost before the second heard anything.
+//! them was taken or lost before the second heard anything. Used by `trial_engine` and `machine_probe`.
 #![tactic(auto)]
 
 mod law;

@@ -3,7 +3,7 @@ import socket
 import subprocess
 import unittest
 
-from common import Case, Console
+from cases import Case, Console
 from outside import PROGRAM
 
 import odt_peer

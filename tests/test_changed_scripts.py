@@ -7,7 +7,7 @@ lines of events that may be so, and scripts that say the same are reported alike
 import re
 import unittest
 
-from common import Case, changes, each_file
+from cases import Case, changes, each_file
 from outside import Answer
 
 # A script with a line of each form, and one in which characters of an earlier session wait and look like echoes.

@@ -3,7 +3,7 @@ text of keys against a second console, `tools/odt_peer.py`."""
 import itertools
 import unittest
 
-from common import Case
+from cases import Case
 from odt_peer import Machine
 
 # A machine of four words: 000010 is the first address past them.

@@ -9,7 +9,7 @@ import resource
 import threading
 import unittest
 
-from common import Case, Console
+from cases import Case, Console
 from outside import Answer, tape_of
 
 TAPES = 40

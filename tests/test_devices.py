@@ -11,7 +11,7 @@ import time
 import unittest
 from concurrent.futures import ThreadPoolExecutor
 
-from common import Case, Console, DeafConsole
+from cases import Case, Console, DeafConsole
 from outside import HELLO, NO_OUTPUT, PROGRAM, Answer, bytes_of
 
 # All that is typed at a machine of zeroed memory to load and start first.lda, what is reported, and the record.

@@ -9,7 +9,7 @@ import time
 import unittest
 from concurrent.futures import ThreadPoolExecutor
 
-from common import Case, Console, DeafConsole
+from cases import Case, Console, DeafConsole
 from outside import Answer, bytes_of, tape_of
 
 # The tape that `save` makes of the word at 001000: it starts nothing.

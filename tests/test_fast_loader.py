@@ -6,7 +6,7 @@ import subprocess
 import sys
 import unittest
 
-from common import Case
+from cases import Case
 from outside import HELLO, TOP, bytes_of, tape_of
 
 FOLDER = f"{TOP}/examples/fast-loader"

@@ -6,7 +6,7 @@ their order, and last a script. The first fault of this row is the one that is t
 import os
 import unittest
 
-from common import Case
+from cases import Case
 from outside import Answer
 
 GOOD, OTHER, BAD = "first.lda", "no-word.lda", "bad-sum.lda"

@@ -6,7 +6,7 @@ import os
 import unittest
 from concurrent.futures import ProcessPoolExecutor, ThreadPoolExecutor
 
-from common import BabblingPeer, Case, Console
+from cases import BabblingPeer, Case, Console
 from outside import Answer, block, bytes_of, run, tape_of
 
 import odt_peer

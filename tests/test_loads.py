@@ -11,7 +11,7 @@ import time
 import unittest
 from concurrent.futures import ThreadPoolExecutor
 
-from common import Case, Console, DeafConsole, LateConsole
+from cases import Case, Console, DeafConsole, LateConsole
 from outside import NO_OUTPUT, Answer, bytes_of
 
 # Records of first.lda: whole, as it is written today and as it was written once, and without the mark.

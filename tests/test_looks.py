@@ -15,7 +15,7 @@ import time
 import unittest
 from concurrent.futures import ThreadPoolExecutor
 
-from common import Case, Console, DeafConsole, LossyConsole, SlowConsole
+from cases import Case, Console, DeafConsole, LossyConsole, SlowConsole
 from outside import NO_OUTPUT, PROGRAM, bytes_of, tape_of
 
 FAILED = "ldaodt: line failed\n"

@@ -30,7 +30,7 @@ from collections import namedtuple
 from concurrent.futures import ProcessPoolExecutor
 from functools import lru_cache
 
-from common import TAPES, Case
+from cases import TAPES, Case
 from outside import TOP, Answer, block, run_often
 
 # ---------------------------------------------------------------- the model

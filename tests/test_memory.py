@@ -11,7 +11,7 @@ import tempfile
 import unittest
 from concurrent.futures import ProcessPoolExecutor, ThreadPoolExecutor
 
-from common import Case, Console, timeless
+from cases import Case, Console, timeless
 from outside import FIRST, PAGE, PROGRAM, Answer, block, bytes_of, is_want, run, sweep
 
 # Words of a large tape, which is loaded at 001000 and starts there: more than what the program has room for at once.

@@ -6,7 +6,7 @@ import socket
 import subprocess
 import unittest
 
-from common import Case, Console
+from cases import Case, Console
 from outside import HELLO, LOST_DIGIT, NO_OUTPUT, PROGRAM, Answer, bytes_of, tape_of, text_of
 
 NO_INPUT = "ldaodt: cannot read standard input\n"

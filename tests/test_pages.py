@@ -9,7 +9,7 @@ import subprocess
 import unittest
 from concurrent.futures import ThreadPoolExecutor
 
-from common import Case
+from cases import Case
 from outside import FIRST, HELLO, PROGRAM, TOP, run
 
 ROW = re.compile(r"^\|(.*)\|$", re.MULTILINE)

@@ -7,7 +7,7 @@ start seven keys.
 import os
 import unittest
 
-from common import Case, Console
+from cases import Case, Console
 from outside import NO_OUTPUT
 
 # The tape's words, a whole one and a byte, and its records.

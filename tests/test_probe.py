@@ -16,7 +16,7 @@ import time
 import unittest
 from concurrent.futures import ThreadPoolExecutor
 
-from common import BabblingPeer, Case, Console, DeafConsole, Keeping, Losing, LossyConsole, SlowConsole, pace, timeless
+from cases import BabblingPeer, Case, Console, DeafConsole, Keeping, Losing, LossyConsole, SlowConsole, pace, timeless
 from outside import NO_OUTPUT, PROGRAM
 import odt_peer
 

@@ -8,7 +8,7 @@ import stat
 import tempfile
 import unittest
 
-from common import Case, Console
+from cases import Case, Console
 from outside import PROGRAM, Answer, bytes_of, run, tape_of
 
 MARKED = "LDAODT 2\n001000 011064\nG\n"

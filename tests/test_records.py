@@ -8,7 +8,7 @@ here the line breaks at once: so its report says how many words those are, and n
 import os
 import unittest
 
-from common import Case, Console, changes, each_file
+from cases import Case, Console, changes, each_file
 from outside import Answer, bytes_of, tape_of
 
 # Three words with both bytes, the low byte of a word, the high byte of another, and two words more.

@@ -4,7 +4,7 @@ What is refused and what each line means stands in docs/SCRIPTS.md. Most stories
 """
 import unittest
 
-from common import Case
+from cases import Case
 
 # Texts, the line at which they are refused where they are, and why they stand here.
 TEXTS = (

@@ -14,7 +14,7 @@ import time
 import unittest
 from concurrent.futures import ThreadPoolExecutor
 
-from common import TAPES, Case, Console
+from cases import TAPES, Case, Console
 from outside import PROGRAM, Answer, bytes_of, text_of
 
 # The tape has a whole word and a byte, and starts at 001000.

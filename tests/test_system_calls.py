@@ -6,7 +6,7 @@ import os
 import stat
 import unittest
 
-from common import Case, Console
+from cases import Case, Console
 from outside import Answer, bytes_of, tape_of
 import traced
 

@@ -13,7 +13,7 @@ import time
 import unittest
 from concurrent.futures import ProcessPoolExecutor
 
-from common import Case
+from cases import Case
 from outside import FIRST, HELLO, PROGRAM, TOP, Answer, block, bytes_of, run_often, tape_of, text_of
 
 # ---------------------------------------------------------------- the second reader

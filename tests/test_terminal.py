@@ -8,7 +8,7 @@ import subprocess
 import time
 import unittest
 
-from common import Case, Console, DeafConsole
+from cases import Case, Console, DeafConsole
 from outside import PROGRAM
 
 # Each line that is shown: the terminal is asked to cut what it has no column for, and behind the text to take away what

@@ -1,7 +1,7 @@
 """Words of the command line that are no text, empty or odd."""
 import unittest
 
-from common import Case, Console
+from cases import Case, Console
 from outside import FIRST, LOST_DIGIT, bytes_of
 
 NO_TEXT = "ldaodt: a word of the command line is not UTF-8\n"

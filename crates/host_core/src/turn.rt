@@ -2,7 +2,7 @@ use crate::phase::{End, Phase};
 
 /// What the phase table answers to what is heard.
 #[derive(Clone, Copy)]
-pub(crate) enum Turn {
+pub enum Turn {
     /// Nothing is sent, the host listens on in this phase.
     Listen(Phase),
 

@@ -5,7 +5,7 @@ use crate::character::{CARRIAGE_RETURN, GO, SLASH};
 
 /// What a typed character is to the console.
 #[derive(Clone, Copy, Debug, PartialEq, Eq)]
-pub(crate) enum Key {
+pub enum Key {
     /// An octal digit, `0` to `7`.
     Digit,
 

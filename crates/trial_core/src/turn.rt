@@ -2,7 +2,7 @@ use crate::phase::{End, Phase};
 
 /// What the table answers to what is heard. No turn ends a line, and none starts anything.
 #[derive(Clone, Copy)]
-pub(crate) enum Turn {
+pub enum Turn {
     /// Nothing is sent, the host listens on in this phase.
     Listen(Phase),
 
@@ -21,7 +21,7 @@ pub(crate) enum Turn {
 
 /// How far a character brings the answer to `Z`, which comes twice in a trial.
 #[derive(Clone, Copy)]
-pub(crate) enum Reply {
+pub enum Reply {
     /// The answer goes on at this place.
     On(u8),
 

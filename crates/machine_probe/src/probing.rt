@@ -83,31 +83,11 @@ fn gather<R: Reach, C: Clock>(
 {
     let lookers = Lookers::new(alloc, options)?;
     let line = console.reach()?;
-    let end = report_runs(alloc, lookers, options, line, clock, report)?;
+    let end = report_noted::<R::Line, C, Brand>(alloc, lookers, options, line, clock, report)?;
     Ok(end)
 }
 
-// Makes the runs of a probe over a fresh line, and puts their report into an empty text.
-fn report_runs<L: Line + Drop, C: Clock>(
-    alloc: Global,
-    lookers: Lookers,
-    options: ProbeOptions,
-    line: L,
-    clock: &C,
-    report: &mut Vec<u8>,
-) -> Result<ProbeEnd, AllocError>
-    requires address { IsAddress options.address }
-    requires lookers { AreLookers options lookers }
-    requires fresh { IsAsTold (L.told line) [] }
-    requires empty { report.old.items ≡ [] }
-    requires room { longest_report ≤ vec_capacity report.old }
-    ensures report { IfOk result (IsReportFrom L.told options line report.new.items) }
-    ensures wanting { OnErr result (IsBrokenOffFrom L.told options line) }
-{
-    report_noted::<L, C, Brand>(alloc, lookers, options, line, clock, report)
-}
-
-// The same, where what the line told at first has a name.
+// Makes the runs of a probe over a fresh line, and puts their report into an empty text. `E` names what the line told at first.
 fn report_noted<L: Line + Drop, C: Clock, E: Opening>(
     alloc: Global,
     lookers: Lookers,

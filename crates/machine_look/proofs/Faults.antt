@@ -7,7 +7,7 @@ use Rattle.load_devices.specs.Told.{Gains}
 use Rattle.reading_core.specs.Reader.{Reader}
 use Rattle.reading_engine.specs.declared.stop.Stop.{Stop}
 use Rattle.machine_look.specs.declared.look_fault.LookFault.{LookFault}
-use Rattle.machine_look.specs.declared.look_fault.LookFault.TheVariants.{IsThere, WriteTape, Connect, WriteOutput, Memory}
+use Rattle.machine_look.specs.declared.look_fault.LookFault.TheVariants.{IsThere, WriteTape, Memory}
 use Rattle.machine_look.specs.declared.saving.SaveOptions.{SaveOptions}
 use Rattle.machine_look.specs.declared.shelf.ShelfFault.{ShelfFault}
 use Rattle.machine_look.specs.declared.shelf.ShelfFault.TheVariants as why
@@ -59,8 +59,7 @@ not_kept options before after mid last stop WriteTape reserved read fails same =
     inr (record { last = last; stop = stop; is_read = read; refused = gains_then before.steps mid after.steps _ _ reserved fails; nothing_reported = same })
 not_kept options before after mid last stop Memory reserved read fails same =
     (inr (record { nothing_put = gains_then before.steps mid after.steps _ _ reserved fails; asked = read.asked }), same)
-not_kept options before after mid last stop Connect reserved read fails same = absurd fails
-not_kept options before after mid last stop WriteOutput reserved read fails same = absurd fails
+not_kept options before after mid last stop other reserved read fails same = absurd fails
 
 -- ---- results
 

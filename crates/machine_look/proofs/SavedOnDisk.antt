@@ -4,7 +4,7 @@ use Rattle.std.proofs.lemmas.Bool.{eqb-true}
 use Rattle.record_file.specs.DiskStep.{DiskStep}
 use Rattle.record_file.proofs.Asking.{tells_join, tells_none}
 use Rattle.machine_look.specs.declared.look_fault.LookFault.{LookFault}
-use Rattle.machine_look.specs.declared.look_fault.LookFault.TheVariants.{IsThere, WriteTape, Connect, WriteOutput, Memory}
+use Rattle.machine_look.specs.declared.look_fault.LookFault.TheVariants.{IsThere, WriteTape, Memory}
 use Rattle.machine_look.specs.declared.saving.SaveOptions.{SaveOptions}
 use Rattle.machine_look.specs.declared.shelf.ShelfFault.{ShelfFault}
 use Rattle.machine_look.specs.declared.shelf.ShelfFault.TheVariants as why
@@ -94,5 +94,4 @@ not_kept_on options opened a b c from numbers WriteTape is r h =
     as_asked (IsNotSavedOn options why.Write) (save_disk_asked_before options WriteTape) a c (λ d e steps x. inr x) (not_saved_on options opened a b c from numbers why.Write is r h)
 not_kept_on options opened a b c from numbers Memory is r h =
     as_asked IsOnlyReserved (save_disk_asked_before options Memory) a c (λ d e steps x. inr (inr x)) (then_on (λ folder. IsLeftAlone) opened a b c r h)
-not_kept_on options opened a b c from numbers Connect is r h = never Connect options opened a b c r h
-not_kept_on options opened a b c from numbers WriteOutput is r h = never WriteOutput options opened a b c r h
+not_kept_on options opened a b c from numbers other is r h = never other options opened a b c r h

@@ -21,7 +21,7 @@ use Rattle.console_reach.specs.Console.{ConsoleTold}
 use Rattle.machine_probe.specs.Probe.{IsCutShort, IsReport, IsReportFrom, IsReportOver, IsReported, IsReportedOver}
 use Rattle.machine_probe.specs.ProbeFault.{IsBrokenOffFrom, IsProbeFault, IsUnreported}
 use Rattle.machine_probe.specs.declared.probe_fault.ProbeFault.{ProbeFault}
-use Rattle.machine_probe.specs.declared.probe_fault.ProbeFault.TheVariants.{Connect, WriteOutput, Memory}
+use Rattle.machine_probe.specs.declared.probe_fault.ProbeFault.TheVariants.{Connect, Memory}
 use Rattle.machine_probe.specs.Runs.{OnLine}
 use Rattle.machine_probe.proofs.Believed.{believes}
 use Rattle.machine_probe.proofs.OneLine.{believes_over}
@@ -82,8 +82,8 @@ cut_of {L} told options call call' asked asked' out out' text written end asks (
 pub unreported_is : (options : ProbeOptions) (call call' : Call) (asked asked' : Option (List LineRequest)) (out : Option (List ℕ)) (fault : ProbeFault) → IsUnreported call asked asked' fault →
     IsProbeFault options (record { asked = asked; call = call; out = out }) (record { asked = asked'; call = call'; out = out }) fault
 unreported_is options call call' asked asked' out Connect is = (is, Keeps-refl out)
-unreported_is options call call' asked asked' out WriteOutput is = absurd is
 unreported_is options call call' asked asked' out Memory is = (is, Keeps-refl out)
+unreported_is options call call' asked asked' out other is = absurd is
 
 -- ---- where memory is wanting
 

@@ -26,8 +26,8 @@ IsProbeFault options before after Memory = AsksAtMostOnce before.call before.ask
 -- what makes it come to nothing before there is a report
 abbrev pub IsUnreported : Call → Option (List LineRequest) → Option (List LineRequest) → ProbeFault → Type 0
 IsUnreported call asked asked' Connect = IsAskedInVain call asked asked'
-IsUnreported call asked asked' WriteOutput = ⊥
 IsUnreported call asked asked' Memory = AsksAtMostOnce call asked asked'
+IsUnreported call asked asked' other = ⊥
 
 -- a probe over this line was broken off
 abbrev pub IsBrokenOffFrom : {L : Type 0} → (L → Option (List Item)) → ProbeOptions → L → Type 0

@@ -9,7 +9,7 @@ use Rattle.machine_look.specs.declared.saving.SaveOptions.{SaveOptions}
 use Rattle.machine_look.specs.declared.shelf.ShelfFault.{ShelfFault}
 use Rattle.machine_look.specs.declared.shelf.ShelfFault.TheVariants as why
 use Rattle.machine_look.specs.LookFault.{fault_of_shelf}
-use Rattle.machine_look.specs.SaveDisk.{text_of, IsLeftAlone, IsKeptOn, IsNotKeptOn, IsReservedFirst, IsOnlyReserved, IsSavedOn, IsNotSavedOn, save_disk_asked_before}
+use Rattle.machine_look.specs.SaveDisk.{saved_text, IsLeftAlone, IsKeptOn, IsNotKeptOn, IsReservedFirst, IsOnlyReserved, IsSavedOn, IsNotSavedOn, save_disk_asked_before}
 use Rattle.machine_look.specs.Shelf.{IsPutFault}
 use Rattle.machine_look.specs.ShelfDisk.{ShelfDisk, ShelfAsked, ShelfAskedIn, HasNoRoom, HasRoomIn, IsPutOn}
 
@@ -31,7 +31,7 @@ kept_none opened from [] start a none folder is = left_alone a
 kept_none opened from (n ∷ numbers) start a none folder is = absurd (omega (arith, eqb-true (length (n ∷ numbers)) 0 none))
 
 pub kept_some : (opened : List ℕ → Type 0) (from : ℕ) (numbers : List ℕ) (start : ℕ) (text : List ℕ) (a b : Option ShelfDisk) → eqb (length numbers) 0 ≡ false
-    → text ≡ text_of from numbers start → ShelfAskedIn opened a b (λ folder. IsPutOn folder text None) → ShelfAskedIn opened a b (IsKeptOn from numbers start)
+    → text ≡ saved_text from numbers start → ShelfAskedIn opened a b (λ folder. IsPutOn folder text None) → ShelfAskedIn opened a b (IsKeptOn from numbers start)
 kept_some opened from [] start text a b some is h = absurd (cc some)
 kept_some opened from (n ∷ numbers) start text a b some is h = subst (λ t. ShelfAskedIn opened a b (λ folder. IsPutOn folder t None)) is h
 
@@ -72,13 +72,13 @@ saved_on options opened a b c from numbers is r h =
 
 -- no tape was put there
 not_saved_on : (options : SaveOptions) (opened : List ℕ → Type 0) (a b c : Option ShelfDisk) (from : ℕ) (numbers : List ℕ) (fault : ShelfFault) → from ≡ options.range.from
-    → ShelfAsked a b (HasRoomIn opened) → ShelfAskedIn opened b c (λ folder. IsPutOn folder (text_of from numbers options.start) (Some fault))
+    → ShelfAsked a b (HasRoomIn opened) → ShelfAskedIn opened b c (λ folder. IsPutOn folder (saved_text from numbers options.start) (Some fault))
     → ShelfAsked a c (IsNotSavedOn options fault)
 not_saved_on options opened a b c from numbers fault is r h =
-    as_asked (IsReservedFirst (λ folder. IsPutOn folder (text_of options.range.from numbers options.start) (Some fault))) (IsNotSavedOn options fault) a c
+    as_asked (IsReservedFirst (λ folder. IsPutOn folder (saved_text options.range.from numbers options.start) (Some fault))) (IsNotSavedOn options fault) a c
     (λ d e steps x. (numbers, x))
-    (then_on (λ folder. IsPutOn folder (text_of options.range.from numbers options.start) (Some fault)) opened a b c r
-    (subst (λ f. ShelfAskedIn opened b c (λ folder. IsPutOn folder (text_of f numbers options.start) (Some fault))) is h))
+    (then_on (λ folder. IsPutOn folder (saved_text options.range.from numbers options.start) (Some fault)) opened a b c r
+    (subst (λ f. ShelfAskedIn opened b c (λ folder. IsPutOn folder (saved_text f numbers options.start) (Some fault))) is h))
 
 never : (fault : LookFault) (options : SaveOptions) (opened : List ℕ → Type 0) (a b c : Option ShelfDisk) → ShelfAsked a b (HasRoomIn opened)
     → ShelfAskedIn opened b c (λ folder disk disk' steps. ⊥) → ShelfAsked a c (save_disk_asked_before options fault)
@@ -86,7 +86,7 @@ never fault options opened a b c r h = as_asked (IsReservedFirst (λ folder disk
     (then_on (λ folder disk disk' steps. ⊥) opened a b c r h)
 
 pub not_kept_on : (options : SaveOptions) (opened : List ℕ → Type 0) (a b c : Option ShelfDisk) (from : ℕ) (numbers : List ℕ) (fault : LookFault) → from ≡ options.range.from
-    → ShelfAsked a b (HasRoomIn opened) → ShelfAskedIn opened b c (IsNotKeptOn (text_of from numbers options.start) fault)
+    → ShelfAsked a b (HasRoomIn opened) → ShelfAskedIn opened b c (IsNotKeptOn (saved_text from numbers options.start) fault)
     → ShelfAsked a c (save_disk_asked_before options fault)
 not_kept_on options opened a b c from numbers IsThere is r h =
     as_asked (IsNotSavedOn options why.IsThere) (save_disk_asked_before options IsThere) a c (λ d e steps x. inr x) (not_saved_on options opened a b c from numbers why.IsThere is r h)

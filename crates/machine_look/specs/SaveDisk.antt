@@ -11,8 +11,8 @@ use Rattle.machine_look.specs.SavedTape.{saved_tape}
 use Rattle.machine_look.specs.ShelfDisk.{ShelfDisk, HasRoom, HasNoRoom, IsPutOn}
 
 -- the text of a tape of numbers from an address on
-abbrev pub text_of : ℕ → List ℕ → ℕ → List ℕ
-text_of from numbers start = plain_text (saved_tape from numbers start)
+abbrev pub saved_text : ℕ → List ℕ → ℕ → List ℕ
+saved_text from numbers start = plain_text (saved_tape from numbers start)
 
 -- nothing was asked, and nothing is changed
 abbrev pub IsLeftAlone : ShelfDisk → ShelfDisk → List DiskStep → Type 0
@@ -23,7 +23,7 @@ IsLeftAlone disk disk' steps = (disk' ≡ disk) × (steps ≡ [])
 -- a tape of the numbers was put there, where there are any
 abbrev pub IsKeptOn : ℕ → List ℕ → ℕ → List ℕ → ShelfDisk → ShelfDisk → List DiskStep → Type 0
 IsKeptOn from [] start folder disk disk' steps = IsLeftAlone disk disk' steps
-IsKeptOn from (number ∷ numbers) start folder disk disk' steps = IsPutOn folder (text_of from (number ∷ numbers) start) None disk disk' steps
+IsKeptOn from (number ∷ numbers) start folder disk disk' steps = IsPutOn folder (saved_text from (number ∷ numbers) start) None disk disk' steps
 
 -- it could not be put there, or memory was wanting before
 abbrev pub IsNotKeptOn : List ℕ → LookFault → List ℕ → ShelfDisk → ShelfDisk → List DiskStep → Type 0
@@ -55,7 +55,7 @@ IsSavedOn options disk disk' steps = (numbers : List ℕ) × IsReservedFirst (Is
 -- it could not be put there
 abbrev pub IsNotSavedOn : SaveOptions → ShelfFault → ShelfDisk → ShelfDisk → List DiskStep → Type 0
 IsNotSavedOn options fault disk disk' steps = (numbers : List ℕ)
-    × IsReservedFirst (λ folder. IsPutOn folder (text_of options.range.from numbers options.start) (Some fault)) disk disk' steps
+    × IsReservedFirst (λ folder. IsPutOn folder (saved_text options.range.from numbers options.start) (Some fault)) disk disk' steps
 
 -- what was asked by how a save came to nothing: a console that was not reached, and want of memory, leave no more than the room
 abbrev pub save_disk_asked_before : SaveOptions → LookFault → ShelfDisk → ShelfDisk → List DiskStep → Type 0

@@ -5,7 +5,7 @@ ghost use Rattle.load_devices.specs.Told.{Gains};
 ghost use Rattle.machine_look.specs.LookFault.{IsKeepFault, IsSaveFault};
 ghost use Rattle.machine_look.specs.Save.{IsSavedAndReported, puts, save_told};
 ghost use Rattle.machine_look.specs.SavedTape.{saved_tape};
-ghost use Rattle.machine_look.specs.SaveDisk.{save_disk_asked_before, IsKeptOn, IsNotKeptOn, IsSavedOn, text_of};
+ghost use Rattle.machine_look.specs.SaveDisk.{save_disk_asked_before, IsKeptOn, IsNotKeptOn, IsSavedOn, saved_text};
 ghost use Rattle.machine_look.specs.ShelfDisk.{ShelfAsked, ShelfAskedIn};
 
 use crate::look_fault::LookFault;
@@ -85,7 +85,7 @@ fn keep<S: Shelf>(
     requires below { from + 2 * length numbers.now ≤ top }
     ensures disk { OnOk result (ShelfAskedIn (S.is_opened_as shelf.old) (S.disk shelf.old) (S.disk shelf.new) (IsKeptOn from numbers.now start)) }
     ensures disk_in_vain { IfErr result (λ fault.
-        ShelfAskedIn (S.is_opened_as shelf.old) (S.disk shelf.old) (S.disk shelf.new) (IsNotKeptOn (text_of from numbers.now start) fault)) }
+        ShelfAskedIn (S.is_opened_as shelf.old) (S.disk shelf.old) (S.disk shelf.new) (IsNotKeptOn (saved_text from numbers.now start) fault)) }
     ensures fits { start < 65536 }
     ensures ok { OnOk result (Gains (S.steps shelf.old) (S.steps shelf.new) (puts from numbers.now start)) }
     ensures fault { IfErr result (IsKeepFault (saved_tape from numbers.now start) (S.steps shelf.old) (S.steps shelf.new)) }

@@ -6,7 +6,7 @@ use Rattle.machine_look.specs.LookFault.{IsKeepFault, fault_of_shelf}
 use Rattle.machine_look.specs.SavedTape.{saved_tape}
 use Rattle.machine_look.specs.Shelf.{Put}
 use Rattle.machine_look.proofs.Faults.{error_is, gains_none, no_ok, not_put, puts_none, puts_some}
-use Rattle.machine_look.specs.SaveDisk.{IsNotKeptOn, text_of}
+use Rattle.machine_look.specs.SaveDisk.{IsNotKeptOn, saved_text}
 use Rattle.machine_look.specs.ShelfDisk.{ShelfAskedIn}
 use Rattle.machine_look.proofs.SavedOnDisk.{kept_none, kept_some, left_alone, not_put_on}
 use Rattle.machine_look.proofs.saving.keep.Goals as goal
@@ -56,7 +56,7 @@ returns-in_err-tape-clause-disk g c = no_ok c.from_residual.result _ _ c.from_re
 pub returns-in_err-tape-clause-disk_in_vain : goal.returns-in_err-tape-clause-disk_in_vain
 returns-in_err-tape-clause-disk_in_vain g c =
     error_is c.from_residual.result Memory
-    (λ fault. ShelfAskedIn (g.S.Shelf.is_opened_as c.args.shelf.now) (g.S.Shelf.disk c.args.shelf.now) (g.S.Shelf.disk c.args.shelf.now) (IsNotKeptOn (text_of c.args.from c.args.numbers.now c.args.start) fault))
+    (λ fault. ShelfAskedIn (g.S.Shelf.is_opened_as c.args.shelf.now) (g.S.Shelf.disk c.args.shelf.now) (g.S.Shelf.disk c.args.shelf.now) (IsNotKeptOn (saved_text c.args.from c.args.numbers.now c.args.start) fault))
     c.from_residual.ensures.1 (λ folder opened. left_alone (g.S.Shelf.disk c.args.shelf.now))
 
 pub returns-in_err-text-clause-disk : goal.returns-in_err-text-clause-disk
@@ -65,7 +65,7 @@ returns-in_err-text-clause-disk g c = no_ok c.from_residual-in_err-text.result _
 pub returns-in_err-text-clause-disk_in_vain : goal.returns-in_err-text-clause-disk_in_vain
 returns-in_err-text-clause-disk_in_vain g c =
     error_is c.from_residual-in_err-text.result Memory
-    (λ fault. ShelfAskedIn (g.S.Shelf.is_opened_as c.args.shelf.now) (g.S.Shelf.disk c.args.shelf.now) (g.S.Shelf.disk c.args.shelf.now) (IsNotKeptOn (text_of c.args.from c.args.numbers.now c.args.start) fault))
+    (λ fault. ShelfAskedIn (g.S.Shelf.is_opened_as c.args.shelf.now) (g.S.Shelf.disk c.args.shelf.now) (g.S.Shelf.disk c.args.shelf.now) (IsNotKeptOn (saved_text c.args.from c.args.numbers.now c.args.start) fault))
     c.from_residual-in_err-text.ensures.1 (λ folder opened. left_alone (g.S.Shelf.disk c.args.shelf.now))
 
 pub returns-in_err-put-clause-disk : goal.returns-in_err-put-clause-disk
@@ -74,9 +74,9 @@ returns-in_err-put-clause-disk g c = no_ok c.from_residual-in_err-put.result _ _
 pub returns-in_err-put-clause-disk_in_vain : goal.returns-in_err-put-clause-disk_in_vain
 returns-in_err-put-clause-disk_in_vain g c =
     error_is c.from_residual-in_err-put.result (fault_of_shelf c.in_err-put.field-0.0)
-    (λ fault. ShelfAskedIn (g.S.Shelf.is_opened_as c.args.shelf.now) (g.S.Shelf.disk c.args.shelf.now) (g.S.Shelf.disk c.put.new.self) (IsNotKeptOn (text_of c.args.from c.args.numbers.now c.args.start) fault))
+    (λ fault. ShelfAskedIn (g.S.Shelf.is_opened_as c.args.shelf.now) (g.S.Shelf.disk c.args.shelf.now) (g.S.Shelf.disk c.put.new.self) (IsNotKeptOn (saved_text c.args.from c.args.numbers.now c.args.start) fault))
     c.from_residual-in_err-put.ensures.1
-    (not_put_on (g.S.Shelf.is_opened_as c.args.shelf.now) c.deref.result.now (text_of c.args.from c.args.numbers.now c.args.start) (g.S.Shelf.disk c.args.shelf.now) (g.S.Shelf.disk c.put.new.self) c.in_err-put.field-0.0
+    (not_put_on (g.S.Shelf.is_opened_as c.args.shelf.now) c.deref.result.now (saved_text c.args.from c.args.numbers.now c.args.start) (g.S.Shelf.disk c.args.shelf.now) (g.S.Shelf.disk c.put.new.self) c.in_err-put.field-0.0
     (c.deref.ensures.value ∙ (c.in_ok-text.ensures.plain ∙ ap plain_text c.in_ok-tape.ensures.made)) c.in_err-put.ensures.fault c.in_err-put.ensures.disk)
 
 pub returns-then-is_empty-clause-disk : goal.returns-then-is_empty-clause-disk

@@ -12,7 +12,7 @@ use Rattle.load_engine.specs.Session.{IsSaid as IsSaidOfLoad}
 use Rattle.honest_line.specs.Honest.{IsHonest}
 use Rattle.memory_end.specs.declared.pieces.Pieces.{Pieces}
 use Rattle.memory_end.specs.declared.search.Search.{Search}
-use Rattle.memory_end.specs.Passes.{ArePieces, GoesOn, IsPass, Searches, found, last_words, three_passes}
+use Rattle.memory_end.specs.Passes.{ArePieces, IsPass, SearchGoesOn, Searches, found, last_words, three_passes}
 use Rattle.reading_law.specs.Rows.{AreHonest, in_a_row}
 use Rattle.memory_end.proofs.Founds.{IsOver, passed_within}
 use Rattle.memory_end.proofs.LastWords.{last_asked}
@@ -167,7 +167,7 @@ next_at turns patience from address pieces last said long are p =
     record { even = w.0; within = w.1 }
 
 -- what is left of a search leaves the machine ready, if the passes behind this one do
-goes_on_leaves : (stop : LookStop) (to : ℕ) (next : Search → List (List Item) → Type 0) (search : Search) (parts : List (List Item)) → ((address : ℕ) → stop ≡ Ended (NoWord address) → next search parts → AllLeave parts) → GoesOn stop to next search parts → AllLeave parts
+goes_on_leaves : (stop : LookStop) (to : ℕ) (next : Search → List (List Item) → Type 0) (search : Search) (parts : List (List Item)) → ((address : ℕ) → stop ≡ Ended (NoWord address) → next search parts → AllLeave parts) → SearchGoesOn stop to next search parts → AllLeave parts
 goes_on_leaves (Ended (NoWord address)) to next search parts so is = so address refl is
 goes_on_leaves (Ended Complete) to next search parts so is = subst AllLeave (sym is.1) tt
 goes_on_leaves (Ended GaveUp) to next search parts so is = subst AllLeave (sym is.1) tt

@@ -24,7 +24,7 @@ use Rattle.memory_end.specs.declared.pieces.Pieces.{Pieces}
 use Rattle.memory_end.specs.declared.search.Search.{Search}
 use Rattle.memory_end.specs.declared.search.Search.TheVariants.{Ends, Stopped}
 use Rattle.memory_end.specs.Ending.{IsTrueEnd, FindsEnd}
-use Rattle.memory_end.specs.Passes.{ArePieces, GoesOn, IsPass, Searches, found, last_words, three_passes}
+use Rattle.memory_end.specs.Passes.{ArePieces, IsPass, SearchGoesOn, Searches, found, last_words, three_passes}
 use Rattle.reading_law.specs.Rows.{AreHonest, in_a_row}
 use Rattle.memory_end.specs.Steps.{LiesWithin, Stepped, passed}
 use Rattle.memory_end.proofs.Founds.{IsOver, all_read, lacking, paid_at, reached}
@@ -135,7 +135,7 @@ over_right turns patience from pieces (LineFailed fault) last said search are re
     searched e = cc e
 
 -- how the search goes on from there
-over_goes : (stop : Stop) (end : ℕ) (next : Search → List (List Item) → Type 0) (search : Search) → Over search ≡ passed stop end → GoesOn stop end next search []
+over_goes : (stop : Stop) (end : ℕ) (next : Search → List (List Item) → Type 0) (search : Search) → Over search ≡ passed stop end → SearchGoesOn stop end next search []
 over_goes (Ended Complete) end next search is = (searched is, refl)
   where
     searched : Over search ≡ Over (Ends end) → search ≡ Ends end
@@ -194,7 +194,7 @@ more_right turns patience from limit next pieces TurnsOver last said search part
 more_right turns patience from limit next pieces (LineFailed fault) last said search parts are reads pass is fits finds machine now lost ready reaches within honest = absurd (cc is)
 
 more_goes : (stop : Stop) (next end turns patience : ℕ) (passes : List Pieces) (search : Search) (parts : List (List Item)) → Lacking next ≡ passed stop end → Searches passes turns patience next search parts →
-    GoesOn stop end (Searches passes turns patience end) search parts
+    SearchGoesOn stop end (Searches passes turns patience end) search parts
 more_goes (Ended (NoWord a)) next end turns patience passes search parts is goes = subst (λ at. Searches passes turns patience at search parts) (here is) goes
   where
     here : {at : ℕ} → Lacking next ≡ Lacking at → next ≡ at

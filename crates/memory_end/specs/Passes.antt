@@ -48,10 +48,10 @@ found from pieces last = from + pieces.bytes * length last.values
 -- how a search goes on from a pass that stopped so and found memory up to an address, where `next` says what the passes
 -- do that are left: with these where a piece lacked its last word; where none did, memory ends behind the last; and any
 -- other stop is the search's
-abbrev pub GoesOn : Stop → ℕ → (next : Search → List (List Item) → Type 0) → Search → List (List Item) → Type 0
-GoesOn (Ended (NoWord address)) found next search parts = next search parts
-GoesOn (Ended Complete) found next search parts = (search ≡ Ends found) × (parts ≡ [])
-GoesOn stop found next search parts = (search ≡ Stopped stop) × (parts ≡ [])
+abbrev pub SearchGoesOn : Stop → ℕ → (next : Search → List (List Item) → Type 0) → Search → List (List Item) → Type 0
+SearchGoesOn (Ended (NoWord address)) found next search parts = next search parts
+SearchGoesOn (Ended Complete) found next search parts = (search ≡ Ends found) × (parts ≡ [])
+SearchGoesOn stop found next search parts = (search ≡ Stopped stop) × (parts ≡ [])
 
 -- these passes, from an address on, came to this, with what was said in each. Behind the last pass memory ends
 abbrev pub Searches : List Pieces → (turns patience from : ℕ) → Search → List (List Item) → Type 0
@@ -59,4 +59,4 @@ Searches [] turns patience from search parts = (search ≡ Ends from) × (parts 
 Searches (pieces ∷ passes) turns patience from search [] = ⊥
 Searches (pieces ∷ passes) turns patience from search (said ∷ parts) =
     (stop : Stop) × (last : Reader) × IsPass turns patience from pieces stop last said
-    × GoesOn stop (found from pieces last) (Searches passes turns patience (found from pieces last)) search parts
+    × SearchGoesOn stop (found from pieces last) (Searches passes turns patience (found from pieces last)) search parts

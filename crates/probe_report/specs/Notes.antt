@@ -47,8 +47,8 @@ pub record Noted : Type 0 where
   pub tail : List ℕ
 
 -- what is noted of what was said on a line
-abbrev pub noted : List Item → Noted
-noted items = record {
+abbrev pub notes_of : List Item → Noted
+notes_of items = record {
   prompt = has_prompt (characters items);
   only_echoes = only_echoes None items;
   last_key = typed_last None items;

@@ -2,7 +2,7 @@
 ghost use Rattle.std.specs.Prelude.{◌≡◌, ℕ, ◌==◌, ◌&&◌, ◌||◌, List, [], ◌∷◌, ◌++◌};
 ghost use Rattle.host_core.specs.Console.{prompt};
 ghost use Rattle.load_devices.specs.declared.item.Item.{Item};
-ghost use Rattle.probe_report.specs.Notes.{echoes, last_of, noted};
+ghost use Rattle.probe_report.specs.Notes.{echoes, last_of, notes_of};
 
 use arrayvec::ArrayVec;
 use host_core::Heard;
@@ -33,7 +33,7 @@ impl Model for Notes {
 impl Notes {
     /// Nothing was said.
     pub fn new() -> Notes
-        ensures { result ≡ noted [] }
+        ensures { result ≡ notes_of [] }
     {
         Notes {
             prompt: false,
@@ -45,14 +45,14 @@ impl Notes {
 
     /// Notes that a key was sent.
     pub fn sends(&mut self, key: u8)
-        ensures { (items : List Item) → self.old ≡ noted items → self.new ≡ noted (items ++ Item.Sent key ∷ []) }
+        ensures { (items : List Item) → self.old ≡ notes_of items → self.new ≡ notes_of (items ++ Item.Sent key ∷ []) }
     {
         self.last_key = Some(key);
     }
 
     /// Notes what was heard: a character, or that nothing came.
     pub fn hears(&mut self, heard: Heard)
-        ensures { (items : List Item) → self.old ≡ noted items → self.new ≡ noted (items ++ Item.Heard heard ∷ []) }
+        ensures { (items : List Item) → self.old ≡ notes_of items → self.new ≡ notes_of (items ++ Item.Heard heard ∷ []) }
     {
         match heard {
             Heard::Got(c) => {

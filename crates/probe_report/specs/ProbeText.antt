@@ -20,9 +20,9 @@ use Rattle.probe_report.specs.StyleText.{style_lines}
 use Rattle.probe_report.specs.Judging.{verdict_of}
 
 -- whether a prompt was heard
-abbrev pub prompt_text : Bool → List ℕ
-prompt_text true = codes "prompt yes"
-prompt_text false = codes "prompt no"
+abbrev pub prompt_line : Bool → List ℕ
+prompt_line true = codes "prompt yes"
+prompt_line false = codes "prompt no"
 
 -- whether the console forgets digits at an illegal key
 abbrev pub verdict_text : Verdict → List ℕ
@@ -71,7 +71,7 @@ end_name (end.LineFailed fault) = codes "LineFailed"
 -- what a probe prints of its findings, of what was heard and of its pace
 abbrev pub probe_text : Findings → Noted → Pace → List ℕ
 probe_text f notes pace =
-    line (prompt_text notes.prompt)
+    line (prompt_line notes.prompt)
     ++ heard_lines (probe_end f notes.prompt) notes
     ++ style_lines f.trial
     ++ trust_lines f f.first

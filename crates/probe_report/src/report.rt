@@ -4,7 +4,7 @@ ghost use Rattle.octal.specs.Octal.{octal_text};
 ghost use Rattle.byte_io.specs.Text.{line};
 ghost use Rattle.probe_report.specs.Ending.{probe_end};
 ghost use Rattle.probe_report.specs.ProbeText.{end_name, held_once, holds_again, longest_report, memory_lines, memory_text, probe_text};
-ghost use Rattle.probe_report.specs.ProbeText.{prompt_text, trust_lines, verdict_text, word_lines};
+ghost use Rattle.probe_report.specs.ProbeText.{prompt_line, trust_lines, verdict_text, word_lines};
 
 use crate::ending::end_of;
 use crate::findings::{Extent, Findings, Sighting};
@@ -43,7 +43,7 @@ pub fn put_report(
 }
 
 fn put_prompt(text: &mut Vec<u8>, prompt: bool) -> Result<(), AllocError>
-    ensures { OnOk result (text.new.items ≡ text.old.items ++ line (prompt_text prompt)) }
+    ensures { OnOk result (text.new.items ≡ text.old.items ++ line (prompt_line prompt)) }
 {
     if prompt {
         text.extend_from_slice(b"prompt yes\n")

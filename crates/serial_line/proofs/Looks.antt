@@ -1,9 +1,7 @@
 -- One more look in vain.
-use Rattle.std.proofs.Common.{ℕ, ◌+◌, Option, Some, None, arith}
-use Rattle.serial_line.specs.Looking.{Misses}
+use Rattle.std.proofs.Common.{ℕ, ◌+◌, Option, refl}
+use Rattle.stream_line.specs.Hearing.{GoesUpBy}
+use Rattle.stream_line.proofs.Silences.{met_then}
 
-pub misses_more : (a b d : Option ℕ) (looks : ℕ) → Misses a b looks → Misses b d 1 → Misses a d (looks + 1)
-misses_more None b d looks before more = tt
-misses_more (Some x) None d looks before more = absurd before
-misses_more (Some x) (Some y) None looks before more = absurd more
-misses_more (Some x) (Some y) (Some z) looks before more = omega arith
+pub misses_more : (a b d : Option ℕ) (looks : ℕ) → GoesUpBy a b looks → GoesUpBy b d 1 → GoesUpBy a d (looks + 1)
+misses_more a b d looks before more = met_then a b d looks 1 (looks + 1) before more refl

@@ -1,9 +1,10 @@
 -- What looks at a terminal find, and what a silence is; where the terminal doesn't tell, these say nothing.
-use Rattle.std.specs.Prelude.{◌≡◌, ◌≢◌, ◌⊎◌, ℕ, ◌≤◌, ◌+◌, ◌*◌, List, [], ◌∷◌, Option, Some, None, Result, Ok, Err, ⊤}
+use Rattle.std.specs.Prelude.{◌≢◌, ℕ, ◌≤◌, ◌+◌, ◌*◌, List, [], ◌∷◌, Option, Result, Ok, Err}
 use Rattle.std.specs.Io.KnownBytes.{Consumes, IsAtEnd}
 use Rattle.std.specs.declared.io.Error.{Error}
 use Rattle.std.specs.declared.io.ErrorKind.{ErrorKind}
 use Rattle.std.specs.declared.io.ErrorKind.TheVariants.{WouldBlock, TimedOut, Interrupted}
+use Rattle.stream_line.specs.Hearing.{GoesUpBy}
 use Rattle.serial_line.specs.declared.terminal.Look.{Look}
 use Rattle.serial_line.specs.declared.terminal.Look.TheVariants.{Byte, Nothing, Gone}
 
@@ -20,23 +21,13 @@ misses_of (Ok (Byte byte)) = 0
 misses_of (Ok Gone) = 0
 misses_of (Err error) = 0
 
--- so many more looks were in vain
-abbrev pub Misses : Option ℕ → Option ℕ → ℕ → Type 0
-Misses None new looks = ⊤
-Misses (Some before) None looks = ⊥
-Misses (Some before) (Some after) looks = after ≡ before + looks
-
 -- at most so many more looks were in vain
 abbrev pub LooksUpTo : Option ℕ → Option ℕ → ℕ → Type 0
-LooksUpTo old new most = (looks : ℕ) × Misses old new looks × (looks ≤ most)
+LooksUpTo old new most = (looks : ℕ) × GoesUpBy old new looks × (looks ≤ most)
 
 -- a silence of the quiet time: looks in vain, one for each 10 ms of it at least, and one behind them
 abbrev pub IsSilence : Option ℕ → Option ℕ → ℕ → Type 0
-IsSilence old new quiet_ms = (looks : ℕ) × Misses old new looks × (quiet_ms + 10 ≤ 10 * looks)
-
--- a reader that is told this takes it for silence
-abbrev pub EndsWaiting : ErrorKind → Type 0
-EndsWaiting kind = (kind ≡ WouldBlock) ⊎ (kind ≡ TimedOut)
+IsSilence old new quiet_ms = (looks : ℕ) × GoesUpBy old new looks × (quiet_ms + 10 ≤ 10 * looks)
 
 -- something went wrong, and not only that nothing has come
 pub record IsRealFailure (kind : ErrorKind) : Type 0 where

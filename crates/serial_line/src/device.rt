@@ -1,9 +1,10 @@
 //! A terminal as a stream that is read within a time.
-ghost use Rattle.std.specs.Prelude.{◌≡◌, ◌+◌, ◌*◌, IfErr};
+ghost use Rattle.std.specs.Prelude.{◌≡◌, ◌+◌, ◌*◌, true, IfErr};
 ghost use Rattle.std.specs.Io.{ReadsAtMost, WritesAtMost};
 ghost use Rattle.std.specs.Io.KnownBytes.{ReadConsumes, WriteAppends};
 ghost use Rattle.std.specs.IoError.{error_kind};
-ghost use Rattle.serial_line.specs.Looking.{EndsWaiting, StaysRefused, IsSilence, LooksUpTo};
+ghost use Rattle.stream_line.specs.Hearing.{ends_waiting};
+ghost use Rattle.serial_line.specs.Looking.{StaysRefused, IsSilence, LooksUpTo};
 
 use crate::pause::{in_microseconds, most_looks, pause};
 use crate::terminal::{Look, Terminal};
@@ -58,7 +59,7 @@ impl<T: Terminal, C: Clock> Read for Device<'_, T, C> {
         ensures bound { ReadsAtMost result buf.new }
         ensures bytes { ReadConsumes self.old.to_come self.new.to_come result buf.new }
         ensures looks { LooksUpTo self.old.misses self.new.misses (100 * self.old.quiet_ms + 1) }
-        ensures silence { IfErr result (λ error. EndsWaiting (error_kind error) → IsSilence self.old.misses self.new.misses self.old.quiet_ms) }
+        ensures silence { IfErr result (λ error. ends_waiting (error_kind error) ≡ true → IsSilence self.old.misses self.new.misses self.old.quiet_ms) }
         ensures same { self.new.quiet_ms ≡ self.old.quiet_ms }
     {
         if buf.is_empty() {

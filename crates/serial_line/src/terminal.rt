@@ -2,7 +2,8 @@
 ghost use Rattle.std.specs.Prelude.{ℕ, Option, None, IfOk, IfErr, OnErr};
 ghost use Rattle.std.specs.Io.KnownBytes.{Keeps};
 ghost use Rattle.std.specs.IoError.{error_kind};
-ghost use Rattle.serial_line.specs.Looking.{IsRealFailure, IsGlance, Misses, misses_of};
+ghost use Rattle.stream_line.specs.Hearing.{GoesUpBy};
+ghost use Rattle.serial_line.specs.Looking.{IsRealFailure, IsGlance, misses_of};
 
 use std::io;
 use std::io::{ErrorKind, IsTerminal, Read, Write};
@@ -33,7 +34,7 @@ pub trait Terminal: Read + Write {
         ensures found { IfOk result (IsGlance (Self.remaining self.old) (Self.remaining self.new)) }
         ensures failed { OnErr result (Keeps (Self.remaining self.old) (Self.remaining self.new)) }
         ensures kind { IfErr result (λ error. IsRealFailure (error_kind error)) }
-        ensures missed { Misses (misses self.old) (misses self.new) (misses_of result) };
+        ensures missed { GoesUpBy (misses self.old) (misses self.new) (misses_of result) };
 }
 
 impl<T: Read + Write + IsTerminal> Terminal for T {

@@ -1,3 +1,3 @@
 pub mod Asked
 mod Dropping
-mod Silences
+pub mod Silences

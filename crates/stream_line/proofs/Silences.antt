@@ -1,17 +1,17 @@
 -- How often the time limit is met.
 use Rattle.std.proofs.Common.{◌≡◌, ℕ, ◌+◌, Option, Some, None, Ok, Err, Result, arith}
 use Rattle.load_devices.specs.declared.fault.LineFault.{LineFault}
-use Rattle.stream_line.specs.Hearing.{MeetsLimit, limits_met}
+use Rattle.stream_line.specs.Hearing.{GoesUpBy, limits_met}
 
 -- so many times, and then so many more
-met_then : (a b d : Option ℕ) (times more all : ℕ) → MeetsLimit a b times → MeetsLimit b d more → times + more ≡ all → MeetsLimit a d all
+pub met_then : (a b d : Option ℕ) (times more all : ℕ) → GoesUpBy a b times → GoesUpBy b d more → times + more ≡ all → GoesUpBy a d all
 met_then None b d times more all before then sum = tt
 met_then (Some x) None d times more all before then sum = absurd before
 met_then (Some x) (Some y) None times more all before then sum = absurd then
 met_then (Some x) (Some y) (Some z) times more all before then sum = omega arith
 
 -- a byte that came is no silence
-pub unmet_more : (a b d : Option ℕ) (byte : ℕ) → MeetsLimit a b 0 → MeetsLimit b d (limits_met (Ok (Some byte))) → MeetsLimit a d 0
+pub unmet_more : (a b d : Option ℕ) (byte : ℕ) → GoesUpBy a b 0 → GoesUpBy b d (limits_met (Ok (Some byte))) → GoesUpBy a d 0
 unmet_more a b d byte before more = met_then a b d 0 0 0 before more (omega arith)
 
 -- a receipt that gave something did not fail

@@ -29,11 +29,11 @@ abbrev pub IsCharacter : Heard → Type 0
 IsCharacter (Got c) = (c < 128) × (c ≢ 0)
 IsCharacter Quiet = ⊤
 
--- a stream's time limit was met so many times more, where the stream tells
-abbrev pub MeetsLimit : Option ℕ → Option ℕ → ℕ → Type 0
-MeetsLimit None new times = ⊤
-MeetsLimit (Some before) None times = ⊥
-MeetsLimit (Some before) (Some after) times = after ≡ before + times
+-- a told count goes up by so many, and is still told
+abbrev pub GoesUpBy : Option ℕ → Option ℕ → ℕ → Type 0
+GoesUpBy None new times = ⊤
+GoesUpBy (Some before) None times = ⊥
+GoesUpBy (Some before) (Some after) times = after ≡ before + times
 
 -- silence is heard where the time limit was met once, all else where it was not
 abbrev pub silences_of : Result Heard LineFault → ℕ

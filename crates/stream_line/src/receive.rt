@@ -1,7 +1,7 @@
 ghost use Rattle.std.specs.Prelude.{◌≡◌, ℕ, List, Option, None, Bool, true, false, IfOk, IfErr, Ok, Err};
 ghost use Rattle.std.specs.Io.{ReadsAtMost};
 ghost use Rattle.std.specs.Io.KnownBytes.{ReadConsumes};
-ghost use Rattle.stream_line.specs.Hearing.{IsReceipt, IsReceiptFault, MeetsLimit, limits_met, limits_of};
+ghost use Rattle.stream_line.specs.Hearing.{GoesUpBy, IsReceipt, IsReceiptFault, limits_met, limits_of};
 
 use load_devices::LineFault;
 use std::io;
@@ -32,7 +32,7 @@ pub trait TimedStream: Write + OpenStream {
     fn read_in_time(&mut self, buf: &mut [u8]) -> io::Result<usize>
         ensures bound { ReadsAtMost result buf.new }
         ensures bytes { ReadConsumes (to_come self.old) (to_come self.new) result buf.new }
-        ensures limit { MeetsLimit (silences self.old) (silences self.new) (limits_of result) }
+        ensures limit { GoesUpBy (silences self.old) (silences self.new) (limits_of result) }
         ensures over { is_over self.old ≡ true → result ≡ Ok 0 };
 }
 
@@ -51,7 +51,7 @@ impl<S: Read + Write + OpenStream> TimedStream for S {
 pub(crate) fn receive<S: TimedStream>(stream: &mut S) -> Result<Option<u8>, LineFault>
     ensures received { IfOk result (IsReceipt (S.to_come stream.old) (S.to_come stream.new)) }
     ensures fault { IfErr result (IsReceiptFault (S.to_come stream.old) (S.to_come stream.new)) }
-    ensures silence { MeetsLimit (S.silences stream.old) (S.silences stream.new) (limits_met result) }
+    ensures silence { GoesUpBy (S.silences stream.old) (S.silences stream.new) (limits_met result) }
     ensures over { S.is_over stream.old ≡ true → result ≡ Err LineFault.Closed }
 {
     let mut byte = [0u8; 1];

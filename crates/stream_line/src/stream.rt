@@ -1,7 +1,7 @@
 //! What is made of the bytes of a stream.
 ghost use Rattle.std.specs.Prelude.{◌≡◌, true, IfOk, IfErr, OnOk, Err, [], ◌∷◌};
 ghost use Rattle.std.specs.Io.KnownBytes.{Appends};
-ghost use Rattle.stream_line.specs.Hearing.{IsHearing, IsHearingFault, IsSentInPart, MeetsLimit, silences_of};
+ghost use Rattle.stream_line.specs.Hearing.{GoesUpBy, IsHearing, IsHearingFault, IsSentInPart, silences_of};
 
 use crate::receive::{TimedStream, receive};
 use host_core::Heard;
@@ -19,7 +19,7 @@ const MOST_DROPPED: u32 = 4096;
 pub(crate) fn hear_from<S: TimedStream>(stream: &mut S) -> Result<Heard, LineFault>
     ensures heard { IfOk result (IsHearing (S.to_come stream.old) (S.to_come stream.new)) }
     ensures fault { IfErr result (IsHearingFault (S.to_come stream.old) (S.to_come stream.new)) }
-    ensures silence { MeetsLimit (S.silences stream.old) (S.silences stream.new) (silences_of result) }
+    ensures silence { GoesUpBy (S.silences stream.old) (S.silences stream.new) (silences_of result) }
     ensures over { S.is_over stream.old ≡ true → result ≡ Err LineFault.Closed }
 {
     for _ in 0..MOST_DROPPED {

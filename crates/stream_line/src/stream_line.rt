@@ -1,7 +1,7 @@
 ghost use Rattle.std.specs.Prelude.{◌≡◌, [], ◌∷◌, true, None, IfOk, IfErr, OnOk, Err};
 ghost use Rattle.std.specs.Io.KnownBytes.{Appends};
 ghost use Rattle.load_devices.specs.Failures.{count_after, fault_of};
-ghost use Rattle.stream_line.specs.Hearing.{IsCharacter, IsHearing, IsHearingFault, IsSentInPart, MeetsLimit, silences_of};
+ghost use Rattle.stream_line.specs.Hearing.{GoesUpBy, IsCharacter, IsHearing, IsHearingFault, IsSentInPart, silences_of};
 
 use crate::receive::TimedStream;
 use crate::stream::{hear_from, send_to};
@@ -108,7 +108,7 @@ impl<S: TimedStream> Line for StreamLine<S> {
         ensures character { IfOk result IsCharacter }
         ensures taken { IfOk result (IsHearing self.old.to_come self.new.to_come) }
         ensures failed { IfErr result (IsHearingFault self.old.to_come self.new.to_come) }
-        ensures silence { MeetsLimit self.old.silences self.new.silences (silences_of result) }
+        ensures silence { GoesUpBy self.old.silences self.new.silences (silences_of result) }
         ensures over { self.old.is_over ≡ true → result ≡ Err LineFault.Closed }
         ensures counted { self.new.failures ≡ count_after self.old.failures result }
         ensures fault { self.new.fault ≡ fault_of result }

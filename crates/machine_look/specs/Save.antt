@@ -38,6 +38,7 @@ pub record SaveTold : Type 0 where
   pub call : Call
   pub out : Option (List ℕ)
 
+-- what this shelf, this console and this output tell, read by what each of them says of itself
 abbrev pub save_told : {S R W : Type 0} → (S → Option (List Step)) → (R → Option (List LineRequest)) → (R → Call) → (W → Option (List ℕ)) → S → R → W → SaveTold
 save_told steps_of asked_of call_of contents shelf console out =
     record { steps = steps_of shelf; asked = asked_of console; call = call_of console; out = contents out }

@@ -168,7 +168,7 @@ made_search : (options : ProbeOptions) (wanted : Bool) (found : Option Extent) (
     AreHonest machine parts lost now → (now.memory ≡ machine.memory) × ((top : ℕ) → found ≡ Some (extent.Top top) → top_of machine.memory ≡ top)
 made_search options true None parts machine now lost is ready honest = absurd is
 made_search options true (Some given) parts machine now lost is ready honest =
-    let r = is.found machine now lost ready.console ready.stopped honest in
+    let r = is.found machine now lost ready honest in
     (r.0, λ top same. end_right is.search machine.memory options.patience lost top r.1 (sym (cc same) ∙ is.extent_is))
 made_search options false None parts machine now lost is ready honest = ((none_leaves machine now parts lost is ready honest).memory, λ top same. absurd (cc same))
 made_search options false (Some given) parts machine now lost is ready honest = absurd is

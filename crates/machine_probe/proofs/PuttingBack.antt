@@ -3,8 +3,7 @@ use Rattle.std.proofs.Common.{◌≡◌, ℕ, ◌+◌, ◌<◌, Bool, true, fals
 use Rattle.tape_image.specs.Word.{Stands, whole_word}
 use Rattle.tape_image.specs.Plan.{PlanValue}
 use Rattle.tape_image.proofs.Halves.{halves_make_word, merged-Stands}
-use Rattle.odt_machine.specs.Machine.{Machine, IsMachine, is_word, word_at}
-use Rattle.odt_machine.specs.Laws.{is_running}
+use Rattle.odt_machine.specs.Machine.{Machine, is_word, word_at}
 use Rattle.host_core.specs.declared.heard.Heard.{Heard}
 use Rattle.host_core.specs.declared.phase.End.TheVariants.{Loaded, Started, Uncertain, MaybeStarted, GaveUp, NoWord, WontHold}
 use Rattle.host_core.specs.declared.phase.Phase.{Phase}
@@ -17,6 +16,7 @@ use Rattle.load_devices.specs.declared.item.Kept.{Kept}
 use Rattle.load_devices.specs.Dialogue.{dialogue}
 use Rattle.honest_line.specs.Trust.{IsTrusted, IsTrustworthy, MayBegin}
 use Rattle.honest_line.proofs.Trusted.{trustworthy}
+use Rattle.reading_law.specs.Belief.{IsReadyMachine}
 use Rattle.load_engine.specs.declared.stop.Stop.{Stop}
 use Rattle.load_engine.specs.declared.stop.Stop.TheVariants.{Ended, LineFailed, KeepFailed, TurnsOver}
 use Rattle.load_engine.specs.Session.{Session, TellsEnd}
@@ -60,22 +60,22 @@ holds before address old last now keys lost words all trusted =
     )
 
 -- a life that begins without a verified word may begin over every machine that runs no program
-may_begin : (plan : PlanValue) (patience : ℕ) (machine : Machine) → IsMachine machine → is_running machine.mode ≡ false → MayBegin (begun plan 0 false patience) machine
-may_begin plan patience machine console stopped = record {
+may_begin : (plan : PlanValue) (patience : ℕ) (machine : Machine) → IsReadyMachine machine → MayBegin (begun plan 0 false patience) machine
+may_begin plan patience machine ready = record {
   begun = refl;
-  console = console;
-  stopped = stopped;
+  console = ready.console;
+  stopped = ready.stopped;
   lies = λ i below. absurd (omega arith);
   stands = λ i below. absurd (omega arith);
 }
 
 holds_again : (address old patience : ℕ) (plan : PlanValue) (last : Core) (heard : List Heard) (said : List Item) → IsPlanOfWord address old plan → IsHost (begun plan 0 false patience) →
     last ≡ led (begun plan 0 false patience) heard → said ≡ dialogue (begun plan 0 false patience) heard → last.plan ≡ plan → last.verified ≡ length last.plan.words → HoldsAgain address old said
-holds_again address old patience plan last heard said of host led_to said_is same all machine now lost console stopped honest =
+holds_again address old patience plan last heard said of host led_to said_is same all machine now lost ready honest =
     let first : Core = begun plan 0 false patience in
     let trust : IsTrustworthy first last said 0 =
     subst (λ (core : Core). IsTrustworthy first core said 0) (sym led_to) (subst (λ items. IsTrustworthy first (led first heard) items 0) (sym said_is) (trustworthy first heard host)) in
-    holds machine.memory address old last now.memory _ (lost + 0) (ap (λ (p : PlanValue). p.words) same ∙ of.words) all (trust machine now lost (may_begin plan patience machine console stopped) honest)
+    holds machine.memory address old last now.memory _ (lost + 0) (ap (λ (p : PlanValue). p.words) same ∙ of.words) all (trust machine now lost (may_begin plan patience machine ready) honest)
 
 -- ---- what was driven
 

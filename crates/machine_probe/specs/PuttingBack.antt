@@ -2,8 +2,7 @@
 use Rattle.std.specs.Prelude.{◌≡◌, ℕ, Bool, true, false, List, [], ◌∷◌, Option, Some, None}
 use Rattle.tape_image.specs.Word.{whole_word}
 use Rattle.tape_image.specs.Plan.{PlanValue}
-use Rattle.odt_machine.specs.Machine.{Machine, IsMachine, is_word, word_at}
-use Rattle.odt_machine.specs.Laws.{is_running}
+use Rattle.odt_machine.specs.Machine.{Machine, is_word, word_at}
 use Rattle.host_core.specs.declared.phase.End.TheVariants.{Loaded}
 use Rattle.host_core.specs.Core.{Core, begun}
 use Rattle.host_core.specs.Host.{IsHost}
@@ -11,6 +10,7 @@ use Rattle.load_devices.specs.declared.item.Item.{Item}
 use Rattle.load_devices.specs.declared.item.Kept.{Kept}
 use Rattle.load_devices.specs.Told.{Gains}
 use Rattle.honest_line.specs.Honest.{IsHonest}
+use Rattle.reading_law.specs.Belief.{IsReadyMachine}
 use Rattle.load_engine.specs.declared.stop.Stop.{Stop}
 use Rattle.load_engine.specs.declared.stop.Stop.TheVariants.{Ended}
 use Rattle.load_engine.specs.Session.{Session, TellsEnd}
@@ -36,7 +36,7 @@ is_loaded stop = false
 -- over every machine that runs no program, and an honest line, the word holds the old number now
 abbrev pub HoldsAgain : ℕ → ℕ → List Item → Type 0
 HoldsAgain address old said =
-    (machine now : Machine) (lost : ℕ) → IsMachine machine → is_running machine.mode ≡ false → IsHonest machine said lost now →
+    (machine now : Machine) (lost : ℕ) → IsReadyMachine machine → IsHonest machine said lost now →
     (is_word now.memory address ≡ true) × (word_at now.memory address ≡ old)
 
 -- this was said by a host that loaded this one word, for at most so many turns; and whether it came to its end

@@ -238,7 +238,7 @@ finds_end turns patience search line line' run = record {
   parts = run.parts;
   passes = run.searches;
   on_line = run.on_line;
-  believed = λ machine now lost is stopped honest. run.finds machine now lost record { console = is; stopped = stopped } (omega arith) (omega (arith, is.size)) honest;
+  believed = λ machine now lost ready honest. run.finds machine now lost ready (omega arith) (omega (arith, ready.console.size)) honest;
 }
 
 -- the first pass ended the search

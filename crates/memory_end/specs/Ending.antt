@@ -1,8 +1,7 @@
 -- What a search for the end of memory says, and what of it may be believed.
-use Rattle.std.specs.Prelude.{◌≡◌, ℕ, ◌<◌, false, List, Option, Some, None, ⊤}
+use Rattle.std.specs.Prelude.{◌≡◌, ℕ, ◌<◌, List, Option, Some, None, ⊤}
 use Rattle.tape_image.specs.Memory.{top_of}
-use Rattle.odt_machine.specs.Machine.{Machine, IsMachine}
-use Rattle.odt_machine.specs.Laws.{is_running}
+use Rattle.odt_machine.specs.Machine.{Machine}
 use Rattle.load_devices.specs.declared.item.Item.{Item}
 use Rattle.load_devices.specs.Told.{Gains}
 use Rattle.reading_core.specs.declared.phase.End.TheVariants.{GaveUp}
@@ -11,6 +10,7 @@ use Rattle.reading_engine.specs.declared.stop.Stop.TheVariants.{Ended}
 use Rattle.memory_end.specs.declared.search.Search.{Search}
 use Rattle.memory_end.specs.declared.search.Search.TheVariants.{Ends, Stopped}
 use Rattle.memory_end.specs.Passes.{Searches, three_passes}
+use Rattle.reading_law.specs.Belief.{IsReadyMachine}
 use Rattle.reading_law.specs.Rows.{AreHonest, in_a_row}
 
 -- the stop that ended the search, if one did
@@ -27,7 +27,7 @@ IsTrueEnd (Stopped stop) memory patience lost = ⊤
 -- over every machine that runs no program, and honest lines in a row: memory is what it was, and what is answered is so
 abbrev pub IsFound : ℕ → Search → List (List Item) → Type 0
 IsFound patience search parts =
-    (machine now : Machine) (lost : ℕ) → IsMachine machine → is_running machine.mode ≡ false → AreHonest machine parts lost now →
+    (machine now : Machine) (lost : ℕ) → IsReadyMachine machine → AreHonest machine parts lost now →
     (now.memory ≡ machine.memory) × IsTrueEnd search machine.memory patience lost
 
 -- a search with so many turns in each pass came to this, with what the line told before and tells after

@@ -1,5 +1,5 @@
 -- The tape that holds what was read (this project's own).
-use Rattle.std.specs.Prelude.{◌≡◌, ℕ, zero, suc, ◌+◌, ◌*◌, ◌/◌, ◌<◌, List, [], ◌∷◌, ◌++◌, length, take, drop, slice_index}
+use Rattle.std.specs.Prelude.{◌≡◌, ℕ, zero, suc, ◌+◌, ◌-◌, ◌*◌, ◌/◌, ◌<◌, List, [], ◌∷◌, ◌++◌, length, take, drop, slice_index}
 use Rattle.std.specs.List.{flat_map}
 use Rattle.std.specs.FinMap.{get}
 use Rattle.tape_blocks.specs.Block.{BlockValue, block_at, low_first}
@@ -7,9 +7,13 @@ use Rattle.tape_blocks.specs.Tape.{TapeValue}
 use Rattle.tape_image.specs.Word.{WordValue, whole_word}
 use Rattle.tape_image.specs.Plan.{plan_of, given_byte, program_start}
 
--- block number k of the numbers from an address on: 256 of them, or as many as are left, each with its low byte first
+-- how many words a block holds, but for the last: 512 bytes
+abbrev pub block_words : ℕ
+block_words = 256
+
+-- block number k of the numbers from an address on: so many of them, or as many as are left, each with its low byte first
 abbrev pub saved_block : ℕ → List ℕ → ℕ → BlockValue
-saved_block from numbers k = block_at (from + 512 * k) (flat_map low_first (take 256 (drop (256 * k) numbers)))
+saved_block from numbers k = block_at (from + 2 * block_words * k) (flat_map low_first (take block_words (drop (block_words * k) numbers)))
 
 -- the first n blocks
 unfoldable pub saved_blocks : ℕ → List ℕ → ℕ → List BlockValue
@@ -18,7 +22,7 @@ saved_blocks from numbers (suc n) = saved_blocks from numbers n ++ saved_block f
 
 -- the tape of the numbers that stand from an address on, in as few blocks as hold them
 abbrev pub saved_tape : ℕ → List ℕ → ℕ → TapeValue
-saved_tape from numbers start = record { blocks = saved_blocks from numbers ((length numbers + 255) / 256); start = start }
+saved_tape from numbers start = record { blocks = saved_blocks from numbers ((length numbers + (block_words - 1)) / block_words); start = start }
 
 -- the words that were read: the numbers at the first of the addresses
 abbrev pub words_read : List ℕ → List ℕ → List WordValue

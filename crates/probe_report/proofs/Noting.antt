@@ -3,7 +3,7 @@ use Rattle.std.proofs.Common.{◌≡◌, ℕ, Bool, true, false, ◌&&◌, ◌||
 use Rattle.host_core.specs.declared.heard.Heard.TheVariants.{Got, Quiet}
 use Rattle.load_devices.specs.declared.item.Item.{Item}
 use Rattle.load_devices.specs.declared.item.Item.TheVariants.{Sent, Heard as Came}
-use Rattle.probe_report.specs.Notes.{Noted, characters, echoes, has_prompt, last_of, notes_of, only_echoes, typed_last}
+use Rattle.probe_report.specs.Notes.{Noted, characters, echoes, has_prompt, last_of, notes_of, only_echoes, tail_length, typed_last}
 
 -- ---- lists that are joined
 
@@ -60,20 +60,20 @@ noted_sent items key =
     let same : characters items ≡ characters (items ++ Sent key ∷ []) = sym (characters-append items (Sent key ∷ []) ∙ append-nil (characters items)) in
     noted_by (record (notes_of items) { last_key = Some key }) (notes_of (items ++ Sent key ∷ []))
     (ap has_prompt same) (sym (only_echoes-append None items (Sent key ∷ []) ∙ and_true (only_echoes None items)))
-    (sym (typed_last-append None items (Sent key ∷ []))) (ap (last_of 40) same)
+    (sym (typed_last-append None items (Sent key ∷ []))) (ap (last_of tail_length) same)
 
 pub noted_quiet : (items : List Item) → notes_of items ≡ notes_of (items ++ Came Quiet ∷ [])
 noted_quiet items =
     let same : characters items ≡ characters (items ++ Came Quiet ∷ []) = sym (characters-append items (Came Quiet ∷ []) ∙ append-nil (characters items)) in
     noted_by (notes_of items) (notes_of (items ++ Came Quiet ∷ []))
     (ap has_prompt same) (sym (only_echoes-append None items (Came Quiet ∷ []) ∙ and_true (only_echoes None items)))
-    (sym (typed_last-append None items (Came Quiet ∷ []))) (ap (last_of 40) same)
+    (sym (typed_last-append None items (Came Quiet ∷ []))) (ap (last_of tail_length) same)
 
 pub noted_got : (items : List Item) (c : ℕ) (n : Noted) → n.prompt ≡ (has_prompt (characters items) || (c == 64)) → n.only_echoes ≡ (only_echoes None items && echoes (typed_last None items) c)
-    → n.last_key ≡ typed_last None items → n.tail ≡ last_of 40 (characters items ++ c ∷ []) → n ≡ notes_of (items ++ Came (Got c) ∷ [])
+    → n.last_key ≡ typed_last None items → n.tail ≡ last_of tail_length (characters items ++ c ∷ []) → n ≡ notes_of (items ++ Came (Got c) ∷ [])
 noted_got items c n prompt echo key tail =
     let chars : characters (items ++ Came (Got c) ∷ []) ≡ characters items ++ c ∷ [] = characters-append items (Came (Got c) ∷ []) in
     noted_by n (notes_of (items ++ Came (Got c) ∷ []))
     (prompt ∙ sym (ap has_prompt chars ∙ (has_prompt-append (characters items) (c ∷ []) ∙ ap (λ b. has_prompt (characters items) || b) (or_false (c == 64)))))
     (echo ∙ sym (only_echoes-append None items (Came (Got c) ∷ []) ∙ ap (λ b. only_echoes None items && b) (and_true (echoes (typed_last None items) c))))
-    (key ∙ sym (typed_last-append None items (Came (Got c) ∷ []))) (tail ∙ ap (last_of 40) (sym chars))
+    (key ∙ sym (typed_last-append None items (Came (Got c) ∷ []))) (tail ∙ ap (last_of tail_length) (sym chars))

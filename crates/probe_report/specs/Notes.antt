@@ -39,7 +39,11 @@ only_echoes last (Sent key ∷ items) = only_echoes (Some key) items
 abbrev pub last_of : ℕ → List ℕ → List ℕ
 last_of n xs = drop (length xs - n) xs
 
--- whether a prompt was heard, whether nothing but echoes was, the key that was typed last, and the last 40 characters heard
+-- how many of the characters heard last are kept, for the line of a report that shows them
+abbrev pub tail_length : ℕ
+tail_length = 40
+
+-- whether a prompt was heard, whether nothing but echoes was, the key that was typed last, and the last characters heard
 pub record Noted : Type 0 where
   pub prompt : Bool
   pub only_echoes : Bool
@@ -52,5 +56,5 @@ notes_of items = record {
   prompt = has_prompt (characters items);
   only_echoes = only_echoes None items;
   last_key = typed_last None items;
-  tail = last_of 40 (characters items);
+  tail = last_of tail_length (characters items);
 }

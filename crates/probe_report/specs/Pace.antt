@@ -11,16 +11,34 @@ abbrev pub key_lines : Option ℕ → List ℕ
 key_lines None = []
 key_lines (Some key) = line (codes "key " ++ decimal (nearest key 100 / 10) ++ codes "." ++ decimal (nearest key 100 % 10) ++ codes " ms")
 
--- the time of a load, in twenty-fifths of a microsecond: a load types 62 characters for each 25 of a look
+-- the characters on the line for a word that is deposited: 22 keys and 40 answers
+abbrev pub load_characters : ℕ
+load_characters = 62
+
+-- and for one that is looked at: 8 keys and 17 answers. So what a look takes in microseconds a character takes in twenty-fifths of one
+abbrev pub look_characters : ℕ
+look_characters = 25
+
+-- the time of a load of so many words, in twenty-fifths of a microsecond
 abbrev pub load_time : ℕ → ℕ → ℕ
-load_time look words = look * 62 * words
+load_time look words = look * load_characters * words
+
+-- a second, in these
+abbrev pub second : ℕ
+second = 1000000 * look_characters
+
+abbrev pub minute : ℕ
+minute = 60 * second
+
+abbrev pub hour : ℕ
+hour = 60 * minute
 
 -- a time that is given in twenty-fifths of a microsecond: in seconds below 120 of them, in minutes below 120 of them, else in hours
 abbrev pub duration_text : ℕ → List ℕ
 duration_text time =
-    if nat_lt time 3000000000 then decimal (nearest time 25000000) ++ codes " seconds"
-    else if nat_lt time 180000000000 then decimal (nearest time 1500000000) ++ codes " minutes"
-    else decimal (nearest time 90000000000) ++ codes " hours"
+    if nat_lt time (120 * second) then decimal (nearest time second) ++ codes " seconds"
+    else if nat_lt time (120 * minute) then decimal (nearest time minute) ++ codes " minutes"
+    else decimal (nearest time hour) ++ codes " hours"
 
 -- the time of a load of so many words, where a look took so many microseconds
 abbrev pub load_lines : Option ℕ → ℕ → List ℕ

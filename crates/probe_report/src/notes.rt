@@ -2,7 +2,7 @@
 ghost use Rattle.std.specs.Prelude.{◌≡◌, ℕ, ◌==◌, ◌&&◌, ◌||◌, List, [], ◌∷◌, ◌++◌};
 ghost use Rattle.host_core.specs.Console.{prompt};
 ghost use Rattle.load_devices.specs.declared.item.Item.{Item};
-ghost use Rattle.probe_report.specs.Notes.{echoes, last_of, notes_of};
+ghost use Rattle.probe_report.specs.Notes.{echoes, last_of, notes_of, tail_length};
 
 use arrayvec::ArrayVec;
 use host_core::Heard;
@@ -105,7 +105,7 @@ fn prompt_by_now(so_far: bool, c: u8) -> bool
 
 // Puts a character at the end of the last ones, and drops the oldest where there is no room for it.
 fn push_last(tail: &mut ArrayVec<u8, TAIL>, c: u8)
-    ensures { (all : List ℕ) → tail.old.items ≡ last_of 40 all → tail.new.items ≡ last_of 40 (all ++ c ∷ []) }
+    ensures { (all : List ℕ) → tail.old.items ≡ last_of tail_length all → tail.new.items ≡ last_of tail_length (all ++ c ∷ []) }
 {
     if tail.is_full() {
         tail.remove(0);

@@ -24,7 +24,7 @@ use Rattle.machine_probe.specs.declared.probe_options.ProbeOptions.{ProbeOptions
 use Rattle.machine_probe.specs.declared.putting_back.Deposit.{Deposit}
 use Rattle.machine_probe.specs.Came.{attempt_of, first_of, sighting_of}
 use Rattle.machine_probe.specs.Follow.{IsBrokenOff, IsProbe, Made, forgets, goes_on, is_number, number_in, stores}
-use Rattle.machine_probe.specs.PuttingBack.{IsPutBack, PutsBack}
+use Rattle.machine_probe.specs.PuttingBack.{PutsBack}
 use Rattle.machine_probe.specs.Rooms.{HasDeposit}
 use Rattle.machine_probe.specs.Runs.{LooksAt, IsSearch, IsTrialOf, OnLine, One}
 use Rattle.machine_probe.specs.Turns.{turns_of}
@@ -93,13 +93,6 @@ trial_is options old first last stop turns attempt line line' begins limit s end
       attempt_is = came;
     }) s.on_line
 
--- what the load of the one word answers puts it back
-pub puts_is : (options : ProbeOptions) (old turns : ℕ) (is_back : Bool) (line line' : Option (List Item)) → turns ≡ turns_of options.patience → IsPutBack options.address old options.patience turns is_back line line' →
-    OnLine (One (PutsBack options.address old options.patience (turns_of options.patience) is_back)) line line'
-puts_is options old turns is_back line line' limit s =
-    one (PutsBack options.address old options.patience (turns_of options.patience) is_back) line line' s.said
-    (subst (λ (n : ℕ). PutsBack options.address old options.patience n is_back s.said) limit s.puts) s.on_line
-
 -- ---- runs that are made, or not
 
 pub made : {A : Type 0} (wanted : Bool) (run : A → List (List Item) → Type 0) (found : A) (line line' : Option (List Item)) → wanted ≡ true → OnLine (run found) line line' → OnLine (Made wanted run (Some found)) line line'
@@ -145,7 +138,7 @@ pub all_runs : (options : ProbeOptions) (f : Findings) (verdict : Verdict) (l0 l
     OnLine (One (LooksAt options f.first)) l0 l1 →
     OnLine (Made (is_number f.first) (λ attempt. One (IsTrialOf options (number_in f.first) attempt)) f.trial) l1 l2 →
     OnLine (Made (goes_on f.trial) (λ sighting. One (LooksAt options sighting)) f.second) l2 l3 →
-    OnLine (Made (stores (verdict_of f)) (λ is_back. One (PutsBack options.address (number_in f.first) options.patience (turns_of options.patience) is_back)) f.put_back) l3 l4 →
+    OnLine (Made (stores (verdict_of f)) (λ is_back. One (PutsBack options (number_in f.first) is_back)) f.put_back) l3 l4 →
     verdict ≡ verdict_of f → OnLine (Made (forgets verdict) (IsSearch options) f.search) l4 l5 →
     OnLine (IsProbe options f) l0 l5
 all_runs options f verdict l0 l1 l2 l3 l4 l5 address a b c d judged e = record {
@@ -185,7 +178,7 @@ pub unsearched : (options : ProbeOptions) (f : Findings) (put_back : Option Bool
     OnLine (One (LooksAt options f.first)) l0 l1 →
     OnLine (Made (is_number f.first) (λ attempt. One (IsTrialOf options (number_in f.first) attempt)) f.trial) l1 l2 →
     OnLine (Made (goes_on f.trial) (λ sighting. One (LooksAt options sighting)) f.second) l2 l3 →
-    OnLine (Made (stores (verdict_of f)) (λ is_back. One (PutsBack options.address (number_in f.first) options.patience (turns_of options.patience) is_back)) put_back) l3 l4 →
+    OnLine (Made (stores (verdict_of f)) (λ is_back. One (PutsBack options (number_in f.first) is_back)) put_back) l3 l4 →
     verdict ≡ verdict_of f → forgets verdict ≡ true → SaysNothing l4 l5 → OnLine (IsBrokenOff options) l0 l5
 unsearched options f put_back verdict l0 l1 l2 l3 l4 l5 a b c d judged is kept =
     let same = ap forgets (sym judged) ∙ is in

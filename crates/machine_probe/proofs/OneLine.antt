@@ -136,10 +136,10 @@ told_load (load.KeepFailed fault) left all said lacks = inr lacks
 told_load (load.LineFailed fault) left all said (inl whole) = inl whole.0
 told_load (load.LineFailed fault) left all said (inr lacks) = inr lacks
 
-deposit_begins : (address old patience turns : ℕ) (is_back : Bool) (said : List Item) → PutsBack address old patience turns is_back said → BeginsByListening said
-deposit_begins address old patience turns is_back said p =
+deposit_begins : (options : ProbeOptions) (old : ℕ) (is_back : Bool) (said : List Item) → PutsBack options old is_back said → BeginsByListening said
+deposit_begins options old is_back said p =
     let s = p.session in
-    let core : Core = begun_load p.plan 0 false patience in
+    let core : Core = begun_load p.plan 0 false options.patience in
     told_begins (load_dialogue core s.heard) said (subst (IsToldOf (load_dialogue core s.heard)) (sym s.on_line) (told_load p.stop _ (load_dialogue core s.heard) s.said s.items)) (load_begins core s.heard)
 
 -- ---- the passes of the search
@@ -212,12 +212,12 @@ one_then_all run (said ∷ (next ∷ parts)) rest so is all = absurd is
 
 -- behind the second look: the old number is put back or the end of memory is searched, and not both
 behind_second : (options : ProbeOptions) (verdict : Verdict) (old : ℕ) (put_back : Option Bool) (search : Option Extent) (xs ys : List (List Item)) →
-    Made (stores verdict) (λ is_back. One (PutsBack options.address old options.patience (turns_of options.patience) is_back)) put_back xs → Made (forgets verdict) (IsSearch options) search ys →
-    ((is_back : Bool) (said : List Item) → PutsBack options.address old options.patience (turns_of options.patience) is_back said → BeginsByListening said) → options.patience < 2 ^ 32 →
+    Made (stores verdict) (λ is_back. One (PutsBack options old is_back)) put_back xs → Made (forgets verdict) (IsSearch options) search ys →
+    ((is_back : Bool) (said : List Item) → PutsBack options old is_back said → BeginsByListening said) → options.patience < 2 ^ 32 →
     AllLeave (xs ++ ys) ⊎ AreHosts (xs ++ ys)
 behind_second options Stores old None search xs ys deposits searches begins long = absurd deposits
 behind_second options Stores old (Some is_back) None xs ys deposits searches begins long =
-    inr (subst (λ list. AreHosts (xs ++ list)) (sym searches) (one_hosts (PutsBack options.address old options.patience (turns_of options.patience) is_back) xs (begins is_back) deposits))
+    inr (subst (λ list. AreHosts (xs ++ list)) (sym searches) (one_hosts (PutsBack options old is_back) xs (begins is_back) deposits))
 behind_second options Stores old (Some is_back) (Some extent) xs ys deposits searches begins long = absurd searches
 behind_second options Forgets old None None xs ys deposits searches begins long = absurd searches
 behind_second options Forgets old None (Some extent) xs ys deposits searches begins long =
@@ -247,7 +247,7 @@ hosts options f parts address long p (inr are) =
 pub believes_over : (options : ProbeOptions) (f : Findings) (parts : List (List Item)) → IsAddress options.address → options.patience < 2 ^ 32 →
     IsProbe options f parts → IsBelievableOver f parts
 believes_over options f parts address long p machine now lost ready honest =
-    let begins = deposit_begins options.address (number_in f.first) options.patience (turns_of options.patience) in
+    let begins = deposit_begins options (number_in f.first) in
     let behind = behind_second options (verdict_of f) (number_in f.first) f.put_back f.search p.in_deposit p.in_search p.deposited p.searched begins long in
     believes options f parts address long p machine now lost ready
     (row_of_line machine now parts lost ready (subst AreHosts (sym p.parts_are) (hosts options f parts address long p behind)) honest)

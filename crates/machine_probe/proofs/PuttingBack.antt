@@ -21,7 +21,11 @@ use Rattle.load_engine.specs.declared.stop.Stop.{Stop}
 use Rattle.load_engine.specs.declared.stop.Stop.TheVariants.{Ended, LineFailed, KeepFailed, TurnsOver}
 use Rattle.load_engine.specs.Session.{Session, TellsEnd}
 use Rattle.machine_probe.specs.declared.putting_back.Deposit.{Deposit}
-use Rattle.machine_probe.specs.PuttingBack.{HoldsAgain, IsDeposit, IsPlanOfWord, IsPutBack, is_loaded}
+use Rattle.machine_probe.specs.declared.probe_options.ProbeOptions.{ProbeOptions}
+use Rattle.machine_probe.specs.PuttingBack.{HoldsAgain, IsDeposit, IsPlanOfWord, PutsBack, is_loaded}
+use Rattle.machine_probe.specs.Runs.{OnLine, One}
+use Rattle.machine_probe.specs.Turns.{turns_of}
+use Rattle.machine_probe.proofs.Joins.{one}
 
 -- ---- the end
 
@@ -111,31 +115,29 @@ told_alone turns stop core last line line' keep keep' session = record {
   at_keeper = session.at_keeper;
 }
 
-put_by : (address old patience turns : ℕ) (plan : PlanValue) (last : Core) (stop : Stop) (line line' : Option (List Item)) (kept : List Kept) →
-    IsPlanOfWord address old plan → IsHost (begun plan 0 false patience) → IsHost last → last.plan ≡ plan → TellsEnd stop last →
-    Session turns (Some stop) (begun plan 0 false patience) last line line' (Some []) (Some kept) → IsPutBack address old patience turns (is_loaded stop) line line'
-put_by address old patience turns plan last stop line line' kept of first host same end session = record {
-  said = session.said;
-  puts = record {
-    plan = plan;
-    plan_is = of;
-    last = last;
-    stop = stop;
-    kept = kept;
-    session = told_alone turns stop (begun plan 0 false patience) last line line' (Some []) (Some kept) session;
-    end = end;
-    is_back_is = refl;
-    again = again_of stop address old patience turns plan last line line' (Some []) (Some kept) of first host same end session;
-  };
-  on_line = session.on_line;
-}
+put_by : (options : ProbeOptions) (old : ℕ) (plan : PlanValue) (last : Core) (stop : Stop) (line line' : Option (List Item)) (kept : List Kept) →
+    IsPlanOfWord options.address old plan → IsHost (begun plan 0 false options.patience) → IsHost last → last.plan ≡ plan → TellsEnd stop last →
+    Session (turns_of options.patience) (Some stop) (begun plan 0 false options.patience) last line line' (Some []) (Some kept) → OnLine (One (PutsBack options old (is_loaded stop))) line line'
+put_by options old plan last stop line line' kept of first host same end session =
+    one (PutsBack options old (is_loaded stop)) line line' session.said (record {
+      plan = plan;
+      plan_is = of;
+      last = last;
+      stop = stop;
+      kept = kept;
+      session = told_alone (turns_of options.patience) stop (begun plan 0 false options.patience) last line line' (Some []) (Some kept) session;
+      end = end;
+      is_back_is = refl;
+      again = again_of stop options.address old options.patience (turns_of options.patience) plan last line line' (Some []) (Some kept) of first host same end session;
+    }) session.on_line
 
-pub put_back_by : (deposit : Deposit) (turns : ℕ) (last : Core) (stop : Stop) (is_back : Bool) (line line' : Option (List Item)) (kept : List Kept) →
-    IsHost last → last.plan ≡ deposit.core.plan → TellsEnd stop last → is_back ≡ is_loaded stop →
+pub put_back_by : (options : ProbeOptions) (deposit : Deposit) (turns : ℕ) (last : Core) (stop : Stop) (is_back : Bool) (line line' : Option (List Item)) (kept : List Kept) →
+    IsHost last → last.plan ≡ deposit.core.plan → TellsEnd stop last → is_back ≡ is_loaded stop → turns ≡ turns_of options.patience →
     Session turns (Some stop) deposit.core last line line' (Some deposit.keeper.kept) (Some kept) →
-    (address old patience : ℕ) → IsDeposit address old patience deposit → IsPutBack address old patience turns is_back line line'
-put_back_by deposit turns last stop is_back line line' kept host same end is session address old patience of =
-    subst (λ back. IsPutBack address old patience turns back line line') (sym is)
-    (put_by address old patience turns deposit.core.plan last stop line line' kept of.plan (subst IsHost of.begun_is of.host) host same end
-    (subst (λ ks. Session turns (Some stop) (begun deposit.core.plan 0 false patience) last line line' (Some ks) (Some kept)) of.empty
-    (subst (λ (core : Core). Session turns (Some stop) core last line line' (Some deposit.keeper.kept) (Some kept)) of.begun_is session)))
+    (old : ℕ) → IsDeposit options old deposit → OnLine (One (PutsBack options old is_back)) line line'
+put_back_by options deposit turns last stop is_back line line' kept host same end is limit session old of =
+    subst (λ back. OnLine (One (PutsBack options old back)) line line') (sym is)
+    (put_by options old deposit.core.plan last stop line line' kept of.plan (subst IsHost of.begun_is of.host) host same end
+    (subst (λ ks. Session (turns_of options.patience) (Some stop) (begun deposit.core.plan 0 false options.patience) last line line' (Some ks) (Some kept)) of.empty
+    (subst (λ (core : Core). Session (turns_of options.patience) (Some stop) core last line line' (Some deposit.keeper.kept) (Some kept)) of.begun_is
+    (subst (λ (n : ℕ). Session n (Some stop) deposit.core last line line' (Some deposit.keeper.kept) (Some kept)) limit session))))

@@ -13,7 +13,6 @@ use Rattle.probe_report.specs.Judging.{verdict_of}
 use Rattle.machine_probe.specs.declared.probe_options.ProbeOptions.{ProbeOptions}
 use Rattle.machine_probe.specs.PuttingBack.{PutsBack}
 use Rattle.machine_probe.specs.Runs.{LooksAt, IsSearch, IsTrialOf, One}
-use Rattle.machine_probe.specs.Turns.{turns_of}
 
 -- the look read a number
 abbrev pub is_number : Sighting → Bool
@@ -66,9 +65,7 @@ pub record IsProbe (options : ProbeOptions) (f : Findings) (parts : List (List I
   pub looked : One (LooksAt options f.first) in_first
   pub tried : Made (is_number f.first) (λ attempt. One (IsTrialOf options (number_in f.first) attempt)) f.trial in_trial
   pub looked_again : Made (goes_on f.trial) (λ sighting. One (LooksAt options sighting)) f.second in_second
-  pub deposited :
-      Made (stores (verdict_of f))
-      (λ is_back. One (PutsBack options.address (number_in f.first) options.patience (turns_of options.patience) is_back)) f.put_back in_deposit
+  pub deposited : Made (stores (verdict_of f)) (λ is_back. One (PutsBack options (number_in f.first) is_back)) f.put_back in_deposit
   pub searched : Made (forgets (verdict_of f)) (IsSearch options) f.search in_search
 
 -- a probe that found the same number again, and did not search memory's end

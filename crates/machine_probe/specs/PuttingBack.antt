@@ -1,5 +1,5 @@
 -- Putting an old number back into a word.
-use Rattle.std.specs.Prelude.{◌≡◌, ℕ, Bool, true, false, List, [], ◌∷◌, Option, Some, None}
+use Rattle.std.specs.Prelude.{◌≡◌, ℕ, Bool, true, false, List, [], ◌∷◌, Some, None}
 use Rattle.tape_image.specs.Word.{whole_word}
 use Rattle.tape_image.specs.Plan.{PlanValue}
 use Rattle.odt_machine.specs.Machine.{Machine, is_word, word_at}
@@ -8,23 +8,24 @@ use Rattle.host_core.specs.Core.{Core, begun}
 use Rattle.host_core.specs.Host.{IsHost}
 use Rattle.load_devices.specs.declared.item.Item.{Item}
 use Rattle.load_devices.specs.declared.item.Kept.{Kept}
-use Rattle.load_devices.specs.Told.{Gains}
 use Rattle.honest_line.specs.Honest.{IsHonest}
 use Rattle.reading_law.specs.Belief.{IsReadyMachine}
 use Rattle.load_engine.specs.declared.stop.Stop.{Stop}
 use Rattle.load_engine.specs.declared.stop.Stop.TheVariants.{Ended}
 use Rattle.load_engine.specs.Session.{Session, TellsEnd}
+use Rattle.machine_probe.specs.declared.probe_options.ProbeOptions.{ProbeOptions}
 use Rattle.machine_probe.specs.declared.putting_back.Deposit.{Deposit}
+use Rattle.machine_probe.specs.Turns.{turns_of}
 
 -- a plan that has this word alone, and starts nothing
 pub record IsPlanOfWord (address old : ℕ) (plan : PlanValue) : Type 0 where
   pub words : plan.words ≡ whole_word address old ∷ []
   pub no_start : plan.start ≡ None
 
--- a host at the beginning of a load of this word, and a keeper that keeps nothing yet
-pub record IsDeposit (address old patience : ℕ) (deposit : Deposit) : Type 0 where
-  pub plan : IsPlanOfWord address old deposit.core.plan
-  pub begun_is : deposit.core ≡ begun deposit.core.plan 0 false patience
+-- a host at the beginning of a load of this number into the word, and a keeper that keeps nothing yet
+pub record IsDeposit (options : ProbeOptions) (old : ℕ) (deposit : Deposit) : Type 0 where
+  pub plan : IsPlanOfWord options.address old deposit.core.plan
+  pub begun_is : deposit.core ≡ begun deposit.core.plan 0 false options.patience
   pub host : IsHost deposit.core
   pub empty : deposit.keeper.kept ≡ []
 
@@ -39,20 +40,14 @@ HoldsAgain address old said =
     (machine now : Machine) (lost : ℕ) → IsReadyMachine machine → IsHonest machine said lost now →
     (is_word now.memory address ≡ true) × (word_at now.memory address ≡ old)
 
--- this was said by a host that loaded this one word, for at most so many turns; and whether it came to its end
-pub record PutsBack (address old patience turns : ℕ) (is_back : Bool) (said : List Item) : Type 0 where
+-- this was said by a host that loaded this number into the word; and whether it came to its end
+pub record PutsBack (options : ProbeOptions) (old : ℕ) (is_back : Bool) (said : List Item) : Type 0 where
   pub plan : PlanValue
-  pub plan_is : IsPlanOfWord address old plan
+  pub plan_is : IsPlanOfWord options.address old plan
   pub last : Core
   pub stop : Stop
   pub kept : List Kept
-  pub session : Session turns (Some stop) (begun plan 0 false patience) last (Some []) (Some said) (Some []) (Some kept)
+  pub session : Session (turns_of options.patience) (Some stop) (begun plan 0 false options.patience) last (Some []) (Some said) (Some []) (Some kept)
   pub end : TellsEnd stop last
   pub is_back_is : is_back ≡ is_loaded stop
-  pub again : is_back ≡ true → HoldsAgain address old said
-
--- the same over a line, with what it told before and tells after
-pub record IsPutBack (address old patience turns : ℕ) (is_back : Bool) (line line' : Option (List Item)) : Type 0 where
-  pub said : List Item
-  pub puts : PutsBack address old patience turns is_back said
-  pub on_line : Gains line line' said
+  pub again : is_back ≡ true → HoldsAgain options.address old said

@@ -15,6 +15,6 @@ pub record AreLookers (options : ProbeOptions) (lookers : Lookers) : Type 0 wher
 
 -- where a look read a number, it can be put back
 abbrev pub HasDeposit : ProbeOptions → Sighting → Option Deposit → Type 0
-HasDeposit options (Number old) (Some deposit) = IsDeposit options.address old options.patience deposit
+HasDeposit options (Number old) (Some deposit) = IsDeposit options old deposit
 HasDeposit options (Number old) None = ⊥
 HasDeposit options sighting deposit = ⊤

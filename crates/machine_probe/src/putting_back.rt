@@ -1,8 +1,10 @@
 //! Putting an old number back into a word.
 ghost use Rattle.std.specs.Prelude.{◌≡◌, ℕ, IfOk};
 ghost use Rattle.reading_core.specs.Addresses.{IsAddress};
-ghost use Rattle.machine_probe.specs.PuttingBack.{IsDeposit, IsPlanOfWord, IsPutBack, is_loaded};
+ghost use Rattle.machine_probe.specs.PuttingBack.{IsDeposit, IsPlanOfWord, PutsBack, is_loaded};
+ghost use Rattle.machine_probe.specs.Runs.{OnLine, One};
 
+use crate::probe_options::ProbeOptions;
 use host_core::{End, HostCore, Progress};
 use load_devices::{Line, MemoryKeep, Unwatched};
 use load_engine::{Stop, drive};
@@ -27,23 +29,17 @@ pub(crate) struct Deposit {
 }
 
 impl Deposit {
-    /// A load that deposits the old number of the word at an address and starts nothing, by a host that
-    /// survives so many mishaps. The error is want of memory.
-    pub(crate) fn new(
-        alloc: Global,
-        address: u16,
-        old: u16,
-        patience: u32,
-    ) -> Result<Deposit, AllocError>
-        requires { IsAddress address }
-        ensures { IfOk result (IsDeposit address old patience) }
+    /// A load that deposits the old number of the word and starts nothing. The error is want of memory.
+    pub(crate) fn new(alloc: Global, options: ProbeOptions, old: u16) -> Result<Deposit, AllocError>
+        requires { IsAddress options.address }
+        ensures { IfOk result (IsDeposit options old) }
     {
-        let plan = plan_of(alloc, address, old)?;
+        let plan = plan_of(alloc, options.address, old)?;
         let nothing = Progress {
             verified: 0,
             going: false,
         };
-        let core = HostCore::new(plan, nothing, patience).unwrap();
+        let core = HostCore::new(plan, nothing, options.patience).unwrap();
         let Ok(keeper) = MemoryKeep::new(alloc, 1, None) else {
             return Err(AllocError);
         };
@@ -51,14 +47,13 @@ impl Deposit {
     }
 }
 
-/// Makes the load over a line for at most so many turns, and answers whether it came to its end: the word
-/// was read back and holds the old number again. It takes no memory.
-pub(crate) fn put_back<L: Line>(deposit: Deposit, line: &mut L, turns: u64) -> bool
-    ensures { (address old patience : ℕ) → IsDeposit address old patience deposit →
-        IsPutBack address old patience turns result (L.told line.old) (L.told line.new) }
+/// Makes the load over a line, and answers whether it came to its end: the word was read back and holds
+/// the old number again. It takes no memory.
+pub(crate) fn put_back<L: Line>(deposit: Deposit, options: ProbeOptions, line: &mut L) -> bool
+    ensures { (old : ℕ) → IsDeposit options old deposit → OnLine (One (PutsBack options old result)) (L.told line.old) (L.told line.new) }
 {
     let Deposit { core, mut keeper } = deposit;
-    let (_, stop) = drive(core, line, &mut keeper, turns, &Unwatched);
+    let (_, stop) = drive(core, line, &mut keeper, options.turns(), &Unwatched);
     is_loaded(stop)
 }
 

@@ -10,7 +10,6 @@ ghost use Rattle.machine_probe.specs.Follow.{IsBrokenOff, IsProbe, Made, forgets
 ghost use Rattle.machine_probe.specs.PuttingBack.{PutsBack};
 ghost use Rattle.machine_probe.specs.Rooms.{AreLookers, HasDeposit};
 ghost use Rattle.machine_probe.specs.Runs.{LooksAt, IsSearch, IsTrialOf, OnLine, One};
-ghost use Rattle.machine_probe.specs.Turns.{turns_of};
 
 use crate::probe_options::ProbeOptions;
 use crate::putting_back::{Deposit, put_back};
@@ -137,7 +136,7 @@ fn deposit_for(
 {
     match first {
         Sighting::Number(old) => {
-            let deposit = Deposit::new(alloc, options.address, old, options.patience)?;
+            let deposit = Deposit::new(alloc, options, old)?;
             Ok(Some(deposit))
         }
         _ => Ok(None),
@@ -219,12 +218,11 @@ fn restore<L: Line>(
     line: &mut L,
 ) -> Option<bool>
     requires { HasDeposit options found.now.first deposit }
-    ensures { OnLine (Made (stores (verdict_of found.now))
-        (λ is_back. One (PutsBack options.address (number_in found.now.first) options.patience (turns_of options.patience) is_back)) result)
+    ensures { OnLine (Made (stores (verdict_of found.now)) (λ is_back. One (PutsBack options (number_in found.now.first) is_back)) result)
         (L.told line.old) (L.told line.new) }
 {
     match (judge(found), deposit) {
-        (Verdict::Stores, Some(deposit)) => Some(put_back(deposit, line, options.turns())),
+        (Verdict::Stores, Some(deposit)) => Some(put_back(deposit, options, line)),
         _ => None,
     }
 }

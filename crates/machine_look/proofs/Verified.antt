@@ -47,7 +47,7 @@ stand_where_read words last before now keys lost are all none heard = record {
       subst (Stands (word_nr words i)) here (Stands-unchanged (word_nr words i) (get_or last.values i 0) (none_differ words last.values all none i low));
 }
 
-all_stand : (words : List WordValue) (first last : Reader) (stop : Stop) (look : IsLook first last stop) → first.addresses ≡ addresses_of words
+pub all_stand : (words : List WordValue) (first last : Reader) (stop : Stop) (look : IsLook first last stop) → first.addresses ≡ addresses_of words
     → verify_end (length (differences words last.values)) stop ≡ Same → OverHonestLine look (IsSameWith words)
 all_stand words first last stop look are same machine now lost may honest =
     let means = same_means (length (differences words last.values)) stop same in
@@ -62,11 +62,13 @@ all_stand words first last stop look are same machine now lost may honest =
 
 -- ---- a verification
 
-pub verified_of : (plan : PlanValue) (patience : ℕ) (before after : ConsoleTold) (first last : Reader) (stop : Stop) (end : VerifyEnd) → first ≡ begun (addresses_of plan.words) [] patience → IsLook first last stop
-    → AsksOnce (ended first.phase) before.call before.asked after.asked → end ≡ verify_end (length (differences plan.words last.values)) stop → IsVerified plan patience before after last stop end
+abbrev pub verified_of : (plan : PlanValue) (patience : ℕ) (before after : ConsoleTold) (first last : Reader) (stop : Stop) (end : VerifyEnd) → first ≡ begun (addresses_of plan.words) [] patience → IsLook first last stop
+    → AsksOnce (ended first.phase) before.call before.asked after.asked → end ≡ verify_end (length (differences plan.words last.values)) stop → IsVerified plan patience before after end
 verified_of plan patience before after first last stop end is look asks ends =
     let moved : IsLook (begun (addresses_of plan.words) [] patience) last stop = subst (λ r. IsLook r last stop) is look in
     record {
+      last = last;
+      stop = stop;
       look = moved;
       asked = subst (λ r. AsksOnce (ended r.phase) before.call before.asked after.asked) is asks;
       end_is = ends;

@@ -26,7 +26,9 @@ abbrev pub IsSameWith : List WordValue → Machine → Machine → Type 0
 IsSameWith words before now = (now.memory ≡ before.memory) × AllStand words now.memory
 
 -- a plan's words were looked at, and so it ended; where it ends as `Same` over an honest line, every word stands
-pub record IsVerified (plan : PlanValue) (patience : ℕ) (before after : ConsoleTold) (last : Reader) (stop : Stop) (end : VerifyEnd) : Type 0 where
+pub record IsVerified (plan : PlanValue) (patience : ℕ) (before after : ConsoleTold) (end : VerifyEnd) : Type 0 where
+  pub last : Reader
+  pub stop : Stop
   pub look : IsLook (begun (addresses_of plan.words) [] patience) last stop
   pub asked : AsksOnce (ended (begun (addresses_of plan.words) [] patience).phase) before.call before.asked after.asked
   pub end_is : end ≡ verify_end (length (differences plan.words last.values)) stop
@@ -34,16 +36,12 @@ pub record IsVerified (plan : PlanValue) (patience : ℕ) (before after : Consol
 
 -- it was reported, too
 pub record IsReported (plan : PlanValue) (patience : ℕ) (before after : ConsoleTold) (end : VerifyEnd) : Type 0 where
-  pub last : Reader
-  pub stop : Stop
-  pub verified : IsVerified plan patience before after last stop end
-  pub reported : Appends before.out after.out (verify_report plan.words last stop)
+  pub verified : IsVerified plan patience before after end
+  pub reported : Appends before.out after.out (verify_report plan.words verified.last verified.stop)
 
 -- the same, with a report that may be cut short
 pub record IsCutShort (plan : PlanValue) (patience : ℕ) (before after : ConsoleTold) : Type 0 where
-  pub last : Reader
-  pub stop : Stop
   pub end : VerifyEnd
-  pub verified : IsVerified plan patience before after last stop end
+  pub verified : IsVerified plan patience before after end
   pub missing : List ℕ
-  pub reported : WritesAllBut before.out after.out (verify_report plan.words last stop) missing
+  pub reported : WritesAllBut before.out after.out (verify_report plan.words verified.last verified.stop) missing

@@ -70,8 +70,6 @@ returns-in_err-write_and_flush-clause-fault g c =
     error_is c.from_residual-in_err-write_and_flush.result WriteOutput
     (IsVerifyFault c.args.plan.now c.args.patience (console_told g.R.Reach.asked g.R.Reach.call g.W.Write.contents c.args.console.now c.args.out.now) (console_told g.R.Reach.asked g.R.Reach.call g.W.Write.contents c.look_over.new.console c.write_and_flush.new.out))
     c.from_residual-in_err-write_and_flush.ensures.1 (record {
-      last = c.in_ok-core-2.core;
-      stop = c.in_ok-core-2.stop;
       end = verify_end (length (differences c.args.plan.now.words c.in_ok-core-2.core.values)) c.in_ok-core-2.stop;
       verified = verified_of c.args.plan.now c.args.patience (console_told g.R.Reach.asked g.R.Reach.call g.W.Write.contents c.args.console.now c.args.out.now) (console_told g.R.Reach.asked g.R.Reach.call g.W.Write.contents c.look_over.new.console c.write_and_flush.new.out) c.in_ok-core.core c.in_ok-core-2.core c.in_ok-core-2.stop _ begun_is look c.in_ok-core-2.ensures.asked refl;
       missing = c.in_err-write_and_flush.ensures.err.0;
@@ -101,8 +99,6 @@ returns-clause-reported g c =
     let text = c.deref-2.ensures.value ∙ report_is c.args.plan.now.words c.in_ok-core-2.core c.in_ok-core-2.stop c.deref.result.now c.in_ok-report.report.items c.put_verify_report-end.new.text.items
     addresses (c.deref.ensures.value ∙ found) c.in_ok-report.ensures.items c.put_verify_report-end.ensures.text in
     record {
-      last = c.in_ok-core-2.core;
-      stop = c.in_ok-core-2.stop;
       verified = verified_of c.args.plan.now c.args.patience (console_told g.R.Reach.asked g.R.Reach.call g.W.Write.contents c.args.console.now c.args.out.now) (console_told g.R.Reach.asked g.R.Reach.call g.W.Write.contents c.look_over.new.console c.write_and_flush.new.out) c.in_ok-core.core c.in_ok-core-2.core c.in_ok-core-2.stop c.put_verify_report-end.result begun_is look c.in_ok-core-2.ensures.asked (c.put_verify_report-end.ensures.end ∙ ap (λ (list : List Difference). verify_end (length list) c.in_ok-core-2.stop) (c.deref.ensures.value ∙ found));
       reported = subst (Appends (g.W.Write.contents c.args.out.now) (g.W.Write.contents c.write_and_flush.new.out)) text c.in_ok-write_and_flush.ensures.ok;
     }

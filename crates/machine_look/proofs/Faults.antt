@@ -4,8 +4,6 @@ use Rattle.std.proofs.lemmas.Bool.{eqb-true}
 use Rattle.std.specs.Io.KnownBytes.{Keeps}
 use Rattle.tape_blocks.specs.Tape.{TapeValue, plain_text}
 use Rattle.load_devices.specs.Told.{Gains}
-use Rattle.reading_core.specs.Reader.{Reader}
-use Rattle.reading_engine.specs.declared.stop.Stop.{Stop}
 use Rattle.machine_look.specs.declared.look_fault.LookFault.{LookFault}
 use Rattle.machine_look.specs.declared.look_fault.LookFault.TheVariants.{IsThere, WriteTape, Memory}
 use Rattle.machine_look.specs.declared.saving.SaveOptions.{SaveOptions}
@@ -51,15 +49,15 @@ not_put tape shelf shelf' text why.IsThere is can step = subst (λ t. Gains shel
 not_put tape shelf shelf' text why.Write is can step = subst (λ t. Gains shelf shelf' (NotPut t why.Write ∷ [])) is step
 not_put tape shelf shelf' text why.Memory is can step = absurd can
 
-pub not_kept : (options : SaveOptions) (before after : SaveTold) (mid : Option (List Step)) (last : Reader) (stop : Stop) (fault : LookFault) → Gains before.steps mid (Reserve ∷ [])
-    → IsRead options before after last stop → IsKeepFault (tape_to_save options last.values) mid after.steps fault → Keeps before.out after.out → IsSaveFault options before after fault
-not_kept options before after mid last stop IsThere reserved read fails same =
-    inr (record { last = last; stop = stop; is_read = read; refused = gains_then before.steps mid after.steps _ _ reserved fails; nothing_reported = same })
-not_kept options before after mid last stop WriteTape reserved read fails same =
-    inr (record { last = last; stop = stop; is_read = read; refused = gains_then before.steps mid after.steps _ _ reserved fails; nothing_reported = same })
-not_kept options before after mid last stop Memory reserved read fails same =
+pub not_kept : (options : SaveOptions) (before after : SaveTold) (mid : Option (List Step)) (fault : LookFault) → Gains before.steps mid (Reserve ∷ [])
+    → (read : IsRead options before after) → IsKeepFault (tape_to_save options read.last.values) mid after.steps fault → Keeps before.out after.out → IsSaveFault options before after fault
+not_kept options before after mid IsThere reserved read fails same =
+    inr (record { read = read; refused = gains_then before.steps mid after.steps _ _ reserved fails; nothing_reported = same })
+not_kept options before after mid WriteTape reserved read fails same =
+    inr (record { read = read; refused = gains_then before.steps mid after.steps _ _ reserved fails; nothing_reported = same })
+not_kept options before after mid Memory reserved read fails same =
     (inr (record { nothing_put = gains_then before.steps mid after.steps _ _ reserved fails; asked = read.asked }), same)
-not_kept options before after mid last stop other reserved read fails same = absurd fails
+not_kept options before after mid other reserved read fails same = absurd fails
 
 -- ---- results
 

@@ -13,9 +13,9 @@ use Rattle.reading_core.specs.Reader.{Reader, begun, ended}
 use Rattle.reading_core.proofs.Asking.{one_more, length_from}
 use Rattle.reading_engine.specs.declared.stop.Stop.{Stop}
 use Rattle.machine_look.specs.declared.saving.SaveOptions.{SaveOptions}
-use Rattle.machine_look.specs.Look.{AsksOnce, IsLook}
-use Rattle.machine_look.specs.Save.{IsRead, SaveTold, addresses_in}
-use Rattle.machine_look.specs.SavedTape.{words_read, StandFrom}
+use Rattle.machine_look.specs.Look.{AsksOnce, IsLook, OverHonestLine}
+use Rattle.machine_look.specs.Save.{IsMemoryAt, IsRead, SaveTold, addresses_in, tape_to_save}
+use Rattle.machine_look.specs.SavedTape.{HoldsWhatWasRead, words_read, StandFrom}
 use Rattle.machine_look.proofs.Looks.{is_true}
 use Rattle.machine_look.proofs.SavedWords.{holds_what_was_read}
 
@@ -57,31 +57,46 @@ range_goes_on : (from to patience : ℕ) → ended (begun (addresses_between fro
 range_goes_on from to patience =
     ap (λ t. ended (cond t (Over Complete) Settle)) (ne_eqb 0 (length (addresses_between from to)) (λ none. omega (arith, none, range_length from to)))
 
-pub is_read : (options : SaveOptions) (before after : SaveTold) (last : Reader) (stop : Stop) → IsRange options.range.from options.range.to → options.start < 65536
-    → IsLook (begun (addresses_in options.range) [] options.patience) last stop → AsksOnce None before.call before.asked after.asked → IsRead options before after last stop
-is_read options before after last stop range begins look asks =
+few_read : (options : SaveOptions) (last : Reader) (stop : Stop) → IsLook (begun (addresses_in options.range) [] options.patience) last stop → length last.values ≤ length (addresses_in options.range)
+few_read options last stop look = subst (λ (list : List ℕ). length last.values ≤ length list) look.addresses look.kept.within
+
+pub holds_read : (options : SaveOptions) (last : Reader) (stop : Stop) → IsRange options.range.from options.range.to → options.start < 65536
+    → IsLook (begun (addresses_in options.range) [] options.patience) last stop → HoldsWhatWasRead (addresses_in options.range) last.values (tape_to_save options last.values)
+holds_read options last stop range begins look =
     let from = options.range.from in
     let to = options.range.to in
-    let few : length last.values ≤ length (addresses_between from to) = subst (λ (list : List ℕ). length last.values ≤ length list) look.addresses look.kept.within in
+    let few = few_read options last stop look in
     let low : from + 2 * length last.values ≤ top = omega (arith, few, range_length from to, range.from_is.even, range.to_is.even, range.to_is.below, range.order) in
-    let holds = holds_what_was_read from (addresses_between from to) last.values options.start range.from_is.even low look.kept.numbers begins (range_stands from to) few in
-    record {
-      look = look;
-      asked = asks;
-      holds = holds;
-      is_memory = λ machine now lost may honest.
-          let true = is_true stop _ last look.inquired.said machine now lost look.believed may honest in (
-            true.1.same,
-            holds.words ∙ words_are now.memory (addresses_between from to) last.values few
-                (λ i low. true.1.read.holds i low ∙ ap (λ (list : List ℕ). word_at now.memory (get_or list i 0)) look.addresses),
-          );
-    }
+    holds_what_was_read from (addresses_between from to) last.values options.start range.from_is.even low look.kept.numbers begins (range_stands from to) few
 
-pub read_of : (options : SaveOptions) (before after : SaveTold) (first last : Reader) (stop : Stop) → IsRange options.range.from options.range.to → options.start < 65536
-    → first ≡ begun (addresses_in options.range) [] options.patience → IsLook first last stop → AsksOnce (ended first.phase) before.call before.asked after.asked → IsRead options before after last stop
+pub memory_read : (options : SaveOptions) (last : Reader) (stop : Stop) → IsRange options.range.from options.range.to → options.start < 65536
+    → (look : IsLook (begun (addresses_in options.range) [] options.patience) last stop)
+    → OverHonestLine look (IsMemoryAt (take (length last.values) (addresses_in options.range)) (tape_to_save options last.values))
+memory_read options last stop range begins look machine now lost may honest =
+    let true = is_true stop _ last look.inquired.said machine now lost look.believed may honest in (
+      true.1.same,
+      (holds_read options last stop range begins look).words
+          ∙ words_are now.memory (addresses_in options.range) last.values (few_read options last stop look)
+          (λ i low. true.1.read.holds i low ∙ ap (λ (list : List ℕ). word_at now.memory (get_or list i 0)) look.addresses),
+    )
+
+pub asked_for_range : (options : SaveOptions) (before after : SaveTold) (first : Reader) → first ≡ begun (addresses_in options.range) [] options.patience
+    → AsksOnce (ended first.phase) before.call before.asked after.asked → AsksOnce None before.call before.asked after.asked
+asked_for_range options before after first is asks =
+    subst (λ o. AsksOnce o before.call before.asked after.asked) (ap (λ r. ended r.phase) is ∙ range_goes_on options.range.from options.range.to options.patience) asks
+
+abbrev pub read_of : (options : SaveOptions) (before after : SaveTold) (first last : Reader) (stop : Stop) → IsRange options.range.from options.range.to → options.start < 65536
+    → first ≡ begun (addresses_in options.range) [] options.patience → IsLook first last stop → AsksOnce (ended first.phase) before.call before.asked after.asked → IsRead options before after
 read_of options before after first last stop range begins is look asks =
-    is_read options before after last stop range begins (subst (λ r. IsLook r last stop) is look)
-    (subst (λ o. AsksOnce o before.call before.asked after.asked) (ap (λ r. ended r.phase) is ∙ range_goes_on options.range.from options.range.to options.patience) asks)
+    let moved : IsLook (begun (addresses_in options.range) [] options.patience) last stop = subst (λ r. IsLook r last stop) is look in
+    record {
+      last = last;
+      stop = stop;
+      look = moved;
+      asked = asked_for_range options before after first is asks;
+      holds = holds_read options last stop range begins moved;
+      is_memory = memory_read options last stop range begins moved;
+    }
 
 -- the numbers that were read end at or below the top
 pub reads_low : (from to patience : ℕ) (first last : Reader) (stop : Stop) → IsRange from to → first ≡ begun (addresses_between from to) [] patience → IsLook first last stop → from + 2 * length last.values ≤ top

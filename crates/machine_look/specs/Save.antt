@@ -52,38 +52,34 @@ abbrev pub tape_to_save : SaveOptions → List ℕ → TapeValue
 tape_to_save options numbers = saved_tape options.range.from numbers options.start
 
 -- the words of a save were looked at, once there was room for their tape
-pub record IsRead (options : SaveOptions) (before after : SaveTold) (last : Reader) (stop : Stop) : Type 0 where
+pub record IsRead (options : SaveOptions) (before after : SaveTold) : Type 0 where
+  pub last : Reader
+  pub stop : Stop
   pub look : IsLook (begun (addresses_in options.range) [] options.patience) last stop
   pub asked : Gains before.asked after.asked (asked_once before.call)
   -- the tape of what was read is memory, where the line was honest
   pub holds : HoldsWhatWasRead (addresses_in options.range) last.values (tape_to_save options last.values)
   pub is_memory : OverHonestLine look (IsMemoryAt (take (length last.values) (addresses_in options.range)) (tape_to_save options last.values))
 
--- what was read was put where the tape goes, and so it ended
-pub record IsShelved (options : SaveOptions) (before after : SaveTold) (last : Reader) (stop : Stop) : Type 0 where
-  pub is_read : IsRead options before after last stop
-  pub is_put : Gains before.steps after.steps (Reserve ∷ puts options.range.from last.values options.start)
+-- what was read was put where the tape goes
+pub record IsShelved (options : SaveOptions) (before after : SaveTold) : Type 0 where
+  pub read : IsRead options before after
+  pub is_put : Gains before.steps after.steps (Reserve ∷ puts options.range.from read.last.values options.start)
 
 -- it was reported, too
 pub record IsSavedAndReported (options : SaveOptions) (before after : SaveTold) (end : SaveEnd) : Type 0 where
-  pub last : Reader
-  pub stop : Stop
-  pub saved : IsShelved options before after last stop
-  pub end_is : end ≡ save_end stop
-  pub reported : Appends before.out after.out (save_report last stop)
+  pub saved : IsShelved options before after
+  pub end_is : end ≡ save_end saved.read.stop
+  pub reported : Appends before.out after.out (save_report saved.read.last saved.read.stop)
 
 -- the same, with a report that may be cut short
 pub record IsSavedUnreported (options : SaveOptions) (before after : SaveTold) : Type 0 where
-  pub last : Reader
-  pub stop : Stop
-  pub saved : IsShelved options before after last stop
+  pub saved : IsShelved options before after
   pub missing : List ℕ
-  pub reported : WritesAllBut before.out after.out (save_report last stop) missing
+  pub reported : WritesAllBut before.out after.out (save_report saved.read.last saved.read.stop) missing
 
 -- what was read could not be put where the tape goes, and nothing was reported
 pub record IsUnput (fault : ShelfFault) (options : SaveOptions) (before after : SaveTold) : Type 0 where
-  pub last : Reader
-  pub stop : Stop
-  pub is_read : IsRead options before after last stop
-  pub refused : Gains before.steps after.steps (Reserve ∷ NotPut (plain_text (tape_to_save options last.values)) fault ∷ [])
+  pub read : IsRead options before after
+  pub refused : Gains before.steps after.steps (Reserve ∷ NotPut (plain_text (tape_to_save options read.last.values)) fault ∷ [])
   pub nothing_reported : Keeps before.out after.out

@@ -68,7 +68,7 @@ returns-in_err-keep-clause-fault g c =
     error_is c.from_residual-in_err-keep.result c.in_err-keep.field-0.0
     (IsSaveFault c.args.options (save_told g.S.Shelf.steps g.R.Reach.asked g.R.Reach.call g.W.Write.contents c.args.shelf.now c.args.console.now c.args.out.now) (save_told g.S.Shelf.steps g.R.Reach.asked g.R.Reach.call g.W.Write.contents c.keep.new.shelf c.look_over.new.console c.args.out.now))
     c.from_residual-in_err-keep.ensures.1
-    (not_kept c.args.options (save_told g.S.Shelf.steps g.R.Reach.asked g.R.Reach.call g.W.Write.contents c.args.shelf.now c.args.console.now c.args.out.now) (save_told g.S.Shelf.steps g.R.Reach.asked g.R.Reach.call g.W.Write.contents c.keep.new.shelf c.look_over.new.console c.args.out.now) (g.S.Shelf.steps c.reserve.new.self) c.in_ok-core-2.core c.in_ok-core-2.stop c.in_err-keep.field-0.0 c.in_ok-reserve.ensures.step read fails (Keeps-refl (g.W.Write.contents c.args.out.now)))
+    (not_kept c.args.options (save_told g.S.Shelf.steps g.R.Reach.asked g.R.Reach.call g.W.Write.contents c.args.shelf.now c.args.console.now c.args.out.now) (save_told g.S.Shelf.steps g.R.Reach.asked g.R.Reach.call g.W.Write.contents c.keep.new.shelf c.look_over.new.console c.args.out.now) (g.S.Shelf.steps c.reserve.new.self) c.in_err-keep.field-0.0 c.in_ok-reserve.ensures.step read fails (Keeps-refl (g.W.Write.contents c.args.out.now)))
 
 pub returns-in_err-write_and_flush-clause-fault : goal.returns-in_err-write_and_flush-clause-fault
 returns-in_err-write_and_flush-clause-fault g c =
@@ -81,9 +81,7 @@ returns-in_err-write_and_flush-clause-fault g c =
     error_is c.from_residual-in_err-write_and_flush.result WriteOutput
     (IsSaveFault c.args.options (save_told g.S.Shelf.steps g.R.Reach.asked g.R.Reach.call g.W.Write.contents c.args.shelf.now c.args.console.now c.args.out.now) (save_told g.S.Shelf.steps g.R.Reach.asked g.R.Reach.call g.W.Write.contents c.keep.new.shelf c.look_over.new.console c.write_and_flush.new.out))
     c.from_residual-in_err-write_and_flush.ensures.1 (record {
-      last = c.in_ok-core-2.core;
-      stop = c.in_ok-core-2.stop;
-      saved = record { is_read = read; is_put = gains_then (g.S.Shelf.steps c.args.shelf.now) (g.S.Shelf.steps c.reserve.new.self) (g.S.Shelf.steps c.keep.new.shelf) (Reserve ∷ []) _ c.in_ok-reserve.ensures.step kept };
+      saved = record { read = read; is_put = gains_then (g.S.Shelf.steps c.args.shelf.now) (g.S.Shelf.steps c.reserve.new.self) (g.S.Shelf.steps c.keep.new.shelf) (Reserve ∷ []) _ c.in_ok-reserve.ensures.step kept };
       missing = c.in_err-write_and_flush.ensures.err.0;
       reported = subst (λ t. WritesAllBut (g.W.Write.contents c.args.out.now) (g.W.Write.contents c.write_and_flush.new.out) t c.in_err-write_and_flush.ensures.err.0) text c.in_err-write_and_flush.ensures.err.1;
     })
@@ -110,9 +108,7 @@ returns-clause-reported g c =
     (subst (λ (numbers : List ℕ). Gains (g.S.Shelf.steps c.reserve.new.self) (g.S.Shelf.steps c.keep.new.shelf) (puts c.from-from.result numbers c.args.options.start)) c.values.ensures.value c.in_ok-keep.ensures.ok) in
     let text = c.deref.ensures.0 ∙ c.save_report.ensures in
     record {
-      last = c.in_ok-core-2.core;
-      stop = c.in_ok-core-2.stop;
-      saved = record { is_read = read; is_put = gains_then (g.S.Shelf.steps c.args.shelf.now) (g.S.Shelf.steps c.reserve.new.self) (g.S.Shelf.steps c.keep.new.shelf) (Reserve ∷ []) _ c.in_ok-reserve.ensures.step kept };
+      saved = record { read = read; is_put = gains_then (g.S.Shelf.steps c.args.shelf.now) (g.S.Shelf.steps c.reserve.new.self) (g.S.Shelf.steps c.keep.new.shelf) (Reserve ∷ []) _ c.in_ok-reserve.ensures.step kept };
       end_is = c.save_end.ensures;
       reported = subst (Appends (g.W.Write.contents c.args.out.now) (g.W.Write.contents c.write_and_flush.new.out)) text c.in_ok-write_and_flush.ensures.ok;
     }

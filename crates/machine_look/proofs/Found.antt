@@ -13,7 +13,7 @@ none_yet : (words : List WordValue) → differences words [] ≡ []
 none_yet [] = refl
 none_yet (w ∷ words) = refl
 
-pub one_more : (words : List WordValue) (numbers : List ℕ) (i : ℕ) (d : WordValue) → i < length numbers → length numbers ≤ length words
+one_more : (words : List WordValue) (numbers : List ℕ) (i : ℕ) (d : WordValue) → i < length numbers → length numbers ≤ length words
     → differences words (take (suc i) numbers) ≡ differences words (take i numbers) ++ difference (get_or words i d) (get_or numbers i 0)
 one_more words [] i d low few = absurd (omega arith)
 one_more [] (n ∷ numbers) i d low few = absurd (omega arith)

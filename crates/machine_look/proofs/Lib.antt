@@ -1,9 +1,9 @@
-pub mod Faults
-pub mod Found
-pub mod Looks
-pub mod OnShelf
-pub mod SavedBlocks
-pub mod SavedMemory
-pub mod SavedOnDisk
-pub mod SavedWords
-pub mod Verified
+mod Faults
+mod Found
+mod Looks
+mod OnShelf
+mod SavedBlocks
+mod SavedMemory
+mod SavedOnDisk
+mod SavedWords
+mod Verified

@@ -79,7 +79,7 @@ not_made name folder own a b c of is opened making = (
 )
 
 -- nothing had the name, and then the room was made, or not
-pub then_reserved : (name folder : List ℕ) (a b c : Option (List DiskStep)) → HasAsked a b (IsSearch name None)
+then_reserved : (name folder : List ℕ) (a b c : Option (List DiskStep)) → HasAsked a b (IsSearch name None)
     → HasAsked b c (λ steps. IsReserved name folder (Failed (LookAtName name) ∷ steps)) → HasAsked a c (IsReserved name folder)
 then_reserved name folder a b c search making =
     (search.0 ++ making.0, tells_join a b c search.0 making.0 search.1 making.1, behind name folder search.0 making.0 search.2 making.2) where

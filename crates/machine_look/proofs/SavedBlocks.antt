@@ -42,7 +42,7 @@ pub no_blocks : (from : ℕ) (numbers : List ℕ) → saved_blocks from numbers 
 unfolding saved_blocks
 no_blocks from numbers = refl
 
-pub one_more : (from : ℕ) (numbers : List ℕ) (n : ℕ) → saved_blocks from numbers (suc n) ≡ saved_blocks from numbers n ++ saved_block from numbers n ∷ []
+one_more : (from : ℕ) (numbers : List ℕ) (n : ℕ) → saved_blocks from numbers (suc n) ≡ saved_blocks from numbers n ++ saved_block from numbers n ∷ []
 unfolding saved_blocks
 one_more from numbers n = refl
 

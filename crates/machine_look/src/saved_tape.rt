@@ -1,7 +1,7 @@
 //! The tape of what was read.
 ghost use Rattle.std.specs.Prelude.{◌≡◌, ℕ, ◌+◌, ◌*◌, ◌%◌, ◌<◌, ◌≤◌, List, length, IfOk};
 ghost use Rattle.std.specs.List.{flat_map};
-ghost use Rattle.tape_blocks.specs.Block.{block_at, low_first, top};
+ghost use Rattle.tape_blocks.specs.Block.{low_first, top};
 ghost use Rattle.machine_look.specs.SavedTape.{HoldsWhatWasRead, StandFrom, saved_block, saved_tape};
 
 use std::alloc::{AllocError, Global};

@@ -1,8 +1,8 @@
 mod Believed
 mod Faults
 mod Joins
-pub mod Noting
+mod Noting
 mod OneLine
-pub mod OneWord
-pub mod PuttingBack
+mod OneWord
+mod PuttingBack
 mod Reports

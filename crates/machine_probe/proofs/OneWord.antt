@@ -15,7 +15,7 @@ use Rattle.machine_probe.specs.PuttingBack.{IsPlanOfWord}
 
 -- ---- its bytes
 
-abbrev pub two_bytes : ℕ → List ℕ
+abbrev two_bytes : ℕ → List ℕ
 two_bytes old = old % 256 ∷ old / 256 ∷ []
 
 -- ---- its image

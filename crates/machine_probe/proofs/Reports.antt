@@ -26,7 +26,7 @@ use Rattle.machine_probe.specs.Runs.{OnLine}
 use Rattle.machine_probe.proofs.Believed.{believes}
 use Rattle.machine_probe.proofs.OneLine.{believes_over}
 
-pub report_is : (options : ProbeOptions) (line line' : Option (List Item)) (f : Findings) (notes : Noted) (pace : Pace) (before text : List ℕ) (end : ProbeEnd) →
+report_is : (options : ProbeOptions) (line line' : Option (List Item)) (f : Findings) (notes : Noted) (pace : Pace) (before text : List ℕ) (end : ProbeEnd) →
     IsAddress options.address → options.patience < 2 ^ 32 → IsAsTold line [] → OnLine (IsProbe options f) line line' → AreNotesSince line line' notes →
     before ≡ [] → text ≡ before ++ probe_text f notes pace → end ≡ probe_end f notes.prompt → IsReport options line line' text end
 report_is options line line' f notes pace before text end address long fresh runs are empty put is = record {

@@ -64,7 +64,7 @@ pub record IsOver (from : ℕ) (pieces : Pieces) (last : Reader) : Type 0 where
 addressed : (from : ℕ) (pieces : Pieces) (last : Reader) → IsOver from pieces last → length last.addresses ≡ pieces.count
 addressed from pieces last is = ap length is.addresses ∙ length_last from pieces.bytes pieces.count
 
-pub within_count : (from : ℕ) (pieces : Pieces) (last : Reader) → IsOver from pieces last → length last.values ≤ pieces.count
+within_count : (from : ℕ) (pieces : Pieces) (last : Reader) → IsOver from pieces last → length last.values ≤ pieces.count
 within_count from pieces last is = omega (arith, is.kept.within, addressed from pieces last is)
 
 pub found_below : (from : ℕ) (pieces : Pieces) (last : Reader) → IsOver from pieces last → pieces.bytes * length last.values ≤ pieces.bytes * pieces.count
@@ -73,7 +73,7 @@ found_below from pieces last is = mul-le-mul_left pieces.bytes (within_count fro
 pub all_read : (from : ℕ) (pieces : Pieces) (last : Reader) → IsOver from pieces last → ended last.phase ≡ Some Complete → length last.values ≡ pieces.count
 all_read from pieces last is complete = end_at last.phase Complete (basis_of last) complete is.kept.fits ∙ addressed from pieces last is
 
-pub one_lacks : (from address : ℕ) (pieces : Pieces) (last : Reader) → IsOver from pieces last → ended last.phase ≡ Some (NoWord address) → length last.values < pieces.count
+one_lacks : (from address : ℕ) (pieces : Pieces) (last : Reader) → IsOver from pieces last → ended last.phase ≡ Some (NoWord address) → length last.values < pieces.count
 one_lacks from address pieces last is lacks = omega (arith, (end_at last.phase (NoWord address) (basis_of last) lacks is.kept.fits).0, addressed from pieces last is)
 
 -- the address that is no word's is that of the last word of the piece that begins where memory was found to go on to

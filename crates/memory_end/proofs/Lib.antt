@@ -1,3 +1,3 @@
 pub mod Founds
 pub mod LastWords
-pub mod Searching
+mod Searching

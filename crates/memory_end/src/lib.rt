@@ -4,7 +4,7 @@
 //! of the first piece that lacks its last, and then at each word of such a part: at most 92 looks. Each
 //! pass is a reading like any other, so memory stays what it was. The contract says which words were
 //! looked at, and that over honest lines the answer is exactly where memory ends. A hole in memory that
-//! ends before a word that was looked at is not seen.
+//! ends before a word that was looked at is not seen. Used by `machine_probe`.
 #![tactic(auto)]
 
 mod finding;

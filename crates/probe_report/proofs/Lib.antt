@@ -1,1 +1,1 @@
-pub mod Noting
+mod Noting

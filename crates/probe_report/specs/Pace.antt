@@ -27,9 +27,11 @@ load_time look words = look * load_characters * words
 abbrev pub second : ℕ
 second = 1000000 * look_characters
 
+-- a minute, in these
 abbrev pub minute : ℕ
 minute = 60 * second
 
+-- an hour, in these
 abbrev pub hour : ℕ
 hour = 60 * minute
 

@@ -18,5 +18,4 @@ mod stopwatch;
 
 pub use probe_fault::ProbeFault;
 pub use probe_options::ProbeOptions;
-pub use probe_report::ProbeEnd;
 pub use probing::probe;

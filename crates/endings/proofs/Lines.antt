@@ -11,7 +11,7 @@ pub record IsSaidBut (err err' : StandardError) (text left : List ℕ) : Type 0 
   pub said : List ℕ
   pub whole : text ≡ said ++ left
   pub written : Appends err.text err'.text said
-  none_failed : NoneFailed err.failures err'.failures
+  pub none_failed : NoneFailed err.failures err'.failures
 
 pub on_any_err : {T E : Type 0} (r : Result T E) (P : Type 0) → P → OnErr r P
 on_any_err (Ok x) P p = tt
@@ -19,7 +19,7 @@ on_any_err (Err e) P p = p
 
 -- ---- failures
 
-pub none_failed : (f : Option ℕ) → NoneFailed f f
+none_failed : (f : Option ℕ) → NoneFailed f f
 none_failed None = tt
 none_failed (Some count) = refl
 

@@ -48,7 +48,7 @@ one_between a = ap (addresses_from a) (count a) ∙ single a
 -- ---- one run
 
 -- one run is a row of one part
-one : (run : List Item → Type 0) (line line' : Option (List Item)) (said : List Item) → run said → Gains line line' said → OnLine (One run) line line'
+pub one : (run : List Item → Type 0) (line line' : Option (List Item)) (said : List Item) → run said → Gains line line' said → OnLine (One run) line line'
 one run line line' said is gains = record { parts = said ∷ []; are = is; on_line = subst (Gains line line') (sym (append-nil said)) gains }
 
 -- what the engine of the looks answers is a look

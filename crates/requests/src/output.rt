@@ -2,6 +2,7 @@
 ghost use Rattle.std.specs.Prelude.{◌≡◌, IfOk, IfErr};
 ghost use Rattle.std.specs.Io.KnownBytes.{Keeps};
 
+use byte_io::write_and_flush;
 use endings::{Failure, Status};
 use std::io::Write;
 
@@ -11,7 +12,7 @@ pub(crate) fn flushed<W: Write>(out: &mut W, status: Status) -> Result<Status, F
     ensures err { IfErr result (λ failure. failure ≡ Failure.CannotWrite) }
     ensures bytes { Keeps (W.contents out.old) (W.contents out.new) }
 {
-    match out.flush() {
+    match write_and_flush(out, &[]) {
         Ok(()) => Ok(status),
         Err(_) => Err(Failure::CannotWrite),
     }

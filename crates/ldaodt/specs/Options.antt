@@ -76,21 +76,29 @@ pub record IsConsoleOf (found : Found) (console : Console) : Type 0 where
   pub words : IsNumberOf found (codes "words") largest_words console.words
   pub style : IsNumberOf found (codes "style") 0 (style_number console.style)
 
+-- the mishaps that are survived where nothing else is said: a good line has none, and a dead one is told of after ten silences
+abbrev pub plain_patience : ℕ
+plain_patience = 8
+
+-- the quiet time, in milliseconds, where nothing else is said: far above what any adapter or busy computer holds back; too short is dangerous
+abbrev pub plain_quiet : ℕ
+plain_quiet = 2000
+
 -- a load, but for its tapes, is what the arguments and options of `load` say
 pub record SaysLoad (found : Found) (load : Load) : Type 0 where
   pub line : first_value found (codes "LINE") ≡ Some load.line.now
   pub record_file : option_map (λ name. name.now) load.«record» ≡ first_value found (codes "record")
   pub recheck : IsFlag found (codes "recheck") load.options.recheck
-  pub patience : IsNumberOf found (codes "patience") 8 load.options.patience
-  pub quiet : IsNumberOf found (codes "quiet") 2000 load.quiet_ms
+  pub patience : IsNumberOf found (codes "patience") plain_patience load.options.patience
+  pub quiet : IsNumberOf found (codes "quiet") plain_quiet load.quiet_ms
   pub listen : IsNumberGiven found (codes "listen") load.listen
   pub start : IsStartOf found load.start
 
 -- a look is what the arguments and options of `verify`, `save` and `probe` say
 pub record IsLookOf (found : Found) (look : Look) : Type 0 where
   pub line : first_value found (codes "LINE") ≡ Some look.line.now
-  pub patience : IsNumberOf found (codes "patience") 8 look.patience
-  pub quiet : IsNumberOf found (codes "quiet") 2000 look.quiet_ms
+  pub patience : IsNumberOf found (codes "patience") plain_patience look.patience
+  pub quiet : IsNumberOf found (codes "quiet") plain_quiet look.quiet_ms
 
 -- a range is that of two addresses
 pub record IsRangeOf (found : Found) (range : AddressRange) : Type 0 where

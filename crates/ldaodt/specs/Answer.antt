@@ -1,5 +1,5 @@
 -- What becomes of the words of a command line (this project's own).
-use Rattle.std.specs.Prelude.{◌≡◌, ◌⊎◌, ⊤, ℕ, List}
+use Rattle.std.specs.Prelude.{◌≡◌, ◌⊎◌, ⊤, ℕ, List, codes}
 use Rattle.std.specs.String.{string_bytes}
 use Rattle.clap.specs.declared.error.kind.ErrorKind.{ErrorKind}
 use Rattle.clap.specs.declared.error.kind.ErrorKind.TheVariants as kind
@@ -52,7 +52,7 @@ pub record IsMemoryWanting (before after : Held) (ended : Status) : Type 0 where
 abbrev pub IsExplained : NoRequest → Held → Held → Status → Type 0
 IsExplained (Help text) before after ended = IsShown (string_bytes text) before after ended
 IsExplained (Refused text) before after ended = AreWordsRefused (string_bytes text) before after ended
-IsExplained Meaningless before after ended = (text : List ℕ) × AreWordsRefused text before after ended
+IsExplained Meaningless before after ended = AreWordsRefused (codes "ldaodt: the command line is not understood\n") before after ended
 IsExplained NoMemory before after ended = IsMemoryWanting before after ended
 
 -- something was asked for and attempted, the check of the input only where there were no words; or the words were explained, and nothing was

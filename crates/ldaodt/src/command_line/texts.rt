@@ -18,7 +18,7 @@ Exit status:
   5  a load, verify, save or probe ended GaveUp, NoWord, WontHold, TurnsOver,
      NoPrompt or NotTrusted
   6  a load ended Uncertain or MaybeStarted: the program may be running
-  7  out of memory
+  7  no memory left
 Each fault but a refused command line is one line on standard error; a line
 that failed with the start in doubt has a second one.
 

@@ -3,7 +3,7 @@
 use crate::attempts::{Ended, run};
 use endings::Status;
 use odt_machine::PLAIN_STYLE;
-use requests::{Console, Request};
+use requests::{Console, Request, Stage};
 use simulated_system::{ONE_WORD, WRONG_SUM};
 use std::alloc::{AllocError, Global};
 use std::test::Fail;
@@ -33,7 +33,11 @@ const TOO_LARGE: Console = Console {
 // A dialogue with it.
 fn dialogue(alloc: Global, tape: &str) -> Result<Request<'_>, AllocError> {
     let names = Vec::from_slice(alloc, &[tape])?;
-    Ok(Request::Dialogue(names, TOO_LARGE, Start::OfTape))
+    let stage = Stage {
+        console: TOO_LARGE,
+        start: Start::OfTape,
+    };
+    Ok(Request::Dialogue(names, stage))
 }
 
 // The line that says that a machine is too large.

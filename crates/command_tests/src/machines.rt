@@ -56,14 +56,12 @@ fn request_of(alloc: Global, asked: Asked) -> Result<Request<'static>, AllocErro
         Asked::Load(load) => Request::Load(names, load),
         Asked::Verify(look) => Request::Verify(names, look),
         Asked::Save(look) => match AddressRange::new(0o001000, 0o001000) {
-            Some(range) => Request::Save(
-                SAVED,
-                Save {
-                    range,
-                    start: 1,
-                    look,
-                },
-            ),
+            Some(range) => Request::Save(Save {
+                file: SAVED,
+                range,
+                start: 1,
+                look,
+            }),
             None => Request::CheckInput,
         },
         Asked::Probe(look) => Request::Probe(Probe {

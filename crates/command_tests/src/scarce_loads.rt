@@ -81,14 +81,12 @@ fn verify_of<'a>(alloc: Global, tape: &'a str, look: Look<'a>) -> Result<Request
 
 fn save_of<'a>(name: &'a str, look: Look<'a>) -> Request<'a> {
     match AddressRange::new(0o001000, 0o010636) {
-        Some(range) => Request::Save(
-            name,
-            Save {
-                range,
-                start: 1,
-                look,
-            },
-        ),
+        Some(range) => Request::Save(Save {
+            file: name,
+            range,
+            start: 1,
+            look,
+        }),
         None => Request::CheckInput,
     }
 }

@@ -5,7 +5,7 @@ use crate::attempts::{Ended, OUT_OF_MEMORY, run};
 use endings::Status;
 use machine_load::LoadOptions;
 use odt_machine::{LARGEST_WORDS, PLAIN_STYLE};
-use requests::{Console, Load, Look, Probe, Request};
+use requests::{Console, Load, Look, Probe, Rehearsal, Request, Stage};
 use scarce_memory::{Famine, ROOMS};
 use simulated_system::{NOTHING, ONE_WORD, ONE_WORD_DIALOGUE, ONE_WORD_TEXT, PADDED, WRONG_SUM};
 use std::alloc::{AllocError, Global};
@@ -98,9 +98,17 @@ fn request_of(alloc: Global, asked: Asked) -> Result<Request<'static>, AllocErro
         Asked::CheckInput => Request::CheckInput,
         Asked::Check(tapes) => Request::Check(Vec::from_slice(alloc, tapes)?),
         Asked::Dialogue(tapes, console) => {
-            Request::Dialogue(Vec::from_slice(alloc, tapes)?, console, Start::OfTape)
+            let stage = Stage {
+                console,
+                start: Start::OfTape,
+            };
+            Request::Dialogue(Vec::from_slice(alloc, tapes)?, stage)
         }
-        Asked::Rehearse(tape, script) => Request::Rehearse(tape, script, Vec::new(alloc)),
+        Asked::Rehearse(tape, script) => Request::Rehearse(Rehearsal {
+            tape,
+            script,
+            more: Vec::new(alloc),
+        }),
         Asked::Type(console) => Request::Type(console),
         Asked::Load(tapes, load) => Request::Load(Vec::from_slice(alloc, tapes)?, load),
         Asked::Probe(look) => Request::Probe(Probe {

@@ -4,6 +4,7 @@
 ghost use Rattle.std.specs.Prelude.{◌≡◌, ◌++◌, [], ◌∷◌, Some};
 ghost use Rattle.command_tests.specs.ToldSystem.{dialled_by, opened_at, opened_by, Tells};
 ghost use Rattle.input_files.specs.Opening.{opening};
+ghost use Rattle.machine_requests.specs.Moment.{moment};
 ghost use Rattle.requests.specs.Attempt.{IsAttempted};
 
 use crate::attempts::NOBODY;
@@ -11,7 +12,7 @@ use endings::{Status, Streams};
 use input_files::InputFiles;
 use machine_load::LoadOptions;
 use machine_look::AddressRange;
-use requests::{Load, Look, Outside, Probe, Request, Save, System, attempt};
+use requests::{Load, Look, Outside, Probe, Rehearsal, Request, Save, System, attempt};
 use serial_line::{Device, DeviceOpening, Devices};
 use simulated_system::{AMPLE, Console, DEVICE, ONE_WORD, QUIET_MS, System as Simulated};
 use std::alloc::{AllocError, Global};
@@ -136,7 +137,7 @@ fn attempt_told<'a, R: Abort>(
     request: Request<'_>,
     streams: &mut Streams<&[u8], Vec<u8>, Vec<u8>>,
 ) -> (ToldSystem<'a, R>, Status)
-    ensures attempted { IsAttempted request.entry system.entry result.0 streams.old streams.new result.1 }
+    ensures attempted { IsAttempted request.entry (moment system.entry streams.old) (moment result.0 streams.new) result.1 }
     ensures told { Tells system.entry }
 {
     let _ = &system.inputs;
@@ -243,9 +244,11 @@ fn look_at(line: &'static str) -> Look<'static> {
 fn request_of(alloc: Global, wanted: Wanted) -> Result<Request<'static>, AllocError> {
     Ok(match wanted {
         Wanted::Check(names) => Request::Check(Vec::from_slice(alloc, names)?),
-        Wanted::Rehearse(tape, script, more) => {
-            Request::Rehearse(tape, script, Vec::from_slice(alloc, more)?)
-        }
+        Wanted::Rehearse(tape, script, more) => Request::Rehearse(Rehearsal {
+            tape,
+            script,
+            more: Vec::from_slice(alloc, more)?,
+        }),
         Wanted::Load(line, file) => Request::Load(
             Vec::from_slice(alloc, &[TAPE])?,
             Load {
@@ -264,14 +267,12 @@ fn request_of(alloc: Global, wanted: Wanted) -> Result<Request<'static>, AllocEr
             Request::Verify(Vec::from_slice(alloc, &[name])?, look_at(line))
         }
         Wanted::Save(name, line) => match AddressRange::new(0o001000, 0o001000) {
-            Some(range) => Request::Save(
-                name,
-                Save {
-                    range,
-                    start: 1,
-                    look: look_at(line),
-                },
-            ),
+            Some(range) => Request::Save(Save {
+                file: name,
+                range,
+                start: 1,
+                look: look_at(line),
+            }),
             None => Request::CheckInput,
         },
         Wanted::Probe(line) => Request::Probe(Probe {

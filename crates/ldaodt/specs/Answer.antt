@@ -4,7 +4,7 @@ use Rattle.std.specs.String.{string_bytes}
 use Rattle.clap.specs.declared.error.kind.ErrorKind.{ErrorKind}
 use Rattle.clap.specs.declared.error.kind.ErrorKind.TheVariants as kind
 use Rattle.requests.specs.Attempt.{IsAttempted}
-use Rattle.machine_requests.specs.Asked.{Asked}
+use Rattle.machine_requests.specs.Moment.{Moment}
 use Rattle.endings.specs.Explained.{IsShown}
 use Rattle.endings.specs.Failure.{IsTold}
 use Rattle.endings.specs.FaultOutput.{IsSaid}
@@ -57,7 +57,7 @@ IsExplained NoMemory before after ended = IsMemoryWanting before after ended
 
 -- something was asked for and attempted, the check of the input only where there were no words; or the words were explained, and nothing was
 -- asked of the system
-abbrev pub IsAnswered : Type 0 → Asked → Asked → Held → Held → Status → Type 0
-IsAnswered no_words asked asked' before after ended =
-    ((request : Request) × ((request ≡ CheckInput → no_words) × IsAttempted request asked asked' before after ended))
-    ⊎ ((answer : NoRequest) × IsExplained answer before after ended × (asked' ≡ asked))
+abbrev pub IsAnswered : Type 0 → Moment → Moment → Status → Type 0
+IsAnswered no_words before after ended =
+    ((request : Request) × ((request ≡ CheckInput → no_words) × IsAttempted request before after ended))
+    ⊎ ((answer : NoRequest) × IsExplained answer before.held after.held ended × (after.asked ≡ before.asked))

@@ -14,6 +14,7 @@ use Rattle.requests.specs.declared.request.Console.{Console}
 use Rattle.machine_requests.specs.declared.request.Load.{Load}
 use Rattle.machine_requests.specs.declared.request.Look.{Look}
 use Rattle.machine_requests.specs.declared.request.Probe.{Probe}
+use Rattle.requests.specs.declared.request.Rehearsal.{Rehearsal}
 use Rattle.requests.specs.declared.request.Request.{Request}
 use Rattle.requests.specs.declared.request.Request.TheVariants.{CheckInput, Check, Dialogue, Rehearse, «Type» as TypeKeys}
 use Rattle.requests.specs.declared.request.Request.TheVariants.{Load as Loads, Verify, Save as Saves, Probe as Probes}
@@ -80,7 +81,7 @@ pub record IsConsoleOf (found : Found) (console : Console) : Type 0 where
 abbrev pub plain_patience : ℕ
 plain_patience = 8
 
--- the quiet time, in milliseconds, where nothing else is said: far above what any adapter or busy computer holds back; too short is dangerous
+-- the quiet time, in milliseconds, where nothing else is said: too short is dangerous, too long costs little, and adapters hold back far less
 abbrev pub plain_quiet : ℕ
 plain_quiet = 2000
 
@@ -107,9 +108,16 @@ pub record IsRangeOf (found : Found) (range : AddressRange) : Type 0 where
 
 -- a save is what the arguments and options of `save` say
 pub record IsSaveOf (found : Found) (save : Save) : Type 0 where
+  pub file : first_value found (codes "FILE") ≡ Some save.file.now
   pub range : IsRangeOf found save.range
   pub start : IsSavedStart (first_value found (codes "start")) save.start
   pub look : IsLookOf found save.look
+
+-- a rehearsal is what the arguments of `rehearse` say
+pub record IsRehearsalOf (found : Found) (rehearsal : Rehearsal) : Type 0 where
+  pub tape : first_value found (codes "TAPE") ≡ Some rehearsal.tape.now
+  pub script : first_value found (codes "SCRIPT") ≡ Some rehearsal.script.now
+  pub more : map (λ name. name.now) rehearsal.more.items ≡ more_in found
 
 -- a probe is what the arguments and options of `probe` say
 pub record IsProbeOf (found : Found) (probe : Probe) : Type 0 where
@@ -119,13 +127,11 @@ pub record IsProbeOf (found : Found) (probe : Probe) : Type 0 where
 -- a request is what the arguments and options of its command say
 abbrev pub IsRequestOf : Found → Request → Type 0
 IsRequestOf found (Check names) = NamesTapes found names.items
-IsRequestOf found (Dialogue names console start) = NamesTapes found names.items × IsConsoleOf found console × IsStartOf found start
-IsRequestOf found (Rehearse tape script more) =
-    (first_value found (codes "TAPE") ≡ Some tape.now) × (first_value found (codes "SCRIPT") ≡ Some script.now)
-    × (map (λ name. name.now) more.items ≡ more_in found)
+IsRequestOf found (Dialogue names stage) = NamesTapes found names.items × IsConsoleOf found stage.console × IsStartOf found stage.start
+IsRequestOf found (Rehearse rehearsal) = IsRehearsalOf found rehearsal
 IsRequestOf found (TypeKeys console) = IsConsoleOf found console
 IsRequestOf found (Loads names load) = NamesTapes found names.items × SaysLoad found load
 IsRequestOf found (Verify names look) = NamesTapes found names.items × IsLookOf found look
-IsRequestOf found (Saves file save) = (first_value found (codes "FILE") ≡ Some file.now) × IsSaveOf found save
+IsRequestOf found (Saves save) = IsSaveOf found save
 IsRequestOf found (Probes probe) = IsProbeOf found probe
 IsRequestOf found CheckInput = ⊥

@@ -17,7 +17,7 @@ use clap::ArgMatches;
 use machine_load::LoadOptions;
 pub(crate) use no_request::NoRequest;
 use options::{FILE, LISTEN, PATIENCE, QUIET, RECHECK, RECORD, SCRIPT, TAPE};
-use requests::{Load, Look, Probe, Request, Save};
+use requests::{Load, Look, Probe, Rehearsal, Request, Save, Stage};
 use shown_words::{have_control, shown_words};
 use std::alloc::Global;
 use values::{console_of, further_tapes_of, line_of, number_given, number_of, tapes_of, text_of};
@@ -130,7 +130,12 @@ fn saving_of<'a>(alloc: Global, found: &ArgMatches<'a>) -> Result<Request<'a>, N
     let look = look_of(alloc, found)?;
     let range = range_of(alloc, found)?;
     let start = saved_start_of(alloc, found)?;
-    Ok(Request::Save(file, Save { range, start, look }))
+    Ok(Request::Save(Save {
+        file,
+        range,
+        start,
+        look,
+    }))
 }
 
 // The probe of a machine's console.
@@ -161,7 +166,8 @@ fn dialogue_of<'a>(alloc: Global, found: &ArgMatches<'a>) -> Result<Request<'a>,
 {
     let console = console_of(found)?;
     let start = start_of(alloc, found)?;
-    Ok(Request::Dialogue(tapes_of(alloc, found)?, console, start))
+    let stage = Stage { console, start };
+    Ok(Request::Dialogue(tapes_of(alloc, found)?, stage))
 }
 
 // The rehearsal of a tape, its script and further tapes.
@@ -171,5 +177,6 @@ fn rehearsal_of<'a>(alloc: Global, found: &ArgMatches<'a>) -> Result<Request<'a>
 {
     let tape = text_of(found, TAPE)?;
     let script = text_of(found, SCRIPT)?;
-    Ok(Request::Rehearse(tape, script, further_tapes_of(alloc, found)?))
+    let more = further_tapes_of(alloc, found)?;
+    Ok(Request::Rehearse(Rehearsal { tape, script, more }))
 }

@@ -4,6 +4,7 @@ ghost use Rattle.std.specs.Mem.{FitsInMemory};
 ghost use Rattle.requests.specs.declared.request.Request.{Request};
 ghost use Rattle.endings.specs.declared.status.Status.{Status};
 ghost use Rattle.endings.specs.Status.{status_code};
+ghost use Rattle.machine_requests.specs.Moment.{moment};
 ghost use Rattle.requests.specs.Attempt.{IsAttempted};
 ghost use Rattle.ldaodt.specs.Answer.{IsAnswered, IsExplained};
 
@@ -48,11 +49,11 @@ pub(crate) fn program<
     requires { FitsInMemory R.row }
     // With no words, the tape on the input is checked.
     ensures checked { words.now ≡ [] → (status : Status)
-        × IsAttempted Request.CheckInput system.entry result.0 streams.old streams.new status × (result.1 ≡ status_code status) }
+        × IsAttempted Request.CheckInput (moment system.entry streams.old) (moment result.0 streams.new) status × (result.1 ≡ status_code status) }
     // Whatever the words are, they ask for something that is then attempted, or they are explained. Only where
     // there are none, the input is checked.
     ensures answered { (status : Status)
-        × IsAnswered (words.now ≡ []) system.entry result.0 streams.old streams.new status × (result.1 ≡ status_code status) }
+        × IsAnswered (words.now ≡ []) (moment system.entry streams.old) (moment result.0 streams.new) status × (result.1 ≡ status_code status) }
 {
     match parse(alloc, words) {
         Ok(request) => {

@@ -1,6 +1,7 @@
 -- What becomes of a load, by what is said of its disk.
 use Rattle.std.proofs.Common.{◌≡◌, ◌∙◌, ℕ, List, Option, Some, None, Ok, inl, inr, ap, subst, ⊎_elim}
 use Rattle.std.specs.Prelude.{⊤}
+use Rattle.console_reach.specs.Console.{ConsoleTold}
 use Rattle.load_devices.specs.Told.{Gains}
 use Rattle.machine_load.proofs.OnDisk.{closed_ok}
 use Rattle.machine_load.specs.Called.{asked_by}
@@ -12,7 +13,8 @@ use Rattle.tape_image.specs.Plan.{PlanValue}
 use Rattle.endings.specs.declared.failure.Failure.{Failure}
 use Rattle.endings.specs.declared.status.Status.{Status}
 use Rattle.machine_requests.specs.declared.request.Load.{Load}
-use Rattle.machine_requests.specs.Loading.{IsPlanFailure, IsPlanLoaded, LoadTold, SaidOfDisk}
+use Rattle.machine_requests.specs.Files.{Known}
+use Rattle.machine_requests.specs.Loading.{IsPlanFailure, IsPlanLoaded, SaidOfDisk}
 
 -- whether there was a line
 abbrev pub some_line : {L : Type 0} → Option L → Option ⊤
@@ -27,9 +29,13 @@ pub disk_by_some : {L : Type 0} (line : Option L) (on_disk : SaidOfDisk) → on_
 disk_by_some (Some line) on_disk h = h
 disk_by_some None on_disk h = h
 
-module _ (plan : PlanValue) (load : Load) (call : Call) (P Q : SaidOfDisk) (before after : LoadTold)
+-- where the console's line leads is known from before a load
+module _ (plan : PlanValue) (load : Load) (P Q : SaidOfDisk) (before : ConsoleTold) (asked : Option (List LineRequest)) (out : Known) (call call' : Call)
     (f : (holds : RecordDisk → FileKnown → List DiskStep → Type 0) → P holds → Q holds) where
-  pub loaded_as : (status : Status) → IsPlanLoaded plan load call P before after status → IsPlanLoaded plan load call Q before after status
+  abbrev after : Call → ConsoleTold
+  after leads = record { asked = asked; call = leads; out = out }
+
+  pub loaded_as : (status : Status) → IsPlanLoaded plan load P before (after call) status → IsPlanLoaded plan load Q before (after call') status
   loaded_as status h = record {
     stop = h.stop;
     marked = h.marked;
@@ -41,7 +47,7 @@ module _ (plan : PlanValue) (load : Load) (call : Call) (P Q : SaidOfDisk) (befo
     disk = f (disk_asked_by h.line) h.disk;
   }
 
-  pub failed_as : (failure : Failure) → IsPlanFailure plan load call P before after failure → IsPlanFailure plan load call Q before after failure
+  pub failed_as : (failure : Failure) → IsPlanFailure plan load P before (after call) failure → IsPlanFailure plan load Q before (after call') failure
   failed_as failure =
       ⊎_elim
       (λ h. inl (record {

@@ -2,7 +2,7 @@
 use Rattle.std.proofs.Common.{◌≡◌, ◌∙◌, ◌++◌, ℕ, List, Option, None, Result, Ok, Err, IfOk, IfErr, inr, ap, refl, sym, subst}
 use Rattle.record_file.proofs.Asking.{tells_join}
 use Rattle.record_file.specs.DiskStep.{DiskStep, HasAsked}
-use Rattle.machine_look.specs.Save.{IsSavedAndReported, SaveTold}
+use Rattle.machine_look.specs.Save.{IsSavedAndReported}
 use Rattle.machine_look.specs.SaveDisk.{IsSavedOn}
 use Rattle.machine_look.specs.ShelfDisk.{ShelfDisk, IsClosed}
 use Rattle.machine_look.specs.declared.save_end.SaveEnd.{SaveEnd}
@@ -11,7 +11,8 @@ use Rattle.endings.specs.declared.status.Status.{Status}
 use Rattle.endings.specs.Status.{after_save}
 use Rattle.input_files.specs.Opening.{Name}
 use Rattle.machine_requests.specs.declared.request.Save.{Save}
-use Rattle.machine_requests.specs.Saving.{IsLetGoAfter, IsSaveFailure, IsSaveOver, SaidOfShelf, options_of}
+use Rattle.machine_requests.specs.Errand.{Told}
+use Rattle.machine_requests.specs.Saving.{AsksForTape, IsLetGoAfter, IsSaveFailure, IsSaveOver, options_of, save_told_of}
 
 as_known : (b : ShelfDisk) (asked : Option (List DiskStep)) (name : List ℕ) → b.asked ≡ asked → b.name ≡ name → b.room ≡ None
     → b ≡ record { asked = asked; name = name; room = None }
@@ -36,13 +37,14 @@ let_go_new name b a asked last p q r closed holds h =
       },
     )
 
-pub over_ok : (result : Result Status Failure) (save : Save) (on_disk : SaidOfShelf) (before after : SaveTold) (end : SaveEnd) → result ≡ after_save end
-    → IsSavedAndReported (options_of save) before after end → on_disk (IsSavedOn (options_of save)) → IfOk result (IsSaveOver save on_disk before after)
-over_ok (Ok status) save on_disk before after end is reported disk = record { end = end; reported = reported; status_is = sym is; disk = disk }
-over_ok (Err failure) save on_disk before after end is reported disk = tt
+pub over_ok : (result : Result Status Failure) (save : Save) (before after : Told) (end : SaveEnd) → result ≡ after_save end
+    → IsSavedAndReported (options_of save) (save_told_of before.console) (save_told_of after.console) end → AsksForTape save before after (IsSavedOn (options_of save))
+    → IfOk result (IsSaveOver save before after)
+over_ok (Ok status) save before after end is reported disk = record { end = end; reported = reported; status_is = sym is; disk = disk }
+over_ok (Err failure) save before after end is reported disk = tt
 
-pub over_err : (result : Result Status Failure) (name : Name) (save : Save) (on_disk : SaidOfShelf) (before after : SaveTold) (end : SaveEnd)
-    → result ≡ after_save end → IsSavedAndReported (options_of save) before after end → on_disk (IsSavedOn (options_of save))
-    → IfErr result (IsSaveFailure name save on_disk before after)
-over_err (Ok status) name save on_disk before after end is reported disk = tt
-over_err (Err failure) name save on_disk before after end is reported disk = inr (record { end = end; reported = reported; failed = sym is; disk = disk })
+pub over_err : (result : Result Status Failure) (save : Save) (before after : Told) (end : SaveEnd) → result ≡ after_save end
+    → IsSavedAndReported (options_of save) (save_told_of before.console) (save_told_of after.console) end → AsksForTape save before after (IsSavedOn (options_of save))
+    → IfErr result (IsSaveFailure save before after)
+over_err (Ok status) save before after end is reported disk = tt
+over_err (Err failure) save before after end is reported disk = inr (record { end = end; reported = reported; failed = sym is; disk = disk })

@@ -10,7 +10,7 @@ use Rattle.endings.specs.declared.failure.Failure.{Failure}
 use Rattle.endings.specs.Failure.{IsFailureOf}
 use Rattle.endings.specs.Held.{Held}
 use Rattle.input_files.specs.Opening.{Name, InputStep, AreTried, HasOpened}
-use Rattle.machine_requests.specs.Asked.{Asked}
+use Rattle.machine_requests.specs.Moment.{Reading}
 
 -- what a reader has left or a writer holds, as far as its type tells
 abbrev pub Known : Type 0
@@ -30,26 +30,13 @@ inputs_of names remaining old new = record { names = names; held = map remaining
 abbrev pub only_input : Known → Known → Inputs
 only_input input input' = record { names = []; held = input ∷ []; rests = input' ∷ [] }
 
--- which files were opened so far, and which by then, each where the system tells
-pub record Opening : Type 0 where
-  pub before : Option (List InputStep)
-  pub after : Option (List InputStep)
-
--- the same, by what is told before and after
-abbrev pub opening_between : Option (List InputStep) → Option (List InputStep) → Opening
-opening_between before after = record { before = before; after = after }
-
--- which input files were opened meanwhile, by what was asked of a system
-abbrev pub opening_in : Asked → Asked → Opening
-opening_in asked asked' = opening_between asked.inputs asked'.inputs
-
--- the files of these names were opened, in this order, and no others
-abbrev pub AreOpened : Opening → List Name → Type 0
-AreOpened opening names = HasOpened opening.before opening.after (AreTried names None)
+-- from one moment to another the files of these names were opened, in this order, and no others
+abbrev pub AreOpened : List Name → Option (List InputStep) → Option (List InputStep) → Type 0
+AreOpened names opened opened' = HasOpened opened opened' (AreTried names None)
 
 -- one of them was not: of those before it each was, and none behind it was tried
-abbrev pub IsUnopened : Opening → List Name → Failure → Type 0
-IsUnopened opening names failure = HasOpened opening.before opening.after (AreTried names (Some failure))
+abbrev pub IsUnopened : List Name → Option (List InputStep) → Option (List InputStep) → Failure → Type 0
+IsUnopened names opened opened' failure = HasOpened opened opened' (AreTried names (Some failure))
 
 -- this is so of what the files of these names held and of what was left of it
 pub record OfFiles (names : List Name) (P : Inputs → Type 0) : Type 0 where
@@ -75,15 +62,15 @@ OfInputs names before after P =
     ⊎ ((means_input names ≡ false) × OfFiles names P × (after.input ≡ before.input))
 
 -- .. whose files were opened
-pub record OfTapes (opening : Opening) (names : List Name) (before after : Held) (P : Inputs → Type 0) : Type 0 where
-  pub opened : AreOpened opening (files_of names)
-  pub is_so : OfInputs names before after P
+pub record OfTapes (names : List Name) (before after : Reading) (P : Inputs → Type 0) : Type 0 where
+  pub opened : AreOpened (files_of names) before.opened after.opened
+  pub is_so : OfInputs names before.held after.held P
 
 -- one of these files can't be opened, or want of memory, with nothing read of standard input and nothing written
-pub record FailsUnopened (opening : Opening) (files : List Name) (before after : Held) (failure : Failure) : Type 0 where
-  pub unopened : IsUnopened opening files failure
-  pub nothing_read : after.input ≡ before.input
-  pub nothing_written : after.out ≡ before.out
+pub record FailsUnopened (files : List Name) (before after : Reading) (failure : Failure) : Type 0 where
+  pub unopened : IsUnopened files before.opened after.opened failure
+  pub nothing_read : after.held.input ≡ before.held.input
+  pub nothing_written : after.held.out ≡ before.held.out
 
 -- a command has this fault, and it fails so, where its tapes and its script have these names
 pub record HasFault (P : CommandFault → Type 0) (tapes : List Name) (script : List ℕ) (failure : Failure) : Type 0 where
@@ -102,11 +89,11 @@ abbrev pub FailsToPlan : Inputs → Failure → Type 0
 FailsToPlan inputs failure = HasFault (AreTapesFault inputs.held inputs.rests) inputs.names (codes "standard input") failure
 
 -- this is the plan of the tapes of these names
-abbrev pub IsPlanned : Opening → List Name → Held → Held → PlanValue → Type 0
-IsPlanned opening names before after plan = OfTapes opening names before after (λ inputs. IsPlanOf inputs plan)
+abbrev pub IsPlanned : List Name → Reading → Reading → PlanValue → Type 0
+IsPlanned names before after plan = OfTapes names before after (λ inputs. IsPlanOf inputs plan)
 
 -- no plan comes of the tapes of these names, and nothing was written
-abbrev pub IsUnplanned : Opening → List Name → Held → Held → Failure → Type 0
-IsUnplanned opening names before after failure =
-    FailsUnopened opening (files_of names) before after failure
-    ⊎ (OfTapes opening names before after (λ inputs. FailsToPlan inputs failure) × (after.out ≡ before.out))
+abbrev pub IsUnplanned : List Name → Reading → Reading → Failure → Type 0
+IsUnplanned names before after failure =
+    FailsUnopened (files_of names) before after failure
+    ⊎ (OfTapes names before after (λ inputs. FailsToPlan inputs failure) × (after.held.out ≡ before.held.out))

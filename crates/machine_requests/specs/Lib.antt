@@ -4,5 +4,6 @@ pub mod Files
 pub mod Listening
 pub mod Loading
 pub mod Looking
+pub mod Moment
 pub mod Probing
 pub mod Saving

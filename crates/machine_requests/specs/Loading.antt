@@ -1,5 +1,6 @@
 -- What becomes of a request to load a real machine.
 use Rattle.std.specs.Prelude.{◌≡◌, ◌⊎◌, ⊤, ℕ, Bool, List, Option, Some, None, IsSome, Result, IfOk, IfErr, codes}
+use Rattle.console_reach.specs.Console.{ConsoleTold}
 use Rattle.tape_image.specs.Plan.{PlanValue, starting}
 use Rattle.load_engine.specs.declared.stop.Stop.{Stop}
 use Rattle.load_devices.specs.Told.{Gains}
@@ -10,18 +11,17 @@ use Rattle.machine_load.specs.RecordDisk.{FileKnown, IsClosedAfter, RecordDisk, 
 use Rattle.machine_load.specs.declared.fault.LoadFault.{LoadFault}
 use Rattle.machine_load.specs.declared.options.LoadOptions.{LoadOptions}
 use Rattle.record_file.specs.DiskStep.{DiskStep, HasAsked}
-use Rattle.stream_line.specs.Dialling.{Call, LineRequest}
 use Rattle.endings.specs.declared.failure.Failure.{Failure}
 use Rattle.endings.specs.declared.failure.Failure.TheVariants.{CannotWrite}
 use Rattle.endings.specs.declared.status.Status.{Status}
 use Rattle.endings.specs.Failure.{IsLoadFailureOf, IsStopFailure}
 use Rattle.endings.specs.Status.{IsStopStatus}
-use Rattle.endings.specs.Held.{Held}
 use Rattle.machine_requests.specs.declared.request.Load.{Load as LoadRequest}
 use Rattle.input_files.specs.Opening.{Name}
-use Rattle.machine_requests.specs.Errand.{Told}
-use Rattle.machine_requests.specs.Files.{Known, IsPlanned, IsUnplanned, opening_in}
-use Rattle.machine_requests.specs.Asked.{Asked, OutsideAsked, NotElsewhere, asked_towards, call_to}
+use Rattle.machine_requests.specs.Errand.{Told, told_towards}
+use Rattle.machine_requests.specs.Files.{Known, IsPlanned, IsUnplanned}
+use Rattle.machine_requests.specs.Asked.{OutsideAsked, NotElsewhere}
+use Rattle.machine_requests.specs.Moment.{Moment, reading_at}
 use Rattle.machine_requests.specs.Listening.{IsListenedTo, IsHeardInPart, seconds_of, quiet_time}
 
 -- what faults call the record: its file's name, where it has one
@@ -51,22 +51,9 @@ abbrev pub IsEndFailure : LoadRequest → Stop → Bool → Known → Known → 
 IsEndFailure load stop marked out out' failure =
     (IsStopFailure stop marked (record_name load.record) failure × (out' ≡ out)) ⊎ IsListeningCut load stop out out' failure
 
--- what a load's console and output tell: what was asked for a line, and what this one holds
-pub record LoadTold : Type 0 where
-  pub asked : Option (List LineRequest)
-  pub out : Known
-
--- what this console and this output tell, read by what each of them says of itself
-abbrev pub load_told : {C W : Type 0} → (C → Option (List LineRequest)) → (W → Known) → C → W → LoadTold
-load_told asked_of contents console out = record { asked = asked_of console; out = contents out }
-
--- what the console that a load is meant for and an output tell
-abbrev pub load_told_of : LoadRequest → OutsideAsked → Known → LoadTold
-load_told_of load asked out = record { asked = asked_towards load.line.now asked; out = out }
-
--- whom a load calls: the console that it is meant for
-abbrev pub load_call : LoadRequest → Call
-load_call load = call_to load.line.now load.quiet_ms
+-- what is told of the console that a load is meant for, of the disk and of an output
+abbrev pub told_for : LoadRequest → OutsideAsked → Known → Told
+told_for load asked out = told_towards load.line.now load.quiet_ms asked out
 
 -- what is said of a disk, by what holds of the steps that it was asked for
 abbrev pub SaidOfDisk : Type 1
@@ -79,71 +66,73 @@ AsksDisk (Some name) asked asked' holds = HasAsked asked asked' (IsClosedAfter h
 
 -- a load of this plan was done. It had a line, for which its console was asked for once and its record begun once; or it had none, and its
 -- record was read alone
-pub record IsPlanLoaded (plan : PlanValue) (load : LoadRequest) (call : Call) (on_disk : SaidOfDisk) (before after : LoadTold) (status : Status) : Type 0 where
+pub record IsPlanLoaded (plan : PlanValue) (load : LoadRequest) (on_disk : SaidOfDisk) (before after : ConsoleTold) (status : Status) : Type 0 where
   pub stop : Stop
   pub marked : Bool
   pub between : Known
   pub reported : IsPlanReported plan load.options before.out between stop marked
   pub ended : IsEnded load stop between after.out status
   pub line : Option ⊤
-  pub asked : Gains before.asked after.asked (asked_by call line)
+  pub asked : Gains before.asked after.asked (asked_by before.call line)
   pub disk : on_disk (disk_asked_by line)
 
 -- a load of this plan was reported, and failed all the same
-pub record IsLoadBroken (plan : PlanValue) (load : LoadRequest) (call : Call) (on_disk : SaidOfDisk) (before after : LoadTold) (failure : Failure)
-    : Type 0 where
+pub record IsLoadBroken (plan : PlanValue) (load : LoadRequest) (on_disk : SaidOfDisk) (before after : ConsoleTold) (failure : Failure) : Type 0 where
   pub stop : Stop
   pub marked : Bool
   pub between : Known
   pub reported : IsPlanReported plan load.options before.out between stop marked
   pub is_so : IsEndFailure load stop marked between after.out failure
   pub line : Option ⊤
-  pub asked : Gains before.asked after.asked (asked_by call line)
+  pub asked : Gains before.asked after.asked (asked_by before.call line)
   pub disk : on_disk (disk_asked_by line)
 
 -- a load of this plan came to nothing
-pub record IsLoadCutShort (plan : PlanValue) (load : LoadRequest) (call : Call) (on_disk : SaidOfDisk) (before after : LoadTold) (failure : Failure)
-    : Type 0 where
+pub record IsLoadCutShort (plan : PlanValue) (load : LoadRequest) (on_disk : SaidOfDisk) (before after : ConsoleTold) (failure : Failure) : Type 0 where
   pub fault : LoadFault
   pub around : Around
   pub around' : Around
   pub is_so : IsLoadFault plan load.options (record { around = around; out = before.out }) (record { around = around'; out = after.out }) fault
   pub is_called : IsLoadFailureOf fault load.line.now (record_name load.record) failure
-  pub asked : IsAskedBefore call before.asked after.asked fault
+  pub asked : IsAskedBefore before.call before.asked after.asked fault
   pub disk : on_disk (disk_asked_before fault)
 
 -- a load of this plan failed
-abbrev pub IsPlanFailure : PlanValue → LoadRequest → Call → SaidOfDisk → LoadTold → LoadTold → Failure → Type 0
-IsPlanFailure plan load call on_disk before after failure =
-    IsLoadCutShort plan load call on_disk before after failure ⊎ IsLoadBroken plan load call on_disk before after failure
+abbrev pub IsPlanFailure : PlanValue → LoadRequest → SaidOfDisk → ConsoleTold → ConsoleTold → Failure → Type 0
+IsPlanFailure plan load on_disk before after failure =
+    IsLoadCutShort plan load on_disk before after failure ⊎ IsLoadBroken plan load on_disk before after failure
 
--- what an errand at a console is told of its load
-abbrev pub load_part : Told → LoadTold
-load_part told = record { asked = told.asked; out = told.out }
+-- a load of this plan was done, with its record on the disk or in memory alone
+abbrev pub IsLoadDone : PlanValue → LoadRequest → Told → Told → Status → Type 0
+IsLoadDone plan load before after status = IsPlanLoaded plan load (AsksDisk load.record before.disk after.disk) before.console after.console status
 
--- what a load of this plan came to, with its record on the disk or in memory alone: it was done, or it failed
-pub record IsLoadOver (plan : PlanValue) (load : LoadRequest) (call : Call) (before after : Told) (outcome : Result Status Failure) : Type 0 where
-  pub ok : IfOk outcome (IsPlanLoaded plan load call (AsksDisk load.record before.disk after.disk) (load_part before) (load_part after))
-  pub err : IfErr outcome (IsPlanFailure plan load call (AsksDisk load.record before.disk after.disk) (load_part before) (load_part after))
+-- or it failed
+abbrev pub IsLoadFailure : PlanValue → LoadRequest → Told → Told → Failure → Type 0
+IsLoadFailure plan load before after failure = IsPlanFailure plan load (AsksDisk load.record before.disk after.disk) before.console after.console failure
+
+-- what a load of this plan came to: it was done, or it failed
+pub record IsLoadOver (plan : PlanValue) (load : LoadRequest) (before after : Told) (outcome : Result Status Failure) : Type 0 where
+  pub ok : IfOk outcome (IsLoadDone plan load before after)
+  pub err : IfErr outcome (IsLoadFailure plan load before after)
 
 -- the tapes of these names were loaded, as one, with the start that is asked for, at the console that is named, and no other was asked for
-pub record AreLoaded (names : List Name) (load : LoadRequest) (asked asked' : Asked) (before after : Held) (status : Status) : Type 0 where
+pub record AreLoaded (names : List Name) (load : LoadRequest) (before after : Moment) (status : Status) : Type 0 where
   pub plan : PlanValue
-  pub planned : IsPlanned (opening_in asked asked') names before after plan
-  pub loaded : IsPlanLoaded (starting plan load.start) load (load_call load) (AsksDisk load.record asked.outside.disk asked'.outside.disk)
-      (load_told_of load asked.outside before.out) (load_told_of load asked'.outside after.out) status
-  pub not_elsewhere : NotElsewhere load.line.now asked.outside asked'.outside
+  pub planned : IsPlanned names (reading_at before) (reading_at after) plan
+  pub loaded : IsLoadDone (starting plan load.start) load
+      (told_for load before.asked.outside before.held.out) (told_for load after.asked.outside after.held.out) status
+  pub not_elsewhere : NotElsewhere load.line.now before.asked.outside after.asked.outside
 
 -- there is a plan, and its load failed
-pub record IsLoadUndone (names : List Name) (load : LoadRequest) (asked asked' : Asked) (before after : Held) (failure : Failure) : Type 0 where
+pub record IsLoadUndone (names : List Name) (load : LoadRequest) (before after : Moment) (failure : Failure) : Type 0 where
   pub plan : PlanValue
-  pub planned : IsPlanned (opening_in asked asked') names before after plan
-  pub failed : IsPlanFailure (starting plan load.start) load (load_call load) (AsksDisk load.record asked.outside.disk asked'.outside.disk)
-      (load_told_of load asked.outside before.out) (load_told_of load asked'.outside after.out) failure
-  pub not_elsewhere : NotElsewhere load.line.now asked.outside asked'.outside
+  pub planned : IsPlanned names (reading_at before) (reading_at after) plan
+  pub failed : IsLoadFailure (starting plan load.start) load
+      (told_for load before.asked.outside before.held.out) (told_for load after.asked.outside after.held.out) failure
+  pub not_elsewhere : NotElsewhere load.line.now before.asked.outside after.asked.outside
 
 -- their load failed: it has no plan, and of disk and consoles nothing was asked; or it failed on its way
-abbrev pub AreUnloaded : List Name → LoadRequest → Asked → Asked → Held → Held → Failure → Type 0
-AreUnloaded names load asked asked' before after failure =
-    ((asked'.outside ≡ asked.outside) × IsUnplanned (opening_in asked asked') names before after failure)
-    ⊎ IsLoadUndone names load asked asked' before after failure
+abbrev pub AreUnloaded : List Name → LoadRequest → Moment → Moment → Failure → Type 0
+AreUnloaded names load before after failure =
+    ((after.asked.outside ≡ before.asked.outside) × IsUnplanned names (reading_at before) (reading_at after) failure)
+    ⊎ IsLoadUndone names load before after failure

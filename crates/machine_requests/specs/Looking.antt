@@ -6,21 +6,24 @@ use Rattle.machine_look.specs.LookFault.{IsVerifyFault}
 use Rattle.machine_look.specs.Verify.{IsReported}
 use Rattle.machine_look.specs.declared.look_fault.LookFault.{LookFault}
 use Rattle.machine_look.specs.declared.verify_end.VerifyEnd.{VerifyEnd}
-use Rattle.stream_line.specs.Dialling.{Call}
 use Rattle.endings.specs.declared.failure.Failure.{Failure}
 use Rattle.endings.specs.declared.status.Status.{Status}
 use Rattle.endings.specs.Failure.{IsLookFailureOf}
 use Rattle.endings.specs.Status.{after_verify}
-use Rattle.endings.specs.Held.{Held}
 use Rattle.machine_requests.specs.declared.request.Look.{Look}
 use Rattle.input_files.specs.Opening.{Name}
-use Rattle.machine_requests.specs.Errand.{Told}
-use Rattle.machine_requests.specs.Files.{Known, IsPlanned, IsUnplanned, opening_in}
-use Rattle.machine_requests.specs.Asked.{Asked, OutsideAsked, AsksConsoleAlone, asked_towards, call_to}
+use Rattle.machine_requests.specs.Errand.{Told, told_towards}
+use Rattle.machine_requests.specs.Files.{Known, IsPlanned, IsUnplanned}
+use Rattle.machine_requests.specs.Asked.{OutsideAsked, AsksConsoleAlone}
+use Rattle.machine_requests.specs.Moment.{Moment, reading_at}
 
--- what the console that a look is meant for and an output tell
+-- what is told of the console that a look is meant for, of the disk and of an output
+abbrev pub told_at : Look → OutsideAsked → Known → Told
+told_at look asked out = told_towards look.line.now look.quiet_ms asked out
+
+-- what the console and the output tell
 abbrev pub console_at : Look → OutsideAsked → Known → ConsoleTold
-console_at look asked out = record { asked = asked_towards look.line.now asked; call = call_to look.line.now look.quiet_ms; out = out }
+console_at look asked out = (told_at look asked out).console
 
 -- memory was looked at for a plan
 abbrev pub IsPlanVerified : PlanValue → Look → ConsoleTold → ConsoleTold → Status → Type 0
@@ -38,32 +41,28 @@ IsVerifyFailure plan look before after failure =
     IsVerifyCutShort plan look before after failure
     ⊎ ((end : VerifyEnd) × IsReported plan look.patience before after end × (after_verify end ≡ Err failure))
 
--- what an errand at the console of a call is told of it and of the output
-abbrev pub console_part : Call → Told → ConsoleTold
-console_part call told = record { asked = told.asked; call = call; out = told.out }
-
 -- what a look for a plan came to, with nothing asked of the disk: memory was looked at, or that failed
-pub record IsLookOver (plan : PlanValue) (look : Look) (call : Call) (before after : Told) (outcome : Result Status Failure) : Type 0 where
-  pub ok : IfOk outcome (IsPlanVerified plan look (console_part call before) (console_part call after))
-  pub err : IfErr outcome (IsVerifyFailure plan look (console_part call before) (console_part call after))
+pub record IsLookOver (plan : PlanValue) (look : Look) (before after : Told) (outcome : Result Status Failure) : Type 0 where
+  pub ok : IfOk outcome (IsPlanVerified plan look before.console after.console)
+  pub err : IfErr outcome (IsVerifyFailure plan look before.console after.console)
   pub no_disk : after.disk ≡ before.disk
 
 -- memory was looked at for the tapes of these names, as one, at the console that is named, and no other was asked for
-pub record AreVerified (names : List Name) (look : Look) (asked asked' : Asked) (before after : Held) (status : Status) : Type 0 where
+pub record AreVerified (names : List Name) (look : Look) (before after : Moment) (status : Status) : Type 0 where
   pub plan : PlanValue
-  pub planned : IsPlanned (opening_in asked asked') names before after plan
-  pub verified : IsPlanVerified plan look (console_at look asked.outside before.out) (console_at look asked'.outside after.out) status
-  pub alone : AsksConsoleAlone look.line.now asked.outside asked'.outside
+  pub planned : IsPlanned names (reading_at before) (reading_at after) plan
+  pub verified : IsPlanVerified plan look (console_at look before.asked.outside before.held.out) (console_at look after.asked.outside after.held.out) status
+  pub alone : AsksConsoleAlone look.line.now before.asked.outside after.asked.outside
 
 -- there is a plan, and the look for it failed
-pub record IsLookBroken (names : List Name) (look : Look) (asked asked' : Asked) (before after : Held) (failure : Failure) : Type 0 where
+pub record IsLookBroken (names : List Name) (look : Look) (before after : Moment) (failure : Failure) : Type 0 where
   pub plan : PlanValue
-  pub planned : IsPlanned (opening_in asked asked') names before after plan
-  pub failed : IsVerifyFailure plan look (console_at look asked.outside before.out) (console_at look asked'.outside after.out) failure
-  pub alone : AsksConsoleAlone look.line.now asked.outside asked'.outside
+  pub planned : IsPlanned names (reading_at before) (reading_at after) plan
+  pub failed : IsVerifyFailure plan look (console_at look before.asked.outside before.held.out) (console_at look after.asked.outside after.held.out) failure
+  pub alone : AsksConsoleAlone look.line.now before.asked.outside after.asked.outside
 
 -- the look failed: there is no plan, and no console was asked for, or it failed on its way
-abbrev pub AreUnverified : List Name → Look → Asked → Asked → Held → Held → Failure → Type 0
-AreUnverified names look asked asked' before after failure =
-    ((asked'.outside ≡ asked.outside) × IsUnplanned (opening_in asked asked') names before after failure)
-    ⊎ IsLookBroken names look asked asked' before after failure
+abbrev pub AreUnverified : List Name → Look → Moment → Moment → Failure → Type 0
+AreUnverified names look before after failure =
+    ((after.asked.outside ≡ before.asked.outside) × IsUnplanned names (reading_at before) (reading_at after) failure)
+    ⊎ IsLookBroken names look before after failure

@@ -6,16 +6,15 @@ use Rattle.machine_probe.specs.Probe.{IsReported}
 use Rattle.machine_probe.specs.ProbeFault.{IsProbeFault}
 use Rattle.machine_probe.specs.declared.probe_fault.ProbeFault.{ProbeFault}
 use Rattle.machine_probe.specs.declared.probe_options.ProbeOptions.{ProbeOptions}
-use Rattle.stream_line.specs.Dialling.{Call}
 use Rattle.endings.specs.declared.failure.Failure.{Failure}
 use Rattle.endings.specs.declared.status.Status.{Status}
 use Rattle.endings.specs.Failure.{IsProbeFailureOf}
 use Rattle.endings.specs.Status.{after_probe}
-use Rattle.endings.specs.Held.{Held}
 use Rattle.machine_requests.specs.declared.request.Probe.{Probe}
 use Rattle.machine_requests.specs.Errand.{Told}
-use Rattle.machine_requests.specs.Looking.{console_at, console_part}
-use Rattle.machine_requests.specs.Asked.{Asked, AsksConsoleAlone}
+use Rattle.machine_requests.specs.Looking.{console_at}
+use Rattle.machine_requests.specs.Asked.{AsksConsoleAlone}
+use Rattle.machine_requests.specs.Moment.{Moment}
 
 -- what is to be probed, and how, as the request has it
 abbrev pub probe_options : Probe → ProbeOptions
@@ -38,21 +37,23 @@ IsProbeFailure request before after failure =
     ⊎ ((end : ProbeEnd) × IsReported (probe_options request) before after end × (after_probe end ≡ Err failure))
 
 -- what a probe came to, with nothing asked of the disk: the console was probed, or that failed
-pub record IsProbeDone (request : Probe) (call : Call) (before after : Told) (outcome : Result Status Failure) : Type 0 where
-  pub ok : IfOk outcome (IsProbeOver request (console_part call before) (console_part call after))
-  pub err : IfErr outcome (IsProbeFailure request (console_part call before) (console_part call after))
+pub record IsProbeDone (request : Probe) (before after : Told) (outcome : Result Status Failure) : Type 0 where
+  pub ok : IfOk outcome (IsProbeOver request before.console after.console)
+  pub err : IfErr outcome (IsProbeFailure request before.console after.console)
   pub no_disk : after.disk ≡ before.disk
 
 -- a console was probed, at the name that is given, and nothing else was asked or read
-pub record IsConsoleProbed (request : Probe) (asked asked' : Asked) (before after : Held) (status : Status) : Type 0 where
-  pub probed : IsProbeOver request (console_at request.look asked.outside before.out) (console_at request.look asked'.outside after.out) status
-  pub alone : AsksConsoleAlone request.look.line.now asked.outside asked'.outside
-  pub no_file : asked'.inputs ≡ asked.inputs
-  pub nothing_read : after.input ≡ before.input
+pub record IsConsoleProbed (request : Probe) (before after : Moment) (status : Status) : Type 0 where
+  pub probed : IsProbeOver request
+      (console_at request.look before.asked.outside before.held.out) (console_at request.look after.asked.outside after.held.out) status
+  pub alone : AsksConsoleAlone request.look.line.now before.asked.outside after.asked.outside
+  pub no_file : after.asked.inputs ≡ before.asked.inputs
+  pub nothing_read : after.held.input ≡ before.held.input
 
 -- or the probe failed
-pub record IsConsoleUnprobed (request : Probe) (asked asked' : Asked) (before after : Held) (failure : Failure) : Type 0 where
-  pub failed : IsProbeFailure request (console_at request.look asked.outside before.out) (console_at request.look asked'.outside after.out) failure
-  pub alone : AsksConsoleAlone request.look.line.now asked.outside asked'.outside
-  pub no_file : asked'.inputs ≡ asked.inputs
-  pub nothing_read : after.input ≡ before.input
+pub record IsConsoleUnprobed (request : Probe) (before after : Moment) (failure : Failure) : Type 0 where
+  pub failed : IsProbeFailure request
+      (console_at request.look before.asked.outside before.held.out) (console_at request.look after.asked.outside after.held.out) failure
+  pub alone : AsksConsoleAlone request.look.line.now before.asked.outside after.asked.outside
+  pub no_file : after.asked.inputs ≡ before.asked.inputs
+  pub nothing_read : after.held.input ≡ before.held.input

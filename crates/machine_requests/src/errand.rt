@@ -3,8 +3,7 @@ ghost use Rattle.std.specs.Prelude.{Result};
 ghost use Rattle.endings.specs.declared.failure.Failure.{Failure};
 ghost use Rattle.endings.specs.declared.status.Status.{Status};
 ghost use Rattle.machine_requests.specs.Errand.{Told, told, told_towards};
-ghost use Rattle.machine_requests.specs.Asked.{call_to, NotElsewhere};
-ghost use Rattle.stream_line.specs.Dialling.{Call};
+ghost use Rattle.machine_requests.specs.Asked.{NotElsewhere};
 
 use crate::system::Outside;
 use console_reach::{Port, Reach, Wire, is_path};
@@ -17,8 +16,8 @@ use stream_line::Dialling;
 
 /// What is done with a console.
 pub(crate) trait Errand<'a> {
-    /// What is so once it was done at the console of this call, by what was told before and after.
-    ghost is_over: { Self → Call → Told → Told → Result Status Failure → Type 0 };
+    /// What is so once it was done, by what was told before and after.
+    ghost is_over: { Self → Told → Told → Result Status Failure → Type 0 };
 
     /// Does it. Console and disk come back.
     fn run<C: Reach + Drop, D: Disk + Drop, W: Write>(
@@ -27,9 +26,9 @@ pub(crate) trait Errand<'a> {
         disk: D,
         out: &mut W,
     ) -> (C, D, Result<Status, Failure<'a>>)
-        ensures { is_over self (C.call console)
-            (told C.asked D.asked W.contents console disk out.old)
-            (told C.asked D.asked W.contents result.0 result.1 out.new)
+        ensures { is_over self
+            (told (C.call console) (C.asked console) (D.asked disk) (W.contents out.old))
+            (told (C.call console) (C.asked result.0) (D.asked result.1) (W.contents out.new))
             result.2 };
 }
 
@@ -50,9 +49,9 @@ pub(crate) fn run_at<
     quiet_ms: u32,
     out: &mut W,
 ) -> (Outside<'c, D, N, V, C>, Result<Status, Failure<'a>>)
-    ensures over { T.is_over errand (call_to path.entry.now quiet_ms)
-        (told_towards path.entry.now outside.entry (W.contents out.old))
-        (told_towards path.entry.now result.0 (W.contents out.new))
+    ensures over { T.is_over errand
+        (told_towards path.entry.now quiet_ms outside.entry (W.contents out.old))
+        (told_towards path.entry.now quiet_ms result.0 (W.contents out.new))
         result.1 }
     ensures not_elsewhere { NotElsewhere path.entry.now outside.entry result.0 }
 {

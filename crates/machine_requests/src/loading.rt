@@ -1,12 +1,14 @@
 //! Loading a real machine.
 ghost use Rattle.std.specs.Prelude.{◌≡◌, ◌⊎◌, IfOk, IfErr, IsSome};
 ghost use Rattle.std.specs.Mem.{FitsInMemory};
+ghost use Rattle.console_reach.specs.Console.{console_told};
 ghost use Rattle.endings.specs.Failure.{IsStopFailure};
 ghost use Rattle.endings.specs.Status.{IsStopStatus};
 ghost use Rattle.machine_load.specs.Load.{IsNeverBegun};
 ghost use Rattle.machine_load.specs.RecordDisk.{DiskAsked};
-ghost use Rattle.machine_requests.specs.Loading.{load_told, record_name, AreLoaded, AreUnloaded, IsLoadOver};
+ghost use Rattle.machine_requests.specs.Loading.{record_name, AreLoaded, AreUnloaded, IsLoadOver};
 ghost use Rattle.machine_requests.specs.Loading.{IsEnded, IsEndFailure, IsPlanLoaded, IsPlanFailure};
+ghost use Rattle.machine_requests.specs.Moment.{moment};
 
 use crate::errand::{Errand, run_at};
 use crate::host::Host;
@@ -65,8 +67,8 @@ pub fn load_tapes<
     terminal: Option<&T>,
 ) -> (System<'c, F, D, N, V, C>, Result<Status, Failure<'a>>)
     requires { FitsInMemory R.row }
-    ensures ok { IfOk result.1 (AreLoaded names.now load.entry system.entry result.0 streams.old streams.new) }
-    ensures err { IfErr result.1 (AreUnloaded names.now load.entry system.entry result.0 streams.old streams.new) }
+    ensures ok { IfOk result.1 (AreLoaded names.now load.entry (moment system.entry streams.old) (moment result.0 streams.new)) }
+    ensures err { IfErr result.1 (AreUnloaded names.now load.entry (moment system.entry streams.old) (moment result.0 streams.new)) }
     ensures quiet { streams.new.err ≡ streams.old.err }
 {
     let planned = match plan_tapes(&mut system.inputs, alloc, names, streams) {
@@ -128,12 +130,12 @@ fn load_with<'a, K: Clock, T: Print, S: Surroundings, W: Write>(
     around: &mut S,
     out: &mut W,
 ) -> Result<Status, Failure<'a>>
-    ensures ok { IfOk result (IsPlanLoaded plan request.entry (S.call around.old) (DiskAsked (S.disk around.old) (S.disk around.new))
-        (load_told S.asked W.contents around.old out.old)
-        (load_told S.asked W.contents around.new out.new)) }
-    ensures err { IfErr result (IsPlanFailure plan request.entry (S.call around.old) (DiskAsked (S.disk around.old) (S.disk around.new))
-        (load_told S.asked W.contents around.old out.old)
-        (load_told S.asked W.contents around.new out.new)) }
+    ensures ok { IfOk result (IsPlanLoaded plan request.entry (DiskAsked (S.disk around.old) (S.disk around.new))
+        (console_told S.asked S.call W.contents around.old out.old)
+        (console_told S.asked S.call W.contents around.new out.new)) }
+    ensures err { IfErr result (IsPlanFailure plan request.entry (DiskAsked (S.disk around.old) (S.disk around.new))
+        (console_told S.asked S.call W.contents around.old out.old)
+        (console_told S.asked S.call W.contents around.new out.new)) }
 {
     match load(
         host.alloc,

@@ -1,8 +1,9 @@
 //! The plan of tapes.
 ghost use Rattle.std.specs.Prelude.{◌≡◌, ◌⊎◌, IfOk, IfErr};
 ghost use Rattle.std.specs.Mem.{FitsInMemory};
-ghost use Rattle.machine_requests.specs.Files.{inputs_of, only_input, opening_between, AreOpened, IsUnopened, OfFiles};
+ghost use Rattle.machine_requests.specs.Files.{inputs_of, only_input, AreOpened, IsUnopened, OfFiles};
 ghost use Rattle.machine_requests.specs.Files.{FailsToPlan, IsPlanned, IsPlanOf, IsUnplanned};
+ghost use Rattle.machine_requests.specs.Moment.{reading};
 
 use crate::names::is_input;
 use command_io::take_tapes;
@@ -22,8 +23,8 @@ pub(crate) fn plan_tapes<'a, F: InputFiles, R: Read, W: Output, E: FaultOutput>(
     streams: &mut Streams<R, W, E>,
 ) -> Result<Plan, Failure<'a>>
     requires { FitsInMemory R.row }
-    ensures ok { IfOk result (IsPlanned (opening_between (F.opened inputs.old) (F.opened inputs.new)) names.now streams.old streams.new) }
-    ensures err { IfErr result (IsUnplanned (opening_between (F.opened inputs.old) (F.opened inputs.new)) names.now streams.old streams.new) }
+    ensures ok { IfOk result (IsPlanned names.now (reading (F.opened inputs.old) streams.old) (reading (F.opened inputs.new) streams.new)) }
+    ensures err { IfErr result (IsUnplanned names.now (reading (F.opened inputs.old) streams.old) (reading (F.opened inputs.new) streams.new)) }
     ensures same_out { streams.new.out ≡ streams.old.out }
     ensures quiet { streams.new.err ≡ streams.old.err }
 {
@@ -49,10 +50,10 @@ fn plan_files<'a, F: InputFiles>(
     alloc: Global,
     names: &[&'a str],
 ) -> Result<Plan, Failure<'a>>
-    ensures ok { IfOk result (λ plan. AreOpened (opening_between (F.opened inputs.old) (F.opened inputs.new)) names.now
+    ensures ok { IfOk result (λ plan. AreOpened names.now (F.opened inputs.old) (F.opened inputs.new)
         × OfFiles names.now (λ of. IsPlanOf of plan)) }
-    ensures err { IfErr result (λ failure. IsUnopened (opening_between (F.opened inputs.old) (F.opened inputs.new)) names.now failure
-        ⊎ (AreOpened (opening_between (F.opened inputs.old) (F.opened inputs.new)) names.now × OfFiles names.now (λ of. FailsToPlan of failure))) }
+    ensures err { IfErr result (λ failure. IsUnopened names.now (F.opened inputs.old) (F.opened inputs.new) failure
+        ⊎ (AreOpened names.now (F.opened inputs.old) (F.opened inputs.new) × OfFiles names.now (λ of. FailsToPlan of failure))) }
 {
     let mut files = open_all(inputs, alloc, names)?;
     plan(alloc, names, &mut files)

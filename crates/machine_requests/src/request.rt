@@ -43,6 +43,9 @@ pub struct Look<'a> {
 /// A save of what a real machine holds.
 #[derive(Clone, Copy, Debug, PartialEq, Eq)]
 pub struct Save<'a> {
+    /// The new tape's file, which is not there yet.
+    pub file: &'a str,
+
     /// The words that are read.
     pub range: AddressRange,
 

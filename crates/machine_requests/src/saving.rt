@@ -1,6 +1,7 @@
 //! Saving what a real machine holds.
 ghost use Rattle.std.specs.Prelude.{◌≡◌, IfOk, IfErr};
-ghost use Rattle.machine_requests.specs.Saving.{save_told_of, AsksForTape, IsSaveDone, IsSaveFailure, IsSaveOver};
+ghost use Rattle.machine_requests.specs.Looking.{told_at};
+ghost use Rattle.machine_requests.specs.Saving.{IsSaveDone, IsSaveFailure, IsSaveOver};
 ghost use Rattle.machine_requests.specs.Asked.{NotElsewhere};
 
 use crate::errand::{Errand, run_at};
@@ -18,8 +19,8 @@ use std::io::{Print, Write};
 use std::time::Clock;
 use stream_line::Dialling;
 
-/// Saves words of a real machine as a tape in a new file of this name, in a system that comes back, and answers
-/// the exit status.
+/// Saves words of a real machine as a tape in a new file, in a system that comes back, and answers the exit
+/// status.
 ///
 /// The report goes to standard output, and no input is opened. A terminal, where there is one, shows how far the
 /// save is.
@@ -41,18 +42,16 @@ pub fn save_words<
 >(
     system: System<'c, F, D, N, V, C>,
     alloc: Global,
-    name: &'a str,
     save: Save<'a>,
     out: &mut W,
     terminal: Option<&T>,
 ) -> (System<'c, F, D, N, V, C>, Result<Status, Failure<'a>>)
-    ensures ok { IfOk result.1 (IsSaveOver save.entry (AsksForTape name.entry system.entry.outside.disk result.0.outside.disk)
-        (save_told_of save.entry system.entry.outside (W.contents out.old))
-        (save_told_of save.entry result.0.outside (W.contents out.new))) }
-    ensures err { IfErr result.1 (IsSaveFailure name.entry save.entry
-        (AsksForTape name.entry system.entry.outside.disk result.0.outside.disk)
-        (save_told_of save.entry system.entry.outside (W.contents out.old))
-        (save_told_of save.entry result.0.outside (W.contents out.new))) }
+    ensures ok { IfOk result.1 (IsSaveOver save.entry
+        (told_at save.entry.look system.entry.outside (W.contents out.old))
+        (told_at save.entry.look result.0.outside (W.contents out.new))) }
+    ensures err { IfErr result.1 (IsSaveFailure save.entry
+        (told_at save.entry.look system.entry.outside (W.contents out.old))
+        (told_at save.entry.look result.0.outside (W.contents out.new))) }
     ensures not_elsewhere { NotElsewhere save.entry.look.line.now system.entry.outside result.0.outside }
     ensures no_file { result.0.inputs ≡ system.entry.inputs }
 {
@@ -60,23 +59,21 @@ pub fn save_words<
     let look = save.look;
     let errand = Saving {
         host: Host::new(alloc, outside.clock, terminal),
-        name,
         save,
     };
     let (outside, outcome) = run_at(errand, outside, look.line, look.quiet_ms, out);
     (System { inputs, outside }, outcome)
 }
 
-// A save into a file of this name, as an errand at a console.
+// A save, as an errand at a console.
 #[derive(Drop)]
 struct Saving<'o, 'a, K: Clock, T: Print> {
     host: Host<'o, K, T>,
-    name: &'a str,
     save: Save<'a>,
 }
 
 impl<'a, K: Clock, T: Print> Errand<'a> for Saving<'_, 'a, K, T> {
-    ghost is_over = { λ errand. IsSaveDone errand.name errand.save };
+    ghost is_over = { λ errand. IsSaveDone errand.save };
 
     fn run<C: Reach + Drop, D: Disk + Drop, W: Write>(
         self,
@@ -86,7 +83,6 @@ impl<'a, K: Clock, T: Print> Errand<'a> for Saving<'_, 'a, K, T> {
     ) -> (C, D, Result<Status, Failure<'a>>) {
         let Saving {
             host,
-            name,
             save: request,
         } = self;
         let options = SaveOptions {
@@ -94,14 +90,14 @@ impl<'a, K: Clock, T: Print> Errand<'a> for Saving<'_, 'a, K, T> {
             start: request.start,
             patience: request.look.patience,
         };
-        let mut shelf = NewFile::new(disk, name);
+        let mut shelf = NewFile::new(disk, request.file);
         let onlooker = &host.progress;
         let saved = save(host.alloc, options, &mut shelf, &mut console, out, onlooker);
         let disk = shelf.close();
         match saved {
             Ok(end) => (console, disk, Status::after_save(end)),
             Err(fault) => {
-                let failure = Failure::of_look(fault, request.look.line, name);
+                let failure = Failure::of_look(fault, request.look.line, request.file);
                 (console, disk, Err(failure))
             }
         }

@@ -2,6 +2,7 @@
 ghost use Rattle.std.specs.Prelude.{◌≡◌, IfOk, IfErr};
 ghost use Rattle.std.specs.Mem.{FitsInMemory};
 ghost use Rattle.machine_requests.specs.Looking.{AreVerified, AreUnverified, IsLookOver};
+ghost use Rattle.machine_requests.specs.Moment.{moment};
 
 use crate::errand::{Errand, run_at};
 use crate::host::Host;
@@ -54,8 +55,8 @@ pub fn verify_tapes<
     terminal: Option<&T>,
 ) -> (System<'c, F, D, N, V, C>, Result<Status, Failure<'a>>)
     requires { FitsInMemory R.row }
-    ensures ok { IfOk result.1 (AreVerified names.now look.entry system.entry result.0 streams.old streams.new) }
-    ensures err { IfErr result.1 (AreUnverified names.now look.entry system.entry result.0 streams.old streams.new) }
+    ensures ok { IfOk result.1 (AreVerified names.now look.entry (moment system.entry streams.old) (moment result.0 streams.new)) }
+    ensures err { IfErr result.1 (AreUnverified names.now look.entry (moment system.entry streams.old) (moment result.0 streams.new)) }
     ensures quiet { streams.new.err ≡ streams.old.err }
 {
     let plan = match plan_tapes(&mut system.inputs, alloc, names, streams) {

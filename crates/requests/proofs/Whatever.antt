@@ -7,40 +7,41 @@ use Rattle.input_files.specs.Opening.{Name}
 use Rattle.requests.specs.declared.request.Request.{Request}
 use Rattle.requests.specs.declared.request.Request.TheVariants.{CheckInput, Check, Dialogue, Rehearse, «Type» as TypeKeys, Load, Verify, Save, Probe}
 use Rattle.requests.specs.Attempt.{IsFailed}
-use Rattle.machine_requests.specs.Files.{Known, Inputs, Opening, FailsUnopened, IsUnplanned, OfTapes}
 use Rattle.machine_requests.specs.Asked.{Asked}
+use Rattle.machine_requests.specs.Files.{Known, Inputs, FailsUnopened, IsUnplanned, OfTapes}
+use Rattle.machine_requests.specs.Moment.{Moment, moment, reading, reading_at}
 
-module _ (asked asked' : Asked) (before : Held) (input out : Known) (unread : Bool) (err err' : StandardError) (failure : Failure) where
+module _ (before : Moment) (asked : Asked) (input out : Known) (unread : Bool) (err err' : StandardError) (failure : Failure) where
   abbrev here : Held
   here = record { input = input; out = out; unread = unread; err = err }
 
   abbrev there : Held
   there = record { input = input; out = out; unread = unread; err = err' }
 
-  tapes : (opening : Opening) (names : List Name) (P : Inputs → Type 0) → OfTapes opening names before here P → OfTapes opening names before there P
-  tapes opening names P is = record { opened = is.opened; is_so = is.is_so }
+  tapes : (names : List Name) (P : Inputs → Type 0) → OfTapes names (reading_at before) (reading asked.inputs here) P → OfTapes names (reading_at before) (reading asked.inputs there) P
+  tapes names P is = record { opened = is.opened; is_so = is.is_so }
 
-  unopened : (opening : Opening) (files : List Name) → FailsUnopened opening files before here failure → FailsUnopened opening files before there failure
-  unopened opening files is = record { unopened = is.unopened; nothing_read = is.nothing_read; nothing_written = is.nothing_written }
+  unopened : (files : List Name) → FailsUnopened files (reading_at before) (reading asked.inputs here) failure → FailsUnopened files (reading_at before) (reading asked.inputs there) failure
+  unopened files is = record { unopened = is.unopened; nothing_read = is.nothing_read; nothing_written = is.nothing_written }
 
-  unplanned : (opening : Opening) (names : List Name) → IsUnplanned opening names before here failure → IsUnplanned opening names before there failure
-  unplanned opening names = ⊎_elim (λ u. inl (unopened opening _ u)) (λ t. inr (tapes opening names _ t.0, t.1))
+  unplanned : (names : List Name) → IsUnplanned names (reading_at before) (reading asked.inputs here) failure → IsUnplanned names (reading_at before) (reading asked.inputs there) failure
+  unplanned names = ⊎_elim (λ u. inl (unopened _ u)) (λ t. inr (tapes names _ t.0, t.1))
 
-  pub failed_whatever : (request : Request) → IsFailed request asked asked' before here failure → IsFailed request asked asked' before there failure
+  pub failed_whatever : (request : Request) → IsFailed request before (moment asked here) failure → IsFailed request before (moment asked there) failure
   failed_whatever CheckInput is = is
-  failed_whatever (Check names) is = (⊎_elim (λ u. inl (unopened _ _ u)) (λ t. inr (tapes _ names.items _ t)) is.0, is.1)
-  failed_whatever (Dialogue names console start) is = (⊎_elim (λ u. inl (unopened _ _ u)) (λ t. inr (tapes _ names.items _ t)) is.0, is.1)
-  failed_whatever (Rehearse tape script more) is = (⊎_elim (λ u. inl (unopened _ _ u)) (λ b. inr (record { opened = b.opened; failed = b.failed })) is.0, is.1)
+  failed_whatever (Check names) is = (⊎_elim (λ u. inl (unopened _ u)) (λ t. inr (tapes names.items _ t)) is.0, is.1)
+  failed_whatever (Dialogue names stage) is = (⊎_elim (λ u. inl (unopened _ u)) (λ t. inr (tapes names.items _ t)) is.0, is.1)
+  failed_whatever (Rehearse rehearsal) is = (⊎_elim (λ u. inl (unopened _ u)) (λ b. inr (record { opened = b.opened; failed = b.failed })) is.0, is.1)
   failed_whatever (TypeKeys console) is = (
     ⊎_elim (λ u. inl (record { why = u.why; nothing_read = u.nothing_read; nothing_written = u.nothing_written }))
         (λ more. inr (⊎_elim (λ amiss. inl amiss) (λ cut. inr (cut.0, record { last = cut.1.last; count = cut.1.count; typed = cut.1.typed })) more)) is.0,
     is.1,
   )
   failed_whatever (Load names load) is =
-      ⊎_elim (λ n. inl (n.0, unplanned _ names.items n.1))
-      (λ b. inr (record { plan = b.plan; planned = tapes _ names.items _ b.planned; failed = b.failed; not_elsewhere = b.not_elsewhere })) is
+      ⊎_elim (λ n. inl (n.0, unplanned names.items n.1))
+      (λ b. inr (record { plan = b.plan; planned = tapes names.items _ b.planned; failed = b.failed; not_elsewhere = b.not_elsewhere })) is
   failed_whatever (Verify names look) is =
-      ⊎_elim (λ n. inl (n.0, unplanned _ names.items n.1))
-      (λ b. inr (record { plan = b.plan; planned = tapes _ names.items _ b.planned; failed = b.failed; alone = b.alone })) is
-  failed_whatever (Save name save) is = record { failed = is.failed; not_elsewhere = is.not_elsewhere; no_file = is.no_file; nothing_read = is.nothing_read }
+      ⊎_elim (λ n. inl (n.0, unplanned names.items n.1))
+      (λ b. inr (record { plan = b.plan; planned = tapes names.items _ b.planned; failed = b.failed; alone = b.alone })) is
+  failed_whatever (Save save) is = record { failed = is.failed; not_elsewhere = is.not_elsewhere; no_file = is.no_file; nothing_read = is.nothing_read }
   failed_whatever (Probe request) is = record { failed = is.failed; alone = is.alone; no_file = is.no_file; nothing_read = is.nothing_read }

@@ -5,13 +5,11 @@ use Rattle.endings.specs.declared.failure.Failure.{Failure}
 use Rattle.endings.specs.declared.status.Status.{Status}
 use Rattle.endings.specs.declared.status.Status.TheVariants.{Done}
 use Rattle.endings.specs.Failure.{status_of, is_unheard, IsToldUnless}
-use Rattle.endings.specs.Held.{Held}
-use Rattle.machine_requests.specs.Files.{opening_in}
 use Rattle.machine_requests.specs.Loading.{AreLoaded, AreUnloaded}
 use Rattle.machine_requests.specs.Looking.{AreVerified, AreUnverified}
 use Rattle.machine_requests.specs.Probing.{IsConsoleProbed, IsConsoleUnprobed}
 use Rattle.machine_requests.specs.Saving.{AreWordsSaved, AreWordsUnsaved}
-use Rattle.machine_requests.specs.Asked.{Asked}
+use Rattle.machine_requests.specs.Moment.{Moment, reading_at}
 use Rattle.requests.specs.declared.request.Request.{Request}
 use Rattle.requests.specs.declared.request.Request.TheVariants.{CheckInput, Check, Dialogue, Rehearse, «Type» as TypeKeys, Load, Verify, Save, Probe}
 use Rattle.requests.specs.Checking.{AreChecked, AreUnchecked, IsInputChecked, IsInputUnchecked}
@@ -19,57 +17,54 @@ use Rattle.requests.specs.Rehearsing.{AreRehearsed, AreUnrehearsed}
 use Rattle.requests.specs.Showing.{AreShown, AreUnshown}
 use Rattle.requests.specs.Typing.{IsTypedThrough, IsTypingFailure}
 
+-- nothing was asked of disk and consoles
+abbrev pub AsksNobody : Moment → Moment → Type 0
+AsksNobody before after = after.asked.outside ≡ before.asked.outside
+
 -- a request was done, and the program ends so
-abbrev pub IsDone : Request → Asked → Asked → Held → Held → Status → Type 0
-IsDone CheckInput asked asked' before after status = IsInputChecked before after status × (asked' ≡ asked)
-IsDone (Check names) asked asked' before after status =
-    AreChecked (opening_in asked asked') names.items before after status × (asked'.outside ≡ asked.outside)
-IsDone (Dialogue names console start) asked asked' before after status =
-    AreShown (opening_in asked asked') names.items (console, start) before after status × (asked'.outside ≡ asked.outside)
-IsDone (Rehearse tape script more) asked asked' before after status =
-    AreRehearsed (opening_in asked asked') tape script more.items before after status × (asked'.outside ≡ asked.outside)
-IsDone (TypeKeys console) asked asked' before after status = IsTypedThrough console before after × (status ≡ Done) × (asked' ≡ asked)
-IsDone (Load names load) asked asked' before after status = AreLoaded names.items load asked asked' before after status
-IsDone (Verify names look) asked asked' before after status = AreVerified names.items look asked asked' before after status
-IsDone (Save name save) asked asked' before after status = AreWordsSaved name save asked asked' before after status
-IsDone (Probe request) asked asked' before after status = IsConsoleProbed request asked asked' before after status
+abbrev pub IsDone : Request → Moment → Moment → Status → Type 0
+IsDone CheckInput before after status = IsInputChecked before.held after.held status × (after.asked ≡ before.asked)
+IsDone (Check names) before after status = AreChecked names.items (reading_at before) (reading_at after) status × AsksNobody before after
+IsDone (Dialogue names stage) before after status = AreShown names.items stage (reading_at before) (reading_at after) status × AsksNobody before after
+IsDone (Rehearse rehearsal) before after status = AreRehearsed rehearsal (reading_at before) (reading_at after) status × AsksNobody before after
+IsDone (TypeKeys console) before after status = IsTypedThrough console before.held after.held × (status ≡ Done) × (after.asked ≡ before.asked)
+IsDone (Load names load) before after status = AreLoaded names.items load before after status
+IsDone (Verify names look) before after status = AreVerified names.items look before after status
+IsDone (Save save) before after status = AreWordsSaved save before after status
+IsDone (Probe request) before after status = IsConsoleProbed request before after status
 
 -- a request failed
-abbrev pub IsFailed : Request → Asked → Asked → Held → Held → Failure → Type 0
-IsFailed CheckInput asked asked' before after failure = IsInputUnchecked before after failure × (asked' ≡ asked)
-IsFailed (Check names) asked asked' before after failure =
-    AreUnchecked (opening_in asked asked') names.items before after failure × (asked'.outside ≡ asked.outside)
-IsFailed (Dialogue names console start) asked asked' before after failure =
-    AreUnshown (opening_in asked asked') names.items (console, start) before after failure × (asked'.outside ≡ asked.outside)
-IsFailed (Rehearse tape script more) asked asked' before after failure =
-    AreUnrehearsed (opening_in asked asked') tape script more.items before after failure × (asked'.outside ≡ asked.outside)
-IsFailed (TypeKeys console) asked asked' before after failure = IsTypingFailure console before after failure × (asked' ≡ asked)
-IsFailed (Load names load) asked asked' before after failure = AreUnloaded names.items load asked asked' before after failure
-IsFailed (Verify names look) asked asked' before after failure = AreUnverified names.items look asked asked' before after failure
-IsFailed (Save name save) asked asked' before after failure = AreWordsUnsaved name save asked asked' before after failure
-IsFailed (Probe request) asked asked' before after failure = IsConsoleUnprobed request asked asked' before after failure
+abbrev pub IsFailed : Request → Moment → Moment → Failure → Type 0
+IsFailed CheckInput before after failure = IsInputUnchecked before.held after.held failure × (after.asked ≡ before.asked)
+IsFailed (Check names) before after failure = AreUnchecked names.items (reading_at before) (reading_at after) failure × AsksNobody before after
+IsFailed (Dialogue names stage) before after failure = AreUnshown names.items stage (reading_at before) (reading_at after) failure × AsksNobody before after
+IsFailed (Rehearse rehearsal) before after failure = AreUnrehearsed rehearsal (reading_at before) (reading_at after) failure × AsksNobody before after
+IsFailed (TypeKeys console) before after failure = IsTypingFailure console before.held after.held failure × (after.asked ≡ before.asked)
+IsFailed (Load names load) before after failure = AreUnloaded names.items load before after failure
+IsFailed (Verify names look) before after failure = AreUnverified names.items look before after failure
+IsFailed (Save save) before after failure = AreWordsUnsaved save before after failure
+IsFailed (Probe request) before after failure = IsConsoleUnprobed request before after failure
 
 -- it was done, with this status, and standard error has nothing of it
-pub record IsDoneQuietly (request : Request) (asked asked' : Asked) (before after : Held) (status : Status) : Type 0 where
-  pub done : IsDone request asked asked' before after status
-  pub quiet : after.err ≡ before.err
+pub record IsDoneQuietly (request : Request) (before after : Moment) (status : Status) : Type 0 where
+  pub done : IsDone request before after status
+  pub quiet : after.held.err ≡ before.held.err
 
 -- the request does nothing but print: it is about no machine
 abbrev pub only_prints : Request → Bool
 only_prints (Load names load) = false
 only_prints (Verify names look) = false
-only_prints (Save name save) = false
+only_prints (Save save) = false
 only_prints (Probe request) = false
 only_prints other = true
 
 -- it failed, standard error tells why where somebody is to hear of it, and the status says so
-pub record IsFailedAloud (request : Request) (asked asked' : Asked) (before after : Held) (status : Status) : Type 0 where
+pub record IsFailedAloud (request : Request) (before after : Moment) (status : Status) : Type 0 where
   pub failure : Failure
-  pub failed : IsFailed request asked asked' before after failure
-  pub told : IsToldUnless (is_unheard (only_prints request) after.unread failure) before.err after.err failure
+  pub failed : IsFailed request before after failure
+  pub told : IsToldUnless (is_unheard (only_prints request) after.held.unread failure) before.held.err after.held.err failure
   pub status_is : status ≡ status_of failure
 
--- a request was attempted in a system of which this was asked before and after, with this on the standard streams, and the program ends so
-abbrev pub IsAttempted : Request → Asked → Asked → Held → Held → Status → Type 0
-IsAttempted request asked asked' before after status =
-    IsDoneQuietly request asked asked' before after status ⊎ IsFailedAloud request asked asked' before after status
+-- a request was attempted from one moment to another, and the program ends so
+abbrev pub IsAttempted : Request → Moment → Moment → Status → Type 0
+IsAttempted request before after status = IsDoneQuietly request before after status ⊎ IsFailedAloud request before after status

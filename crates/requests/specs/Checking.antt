@@ -7,7 +7,8 @@ use Rattle.endings.specs.declared.status.Status.{Status}
 use Rattle.endings.specs.declared.status.Status.TheVariants.{Done}
 use Rattle.endings.specs.Held.{Held}
 use Rattle.input_files.specs.Opening.{Name}
-use Rattle.machine_requests.specs.Files.{Known, Inputs, Opening, OfTapes, files_of, FailsUnopened, only_input}
+use Rattle.machine_requests.specs.Files.{Known, Inputs, OfTapes, files_of, FailsUnopened, only_input}
+use Rattle.machine_requests.specs.Moment.{Reading}
 use Rattle.requests.specs.Output.{FailsOver}
 
 -- the tapes of some inputs were checked
@@ -28,11 +29,11 @@ abbrev pub IsInputUnchecked : Held → Held → Failure → Type 0
 IsInputUnchecked before after failure = IsCheckFailure (only_input before.input after.input) before.out after.out failure
 
 -- the tapes of these names were checked
-abbrev pub AreChecked : Opening → List Name → Held → Held → Status → Type 0
-AreChecked opening names before after status = OfTapes opening names before after (λ inputs. IsCheckedTo inputs before.out after.out status)
+abbrev pub AreChecked : List Name → Reading → Reading → Status → Type 0
+AreChecked names before after status = OfTapes names before after (λ inputs. IsCheckedTo inputs before.held.out after.held.out status)
 
 -- they were not: a file can't be opened, or what the inputs hold is to blame
-abbrev pub AreUnchecked : Opening → List Name → Held → Held → Failure → Type 0
-AreUnchecked opening names before after failure =
-    FailsUnopened opening (files_of names) before after failure
-    ⊎ OfTapes opening names before after (λ inputs. IsCheckFailure inputs before.out after.out failure)
+abbrev pub AreUnchecked : List Name → Reading → Reading → Failure → Type 0
+AreUnchecked names before after failure =
+    FailsUnopened (files_of names) before after failure
+    ⊎ OfTapes names before after (λ inputs. IsCheckFailure inputs before.held.out after.held.out failure)

@@ -7,7 +7,9 @@ use Rattle.endings.specs.declared.status.Status.{Status}
 use Rattle.endings.specs.declared.status.Status.TheVariants.{Done}
 use Rattle.endings.specs.Held.{Held}
 use Rattle.input_files.specs.Opening.{Name}
-use Rattle.machine_requests.specs.Files.{Known, Inputs, Opening, AreOpened, OfInputs, FailsUnopened, HasFault, means_input, only_input}
+use Rattle.machine_requests.specs.Files.{Known, Inputs, AreOpened, OfInputs, FailsUnopened, HasFault, means_input, only_input}
+use Rattle.machine_requests.specs.Moment.{Reading}
+use Rattle.requests.specs.declared.request.Rehearsal.{Rehearsal}
 use Rattle.requests.specs.Output.{FailsAtFlush}
 
 -- a script's file held something, and it was rehearsed with the tapes
@@ -31,22 +33,31 @@ IsInputRehearsed before after status = IsRehearsedInto (only_input before.input 
 abbrev pub IsInputUnrehearsed : Name → Held → Held → Failure → Type 0
 IsInputUnrehearsed script before after failure = IsRehearsalFailure script.now (only_input before.input after.input) before.out after.out failure
 
--- the files that are opened, in their order: with the tape on standard input the script alone, which else stands behind the first tape
-abbrev pub opened_files : Name → Name → List Name → List Name
-opened_files tape script more = if means_input (tape ∷ more) then (script ∷ []) else (tape ∷ script ∷ more)
+-- the names of the tapes of a rehearsal, the first before all others
+abbrev pub rehearsed_tapes : Rehearsal → List Name
+rehearsed_tapes rehearsal = rehearsal.tape ∷ rehearsal.more.items
 
--- the load of the tapes of these names was rehearsed with a script in a file
-pub record AreRehearsed (opening : Opening) (tape script : Name) (more : List Name) (before after : Held) (status : Status) : Type 0 where
-  pub opened : AreOpened opening (opened_files tape script more)
-  pub rehearsed : OfInputs (tape ∷ more) before after (λ inputs. IsRehearsedInto inputs before.out after.out)
+-- the files of a rehearsal, in their order: the script stands behind the first tape
+abbrev pub rehearsed_files : Rehearsal → List Name
+rehearsed_files rehearsal = rehearsal.tape ∷ rehearsal.script ∷ rehearsal.more.items
+
+-- those that are opened: with the tape on standard input the script alone
+abbrev pub opened_files : Rehearsal → List Name
+opened_files rehearsal = if means_input (rehearsed_tapes rehearsal) then (rehearsal.script ∷ []) else rehearsed_files rehearsal
+
+-- the load of the tapes was rehearsed with a script in a file
+pub record AreRehearsed (rehearsal : Rehearsal) (before after : Reading) (status : Status) : Type 0 where
+  pub opened : AreOpened (opened_files rehearsal) before.opened after.opened
+  pub rehearsed : OfInputs (rehearsed_tapes rehearsal) before.held after.held (λ inputs. IsRehearsedInto inputs before.held.out after.held.out)
   pub status_is : status ≡ Done
 
 -- the files were opened, and the rehearsal failed
-pub record IsRehearsalBroken (opening : Opening) (tape script : Name) (more : List Name) (before after : Held) (failure : Failure) : Type 0 where
-  pub opened : AreOpened opening (opened_files tape script more)
-  pub failed : OfInputs (tape ∷ more) before after (λ inputs. IsRehearsalFailure script.now inputs before.out after.out failure)
+pub record IsRehearsalBroken (rehearsal : Rehearsal) (before after : Reading) (failure : Failure) : Type 0 where
+  pub opened : AreOpened (opened_files rehearsal) before.opened after.opened
+  pub failed : OfInputs (rehearsed_tapes rehearsal) before.held after.held
+      (λ inputs. IsRehearsalFailure rehearsal.script.now inputs before.held.out after.held.out failure)
 
 -- the load was not rehearsed: a file can't be opened, or the rehearsal failed
-abbrev pub AreUnrehearsed : Opening → Name → Name → List Name → Held → Held → Failure → Type 0
-AreUnrehearsed opening tape script more before after failure =
-    FailsUnopened opening (opened_files tape script more) before after failure ⊎ IsRehearsalBroken opening tape script more before after failure
+abbrev pub AreUnrehearsed : Rehearsal → Reading → Reading → Failure → Type 0
+AreUnrehearsed rehearsal before after failure =
+    FailsUnopened (opened_files rehearsal) before after failure ⊎ IsRehearsalBroken rehearsal before after failure

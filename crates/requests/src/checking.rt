@@ -1,7 +1,8 @@
 //! Checking tapes.
 ghost use Rattle.std.specs.Prelude.{◌≡◌, ◌⊎◌, IfOk, IfErr};
 ghost use Rattle.std.specs.Mem.{FitsInMemory};
-ghost use Rattle.machine_requests.specs.Files.{inputs_of, opening_between, AreOpened, IsUnopened, OfFiles};
+ghost use Rattle.machine_requests.specs.Files.{inputs_of, AreOpened, IsUnopened, OfFiles};
+ghost use Rattle.machine_requests.specs.Moment.{reading};
 ghost use Rattle.requests.specs.Checking.{AreChecked, AreUnchecked, IsCheckedTo, IsCheckFailure, IsInputChecked, IsInputUnchecked};
 
 use crate::output::flushed;
@@ -21,8 +22,8 @@ pub(crate) fn check_tapes<'a, F: InputFiles, R: Read, W: Output, E: FaultOutput>
     streams: &mut Streams<R, W, E>,
 ) -> Result<Status, Failure<'a>>
     requires { FitsInMemory R.row }
-    ensures ok { IfOk result (AreChecked (opening_between (F.opened inputs.old) (F.opened inputs.new)) names.now streams.old streams.new) }
-    ensures err { IfErr result (AreUnchecked (opening_between (F.opened inputs.old) (F.opened inputs.new)) names.now streams.old streams.new) }
+    ensures ok { IfOk result (AreChecked names.now (reading (F.opened inputs.old) streams.old) (reading (F.opened inputs.new) streams.new)) }
+    ensures err { IfErr result (AreUnchecked names.now (reading (F.opened inputs.old) streams.old) (reading (F.opened inputs.new) streams.new)) }
     ensures quiet { streams.new.err ≡ streams.old.err }
 {
     if is_input(names) {
@@ -53,11 +54,11 @@ fn check_files<'a, F: InputFiles, W: Write>(
     names: &[&'a str],
     out: &mut W,
 ) -> Result<Status, Failure<'a>>
-    ensures ok { IfOk result (λ status. AreOpened (opening_between (F.opened inputs.old) (F.opened inputs.new)) names.now
+    ensures ok { IfOk result (λ status. AreOpened names.now (F.opened inputs.old) (F.opened inputs.new)
         × OfFiles names.now (λ of. IsCheckedTo of (W.contents out.old) (W.contents out.new) status)) }
     ensures err { IfErr result (λ failure.
-        (IsUnopened (opening_between (F.opened inputs.old) (F.opened inputs.new)) names.now failure × (W.contents out.new ≡ W.contents out.old))
-        ⊎ (AreOpened (opening_between (F.opened inputs.old) (F.opened inputs.new)) names.now
+        (IsUnopened names.now (F.opened inputs.old) (F.opened inputs.new) failure × (W.contents out.new ≡ W.contents out.old))
+        ⊎ (AreOpened names.now (F.opened inputs.old) (F.opened inputs.new)
         × OfFiles names.now (λ of. IsCheckFailure of (W.contents out.old) (W.contents out.new) failure))) }
 {
     let mut files = open_all(inputs, alloc, names)?;

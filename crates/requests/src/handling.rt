@@ -1,6 +1,7 @@
 //! Doing a request, and telling how it ended.
 ghost use Rattle.std.specs.Prelude.{◌≡◌, IfOk, IfErr};
 ghost use Rattle.std.specs.Mem.{FitsInMemory};
+ghost use Rattle.machine_requests.specs.Moment.{moment};
 ghost use Rattle.requests.specs.Attempt.{IsDone, IsFailed, IsAttempted};
 
 use crate::checking::{check_input, check_tapes};
@@ -48,7 +49,7 @@ pub fn attempt<
     terminal: Option<&T>,
 ) -> (System<'c, F, D, N, V, C>, Status)
     requires { FitsInMemory R.row }
-    ensures { IsAttempted request.entry system.entry result.0 streams.old streams.new result.1 }
+    ensures { IsAttempted request.entry (moment system.entry streams.old) (moment result.0 streams.new) result.1 }
 {
     let only_prints = request.only_prints();
     let (system, outcome) = perform(system, alloc, request, streams, terminal);
@@ -85,8 +86,8 @@ fn perform<
     terminal: Option<&T>,
 ) -> (System<'c, F, D, N, V, C>, Result<Status, Failure<'a>>)
     requires { FitsInMemory R.row }
-    ensures ok { IfOk result.1 (IsDone request.entry system.entry result.0 streams.old streams.new) }
-    ensures err { IfErr result.1 (IsFailed request.entry system.entry result.0 streams.old streams.new) }
+    ensures ok { IfOk result.1 (IsDone request.entry (moment system.entry streams.old) (moment result.0 streams.new)) }
+    ensures err { IfErr result.1 (IsFailed request.entry (moment system.entry streams.old) (moment result.0 streams.new)) }
     ensures quiet { streams.new.err ≡ streams.old.err }
 {
     match request {
@@ -95,13 +96,12 @@ fn perform<
             let outcome = check_tapes(&mut system.inputs, alloc, &names, streams);
             (system, outcome)
         }
-        Request::Dialogue(names, console, start) => {
-            let stage = (console, start);
+        Request::Dialogue(names, stage) => {
             let outcome = show_dialogue(&mut system.inputs, alloc, &names, stage, streams);
             (system, outcome)
         }
-        Request::Rehearse(tape, script, more) => {
-            let outcome = rehearse(&mut system.inputs, alloc, tape, script, &more, streams);
+        Request::Rehearse(rehearsal) => {
+            let outcome = rehearse(&mut system.inputs, alloc, &rehearsal, streams);
             (system, outcome)
         }
         Request::Type(console) => (system, type_input(alloc, console, streams)),
@@ -109,9 +109,7 @@ fn perform<
         Request::Verify(names, look) => {
             verify_tapes(system, alloc, &names, look, streams, terminal)
         }
-        Request::Save(name, save) => {
-            save_words(system, alloc, name, save, &mut streams.out, terminal)
-        }
+        Request::Save(save) => save_words(system, alloc, save, &mut streams.out, terminal),
         Request::Probe(request) => probe_console(system, alloc, request, &mut streams.out),
     }
 }

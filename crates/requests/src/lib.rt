@@ -20,4 +20,4 @@ mod typing;
 
 pub use handling::attempt;
 pub use machine_requests::{Load, Look, Outside, Probe, Save, SharedSystem, System};
-pub use request::{Console, Request};
+pub use request::{Console, Rehearsal, Request, Stage};

@@ -1,11 +1,14 @@
 //! Rehearsing a load.
 ghost use Rattle.std.specs.Prelude.{◌≡◌, ◌⊎◌, ◌∷◌, [], IfOk, IfErr};
 ghost use Rattle.std.specs.Mem.{FitsInMemory};
-ghost use Rattle.machine_requests.specs.Files.{means_input, opening_between, AreOpened, FailsUnopened, IsUnopened, OfFiles};
-ghost use Rattle.requests.specs.Rehearsing.{AreRehearsed, AreUnrehearsed, IsInputRehearsed, IsInputUnrehearsed, IsRehearsalFailure, IsRehearsedInto};
+ghost use Rattle.machine_requests.specs.Files.{means_input, AreOpened, FailsUnopened, IsUnopened, OfFiles};
+ghost use Rattle.machine_requests.specs.Moment.{reading};
+ghost use Rattle.requests.specs.Rehearsing.{rehearsed_files, rehearsed_tapes, AreRehearsed, AreUnrehearsed};
+ghost use Rattle.requests.specs.Rehearsing.{IsInputRehearsed, IsInputUnrehearsed, IsRehearsalFailure, IsRehearsedInto};
 
 use crate::names::joined;
 use crate::output::flushed;
+use crate::request::Rehearsal;
 use endings::{Failure, FaultOutput, Output, Status, Streams};
 use input_files::{InputFiles, open, open_with_script};
 use rehearsals::rehearse_to;
@@ -18,22 +21,18 @@ use std::slice;
 pub(crate) fn rehearse<'a, F: InputFiles, R: Read, W: Output, E: FaultOutput>(
     inputs: &mut F,
     alloc: Global,
-    tape: &'a str,
-    script: &'a str,
-    more: &[&'a str],
+    rehearsal: &Rehearsal<'a>,
     streams: &mut Streams<R, W, E>,
 ) -> Result<Status, Failure<'a>>
     requires { FitsInMemory R.row }
-    ensures ok { IfOk result (AreRehearsed (opening_between (F.opened inputs.old) (F.opened inputs.new)) tape.entry script.entry more.now
-        streams.old streams.new) }
-    ensures err { IfErr result (AreUnrehearsed (opening_between (F.opened inputs.old) (F.opened inputs.new)) tape.entry script.entry more.now
-        streams.old streams.new) }
+    ensures ok { IfOk result (AreRehearsed rehearsal.now (reading (F.opened inputs.old) streams.old) (reading (F.opened inputs.new) streams.new)) }
+    ensures err { IfErr result (AreUnrehearsed rehearsal.now (reading (F.opened inputs.old) streams.old) (reading (F.opened inputs.new) streams.new)) }
     ensures quiet { streams.new.err ≡ streams.old.err }
 {
-    if is_only_input(tape, more) {
-        rehearse_input(inputs, alloc, script, streams)
+    if is_only_input(rehearsal.tape, &rehearsal.more) {
+        rehearse_input(inputs, alloc, rehearsal.script, streams)
     } else {
-        rehearse_files(inputs, alloc, tape, script, more, &mut streams.out)
+        rehearse_files(inputs, alloc, rehearsal, &mut streams.out)
     }
 }
 
@@ -52,11 +51,11 @@ fn rehearse_input<'a, F: InputFiles, R: Read, W: Output, E: FaultOutput>(
     streams: &mut Streams<R, W, E>,
 ) -> Result<Status, Failure<'a>>
     requires { FitsInMemory R.row }
-    ensures ok { IfOk result (λ status. AreOpened (opening_between (F.opened inputs.old) (F.opened inputs.new)) (script.entry ∷ [])
+    ensures ok { IfOk result (λ status. AreOpened (script.entry ∷ []) (F.opened inputs.old) (F.opened inputs.new)
         × IsInputRehearsed streams.old streams.new status) }
     ensures err { IfErr result (λ failure.
-        FailsUnopened (opening_between (F.opened inputs.old) (F.opened inputs.new)) (script.entry ∷ []) streams.old streams.new failure
-        ⊎ (AreOpened (opening_between (F.opened inputs.old) (F.opened inputs.new)) (script.entry ∷ [])
+        FailsUnopened (script.entry ∷ []) (reading (F.opened inputs.old) streams.old) (reading (F.opened inputs.new) streams.new) failure
+        ⊎ (AreOpened (script.entry ∷ []) (F.opened inputs.old) (F.opened inputs.new)
         × IsInputUnrehearsed script.entry streams.old streams.new failure)) }
     ensures quiet { streams.new.err ≡ streams.old.err }
 {
@@ -72,24 +71,31 @@ fn rehearse_input<'a, F: InputFiles, R: Read, W: Output, E: FaultOutput>(
 fn rehearse_files<'a, F: InputFiles, W: Write>(
     inputs: &mut F,
     alloc: Global,
-    tape: &'a str,
-    script: &'a str,
-    more: &[&'a str],
+    rehearsal: &Rehearsal<'a>,
     out: &mut W,
 ) -> Result<Status, Failure<'a>>
-    ensures ok { IfOk result (λ status. AreOpened (opening_between (F.opened inputs.old) (F.opened inputs.new)) (tape.entry ∷ script.entry ∷ more.now)
-        × OfFiles (tape.entry ∷ more.now) (λ of. IsRehearsedInto of (W.contents out.old) (W.contents out.new))
+    ensures ok { IfOk result (λ status. AreOpened (rehearsed_files rehearsal.now) (F.opened inputs.old) (F.opened inputs.new)
+        × OfFiles (rehearsed_tapes rehearsal.now) (λ of. IsRehearsedInto of (W.contents out.old) (W.contents out.new))
         × (status ≡ Status.Done)) }
     ensures err { IfErr result (λ failure.
-        (IsUnopened (opening_between (F.opened inputs.old) (F.opened inputs.new)) (tape.entry ∷ script.entry ∷ more.now) failure
-        × (W.contents out.new ≡ W.contents out.old))
-        ⊎ (AreOpened (opening_between (F.opened inputs.old) (F.opened inputs.new)) (tape.entry ∷ script.entry ∷ more.now)
-        × OfFiles (tape.entry ∷ more.now) (λ of. IsRehearsalFailure script.entry.now of (W.contents out.old) (W.contents out.new) failure))) }
+        (IsUnopened (rehearsed_files rehearsal.now) (F.opened inputs.old) (F.opened inputs.new) failure × (W.contents out.new ≡ W.contents out.old))
+        ⊎ (AreOpened (rehearsed_files rehearsal.now) (F.opened inputs.old) (F.opened inputs.new)
+        × OfFiles (rehearsed_tapes rehearsal.now)
+        (λ of. IsRehearsalFailure rehearsal.now.script.now of (W.contents out.old) (W.contents out.new) failure))) }
 {
-    let (mut tapes, mut script_file) = open_with_script(inputs, alloc, tape, script, more)?;
-    let names = joined(alloc, tape, more)?;
+    let more = rehearsal.more.as_slice();
+    let (mut tapes, mut script_file) = open_with_script(
+        inputs,
+        alloc,
+        rehearsal.tape,
+        rehearsal.script,
+        more,
+    )?;
+    let Ok(names) = joined(alloc, rehearsal.tape, more) else {
+        return Err(Failure::NoMemory);
+    };
     match rehearse_to(alloc, &mut tapes, &mut script_file, out) {
         Ok(()) => flushed(out, Status::Done),
-        Err(fault) => Err(Failure::of(fault, &names, script)),
+        Err(fault) => Err(Failure::of(fault, &names, rehearsal.script)),
     }
 }

@@ -14,11 +14,11 @@ pub enum Request<'a> {
     /// Check the tapes in some files.
     Check(Vec<&'a str>),
 
-    /// Show the load of tapes, as one, into a simulated console, with this start.
-    Dialogue(Vec<&'a str>, Console, Start),
+    /// Show the load of tapes, as one, into a simulated console.
+    Dialogue(Vec<&'a str>, Stage),
 
-    /// Rehearse, with the tape in the first file, the script in the second, and further tapes.
-    Rehearse(&'a str, &'a str, Vec<&'a str>),
+    /// Rehearse the load of tapes by a script.
+    Rehearse(Rehearsal<'a>),
 
     /// Type standard input into a simulated console.
     Type(Console),
@@ -29,8 +29,8 @@ pub enum Request<'a> {
     /// Look whether a real machine holds what tapes, as one, say.
     Verify(Vec<&'a str>, Look<'a>),
 
-    /// Save words of a real machine as a tape, in a file of this name, which is not there yet.
-    Save(&'a str, Save<'a>),
+    /// Save words of a real machine as a tape, in a file which is not there yet.
+    Save(Save<'a>),
 
     /// Find out what stands at the other end of a line, and whether it may be trusted.
     Probe(Probe<'a>),
@@ -48,11 +48,9 @@ impl Request<'_> {
             Request::CheckInput
             | Request::Check(_)
             | Request::Dialogue(..)
-            | Request::Rehearse(..)
+            | Request::Rehearse(_)
             | Request::Type(_) => true,
-            Request::Load(..) | Request::Verify(..) | Request::Save(..) | Request::Probe(_) => {
-                false
-            }
+            Request::Load(..) | Request::Verify(..) | Request::Save(_) | Request::Probe(_) => false,
         }
     }
 }
@@ -65,4 +63,27 @@ pub struct Console {
 
     /// What its answers look like.
     pub style: Style,
+}
+
+/// What a load is shown on.
+#[derive(Clone, Copy, Debug, PartialEq, Eq)]
+pub struct Stage {
+    /// The simulated console.
+    pub console: Console,
+
+    /// The start in place of the tapes'.
+    pub start: Start,
+}
+
+/// A rehearsal of the load of tapes, as one.
+#[derive(Drop)]
+pub struct Rehearsal<'a> {
+    /// The first tape's file.
+    pub tape: &'a str,
+
+    /// The script's file.
+    pub script: &'a str,
+
+    /// The files of further tapes.
+    pub more: Vec<&'a str>,
 }

@@ -1,11 +1,12 @@
 //! Showing the load of tapes into a simulated console.
 ghost use Rattle.std.specs.Prelude.{◌≡◌, ◌⊎◌, IfOk, IfErr};
 ghost use Rattle.std.specs.Mem.{FitsInMemory};
-ghost use Rattle.machine_requests.specs.Files.{inputs_of, opening_between, AreOpened, IsUnopened, OfFiles};
+ghost use Rattle.machine_requests.specs.Files.{inputs_of, AreOpened, IsUnopened, OfFiles};
+ghost use Rattle.machine_requests.specs.Moment.{reading};
 ghost use Rattle.requests.specs.Showing.{AreShown, AreUnshown, IsInputShown, IsInputUnshown, IsShowingFailure, IsShownTo};
 
 use crate::output::flushed;
-use crate::request::Console;
+use crate::request::Stage;
 use endings::{Failure, FaultOutput, Output, STANDARD_INPUT, Status, Streams};
 use input_files::{InputFiles, open_all};
 use machine_requests::is_input;
@@ -13,20 +14,19 @@ use rehearsals::dialogue_to;
 use std::alloc::Global;
 use std::io::{Read, Write};
 use std::slice;
-use tape_image::Start;
 
-/// Shows the load of tapes into a console, with a start in place of theirs: of standard input's tape,
-/// where `-` is their only name, else of those in the files.
+/// Shows the load of tapes on a stage: of standard input's tape, where `-` is their only name, else of
+/// those in the files.
 pub(crate) fn show_dialogue<'a, F: InputFiles, R: Read, W: Output, E: FaultOutput>(
     inputs: &mut F,
     alloc: Global,
     names: &[&'a str],
-    stage: (Console, Start),
+    stage: Stage,
     streams: &mut Streams<R, W, E>,
 ) -> Result<Status, Failure<'a>>
     requires { FitsInMemory R.row }
-    ensures ok { IfOk result (AreShown (opening_between (F.opened inputs.old) (F.opened inputs.new)) names.now stage streams.old streams.new) }
-    ensures err { IfErr result (AreUnshown (opening_between (F.opened inputs.old) (F.opened inputs.new)) names.now stage streams.old streams.new) }
+    ensures ok { IfOk result (AreShown names.now stage (reading (F.opened inputs.old) streams.old) (reading (F.opened inputs.new) streams.new)) }
+    ensures err { IfErr result (AreUnshown names.now stage (reading (F.opened inputs.old) streams.old) (reading (F.opened inputs.new) streams.new)) }
     ensures quiet { streams.new.err ≡ streams.old.err }
 {
     if is_input(names) {
@@ -39,7 +39,7 @@ pub(crate) fn show_dialogue<'a, F: InputFiles, R: Read, W: Output, E: FaultOutpu
 // Shows the load of the tape on standard input.
 fn show_input<R: Read, W: Output, E: FaultOutput>(
     alloc: Global,
-    stage: (Console, Start),
+    stage: Stage,
     streams: &mut Streams<R, W, E>,
 ) -> Result<Status, Failure<'static>>
     requires { FitsInMemory R.row }
@@ -56,14 +56,14 @@ fn show_files<'a, F: InputFiles, W: Write>(
     inputs: &mut F,
     alloc: Global,
     names: &[&'a str],
-    stage: (Console, Start),
+    stage: Stage,
     out: &mut W,
 ) -> Result<Status, Failure<'a>>
-    ensures ok { IfOk result (λ status. AreOpened (opening_between (F.opened inputs.old) (F.opened inputs.new)) names.now
+    ensures ok { IfOk result (λ status. AreOpened names.now (F.opened inputs.old) (F.opened inputs.new)
         × OfFiles names.now (λ of. IsShownTo stage of (W.contents out.old) (W.contents out.new) status)) }
     ensures err { IfErr result (λ failure.
-        (IsUnopened (opening_between (F.opened inputs.old) (F.opened inputs.new)) names.now failure × (W.contents out.new ≡ W.contents out.old))
-        ⊎ (AreOpened (opening_between (F.opened inputs.old) (F.opened inputs.new)) names.now
+        (IsUnopened names.now (F.opened inputs.old) (F.opened inputs.new) failure × (W.contents out.new ≡ W.contents out.old))
+        ⊎ (AreOpened names.now (F.opened inputs.old) (F.opened inputs.new)
         × OfFiles names.now (λ of. IsShowingFailure stage of (W.contents out.old) (W.contents out.new) failure))) }
 {
     let mut files = open_all(inputs, alloc, names)?;
@@ -75,7 +75,7 @@ fn show<'a, R: Read, W: Write>(
     alloc: Global,
     names: &[&'a str],
     tapes: &mut [R],
-    stage: (Console, Start),
+    stage: Stage,
     out: &mut W,
 ) -> Result<Status, Failure<'a>>
     ensures ok { IfOk result (IsShownTo stage
@@ -87,7 +87,7 @@ fn show<'a, R: Read, W: Write>(
         (W.contents out.old)
         (W.contents out.new)) }
 {
-    let (console, start) = stage;
+    let Stage { console, start } = stage;
     match dialogue_to(alloc, tapes, console.words, console.style, start, out) {
         Ok(end) => flushed(out, Status::of_end(end)),
         Err(fault) => Err(Failure::of(fault, names, STANDARD_INPUT)),

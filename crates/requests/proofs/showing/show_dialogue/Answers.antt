@@ -18,12 +18,12 @@ returns-then-is_input-clause-err g c =
 pub returns-else-is_input-clause-ok : goal.returns-else-is_input-clause-ok
 returns-else-is_input-clause-ok g c =
     rw (← c.streams.view_is) (IfOk-weaker c.show_files.result _ _
-    (λ value h. of_named _ c.args.names.now _ _ _ (sym c.is_input.ensures ∙ c.if-is_input.false) h.0 h.1 refl)
+    (λ value h. of_named c.args.names.now _ _ _ (sym c.is_input.ensures ∙ c.if-is_input.false) h.0 h.1 refl)
     c.show_files.ensures.ok)
 
 pub returns-else-is_input-clause-err : goal.returns-else-is_input-clause-err
 returns-else-is_input-clause-err g c =
     let is = sym c.is_input.ensures ∙ c.if-is_input.false in
     rw (← c.streams.view_is) (IfErr-weaker c.show_files.result _ _
-    (λ failure h. ⊎_elim (λ u. inl (unopened_named _ c.args.names.now _ _ failure is u.0 refl u.1)) (λ o. inr (of_named _ c.args.names.now _ _ _ is o.0 o.1 refl)) h)
+    (λ failure h. ⊎_elim (λ u. inl (unopened_named c.args.names.now _ _ failure is u.0 refl u.1)) (λ o. inr (of_named c.args.names.now _ _ _ is o.0 o.1 refl)) h)
     c.show_files.ensures.err)

@@ -1,8 +1,9 @@
 use Rattle.std.proofs.Common.{IfOk, IfErr, ap, refl, sym, subst, option_map}
 use Rattle.std.proofs.lemmas.Result.{IfOk-weaker, IfErr-weaker}
+use Rattle.console_reach.specs.Console.{ConsoleTold}
 use Rattle.machine_load.specs.RecordDisk.{RecordDisk}
 use Rattle.record_file.specs.Taking.{kind_of}
-use Rattle.machine_requests.specs.Loading.{AsksDisk, IsPlanLoaded, IsPlanFailure, load_told}
+use Rattle.machine_requests.specs.Loading.{AsksDisk, IsPlanLoaded, IsPlanFailure}
 use Rattle.machine_requests.proofs.Loaded.{closed_new, loaded_as, failed_as}
 use Rattle.machine_requests.proofs.loading.LoadingErrand.run.Goals as goal
 
@@ -17,14 +18,16 @@ returns-in-Some g c =
     let call = g.C.Reach.call c.args.console in
     let disk = g.D.Disk.asked c.args.disk in
     let disk' = g.D.Disk.asked c.close.result in
-    let told = load_told g.C.Reach.asked g.W.Write.contents c.args.console c.args.out.now in
-    let told' = load_told g.C.Reach.asked g.W.Write.contents c.load_with-outcome.new.around.console c.load_with-outcome.new.out in
+    let asked' = g.C.Reach.asked c.load_with-outcome.new.around.console in
+    let out' = g.W.Write.contents c.load_with-outcome.new.out in
+    let before : ConsoleTold = record { asked = g.C.Reach.asked c.args.console; call = call; out = g.W.Write.contents c.args.out.now } in
+    let after : ConsoleTold = record { asked = asked'; call = call; out = out' } in
     let closed = closed_new b a disk disk' c.in-Some.name.now (ap g.D.Disk.asked c.new-records.ensures.disk) c.new-records.ensures.name c.new-records.ensures.held c.close.ensures.asked in
     record {
-      ok = subst (λ file. IfOk c.load_with-outcome.result (IsPlanLoaded plan load call (AsksDisk file disk disk') told told')) (sym c.in-Some.is)
-          (IfOk-weaker c.load_with-outcome.result _ _ (loaded_as plan load call _ _ told told' closed) c.load_with-outcome.ensures.ok);
-      err = subst (λ file. IfErr c.load_with-outcome.result (IsPlanFailure plan load call (AsksDisk file disk disk') told told')) (sym c.in-Some.is)
-          (IfErr-weaker c.load_with-outcome.result _ _ (failed_as plan load call _ _ told told' closed) c.load_with-outcome.ensures.err);
+      ok = subst (λ file. IfOk c.load_with-outcome.result (IsPlanLoaded plan load (AsksDisk file disk disk') before after)) (sym c.in-Some.is)
+          (IfOk-weaker c.load_with-outcome.result _ _ (loaded_as plan load _ _ before asked' out' _ call closed) c.load_with-outcome.ensures.ok);
+      err = subst (λ file. IfErr c.load_with-outcome.result (IsPlanFailure plan load (AsksDisk file disk disk') before after)) (sym c.in-Some.is)
+          (IfErr-weaker c.load_with-outcome.result _ _ (failed_as plan load _ _ before asked' out' _ call closed) c.load_with-outcome.ensures.err);
     }
 
 pub returns-in-None : goal.returns-in-None
@@ -34,11 +37,13 @@ returns-in-None g c =
     let call = g.C.Reach.call c.args.console in
     let disk = g.D.Disk.asked c.args.disk in
     let outcome = c.load_with-outcome-in-None.result in
-    let told = load_told g.C.Reach.asked g.W.Write.contents c.args.console c.args.out.now in
-    let told' = load_told g.C.Reach.asked g.W.Write.contents c.load_with-outcome-in-None.new.around.console c.load_with-outcome-in-None.new.out in
+    let asked' = g.C.Reach.asked c.load_with-outcome-in-None.new.around.console in
+    let out' = g.W.Write.contents c.load_with-outcome-in-None.new.out in
+    let before : ConsoleTold = record { asked = g.C.Reach.asked c.args.console; call = call; out = g.W.Write.contents c.args.out.now } in
+    let after : ConsoleTold = record { asked = asked'; call = call; out = out' } in
     record {
-      ok = subst (λ file. IfOk outcome (IsPlanLoaded plan load call (AsksDisk file disk disk) told told')) (sym c.in-None.is)
-          (IfOk-weaker outcome _ _ (loaded_as plan load call _ _ told told' (λ holds h. refl)) c.load_with-outcome-in-None.ensures.ok);
-      err = subst (λ file. IfErr outcome (IsPlanFailure plan load call (AsksDisk file disk disk) told told')) (sym c.in-None.is)
-          (IfErr-weaker outcome _ _ (failed_as plan load call _ _ told told' (λ holds h. refl)) c.load_with-outcome-in-None.ensures.err);
+      ok = subst (λ file. IfOk outcome (IsPlanLoaded plan load (AsksDisk file disk disk) before after)) (sym c.in-None.is)
+          (IfOk-weaker outcome _ _ (loaded_as plan load _ _ before asked' out' _ call (λ holds h. refl)) c.load_with-outcome-in-None.ensures.ok);
+      err = subst (λ file. IfErr outcome (IsPlanFailure plan load (AsksDisk file disk disk) before after)) (sym c.in-None.is)
+          (IfErr-weaker outcome _ _ (failed_as plan load _ _ before asked' out' _ call (λ holds h. refl)) c.load_with-outcome-in-None.ensures.err);
     }

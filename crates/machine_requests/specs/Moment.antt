@@ -1,0 +1,27 @@
+-- What is known at a moment, before something is done or behind it.
+use Rattle.std.specs.Prelude.{List, Option}
+use Rattle.endings.specs.Held.{Held}
+use Rattle.input_files.specs.Opening.{InputStep}
+use Rattle.machine_requests.specs.Asked.{Asked}
+
+-- what was asked of the system, and what the standard streams hold
+pub record Moment : Type 0 where
+  pub asked : Asked
+  pub held : Held
+
+-- the moment at which this was asked and the streams hold this
+abbrev pub moment : Asked → Held → Moment
+moment asked held = record { asked = asked; held = held }
+
+-- which input files were opened, where the system tells, and what the standard streams hold
+pub record Reading : Type 0 where
+  pub opened : Option (List InputStep)
+  pub held : Held
+
+-- the reading at which these were opened and the streams hold this
+abbrev pub reading : Option (List InputStep) → Held → Reading
+reading opened held = record { opened = opened; held = held }
+
+-- what is known of the reading at a moment
+abbrev pub reading_at : Moment → Reading
+reading_at known = reading known.asked.inputs known.held

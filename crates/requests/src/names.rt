@@ -1,21 +1,18 @@
 //! The names of tapes.
-ghost use Rattle.std.specs.Prelude.{◌≡◌, ◌∷◌, IfOk, IfErr};
+ghost use Rattle.std.specs.Prelude.{◌≡◌, ◌∷◌, IfOk};
 
-use endings::Failure;
-use std::alloc::Global;
+use std::alloc::{AllocError, Global};
 
 /// The names of all tapes, in order.
 pub(crate) fn joined<'a>(
     alloc: Global,
     first: &'a str,
     more: &[&'a str],
-) -> Result<Vec<&'a str>, Failure<'a>>
-    ensures ok { IfOk result (λ names. names.items ≡ first.entry ∷ more.now) }
-    ensures err { IfErr result (λ failure. failure ≡ Failure.NoMemory) }
+) -> Result<Vec<&'a str>, AllocError>
+    ensures { IfOk result (λ names. names.items ≡ first.entry ∷ more.now) }
 {
     let mut names = Vec::new(alloc);
-    if names.push(first).is_err() || names.extend_from_slice(more).is_err() {
-        return Err(Failure::NoMemory);
-    }
+    names.push(first)?;
+    names.extend_from_slice(more)?;
     Ok(names)
 }

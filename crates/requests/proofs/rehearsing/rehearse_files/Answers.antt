@@ -61,7 +61,7 @@ returns-clause-err g c =
             record {
               fault = c.in-Err.fault;
               is_so = c.in-Err.ensures.err;
-              is_called = subst (λ names. IsFailureOf c.in-Err.fault names c.args.rehearsal.now.script.now c.of.result) (c.deref.ensures.value ∙ c.in-Ok.ensures.ok) c.of.ensures;
+              is_called = subst (λ names. IsFailureOf c.in-Err.fault names c.args.rehearsal.now.script.now c.of.result) (c.deref.ensures.value ∙ c.in-Ok.ensures) c.of.ensures;
             },
           )),
     ))

@@ -1,1 +1,1 @@
-pub mod Filled
+mod Filled

@@ -12,7 +12,7 @@ use crate::command_line::{NoRequest, parse};
 use endings::{Failure, FaultOutput, Output, Status, Streams, refuse, show, tell};
 use input_files::InputFiles;
 use record_file::Disk;
-use requests::{Outside, System, attempt};
+use requests::{System, attempt};
 use serial_line::DeviceOpening;
 use std::alloc::Global;
 use std::io::{Print, Read};

@@ -1,4 +1,4 @@
 pub mod Errors
-pub mod Loaded
-pub mod Saved
+mod Loaded
+mod Saved
 pub mod Tapes

@@ -10,7 +10,7 @@ use Rattle.endings.specs.declared.failure.Failure.{Failure}
 use Rattle.endings.specs.Failure.{IsFailureOf}
 use Rattle.endings.specs.Held.{Held}
 use Rattle.input_files.specs.Opening.{Name, InputStep, AreTried, HasOpened}
-use Rattle.machine_requests.specs.Moment.{Reading}
+use Rattle.machine_requests.specs.Moment.{Intake}
 
 -- what a reader has left or a writer holds, as far as its type tells
 abbrev pub Known : Type 0
@@ -62,12 +62,12 @@ OfInputs names before after P =
     ⊎ ((means_input names ≡ false) × OfFiles names P × (after.input ≡ before.input))
 
 -- .. whose files were opened
-pub record OfTapes (names : List Name) (before after : Reading) (P : Inputs → Type 0) : Type 0 where
+pub record OfTapes (names : List Name) (before after : Intake) (P : Inputs → Type 0) : Type 0 where
   pub opened : AreOpened (files_of names) before.opened after.opened
   pub is_so : OfInputs names before.held after.held P
 
 -- one of these files can't be opened, or want of memory, with nothing read of standard input and nothing written
-pub record FailsUnopened (files : List Name) (before after : Reading) (failure : Failure) : Type 0 where
+pub record FailsUnopened (files : List Name) (before after : Intake) (failure : Failure) : Type 0 where
   pub unopened : IsUnopened files before.opened after.opened failure
   pub nothing_read : after.held.input ≡ before.held.input
   pub nothing_written : after.held.out ≡ before.held.out
@@ -89,11 +89,11 @@ abbrev pub FailsToPlan : Inputs → Failure → Type 0
 FailsToPlan inputs failure = HasFault (AreTapesFault inputs.held inputs.rests) inputs.names (codes "standard input") failure
 
 -- this is the plan of the tapes of these names
-abbrev pub IsPlanned : List Name → Reading → Reading → PlanValue → Type 0
+abbrev pub IsPlanned : List Name → Intake → Intake → PlanValue → Type 0
 IsPlanned names before after plan = OfTapes names before after (λ inputs. IsPlanOf inputs plan)
 
 -- no plan comes of the tapes of these names, and nothing was written
-abbrev pub IsUnplanned : List Name → Reading → Reading → Failure → Type 0
+abbrev pub IsUnplanned : List Name → Intake → Intake → Failure → Type 0
 IsUnplanned names before after failure =
     FailsUnopened (files_of names) before after failure
     ⊎ (OfTapes names before after (λ inputs. FailsToPlan inputs failure) × (after.held.out ≡ before.held.out))

@@ -21,7 +21,7 @@ use Rattle.input_files.specs.Opening.{Name}
 use Rattle.machine_requests.specs.Errand.{Told, told_towards}
 use Rattle.machine_requests.specs.Files.{Known, IsPlanned, IsUnplanned}
 use Rattle.machine_requests.specs.Asked.{OutsideAsked, NotElsewhere}
-use Rattle.machine_requests.specs.Moment.{Moment, reading_at}
+use Rattle.machine_requests.specs.Moment.{Moment, intake_at}
 use Rattle.machine_requests.specs.Listening.{IsListenedTo, IsHeardInPart, seconds_of, quiet_time}
 
 -- what faults call the record: its file's name, where it has one
@@ -118,7 +118,7 @@ pub record IsLoadOver (plan : PlanValue) (load : LoadRequest) (before after : To
 -- the tapes of these names were loaded, as one, with the start that is asked for, at the console that is named, and no other was asked for
 pub record AreLoaded (names : List Name) (load : LoadRequest) (before after : Moment) (status : Status) : Type 0 where
   pub plan : PlanValue
-  pub planned : IsPlanned names (reading_at before) (reading_at after) plan
+  pub planned : IsPlanned names (intake_at before) (intake_at after) plan
   pub loaded : IsLoadDone (starting plan load.start) load
       (told_for load before.asked.outside before.held.out) (told_for load after.asked.outside after.held.out) status
   pub not_elsewhere : NotElsewhere load.line.now before.asked.outside after.asked.outside
@@ -126,7 +126,7 @@ pub record AreLoaded (names : List Name) (load : LoadRequest) (before after : Mo
 -- there is a plan, and its load failed
 pub record IsLoadUndone (names : List Name) (load : LoadRequest) (before after : Moment) (failure : Failure) : Type 0 where
   pub plan : PlanValue
-  pub planned : IsPlanned names (reading_at before) (reading_at after) plan
+  pub planned : IsPlanned names (intake_at before) (intake_at after) plan
   pub failed : IsLoadFailure (starting plan load.start) load
       (told_for load before.asked.outside before.held.out) (told_for load after.asked.outside after.held.out) failure
   pub not_elsewhere : NotElsewhere load.line.now before.asked.outside after.asked.outside
@@ -134,5 +134,5 @@ pub record IsLoadUndone (names : List Name) (load : LoadRequest) (before after :
 -- their load failed: it has no plan, and of disk and consoles nothing was asked; or it failed on its way
 abbrev pub AreUnloaded : List Name → LoadRequest → Moment → Moment → Failure → Type 0
 AreUnloaded names load before after failure =
-    ((after.asked.outside ≡ before.asked.outside) × IsUnplanned names (reading_at before) (reading_at after) failure)
+    ((after.asked.outside ≡ before.asked.outside) × IsUnplanned names (intake_at before) (intake_at after) failure)
     ⊎ IsLoadUndone names load before after failure

@@ -15,7 +15,7 @@ use Rattle.input_files.specs.Opening.{Name}
 use Rattle.machine_requests.specs.Errand.{Told, told_towards}
 use Rattle.machine_requests.specs.Files.{Known, IsPlanned, IsUnplanned}
 use Rattle.machine_requests.specs.Asked.{OutsideAsked, AsksConsoleAlone}
-use Rattle.machine_requests.specs.Moment.{Moment, reading_at}
+use Rattle.machine_requests.specs.Moment.{Moment, intake_at}
 
 -- what is told of the console that a look is meant for, of the disk and of an output
 abbrev pub told_at : Look → OutsideAsked → Known → Told
@@ -50,19 +50,19 @@ pub record IsLookOver (plan : PlanValue) (look : Look) (before after : Told) (ou
 -- memory was looked at for the tapes of these names, as one, at the console that is named, and no other was asked for
 pub record AreVerified (names : List Name) (look : Look) (before after : Moment) (status : Status) : Type 0 where
   pub plan : PlanValue
-  pub planned : IsPlanned names (reading_at before) (reading_at after) plan
+  pub planned : IsPlanned names (intake_at before) (intake_at after) plan
   pub verified : IsPlanVerified plan look (console_at look before.asked.outside before.held.out) (console_at look after.asked.outside after.held.out) status
   pub alone : AsksConsoleAlone look.line.now before.asked.outside after.asked.outside
 
 -- there is a plan, and the look for it failed
 pub record IsLookBroken (names : List Name) (look : Look) (before after : Moment) (failure : Failure) : Type 0 where
   pub plan : PlanValue
-  pub planned : IsPlanned names (reading_at before) (reading_at after) plan
+  pub planned : IsPlanned names (intake_at before) (intake_at after) plan
   pub failed : IsVerifyFailure plan look (console_at look before.asked.outside before.held.out) (console_at look after.asked.outside after.held.out) failure
   pub alone : AsksConsoleAlone look.line.now before.asked.outside after.asked.outside
 
 -- the look failed: there is no plan, and no console was asked for, or it failed on its way
 abbrev pub AreUnverified : List Name → Look → Moment → Moment → Failure → Type 0
 AreUnverified names look before after failure =
-    ((after.asked.outside ≡ before.asked.outside) × IsUnplanned names (reading_at before) (reading_at after) failure)
+    ((after.asked.outside ≡ before.asked.outside) × IsUnplanned names (intake_at before) (intake_at after) failure)
     ⊎ IsLookBroken names look before after failure

@@ -14,14 +14,14 @@ abbrev pub moment : Asked → Held → Moment
 moment asked held = record { asked = asked; held = held }
 
 -- which input files were opened, where the system tells, and what the standard streams hold
-pub record Reading : Type 0 where
+pub record Intake : Type 0 where
   pub opened : Option (List InputStep)
   pub held : Held
 
--- the reading at which these were opened and the streams hold this
-abbrev pub reading : Option (List InputStep) → Held → Reading
-reading opened held = record { opened = opened; held = held }
+-- the intake at which these were opened and the streams hold this
+abbrev pub intake : Option (List InputStep) → Held → Intake
+intake opened held = record { opened = opened; held = held }
 
--- what is known of the reading at a moment
-abbrev pub reading_at : Moment → Reading
-reading_at known = reading known.asked.inputs known.held
+-- what is known of the intake at a moment
+abbrev pub intake_at : Moment → Intake
+intake_at known = intake known.asked.inputs known.held

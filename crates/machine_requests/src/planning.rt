@@ -3,7 +3,7 @@ ghost use Rattle.std.specs.Prelude.{◌≡◌, ◌⊎◌, IfOk, IfErr};
 ghost use Rattle.std.specs.Mem.{FitsInMemory};
 ghost use Rattle.machine_requests.specs.Files.{inputs_of, only_input, AreOpened, IsUnopened, OfFiles};
 ghost use Rattle.machine_requests.specs.Files.{FailsToPlan, IsPlanned, IsPlanOf, IsUnplanned};
-ghost use Rattle.machine_requests.specs.Moment.{reading};
+ghost use Rattle.machine_requests.specs.Moment.{intake};
 
 use crate::names::is_input;
 use command_io::take_tapes;
@@ -23,8 +23,8 @@ pub(crate) fn plan_tapes<'a, F: InputFiles, R: Read, W: Output, E: FaultOutput>(
     streams: &mut Streams<R, W, E>,
 ) -> Result<Plan, Failure<'a>>
     requires { FitsInMemory R.row }
-    ensures ok { IfOk result (IsPlanned names.now (reading (F.opened inputs.old) streams.old) (reading (F.opened inputs.new) streams.new)) }
-    ensures err { IfErr result (IsUnplanned names.now (reading (F.opened inputs.old) streams.old) (reading (F.opened inputs.new) streams.new)) }
+    ensures ok { IfOk result (IsPlanned names.now (intake (F.opened inputs.old) streams.old) (intake (F.opened inputs.new) streams.new)) }
+    ensures err { IfErr result (IsUnplanned names.now (intake (F.opened inputs.old) streams.old) (intake (F.opened inputs.new) streams.new)) }
     ensures same_out { streams.new.out ≡ streams.old.out }
     ensures quiet { streams.new.err ≡ streams.old.err }
 {

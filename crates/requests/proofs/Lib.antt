@@ -1,3 +1,3 @@
 pub mod Kept
-pub mod OneInput
-pub mod Whatever
+mod OneInput
+mod Whatever

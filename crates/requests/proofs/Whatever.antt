@@ -9,7 +9,7 @@ use Rattle.requests.specs.declared.request.Request.TheVariants.{CheckInput, Chec
 use Rattle.requests.specs.Attempt.{IsFailed}
 use Rattle.machine_requests.specs.Asked.{Asked}
 use Rattle.machine_requests.specs.Files.{Known, Inputs, FailsUnopened, IsUnplanned, OfTapes}
-use Rattle.machine_requests.specs.Moment.{Moment, moment, reading, reading_at}
+use Rattle.machine_requests.specs.Moment.{Moment, moment, intake, intake_at}
 
 module _ (before : Moment) (asked : Asked) (input out : Known) (unread : Bool) (err err' : StandardError) (failure : Failure) where
   abbrev here : Held
@@ -18,13 +18,13 @@ module _ (before : Moment) (asked : Asked) (input out : Known) (unread : Bool) (
   abbrev there : Held
   there = record { input = input; out = out; unread = unread; err = err' }
 
-  tapes : (names : List Name) (P : Inputs → Type 0) → OfTapes names (reading_at before) (reading asked.inputs here) P → OfTapes names (reading_at before) (reading asked.inputs there) P
+  tapes : (names : List Name) (P : Inputs → Type 0) → OfTapes names (intake_at before) (intake asked.inputs here) P → OfTapes names (intake_at before) (intake asked.inputs there) P
   tapes names P is = record { opened = is.opened; is_so = is.is_so }
 
-  unopened : (files : List Name) → FailsUnopened files (reading_at before) (reading asked.inputs here) failure → FailsUnopened files (reading_at before) (reading asked.inputs there) failure
+  unopened : (files : List Name) → FailsUnopened files (intake_at before) (intake asked.inputs here) failure → FailsUnopened files (intake_at before) (intake asked.inputs there) failure
   unopened files is = record { unopened = is.unopened; nothing_read = is.nothing_read; nothing_written = is.nothing_written }
 
-  unplanned : (names : List Name) → IsUnplanned names (reading_at before) (reading asked.inputs here) failure → IsUnplanned names (reading_at before) (reading asked.inputs there) failure
+  unplanned : (names : List Name) → IsUnplanned names (intake_at before) (intake asked.inputs here) failure → IsUnplanned names (intake_at before) (intake asked.inputs there) failure
   unplanned names = ⊎_elim (λ u. inl (unopened _ u)) (λ t. inr (tapes names _ t.0, t.1))
 
   pub failed_whatever : (request : Request) → IsFailed request before (moment asked here) failure → IsFailed request before (moment asked there) failure

@@ -9,7 +9,7 @@ use Rattle.machine_requests.specs.Loading.{AreLoaded, AreUnloaded}
 use Rattle.machine_requests.specs.Looking.{AreVerified, AreUnverified}
 use Rattle.machine_requests.specs.Probing.{IsConsoleProbed, IsConsoleUnprobed}
 use Rattle.machine_requests.specs.Saving.{AreWordsSaved, AreWordsUnsaved}
-use Rattle.machine_requests.specs.Moment.{Moment, reading_at}
+use Rattle.machine_requests.specs.Moment.{Moment, intake_at}
 use Rattle.requests.specs.declared.request.Request.{Request}
 use Rattle.requests.specs.declared.request.Request.TheVariants.{CheckInput, Check, Dialogue, Rehearse, «Type» as TypeKeys, Load, Verify, Save, Probe}
 use Rattle.requests.specs.Checking.{AreChecked, AreUnchecked, IsInputChecked, IsInputUnchecked}
@@ -24,9 +24,9 @@ AsksNobody before after = after.asked.outside ≡ before.asked.outside
 -- a request was done, and the program ends so
 abbrev pub IsDone : Request → Moment → Moment → Status → Type 0
 IsDone CheckInput before after status = IsInputChecked before.held after.held status × (after.asked ≡ before.asked)
-IsDone (Check names) before after status = AreChecked names.items (reading_at before) (reading_at after) status × AsksNobody before after
-IsDone (Dialogue names stage) before after status = AreShown names.items stage (reading_at before) (reading_at after) status × AsksNobody before after
-IsDone (Rehearse rehearsal) before after status = AreRehearsed rehearsal (reading_at before) (reading_at after) status × AsksNobody before after
+IsDone (Check names) before after status = AreChecked names.items (intake_at before) (intake_at after) status × AsksNobody before after
+IsDone (Dialogue names stage) before after status = AreShown names.items stage (intake_at before) (intake_at after) status × AsksNobody before after
+IsDone (Rehearse rehearsal) before after status = AreRehearsed rehearsal (intake_at before) (intake_at after) status × AsksNobody before after
 IsDone (TypeKeys console) before after status = IsTypedThrough console before.held after.held × (status ≡ Done) × (after.asked ≡ before.asked)
 IsDone (Load names load) before after status = AreLoaded names.items load before after status
 IsDone (Verify names look) before after status = AreVerified names.items look before after status
@@ -36,9 +36,9 @@ IsDone (Probe request) before after status = IsConsoleProbed request before afte
 -- a request failed
 abbrev pub IsFailed : Request → Moment → Moment → Failure → Type 0
 IsFailed CheckInput before after failure = IsInputUnchecked before.held after.held failure × (after.asked ≡ before.asked)
-IsFailed (Check names) before after failure = AreUnchecked names.items (reading_at before) (reading_at after) failure × AsksNobody before after
-IsFailed (Dialogue names stage) before after failure = AreUnshown names.items stage (reading_at before) (reading_at after) failure × AsksNobody before after
-IsFailed (Rehearse rehearsal) before after failure = AreUnrehearsed rehearsal (reading_at before) (reading_at after) failure × AsksNobody before after
+IsFailed (Check names) before after failure = AreUnchecked names.items (intake_at before) (intake_at after) failure × AsksNobody before after
+IsFailed (Dialogue names stage) before after failure = AreUnshown names.items stage (intake_at before) (intake_at after) failure × AsksNobody before after
+IsFailed (Rehearse rehearsal) before after failure = AreUnrehearsed rehearsal (intake_at before) (intake_at after) failure × AsksNobody before after
 IsFailed (TypeKeys console) before after failure = IsTypingFailure console before.held after.held failure × (after.asked ≡ before.asked)
 IsFailed (Load names load) before after failure = AreUnloaded names.items load before after failure
 IsFailed (Verify names look) before after failure = AreUnverified names.items look before after failure

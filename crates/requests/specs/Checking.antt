@@ -8,7 +8,7 @@ use Rattle.endings.specs.declared.status.Status.TheVariants.{Done}
 use Rattle.endings.specs.Held.{Held}
 use Rattle.input_files.specs.Opening.{Name}
 use Rattle.machine_requests.specs.Files.{Known, Inputs, OfTapes, files_of, FailsUnopened, only_input}
-use Rattle.machine_requests.specs.Moment.{Reading}
+use Rattle.machine_requests.specs.Moment.{Intake}
 use Rattle.requests.specs.Output.{FailsOver}
 
 -- the tapes of some inputs were checked
@@ -29,11 +29,11 @@ abbrev pub IsInputUnchecked : Held → Held → Failure → Type 0
 IsInputUnchecked before after failure = IsCheckFailure (only_input before.input after.input) before.out after.out failure
 
 -- the tapes of these names were checked
-abbrev pub AreChecked : List Name → Reading → Reading → Status → Type 0
+abbrev pub AreChecked : List Name → Intake → Intake → Status → Type 0
 AreChecked names before after status = OfTapes names before after (λ inputs. IsCheckedTo inputs before.held.out after.held.out status)
 
 -- they were not: a file can't be opened, or what the inputs hold is to blame
-abbrev pub AreUnchecked : List Name → Reading → Reading → Failure → Type 0
+abbrev pub AreUnchecked : List Name → Intake → Intake → Failure → Type 0
 AreUnchecked names before after failure =
     FailsUnopened (files_of names) before after failure
     ⊎ OfTapes names before after (λ inputs. IsCheckFailure inputs before.held.out after.held.out failure)

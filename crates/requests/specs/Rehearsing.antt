@@ -8,7 +8,7 @@ use Rattle.endings.specs.declared.status.Status.TheVariants.{Done}
 use Rattle.endings.specs.Held.{Held}
 use Rattle.input_files.specs.Opening.{Name}
 use Rattle.machine_requests.specs.Files.{Known, Inputs, AreOpened, OfInputs, FailsUnopened, HasFault, means_input, only_input}
-use Rattle.machine_requests.specs.Moment.{Reading}
+use Rattle.machine_requests.specs.Moment.{Intake}
 use Rattle.requests.specs.declared.request.Rehearsal.{Rehearsal}
 use Rattle.requests.specs.Output.{FailsAtFlush}
 
@@ -46,18 +46,18 @@ abbrev pub opened_files : Rehearsal → List Name
 opened_files rehearsal = if means_input (rehearsed_tapes rehearsal) then (rehearsal.script ∷ []) else rehearsed_files rehearsal
 
 -- the load of the tapes was rehearsed with a script in a file
-pub record AreRehearsed (rehearsal : Rehearsal) (before after : Reading) (status : Status) : Type 0 where
+pub record AreRehearsed (rehearsal : Rehearsal) (before after : Intake) (status : Status) : Type 0 where
   pub opened : AreOpened (opened_files rehearsal) before.opened after.opened
   pub rehearsed : OfInputs (rehearsed_tapes rehearsal) before.held after.held (λ inputs. IsRehearsedInto inputs before.held.out after.held.out)
   pub status_is : status ≡ Done
 
 -- the files were opened, and the rehearsal failed
-pub record IsRehearsalBroken (rehearsal : Rehearsal) (before after : Reading) (failure : Failure) : Type 0 where
+pub record IsRehearsalBroken (rehearsal : Rehearsal) (before after : Intake) (failure : Failure) : Type 0 where
   pub opened : AreOpened (opened_files rehearsal) before.opened after.opened
   pub failed : OfInputs (rehearsed_tapes rehearsal) before.held after.held
       (λ inputs. IsRehearsalFailure rehearsal.script.now inputs before.held.out after.held.out failure)
 
 -- the load was not rehearsed: a file can't be opened, or the rehearsal failed
-abbrev pub AreUnrehearsed : Rehearsal → Reading → Reading → Failure → Type 0
+abbrev pub AreUnrehearsed : Rehearsal → Intake → Intake → Failure → Type 0
 AreUnrehearsed rehearsal before after failure =
     FailsUnopened (opened_files rehearsal) before after failure ⊎ IsRehearsalBroken rehearsal before after failure

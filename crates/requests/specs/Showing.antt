@@ -8,7 +8,7 @@ use Rattle.endings.specs.Status.{end_status}
 use Rattle.endings.specs.Held.{Held}
 use Rattle.input_files.specs.Opening.{Name}
 use Rattle.machine_requests.specs.Files.{Known, Inputs, OfTapes, files_of, FailsUnopened, only_input}
-use Rattle.machine_requests.specs.Moment.{Reading}
+use Rattle.machine_requests.specs.Moment.{Intake}
 use Rattle.requests.specs.declared.request.Stage.{Stage}
 use Rattle.requests.specs.Output.{FailsOver}
 
@@ -32,11 +32,11 @@ abbrev pub IsInputUnshown : Stage → Held → Held → Failure → Type 0
 IsInputUnshown stage before after failure = IsShowingFailure stage (only_input before.input after.input) before.out after.out failure
 
 -- the load of the tapes of these names was shown
-abbrev pub AreShown : List Name → Stage → Reading → Reading → Status → Type 0
+abbrev pub AreShown : List Name → Stage → Intake → Intake → Status → Type 0
 AreShown names stage before after status = OfTapes names before after (λ inputs. IsShownTo stage inputs before.held.out after.held.out status)
 
 -- it was not: a file can't be opened, or what the inputs hold is to blame
-abbrev pub AreUnshown : List Name → Stage → Reading → Reading → Failure → Type 0
+abbrev pub AreUnshown : List Name → Stage → Intake → Intake → Failure → Type 0
 AreUnshown names stage before after failure =
     FailsUnopened (files_of names) before after failure
     ⊎ OfTapes names before after (λ inputs. IsShowingFailure stage inputs before.held.out after.held.out failure)

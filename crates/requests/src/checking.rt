@@ -2,7 +2,7 @@
 ghost use Rattle.std.specs.Prelude.{◌≡◌, ◌⊎◌, IfOk, IfErr};
 ghost use Rattle.std.specs.Mem.{FitsInMemory};
 ghost use Rattle.machine_requests.specs.Files.{inputs_of, AreOpened, IsUnopened, OfFiles};
-ghost use Rattle.machine_requests.specs.Moment.{reading};
+ghost use Rattle.machine_requests.specs.Moment.{intake};
 ghost use Rattle.requests.specs.Checking.{AreChecked, AreUnchecked, IsCheckedTo, IsCheckFailure, IsInputChecked, IsInputUnchecked};
 
 use crate::output::flushed;
@@ -22,8 +22,8 @@ pub(crate) fn check_tapes<'a, F: InputFiles, R: Read, W: Output, E: FaultOutput>
     streams: &mut Streams<R, W, E>,
 ) -> Result<Status, Failure<'a>>
     requires { FitsInMemory R.row }
-    ensures ok { IfOk result (AreChecked names.now (reading (F.opened inputs.old) streams.old) (reading (F.opened inputs.new) streams.new)) }
-    ensures err { IfErr result (AreUnchecked names.now (reading (F.opened inputs.old) streams.old) (reading (F.opened inputs.new) streams.new)) }
+    ensures ok { IfOk result (AreChecked names.now (intake (F.opened inputs.old) streams.old) (intake (F.opened inputs.new) streams.new)) }
+    ensures err { IfErr result (AreUnchecked names.now (intake (F.opened inputs.old) streams.old) (intake (F.opened inputs.new) streams.new)) }
     ensures quiet { streams.new.err ≡ streams.old.err }
 {
     if is_input(names) {

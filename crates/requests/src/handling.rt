@@ -11,7 +11,7 @@ use crate::showing::show_dialogue;
 use crate::typing::type_input;
 use endings::{Failure, FaultOutput, Output, Status, Streams, tell_unless_unheard};
 use input_files::InputFiles;
-use machine_requests::{Outside, System, load_tapes, probe_console, save_words, verify_tapes};
+use machine_requests::{System, load_tapes, probe_console, save_words, verify_tapes};
 use record_file::Disk;
 use serial_line::DeviceOpening;
 use std::alloc::Global;

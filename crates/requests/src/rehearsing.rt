@@ -2,7 +2,7 @@
 ghost use Rattle.std.specs.Prelude.{◌≡◌, ◌⊎◌, ◌∷◌, [], IfOk, IfErr};
 ghost use Rattle.std.specs.Mem.{FitsInMemory};
 ghost use Rattle.machine_requests.specs.Files.{means_input, AreOpened, FailsUnopened, IsUnopened, OfFiles};
-ghost use Rattle.machine_requests.specs.Moment.{reading};
+ghost use Rattle.machine_requests.specs.Moment.{intake};
 ghost use Rattle.requests.specs.Rehearsing.{rehearsed_files, rehearsed_tapes, AreRehearsed, AreUnrehearsed};
 ghost use Rattle.requests.specs.Rehearsing.{IsInputRehearsed, IsInputUnrehearsed, IsRehearsalFailure, IsRehearsedInto};
 
@@ -25,8 +25,8 @@ pub(crate) fn rehearse<'a, F: InputFiles, R: Read, W: Output, E: FaultOutput>(
     streams: &mut Streams<R, W, E>,
 ) -> Result<Status, Failure<'a>>
     requires { FitsInMemory R.row }
-    ensures ok { IfOk result (AreRehearsed rehearsal.now (reading (F.opened inputs.old) streams.old) (reading (F.opened inputs.new) streams.new)) }
-    ensures err { IfErr result (AreUnrehearsed rehearsal.now (reading (F.opened inputs.old) streams.old) (reading (F.opened inputs.new) streams.new)) }
+    ensures ok { IfOk result (AreRehearsed rehearsal.now (intake (F.opened inputs.old) streams.old) (intake (F.opened inputs.new) streams.new)) }
+    ensures err { IfErr result (AreUnrehearsed rehearsal.now (intake (F.opened inputs.old) streams.old) (intake (F.opened inputs.new) streams.new)) }
     ensures quiet { streams.new.err ≡ streams.old.err }
 {
     if is_only_input(rehearsal.tape, &rehearsal.more) {
@@ -54,7 +54,7 @@ fn rehearse_input<'a, F: InputFiles, R: Read, W: Output, E: FaultOutput>(
     ensures ok { IfOk result (λ status. AreOpened (script.entry ∷ []) (F.opened inputs.old) (F.opened inputs.new)
         × IsInputRehearsed streams.old streams.new status) }
     ensures err { IfErr result (λ failure.
-        FailsUnopened (script.entry ∷ []) (reading (F.opened inputs.old) streams.old) (reading (F.opened inputs.new) streams.new) failure
+        FailsUnopened (script.entry ∷ []) (intake (F.opened inputs.old) streams.old) (intake (F.opened inputs.new) streams.new) failure
         ⊎ (AreOpened (script.entry ∷ []) (F.opened inputs.old) (F.opened inputs.new)
         × IsInputUnrehearsed script.entry streams.old streams.new failure)) }
     ensures quiet { streams.new.err ≡ streams.old.err }

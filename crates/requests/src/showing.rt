@@ -2,7 +2,7 @@
 ghost use Rattle.std.specs.Prelude.{◌≡◌, ◌⊎◌, IfOk, IfErr};
 ghost use Rattle.std.specs.Mem.{FitsInMemory};
 ghost use Rattle.machine_requests.specs.Files.{inputs_of, AreOpened, IsUnopened, OfFiles};
-ghost use Rattle.machine_requests.specs.Moment.{reading};
+ghost use Rattle.machine_requests.specs.Moment.{intake};
 ghost use Rattle.requests.specs.Showing.{AreShown, AreUnshown, IsInputShown, IsInputUnshown, IsShowingFailure, IsShownTo};
 
 use crate::output::flushed;
@@ -25,8 +25,8 @@ pub(crate) fn show_dialogue<'a, F: InputFiles, R: Read, W: Output, E: FaultOutpu
     streams: &mut Streams<R, W, E>,
 ) -> Result<Status, Failure<'a>>
     requires { FitsInMemory R.row }
-    ensures ok { IfOk result (AreShown names.now stage (reading (F.opened inputs.old) streams.old) (reading (F.opened inputs.new) streams.new)) }
-    ensures err { IfErr result (AreUnshown names.now stage (reading (F.opened inputs.old) streams.old) (reading (F.opened inputs.new) streams.new)) }
+    ensures ok { IfOk result (AreShown names.now stage (intake (F.opened inputs.old) streams.old) (intake (F.opened inputs.new) streams.new)) }
+    ensures err { IfErr result (AreUnshown names.now stage (intake (F.opened inputs.old) streams.old) (intake (F.opened inputs.new) streams.new)) }
     ensures quiet { streams.new.err ≡ streams.old.err }
 {
     if is_input(names) {

@@ -1,5 +1,4 @@
 //! What is said of words that are refused.
-ghost use Rattle.std.specs.Prelude.{◌≡◌};
 ghost use Rattle.ldaodt.specs.Answer.{IsRefusal};
 
 use super::no_request::NoRequest;

@@ -4,7 +4,7 @@ use Rattle.tape_image.specs.Plan.{starting}
 use Rattle.endings.specs.Held.{Held}
 use Rattle.machine_requests.specs.Files.{IsPlanned}
 use Rattle.machine_requests.specs.Loading.{IsLoadDone, IsLoadFailure, told_for}
-use Rattle.machine_requests.specs.Moment.{reading}
+use Rattle.machine_requests.specs.Moment.{intake}
 use Rattle.machine_requests.proofs.loading.load_tapes.Goals as goal
 
 pub returns-in-Err-clause-err : goal.returns-in-Err-clause-err
@@ -14,9 +14,9 @@ pub returns-clause-ok : goal.returns-clause-ok
 returns-clause-ok g c =
     let outside = c.system.inside.outside in
     let after = told_for c.args.load c.run_at-outside.result.0 (g.W.Write.contents c.run_at-outside.new.out) in
-    let first = reading (g.F.InputFiles.opened c.system.inside.inputs) c.args.streams.now in
+    let first = intake (g.F.InputFiles.opened c.system.inside.inputs) c.args.streams.now in
     let opened = g.F.InputFiles.opened c.plan_tapes.new.inputs in
-    let planned = subst (λ (held : Held). IsPlanned c.args.names.now first (reading opened held) c.in-Ok.plan) (sym c.streams.view_is) c.in-Ok.ensures.ok in
+    let planned = subst (λ (held : Held). IsPlanned c.args.names.now first (intake opened held) c.in-Ok.plan) (sym c.streams.view_is) c.in-Ok.ensures.ok in
     rw (← c.system.view_is) (IfOk-weaker c.run_at-outside.result.1 _ _
     (λ status h. record {
       plan = c.in-Ok.plan;
@@ -33,9 +33,9 @@ pub returns-clause-err : goal.returns-clause-err
 returns-clause-err g c =
     let outside = c.system.inside.outside in
     let after = told_for c.args.load c.run_at-outside.result.0 (g.W.Write.contents c.run_at-outside.new.out) in
-    let first = reading (g.F.InputFiles.opened c.system.inside.inputs) c.args.streams.now in
+    let first = intake (g.F.InputFiles.opened c.system.inside.inputs) c.args.streams.now in
     let opened = g.F.InputFiles.opened c.plan_tapes.new.inputs in
-    let planned = subst (λ (held : Held). IsPlanned c.args.names.now first (reading opened held) c.in-Ok.plan) (sym c.streams.view_is) c.in-Ok.ensures.ok in
+    let planned = subst (λ (held : Held). IsPlanned c.args.names.now first (intake opened held) c.in-Ok.plan) (sym c.streams.view_is) c.in-Ok.ensures.ok in
     rw (← c.system.view_is) (IfErr-weaker c.run_at-outside.result.1 _ _
     (λ failure h. inr (record {
       plan = c.in-Ok.plan;

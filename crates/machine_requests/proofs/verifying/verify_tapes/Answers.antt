@@ -3,7 +3,7 @@ use Rattle.std.proofs.lemmas.Result.{IfOk-weaker, IfErr-weaker}
 use Rattle.endings.specs.Held.{Held}
 use Rattle.machine_requests.specs.Files.{IsPlanned}
 use Rattle.machine_requests.specs.Looking.{IsPlanVerified, IsVerifyFailure, console_at}
-use Rattle.machine_requests.specs.Moment.{reading}
+use Rattle.machine_requests.specs.Moment.{intake}
 use Rattle.machine_requests.proofs.verifying.verify_tapes.Goals as goal
 
 pub returns-in-Err-clause-err : goal.returns-in-Err-clause-err
@@ -12,9 +12,9 @@ returns-in-Err-clause-err g c = rw (← c.system.view_is) (inl (refl, c.in-Err.e
 pub returns-clause-ok : goal.returns-clause-ok
 returns-clause-ok g c =
     let told' = console_at c.args.look c.run_at-outside.result.0 (g.W.Write.contents c.run_at-outside.new.out) in
-    let first = reading (g.F.InputFiles.opened c.system.inside.inputs) c.args.streams.now in
+    let first = intake (g.F.InputFiles.opened c.system.inside.inputs) c.args.streams.now in
     let opened = g.F.InputFiles.opened c.plan_tapes.new.inputs in
-    let planned = subst (λ (held : Held). IsPlanned c.args.names.now first (reading opened held) c.in-Ok.plan) (sym c.streams.view_is) c.in-Ok.ensures.ok in
+    let planned = subst (λ (held : Held). IsPlanned c.args.names.now first (intake opened held) c.in-Ok.plan) (sym c.streams.view_is) c.in-Ok.ensures.ok in
     rw (← c.system.view_is) (IfOk-weaker c.run_at-outside.result.1 _ _
     (λ status h. record {
       plan = c.in-Ok.plan;
@@ -28,9 +28,9 @@ returns-clause-ok g c =
 pub returns-clause-err : goal.returns-clause-err
 returns-clause-err g c =
     let told' = console_at c.args.look c.run_at-outside.result.0 (g.W.Write.contents c.run_at-outside.new.out) in
-    let first = reading (g.F.InputFiles.opened c.system.inside.inputs) c.args.streams.now in
+    let first = intake (g.F.InputFiles.opened c.system.inside.inputs) c.args.streams.now in
     let opened = g.F.InputFiles.opened c.plan_tapes.new.inputs in
-    let planned = subst (λ (held : Held). IsPlanned c.args.names.now first (reading opened held) c.in-Ok.plan) (sym c.streams.view_is) c.in-Ok.ensures.ok in
+    let planned = subst (λ (held : Held). IsPlanned c.args.names.now first (intake opened held) c.in-Ok.plan) (sym c.streams.view_is) c.in-Ok.ensures.ok in
     rw (← c.system.view_is) (IfErr-weaker c.run_at-outside.result.1 _ _
     (λ failure h. inr (record {
       plan = c.in-Ok.plan;

@@ -8,7 +8,7 @@ use crate::checks::check_that;
 use crate::tapes::{ONE_WORD, fresh_host};
 use crate::watch::Watch;
 use honest_line::{Loss, MemoryLine};
-use host_core::{End, HostCore};
+use host_core::{End, Heard, HostCore};
 use load_devices::{Item, Keep, KeepFault, Kept, Line, LineFault, MemoryKeep};
 use load_engine::{Stop, drive};
 use odt_machine::{Odt, PLAIN_STYLE};

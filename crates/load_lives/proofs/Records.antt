@@ -27,7 +27,7 @@ lead_sound version plan (line ∷ lines) before after led sound = lead_sound ver
 pub says_sound : (plan : PlanValue) (text : List ℕ) (progress : Progress) → Says plan text (Ok progress) → IsSound plan progress
 says_sound plan text progress (short, inl empty) = subst (IsSound plan) (sym empty.none) (nothing-sound plan)
 says_sound plan text progress (short, inr r) =
-    subst (IsSound plan) (sym r.counted) (torn_sound r.version plan r.torn r.reached (lead_sound r.version plan r.lines nothing r.reached r.leads (nothing-sound plan)))
+    subst (IsSound plan) (sym r.counted) (torn_sound r.version plan r.torn r.reached r.whole (lead_sound r.version plan r.lines nothing r.reached r.leads (nothing-sound plan)) r.held)
 
 -- a text says one thing alone
 pub says_once : (plan : PlanValue) (text : List ℕ) (p q : Progress) → Says plan text (Ok p) → Says plan text (Ok q) → p ≡ q

@@ -7,8 +7,8 @@ use Rattle.host_core.specs.declared.progress.Progress.{Progress}
 use Rattle.load_record.specs.declared.version.Version.{Version}
 use Rattle.load_record.specs.declared.version.Version.TheVariants.{First, Second}
 use Rattle.load_record.specs.Lines.{HoldsWords}
-use Rattle.load_record.specs.Reading.{Adds, Lead, is_line_end, torn_words}
-use Rattle.load_record.proofs.Runs.{torn_short, torn_half, length-run_text}
+use Rattle.load_record.specs.Reading.{Adds, Lead, is_line_end}
+use Rattle.load_record.proofs.Runs.{torn_words, torn_short, torn_half, length-run_text}
 use Rattle.load_record.proofs.Joined.{HasNoEnd, HaveNoEnd, no_end-split, ended-split, front_of, joined, front-no_end, holds-no_end}
 use Rattle.load_record.proofs.Joined.Front.{inside, past}
 

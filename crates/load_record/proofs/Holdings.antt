@@ -1,8 +1,7 @@
 -- How many words a whole line holds.
-use Rattle.std.proofs.Common.{◌≡◌, ℕ, ◌+◌, ◌*◌, ◌<◌, Bool, true, false, cond, List, [], ◌∷◌, ◌++◌, length, take, arith, ap, sym, refl, ◌∙◌, subst, ◌==◌, append-nil, length-append, inl, inr, drop, Some}
-use Rattle.std.proofs.lemmas.List.{take_at, nil_from_length}
-use Rattle.std.proofs.lemmas.Bool.{false≢true, eqb-true}
-use Rattle.std.proofs.lemmas.Bool.Decides.{nat_tests}
+use Rattle.std.proofs.Common.{◌≡◌, ℕ, ◌+◌, ◌*◌, ◌<◌, ◌≤◌, zero, suc, Bool, true, false, List, [], ◌∷◌, ◌++◌, length, take, arith, ap, sym, refl, ◌∙◌, subst, append-nil, length-append, length-take-le, inl, inr, drop, Some}
+use Rattle.std.proofs.lemmas.List.{nil_from_length}
+use Rattle.std.proofs.lemmas.Bool.{false≢true}
 use Rattle.std.proofs.lemmas.Slice.Eq.{bytes_eq-Decides}
 use Rattle.std.specs.Int.{from_bool}
 use Rattle.std.specs.List.{slice_get}
@@ -10,9 +9,9 @@ use Rattle.std.specs.Str.{bytes_eq}
 use Rattle.tape_image.specs.Word.{WordValue, word_fields}
 use Rattle.load_record.specs.declared.version.Version.{Version}
 use Rattle.load_record.specs.declared.version.Version.TheVariants.{First, Second}
-use Rattle.load_record.specs.Lines.{half_line, run_text, is_full, IsRun, IsHalfLine, IsRunLine, HoldsWords}
-use Rattle.load_record.specs.Reading.{torn_words, run_words, HoldsCount}
-use Rattle.load_record.proofs.Runs.{Torn, torn, torn_few, run_counted, no_half_run, length-run_text}
+use Rattle.load_record.specs.Lines.{half_line, run_text, is_full, IsHalfLine, IsRunLine, HoldsWords}
+use Rattle.load_record.specs.Reading.{IsFront, BeginsWithRun, HoldsCount, HoldsTorn}
+use Rattle.load_record.proofs.Runs.{no_half_run, length-run_text}
 
 -- the first of the next words, where some of them are one word
 first_alone : (w v : WordValue) (ws words later : List WordValue) → w ∷ ws ≡ words ++ later → words ≡ v ∷ [] → w ≡ v
@@ -56,57 +55,49 @@ half_not_held line w ws half other = record {
   ];
 }
 
--- a torn piece that is as long as its run holds nothing else
-whole_run : (next : List WordValue) (line : List ℕ) (count : ℕ) (t : Torn next line count) → length line ≡ 6 + 7 * count
-    → IsRunLine line (take count next)
-whole_run next line count t long =
-    let text = ap length t.torn_is ∙ length-append (run_text t.words) t.left in
-    let run = length-run_text t.words t.run in
-    let n = t.count_is in
-    let nothing : t.left ≡ [] = nil_from_length t.left (omega arith) in
-    let these : take count next ≡ t.words = ap (take count) t.next_is ∙ take_at t.words t.later count (sym t.count_is) in
-    record {
-      run = subst IsRun (sym these) t.run;
-      spelled = t.torn_is ∙ ap (λ l. run_text t.words ++ l) nothing ∙ append-nil (run_text t.words) ∙ ap run_text (sym these);
-    }
+-- a piece is no shorter than the run line with which it begins
+begun_long : (line : List ℕ) (next : List WordValue) (count : ℕ) → HoldsTorn Second line next count → 0 < count → 6 + 7 * count ≤ length line
+begun_long line next count torn some =
+    let begun = torn.holds some in
+    let text = ap length begun.1.1 ∙ length-append (run_text (take count next)) begun.1.0 in
+    let run = length-run_text (take count next) begun.0 in
+    let n = length-take-le count next torn.few in omega arith
 
--- the words of a whole run line are those counted in it
-run_only : (next : List WordValue) (line : List ℕ) (words later : List WordValue) → next ≡ words ++ later → IsRunLine line words → torn_words Second next line ≡ length words
-run_only next line words later e h =
-    ap (λ l. torn_words Second l line) e ∙ ap (torn_words Second (words ++ later)) h.spelled ∙ run_counted words later h.run
+-- the words of a whole run line are the most with whose run line it begins
+run_only : (line : List ℕ) (next words later : List WordValue) (count : ℕ) → HoldsTorn Second line next count → next ≡ words ++ later → IsRunLine line words → count ≡ length words
+run_only line next words later zero torn e h =
+    let most = torn.most words later e (h.run, ([], h.spelled ∙ sym (append-nil (run_text words)))) in omega arith
+run_only line next words later (suc n) torn e h =
+    let most = torn.most words later e (h.run, ([], h.spelled ∙ sym (append-nil (run_text words)))) in
+    let text = ap length h.spelled ∙ length-run_text words h.run in
+    let long = begun_long line next (suc n) torn (omega arith) in omega arith
+
+-- a line that is as long as the run line with which it begins is that line
+run_whole : (line : List ℕ) (words : List WordValue) → BeginsWithRun Second line words → length line ≡ 6 + 7 * length words → IsRunLine line words
+run_whole line words begun long =
+    let text = ap length begun.1.1 ∙ length-append (run_text words) begun.1.0 in
+    let run = length-run_text words begun.0 in
+    let nothing : begun.1.0 ≡ [] = nil_from_length begun.1.0 (omega arith) in
+    record { run = begun.0; spelled = begun.1.1 ∙ ap (λ l. run_text words ++ l) nothing ∙ append-nil (run_text words) }
+
+pub run_found : (line : List ℕ) (next : List WordValue) (count : ℕ) → HoldsTorn Second line next count → length line ≡ 6 + 7 * count → IsFront (IsRunLine line) next count
+run_found line next count torn long = record {
+  few = torn.few;
+  holds = λ some. run_whole line (take count next) (torn.holds some) (long ∙ ap (λ n. 6 + 7 * n) (sym (length-take-le count next torn.few)));
+  only = λ words later e h. run_only line next words later count torn e h;
+}
+
+pub run_not_found : (line : List ℕ) (next : List WordValue) (count : ℕ) → HoldsTorn Second line next count → (length line ≡ 6 + 7 * count → ⊥) → IsFront (IsRunLine line) next 0
+run_not_found line next count torn other = record {
+  few = omega arith;
+  holds = λ some. absurd (omega arith);
+  only = λ words later e h. absurd (other (ap length h.spelled ∙ length-run_text words h.run ∙ ap (λ n. 6 + 7 * n) (sym (run_only line next words later count torn e h))));
+}
 
 -- a line whose next word is full is no line of a single word
 not_single : (w : WordValue) (ws words later : List WordValue) (line : List ℕ) → is_full w ≡ true → w ∷ ws ≡ words ++ later → IsHalfLine line words → ⊥
 not_single w ws words later line full next h =
     false≢true (sym h.half ∙ ap is_full (sym (first_alone w h.word ws words later next h.alone)) ∙ full)
-
-run_found : (w : WordValue) (ws : List WordValue) (line : List ℕ) → is_full w ≡ true → length line ≡ 6 + 7 * torn_words Second (w ∷ ws) line
-    → HoldsCount Second line (w ∷ ws) (torn_words Second (w ∷ ws) line)
-run_found w ws line full long = record {
-  few = torn_few (w ∷ ws) line;
-  holds = λ some. inr (elim (torn (w ∷ ws) line) [ inl zero ↦ absurd (omega arith) | inr t ↦ whole_run (w ∷ ws) line _ t long ]);
-  only = λ words later next h. elim h
-      [ inl h ↦ absurd (not_single w ws words later line full next h) | inr h ↦ run_only (w ∷ ws) line words later next h ];
-}
-
-run_not_found : (w : WordValue) (ws : List WordValue) (line : List ℕ) → is_full w ≡ true → (length line ≡ 6 + 7 * torn_words Second (w ∷ ws) line → ⊥)
-    → HoldsCount Second line (w ∷ ws) 0
-run_not_found w ws line full other = record {
-  few = omega arith;
-  holds = λ some. absurd (omega arith);
-  only = λ words later next h. elim h [
-    | inl h ↦ absurd (not_single w ws words later line full next h)
-    | inr h ↦ absurd (other (ap length h.spelled ∙ length-run_text words h.run ∙ ap (λ n. 6 + 7 * n) (sym (run_only (w ∷ ws) line words later next h))))
-  ];
-}
-
-run_held : (w : WordValue) (ws : List WordValue) (line : List ℕ) → is_full w ≡ true → HoldsCount Second line (w ∷ ws) (run_words (w ∷ ws) line)
-run_held w ws line full =
-    let n = torn_words Second (w ∷ ws) line in
-    elim (length line == 6 + 7 * n) as (λ t. (length line == 6 + 7 * n) ≡ t → HoldsCount Second line (w ∷ ws) (cond t n 0)) [
-      | true ↦ (λ on. run_found w ws line full (eqb-true (length line) (6 + 7 * n) on))
-      | false ↦ (λ off. run_not_found w ws line full (λ e. grind (arith, nat_tests)))
-    ] refl
 
 -- a slice that has a first word
 first_of : (w : WordValue) (next : List WordValue) → Some w ≡ slice_get next 0 → next ≡ w ∷ drop 1 next
@@ -134,7 +125,14 @@ half_counted version line text next w false count v n half test t c =
     moved version Second line next (w ∷ drop 1 next) count 0 v (first_of w next n) c (half_not_held line w (drop 1 next) half (λ e. false≢true (test ∙ (bytes_eq-Decides line text).1 (e ∙ sym t))))
 
 pub run_words_counted : (version : Version) (line : List ℕ) (next : List WordValue) (w : WordValue) (count : ℕ)
-    → version ≡ Second → Some w ≡ slice_get next 0 → is_full w ≡ true → count ≡ run_words next line → HoldsCount version line next count
-run_words_counted version line next w count v n full c =
-    let e = first_of w next n in
-    moved version Second line next (w ∷ drop 1 next) count (run_words (w ∷ drop 1 next) line) v e (c ∙ ap (λ l. run_words l line) e) (run_held w (drop 1 next) line full)
+    → version ≡ Second → Some w ≡ slice_get next 0 → is_full w ≡ true → IsFront (IsRunLine line) next count → HoldsCount version line next count
+run_words_counted version line next w count v n full h =
+    let here : HoldsCount Second line next count = record {
+      few = h.few;
+      holds = λ some. inr (h.holds some);
+      only = λ words later e k. elim k [
+        | inl half ↦ absurd (not_single w (drop 1 next) words later line full (sym (first_of w next n) ∙ e) half)
+        | inr run ↦ h.only words later e run
+      ];
+    } in
+    subst (λ x. HoldsCount x line next count) (sym v) here

@@ -9,9 +9,9 @@ use Rattle.load_record.specs.declared.version.Version.TheVariants.{First, Second
 use Rattle.load_record.specs.declared.reader.RecordError.{RecordError}
 use Rattle.load_record.specs.declared.reader.RecordError.TheVariants.{NotARecord, Foreign}
 use Rattle.load_record.specs.Lines.{header, HoldsWords}
-use Rattle.load_record.specs.Reading.{IsCut, Adds, AddsWords, AddsMark, Lead, torn_words, nothing, IsEmptyRecord, IsRecord, HasNoHeader, IsForeign, Says}
+use Rattle.load_record.specs.Reading.{IsCut, Adds, AddsWords, AddsMark, Lead, nothing, IsEmptyRecord, BeginsWithRun, IsRecord, HasNoHeader, IsForeign, Says}
 use Rattle.load_record.proofs.Holdings.{holds_some}
-use Rattle.load_record.proofs.Runs.{no_half_run, length-run_text}
+use Rattle.load_record.proofs.Runs.{torn_words, one_longest, torn_longest, no_half_run, length-run_text}
 
 -- a header names one version
 one_version : (v w : Version) → header v ≡ header w → v ≡ w
@@ -106,6 +106,12 @@ empty_or_lines text line lines torn a b = let e = (cut_once text [] (line ∷ li
 abbrev said : Version → PlanValue → Progress → List ℕ → Progress
 said version plan reached torn = record { verified = reached.verified + torn_words version (drop reached.verified plan.words) torn; going = reached.going }
 
+-- what a record says is what is counted in it
+as_counted : (plan : PlanValue) (text : List ℕ) (p : Progress) (r : IsRecord plan text p) → p ≡ said r.version plan r.reached r.torn
+as_counted plan text p r =
+    let next = drop r.reached.verified plan.words in
+    r.counted ∙ ap (λ (n : ℕ). record { verified = r.reached.verified + n; going = r.reached.going }) (one_longest (BeginsWithRun r.version r.torn) next r.whole _ r.held (torn_longest r.version next r.torn))
+
 one_record : (plan : PlanValue) (text : List ℕ) (p q : Progress) → IsRecord plan text p → IsRecord plan text q → p ≡ q
 one_record plan text p q a b =
     let s = same_lines_of text a.version b.version a.lines b.lines a.torn b.torn a.cut b.cut in
@@ -113,7 +119,7 @@ one_record plan text p q a b =
     let led : Lead b.version plan b.lines nothing a.reached =
     subst (λ v. Lead v plan b.lines nothing a.reached) s.versions (subst (λ l. Lead a.version plan l nothing a.reached) s.same_lines a.leads) in
     let reached = lead_once b.version plan b.lines nothing a.reached b.reached led b.leads in
-    a.counted ∙ ap (λ v. said v plan a.reached a.torn) s.versions ∙ ap (λ r. said b.version plan r a.torn) reached ∙ ap (said b.version plan b.reached) rest ∙ sym b.counted
+    as_counted plan text p a ∙ ap (λ v. said v plan a.reached a.torn) s.versions ∙ ap (λ r. said b.version plan r a.torn) reached ∙ ap (said b.version plan b.reached) rest ∙ sym (as_counted plan text q b)
 
 record_or_foreign : (plan : PlanValue) (text : List ℕ) (p : Progress) (n : ℕ) → IsRecord plan text p → IsForeign plan text n → ⊥
 record_or_foreign plan text p n a b =

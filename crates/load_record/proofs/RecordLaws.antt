@@ -10,9 +10,9 @@ use Rattle.load_record.specs.declared.version.Version.TheVariants.{First, Second
 use Rattle.load_record.specs.declared.run.OpenRun.{OpenRun}
 use Rattle.load_record.specs.Lines.{header, mark_line, half_line, value_text, run_text, is_full, goes_on}
 use Rattle.load_record.specs.RecordText.{ending, mark_text, begun_text, piece, run_after, pieces, second_piece, open_run, words_text, record_text}
-use Rattle.load_record.specs.Reading.{is_line_end, Lead, Says, nothing, torn_words}
+use Rattle.load_record.specs.Reading.{is_line_end, Lead, Says, nothing}
 use Rattle.load_record.specs.Law.{SaysAtMost}
-use Rattle.load_record.proofs.Runs.{torn_short, run_counted, length-run_text}
+use Rattle.load_record.proofs.Runs.{torn_words, torn_longest, torn_short, run_counted, length-run_text}
 use Rattle.load_record.proofs.Sound.{accepted-sound}
 use Rattle.load_record.proofs.SoFar.{lead-append}
 use Rattle.load_record.proofs.Joined.{HasNoEnd, joined, joined-append, joined-ended, joined-cut, front_of, front-no_end, no_end-split, ended-split, header-no_end, run-no_end}
@@ -156,8 +156,10 @@ whole_read version plan text k mark short m = (
     lines = m.lines;
     torn = m.last;
     reached = record { verified = m.at; going = mark };
+    whole = torn_words version (drop m.at plan.words) m.last;
     cut = record { pieces = ap (slice_split is_line_end) m.text_is ∙ joined-cut (header version ∷ m.lines) m.last (header-no_end version, lead-no_end version plan m.lines nothing _ m.leads) m.no_end };
     leads = m.leads;
+    held = torn_longest version (drop m.at plan.words) m.last;
     counted = let e : m.at + torn_words version (drop m.at plan.words) m.last ≡ k = (let w = m.whole in let a = m.all in omega arith) in ap (λ (n : ℕ). record { verified = n; going = mark }) (sym e);
   },
 )
@@ -182,8 +184,10 @@ past_header version plan front behind k mark short e c = record {
       lines = c.lines;
       torn = c.torn;
       reached = c.reached;
+      whole = torn_words version (drop c.reached.verified plan.words) c.torn;
       cut = record { pieces = ap (slice_split is_line_end) e ∙ ended-split (header version) behind (header-no_end version) ∙ ap (λ l. header version ∷ l) c.cut };
       leads = c.leads;
+      held = torn_longest version (drop c.reached.verified plan.words) c.torn;
       counted = refl;
     },
   );

@@ -1,5 +1,6 @@
 -- What the values of a run line say, from either side: a text whose values were counted begins with those values, and the text of a run is counted whole.
-use Rattle.std.proofs.Common.{◌≡◌, ℕ, ◌+◌, ◌*◌, ◌≤◌, Bool, true, false, cond, ◌&&◌, nat_lt, nat_eq, List, [], ◌∷◌, ◌++◌, length, drop, arith, ap, sym, refl, ◌∙◌, subst, ◌==◌, length-append, rules, zero-add, ◌⊎◌, inl, inr, Some, None}
+use Rattle.std.specs.Prelude.{if◌then◌else◌}
+use Rattle.std.proofs.Common.{◌≡◌, ℕ, ◌+◌, ◌*◌, ◌≤◌, Bool, true, false, cond, ◌&&◌, nat_lt, nat_eq, List, [], ◌∷◌, ◌++◌, length, take, drop, arith, ap, sym, refl, ◌∙◌, subst, ◌==◌, length-append, rules, zero-add, zero, suc, take_at, take-append-drop, length-take-le, ◌⊎◌, inl, inr, Some, None}
 use Rattle.std.specs.List.{slice_get, starts_with}
 use Rattle.std.proofs.lemmas.Slice.Eq.{starts_is}
 use Rattle.std.proofs.lemmas.Bool.{false≢true}
@@ -7,9 +8,21 @@ use Rattle.std.proofs.lemmas.Bool.Decides.{Decides-eqb}
 use Rattle.octal.specs.Octal.{octal_text}
 use Rattle.tape_image.specs.Word.{WordValue}
 use Rattle.load_record.specs.declared.run.OpenRun.{OpenRun}
-use Rattle.load_record.specs.declared.version.Version.TheVariants.{Second}
+use Rattle.load_record.specs.declared.version.Version.{Version}
+use Rattle.load_record.specs.declared.version.Version.TheVariants.{First, Second}
 use Rattle.load_record.specs.Lines.{value_text, values_text, run_text, run_at, longer, goes_on, is_full, GoOn, IsRun}
-use Rattle.load_record.specs.Reading.{values_held, torn_words}
+use Rattle.load_record.specs.Reading.{IsLongestFront, BeginsWithValues, BeginsWithRun, HoldsTorn}
+
+-- how many words a run line has once each of the next words is added whose value stands next in the text, counted as the code does
+abbrev pub values_held : OpenRun → List WordValue → List ℕ → ℕ
+values_held run [] text = run.count
+values_held run (w ∷ ws) text = if goes_on run w && starts_with nat_eq text (value_text w) then values_held (longer run) ws (drop 7 text) else run.count
+
+-- how many of the next words a torn piece holds, counted as the code does
+abbrev pub torn_words : Version → List WordValue → List ℕ → ℕ
+torn_words First next torn = 0
+torn_words Second [] torn = 0
+torn_words Second (w ∷ ws) torn = if starts_with nat_eq torn (octal_text w.address) then values_held (run_at w.address) (w ∷ ws) (drop 6 torn) else 0
 
 -- both sides of a test that passed
 both : (a b : Bool) → (a && b) ≡ true → (a ≡ true) × (b ≡ true)
@@ -73,33 +86,6 @@ held_few : (run : OpenRun) (next : List WordValue) (text : List ℕ) → values_
 held_few run next text =
     let c = counted run next text in
     let n = c.count_is in let e = ap length c.next_is ∙ length-append c.words c.later in omega arith
-
--- what the code answers of a torn piece: where no word is next, where the piece begins with another address, and where its values were counted
-pub nothing_next : (next : List WordValue) (text : List ℕ) → None ≡ slice_get next 0 → 0 ≡ torn_words Second next text
-nothing_next [] text e = refl
-nothing_next (w ∷ next) text e = absurd (cc e)
-
-pub begun_elsewhere : (next : List WordValue) (text address : List ℕ) (w : WordValue) → Some w ≡ slice_get next 0 → address ≡ octal_text w.address
-    → starts_with nat_eq text address ≡ false → 0 ≡ torn_words Second next text
-begun_elsewhere [] text address w e a off = absurd (cc e)
-begun_elsewhere (v ∷ next) text address w e a off =
-    let same : w ≡ v = cc in
-    let here = ap (λ (x : WordValue). octal_text x.address) (sym same) ∙ sym a in
-    sym (ap (λ t. cond t (values_held (run_at v.address) (v ∷ next) (drop 6 text)) 0) (ap (starts_with nat_eq text) here ∙ off))
-
-pub begun_here : (next : List WordValue) (text address left : List ℕ) (w : WordValue) (run : OpenRun) (count : ℕ) → Some w ≡ slice_get next 0 → address ≡ octal_text w.address
-    → starts_with nat_eq text address ≡ true → run ≡ run_at w.address → left ≡ drop 6 text → count ≡ values_held run next left → count ≡ torn_words Second next text
-begun_here [] text address left w run count e a on r l c = absurd (cc e)
-begun_here (v ∷ next) text address left w run count e a on r l c =
-    let same : w ≡ v = cc in
-    let here = ap (λ (x : WordValue). octal_text x.address) (sym same) ∙ sym a in
-    c ∙ ap (values_held run (v ∷ next)) l ∙ ap (λ x. values_held x (v ∷ next) (drop 6 text)) (r ∙ ap (λ (x : WordValue). run_at x.address) same)
-    ∙ sym (ap (λ t. cond t (values_held (run_at v.address) (v ∷ next) (drop 6 text)) 0) (ap (starts_with nat_eq text) here ∙ on))
-
-pub held_fits : (run : OpenRun) (address : ℕ) (next : List WordValue) (text : List ℕ) (count result : ℕ)
-    → run ≡ run_at address → count ≡ values_held run next text → result ≡ count → result ≤ length next
-held_fits run address next text count result r c e =
-    let few = held_few run next text in let none = ap (λ (x : OpenRun). x.count) r in omega arith
 
 -- values that go on a run are counted, whatever follows where no value does
 values_counted : (run : OpenRun) (words later : List WordValue) → GoOn run words → values_held run (words ++ later) (values_text words) ≡ run.count + length words
@@ -172,9 +158,107 @@ run_counted (w ∷ words) later run =
     ∙ values_counted (run_at w.address) (w ∷ words) later run ∙ zero-add _
 
 -- a torn piece holds no more words than are left
-pub torn_few : (next : List WordValue) (text : List ℕ) → torn_words Second next text ≤ length next
+torn_few : (next : List WordValue) (text : List ℕ) → torn_words Second next text ≤ length next
 torn_few next text =
     elim (torn next text) [ inl none ↦ omega arith | inr t ↦ (let e = ap length t.next_is ∙ length-append t.words t.later in let n = t.count_is in omega arith) ]
+
+-- ---- the front that is counted is the longest one
+
+-- of two counts of the longest front neither is the larger
+longest_most : (Holds : List WordValue → Type 0) (next : List WordValue) (a b : ℕ) → IsLongestFront Holds next a → IsLongestFront Holds next b → a ≤ b
+longest_most Holds next zero b one other = omega arith
+longest_most Holds next (suc a) b one other =
+    let many = other.most (take (suc a) next) (drop (suc a) next) (sym (take-append-drop (suc a) next)) (one.holds (omega arith)) in
+    let n = length-take-le (suc a) next one.few in omega arith
+
+pub one_longest : (Holds : List WordValue → Type 0) (next : List WordValue) (a b : ℕ) → IsLongestFront Holds next a → IsLongestFront Holds next b → a ≡ b
+one_longest Holds next a b one other =
+    let few = longest_most Holds next a b one other in
+    let many = longest_most Holds next b a other one in omega arith
+
+-- values that go on a run are counted, whatever follows
+values_least : (run : OpenRun) (words later : List WordValue) (rest : List ℕ) → GoOn run words → run.count + length words ≤ values_held run (words ++ later) (values_text words ++ rest)
+values_least run [] later rest go = let c = counted run later rest in let n = c.count_is in omega arith
+values_least run (w ∷ words) later rest go =
+    let on : (goes_on run w && starts_with nat_eq (value_text w ++ (values_text words ++ rest)) (value_text w)) ≡ true =
+    ap (λ t. t && starts_with nat_eq (value_text w ++ (values_text words ++ rest)) (value_text w)) go.0 ∙ begins_with (value_text w) (values_text words ++ rest) in
+    let here : values_held run (w ∷ (words ++ later)) (values_text (w ∷ words) ++ rest) ≡ values_held (longer run) (words ++ later) (values_text words ++ rest) =
+    ap (λ t. cond t (values_held (longer run) (words ++ later) (values_text words ++ rest)) run.count) on in
+    let more = values_least (longer run) words later rest go.1 in omega arith
+
+pub values_longest : (address : ℕ) (next : List WordValue) (text : List ℕ) → IsLongestFront (BeginsWithValues address text) next (values_held (run_at address) next text)
+values_longest address next text =
+    let c = counted (run_at address) next text in
+    let these : take (values_held (run_at address) next text) next ≡ c.words =
+    ap (take (values_held (run_at address) next text)) c.next_is ∙ take_at c.words c.later (values_held (run_at address) next text) (sym (c.count_is ∙ zero-add _)) in
+    record {
+      few = let few = held_few (run_at address) next text in omega arith;
+      holds = λ some. subst (BeginsWithValues address text) (sym these) (c.go_on, (c.left, c.text_is));
+      most = λ words later e h.
+          let least = values_least (run_at address) words later h.1.0 h.0 in
+          let same = ap (λ l. values_held (run_at address) l text) e ∙ ap (values_held (run_at address) (words ++ later)) h.1.1 in omega arith;
+    }
+
+-- what the code counts
+pub counted_values : (address : ℕ) (next : List WordValue) (text : List ℕ) (count : ℕ) → count ≡ values_held (run_at address) next text → IsLongestFront (BeginsWithValues address text) next count
+counted_values address next text count e = subst (IsLongestFront (BeginsWithValues address text) next) (sym e) (values_longest address next text)
+
+-- a run is counted in a piece that begins with its text, whatever follows
+run_least : (words later : List WordValue) (rest : List ℕ) → IsRun words → length words ≤ torn_words Second (words ++ later) (run_text words ++ rest)
+run_least [] later rest run = absurd run
+run_least (w ∷ words) later rest run =
+    let least = values_least (run_at w.address) (w ∷ words) later rest run in
+    let here : torn_words Second (w ∷ (words ++ later)) (run_text (w ∷ words) ++ rest) ≡ values_held (run_at w.address) (w ∷ (words ++ later)) (values_text (w ∷ words) ++ rest) =
+    ap (λ t. cond t (values_held (run_at w.address) (w ∷ (words ++ later)) (values_text (w ∷ words) ++ rest)) 0) (begins_with (octal_text w.address) (values_text (w ∷ words) ++ rest)) in
+    omega arith
+
+pub torn_longest : (version : Version) (next : List WordValue) (text : List ℕ) → HoldsTorn version text next (torn_words version next text)
+torn_longest First next text = record { few = omega arith; holds = λ some. absurd (omega arith); most = λ words later e h. absurd h }
+torn_longest Second next text = record {
+  few = torn_few next text;
+  holds = λ some. elim (torn next text) [
+    | inl none ↦ absurd (omega arith)
+    | inr t ↦
+        (let these : take (torn_words Second next text) next ≡ t.words =
+        ap (take (torn_words Second next text)) t.next_is ∙ take_at t.words t.later (torn_words Second next text) (sym t.count_is) in
+        subst (BeginsWithRun Second text) (sym these) (t.run, (t.left, t.torn_is)))
+  ];
+  most = λ words later e h.
+      let least = run_least words later h.1.0 h.0 in
+      let same = ap (λ l. torn_words Second l text) e ∙ ap (torn_words Second (words ++ later)) h.1.1 in omega arith;
+}
+
+-- ---- what the code answers of a torn piece
+
+-- where it counts what is counted
+counted_torn : (next : List WordValue) (text : List ℕ) (result : ℕ) → result ≡ torn_words Second next text → HoldsTorn Second text next result
+counted_torn next text result e = subst (HoldsTorn Second text next) (sym e) (torn_longest Second next text)
+
+-- where no word is next, where the piece begins with another address, and where its values were counted
+pub nothing_next : (next : List WordValue) (text : List ℕ) → None ≡ slice_get next 0 → HoldsTorn Second text next 0
+nothing_next [] text e = counted_torn [] text 0 refl
+nothing_next (w ∷ next) text e = absurd (cc e)
+
+pub begun_elsewhere : (next : List WordValue) (text front : List ℕ) (w : WordValue) → Some w ≡ slice_get next 0 → front ≡ octal_text w.address
+    → starts_with nat_eq text front ≡ false → HoldsTorn Second text next 0
+begun_elsewhere [] text front w e a off = absurd (cc e)
+begun_elsewhere (v ∷ next) text front w e a off =
+    let same : w ≡ v = cc in
+    let here = ap (λ (x : WordValue). octal_text x.address) (sym same) ∙ sym a in
+    counted_torn (v ∷ next) text 0 (sym (ap (λ t. cond t (values_held (run_at v.address) (v ∷ next) (drop 6 text)) 0) (ap (starts_with nat_eq text) here ∙ off)))
+
+pub begun_here : (next : List WordValue) (text front left : List ℕ) (w : WordValue) (address count result : ℕ) → Some w ≡ slice_get next 0 → front ≡ octal_text w.address
+    → starts_with nat_eq text front ≡ true → address ≡ w.address → left ≡ drop 6 text → IsLongestFront (BeginsWithValues address left) next count → result ≡ count
+    → HoldsTorn Second text next result
+begun_here [] text front left w address count result e f on a l h r = absurd (cc e)
+begun_here (v ∷ next) text front left w address count result e f on a l h r =
+    let same : w ≡ v = cc in
+    let here = ap (λ (x : WordValue). octal_text x.address) (sym same) ∙ sym f in
+    let values : count ≡ values_held (run_at address) (v ∷ next) left = one_longest (BeginsWithValues address left) (v ∷ next) count _ h (values_longest address (v ∷ next) left) in
+    let at : address ≡ v.address = a ∙ ap (λ (x : WordValue). x.address) same in
+    counted_torn (v ∷ next) text result
+    (r ∙ values ∙ ap (values_held (run_at address) (v ∷ next)) l ∙ ap (λ n. values_held (run_at n) (v ∷ next) (drop 6 text)) at
+    ∙ sym (ap (λ t. cond t (values_held (run_at v.address) (v ∷ next) (drop 6 text)) 0) (ap (starts_with nat_eq text) here ∙ on)))
 
 -- a torn piece of the length of a run's text holds no more words than that run
 pub torn_short : (next : List WordValue) (text : List ℕ) (n : ℕ) → length text ≤ 6 + 7 * n → torn_words Second next text ≤ n

@@ -8,7 +8,7 @@ use Rattle.host_core.specs.declared.progress.Progress.{Progress}
 use Rattle.load_record.specs.declared.version.Version.{Version}
 use Rattle.load_record.specs.declared.reader.RecordError.TheVariants.{NotARecord, Foreign}
 use Rattle.load_record.specs.Lines.{header}
-use Rattle.load_record.specs.Reading.{Adds, Lead, nothing, is_line_end, torn_words, Says}
+use Rattle.load_record.specs.Reading.{Adds, Lead, nothing, is_line_end, HoldsTorn, Says}
 use Rattle.load_record.proofs.Sound.{IsSound, nothing-sound, adds_sound, sound-accepted, torn_sound}
 
 -- the lines before what is left lead from nothing to the progress, and the last of them has this number
@@ -106,24 +106,25 @@ foreign_said plan input line rest after version progress number next within so_f
 
 pub record_said : (plan : PlanValue) (input rest : List ℕ) (version : Version) (progress : Progress) (number count : ℕ)
     → length input ≤ 1048576 → IsReadSoFar plan input version progress number rest → slice_split is_line_end rest ≡ rest ∷ []
-    → count ≡ torn_words version (drop progress.verified plan.words) rest
+    → HoldsTorn version rest (drop progress.verified plan.words) count
     → Says plan input (Ok (record { verified = progress.verified + count; going = progress.going }))
-record_said plan input rest version progress number count within so_far split counted = (
+record_said plan input rest version progress number count within so_far split held = (
   within,
   inr record {
     version = version;
     lines = so_far.before;
     torn = rest;
     reached = progress;
+    whole = count;
     cut = record { pieces = so_far.cut ∙ ap (λ l. header version ∷ (so_far.before ++ l)) split };
     leads = so_far.leads;
-    counted = ap (λ (n : ℕ). record { verified = progress.verified + n; going = progress.going }) counted;
+    held = held;
+    counted = refl;
   },
 )
 
 pub record_accepted : (plan : PlanValue) (input rest : List ℕ) (version : Version) (progress : Progress) (number count : ℕ)
-    → IsReadSoFar plan input version progress number rest → count ≡ torn_words version (drop progress.verified plan.words) rest
+    → IsReadSoFar plan input version progress number rest → HoldsTorn version rest (drop progress.verified plan.words) count
     → refusal_of plan (progress.verified + count) progress.going ≡ None
-record_accepted plan input rest version progress number count so_far counted =
-    ap (λ (n : ℕ). refusal_of plan (progress.verified + n) progress.going) counted
-    ∙ sound-accepted plan (record { verified = progress.verified + torn_words version (drop progress.verified plan.words) rest; going = progress.going }) (torn_sound version plan rest progress so_far.sound)
+record_accepted plan input rest version progress number count so_far held =
+    sound-accepted plan (record { verified = progress.verified + count; going = progress.going }) (torn_sound version plan rest progress count so_far.sound held)

@@ -3,16 +3,13 @@ use Rattle.std.proofs.Common.{◌≡◌, ℕ, ◌+◌, ◌≤◌, Bool, true, fa
 use Rattle.std.specs.Option.{is_none}
 use Rattle.std.proofs.lemmas.Bool.{false≢true}
 use Rattle.std.proofs.lemmas.Bool.Decides.{nat_tests}
-use Rattle.tape_image.specs.Word.{WordValue}
 use Rattle.tape_image.specs.Plan.{PlanValue}
 use Rattle.host_core.specs.declared.progress.Progress.{Progress}
 use Rattle.host_core.specs.declared.progress.BadProgress.{BadProgress}
 use Rattle.host_core.specs.declared.progress.BadProgress.TheVariants.{TooMany, EarlyMark}
 use Rattle.host_core.specs.Opening.{refusal_of}
 use Rattle.load_record.specs.declared.version.Version.{Version}
-use Rattle.load_record.specs.declared.version.Version.TheVariants.{First, Second}
-use Rattle.load_record.specs.Reading.{Adds, nothing, torn_words}
-use Rattle.load_record.proofs.Runs.{torn_few}
+use Rattle.load_record.specs.Reading.{Adds, nothing, HoldsTorn}
 
 -- no more words than the plan has, and the mark only with all of them and a start
 pub record IsSound (plan : PlanValue) (progress : Progress) : Type 0 where
@@ -88,12 +85,7 @@ adds_sound version plan line before after (inr m) s =
     let here : IsSound plan (record { verified = before.verified; going = true }) = record { within = s.within; marked = λ h. (m.due.all, m.due.has_start) } in
     subst (IsSound plan) (sym m.after_is) here
 
-torn_within : (version : Version) (next : List WordValue) (text : List ℕ) → torn_words version next text ≤ length next
-torn_within First next text = omega arith
-torn_within Second next text = torn_few next text
-
 -- the words of a torn piece leave it sound
-pub torn_sound : (version : Version) (plan : PlanValue) (torn : List ℕ) (reached : Progress) → IsSound plan reached
-    → IsSound plan (record { verified = reached.verified + torn_words version (drop reached.verified plan.words) torn; going = reached.going })
-torn_sound version plan torn reached s =
-    further_sound plan reached (torn_words version (drop reached.verified plan.words) torn) s (torn_within version (drop reached.verified plan.words) torn)
+pub torn_sound : (version : Version) (plan : PlanValue) (torn : List ℕ) (reached : Progress) (whole : ℕ) → IsSound plan reached
+    → HoldsTorn version torn (drop reached.verified plan.words) whole → IsSound plan (record { verified = reached.verified + whole; going = reached.going })
+torn_sound version plan torn reached whole s held = further_sound plan reached whole s held.few

@@ -23,14 +23,6 @@ half_line w = codes "H " ++ word_fields w
 abbrev pub value_text : WordValue → List ℕ
 value_text w = 32 ∷ octal_text w.value
 
--- how long that is: a space and six digits
-abbrev pub value_length : ℕ
-value_length = 7
-
--- how long the address is that begins a run line: six digits
-abbrev pub address_length : ℕ
-address_length = 6
-
 -- the most words of a run line: so it is 118 characters long at most (this project's choice)
 abbrev pub longest_run : ℕ
 longest_run = 16

@@ -1,18 +1,16 @@
 -- What a text says as the record of a plan's load.
-use Rattle.std.specs.Prelude.{◌≡◌, ◌≢◌, ℕ, ◌+◌, ◌*◌, ◌<◌, ◌≤◌, ◌⊎◌, Bool, true, false, ◌&&◌, ◌==◌, if◌then◌else◌, nat_eq}
+use Rattle.std.specs.Prelude.{◌≡◌, ◌≢◌, ℕ, ◌+◌, ◌<◌, ◌≤◌, ◌⊎◌, Bool, true, false, ◌==◌}
 use Rattle.std.specs.Prelude.{List, [], ◌∷◌, ◌++◌, length, take, drop, IsSome, Result, Ok, Err}
-use Rattle.std.specs.List.{slice_split, starts_with}
-use Rattle.octal.specs.Octal.{octal_text}
+use Rattle.std.specs.List.{slice_split}
 use Rattle.tape_image.specs.Word.{WordValue}
 use Rattle.tape_image.specs.Plan.{PlanValue}
 use Rattle.host_core.specs.declared.progress.Progress.{Progress}
 use Rattle.byte_io.specs.Text.{line_end}
 use Rattle.load_record.specs.declared.version.Version.{Version}
 use Rattle.load_record.specs.declared.version.Version.TheVariants.{First, Second}
-use Rattle.load_record.specs.declared.run.OpenRun.{OpenRun}
 use Rattle.load_record.specs.declared.reader.RecordError.{RecordError}
 use Rattle.load_record.specs.declared.reader.RecordError.TheVariants.{NotARecord, Foreign}
-use Rattle.load_record.specs.Lines.{header, mark_line, HoldsWords, value_text, value_length, address_length, run_at, longer, goes_on}
+use Rattle.load_record.specs.Lines.{header, mark_line, values_text, run_text, run_at, GoOn, IsRun, HoldsWords}
 
 -- the character is LF
 abbrev pub is_line_end : ℕ → Bool
@@ -22,29 +20,34 @@ is_line_end c = c == line_end
 pub record IsCut (text : List ℕ) (lines : List (List ℕ)) (torn : List ℕ) : Type 0 where
   pub pieces : slice_split is_line_end text ≡ lines ++ torn ∷ []
 
--- how many words a run line has once each of the next words is added whose value stands next in the text
-abbrev pub values_held : OpenRun → List WordValue → List ℕ → ℕ
-values_held run [] text = run.count
-values_held run (w ∷ ws) text =
-    if goes_on run w && starts_with nat_eq text (value_text w) then values_held (longer run) ws (drop value_length text) else run.count
-
--- how many of the next words a torn piece holds. In version 2 it may be the beginning of a run line: each whole
--- value behind the first word's address counts, whatever follows it
-abbrev pub torn_words : Version → List WordValue → List ℕ → ℕ
-torn_words First next torn = 0
-torn_words Second [] torn = 0
-torn_words Second (w ∷ ws) torn =
-    if starts_with nat_eq torn (octal_text w.address) then values_held (run_at w.address) (w ∷ ws) (drop address_length torn) else 0
-
--- how many of the next words a whole run line holds: it is as long as their text
-abbrev pub run_words : List WordValue → List ℕ → ℕ
-run_words next line = if length line == address_length + value_length * torn_words Second next line then torn_words Second next line else 0
-
--- of the words that come next the line holds so many, and 0 where it holds none
-pub record HoldsCount (version : Version) (line : List ℕ) (next : List WordValue) (count : ℕ) : Type 0 where
+-- of the words that come next, so many are a front of which this holds: the only one, and 0 where it holds of none
+pub record IsFront (Holds : List WordValue → Type 0) (next : List WordValue) (count : ℕ) : Type 0 where
   pub few : count ≤ length next
-  pub holds : 0 < count → HoldsWords version line (take count next)
-  pub only : (words later : List WordValue) → next ≡ words ++ later → HoldsWords version line words → count ≡ length words
+  pub holds : 0 < count → Holds (take count next)
+  pub only : (words later : List WordValue) → next ≡ words ++ later → Holds words → count ≡ length words
+
+-- of the words that come next, so many are the longest front of which this holds, and 0 where it holds of none
+pub record IsLongestFront (Holds : List WordValue → Type 0) (next : List WordValue) (count : ℕ) : Type 0 where
+  pub few : count ≤ length next
+  pub holds : 0 < count → Holds (take count next)
+  pub most : (words later : List WordValue) → next ≡ words ++ later → Holds words → length words ≤ count
+
+-- of the words that come next an ended line holds so many
+abbrev pub HoldsCount : Version → List ℕ → List WordValue → ℕ → Type 0
+HoldsCount version line next count = IsFront (HoldsWords version line) next count
+
+-- the words go on a run line from an address on, and the text begins with their values
+abbrev pub BeginsWithValues : ℕ → List ℕ → List WordValue → Type 0
+BeginsWithValues address text words = GoOn (run_at address) words × ((rest : List ℕ) × (text ≡ values_text words ++ rest))
+
+-- a torn piece begins with the run line of the words, whatever follows; in version 1 nothing of a torn piece counts
+abbrev pub BeginsWithRun : Version → List ℕ → List WordValue → Type 0
+BeginsWithRun First torn words = ⊥
+BeginsWithRun Second torn words = IsRun words × ((rest : List ℕ) × (torn ≡ run_text words ++ rest))
+
+-- of the words that come next a torn piece holds so many: as many whole values as it has of them
+abbrev pub HoldsTorn : Version → List ℕ → List WordValue → ℕ → Type 0
+HoldsTorn version torn next count = IsLongestFront (BeginsWithRun version torn) next count
 
 -- a line adds the plan's next words to a progress
 pub record AddsWords (version : Version) (plan : PlanValue) (line : List ℕ) (before after : Progress) : Type 0 where
@@ -91,9 +94,11 @@ pub record IsRecord (plan : PlanValue) (text : List ℕ) (progress : Progress) :
   pub lines : List (List ℕ)
   pub torn : List ℕ
   pub reached : Progress
+  pub whole : ℕ
   pub cut : IsCut text (header version ∷ lines) torn
   pub leads : Lead version plan lines nothing reached
-  pub counted : progress ≡ record { verified = reached.verified + torn_words version (drop reached.verified plan.words) torn; going = reached.going }
+  pub held : HoldsTorn version torn (drop reached.verified plan.words) whole
+  pub counted : progress ≡ record { verified = reached.verified + whole; going = reached.going }
 
 -- the first line is no header
 pub record HasNoHeader (text : List ℕ) : Type 0 where

@@ -5,7 +5,8 @@ ghost use Rattle.tape_image.specs.Plan.{IsPlan};
 ghost use Rattle.host_core.specs.declared.progress.Progress.{Progress};
 ghost use Rattle.host_core.specs.Opening.{refusal_of};
 ghost use Rattle.load_record.specs.declared.version.Version.TheVariants.{Second};
-ghost use Rattle.load_record.specs.Reading.{Adds, HoldsCount, IsMarkDue, Says, values_held, is_line_end, run_words, torn_words};
+ghost use Rattle.load_record.specs.Lines.{IsRunLine};
+ghost use Rattle.load_record.specs.Reading.{Adds, BeginsWithValues, HoldsCount, HoldsTorn, IsFront, IsLongestFront, IsMarkDue, Says, is_line_end};
 
 use crate::line::{half_line, value_text, word_fields};
 use crate::run::{OpenRun, is_full};
@@ -146,7 +147,7 @@ fn words_held(version: Version, next: &[Word], line: &[u8]) -> usize
 
 // How many of the next words a whole run line holds: 0 where it is none.
 fn run_words(next: &[Word], line: &[u8]) -> usize
-    ensures { result ≡ run_words next.now line.now }
+    ensures { IsFront (IsRunLine line.now) next.now result }
 {
     let count = words_begun(next, line);
     if line.len() == RUN_HEAD + RUN_VALUE * count {
@@ -158,8 +159,7 @@ fn run_words(next: &[Word], line: &[u8]) -> usize
 
 // How many of the next words a torn piece holds: in version 2 it may be the beginning of a run line.
 fn torn_words(version: Version, next: &[Word], torn: &[u8]) -> usize
-    ensures count { result ≡ torn_words version next.now torn.now }
-    ensures few { result ≤ length next.now }
+    ensures { HoldsTorn version torn.now next.now result }
 {
     match version {
         Version::First => 0,
@@ -169,8 +169,7 @@ fn torn_words(version: Version, next: &[Word], torn: &[u8]) -> usize
 
 // How many of the next words stand whole in the beginning of a run line.
 fn words_begun(next: &[Word], begun: &[u8]) -> usize
-    ensures count { result ≡ torn_words Second next.now begun.now }
-    ensures few { result ≤ length next.now }
+    ensures { HoldsTorn Second begun.now next.now result }
 {
     let Some(word) = next.first() else {
         return 0;
@@ -178,15 +177,15 @@ fn words_begun(next: &[Word], begun: &[u8]) -> usize
     if !begun.starts_with(&oct6(word.address())) {
         return 0;
     }
-    usize::from(values_held(OpenRun::at(word.address()), next, &begun[RUN_HEAD..]))
+    usize::from(values_held(word.address(), next, &begun[RUN_HEAD..]))
 }
 
-// How many words a run line has once each of the next words is added whose value stands next in the
-// text.
-fn values_held(begun: OpenRun, next: &[Word], text: &[u8]) -> u8
-    ensures { result ≡ values_held begun next.now text.now }
+// How many of the next words a run line from this address has, if their values are what the text
+// begins with.
+fn values_held(address: u16, next: &[Word], text: &[u8]) -> u8
+    ensures { IsLongestFront (BeginsWithValues address text.now) next.now result }
 {
-    let mut run = begun;
+    let mut run = OpenRun::at(address);
     let mut left = text;
     for word in next {
         if !run.goes_on(*word) || !left.starts_with(&value_text(*word)) {

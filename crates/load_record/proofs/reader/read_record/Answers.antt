@@ -1,5 +1,5 @@
-use Rattle.std.proofs.Common.{ap, ◌∙◌}
-use Rattle.load_record.specs.Reading.{torn_words}
+use Rattle.std.proofs.Common.{subst}
+use Rattle.load_record.specs.Reading.{HoldsTorn}
 use Rattle.load_record.proofs.Readings.{one_answer}
 use Rattle.load_record.proofs.SoFar.{no_header_said, foreign_said, record_said, record_accepted, begun_so_far, line_more}
 use Rattle.load_record.proofs.reader.read_record.Goals as goal
@@ -31,7 +31,8 @@ loop-line-preserved c =
 pub returns-clause-answered : goal.returns-clause-answered
 returns-clause-answered c =
     record_said c.args.plan.now c.args.input.now c.loop-line.rest.now c.in-Some-of_header.version c.loop-line.progress c.loop-line.number c.torn_words.result
-    c.if-input-gt-RECORD_LIMIT.false c.loop-line.invariant c.in_default-first_line.ensures.cut (c.torn_words.ensures.count ∙ ap (λ next. torn_words c.in-Some-of_header.version next c.loop-line.rest.now) c.words_after.ensures.words)
+    c.if-input-gt-RECORD_LIMIT.false c.loop-line.invariant c.in_default-first_line.ensures.cut
+    (subst (λ next. HoldsTorn c.in-Some-of_header.version c.loop-line.rest.now next c.torn_words.result) c.words_after.ensures.words c.torn_words.ensures)
 
 pub returns-clause-complete : goal.returns-clause-complete
 returns-clause-complete c = λ other h. one_answer c.args.plan.now c.args.input.now other _ h (returns-clause-answered c)
@@ -39,4 +40,5 @@ returns-clause-complete c = λ other h. one_answer c.args.plan.now c.args.input.
 pub returns-clause-accepted : goal.returns-clause-accepted
 returns-clause-accepted c =
     record_accepted c.args.plan.now c.args.input.now c.loop-line.rest.now c.in-Some-of_header.version c.loop-line.progress c.loop-line.number c.torn_words.result
-    c.loop-line.invariant (c.torn_words.ensures.count ∙ ap (λ next. torn_words c.in-Some-of_header.version next c.loop-line.rest.now) c.words_after.ensures.words)
+    c.loop-line.invariant
+    (subst (λ next. HoldsTorn c.in-Some-of_header.version c.loop-line.rest.now next c.torn_words.result) c.words_after.ensures.words c.torn_words.ensures)

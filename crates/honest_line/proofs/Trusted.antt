@@ -34,7 +34,7 @@ pub begin_kept : (core : Core) (machine : Machine) (waiting : List ℕ) → IsHo
 begin_kept core machine waiting host may few =
     subst (λ c. IsKept (over c (resting machine waiting 0))) (sym may.begun)
     (opening_kept machine core.plan core.verified core.patience waiting may.console (subst IsHost may.begun host) few may.stopped
-    (λ i below. (may.lies i below, merged-Stands (word_nr core.plan.words i) _ (may.stands i below))))
+    (λ i below. (may.verified.lies i below, merged-Stands (word_nr core.plan.words i) _ (may.verified.stands i below))))
 
 -- ---- the run
 

@@ -1,14 +1,13 @@
 -- What may be believed of a host that heard an honest line.
 use Rattle.std.specs.Prelude.{◌≡◌, ℕ, ◌+◌, ◌<◌, ◌≤◌, true, false, List, [], ◌∷◌, ◌++◌, Contains}
-use Rattle.tape_image.specs.Word.{Stands}
-use Rattle.odt_machine.specs.Machine.{Machine, IsMachine, word_at}
+use Rattle.odt_machine.specs.Machine.{Machine, IsMachine}
 use Rattle.odt_machine.specs.Laws.{is_running}
 use Rattle.host_core.specs.declared.heard.Heard.{Heard}
 use Rattle.host_core.specs.Console.{go}
-use Rattle.host_core.specs.Core.{Core, begun, word_nr}
+use Rattle.host_core.specs.Core.{Core, begun}
 use Rattle.host_core.specs.Host.{IsHost}
 use Rattle.host_core.specs.Laws.{led}
-use Rattle.line_world.specs.Safe.{WordLies, IsSafe}
+use Rattle.line_world.specs.Safe.{FirstStand, IsSafe}
 use Rattle.line_world.specs.Promises.{HasCause, EndsAtGo}
 use Rattle.load_devices.specs.Dialogue.{dialogue, keys_of}
 use Rattle.load_devices.specs.declared.item.Item.{Item}
@@ -20,8 +19,7 @@ pub record MayBegin (core : Core) (machine : Machine) : Type 0 where
   pub begun : core ≡ begun core.plan core.verified false core.patience
   pub console : IsMachine machine
   pub stopped : is_running machine.mode ≡ false
-  pub lies : (i : ℕ) → i < core.verified → WordLies core.plan machine.memory i
-  pub stands : (i : ℕ) → i < core.verified → Stands (word_nr core.plan.words i) (word_at machine.memory (word_nr core.plan.words i).address)
+  pub verified : FirstStand core.plan.words core.verified machine.memory
 
 -- what came of it: what counts as verified is true of memory and memory is safe; `G` is the last of the keys if it is one of them, and then the mark
 -- is set; and no mishap and no end is without its losses

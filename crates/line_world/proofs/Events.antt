@@ -143,8 +143,10 @@ loaded before w fits words only = record {
 -- a world is safe from every memory that differs from its own by the image alone
 pub safe_of : (before : List ℕ) (w : Scene) → IsKept w → OnlyImage before w.core.plan.image w.machine.memory → IsSafe before w.core w.machine.memory
 safe_of before w k only = record {
-  lies = λ i below. (k.words i (all_standing w.core.going w.core.verified (length w.core.plan.words) i k.host.within below)).0;
-  stands = λ i below. Stands-unchanged (word_nr w.core.plan.words i) _ (k.words i (all_standing w.core.going w.core.verified (length w.core.plan.words) i k.host.within below)).1;
+  verified = record {
+    lies = λ i below. (k.words i (all_standing w.core.going w.core.verified (length w.core.plan.words) i k.host.within below)).0;
+    stands = λ i below. Stands-unchanged (word_nr w.core.plan.words i) _ (k.words i (all_standing w.core.going w.core.verified (length w.core.plan.words) i k.host.within below)).1;
+  };
   bytes = only;
   going = λ e. loaded before w k.host.image (λ i below. k.words i (under_mark w.core.going w.core.verified (length w.core.plan.words) i e below)) only;
 }

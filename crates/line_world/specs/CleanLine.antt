@@ -16,7 +16,7 @@ pub record IsAtOpening (w : Scene) : Type 0 where
 
 -- the plan's word numbered i lies in the world's memory
 abbrev pub LiesIn : Scene → ℕ → Type 0
-LiesIn w i = WordLies w.core.plan w.machine.memory i
+LiesIn w i = WordLies w.core.plan.words w.machine.memory i
 
 -- the end of a load that lacks nothing
 abbrev pub full_end : Option ℕ → End

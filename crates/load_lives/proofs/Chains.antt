@@ -276,7 +276,7 @@ opens plan old fits may =
     let host : IsHost (begun plan may.progress.verified false 0) = begun_kept plan may.progress.verified false 0 fits sound.within (omega arith) (λ set. absurd (cc)) in
     let kept : IsKept (over (begun plan may.progress.verified false 0) (record { machine = old.wire.machine; down = []; up = old.wire.up; lost = 0 })) =
     opening_kept old.wire.machine plan may.progress.verified 0 old.wire.up may.begins.console host may.few may.begins.stopped
-    (λ i below. (may.begins.lies i below, merged-Stands (word_nr plan.words i) _ (may.begins.stands i below))) in
+    (λ i below. (may.begins.verified.lies i below, merged-Stands (word_nr plan.words i) _ (may.begins.verified.stands i below))) in
     let at_rest : IsKept (over (begun plan may.progress.verified false 0) (record old.wire { lost = 0 })) =
     subst (λ down. IsKept (over (begun plan may.progress.verified false 0) (record { machine = old.wire.machine; down = down; up = old.wire.up; lost = 0 }))) (sym may.none_down) kept in
     let r : Rests plan may.progress (record old.wire { lost = 0 }) = rests_of plan (begun plan may.progress.verified false 0) (record old.wire { lost = 0 }) may.progress refl may.no_mark at_rest

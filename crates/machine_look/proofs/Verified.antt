@@ -7,6 +7,7 @@ use Rattle.tape_image.specs.Word.{WordValue, Stands}
 use Rattle.tape_image.proofs.Halves.{Stands-unchanged}
 use Rattle.odt_machine.specs.Machine.{is_word, word_at}
 use Rattle.host_core.specs.Core.{word_nr, no_word}
+use Rattle.line_world.specs.Safe.{FirstStand}
 use Rattle.reading_core.specs.declared.phase.End.TheVariants.{Complete, GaveUp as HostGaveUp, NoWord as HostFoundNoWord}
 use Rattle.reading_core.specs.Addresses.{addresses_of}
 use Rattle.reading_core.specs.Reader.{Reader, begun, ended}
@@ -20,7 +21,7 @@ use Rattle.machine_look.specs.declared.verify_end.VerifyEnd.TheVariants.{Same, D
 use Rattle.machine_look.specs.Differences.{differences}
 use Rattle.console_reach.specs.Console.{ConsoleTold}
 use Rattle.machine_look.specs.Look.{AsksOnce, IsLook, OverHonestLine}
-use Rattle.machine_look.specs.Verify.{AllStand, IsSameWith, IsVerified}
+use Rattle.machine_look.specs.Verify.{IsSameWith, IsVerified}
 use Rattle.machine_look.specs.VerifyReport.{report_text, verify_end, verify_report}
 use Rattle.machine_look.proofs.Found.{none_differ}
 use Rattle.machine_look.proofs.Looks.{all_read, is_true}
@@ -39,7 +40,7 @@ address_is words addresses i are low = ap (λ list. get_or list i 0) are ∙ get
 
 -- where memory holds what was read, and no number that was read differs from its word, every word stands
 stand_where_read : (words : List WordValue) (last : Reader) (before now : List ℕ) (keys : List ℕ) (lost : ℕ) → last.addresses ≡ addresses_of words → length last.values ≡ length words → length (differences words last.values) ≡ 0
-    → IsTrue before last now keys lost → AllStand words now
+    → IsTrue before last now keys lost → FirstStand words (length words) now
 stand_where_read words last before now keys lost are all none heard = record {
   lies = λ i low. subst (λ a. is_word now a ≡ true) (address_is words last.addresses i are low) (heard.read.lies i (omega arith));
   stands = λ i low.

@@ -1,10 +1,10 @@
 -- What `verify` does (this project's own).
-use Rattle.std.specs.Prelude.{◌≡◌, ℕ, ◌<◌, true, List, [], length}
+use Rattle.std.specs.Prelude.{◌≡◌, ℕ, List, [], length}
 use Rattle.std.specs.Io.KnownBytes.{Appends}
 use Rattle.tape_image.specs.Plan.{PlanValue}
-use Rattle.tape_image.specs.Word.{WordValue, Stands}
-use Rattle.odt_machine.specs.Machine.{Machine, is_word, word_at}
-use Rattle.host_core.specs.Core.{word_nr}
+use Rattle.tape_image.specs.Word.{WordValue}
+use Rattle.odt_machine.specs.Machine.{Machine}
+use Rattle.line_world.specs.Safe.{FirstStand}
 use Rattle.byte_io.specs.Output.{WritesAllBut}
 use Rattle.reading_core.specs.Addresses.{addresses_of}
 use Rattle.reading_core.specs.Reader.{Reader, begun, ended}
@@ -16,14 +16,9 @@ use Rattle.console_reach.specs.Console.{ConsoleTold}
 use Rattle.machine_look.specs.Look.{AsksOnce, IsLook, OverHonestLine}
 use Rattle.machine_look.specs.VerifyReport.{verify_end, verify_report}
 
--- every word lies in memory and stands there
-pub record AllStand (words : List WordValue) (memory : List ℕ) : Type 0 where
-  pub lies : (i : ℕ) → i < length words → is_word memory (word_nr words i).address ≡ true
-  pub stands : (i : ℕ) → i < length words → Stands (word_nr words i) (word_at memory (word_nr words i).address)
-
 -- a memory is what it was, and every word stands in it
 abbrev pub IsSameWith : List WordValue → Machine → Machine → Type 0
-IsSameWith words before now = (now.memory ≡ before.memory) × AllStand words now.memory
+IsSameWith words before now = (now.memory ≡ before.memory) × FirstStand words (length words) now.memory
 
 -- a plan's words were looked at, and so it ended; where it ends as `Same` over an honest line, every word stands
 pub record IsVerified (plan : PlanValue) (patience : ℕ) (before after : ConsoleTold) (end : VerifyEnd) : Type 0 where

@@ -59,8 +59,8 @@ holds : (before : List ℕ) (address old : ℕ) (last : Core) (now : List ℕ) (
     (is_word now address ≡ true) × (word_at now address ≡ old)
 holds before address old last now keys lost words all trusted =
     let one : 0 < last.verified = subst (λ n. 0 < n) (sym (all ∙ ap length words)) (omega arith) in (
-      subst (λ ws. is_word now (word_nr ws 0).address ≡ true) words (trusted.safe.lies 0 one),
-      stands_whole address old (word_at now address) (subst (λ ws. Stands (word_nr ws 0) (word_at now (word_nr ws 0).address)) words (trusted.safe.stands 0 one)),
+      subst (λ ws. is_word now (word_nr ws 0).address ≡ true) words (trusted.safe.verified.lies 0 one),
+      stands_whole address old (word_at now address) (subst (λ ws. Stands (word_nr ws 0) (word_at now (word_nr ws 0).address)) words (trusted.safe.verified.stands 0 one)),
     )
 
 -- a life that begins without a verified word may begin over every machine that runs no program
@@ -69,8 +69,7 @@ may_begin plan patience machine ready = record {
   begun = refl;
   console = ready.console;
   stopped = ready.stopped;
-  lies = λ i below. absurd (omega arith);
-  stands = λ i below. absurd (omega arith);
+  verified = record { lies = λ i below. absurd (omega arith); stands = λ i below. absurd (omega arith) };
 }
 
 holds_again : (address old patience : ℕ) (plan : PlanValue) (last : Core) (heard : List Heard) (said : List Item) → IsPlanOfWord address old plan → IsHost (begun plan 0 false patience) →

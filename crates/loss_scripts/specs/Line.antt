@@ -21,7 +21,7 @@ pub record IsNumber (text : List ℕ) (n : ℕ) : Type 0 where
   pub digits : AllDigits 10 text
   pub value : digits_value 10 text ≡ n
 
--- the largest number of 32 bits: a patience, a count of restarts' words and a life's number are no larger
+-- the largest number of 32 bits: a patience, the words that a restart keeps and the number of a `to` are no larger
 abbrev pub largest_number : ℕ
 largest_number = 4294967295
 

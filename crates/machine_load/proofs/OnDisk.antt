@@ -11,7 +11,7 @@ use Rattle.record_file.specs.declared.old_record.OldRecord.{OldRecord}
 use Rattle.record_file.specs.declared.record_fault.RecordFault.{RecordFault}
 use Rattle.machine_load.specs.RecordDisk.{RecordDisk, FileKnown, DiskAsked, IsReadAnswered, IsBegunOf, IsNotBegunOf, IsNotBegunOn, IsBeginAnswered, IsReadFirst, IsReadAndBegun, IsReadNotBegun, IsOnlyRead, IsClosedAfter, disk_asked_by, disk_asked_before, IsLivedOn, IsNotLivedOn}
 use Rattle.machine_load.specs.declared.fault.LoadFault.{LoadFault}
-use Rattle.machine_load.specs.declared.fault.LoadFault.TheVariants.{ReadRecord, RecordInUse, Record, Connect, WriteRecord, WriteOutput, Memory}
+use Rattle.machine_load.specs.declared.fault.LoadFault.TheVariants.{Connect, WriteRecord, WriteOutput, Memory}
 
 asked_as : (P Q : RecordDisk → FileKnown → List DiskStep → Type 0) (a b : Option RecordDisk)
     → ((disk : RecordDisk) (known' : FileKnown) (steps : List DiskStep) → P disk known' steps → Q disk known' steps) → DiskAsked a b P → DiskAsked a b Q

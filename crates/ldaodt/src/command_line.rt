@@ -4,19 +4,17 @@ ghost use Rattle.clap.specs.Matches.{found_of};
 ghost use Rattle.ldaodt.specs.Options.{SaysLoad, IsLookOf, IsRequestOf};
 
 mod addresses;
-mod commands;
 mod no_request;
-mod options;
 mod refusals;
 mod shown_words;
-mod texts;
 mod values;
 
 use addresses::{probed_of, range_of, saved_start_of, start_of};
 use clap::ArgMatches;
+use command_words::known_words;
+use command_words::names::{FILE, LISTEN, PATIENCE, QUIET, RECHECK, RECORD, SCRIPT, TAPE};
 use machine_load::LoadOptions;
 pub(crate) use no_request::NoRequest;
-use options::{FILE, LISTEN, PATIENCE, QUIET, RECHECK, RECORD, SCRIPT, TAPE};
 use requests::{Load, Look, Probe, Rehearsal, Request, Save, Stage};
 use shown_words::{have_control, shown_words};
 use std::alloc::Global;
@@ -63,7 +61,7 @@ fn refusal_of(alloc: Global, words: &[String]) -> Option<NoRequest> {
 fn read<'a>(alloc: Global, first: &str, words: &'a [String]) -> Result<Request<'a>, NoRequest>
     ensures { IfOk result (λ request. request ≢ Request.CheckInput) }
 {
-    match commands::ldaodt(alloc)?.try_get_matches_from(words) {
+    match known_words(alloc)?.try_get_matches_from(words) {
         Ok(matches) => request_of(alloc, &matches),
         Err(error) => Err(NoRequest::of(alloc, first, &error)),
     }

@@ -1,6 +1,6 @@
 //! The program `ldaodt`: the words of its command line become a request, and how the request ended
-//! becomes the exit status. All that it does stands in `requests` and below; this is the only crate
-//! over `clap`.
+//! becomes the exit status. All that it does stands in `requests` and below; the words that the parser
+//! knows stand in `command_words`.
 #![tactic(auto)]
 
 mod command_line;

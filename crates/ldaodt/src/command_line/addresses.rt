@@ -7,10 +7,10 @@ ghost use Rattle.ldaodt.specs.Addresses.{IsEvenText, IsOctalText, IsWordText};
 ghost use Rattle.ldaodt.specs.Options.{IsProbedWord, IsRangeOf, IsSavedStart, IsStartOf};
 
 use super::no_request::NoRequest;
-use super::options::{ADDRESS, FROM, NO_START, START, TO};
 use super::refusals::invalid_value;
 use super::values::text_of;
 use clap::ArgMatches;
+use command_words::names::{ADDRESS, FROM, NO_START, START, TO};
 use machine_look::AddressRange;
 use octal::read_oct6;
 use std::alloc::Global;

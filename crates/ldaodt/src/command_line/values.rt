@@ -5,9 +5,9 @@ ghost use Rattle.clap.specs.Matches.{first_value, found_of};
 ghost use Rattle.ldaodt.specs.Options.{NamesTapes, IsConsoleOf, IsNumberGiven, IsNumberOf, more_in};
 
 use super::no_request::NoRequest;
-use super::options::{LINE, MORE, STYLE, TAPE, WORDS};
 use super::refusals::invalid_value;
 use clap::ArgMatches;
+use command_words::names::{LINE, MORE, STYLE, TAPE, WORDS};
 use console_reach::is_path;
 use odt_machine::{LARGEST_WORDS, PLAIN_STYLE, Style};
 use requests::Console;

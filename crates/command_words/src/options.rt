@@ -2,43 +2,12 @@
 //!
 //! Options have no default here: who reads one that is not given takes what is meant then.
 
+use crate::names::{
+    ADDRESS, LISTEN, MORE, NO_START, PATIENCE, QUIET, RECHECK, RECORD, START, STYLE, TAPE, WORDS,
+};
 use clap::{Arg, ArgAction, value_parser};
 use odt_machine::{LARGEST_STYLE, LARGEST_WORDS};
 use std::alloc::{AllocError, Global};
-
-pub(crate) const TAPE: &str = "TAPE";
-
-pub(crate) const SCRIPT: &str = "SCRIPT";
-
-pub(crate) const MORE: &str = "MORE";
-
-pub(crate) const LINE: &str = "LINE";
-
-pub(crate) const FILE: &str = "FILE";
-
-pub(crate) const FROM: &str = "FROM";
-
-pub(crate) const TO: &str = "TO";
-
-pub(crate) const WORDS: &str = "words";
-
-pub(crate) const STYLE: &str = "style";
-
-pub(crate) const RECORD: &str = "record";
-
-pub(crate) const RECHECK: &str = "recheck";
-
-pub(crate) const START: &str = "start";
-
-pub(crate) const NO_START: &str = "no-start";
-
-pub(crate) const ADDRESS: &str = "address";
-
-pub(crate) const LISTEN: &str = "listen";
-
-pub(crate) const PATIENCE: &str = "patience";
-
-pub(crate) const QUIET: &str = "quiet";
 
 // The most mishaps that a load, a look or a probe may be asked to survive.
 const LARGEST_PATIENCE: u16 = 1000;
@@ -70,19 +39,14 @@ pub(crate) fn more_argument<'a>(alloc: Global) -> Arg<'a> {
         .help("Further tapes, taken as one with the first")
 }
 
-/// The options that say what a simulated console is.
-pub(crate) fn console_options<'a>(alloc: Global) -> Result<Vec<Arg<'a>>, AllocError> {
-    Ok(vec![in alloc; words_option(alloc), style_option(alloc)]?)
-}
-
-fn words_option<'a>(alloc: Global) -> Arg<'a> {
+pub(crate) fn words_option<'a>(alloc: Global) -> Arg<'a> {
     let help = "Words of the machine's memory, 0 to 28672\n[default: 28672]";
     option(alloc, WORDS, "N", help).value_parser(value_parser!(u16).range(
         0..=i64::from(LARGEST_WORDS),
     ))
 }
 
-fn style_option<'a>(alloc: Global) -> Arg<'a> {
+pub(crate) fn style_option<'a>(alloc: Global) -> Arg<'a> {
     let help = "\
 How the console answers, 0 to 7 [default: 0]: 1 for a
 space before a word's digits, plus 2 for two CRs before
@@ -130,19 +94,14 @@ pub(crate) fn address_option<'a>(alloc: Global) -> Arg<'a> {
     option(alloc, ADDRESS, "AAAAAA", help)
 }
 
-/// The options of whatever meets a machine.
-pub(crate) fn look_options<'a>(alloc: Global) -> Result<Vec<Arg<'a>>, AllocError> {
-    Ok(vec![in alloc; patience_option(alloc), quiet_option(alloc)]?)
-}
-
-fn patience_option<'a>(alloc: Global) -> Arg<'a> {
+pub(crate) fn patience_option<'a>(alloc: Global) -> Arg<'a> {
     let help = "Mishaps that are survived, 0 to 1000 [default: 8]";
     option(alloc, PATIENCE, "N", help).value_parser(value_parser!(u16).range(
         0..=i64::from(LARGEST_PATIENCE),
     ))
 }
 
-fn quiet_option<'a>(alloc: Global) -> Arg<'a> {
+pub(crate) fn quiet_option<'a>(alloc: Global) -> Arg<'a> {
     let help =
         "How many milliseconds of silence mean that nothing\nmore is coming, 1 to 60000 [default: 2000]";
     option(alloc, QUIET, "MS", help).value_parser(value_parser!(u16).range(

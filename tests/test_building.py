@@ -1,0 +1,137 @@
+"""`tools/prove-below`: which libraries of a crate it builds, when, with how many processors, and what stays of one that fails. The `rt` of these
+tests proves nothing: it notes how it was called, and what lay around it."""
+import json
+import os
+import shutil
+import subprocess
+import time
+import unittest
+
+from cases import Case
+from outside import TOP
+
+# What a crate's library is built by: notes when, and what was there; fails where the crate's text asks for it.
+FAKE = """#!/usr/bin/env python3
+import json, os, sys, time
+here = os.getcwd()
+name = os.path.basename(here)
+root = os.path.dirname(os.path.dirname(here))
+began = time.monotonic()
+crates = sorted(os.listdir(f"{root}/crates"))
+seen = {
+    "crate": name, "words": sys.argv[1:], "crates": crates, "list": open(f"{root}/crates.txt").read(),
+    "built": [it for it in crates if os.path.isfile(f"{root}/crates/{it}/out/rlib/{it}.rlib/format")],
+    "kept": sorted(os.listdir("out")) if os.path.isdir("out") else [],
+}
+text = open("src/lib.rt").read()
+time.sleep(0.3)
+os.makedirs(f"out/incremental", exist_ok=True)
+if "wrong" in text:
+    print(f"fn {name}::wrong: not proved")
+    sys.exit(1)
+os.makedirs(f"out/rlib/{name}.rlib", exist_ok=True)
+open(f"out/rlib/{name}.rlib/format", "w").write(name)
+print(f"functions of {name}\\nlogic=proved functions=1")
+with open(os.environ["NOTES"], "a") as notes:
+    notes.write(json.dumps({**seen, "began": began, "ended": time.monotonic()}) + "\\n")
+"""
+
+LIST = """# low first
+low: arrayvec
+left: low
+right: low itoa
+apart:
+top: left right
+"""
+
+
+class Building(Case):
+    def setUp(self):
+        super().setUp()
+        self.top = f"{self.room}/repository"
+        os.makedirs(f"{self.top}/tools")
+        shutil.copy(f"{TOP}/tools/prove-below", f"{self.top}/tools/prove-below")
+        with open(f"{self.top}/crates.txt", "w", encoding="utf-8") as file:
+            file.write(LIST)
+        for name in ("low", "left", "right", "apart", "top"):
+            self.write(name, "fn right() {}\n" * (3 if name == "left" else 1))
+        os.mkdir(f"{self.room}/bin")
+        with open(f"{self.room}/bin/rt", "w", encoding="utf-8") as file:
+            file.write(FAKE)
+        os.chmod(f"{self.room}/bin/rt", 0o755)
+
+    def write(self, name, text):
+        os.makedirs(f"{self.top}/crates/{name}/src", exist_ok=True)
+        with open(f"{self.top}/crates/{name}/src/lib.rt", "w", encoding="utf-8") as file:
+            file.write(text)
+
+    def build(self, *words):
+        """Runs the tool, and gives how it ended and what each call of rt that built something noted."""
+        notes = f"{self.room}/notes"
+        open(notes, "w", encoding="utf-8").close()
+        surroundings = {**os.environ, "PATH": f"{self.room}/bin:{os.environ['PATH']}", "NOTES": notes}
+        ran = subprocess.run([f"{self.top}/tools/prove-below", *words], env=surroundings, stdin=subprocess.DEVNULL, capture_output=True, text=True, timeout=60)
+        with open(notes, encoding="utf-8") as file:
+            return ran, {it["crate"]: it for it in map(json.loads, file)}
+
+    def is_built(self, name):
+        return os.path.isfile(f"{self.top}/crates/{name}/out/rlib/{name}.rlib/format")
+
+    def test_each_library_below_and_nothing_else(self):
+        ran, notes = self.build("top", "4")
+        self.assertEqual((ran.returncode, ran.stderr), (0, ""))
+        self.assertEqual(sorted(notes), ["left", "low", "right"])
+        self.assertEqual([self.is_built(it) for it in ("low", "left", "right", "apart", "top")], [True, True, True, False, False])
+        self.assertEqual(sorted(ran.stdout.splitlines()), [f"{it} is built: logic=proved functions=1" for it in ("left", "low", "right")])
+
+    def test_a_crate_begins_when_those_below_it_are_built(self):
+        _, notes = self.build("top", "4")
+        for name in ("left", "right"):
+            self.assertGreaterEqual(notes[name]["began"], notes["low"]["ended"])
+            self.assertEqual((notes[name]["crates"], notes[name]["built"]), (sorted([name, "low"]), ["low"]))
+        self.assertLess(max(notes["left"]["began"], notes["right"]["began"]), min(notes["left"]["ended"], notes["right"]["ended"]))
+
+    def test_rt_reads_the_lines_of_the_list_that_it_needs(self):
+        _, notes = self.build("top", "4")
+        self.assertEqual(sorted(notes["right"]["list"].splitlines()), ["low: arrayvec", "right: low itoa"])
+
+    def test_the_longest_chain_gets_the_processors_that_nothing_else_waits_for(self):
+        _, notes = self.build("top", "4")
+        self.assertEqual({it: notes[it]["words"] for it in notes},
+                         {"low": ["lib", "--jobs", "4"], "left": ["lib", "--jobs", "4"], "right": ["lib", "--jobs", "1"]})
+        shutil.rmtree(f"{self.top}/crates/low/out")
+        _, notes = self.build("top", "1")
+        self.assertEqual([notes[it]["words"] for it in notes], [["lib", "--jobs", "1"]] * 3)
+        self.assertGreaterEqual(notes["right"]["began"], notes["left"]["ended"])
+
+    def test_what_was_kept_is_there_again(self):
+        self.build("top", "2")
+        _, notes = self.build("top", "2")
+        self.assertEqual({it: notes[it]["kept"] for it in notes}, dict.fromkeys(("low", "left", "right"), ["incremental", "rlib"]))
+
+    def test_one_that_is_not_proved(self):
+        self.write("left", "fn wrong() {}\n" * 9)
+        ran, notes = self.build("top", "1")
+        self.assertEqual((ran.returncode, sorted(notes)), (1, ["low"]))
+        self.assertEqual(ran.stdout.splitlines()[1:], ["== left", "fn left::wrong: not proved"])
+        self.assertEqual(os.listdir(f"{self.top}/crates/left/out"), ["incremental"])
+        self.assertTrue(self.is_built("low"))
+        self.assertFalse(self.is_built("right"))
+
+    def test_words_that_name_no_crate(self):
+        for words in ([], ["none"], ["top", "many"]):
+            ran, notes = self.build(*words)
+            self.assertEqual((ran.returncode, ran.stdout, notes), (2, "", {}))
+            self.assertEqual(ran.stderr, "prove-below: which crate of crates.txt, and how many processors?\n")
+
+    def test_it_waits_for_another_command_of_rt(self):
+        other = subprocess.Popen(["flock", f"{self.top}/crates/low", "sleep", "1"])
+        time.sleep(0.3)
+        began = time.monotonic()
+        _, notes = self.build("top", "2")
+        other.wait()
+        self.assertGreater(notes["low"]["began"] - began, 0.4)
+
+
+if __name__ == "__main__":
+    unittest.main()

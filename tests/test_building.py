@@ -19,7 +19,7 @@ root = os.path.dirname(os.path.dirname(here))
 began = time.monotonic()
 crates = sorted(os.listdir(f"{root}/crates"))
 seen = {
-    "crate": name, "words": sys.argv[1:], "crates": crates, "list": open(f"{root}/crates.txt").read(),
+    "crate": name, "words": sys.argv[1:], "nice": os.nice(0), "crates": crates, "list": open(f"{root}/crates.txt").read(),
     "built": [it for it in crates if os.path.isfile(f"{root}/crates/{it}/out/rlib/{it}.rlib/format")],
     "kept": sorted(os.listdir("out")) if os.path.isdir("out") else [],
 }
@@ -95,14 +95,24 @@ class Building(Case):
         _, notes = self.build("top", "4")
         self.assertEqual(sorted(notes["right"]["list"].splitlines()), ["low: arrayvec", "right: low itoa"])
 
-    def test_the_longest_chain_gets_the_processors_that_nothing_else_waits_for(self):
+    def test_the_longest_chain_goes_first_and_the_others_have_what_it_leaves(self):
         _, notes = self.build("top", "4")
         self.assertEqual({it: notes[it]["words"] for it in notes},
                          {"low": ["lib", "--jobs", "4"], "left": ["lib", "--jobs", "4"], "right": ["lib", "--jobs", "1"]})
-        shutil.rmtree(f"{self.top}/crates/low/out")
+        self.assertEqual([notes[it]["nice"] - os.nice(0) for it in ("low", "left", "right")], [0, 0, 10])
+
+    def test_there_are_no_more_processors_than_that(self):
         _, notes = self.build("top", "1")
         self.assertEqual([notes[it]["words"] for it in notes], [["lib", "--jobs", "1"]] * 3)
-        self.assertGreaterEqual(notes["right"]["began"], notes["left"]["ended"])
+        for number in range(4):
+            self.write(f"more{number}", "fn right() {}\n")
+        with open(f"{self.top}/crates.txt", "a", encoding="utf-8") as file:
+            file.write("".join(f"more{number}: low\n" for number in range(4)) + "over: left more0 more1 more2 more3\n")
+        self.write("over", "fn right() {}\n")
+        _, notes = self.build("over", "2")
+        times = [(notes[it]["began"], notes[it]["ended"]) for it in notes if it.startswith("more")]
+        at_once = max(sum(began <= it < ended for began, ended in times) for it, _ in times)
+        self.assertEqual((len(times), at_once), (4, 2))
 
     def test_what_was_kept_is_there_again(self):
         self.build("top", "2")
@@ -110,13 +120,15 @@ class Building(Case):
         self.assertEqual({it: notes[it]["kept"] for it in notes}, dict.fromkeys(("low", "left", "right"), ["incremental", "rlib"]))
 
     def test_one_that_is_not_proved(self):
+        with open(f"{self.top}/crates.txt", "a", encoding="utf-8") as file:
+            file.write("over: top\n")
+        self.write("over", "fn right() {}\n")
         self.write("left", "fn wrong() {}\n" * 9)
-        ran, notes = self.build("top", "1")
-        self.assertEqual((ran.returncode, sorted(notes)), (1, ["low"]))
-        self.assertEqual(ran.stdout.splitlines()[1:], ["== left", "fn left::wrong: not proved"])
+        ran, notes = self.build("over", "1")
+        self.assertEqual((ran.returncode, sorted(notes)), (1, ["low", "right"]))
+        self.assertIn("== left\nfn left::wrong: not proved\n", ran.stdout)
         self.assertEqual(os.listdir(f"{self.top}/crates/left/out"), ["incremental"])
-        self.assertTrue(self.is_built("low"))
-        self.assertFalse(self.is_built("right"))
+        self.assertEqual([self.is_built(it) for it in ("low", "left", "right", "top")], [True, False, True, False])
 
     def test_words_that_name_no_crate(self):
         for words in ([], ["none"], ["top", "many"]):

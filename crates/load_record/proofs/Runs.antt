@@ -186,7 +186,7 @@ values_least run (w ∷ words) later rest go =
     ap (λ t. cond t (values_held (longer run) (words ++ later) (values_text words ++ rest)) run.count) on in
     let more = values_least (longer run) words later rest go.1 in omega arith
 
-pub values_longest : (address : ℕ) (next : List WordValue) (text : List ℕ) → IsLongestFront (BeginsWithValues address text) next (values_held (run_at address) next text)
+values_longest : (address : ℕ) (next : List WordValue) (text : List ℕ) → IsLongestFront (BeginsWithValues address text) next (values_held (run_at address) next text)
 values_longest address next text =
     let c = counted (run_at address) next text in
     let these : take (values_held (run_at address) next text) next ≡ c.words =

@@ -10,7 +10,8 @@ import unittest
 from cases import Case
 from outside import TOP
 
-# What a crate's library is built by: notes when, and what was there; fails where the crate's text asks for it.
+# What a crate's library is built by: notes when, and what was there; fails where the crate's text asks for it. Those that are to meet wait
+# for one another, and give up after a while.
 FAKE = """#!/usr/bin/env python3
 import json, os, sys, time
 here = os.getcwd()
@@ -24,7 +25,12 @@ seen = {
     "kept": sorted(os.listdir("out")) if os.path.isdir("out") else [],
 }
 text = open("src/lib.rt").read()
-time.sleep(0.3)
+meeting = os.environ.get("MEETING", "").split()
+if name in meeting:
+    open(f"{os.environ['NOTES']}.{name}", "w").close()
+    while time.monotonic() < began + 20 and not all(os.path.exists(f"{os.environ['NOTES']}.{it}") for it in meeting):
+        time.sleep(0.05)
+time.sleep(0.2)
 os.makedirs(f"out/incremental", exist_ok=True)
 if "wrong" in text:
     print(f"fn {name}::wrong: not proved")
@@ -65,11 +71,11 @@ class Building(Case):
         with open(f"{self.top}/crates/{name}/src/lib.rt", "w", encoding="utf-8") as file:
             file.write(text)
 
-    def build(self, *words):
+    def build(self, *words, meeting=""):
         """Runs the tool, and gives how it ended and what each call of rt that built something noted."""
         notes = f"{self.room}/notes"
         open(notes, "w", encoding="utf-8").close()
-        surroundings = {**os.environ, "PATH": f"{self.room}/bin:{os.environ['PATH']}", "NOTES": notes}
+        surroundings = {**os.environ, "PATH": f"{self.room}/bin:{os.environ['PATH']}", "NOTES": notes, "MEETING": meeting}
         ran = subprocess.run([f"{self.top}/tools/prove-below", *words], env=surroundings, stdin=subprocess.DEVNULL, capture_output=True, text=True, timeout=60)
         with open(notes, encoding="utf-8") as file:
             return ran, {it["crate"]: it for it in map(json.loads, file)}
@@ -85,7 +91,7 @@ class Building(Case):
         self.assertEqual(sorted(ran.stdout.splitlines()), [f"{it} is built: logic=proved functions=1" for it in ("left", "low", "right")])
 
     def test_a_crate_begins_when_those_below_it_are_built(self):
-        _, notes = self.build("top", "4")
+        _, notes = self.build("top", "4", meeting="left right")
         for name in ("left", "right"):
             self.assertGreaterEqual(notes[name]["began"], notes["low"]["ended"])
             self.assertEqual((notes[name]["crates"], notes[name]["built"]), (sorted([name, "low"]), ["low"]))
@@ -95,11 +101,14 @@ class Building(Case):
         _, notes = self.build("top", "4")
         self.assertEqual(sorted(notes["right"]["list"].splitlines()), ["low: arrayvec", "right: low itoa"])
 
-    def test_the_longest_chain_goes_first_and_the_others_have_what_it_leaves(self):
-        _, notes = self.build("top", "4")
-        self.assertEqual({it: notes[it]["words"] for it in notes},
-                         {"low": ["lib", "--jobs", "4"], "left": ["lib", "--jobs", "4"], "right": ["lib", "--jobs", "1"]})
-        self.assertEqual([notes[it]["nice"] - os.nice(0) for it in ("low", "left", "right")], [0, 0, 10])
+    def test_those_with_long_chains_share_and_the_others_have_what_is_left(self):
+        self.write("beside", "fn right() {}\n" * 2)
+        with open(f"{self.top}/crates.txt", "a", encoding="utf-8") as file:
+            file.write("beside: low\nover: left right beside\n")
+        self.write("over", "fn right() {}\n")
+        _, notes = self.build("over", "4")
+        self.assertEqual({it: notes[it]["words"][2] for it in notes}, {"low": "4", "left": "4", "beside": "1", "right": "1"})
+        self.assertEqual({it: notes[it]["nice"] - os.nice(0) for it in notes}, {"low": 0, "left": 0, "beside": 0, "right": 10})
 
     def test_there_are_no_more_processors_than_that(self):
         _, notes = self.build("top", "1")
@@ -112,7 +121,8 @@ class Building(Case):
         _, notes = self.build("over", "2")
         times = [(notes[it]["began"], notes[it]["ended"]) for it in notes if it.startswith("more")]
         at_once = max(sum(began <= it < ended for began, ended in times) for it, _ in times)
-        self.assertEqual((len(times), at_once), (4, 2))
+        self.assertEqual(len(times), 4)
+        self.assertLessEqual(at_once, 2)
 
     def test_what_was_kept_is_there_again(self):
         self.build("top", "2")

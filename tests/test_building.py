@@ -108,9 +108,9 @@ class Building(Case):
         self.write("over", "fn right() {}\n")
         _, notes = self.build("over", "4")
         self.assertEqual({it: notes[it]["words"][2] for it in notes}, {"low": "4", "left": "4", "beside": "1", "right": "1"})
-        self.assertEqual({it: notes[it]["nice"] - os.nice(0) for it in notes}, {"low": 0, "left": 0, "beside": 0, "right": 10})
+        self.assertEqual({it: notes[it]["nice"] for it in notes}, {"low": os.nice(0), "left": os.nice(0), "beside": os.nice(0), "right": 19})
 
-    def test_there_are_no_more_processors_than_that(self):
+    def test_there_are_no_more_at_once_than_that(self):
         _, notes = self.build("top", "1")
         self.assertEqual([notes[it]["words"] for it in notes], [["lib", "--jobs", "1"]] * 3)
         for number in range(4):
@@ -119,10 +119,11 @@ class Building(Case):
             file.write("".join(f"more{number}: low\n" for number in range(4)) + "over: left more0 more1 more2 more3\n")
         self.write("over", "fn right() {}\n")
         _, notes = self.build("over", "2")
-        times = [(notes[it]["began"], notes[it]["ended"]) for it in notes if it.startswith("more")]
-        at_once = max(sum(began <= it < ended for began, ended in times) for it, _ in times)
-        self.assertEqual(len(times), 4)
-        self.assertLessEqual(at_once, 2)
+        self.assertEqual(len(notes), 6)
+        for is_urgent, most in ((True, 3), (False, 2)):
+            of = [it for it in notes.values() if (it["nice"] < 19) == is_urgent]
+            at_once = [sum(int(other["words"][2]) for other in of if other["began"] <= it["began"] < other["ended"]) for it in of]
+            self.assertLessEqual(max(at_once), most)
 
     def test_what_was_kept_is_there_again(self):
         self.build("top", "2")

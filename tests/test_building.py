@@ -101,29 +101,27 @@ class Building(Case):
         _, notes = self.build("top", "4")
         self.assertEqual(sorted(notes["right"]["list"].splitlines()), ["low: arrayvec", "right: low itoa"])
 
-    def test_those_with_long_chains_share_and_the_others_have_what_is_left(self):
+    def test_the_shorter_its_chain_the_further_back_a_crate_stands(self):
         self.write("beside", "fn right() {}\n" * 2)
         with open(f"{self.top}/crates.txt", "a", encoding="utf-8") as file:
             file.write("beside: low\nover: left right beside\n")
         self.write("over", "fn right() {}\n")
         _, notes = self.build("over", "4")
         self.assertEqual({it: notes[it]["words"][2] for it in notes}, {"low": "4", "left": "4", "beside": "1", "right": "1"})
-        self.assertEqual({it: notes[it]["nice"] for it in notes}, {"low": os.nice(0), "left": os.nice(0), "beside": os.nice(0), "right": 19})
+        self.assertEqual({it: notes[it]["nice"] - os.nice(0) for it in notes}, {"low": 0, "left": 0, "beside": 13, "right": 19 - os.nice(0)})
 
     def test_there_are_no_more_at_once_than_that(self):
         _, notes = self.build("top", "1")
         self.assertEqual([notes[it]["words"] for it in notes], [["lib", "--jobs", "1"]] * 3)
-        for number in range(4):
+        for number in range(6):
             self.write(f"more{number}", "fn right() {}\n")
         with open(f"{self.top}/crates.txt", "a", encoding="utf-8") as file:
-            file.write("".join(f"more{number}: low\n" for number in range(4)) + "over: left more0 more1 more2 more3\n")
+            file.write("".join(f"more{number}: low\n" for number in range(6)) + "over: left more0 more1 more2 more3 more4 more5\n")
         self.write("over", "fn right() {}\n")
         _, notes = self.build("over", "2")
-        self.assertEqual(len(notes), 6)
-        for is_urgent, most in ((True, 3), (False, 2)):
-            of = [it for it in notes.values() if (it["nice"] < 19) == is_urgent]
-            at_once = [sum(int(other["words"][2]) for other in of if other["began"] <= it["began"] < other["ended"]) for it in of]
-            self.assertLessEqual(max(at_once), most)
+        at_once = [sum(other["began"] <= it["began"] < other["ended"] for other in notes.values()) for it in notes.values()]
+        self.assertEqual(len(notes), 8)
+        self.assertLessEqual(max(at_once), 4)
 
     def test_what_was_kept_is_there_again(self):
         self.build("top", "2")

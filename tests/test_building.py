@@ -3,6 +3,7 @@ tests proves nothing: it notes how it was called, and what lay around it."""
 import json
 import os
 import shutil
+import signal
 import subprocess
 import time
 import unittest
@@ -71,13 +72,16 @@ class Building(Case):
         with open(f"{self.top}/crates/{name}/src/lib.rt", "w", encoding="utf-8") as file:
             file.write(text)
 
-    def build(self, *words, meeting=""):
-        """Runs the tool, and gives how it ended and what each call of rt that built something noted."""
+    def surroundings(self, meeting):
+        """The environment of the tool: with the rt of these tests, and nothing noted yet."""
         notes = f"{self.room}/notes"
         open(notes, "w", encoding="utf-8").close()
-        surroundings = {**os.environ, "PATH": f"{self.room}/bin:{os.environ['PATH']}", "NOTES": notes, "MEETING": meeting}
-        ran = subprocess.run([f"{self.top}/tools/prove-below", *words], env=surroundings, stdin=subprocess.DEVNULL, capture_output=True, text=True, timeout=60)
-        with open(notes, encoding="utf-8") as file:
+        return {**os.environ, "PATH": f"{self.room}/bin:{os.environ['PATH']}", "NOTES": notes, "MEETING": meeting}
+
+    def build(self, *words, meeting=""):
+        """Runs the tool, and gives how it ended and what each call of rt that built something noted."""
+        ran = subprocess.run([f"{self.top}/tools/prove-below", *words], env=self.surroundings(meeting), stdin=subprocess.DEVNULL, capture_output=True, text=True, timeout=60)
+        with open(f"{self.room}/notes", encoding="utf-8") as file:
             return ran, {it["crate"]: it for it in map(json.loads, file)}
 
     def is_built(self, name):
@@ -138,6 +142,21 @@ class Building(Case):
         self.assertIn("== left\nfn left::wrong: not proved\n", ran.stdout)
         self.assertEqual(os.listdir(f"{self.top}/crates/left/out"), ["incremental"])
         self.assertEqual([self.is_built(it) for it in ("low", "left", "right", "top")], [True, False, True, False])
+
+    def test_an_interrupt_loses_nothing_that_was_kept(self):
+        os.makedirs(f"{self.top}/crates/low/out/incremental/earlier")
+        # Without it a shell's background job hands on that it ignores interrupts.
+        heed = lambda: signal.signal(signal.SIGINT, signal.SIG_DFL)
+        how = {"env": self.surroundings("low nobody"), "stdin": subprocess.DEVNULL, "stdout": subprocess.PIPE, "stderr": subprocess.PIPE, "text": True}
+        ran = subprocess.Popen([f"{self.top}/tools/prove-below", "top", "2"], start_new_session=True, preexec_fn=heed, **how)
+        until = time.monotonic() + 20
+        while not os.path.exists(f"{self.room}/notes.low") and time.monotonic() < until:
+            time.sleep(0.05)
+        os.killpg(ran.pid, signal.SIGINT)
+        _, said = ran.communicate(timeout=60)
+        self.assertEqual(ran.returncode, 130)
+        self.assertNotIn("prove-below", said)
+        self.assertEqual(os.listdir(f"{self.top}/crates/low/out/incremental"), ["earlier"])
 
     def test_words_that_name_no_crate(self):
         for words in ([], ["none"], ["top", "many"]):

@@ -15,15 +15,7 @@ use Rattle.endings.specs.declared.failure.Failure.TheVariants.{LineFailed, Start
 use Rattle.endings.specs.declared.failure.Failure.TheVariants.{TooLarge, BadWord, NoMemory}
 use Rattle.command_io.specs.declared.fault.CommandFault.{CommandFault}
 use Rattle.command_io.specs.declared.fault.CommandFault.TheVariants as fault
-use Rattle.load_engine.specs.declared.stop.Stop.{Stop}
-use Rattle.load_engine.specs.declared.stop.Stop.TheVariants as stop
 use Rattle.load_record.specs.declared.reader.RecordError.TheVariants as why
-use Rattle.machine_load.specs.declared.fault.LoadFault.{LoadFault}
-use Rattle.machine_load.specs.declared.fault.LoadFault.TheVariants as load
-use Rattle.machine_look.specs.declared.look_fault.LookFault.{LookFault}
-use Rattle.machine_look.specs.declared.look_fault.LookFault.TheVariants as look
-use Rattle.machine_probe.specs.declared.probe_fault.ProbeFault.{ProbeFault}
-use Rattle.machine_probe.specs.declared.probe_fault.ProbeFault.TheVariants as probe
 use Rattle.endings.specs.declared.status.Status.{Status}
 use Rattle.endings.specs.declared.status.Status.TheVariants.{BadCommandLine, Refused, DeviceFailed, NoMemory as OutOfMemory}
 
@@ -122,60 +114,6 @@ NamesFile text other = ⊥
 abbrev pub NamesTape : Option (Bor (List ℕ)) → Failure → Type 0
 NamesTape (Some name) failure = failure ≡ CannotRead name
 NamesTape None failure = NamesFile (codes "standard input") failure
-
--- the failure is that the record's file of this name can't be written
-abbrev pub NamesWrittenFile : List ℕ → Failure → Type 0
-NamesWrittenFile text (CannotWriteFile name) = name.now ≡ text
-NamesWrittenFile text other = ⊥
-
--- the failure is that another load holds the record's file of this name
-abbrev pub NamesHeldFile : List ℕ → Failure → Type 0
-NamesHeldFile text (RecordInUse name) = name.now ≡ text
-NamesHeldFile text other = ⊥
-
--- the failure is that this address can't be connected to
-abbrev pub NamesAddress : List ℕ → Failure → Type 0
-NamesAddress text (CannotConnect address) = address.now ≡ text
-NamesAddress text other = ⊥
-
--- the failure that a load's fault is, where its console and its record have these names
-abbrev pub IsLoadFailureOf : LoadFault → List ℕ → List ℕ → Failure → Type 0
-IsLoadFailureOf load.ReadRecord address file failure = NamesFile file failure
-IsLoadFailureOf load.RecordInUse address file failure = NamesHeldFile file failure
-IsLoadFailureOf (load.Record reason) address file failure = failure ≡ RecordRefused reason
-IsLoadFailureOf load.Connect address file failure = NamesAddress address failure
-IsLoadFailureOf load.WriteRecord address file failure = NamesWrittenFile file failure
-IsLoadFailureOf load.WriteOutput address file failure = failure ≡ CannotWrite
-IsLoadFailureOf load.Memory address file failure = failure ≡ NoMemory
-
--- the failure is that there is a file of this name already
-abbrev pub NamesFileThere : List ℕ → Failure → Type 0
-NamesFileThere text (FileIsThere name) = name.now ≡ text
-NamesFileThere text other = ⊥
-
--- the failure that a look's fault is, where its console and its new file have these names
-abbrev pub IsLookFailureOf : LookFault → List ℕ → List ℕ → Failure → Type 0
-IsLookFailureOf look.IsThere address file failure = NamesFileThere file failure
-IsLookFailureOf look.WriteTape address file failure = NamesWrittenFile file failure
-IsLookFailureOf look.Connect address file failure = NamesAddress address failure
-IsLookFailureOf look.WriteOutput address file failure = failure ≡ CannotWrite
-IsLookFailureOf look.Memory address file failure = failure ≡ NoMemory
-
--- the failure that a probe's fault is, where its console has this name
-abbrev pub IsProbeFailureOf : ProbeFault → List ℕ → Failure → Type 0
-IsProbeFailureOf probe.Connect address failure = NamesAddress address failure
-IsProbeFailureOf probe.WriteOutput address failure = failure ≡ CannotWrite
-IsProbeFailureOf probe.Memory address failure = failure ≡ NoMemory
-
--- how a load fails whose line did: once the start was typed, or may have been, it says so
-abbrev pub line_failure : Bool → Failure
-line_failure marked = if marked then StartInDoubt else LineFailed
-
--- how a load that was reported fails all the same: the line failed, or the record's keeper
-abbrev pub IsStopFailure : Stop → Bool → List ℕ → Failure → Type 0
-IsStopFailure (stop.LineFailed fault) marked file failure = failure ≡ line_failure marked
-IsStopFailure (stop.KeepFailed fault) marked file failure = NamesWrittenFile file failure
-IsStopFailure other marked file failure = ⊥
 
 -- the failure that a command's fault is, where its tapes and its script have these names: of several tapes the number is told
 abbrev pub IsFailureOf : CommandFault → List (Bor (List ℕ)) → List ℕ → Failure → Type 0

@@ -1,9 +1,6 @@
 use crate::status::Status;
 use command_io::CommandFault;
 use load_record::RecordError;
-use machine_load::LoadFault;
-use machine_look::LookFault;
-use machine_probe::ProbeFault;
 use tape_blocks::Fault;
 
 /// Why the program did not do what it was asked, in the words of its line on standard error.
@@ -57,7 +54,7 @@ pub enum Failure<'a> {
 
 impl<'a> Failure<'a> {
     ghost use Rattle.std.specs.Prelude.{◌≡◌, ◌-◌, slice_get};
-    ghost use Rattle.endings.specs.Failure.{status_of, IsFailureOf, IsLoadFailureOf, IsLookFailureOf, IsProbeFailureOf, NamesTape};
+    ghost use Rattle.endings.specs.Failure.{status_of, IsFailureOf, NamesTape};
 
     /// The failure that a command's fault is, where its tapes and its script have these names. A tape
     /// that has no name is standard input's.
@@ -90,45 +87,6 @@ impl<'a> Failure<'a> {
         match tapes.get(number.saturating_sub(1)) {
             Some(name) => Failure::CannotRead(name),
             None => Failure::CannotRead(STANDARD_INPUT),
-        }
-    }
-
-    /// The failure that a load's fault is, where its console and its record have these names.
-    pub fn of_load(fault: LoadFault, address: &'a str, file: &'a str) -> Failure<'a>
-        ensures { IsLoadFailureOf fault address.entry.now file.entry.now result }
-    {
-        match fault {
-            LoadFault::ReadRecord => Failure::CannotRead(file),
-            LoadFault::RecordInUse => Failure::RecordInUse(file),
-            LoadFault::Record(why) => Failure::RecordRefused(why),
-            LoadFault::Connect => Failure::CannotConnect(address),
-            LoadFault::WriteRecord => Failure::CannotWriteFile(file),
-            LoadFault::WriteOutput => Failure::CannotWrite,
-            LoadFault::Memory => Failure::NoMemory,
-        }
-    }
-
-    /// The failure that a look's fault is, where its console and its new file have these names.
-    pub fn of_look(fault: LookFault, address: &'a str, file: &'a str) -> Failure<'a>
-        ensures { IsLookFailureOf fault address.entry.now file.entry.now result }
-    {
-        match fault {
-            LookFault::IsThere => Failure::FileIsThere(file),
-            LookFault::WriteTape => Failure::CannotWriteFile(file),
-            LookFault::Connect => Failure::CannotConnect(address),
-            LookFault::WriteOutput => Failure::CannotWrite,
-            LookFault::Memory => Failure::NoMemory,
-        }
-    }
-
-    /// The failure that a probe's fault is, where its console has this name.
-    pub fn of_probe(fault: ProbeFault, address: &'a str) -> Failure<'a>
-        ensures { IsProbeFailureOf fault address.entry.now result }
-    {
-        match fault {
-            ProbeFault::Connect => Failure::CannotConnect(address),
-            ProbeFault::WriteOutput => Failure::CannotWrite,
-            ProbeFault::Memory => Failure::NoMemory,
         }
     }
 

@@ -1,7 +1,4 @@
-use crate::failure::Failure;
 use host_core::End;
-use machine_look::{SaveEnd, VerifyEnd};
-use probe_report::ProbeEnd;
 
 /// How the program ended, as its exit status says.
 #[derive(Clone, Copy, Debug, PartialEq, Eq)]
@@ -35,7 +32,7 @@ pub enum Status {
 
 impl Status {
     ghost use Rattle.std.specs.Prelude.{◌≡◌};
-    ghost use Rattle.endings.specs.Status.{after_probe, after_save, after_verify, end_status, status_code};
+    ghost use Rattle.endings.specs.Status.{end_status, status_code};
 
     /// The status after a load that ended so.
     pub fn of_end(end: End) -> Status
@@ -45,46 +42,6 @@ impl Status {
             End::Loaded | End::Started => Status::Done,
             End::GaveUp | End::NoWord(_) | End::WontHold(_) => Status::NotLoaded,
             End::Uncertain | End::MaybeStarted => Status::Uncertain,
-        }
-    }
-
-    /// The status after a `verify` that ended so, or the failure that it is where its line failed.
-    pub fn after_verify(end: VerifyEnd) -> Result<Status, Failure<'static>>
-        ensures { result ≡ after_verify end }
-    {
-        match end {
-            VerifyEnd::Same => Ok(Status::Done),
-            VerifyEnd::Differs => Ok(Status::Differs),
-            VerifyEnd::NoWord(_) | VerifyEnd::GaveUp | VerifyEnd::TurnsOver => {
-                Ok(Status::NotLoaded)
-            }
-            VerifyEnd::LineFailed(_) => Err(Failure::LineFailed),
-        }
-    }
-
-    /// The status after a `save` that ended so, or the failure that it is where its line failed.
-    pub fn after_save(end: SaveEnd) -> Result<Status, Failure<'static>>
-        ensures { result ≡ after_save end }
-    {
-        match end {
-            SaveEnd::Saved => Ok(Status::Done),
-            SaveEnd::NoWord(_) | SaveEnd::GaveUp | SaveEnd::TurnsOver => Ok(Status::NotLoaded),
-            SaveEnd::LineFailed(_) => Err(Failure::LineFailed),
-        }
-    }
-
-    /// The status after a `probe` that ended so, or the failure that it is where its line failed.
-    pub fn after_probe(end: ProbeEnd) -> Result<Status, Failure<'static>>
-        ensures { result ≡ after_probe end }
-    {
-        match end {
-            ProbeEnd::Probed => Ok(Status::Done),
-            ProbeEnd::NotTrusted
-            | ProbeEnd::NoPrompt
-            | ProbeEnd::GaveUp
-            | ProbeEnd::NoWord(_)
-            | ProbeEnd::TurnsOver => Ok(Status::NotLoaded),
-            ProbeEnd::LineFailed(_) => Err(Failure::LineFailed),
         }
     }
 

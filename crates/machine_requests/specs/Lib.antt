@@ -1,4 +1,5 @@
 pub mod Asked
+pub mod Ending
 pub mod Errand
 pub mod Files
 pub mod Listening

@@ -14,10 +14,9 @@ use Rattle.record_file.specs.DiskStep.{DiskStep, HasAsked}
 use Rattle.endings.specs.declared.failure.Failure.{Failure}
 use Rattle.endings.specs.declared.failure.Failure.TheVariants.{CannotWrite}
 use Rattle.endings.specs.declared.status.Status.{Status}
-use Rattle.endings.specs.Failure.{IsLoadFailureOf, IsStopFailure}
-use Rattle.endings.specs.Status.{IsStopStatus}
 use Rattle.machine_requests.specs.declared.request.Load.{Load as LoadRequest}
 use Rattle.input_files.specs.Opening.{Name}
+use Rattle.machine_requests.specs.Ending.{IsLoadFailureOf, IsStopFailure, IsStopStatus}
 use Rattle.machine_requests.specs.Errand.{Told, told_towards}
 use Rattle.machine_requests.specs.Files.{Known, IsPlanned, IsUnplanned}
 use Rattle.machine_requests.specs.Asked.{OutsideAsked, NotElsewhere}

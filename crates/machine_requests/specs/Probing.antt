@@ -8,8 +8,7 @@ use Rattle.machine_probe.specs.declared.probe_fault.ProbeFault.{ProbeFault}
 use Rattle.machine_probe.specs.declared.probe_options.ProbeOptions.{ProbeOptions}
 use Rattle.endings.specs.declared.failure.Failure.{Failure}
 use Rattle.endings.specs.declared.status.Status.{Status}
-use Rattle.endings.specs.Failure.{IsProbeFailureOf}
-use Rattle.endings.specs.Status.{after_probe}
+use Rattle.machine_requests.specs.Ending.{IsProbeFailureOf, after_probe}
 use Rattle.machine_requests.specs.declared.request.Probe.{Probe}
 use Rattle.machine_requests.specs.Errand.{Told}
 use Rattle.machine_requests.specs.Looking.{console_at}

@@ -11,8 +11,7 @@ use Rattle.machine_look.specs.declared.save_end.SaveEnd.{SaveEnd}
 use Rattle.machine_look.specs.declared.saving.SaveOptions.{SaveOptions}
 use Rattle.endings.specs.declared.failure.Failure.{Failure}
 use Rattle.endings.specs.declared.status.Status.{Status}
-use Rattle.endings.specs.Failure.{IsLookFailureOf}
-use Rattle.endings.specs.Status.{after_save}
+use Rattle.machine_requests.specs.Ending.{IsLookFailureOf, after_save}
 use Rattle.input_files.specs.Opening.{Name}
 use Rattle.machine_requests.specs.declared.request.Save.{Save}
 use Rattle.machine_requests.specs.Errand.{Told}

@@ -7,6 +7,7 @@
 //! tape takes. The crate `requests` calls them, and shares its relations over what files hold.
 #![tactic(auto)]
 
+mod ending;
 mod errand;
 mod host;
 mod listening;

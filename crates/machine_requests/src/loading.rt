@@ -2,14 +2,13 @@
 ghost use Rattle.std.specs.Prelude.{◌≡◌, ◌⊎◌, IfOk, IfErr, IsSome};
 ghost use Rattle.std.specs.Mem.{FitsInMemory};
 ghost use Rattle.console_reach.specs.Console.{console_told};
-ghost use Rattle.endings.specs.Failure.{IsStopFailure};
-ghost use Rattle.endings.specs.Status.{IsStopStatus};
 ghost use Rattle.machine_load.specs.Load.{IsNeverBegun};
 ghost use Rattle.machine_load.specs.RecordDisk.{DiskAsked};
 ghost use Rattle.machine_requests.specs.Loading.{record_name, AreLoaded, AreUnloaded, IsLoadOver};
 ghost use Rattle.machine_requests.specs.Loading.{IsEnded, IsEndFailure, IsPlanLoaded, IsPlanFailure};
 ghost use Rattle.machine_requests.specs.Moment.{moment};
 
+use crate::ending::{after_load, load_failure};
 use crate::errand::{Errand, run_at};
 use crate::host::Host;
 use crate::listening::listen_behind;
@@ -20,7 +19,6 @@ use console_reach::Reach;
 use endings::{Failure, FaultOutput, Output, Status, Streams};
 use input_files::InputFiles;
 use load_devices::Line;
-use load_engine::Stop;
 use machine_load::{Around, InMemory, Outcome, Surroundings, load};
 use record_file::{Disk, RecordFile};
 use serial_line::DeviceOpening;
@@ -146,7 +144,7 @@ fn load_with<'a, K: Clock, T: Print, S: Surroundings, W: Write>(
         &host.progress,
     ) {
         Ok(outcome) => end(request, outcome, out),
-        Err(fault) => Err(Failure::of_load(fault, request.line, record_name(request.record))),
+        Err(fault) => Err(load_failure(fault, request.line, record_name(request.record))),
     }
 }
 
@@ -161,23 +159,9 @@ fn end<'a, L: Line + Drop, W: Write>(
     ensures err { IfErr result (IsEndFailure load.entry outcome.stop outcome.marked (W.contents out.old) (W.contents out.new)) }
 {
     let Outcome { stop, marked, line } = outcome;
-    let status = status_after(stop, marked, record_name(load.record))?;
+    let status = after_load(stop, marked, record_name(load.record))?;
     listen_behind(load, stop, line, out)?;
     Ok(status)
-}
-
-// What the program ends with after a load that stopped so and was reported.
-fn status_after(stop: Stop, marked: bool, file: &str) -> Result<Status, Failure<'_>>
-    ensures status { IfOk result (IsStopStatus stop) }
-    ensures failure { IfErr result (IsStopFailure stop marked file.entry.now) }
-{
-    match stop {
-        Stop::Ended(end) => Ok(Status::of_end(end)),
-        Stop::LineFailed(_) if marked => Err(Failure::StartInDoubt),
-        Stop::LineFailed(_) => Err(Failure::LineFailed),
-        Stop::KeepFailed(_) => Err(Failure::CannotWriteFile(file)),
-        Stop::TurnsOver => Ok(Status::NotLoaded),
-    }
 }
 
 // What faults call the record.

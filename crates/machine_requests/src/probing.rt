@@ -4,6 +4,7 @@ ghost use Rattle.machine_requests.specs.Looking.{console_at};
 ghost use Rattle.machine_requests.specs.Probing.{IsProbeDone, IsProbeOver, IsProbeFailure};
 ghost use Rattle.machine_requests.specs.Asked.{AsksConsoleAlone};
 
+use crate::ending::{after_probe, probe_failure};
 use crate::errand::{Errand, run_at};
 use crate::request::Probe;
 use crate::system::System;
@@ -82,9 +83,9 @@ impl<'a, K: Clock> Errand<'a> for Probing<'_, 'a, K> {
             patience: request.look.patience,
         };
         match probe(self.alloc, options, &mut console, out, self.clock) {
-            Ok(end) => (console, disk, Status::after_probe(end)),
+            Ok(end) => (console, disk, after_probe(end)),
             Err(fault) => {
-                let failure = Failure::of_probe(fault, request.look.line);
+                let failure = probe_failure(fault, request.look.line);
                 (console, disk, Err(failure))
             }
         }

@@ -4,6 +4,7 @@ ghost use Rattle.machine_requests.specs.Looking.{told_at};
 ghost use Rattle.machine_requests.specs.Saving.{IsSaveDone, IsSaveFailure, IsSaveOver};
 ghost use Rattle.machine_requests.specs.Asked.{NotElsewhere};
 
+use crate::ending::{after_save, look_failure};
 use crate::errand::{Errand, run_at};
 use crate::host::Host;
 use crate::request::Save;
@@ -95,9 +96,9 @@ impl<'a, K: Clock, T: Print> Errand<'a> for Saving<'_, 'a, K, T> {
         let saved = save(host.alloc, options, &mut shelf, &mut console, out, onlooker);
         let disk = shelf.close();
         match saved {
-            Ok(end) => (console, disk, Status::after_save(end)),
+            Ok(end) => (console, disk, after_save(end)),
             Err(fault) => {
-                let failure = Failure::of_look(fault, request.look.line, request.file);
+                let failure = look_failure(fault, request.look.line, request.file);
                 (console, disk, Err(failure))
             }
         }

@@ -4,6 +4,7 @@ ghost use Rattle.std.specs.Mem.{FitsInMemory};
 ghost use Rattle.machine_requests.specs.Looking.{AreVerified, AreUnverified, IsLookOver};
 ghost use Rattle.machine_requests.specs.Moment.{moment};
 
+use crate::ending::{after_verify, look_failure};
 use crate::errand::{Errand, run_at};
 use crate::host::Host;
 use crate::planning::plan_tapes;
@@ -94,9 +95,9 @@ impl<'a, K: Clock, T: Print> Errand<'a> for Verifying<'_, '_, 'a, K, T> {
         let Verifying { host, plan, look } = self;
         let onlooker = &host.progress;
         match verify(host.alloc, plan, look.patience, &mut console, out, onlooker) {
-            Ok(end) => (console, disk, Status::after_verify(end)),
+            Ok(end) => (console, disk, after_verify(end)),
             Err(fault) => {
-                let failure = Failure::of_look(fault, look.line, look.line);
+                let failure = look_failure(fault, look.line, look.line);
                 (console, disk, Err(failure))
             }
         }

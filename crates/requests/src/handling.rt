@@ -101,7 +101,7 @@ fn perform<
     }
 }
 
-// Does a request that is about no machine. Apart from the others it is proved in half the time.
+// Does a request that is about no machine: one function for all took the prover much longer than these two.
 fn print<
     'a,
     'c,

@@ -4,7 +4,7 @@
 //! status; where it can't be done, one line on standard error says why, by the name of the file that
 //! was at fault. Each command's own contract stands in its crate: `tape_check`, `console_typing`,
 //! `rehearsals`; what is asked of a real machine in `machine_requests`, and passed on from there. Which status
-//! and which line an end or a fault becomes stands in `endings`.
+//! and which line a failure has stands in `endings`.
 //!
 //! The program `ldaodt` makes the request of the words of its command line.
 #![tactic(auto)]

@@ -1,8 +1,8 @@
 use Rattle.std.proofs.Common.{inl, inr, subst}
 use Rattle.std.proofs.lemmas.Result.{IfOk-weaker, IfErr-weaker}
-use Rattle.endings.specs.Failure.{IsLoadFailureOf}
 use Rattle.machine_load.specs.Load.{around_of}
 use Rattle.machine_load.specs.RecordDisk.{DiskAsked}
+use Rattle.machine_requests.specs.Ending.{IsLoadFailureOf}
 use Rattle.machine_requests.proofs.Loaded.{some_line, asked_by_some, disk_by_some}
 use Rattle.machine_requests.proofs.loading.load_with.Goals as goal
 
@@ -51,7 +51,7 @@ returns-in-Err-clause-err g c =
       around = around_of g.S.Surroundings.steps g.S.Surroundings.record_text c.args.around.now;
       around' = around_of g.S.Surroundings.steps g.S.Surroundings.record_text c.load.new.around;
       is_so = c.in-Err.ensures.fault;
-      is_called = subst (λ file. IsLoadFailureOf c.in-Err.fault c.args.request.line.now file c.of_load.result) c.record_name.ensures c.of_load.ensures;
+      is_called = subst (λ file. IsLoadFailureOf c.in-Err.fault c.args.request.line.now file c.load_failure.result) c.record_name.ensures c.load_failure.ensures;
       asked = c.in-Err.ensures.asked_in_vain;
       disk = c.in-Err.ensures.disk_in_vain;
     })

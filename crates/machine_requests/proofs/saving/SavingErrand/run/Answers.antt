@@ -44,7 +44,7 @@ returns-in-Err g c =
       err = inl (record {
         fault = c.in-Err.fault;
         is_so = subst (λ call. IsSaveFault (options_of save) (save_told_of before.console) (save_told_of (after call).console) c.in-Err.fault) c.save-saved.ensures.call c.in-Err.ensures.fault;
-        is_called = c.of_look-failure.ensures;
+        is_called = c.look_failure-failure.ensures;
         disk = on_disk (save_disk_asked_before (options_of save) c.in-Err.fault) c.in-Err.ensures.disk_in_vain;
       });
     }

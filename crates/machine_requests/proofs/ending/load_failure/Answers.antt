@@ -1,5 +1,5 @@
 use Rattle.std.proofs.Common.{rules}
-use Rattle.endings.proofs.failure.Failure.of_load.Goals as goal
+use Rattle.machine_requests.proofs.ending.load_failure.Goals as goal
 
 pub returns-in-Connect : goal.returns-in-Connect
 returns-in-Connect c = search rules

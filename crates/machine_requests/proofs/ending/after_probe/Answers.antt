@@ -1,5 +1,5 @@
 use Rattle.std.proofs.Common.{rules}
-use Rattle.endings.proofs.status.Status.after_probe.Goals as goal
+use Rattle.machine_requests.proofs.ending.after_probe.Goals as goal
 
 pub returns-in-NotTrusted : goal.returns-in-NotTrusted
 returns-in-NotTrusted c = search rules

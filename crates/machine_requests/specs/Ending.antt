@@ -1,0 +1,110 @@
+-- What a load, a look or a probe of a real machine comes to: the exit status, or the failure that names what was at fault.
+use Rattle.std.specs.Prelude.{◌≡◌, ℕ, Bool, if◌then◌else◌, List, Result, Ok, Err}
+use Rattle.load_engine.specs.declared.stop.Stop.{Stop}
+use Rattle.load_engine.specs.declared.stop.Stop.TheVariants as stop
+use Rattle.machine_load.specs.declared.fault.LoadFault.{LoadFault}
+use Rattle.machine_load.specs.declared.fault.LoadFault.TheVariants as load
+use Rattle.machine_look.specs.declared.look_fault.LookFault.{LookFault}
+use Rattle.machine_look.specs.declared.look_fault.LookFault.TheVariants as look
+use Rattle.machine_look.specs.declared.save_end.SaveEnd.{SaveEnd}
+use Rattle.machine_look.specs.declared.save_end.SaveEnd.TheVariants as save
+use Rattle.machine_look.specs.declared.verify_end.VerifyEnd.{VerifyEnd}
+use Rattle.machine_look.specs.declared.verify_end.VerifyEnd.TheVariants as verify
+use Rattle.machine_probe.specs.declared.probe_fault.ProbeFault.{ProbeFault}
+use Rattle.machine_probe.specs.declared.probe_fault.ProbeFault.TheVariants as probe_fault
+use Rattle.probe_report.specs.declared.probe_end.ProbeEnd.{ProbeEnd}
+use Rattle.probe_report.specs.declared.probe_end.ProbeEnd.TheVariants as probe
+use Rattle.endings.specs.declared.failure.Failure.{Failure}
+use Rattle.endings.specs.declared.failure.Failure.TheVariants.{CannotWrite, CannotWriteFile, FileIsThere, RecordInUse, CannotConnect}
+use Rattle.endings.specs.declared.failure.Failure.TheVariants.{LineFailed, StartInDoubt, RecordRefused, NoMemory}
+use Rattle.endings.specs.declared.status.Status.{Status}
+use Rattle.endings.specs.declared.status.Status.TheVariants.{Done, Differs, NotLoaded}
+use Rattle.endings.specs.Failure.{NamesFile}
+use Rattle.endings.specs.Status.{end_status}
+
+-- the failure is that the record's file of this name can't be written
+abbrev pub NamesWrittenFile : List ℕ → Failure → Type 0
+NamesWrittenFile text (CannotWriteFile name) = name.now ≡ text
+NamesWrittenFile text other = ⊥
+
+-- the failure is that another load holds the record's file of this name
+abbrev pub NamesHeldFile : List ℕ → Failure → Type 0
+NamesHeldFile text (RecordInUse name) = name.now ≡ text
+NamesHeldFile text other = ⊥
+
+-- the failure is that this address can't be connected to
+abbrev pub NamesAddress : List ℕ → Failure → Type 0
+NamesAddress text (CannotConnect address) = address.now ≡ text
+NamesAddress text other = ⊥
+
+-- the failure that a load's fault is, where its console and its record have these names
+abbrev pub IsLoadFailureOf : LoadFault → List ℕ → List ℕ → Failure → Type 0
+IsLoadFailureOf load.ReadRecord address file failure = NamesFile file failure
+IsLoadFailureOf load.RecordInUse address file failure = NamesHeldFile file failure
+IsLoadFailureOf (load.Record reason) address file failure = failure ≡ RecordRefused reason
+IsLoadFailureOf load.Connect address file failure = NamesAddress address failure
+IsLoadFailureOf load.WriteRecord address file failure = NamesWrittenFile file failure
+IsLoadFailureOf load.WriteOutput address file failure = failure ≡ CannotWrite
+IsLoadFailureOf load.Memory address file failure = failure ≡ NoMemory
+
+-- the failure is that there is a file of this name already
+abbrev pub NamesFileThere : List ℕ → Failure → Type 0
+NamesFileThere text (FileIsThere name) = name.now ≡ text
+NamesFileThere text other = ⊥
+
+-- the failure that a look's fault is, where its console and its new file have these names
+abbrev pub IsLookFailureOf : LookFault → List ℕ → List ℕ → Failure → Type 0
+IsLookFailureOf look.IsThere address file failure = NamesFileThere file failure
+IsLookFailureOf look.WriteTape address file failure = NamesWrittenFile file failure
+IsLookFailureOf look.Connect address file failure = NamesAddress address failure
+IsLookFailureOf look.WriteOutput address file failure = failure ≡ CannotWrite
+IsLookFailureOf look.Memory address file failure = failure ≡ NoMemory
+
+-- the failure that a probe's fault is, where its console has this name
+abbrev pub IsProbeFailureOf : ProbeFault → List ℕ → Failure → Type 0
+IsProbeFailureOf probe_fault.Connect address failure = NamesAddress address failure
+IsProbeFailureOf probe_fault.WriteOutput address failure = failure ≡ CannotWrite
+IsProbeFailureOf probe_fault.Memory address failure = failure ≡ NoMemory
+
+-- how a load fails whose line did: once the start was typed, or may have been, it says so
+abbrev pub line_failure : Bool → Failure
+line_failure marked = if marked then StartInDoubt else LineFailed
+
+-- how a load that was reported fails all the same: the line failed, or the record's keeper
+abbrev pub IsStopFailure : Stop → Bool → List ℕ → Failure → Type 0
+IsStopFailure (stop.LineFailed fault) marked file failure = failure ≡ line_failure marked
+IsStopFailure (stop.KeepFailed fault) marked file failure = NamesWrittenFile file failure
+IsStopFailure other marked file failure = ⊥
+
+-- how the program ended where a load stopped so and was reported: where its line or its keeper failed, that is a failure and no ending
+abbrev pub IsStopStatus : Stop → Status → Type 0
+IsStopStatus (stop.Ended end) status = status ≡ end_status end
+IsStopStatus stop.TurnsOver status = status ≡ NotLoaded
+IsStopStatus other status = ⊥
+
+-- how the program ends after a `verify` that ended so: where its line failed, that is a failure and no ending
+abbrev pub after_verify : VerifyEnd → Result Status Failure
+after_verify verify.Same = Ok Done
+after_verify verify.Differs = Ok Differs
+after_verify (verify.NoWord address) = Ok NotLoaded
+after_verify verify.GaveUp = Ok NotLoaded
+after_verify verify.TurnsOver = Ok NotLoaded
+after_verify (verify.LineFailed fault) = Err LineFailed
+
+-- how the program ends after a `save` that ended so: where its line failed, that is a failure and no ending
+abbrev pub after_save : SaveEnd → Result Status Failure
+after_save save.Saved = Ok Done
+after_save (save.NoWord address) = Ok NotLoaded
+after_save save.GaveUp = Ok NotLoaded
+after_save save.TurnsOver = Ok NotLoaded
+after_save (save.LineFailed fault) = Err LineFailed
+
+-- how the program ends after a `probe` that ended so: where its line failed, that is a failure and no ending
+abbrev pub after_probe : ProbeEnd → Result Status Failure
+after_probe probe.Probed = Ok Done
+after_probe probe.NotTrusted = Ok NotLoaded
+after_probe probe.NoPrompt = Ok NotLoaded
+after_probe probe.GaveUp = Ok NotLoaded
+after_probe (probe.NoWord address) = Ok NotLoaded
+after_probe probe.TurnsOver = Ok NotLoaded
+after_probe (probe.LineFailed fault) = Err LineFailed

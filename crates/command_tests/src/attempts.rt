@@ -1,9 +1,9 @@
 //! Requests, attempted as the program does it.
 
 use endings::{Status, Streams};
-use machine_load::LoadOptions;
 use record_file::Locks;
-use requests::{Load, Request, SharedSystem, attempt};
+use request_values::{Load, LoadOptions, Request};
+use requests::{SharedSystem, attempt};
 use serial_line::Devices;
 use simulated_system::QUIET_MS;
 use std::alloc::{AllocError, Global};

@@ -4,7 +4,8 @@
 use crate::attempts::{Ended, NOBODY, load_of, run};
 use endings::{Output, Status, Streams};
 use odt_machine::{LARGEST_WORDS, PLAIN_STYLE};
-use requests::{Console, Request, SharedSystem, attempt};
+use request_values::{Console, Request};
+use requests::{SharedSystem, attempt};
 use simulated_system::{
     AMPLE, BrokenInput, BrokenOutput, NOWHERE, ONE_WORD, Setting, System, UnflushedOutput,
 };

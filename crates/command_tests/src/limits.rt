@@ -3,7 +3,7 @@
 use crate::attempts::{Ended, run};
 use endings::Status;
 use odt_machine::PLAIN_STYLE;
-use requests::{Console, Request, Stage};
+use request_values::{Console, Request, Stage};
 use simulated_system::{ONE_WORD, WRONG_SUM};
 use std::alloc::{AllocError, Global};
 use std::test::Fail;

@@ -3,9 +3,7 @@
 
 use crate::attempts::{Ended, run};
 use endings::Status;
-use machine_load::LoadOptions;
-use machine_look::AddressRange;
-use requests::{Load, Look, Probe, Request, Save};
+use request_values::{AddressRange, Load, LoadOptions, Look, Probe, Request, Save};
 use simulated_system::{AMPLE, DEVICE, ONE_WORD, QUIET_MS, Setting, System, remove};
 use std::alloc::{AllocError, Global};
 use std::fs;

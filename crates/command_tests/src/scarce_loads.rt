@@ -3,8 +3,7 @@
 
 use crate::attempts::{Ended, OUT_OF_MEMORY, load_of, run};
 use endings::Status;
-use machine_look::AddressRange;
-use requests::{Look, Request, Save};
+use request_values::{AddressRange, Look, Request, Save};
 use scarce_memory::{Famine, ROOMS};
 use simulated_system::{AMPLE, ONE_WORD, QUIET_MS, Setting, System};
 use std::alloc::{AllocError, Global};

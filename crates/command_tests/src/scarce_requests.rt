@@ -3,9 +3,8 @@
 
 use crate::attempts::{Ended, OUT_OF_MEMORY, run};
 use endings::Status;
-use machine_load::LoadOptions;
 use odt_machine::{LARGEST_WORDS, PLAIN_STYLE};
-use requests::{Console, Load, Look, Probe, Rehearsal, Request, Stage};
+use request_values::{Console, Load, LoadOptions, Look, Probe, Rehearsal, Request, Stage};
 use scarce_memory::{Famine, ROOMS};
 use simulated_system::{NOTHING, ONE_WORD, ONE_WORD_DIALOGUE, ONE_WORD_TEXT, PADDED, WRONG_SUM};
 use std::alloc::{AllocError, Global};

@@ -1,8 +1,6 @@
 -- What becomes of the words of a command line (this project's own).
-use Rattle.std.specs.Prelude.{◌≡◌, ◌⊎◌, ⊤, ℕ, List, codes}
+use Rattle.std.specs.Prelude.{◌≡◌, ◌⊎◌, ℕ, List, codes}
 use Rattle.std.specs.String.{string_bytes}
-use Rattle.clap.specs.declared.error.kind.ErrorKind.{ErrorKind}
-use Rattle.clap.specs.declared.error.kind.ErrorKind.TheVariants as kind
 use Rattle.requests.specs.Attempt.{IsAttempted}
 use Rattle.machine_requests.specs.Moment.{Moment}
 use Rattle.endings.specs.Explained.{IsShown}
@@ -10,28 +8,12 @@ use Rattle.endings.specs.Failure.{IsTold}
 use Rattle.endings.specs.FaultOutput.{IsSaid}
 use Rattle.endings.specs.Held.{Held}
 use Rattle.endings.specs.declared.failure.Failure.TheVariants as failure
-use Rattle.requests.specs.declared.request.Request.{Request}
-use Rattle.requests.specs.declared.request.Request.TheVariants.{CheckInput}
+use Rattle.request_values.specs.declared.request.Request.{Request}
+use Rattle.request_values.specs.declared.request.Request.TheVariants.{CheckInput}
 use Rattle.endings.specs.declared.status.Status.{Status}
 use Rattle.endings.specs.declared.status.Status.TheVariants as status
-use Rattle.ldaodt.specs.declared.command_line.no_request.NoRequest.{NoRequest}
-use Rattle.ldaodt.specs.declared.command_line.no_request.NoRequest.TheVariants.{Help, Refused, Meaningless, NoMemory}
-
--- the parser's answer is the text of help or the version
-abbrev pub IsHelp : ErrorKind → Type 0
-IsHelp k = (k ≡ kind.DisplayHelp) ⊎ (k ≡ kind.DisplayVersion)
-
--- a text was asked for, or there was no memory for it
-abbrev pub IsHelpText : NoRequest → Type 0
-IsHelpText (Help text) = ⊤
-IsHelpText NoMemory = ⊤
-IsHelpText other = ⊥
-
--- the words are refused, or there was no memory to say why
-abbrev pub IsRefusal : NoRequest → Type 0
-IsRefusal (Refused text) = ⊤
-IsRefusal NoMemory = ⊤
-IsRefusal other = ⊥
+use Rattle.command_line.specs.declared.no_request.NoRequest.{NoRequest}
+use Rattle.command_line.specs.declared.no_request.NoRequest.TheVariants.{Help, Refused, Meaningless, NoMemory}
 
 -- the words are refused, and standard error says so by a text
 pub record AreWordsRefused (text : List ℕ) (before after : Held) (ended : Status) : Type 0 where

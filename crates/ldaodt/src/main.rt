@@ -1,9 +1,7 @@
 //! The program `ldaodt`: the words of its command line become a request, and how the request ended
-//! becomes the exit status. All that it does stands in `requests` and below; the words that the parser
-//! knows stand in `command_words`.
+//! becomes the exit status. What words ask for stands in `command_line`, all that is done in `requests` and below.
 #![tactic(auto)]
 
-mod command_line;
 mod process_words;
 mod program;
 

@@ -1,14 +1,14 @@
 //! The body of `main`, over any files, lines and streams.
 ghost use Rattle.std.specs.Prelude.{◌≡◌, []};
 ghost use Rattle.std.specs.Mem.{FitsInMemory};
-ghost use Rattle.requests.specs.declared.request.Request.{Request};
+ghost use Rattle.request_values.specs.declared.request.Request.{Request};
 ghost use Rattle.endings.specs.declared.status.Status.{Status};
 ghost use Rattle.endings.specs.Status.{status_code};
 ghost use Rattle.machine_requests.specs.Moment.{moment};
 ghost use Rattle.requests.specs.Attempt.{IsAttempted};
 ghost use Rattle.ldaodt.specs.Answer.{IsAnswered, IsExplained};
 
-use crate::command_line::{NoRequest, parse};
+use command_line::{NoRequest, parse};
 use endings::{Failure, FaultOutput, Output, Status, Streams, refuse, show, tell};
 use input_files::InputFiles;
 use record_file::Disk;

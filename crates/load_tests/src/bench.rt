@@ -11,9 +11,10 @@ use console_reach::Reach;
 use honest_line::MemoryLine;
 use load_devices::{LineFault, Unwatched};
 use load_record::FileKeep;
-use machine_load::{LoadFault, LoadOptions, Outcome, Surroundings, load};
+use machine_load::{LoadFault, Outcome, Surroundings, load};
 use odt_machine::Odt;
 use record_file::{OldRecord, RecordFault};
+use request_values::LoadOptions;
 use std::alloc::Global;
 use tape_image::Plan;
 

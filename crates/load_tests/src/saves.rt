@@ -3,7 +3,8 @@
 use crate::disk_saves::save_on_disk;
 use crate::memory_reach::MemoryReach;
 use crate::rows::new_machine;
-use machine_look::{AddressRange, LookFault, NewFile, SaveEnd, SaveOptions};
+use machine_look::{LookFault, NewFile, SaveEnd, SaveOptions};
+use request_values::AddressRange;
 use std::alloc::Global;
 use std::fs;
 use std::io::ErrorKind;

@@ -10,7 +10,7 @@ use Rattle.load_engine.specs.declared.stop.Stop.{Stop}
 use Rattle.load_engine.specs.declared.stop.Stop.TheVariants.{Ended}
 use Rattle.machine_load.specs.Driving.{KeeperTells, LineTold, IsLived, finish_of}
 use Rattle.machine_load.specs.Load.{Around, IsOpening, IsOverAtOnce, IsNeverBegun, words_taken}
-use Rattle.machine_load.specs.declared.options.LoadOptions.{LoadOptions}
+use Rattle.request_values.specs.declared.options.LoadOptions.{LoadOptions}
 
 abbrev end_of : (otherwise : End) → Option End → End
 end_of otherwise (Some end) = end

@@ -12,7 +12,7 @@ use Rattle.machine_load.specs.LoadReport.{load_report}
 use Rattle.machine_load.specs.Step.{reading}
 use Rattle.machine_load.specs.declared.fault.LoadFault.{LoadFault}
 use Rattle.machine_load.specs.declared.fault.LoadFault.TheVariants.{WriteOutput}
-use Rattle.machine_load.specs.declared.options.LoadOptions.{LoadOptions}
+use Rattle.request_values.specs.declared.options.LoadOptions.{LoadOptions}
 
 -- a life over its line is a life
 pub is_life : {K : Type 0} (tells : KeeperTells K) (writable : Bool) (first : Core) (before after : Around) (finish : Finish)

@@ -11,7 +11,7 @@ use Rattle.machine_load.specs.Load.{Around, Setting, Asks, KeepsRecord, IsLoad}
 use Rattle.machine_load.specs.LoadReport.{load_report}
 use Rattle.machine_load.specs.LoadFault.{IsLoadFault, IsOpeningFault, IsDrivingFault, fault_of_record}
 use Rattle.record_file.specs.RecordFault.{IsUnbegun}
-use Rattle.machine_load.specs.declared.options.LoadOptions.{LoadOptions}
+use Rattle.request_values.specs.declared.options.LoadOptions.{LoadOptions}
 use Rattle.record_file.specs.declared.record_fault.RecordFault.{RecordFault}
 use Rattle.record_file.specs.declared.record_fault.RecordFault.TheVariants as why
 use Rattle.machine_load.specs.declared.fault.LoadFault.{LoadFault}

@@ -20,7 +20,7 @@ use Rattle.byte_io.specs.Output.{WritesAllBut}
 use Rattle.machine_load.specs.Load.{Around, Setting, Asks, IsIdle, IsLoadOf}
 use Rattle.machine_load.specs.LoadReport.{load_report}
 use Rattle.machine_load.specs.Step.{Connected, RecordBegun, RecordGivenBack}
-use Rattle.machine_load.specs.declared.options.LoadOptions.{LoadOptions}
+use Rattle.request_values.specs.declared.options.LoadOptions.{LoadOptions}
 
 -- what a line tells at a moment: what was said on it, how many calls of it failed, and the fault of the last one
 pub record LineTold : Type 0 where

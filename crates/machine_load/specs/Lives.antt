@@ -10,7 +10,7 @@ use Rattle.load_lives.specs.Keepers.{WentOutAt}
 use Rattle.load_lives.specs.Lives.{Life, PassesOver, IsLife, WireAndRecord, last_core}
 use Rattle.machine_load.specs.Driving.{KeeperTells, keeper_tells, Finish, IsLived, IsLoadLived}
 use Rattle.machine_load.specs.Load.{Around}
-use Rattle.machine_load.specs.declared.options.LoadOptions.{LoadOptions}
+use Rattle.request_values.specs.declared.options.LoadOptions.{LoadOptions}
 
 -- what the keeper of a record's file tells, where its writer tells what it holds, and where it held nothing before
 abbrev pub of_file : KeeperTells Keeper

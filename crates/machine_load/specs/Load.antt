@@ -21,7 +21,7 @@ use Rattle.byte_io.specs.Output.{WritesAllBut}
 use Rattle.machine_load.specs.LoadReport.{load_report}
 use Rattle.record_file.specs.OldRecord.{HoldsNoRecord}
 use Rattle.machine_load.specs.Step.{Step, reading, Connected, RecordBegun, RecordGivenBack}
-use Rattle.machine_load.specs.declared.options.LoadOptions.{LoadOptions}
+use Rattle.request_values.specs.declared.options.LoadOptions.{LoadOptions}
 
 -- what the surroundings of a load tell: what was asked of them, with what was answered, and what the record is
 pub record Around : Type 0 where

@@ -9,7 +9,7 @@ use Rattle.load_record.specs.declared.reader.RecordError.TheVariants.{NotARecord
 use Rattle.machine_load.specs.Load.{Around, Setting, Asks, KeepsRecord, IsCutShort}
 use Rattle.record_file.specs.OldRecord.{HoldsNoRecord}
 use Rattle.machine_load.specs.Step.{Step, reading, ReadProtected, Connected, InUse, NotRead, NotConnected, NotBegun, OutOfMemory}
-use Rattle.machine_load.specs.declared.options.LoadOptions.{LoadOptions}
+use Rattle.request_values.specs.declared.options.LoadOptions.{LoadOptions}
 use Rattle.machine_load.specs.declared.fault.LoadFault.{LoadFault}
 use Rattle.machine_load.specs.declared.fault.LoadFault.TheVariants.{ReadRecord, RecordInUse, Record, Connect, WriteRecord, WriteOutput, Memory}
 use Rattle.record_file.specs.declared.record_fault.RecordFault.{RecordFault}

@@ -24,7 +24,6 @@ ghost use Rattle.record_file.specs.OldRecord.{HoldsNoRecord};
 ghost use Rattle.machine_load.specs.Step.{reading};
 
 use crate::fault::LoadFault;
-use crate::options::LoadOptions;
 use crate::outcome::Outcome;
 use crate::report::load_report;
 use crate::surroundings::Surroundings;
@@ -34,6 +33,7 @@ use load_devices::{Keep, Line, MOST_TURNS, Onlooker};
 use load_engine::{Stop, drive};
 use load_record::{RecordError, read_record};
 use record_file::holds_no_record;
+use request_values::LoadOptions;
 use std::alloc::Global;
 use std::io::Write;
 use tape_image::Plan;

@@ -11,7 +11,7 @@ use Rattle.byte_io.specs.Output.{WritesAllBut}
 use Rattle.reading_core.specs.Addresses.{addresses_between}
 use Rattle.reading_core.specs.Reader.{Reader, begun}
 use Rattle.reading_engine.specs.declared.stop.Stop.{Stop}
-use Rattle.machine_look.specs.declared.range.AddressRange.{AddressRange}
+use Rattle.request_values.specs.declared.range.AddressRange.{AddressRange}
 use Rattle.machine_look.specs.declared.save_end.SaveEnd.{SaveEnd}
 use Rattle.machine_look.specs.declared.saving.SaveOptions.{SaveOptions}
 use Rattle.machine_look.specs.declared.shelf.ShelfFault.{ShelfFault}

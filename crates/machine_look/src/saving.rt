@@ -10,7 +10,6 @@ ghost use Rattle.machine_look.specs.ShelfDisk.{ShelfAsked, ShelfAskedIn};
 
 use crate::look_fault::LookFault;
 use crate::looking::look_over;
-use crate::range::AddressRange;
 use crate::save_end::SaveEnd;
 use crate::save_report::{save_end, save_report};
 use crate::saved_tape::tape_of;
@@ -19,6 +18,7 @@ use byte_io::write_and_flush;
 use console_reach::Reach;
 use load_devices::Onlooker;
 use reading_core::ReadingCore;
+use request_values::AddressRange;
 use std::alloc::Global;
 use std::io::Write;
 use tape_blocks::write_tape;

@@ -12,7 +12,7 @@ use Rattle.stream_line.specs.Dialling.{Call, LineRequest}
 use Rattle.tape_image.specs.Plan.{PlanValue}
 use Rattle.endings.specs.declared.failure.Failure.{Failure}
 use Rattle.endings.specs.declared.status.Status.{Status}
-use Rattle.machine_requests.specs.declared.request.Load.{Load}
+use Rattle.request_values.specs.declared.machine.Load.{Load}
 use Rattle.machine_requests.specs.Files.{Known}
 use Rattle.machine_requests.specs.Loading.{IsPlanFailure, IsPlanLoaded, SaidOfDisk}
 

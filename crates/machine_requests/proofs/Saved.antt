@@ -9,7 +9,7 @@ use Rattle.machine_look.specs.declared.save_end.SaveEnd.{SaveEnd}
 use Rattle.endings.specs.declared.failure.Failure.{Failure}
 use Rattle.endings.specs.declared.status.Status.{Status}
 use Rattle.input_files.specs.Opening.{Name}
-use Rattle.machine_requests.specs.declared.request.Save.{Save}
+use Rattle.request_values.specs.declared.machine.Save.{Save}
 use Rattle.machine_requests.specs.Ending.{after_save}
 use Rattle.machine_requests.specs.Errand.{Told}
 use Rattle.machine_requests.specs.Saving.{AsksForTape, IsLetGoAfter, IsSaveFailure, IsSaveOver, options_of, save_told_of}

@@ -9,12 +9,12 @@ use Rattle.machine_load.specs.Load.{Around, IsReported}
 use Rattle.machine_load.specs.LoadFault.{IsLoadFault}
 use Rattle.machine_load.specs.RecordDisk.{FileKnown, IsClosedAfter, RecordDisk, disk_asked_by, disk_asked_before}
 use Rattle.machine_load.specs.declared.fault.LoadFault.{LoadFault}
-use Rattle.machine_load.specs.declared.options.LoadOptions.{LoadOptions}
+use Rattle.request_values.specs.declared.options.LoadOptions.{LoadOptions}
 use Rattle.record_file.specs.DiskStep.{DiskStep, HasAsked}
 use Rattle.endings.specs.declared.failure.Failure.{Failure}
 use Rattle.endings.specs.declared.failure.Failure.TheVariants.{CannotWrite}
 use Rattle.endings.specs.declared.status.Status.{Status}
-use Rattle.machine_requests.specs.declared.request.Load.{Load as LoadRequest}
+use Rattle.request_values.specs.declared.machine.Load.{Load as LoadRequest}
 use Rattle.input_files.specs.Opening.{Name}
 use Rattle.machine_requests.specs.Ending.{IsLoadFailureOf, IsStopFailure, IsStopStatus}
 use Rattle.machine_requests.specs.Errand.{Told, told_towards}

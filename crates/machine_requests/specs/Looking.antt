@@ -9,7 +9,7 @@ use Rattle.machine_look.specs.declared.verify_end.VerifyEnd.{VerifyEnd}
 use Rattle.endings.specs.declared.failure.Failure.{Failure}
 use Rattle.endings.specs.declared.status.Status.{Status}
 use Rattle.machine_requests.specs.Ending.{IsLookFailureOf, after_verify}
-use Rattle.machine_requests.specs.declared.request.Look.{Look}
+use Rattle.request_values.specs.declared.machine.Look.{Look}
 use Rattle.input_files.specs.Opening.{Name}
 use Rattle.machine_requests.specs.Errand.{Told, told_towards}
 use Rattle.machine_requests.specs.Files.{Known, IsPlanned, IsUnplanned}

@@ -9,7 +9,7 @@ use Rattle.machine_probe.specs.declared.probe_options.ProbeOptions.{ProbeOptions
 use Rattle.endings.specs.declared.failure.Failure.{Failure}
 use Rattle.endings.specs.declared.status.Status.{Status}
 use Rattle.machine_requests.specs.Ending.{IsProbeFailureOf, after_probe}
-use Rattle.machine_requests.specs.declared.request.Probe.{Probe}
+use Rattle.request_values.specs.declared.machine.Probe.{Probe}
 use Rattle.machine_requests.specs.Errand.{Told}
 use Rattle.machine_requests.specs.Looking.{console_at}
 use Rattle.machine_requests.specs.Asked.{AsksConsoleAlone}

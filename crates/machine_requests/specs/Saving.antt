@@ -13,7 +13,7 @@ use Rattle.endings.specs.declared.failure.Failure.{Failure}
 use Rattle.endings.specs.declared.status.Status.{Status}
 use Rattle.machine_requests.specs.Ending.{IsLookFailureOf, after_save}
 use Rattle.input_files.specs.Opening.{Name}
-use Rattle.machine_requests.specs.declared.request.Save.{Save}
+use Rattle.request_values.specs.declared.machine.Save.{Save}
 use Rattle.machine_requests.specs.Errand.{Told}
 use Rattle.machine_requests.specs.Looking.{told_at}
 use Rattle.machine_requests.specs.Asked.{NotElsewhere}

@@ -1,4 +1,4 @@
-//! What a person can ask of a real machine, as values, and how it ends.
+//! Doing what a person asks of a real machine.
 //!
 //! `load_tapes`, `verify_tapes`, `save_words` and `probe_console` each do one request in a `System`, which comes
 //! back, and answer the exit status or the `Failure` that names what was at fault; nothing is said on standard
@@ -15,7 +15,6 @@ mod loading;
 mod names;
 mod planning;
 mod probing;
-mod request;
 mod saving;
 mod system;
 mod verifying;
@@ -23,7 +22,6 @@ mod verifying;
 pub use loading::load_tapes;
 pub use names::is_input;
 pub use probing::probe_console;
-pub use request::{Load, Look, Probe, Save};
 pub use saving::save_words;
 pub use system::{Outside, SharedSystem, System};
 pub use verifying::verify_tapes;

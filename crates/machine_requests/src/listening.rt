@@ -4,12 +4,12 @@ ghost use Rattle.machine_load.specs.Load.{IsNeverBegun};
 ghost use Rattle.machine_requests.specs.Listening.{quiet_time, seconds_of, IsHeardInPart, IsHeardOut, IsHeardOutOf, IsListenedTo, IsThisListenedTo};
 ghost use Rattle.machine_requests.specs.Loading.{IsListeningCut};
 
-use crate::request::Load;
 use console_reach::{listen, silences_within};
 use endings::Failure;
 use host_core::End;
 use load_devices::Line;
 use load_engine::Stop;
+use request_values::Load;
 use std::io::Write;
 
 /// Listens behind a load that stopped so, where that is asked for and the program was started or may have

@@ -6,13 +6,13 @@ ghost use Rattle.machine_requests.specs.Asked.{AsksConsoleAlone};
 
 use crate::ending::{after_probe, probe_failure};
 use crate::errand::{Errand, run_at};
-use crate::request::Probe;
 use crate::system::System;
 use console_reach::Reach;
 use endings::{Failure, Status};
 use input_files::InputFiles;
 use machine_probe::{ProbeOptions, probe};
 use record_file::Disk;
+use request_values::Probe;
 use serial_line::DeviceOpening;
 use std::alloc::Global;
 use std::io::Write;

@@ -4,8 +4,8 @@ use Rattle.endings.specs.declared.failure.Failure.{Failure}
 use Rattle.endings.specs.FaultOutput.{StandardError}
 use Rattle.endings.specs.Held.{Held}
 use Rattle.input_files.specs.Opening.{Name}
-use Rattle.requests.specs.declared.request.Request.{Request}
-use Rattle.requests.specs.declared.request.Request.TheVariants.{CheckInput, Check, Dialogue, Rehearse, «Type» as TypeKeys, Load, Verify, Save, Probe}
+use Rattle.request_values.specs.declared.request.Request.{Request}
+use Rattle.request_values.specs.declared.request.Request.TheVariants.{CheckInput, Check, Dialogue, Rehearse, «Type» as TypeKeys, Load, Verify, Save, Probe}
 use Rattle.requests.specs.Attempt.{IsFailed}
 use Rattle.machine_requests.specs.Asked.{Asked}
 use Rattle.machine_requests.specs.Files.{Known, Inputs, FailsUnopened, IsUnplanned, OfTapes}

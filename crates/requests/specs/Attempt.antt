@@ -1,6 +1,6 @@
 -- What becomes of each request: what the files that it names and standard input held decides what is written, the status, and the line
 -- on standard error.
-use Rattle.std.specs.Prelude.{◌≡◌, ◌⊎◌, Bool, true, false}
+use Rattle.std.specs.Prelude.{◌≡◌, ◌⊎◌}
 use Rattle.endings.specs.declared.failure.Failure.{Failure}
 use Rattle.endings.specs.declared.status.Status.{Status}
 use Rattle.endings.specs.declared.status.Status.TheVariants.{Done}
@@ -10,8 +10,9 @@ use Rattle.machine_requests.specs.Looking.{AreVerified, AreUnverified}
 use Rattle.machine_requests.specs.Probing.{IsConsoleProbed, IsConsoleUnprobed}
 use Rattle.machine_requests.specs.Saving.{AreWordsSaved, AreWordsUnsaved}
 use Rattle.machine_requests.specs.Moment.{Moment, intake_at}
-use Rattle.requests.specs.declared.request.Request.{Request}
-use Rattle.requests.specs.declared.request.Request.TheVariants.{CheckInput, Check, Dialogue, Rehearse, «Type» as TypeKeys, Load, Verify, Save, Probe}
+use Rattle.request_values.specs.declared.request.Request.{Request}
+use Rattle.request_values.specs.Request.{only_prints}
+use Rattle.request_values.specs.declared.request.Request.TheVariants.{CheckInput, Check, Dialogue, Rehearse, «Type» as TypeKeys, Load, Verify, Save, Probe}
 use Rattle.requests.specs.Checking.{AreChecked, AreUnchecked, IsInputChecked, IsInputUnchecked}
 use Rattle.requests.specs.Rehearsing.{AreRehearsed, AreUnrehearsed}
 use Rattle.requests.specs.Showing.{AreShown, AreUnshown}
@@ -49,14 +50,6 @@ IsFailed (Probe request) before after failure = IsConsoleUnprobed request before
 pub record IsDoneQuietly (request : Request) (before after : Moment) (status : Status) : Type 0 where
   pub done : IsDone request before after status
   pub quiet : after.held.err ≡ before.held.err
-
--- the request does nothing but print: it is about no machine
-abbrev pub only_prints : Request → Bool
-only_prints (Load names load) = false
-only_prints (Verify names look) = false
-only_prints (Save save) = false
-only_prints (Probe request) = false
-only_prints other = true
 
 -- it failed, standard error tells why where somebody is to hear of it, and the status says so
 pub record IsFailedAloud (request : Request) (before after : Moment) (status : Status) : Type 0 where

@@ -9,7 +9,7 @@ use Rattle.endings.specs.Held.{Held}
 use Rattle.input_files.specs.Opening.{Name}
 use Rattle.machine_requests.specs.Files.{Known, Inputs, AreOpened, OfInputs, FailsUnopened, HasFault, means_input, only_input}
 use Rattle.machine_requests.specs.Moment.{Intake}
-use Rattle.requests.specs.declared.request.Rehearsal.{Rehearsal}
+use Rattle.request_values.specs.declared.request.Rehearsal.{Rehearsal}
 use Rattle.requests.specs.Output.{FailsAtFlush}
 
 -- a script's file held something, and it was rehearsed with the tapes

@@ -9,7 +9,7 @@ use Rattle.endings.specs.Held.{Held}
 use Rattle.input_files.specs.Opening.{Name}
 use Rattle.machine_requests.specs.Files.{Known, Inputs, OfTapes, files_of, FailsUnopened, only_input}
 use Rattle.machine_requests.specs.Moment.{Intake}
-use Rattle.requests.specs.declared.request.Stage.{Stage}
+use Rattle.request_values.specs.declared.request.Stage.{Stage}
 use Rattle.requests.specs.Output.{FailsOver}
 
 -- the load of the tapes of some inputs came to an end, and was shown

@@ -7,7 +7,7 @@ use Rattle.endings.specs.declared.failure.Failure.{Failure}
 use Rattle.endings.specs.declared.failure.Failure.TheVariants.{TooLarge, NoMemory}
 use Rattle.endings.specs.Held.{Held}
 use Rattle.machine_requests.specs.Files.{HasFault}
-use Rattle.requests.specs.declared.request.Console.{Console}
+use Rattle.request_values.specs.declared.request.Console.{Console}
 use Rattle.requests.specs.Output.{FailsAtFlush}
 
 -- the machine that a console types into, before its first key

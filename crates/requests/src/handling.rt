@@ -2,17 +2,18 @@
 ghost use Rattle.std.specs.Prelude.{◌≡◌, IfOk, IfErr, true};
 ghost use Rattle.std.specs.Mem.{FitsInMemory};
 ghost use Rattle.machine_requests.specs.Moment.{moment};
-ghost use Rattle.requests.specs.Attempt.{IsDone, IsFailed, IsAttempted, only_prints};
+ghost use Rattle.requests.specs.Attempt.{IsDone, IsFailed, IsAttempted};
+ghost use Rattle.request_values.specs.Request.{only_prints};
 
 use crate::checking::{check_input, check_tapes};
 use crate::rehearsing::rehearse;
-use crate::request::Request;
 use crate::showing::show_dialogue;
 use crate::typing::type_input;
 use endings::{Failure, FaultOutput, Output, Status, Streams, tell_unless_unheard};
 use input_files::InputFiles;
 use machine_requests::{System, load_tapes, probe_console, save_words, verify_tapes};
 use record_file::Disk;
+use request_values::Request;
 use serial_line::DeviceOpening;
 use std::alloc::Global;
 use std::io::{Print, Read};

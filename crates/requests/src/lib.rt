@@ -1,12 +1,11 @@
-//! What a person can ask of `ldaodt`, as a value, and how it ends.
+//! Doing what a person asks of `ldaodt`, and telling how it ended.
 //!
-//! A `Request` names a command, its files and its options. `attempt` does it in a `System`, and answers the exit
-//! status; where it can't be done, one line on standard error says why, by the name of the file that
-//! was at fault. Each command's own contract stands in its crate: `tape_check`, `console_typing`,
-//! `rehearsals`; what is asked of a real machine in `machine_requests`, and passed on from there. Which status
-//! and which line a failure has stands in `endings`.
+//! `attempt` does a request, as `request_values` has them, in a `System`, and answers the exit status; where it
+//! can't be done, one line on standard error says why, by the name of the file that was at fault. Each command's
+//! own contract stands in its crate: `tape_check`, `console_typing`, `rehearsals`; what is asked of a real machine
+//! in `machine_requests`. Which status and which line a failure has stands in `endings`.
 //!
-//! The program `ldaodt` makes the request of the words of its command line.
+//! The program `ldaodt` has the request from `command_line`, which makes it of words.
 #![tactic(auto)]
 
 mod checking;
@@ -14,10 +13,8 @@ mod handling;
 mod names;
 mod output;
 mod rehearsing;
-mod request;
 mod showing;
 mod typing;
 
 pub use handling::attempt;
-pub use machine_requests::{Load, Look, Outside, Probe, Save, SharedSystem, System};
-pub use request::{Console, Rehearsal, Request, Stage};
+pub use machine_requests::{Outside, SharedSystem, System};

@@ -8,10 +8,10 @@ ghost use Rattle.requests.specs.Rehearsing.{IsInputRehearsed, IsInputUnrehearsed
 
 use crate::names::joined;
 use crate::output::flushed;
-use crate::request::Rehearsal;
 use endings::{Failure, FaultOutput, Output, Status, Streams};
 use input_files::{InputFiles, open, open_with_script};
 use rehearsals::rehearse_to;
+use request_values::Rehearsal;
 use std::alloc::Global;
 use std::io::{Read, Write};
 use std::slice;

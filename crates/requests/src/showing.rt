@@ -6,11 +6,11 @@ ghost use Rattle.machine_requests.specs.Moment.{intake};
 ghost use Rattle.requests.specs.Showing.{AreShown, AreUnshown, IsInputShown, IsInputUnshown, IsShowingFailure, IsShownTo};
 
 use crate::output::flushed;
-use crate::request::Stage;
 use endings::{Failure, FaultOutput, Output, STANDARD_INPUT, Status, Streams};
 use input_files::{InputFiles, open_all};
 use machine_requests::is_input;
 use rehearsals::dialogue_to;
+use request_values::Stage;
 use std::alloc::Global;
 use std::io::{Read, Write};
 use std::slice;

@@ -3,10 +3,10 @@ ghost use Rattle.std.specs.Prelude.{◌≡◌, IfOk, IfErr};
 ghost use Rattle.requests.specs.Typing.{IsTypedThrough, IsTypingFailure};
 
 use crate::output::flushed;
-use crate::request::Console;
 use console_typing::type_to;
 use endings::{Failure, FaultOutput, Output, STANDARD_INPUT, Status, Streams};
 use odt_machine::{Odt, OdtError};
+use request_values::Console;
 use std::alloc::Global;
 use std::io::Read;
 

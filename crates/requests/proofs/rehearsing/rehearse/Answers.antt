@@ -2,7 +2,7 @@ use Rattle.std.proofs.Common.{◌≡◌, ◌∷◌, [], ◌∙◌, List, if◌th
 use Rattle.std.proofs.lemmas.Result.{IfErr-weaker, IfOk-weaker}
 use Rattle.input_files.specs.Opening.{Name}
 use Rattle.machine_requests.specs.Files.{AreOpened, IsUnopened, means_input}
-use Rattle.requests.specs.declared.request.Rehearsal.{Rehearsal}
+use Rattle.request_values.specs.declared.request.Rehearsal.{Rehearsal}
 use Rattle.requests.specs.Rehearsing.{opened_files, rehearsed_files, rehearsed_tapes}
 use Rattle.requests.proofs.rehearsing.rehearse.Goals as goal
 

@@ -26,7 +26,7 @@ impl AddressRange {
     }
 
     /// The first address.
-    pub(crate) fn from(self) -> u16
+    pub fn from(self) -> u16
         ensures value { result ≡ self.from }
         ensures in_order { IsRange self.from self.to }
     {
@@ -34,7 +34,7 @@ impl AddressRange {
     }
 
     /// The last address.
-    pub(crate) fn to(self) -> u16
+    pub fn to(self) -> u16
         ensures value { result ≡ self.to }
         ensures in_order { IsRange self.from self.to }
     {

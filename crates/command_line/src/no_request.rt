@@ -1,9 +1,9 @@
 //! Why words ask for nothing that could be done.
 ghost use Rattle.std.specs.Prelude.{◌≡◌, ◌≢◌};
 ghost use Rattle.clap.specs.Values.{kind_of};
-ghost use Rattle.ldaodt.specs.Answer.{IsHelp, IsHelpText, IsRefusal};
+ghost use Rattle.command_line.specs.Refusal.{IsHelp, IsHelpText, IsRefusal};
 
-use super::refusals;
+use crate::refusals;
 use clap::Error;
 use clap::error::ErrorKind;
 use std::alloc::{AllocError, Global};
@@ -25,7 +25,7 @@ pub enum NoRequest {
 }
 
 impl From<AllocError> for NoRequest {
-    ghost use Rattle.ldaodt.specs.declared.command_line.no_request.NoRequest.TheVariants.{NoMemory};
+    ghost use Rattle.command_line.specs.declared.no_request.NoRequest.TheVariants.{NoMemory};
 
     ghost from_gives = { λ _ answer. answer ≡ NoMemory };
 

@@ -1,4 +1,4 @@
-use machine_requests::{Load, Look, Probe, Save};
+use crate::machine::{Load, Look, Probe, Save};
 use odt_machine::Style;
 use tape_image::Start;
 
@@ -38,10 +38,10 @@ pub enum Request<'a> {
 
 impl Request<'_> {
     ghost use Rattle.std.specs.Prelude.{◌≡◌};
-    ghost use Rattle.requests.specs.Attempt.{only_prints};
+    ghost use Rattle.request_values.specs.Request.{only_prints};
 
     /// Whether it does nothing but print: it is about no machine.
-    pub(crate) fn only_prints(&self) -> bool
+    pub fn only_prints(&self) -> bool
         ensures { result ≡ only_prints self.now }
     {
         match self {

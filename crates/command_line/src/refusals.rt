@@ -1,7 +1,7 @@
 //! What is said of words that are refused.
-ghost use Rattle.ldaodt.specs.Answer.{IsRefusal};
+ghost use Rattle.command_line.specs.Refusal.{IsRefusal};
 
-use super::no_request::NoRequest;
+use crate::no_request::NoRequest;
 use clap::Error;
 use clap::error::ErrorKind;
 use std::alloc::{AllocError, Global};

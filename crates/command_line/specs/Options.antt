@@ -7,19 +7,19 @@ use Rattle.clap.specs.Matches.{first_value, matched_of, one_text, raw_values}
 use Rattle.clap.specs.declared.parser.matches.Found.{Found}
 use Rattle.tape_image.specs.declared.start.Start.{Start}
 use Rattle.tape_image.specs.declared.start.Start.TheVariants.{OfTape, At, Nowhere}
-use Rattle.machine_look.specs.declared.range.AddressRange.{AddressRange}
+use Rattle.request_values.specs.declared.range.AddressRange.{AddressRange}
 use Rattle.odt_machine.specs.Machine.{largest_words}
 use Rattle.odt_machine.specs.Style.{style_number}
-use Rattle.requests.specs.declared.request.Console.{Console}
-use Rattle.machine_requests.specs.declared.request.Load.{Load}
-use Rattle.machine_requests.specs.declared.request.Look.{Look}
-use Rattle.machine_requests.specs.declared.request.Probe.{Probe}
-use Rattle.requests.specs.declared.request.Rehearsal.{Rehearsal}
-use Rattle.requests.specs.declared.request.Request.{Request}
-use Rattle.requests.specs.declared.request.Request.TheVariants.{CheckInput, Check, Dialogue, Rehearse, «Type» as TypeKeys}
-use Rattle.requests.specs.declared.request.Request.TheVariants.{Load as Loads, Verify, Save as Saves, Probe as Probes}
-use Rattle.machine_requests.specs.declared.request.Save.{Save}
-use Rattle.ldaodt.specs.Addresses.{IsEvenText, IsOctalText, IsWordText}
+use Rattle.request_values.specs.declared.request.Console.{Console}
+use Rattle.request_values.specs.declared.machine.Load.{Load}
+use Rattle.request_values.specs.declared.machine.Look.{Look}
+use Rattle.request_values.specs.declared.machine.Probe.{Probe}
+use Rattle.request_values.specs.declared.request.Rehearsal.{Rehearsal}
+use Rattle.request_values.specs.declared.request.Request.{Request}
+use Rattle.request_values.specs.declared.request.Request.TheVariants.{CheckInput, Check, Dialogue, Rehearse, «Type» as TypeKeys}
+use Rattle.request_values.specs.declared.request.Request.TheVariants.{Load as Loads, Verify, Save as Saves, Probe as Probes}
+use Rattle.request_values.specs.declared.machine.Save.{Save}
+use Rattle.command_line.specs.Addresses.{IsEvenText, IsOctalText, IsWordText}
 
 -- the decimal number that a text is
 abbrev pub number_in : List ℕ → ℕ

@@ -1,5 +1,5 @@
 use Rattle.std.proofs.Common.{rules}
-use Rattle.machine_look.proofs.range.AddressRange.new.Goals as goal
+use Rattle.request_values.proofs.range.AddressRange.new.Goals as goal
 
 pub invariant_of-result : goal.invariant_of-result
 invariant_of-result c = search rules

@@ -1,7 +1,14 @@
 //! The command line: which words ask for what.
+//!
+//! `parse` makes of the words after the program's name a `Request`, or says why they ask for nothing: help was
+//! asked for, or they are refused, by the text that is to be shown. Without any words the input is to be checked,
+//! and only then; in the contracts below it each request is what the command's arguments and options say, with the
+//! plain value where one is not given. Which words there are stands in `command_words`.
+#![tactic(auto)]
+
 ghost use Rattle.std.specs.Prelude.{◌≡◌, ◌≢◌, [], IfOk};
 ghost use Rattle.clap.specs.Matches.{found_of};
-ghost use Rattle.ldaodt.specs.Options.{SaysLoad, IsLookOf, IsRequestOf};
+ghost use Rattle.command_line.specs.Options.{SaysLoad, IsLookOf, IsRequestOf};
 
 mod addresses;
 mod no_request;
@@ -13,9 +20,8 @@ use addresses::{probed_of, range_of, saved_start_of, start_of};
 use clap::ArgMatches;
 use command_words::known_words;
 use command_words::names::{FILE, LISTEN, PATIENCE, QUIET, RECHECK, RECORD, SCRIPT, TAPE};
-use machine_load::LoadOptions;
-pub(crate) use no_request::NoRequest;
-use requests::{Load, Look, Probe, Rehearsal, Request, Save, Stage};
+pub use no_request::NoRequest;
+use request_values::{Load, LoadOptions, Look, Probe, Rehearsal, Request, Save, Stage};
 use shown_words::{have_control, shown_words};
 use std::alloc::Global;
 use values::{console_of, further_tapes_of, line_of, number_given, number_of, tapes_of, text_of};
@@ -27,7 +33,7 @@ const PLAIN_PATIENCE: u16 = 8;
 const PLAIN_QUIET: u16 = 2000;
 
 /// Reads the words after the program's name. Without any the tape on standard input is to be checked.
-pub(crate) fn parse<'a>(alloc: Global, words: &'a [String]) -> Result<Request<'a>, NoRequest>
+pub fn parse<'a>(alloc: Global, words: &'a [String]) -> Result<Request<'a>, NoRequest>
     ensures none { words.now ≡ [] → result ≡ Ok Request.CheckInput }
     ensures some { IfOk result (λ request. request ≡ Request.CheckInput → words.now ≡ []) }
 {

@@ -1,8 +1,8 @@
 //! What may be asked of a real machine.
 ghost use Rattle.reading_core.specs.Addresses.{IsAddress};
 
-use machine_load::LoadOptions;
-use machine_look::AddressRange;
+use crate::options::LoadOptions;
+use crate::range::AddressRange;
 use tape_image::Start;
 
 /// A load into a real machine.

@@ -3,16 +3,16 @@ ghost use Rattle.std.specs.Prelude.{◌≤◌, ◌-◌, ◌++◌, length, replic
 ghost use Rattle.octal.specs.Octal.{IsOct6};
 ghost use Rattle.reading_core.specs.Addresses.{IsAddress};
 ghost use Rattle.clap.specs.Matches.{found_of, first_value};
-ghost use Rattle.ldaodt.specs.Addresses.{IsEvenText, IsOctalText, IsWordText};
-ghost use Rattle.ldaodt.specs.Options.{IsProbedWord, IsRangeOf, IsSavedStart, IsStartOf};
+ghost use Rattle.command_line.specs.Addresses.{IsEvenText, IsOctalText, IsWordText};
+ghost use Rattle.command_line.specs.Options.{IsProbedWord, IsRangeOf, IsSavedStart, IsStartOf};
 
-use super::no_request::NoRequest;
-use super::refusals::invalid_value;
-use super::values::text_of;
+use crate::no_request::NoRequest;
+use crate::refusals::invalid_value;
+use crate::values::text_of;
 use clap::ArgMatches;
 use command_words::names::{ADDRESS, FROM, NO_START, START, TO};
-use machine_look::AddressRange;
 use octal::read_oct6;
+use request_values::AddressRange;
 use std::alloc::Global;
 use tape_blocks::TOP;
 use tape_image::Start;

@@ -1,7 +1,7 @@
 use Rattle.std.proofs.Common.{rules, arith, ℕ, ◌≡◌, ◌≤◌, ◌-◌, ◌++◌, length, replicate, ap, ◌∙◌}
 use borrow.Rule.Slice.PartMut.{put_mid}
-use Rattle.ldaodt.proofs.Filled.{filled, read_whole}
-use Rattle.ldaodt.proofs.command_line.addresses.octal.Goals as goal
+use Rattle.command_line.proofs.Filled.{filled, read_whole}
+use Rattle.command_line.proofs.addresses.octal.Goals as goal
 
 pub returns-clause-value : goal.returns-clause-value
 returns-clause-value c =

@@ -2,15 +2,15 @@
 ghost use Rattle.std.specs.Prelude.{◌≡◌, ◌++◌, Some, IfOk, codes, map};
 ghost use Rattle.odt_machine.specs.Style.{style_number};
 ghost use Rattle.clap.specs.Matches.{first_value, found_of};
-ghost use Rattle.ldaodt.specs.Options.{NamesTapes, IsConsoleOf, IsNumberGiven, IsNumberOf, more_in};
+ghost use Rattle.command_line.specs.Options.{NamesTapes, IsConsoleOf, IsNumberGiven, IsNumberOf, more_in};
 
-use super::no_request::NoRequest;
-use super::refusals::invalid_value;
+use crate::no_request::NoRequest;
+use crate::refusals::invalid_value;
 use clap::ArgMatches;
 use command_words::names::{LINE, MORE, STYLE, TAPE, WORDS};
 use console_reach::is_path;
 use odt_machine::{LARGEST_WORDS, PLAIN_STYLE, Style};
-use requests::Console;
+use request_values::Console;
 use std::alloc::{AllocError, Global};
 
 // Why a word is no line.

@@ -1,0 +1,19 @@
+//! What a person can ask of `ldaodt`, as values.
+//!
+//! A `Request` names a command, its files and its options. Those at a real machine are a `Load`, a `Look`, a
+//! `Save` and a `Probe`; a `Console` is a simulated one. A value that can't be meant can't be had where a type can
+//! say so: an `AddressRange` is two addresses of words in their order, and a probe's address is one of memory.
+//!
+//! `command_line` makes them of words, `requests` and `machine_requests` do what they ask, and of these the
+//! crates of the commands take their parts: so it stands below all of them.
+#![tactic(auto)]
+
+mod machine;
+mod options;
+mod range;
+mod request;
+
+pub use machine::{Load, Look, Probe, Save};
+pub use options::LoadOptions;
+pub use range::AddressRange;
+pub use request::{Console, Rehearsal, Request, Stage};

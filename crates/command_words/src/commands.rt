@@ -1,151 +1,144 @@
-//! The commands, as the parser is told of them.
+//! The commands, and how the parser is told of them.
 
-use crate::names::{FILE, FROM, LINE, SCRIPT, TO};
-use crate::options::{
-    address_option, argument, listen_option, more_argument, no_start_option, patience_option,
-    quiet_option, recheck_option, record_option, saved_start_option, start_option, style_option,
-    tape_argument, words_option,
+use crate::arguments::{
+    ADDRESS, Argument, FILE, FROM, LINE, LISTEN, MORE, NO_START, PATIENCE, QUIET, RECHECK, RECORD,
+    SAVED_START, SCRIPT, START, STYLE, TAPE, TO, WORDS,
 };
 use crate::texts;
-use clap::{Arg, Command};
+use clap::Command;
 use std::alloc::{AllocError, Global};
-
-// Where the console is.
-const LINE_HELP: &str =
-    "Where the console is: HOST:PORT, or the path of a serial\ndevice, which has a '/'";
 
 /// All words that the program knows, for the parser. An error comes where memory is wanting.
 pub fn known_words<'a>(alloc: Global) -> Result<Command<'a>, AllocError> {
-    let about = "Loads a PDP-11 absolute loader tape through the console ODT of an LSI-11";
-    command(alloc, "ldaodt", about, texts::PROGRAM)
+    let mut known = program(alloc)?;
+    for name in COMMANDS {
+        known = known.subcommand(name.told(alloc)?)?;
+    }
+    Ok(known)
+}
+
+// The program, but for its commands.
+fn program<'a>(alloc: Global) -> Result<Command<'a>, AllocError> {
+    Command::new(alloc, "ldaodt")
+        .about("Loads a PDP-11 absolute loader tape through the console ODT of an LSI-11")
+        .after_help(texts::PROGRAM)
         .no_binary_name(true)
         .version("0.1.0")
         .override_usage("ldaodt [COMMAND]")
         .subcommand_required(true)
-        .bin_name("ldaodt")?
-        .subcommands(machine_commands(alloc)?)?
-        .subcommands(tape_commands(alloc)?)
+        .bin_name("ldaodt")
 }
 
-// What the program can be asked to do at a machine.
-fn machine_commands<'a>(alloc: Global) -> Result<Vec<Command<'a>>, AllocError> {
-    let mut commands = Vec::new(alloc);
-    commands.push(load_command(alloc)?)?;
-    commands.push(verify_command(alloc)?)?;
-    commands.push(save_command(alloc)?)?;
-    commands.push(probe_command(alloc)?)?;
-    Ok(commands)
+// The commands, as help lists them: first what is done at a machine, and then what is done without one.
+const COMMANDS: [CommandName; 8] = [
+    CommandName::Load,
+    CommandName::Verify,
+    CommandName::Save,
+    CommandName::Probe,
+    CommandName::Check,
+    CommandName::Dialogue,
+    CommandName::Rehearse,
+    CommandName::Type,
+];
+
+#[derive(Clone, Copy)]
+enum CommandName {
+    Load,
+    Verify,
+    Save,
+    Probe,
+    Check,
+    Dialogue,
+    Rehearse,
+    Type,
 }
 
-// And without one.
-fn tape_commands<'a>(alloc: Global) -> Result<Vec<Command<'a>>, AllocError> {
-    let mut commands = Vec::new(alloc);
-    commands.push(check_command(alloc)?)?;
-    commands.push(dialogue_command(alloc)?)?;
-    commands.push(rehearse_command(alloc)?)?;
-    commands.push(type_command(alloc)?)?;
-    Ok(commands)
+impl CommandName {
+    // The command, as the parser is told.
+    fn told<'a>(self, alloc: Global) -> Result<Command<'a>, AllocError> {
+        let word: &'a str = self.word();
+        let mut command = Command::new(alloc, word)
+            .about(self.about())
+            .after_help(self.below());
+        for argument in self.arguments() {
+            command = command.arg(argument.told(alloc)?)?;
+        }
+        Ok(command)
+    }
+
+    // What is typed.
+    fn word(self) -> &'static str {
+        match self {
+            CommandName::Load => "load",
+            CommandName::Verify => "verify",
+            CommandName::Save => "save",
+            CommandName::Probe => "probe",
+            CommandName::Check => "check",
+            CommandName::Dialogue => "dialogue",
+            CommandName::Rehearse => "rehearse",
+            CommandName::Type => "type",
+        }
+    }
+
+    // What the list of commands says of it.
+    fn about(self) -> &'static str {
+        match self {
+            CommandName::Load => "Loads a machine at a serial device or behind a port",
+            CommandName::Verify => {
+                "Looks whether a machine holds what tapes say, and changes nothing"
+            }
+            CommandName::Save => "Saves words of a machine as a tape, and changes nothing",
+            CommandName::Probe => "Finds out what console is there, and whether it may be trusted",
+            CommandName::Check => "Checks tapes and lists the words that they make together",
+            CommandName::Dialogue => "Loads a simulated machine and shows all that passes",
+            CommandName::Rehearse => "Loads a simulated machine over a line that loses characters",
+            CommandName::Type => "Types standard input into a simulated console, which answers",
+        }
+    }
+
+    // What help says behind its options.
+    fn below(self) -> &'static str {
+        match self {
+            CommandName::Load => texts::LOAD,
+            CommandName::Verify => texts::VERIFY,
+            CommandName::Save => texts::SAVE,
+            CommandName::Probe => texts::PROBE,
+            CommandName::Check => texts::CHECK,
+            CommandName::Dialogue => texts::DIALOGUE,
+            CommandName::Rehearse => texts::REHEARSE,
+            CommandName::Type => texts::TYPE,
+        }
+    }
+
+    // Its arguments and options, as help lists them.
+    fn arguments(self) -> &'static [Argument] {
+        match self {
+            CommandName::Load => &LOAD,
+            CommandName::Verify => &VERIFY,
+            CommandName::Save => &SAVE,
+            CommandName::Probe => &PROBE,
+            CommandName::Check => &CHECK,
+            CommandName::Dialogue => &DIALOGUE,
+            CommandName::Rehearse => &REHEARSE,
+            CommandName::Type => &TYPE,
+        }
+    }
 }
 
-fn load_command<'a>(alloc: Global) -> Result<Command<'a>, AllocError> {
-    let about = "Loads a machine at a serial device or behind a port";
-    let recheck = recheck_option(alloc)?;
-    let no_start = no_start_option(alloc)?;
-    let arguments = vec![in alloc;
-        tape_argument(alloc),
-        argument(alloc, LINE, LINE_HELP),
-        more_argument(alloc),
-        record_option(alloc),
-        recheck,
-        start_option(alloc),
-        no_start,
-        listen_option(alloc),
-    ]?;
-    machine_command(alloc, "load", about, texts::LOAD, arguments)
-}
+static LOAD: [Argument; 10] = [
+    TAPE, LINE, MORE, RECORD, RECHECK, START, NO_START, LISTEN, PATIENCE, QUIET,
+];
 
-fn verify_command<'a>(alloc: Global) -> Result<Command<'a>, AllocError> {
-    let about = "Looks whether a machine holds what tapes say, and changes nothing";
-    let arguments = vec![in alloc;
-        tape_argument(alloc),
-        argument(alloc, LINE, LINE_HELP),
-        more_argument(alloc),
-    ]?;
-    machine_command(alloc, "verify", about, texts::VERIFY, arguments)
-}
+static VERIFY: [Argument; 5] = [TAPE, LINE, MORE, PATIENCE, QUIET];
 
-fn save_command<'a>(alloc: Global) -> Result<Command<'a>, AllocError> {
-    let about = "Saves words of a machine as a tape, and changes nothing";
-    let from = "The first word's address: octal, even, below 160000";
-    let arguments = vec![in alloc;
-        argument(alloc, FILE, "The new tape's file, which is not there yet"),
-        argument(alloc, LINE, LINE_HELP),
-        argument(alloc, FROM, from),
-        argument(alloc, TO, "The last word's address, not below the first"),
-        saved_start_option(alloc),
-    ]?;
-    machine_command(alloc, "save", about, texts::SAVE, arguments)
-}
+static SAVE: [Argument; 7] = [FILE, LINE, FROM, TO, SAVED_START, PATIENCE, QUIET];
 
-fn probe_command<'a>(alloc: Global) -> Result<Command<'a>, AllocError> {
-    let about = "Finds out what console is there, and whether it may be trusted";
-    let arguments = vec![in alloc; argument(alloc, LINE, LINE_HELP), address_option(alloc)]?;
-    machine_command(alloc, "probe", about, texts::PROBE, arguments)
-}
+static PROBE: [Argument; 4] = [LINE, ADDRESS, PATIENCE, QUIET];
 
-fn check_command<'a>(alloc: Global) -> Result<Command<'a>, AllocError> {
-    let about = "Checks tapes and lists the words that they make together";
-    command(alloc, "check", about, texts::CHECK).args(vec![in alloc;
-        tape_argument(alloc),
-        more_argument(alloc),
-    ]?)
-}
+static CHECK: [Argument; 2] = [TAPE, MORE];
 
-fn dialogue_command<'a>(alloc: Global) -> Result<Command<'a>, AllocError> {
-    let about = "Loads a simulated machine and shows all that passes";
-    let no_start = no_start_option(alloc)?;
-    command(alloc, "dialogue", about, texts::DIALOGUE).args(vec![in alloc;
-        tape_argument(alloc),
-        more_argument(alloc),
-        start_option(alloc),
-        no_start,
-        words_option(alloc),
-        style_option(alloc),
-    ]?)
-}
+static DIALOGUE: [Argument; 6] = [TAPE, MORE, START, NO_START, WORDS, STYLE];
 
-fn rehearse_command<'a>(alloc: Global) -> Result<Command<'a>, AllocError> {
-    let about = "Loads a simulated machine over a line that loses characters";
-    command(alloc, "rehearse", about, texts::REHEARSE).args(vec![in alloc;
-        tape_argument(alloc),
-        argument(alloc, SCRIPT, "The script's file"),
-        more_argument(alloc),
-    ]?)
-}
+static REHEARSE: [Argument; 3] = [TAPE, SCRIPT, MORE];
 
-fn type_command<'a>(alloc: Global) -> Result<Command<'a>, AllocError> {
-    let about = "Types standard input into a simulated console, which answers";
-    command(alloc, "type", about, texts::TYPE).args(vec![in alloc;
-        words_option(alloc),
-        style_option(alloc),
-    ]?)
-}
-
-// A command of this name, with what it is about and what stands below its options.
-fn command<'a>(alloc: Global, name: &'a str, about: &'a str, below: &'a str) -> Command<'a> {
-    Command::new(alloc, name).about(about).after_help(below)
-}
-
-// A command that meets a machine: it has these arguments, and the options that say when to give up.
-fn machine_command<'a>(
-    alloc: Global,
-    name: &'a str,
-    about: &'a str,
-    below: &'a str,
-    arguments: Vec<Arg<'a>>,
-) -> Result<Command<'a>, AllocError> {
-    command(alloc, name, about, below).args(arguments)?.args(vec![in alloc;
-        patience_option(alloc),
-        quiet_option(alloc),
-    ]?)
-}
+static TYPE: [Argument; 2] = [WORDS, STYLE];

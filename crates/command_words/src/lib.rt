@@ -3,9 +3,9 @@
 //! crate over `clap`. It states nothing: what help prints is tested from outside.
 #![tactic(auto)]
 
+mod arguments;
 mod commands;
 pub mod names;
-mod options;
 mod texts;
 
 pub use commands::known_words;

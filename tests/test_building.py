@@ -43,6 +43,9 @@ with open(os.environ["NOTES"], "a") as notes:
     notes.write(json.dumps({**seen, "began": began, "ended": time.monotonic()}) + "\\n")
 """
 
+# As much code as is divided among several processors.
+CODE = "fn right() {}\n" * 400
+
 LIST = """# low first
 low: arrayvec
 left: low
@@ -61,7 +64,7 @@ class Building(Case):
         with open(f"{self.top}/crates.txt", "w", encoding="utf-8") as file:
             file.write(LIST)
         for name in ("low", "left", "right", "apart", "top"):
-            self.write(name, "fn right() {}\n" * (3 if name == "left" else 1))
+            self.write(name, CODE * (3 if name == "left" else 1))
         os.mkdir(f"{self.room}/bin")
         os.mkdir(f"{self.room}/copies")
         with open(f"{self.room}/bin/rt", "w", encoding="utf-8") as file:
@@ -115,19 +118,24 @@ class Building(Case):
         self.assertEqual(sorted(notes["right"]["list"].splitlines()), ["low: arrayvec", "right: low itoa"])
 
     def test_the_shorter_its_chain_the_further_back_a_crate_stands(self):
-        self.write("beside", "fn right() {}\n" * 2)
+        self.write("beside", CODE * 2)
         with open(f"{self.top}/crates.txt", "a", encoding="utf-8") as file:
             file.write("beside: low\nover: left right beside\n")
-        self.write("over", "fn right() {}\n")
+        self.write("over", CODE)
         _, notes = self.build("over", "4")
         self.assertEqual({it: notes[it]["words"][2] for it in notes}, {"low": "4", "left": "4", "beside": "1", "right": "1"})
         self.assertEqual({it: notes[it]["nice"] - os.nice(0) for it in notes}, {"low": 0, "left": 0, "beside": min(10, 19 - os.nice(0)), "right": 19 - os.nice(0)})
+
+    def test_a_small_crate_has_one_processor(self):
+        self.write("low", "fn right() {}\n")
+        _, notes = self.build("top", "4")
+        self.assertEqual({it: notes[it]["words"][2] for it in notes}, {"low": "1", "left": "4", "right": "1"})
 
     def test_where_all_processors_are_busy_each_crate_has_one(self):
         with open(f"{self.top}/crates.txt", "a", encoding="utf-8") as file:
             file.write("beside: low\nover: left right beside\n")
         for name in ("beside", "over"):
-            self.write(name, "fn right() {}\n")
+            self.write(name, CODE)
         _, notes = self.build("over", "2")
         self.assertEqual({it: notes[it]["words"][2] for it in notes}, {"low": "2", "left": "1", "beside": "1", "right": "1"})
 
@@ -135,10 +143,10 @@ class Building(Case):
         _, notes = self.build("top", "1")
         self.assertEqual([notes[it]["words"] for it in notes], [["lib", "--jobs", "1"]] * 3)
         for number in range(6):
-            self.write(f"more{number}", "fn right() {}\n")
+            self.write(f"more{number}", CODE)
         with open(f"{self.top}/crates.txt", "a", encoding="utf-8") as file:
             file.write("".join(f"more{number}: low\n" for number in range(6)) + "over: left more0 more1 more2 more3 more4 more5\n")
-        self.write("over", "fn right() {}\n")
+        self.write("over", CODE)
         _, notes = self.build("over", "2")
         at_once = [sum(other["began"] <= it["began"] < other["ended"] for other in notes.values()) for it in notes.values()]
         self.assertEqual(len(notes), 8)
@@ -152,7 +160,7 @@ class Building(Case):
     def test_one_that_is_not_proved(self):
         with open(f"{self.top}/crates.txt", "a", encoding="utf-8") as file:
             file.write("over: top\n")
-        self.write("over", "fn right() {}\n")
+        self.write("over", CODE)
         self.write("left", "fn wrong() {}\n" * 9)
         ran, notes = self.build("over", "1")
         self.assertEqual((ran.returncode, sorted(notes)), (1, ["low", "right"]))

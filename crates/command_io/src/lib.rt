@@ -4,7 +4,7 @@
 //! refusal or failed read, by its number.
 //!
 //! The crates of the commands stand on this one (`tape_check`, `console_typing`, `rehearsals`,
-//! `machine_requests`, `requests`).
+//! `tape_requests`, `machine_requests`).
 #![tactic(auto)]
 
 mod fault;

@@ -1,3 +1,4 @@
 pub mod Addresses
+pub mod Explanation
 pub mod Options
 pub mod Refusal

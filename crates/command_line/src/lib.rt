@@ -3,7 +3,8 @@
 //! `parse` makes of the words after the program's name a `Request`, or says why they ask for nothing: help was
 //! asked for, or they are refused, by the text that is to be shown. Without any words the input is to be checked,
 //! and only then; in the contracts below it each request is what the command's arguments and options say, with the
-//! plain value where one is not given. Which words there are stands in `command_words`.
+//! plain value where one is not given. Which words there are stands in `command_words`. `explain` shows what was
+//! asked for or says what is wrong with the words; `words_of` has the words that the process was started with.
 #![tactic(auto)]
 
 ghost use Rattle.std.specs.Prelude.{◌≡◌, ◌≢◌, [], IfOk};
@@ -11,7 +12,9 @@ ghost use Rattle.clap.specs.Matches.{found_of};
 ghost use Rattle.command_line.specs.Options.{SaysLoad, IsLookOf, IsRequestOf};
 
 mod addresses;
+mod explaining;
 mod no_request;
+mod process_words;
 mod refusals;
 mod shown_words;
 mod values;
@@ -20,7 +23,9 @@ use addresses::{probed_of, range_of, saved_start_of, start_of};
 use clap::ArgMatches;
 use command_words::known_words;
 use command_words::names::{FILE, LISTEN, PATIENCE, QUIET, RECHECK, RECORD, SCRIPT, TAPE};
+pub use explaining::explain;
 pub use no_request::NoRequest;
+pub use process_words::words_of;
 use request_values::{Load, LoadOptions, Look, Probe, Rehearsal, Request, Save, Stage};
 use shown_words::{have_control, shown_words};
 use std::alloc::Global;

@@ -61,7 +61,7 @@ pub(crate) fn run<F: Locks + Devices + Net + Clock>(
     streams.out.clear();
     streams.err.clear();
     let system = SharedSystem::of(system);
-    let (_, status) = attempt(system, alloc, request, &mut streams, NOBODY);
+    let (_, status) = attempt(system, alloc, &request, &mut streams, NOBODY);
     ended.status = status;
     ended.out = streams.out;
     ended.err = streams.err;

@@ -58,7 +58,7 @@ fn is_told_alone<W: Output>(
     };
     let system = System::new(rt, Setting { reads, ..AMPLE });
     let system = SharedSystem::of(&system);
-    let (_, status) = attempt(system, rt.alloc(), request, streams, NOBODY);
+    let (_, status) = attempt(system, rt.alloc(), &request, streams, NOBODY);
     status == Status::DeviceFailed && streams.err.as_slice() == line
 }
 

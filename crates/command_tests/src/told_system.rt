@@ -140,7 +140,7 @@ fn attempt_told<'a, R: Abort>(
     ensures told { Tells system.entry }
 {
     let _ = &system.inputs;
-    attempt(system, alloc, request, streams, NOBODY)
+    attempt(system, alloc, &request, streams, NOBODY)
 }
 
 // A system of which nothing was asked.

@@ -4,7 +4,7 @@
 //! writes what the console answers. The answers are those of the key table, in turn: to all keys
 //! that were read where a read fails, and a front of them where a write does.
 //!
-//! The crate `requests` calls it.
+//! The crate `tape_requests` calls it.
 #![tactic(auto)]
 
 mod type_keys;

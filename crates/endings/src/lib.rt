@@ -5,7 +5,7 @@
 //! nothing to be done are explained: `show` prints help to standard output, `refuse` says on standard
 //! error what is wrong with them. `Streams` are the three standard streams, as one value; an `Output` knows
 //! whether nobody reads it any more, and then nothing is said of what can't be written there. What is said on
-//! a `FaultOutput` is said whole, unless that fails. Used by `machine_requests`, `requests` and `ldaodt`.
+//! a `FaultOutput` is said whole, unless that fails. Used by the crates of requests and by `ldaodt`.
 #![tactic(auto)]
 
 mod explaining;

@@ -1,1 +1,4 @@
+pub mod Errors
+pub mod Tapes
 pub mod Tried
+pub mod Whatever

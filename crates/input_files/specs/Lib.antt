@@ -1,2 +1,4 @@
+pub mod Inputs
+pub mod Intake
 pub mod Opening
 pub mod Source

@@ -1,41 +1,12 @@
 -- What becomes of the words of a command line (this project's own).
-use Rattle.std.specs.Prelude.{◌≡◌, ◌⊎◌, ℕ, List, codes}
-use Rattle.std.specs.String.{string_bytes}
+use Rattle.std.specs.Prelude.{◌≡◌, ◌⊎◌}
 use Rattle.requests.specs.Attempt.{IsAttempted}
 use Rattle.machine_requests.specs.Moment.{Moment}
-use Rattle.endings.specs.Explained.{IsShown}
-use Rattle.endings.specs.Failure.{IsTold}
-use Rattle.endings.specs.FaultOutput.{IsSaid}
-use Rattle.endings.specs.Held.{Held}
-use Rattle.endings.specs.declared.failure.Failure.TheVariants as failure
 use Rattle.request_values.specs.declared.request.Request.{Request}
 use Rattle.request_values.specs.declared.request.Request.TheVariants.{CheckInput}
 use Rattle.endings.specs.declared.status.Status.{Status}
-use Rattle.endings.specs.declared.status.Status.TheVariants as status
 use Rattle.command_line.specs.declared.no_request.NoRequest.{NoRequest}
-use Rattle.command_line.specs.declared.no_request.NoRequest.TheVariants.{Help, Refused, Meaningless, NoMemory}
-
--- the words are refused, and standard error says so by a text
-pub record AreWordsRefused (text : List ℕ) (before after : Held) (ended : Status) : Type 0 where
-  pub status : ended ≡ status.BadCommandLine
-  pub told : IsSaid before.err after.err text
-  pub out : after.out ≡ before.out
-  pub input : after.input ≡ before.input
-
--- memory was wanting, and standard error says so
-pub record IsMemoryWanting (before after : Held) (ended : Status) : Type 0 where
-  pub status : ended ≡ status.NoMemory
-  pub told : IsTold before.err after.err failure.NoMemory
-  pub out : after.out ≡ before.out
-  pub input : after.input ≡ before.input
-
--- words that ask for nothing to be done are explained: a text that was asked for is shown, or the words are refused, or memory was
--- wanting
-abbrev pub IsExplained : NoRequest → Held → Held → Status → Type 0
-IsExplained (Help text) before after ended = IsShown (string_bytes text) before after ended
-IsExplained (Refused text) before after ended = AreWordsRefused (string_bytes text) before after ended
-IsExplained Meaningless before after ended = AreWordsRefused (codes "ldaodt: the command line is not understood\n") before after ended
-IsExplained NoMemory before after ended = IsMemoryWanting before after ended
+use Rattle.command_line.specs.Explanation.{IsExplained}
 
 -- something was asked for and attempted, the check of the input only where there were no words; or the words were explained, and nothing was
 -- asked of the system

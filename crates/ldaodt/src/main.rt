@@ -2,11 +2,10 @@
 //! becomes the exit status. What words ask for stands in `command_line`, all that is done in `requests` and below.
 #![tactic(auto)]
 
-mod process_words;
 mod program;
 
+use command_line::words_of;
 use endings::{PipedOutput, Streams, tell};
-use process_words::words_of;
 use requests::SharedSystem;
 use std::fs;
 use std::fs::File;

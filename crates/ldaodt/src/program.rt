@@ -6,10 +6,10 @@ ghost use Rattle.endings.specs.declared.status.Status.{Status};
 ghost use Rattle.endings.specs.Status.{status_code};
 ghost use Rattle.machine_requests.specs.Moment.{moment};
 ghost use Rattle.requests.specs.Attempt.{IsAttempted};
-ghost use Rattle.ldaodt.specs.Answer.{IsAnswered, IsExplained};
+ghost use Rattle.ldaodt.specs.Answer.{IsAnswered};
 
-use command_line::{NoRequest, parse};
-use endings::{Failure, FaultOutput, Output, Status, Streams, refuse, show, tell};
+use command_line::{explain, parse};
+use endings::{FaultOutput, Output, Streams};
 use input_files::InputFiles;
 use record_file::Disk;
 use requests::{System, attempt};
@@ -18,9 +18,6 @@ use std::alloc::Global;
 use std::io::{Print, Read};
 use std::time::Clock;
 use stream_line::Dialling;
-
-// What is said of words that the parser let pass and that mean nothing.
-const MEANINGLESS: &str = "ldaodt: the command line is not understood\n";
 
 /// Does what the words after the program's name ask for, in a system that comes back, and answers the exit
 /// status.
@@ -57,28 +54,12 @@ pub(crate) fn program<
 {
     match parse(alloc, words) {
         Ok(request) => {
-            let (system, status) = attempt(system, alloc, request, streams, terminal);
+            let (system, status) = attempt(system, alloc, &request, streams, terminal);
             (system, status.code())
         }
         Err(answer) => {
             let status = explain(alloc, answer, streams);
             (system, status.code())
         }
-    }
-}
-
-// Says why there was nothing to do: help, the version, or what is wrong with the words.
-fn explain<R: Read, W: Output, E: FaultOutput>(
-    alloc: Global,
-    answer: NoRequest,
-    streams: &mut Streams<R, W, E>,
-) -> Status
-    ensures { IsExplained answer streams.old streams.new result }
-{
-    match answer {
-        NoRequest::Help(text) => show(alloc, &text, streams),
-        NoRequest::Refused(text) => refuse(&text, &mut streams.err),
-        NoRequest::Meaningless => refuse(MEANINGLESS, &mut streams.err),
-        NoRequest::NoMemory => tell(alloc, Failure::NoMemory, &mut streams.err),
     }
 }

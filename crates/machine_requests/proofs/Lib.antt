@@ -1,4 +1,2 @@
-pub mod Errors
 mod Loaded
 mod Saved
-pub mod Tapes

@@ -13,7 +13,7 @@ use Rattle.tape_image.specs.Plan.{PlanValue}
 use Rattle.endings.specs.declared.failure.Failure.{Failure}
 use Rattle.endings.specs.declared.status.Status.{Status}
 use Rattle.request_values.specs.declared.machine.Load.{Load}
-use Rattle.machine_requests.specs.Files.{Known}
+use Rattle.input_files.specs.Inputs.{Known}
 use Rattle.machine_requests.specs.Loading.{IsPlanFailure, IsPlanLoaded, SaidOfDisk}
 
 -- whether there was a line

@@ -3,7 +3,7 @@ use Rattle.std.specs.Prelude.{ℕ, List, Option}
 use Rattle.console_reach.specs.Console.{ConsoleTold}
 use Rattle.record_file.specs.DiskStep.{DiskStep}
 use Rattle.stream_line.specs.Dialling.{Call, LineRequest}
-use Rattle.machine_requests.specs.Files.{Known}
+use Rattle.input_files.specs.Inputs.{Known}
 use Rattle.machine_requests.specs.Asked.{OutsideAsked, asked_towards, call_to}
 
 -- what a console and an output tell, and what was asked of the disk, where it tells

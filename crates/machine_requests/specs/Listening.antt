@@ -7,7 +7,7 @@ use Rattle.load_devices.specs.declared.item.Item.{Item}
 use Rattle.load_engine.specs.declared.stop.Stop.{Stop}
 use Rattle.load_engine.specs.declared.stop.Stop.TheVariants.{Ended}
 use Rattle.console_reach.specs.Listening.{IsListening, IsCopiedInPart}
-use Rattle.machine_requests.specs.Files.{Known}
+use Rattle.input_files.specs.Inputs.{Known}
 
 -- whether somebody listens behind this end: the program was started, or may have been
 abbrev pub seconds_behind : Option ℕ → End → Option ℕ

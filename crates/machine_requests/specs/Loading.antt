@@ -18,7 +18,8 @@ use Rattle.request_values.specs.declared.machine.Load.{Load as LoadRequest}
 use Rattle.input_files.specs.Opening.{Name}
 use Rattle.machine_requests.specs.Ending.{IsLoadFailureOf, IsStopFailure, IsStopStatus}
 use Rattle.machine_requests.specs.Errand.{Told, told_towards}
-use Rattle.machine_requests.specs.Files.{Known, IsPlanned, IsUnplanned}
+use Rattle.input_files.specs.Inputs.{Known}
+use Rattle.machine_requests.specs.Planning.{IsPlanned, IsUnplanned}
 use Rattle.machine_requests.specs.Asked.{OutsideAsked, NotElsewhere}
 use Rattle.machine_requests.specs.Moment.{Moment, intake_at}
 use Rattle.machine_requests.specs.Listening.{IsListenedTo, IsHeardInPart, seconds_of, quiet_time}

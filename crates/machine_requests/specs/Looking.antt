@@ -12,7 +12,8 @@ use Rattle.machine_requests.specs.Ending.{IsLookFailureOf, after_verify}
 use Rattle.request_values.specs.declared.machine.Look.{Look}
 use Rattle.input_files.specs.Opening.{Name}
 use Rattle.machine_requests.specs.Errand.{Told, told_towards}
-use Rattle.machine_requests.specs.Files.{Known, IsPlanned, IsUnplanned}
+use Rattle.input_files.specs.Inputs.{Known}
+use Rattle.machine_requests.specs.Planning.{IsPlanned, IsUnplanned}
 use Rattle.machine_requests.specs.Asked.{OutsideAsked, AsksConsoleAlone}
 use Rattle.machine_requests.specs.Moment.{Moment, intake_at}
 

@@ -1,7 +1,6 @@
 -- What is known at a moment, before something is done or behind it.
-use Rattle.std.specs.Prelude.{List, Option}
 use Rattle.endings.specs.Held.{Held}
-use Rattle.input_files.specs.Opening.{InputStep}
+use Rattle.input_files.specs.Intake.{Intake, intake}
 use Rattle.machine_requests.specs.Asked.{Asked}
 
 -- what was asked of the system, and what the standard streams hold
@@ -12,15 +11,6 @@ pub record Moment : Type 0 where
 -- the moment at which this was asked and the streams hold this
 abbrev pub moment : Asked → Held → Moment
 moment asked held = record { asked = asked; held = held }
-
--- which input files were opened, where the system tells, and what the standard streams hold
-pub record Intake : Type 0 where
-  pub opened : Option (List InputStep)
-  pub held : Held
-
--- the intake at which these were opened and the streams hold this
-abbrev pub intake : Option (List InputStep) → Held → Intake
-intake opened held = record { opened = opened; held = held }
 
 -- what is known of the intake at a moment
 abbrev pub intake_at : Moment → Intake

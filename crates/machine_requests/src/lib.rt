@@ -4,7 +4,7 @@
 //! back, and answer the exit status or the `Failure` that names what was at fault; nothing is said on standard
 //! error. Their contracts say what is written, and, part by part where the system tells, what was asked of it:
 //! the files that are named, the console that is named and no other, of the disk what the record or the saved
-//! tape takes. The crate `requests` calls them, and shares its relations over what files hold.
+//! tape takes. What is about no machine is done in `tape_requests`.
 #![tactic(auto)]
 
 mod ending;
@@ -12,7 +12,6 @@ mod errand;
 mod host;
 mod listening;
 mod loading;
-mod names;
 mod planning;
 mod probing;
 mod saving;
@@ -20,7 +19,6 @@ mod system;
 mod verifying;
 
 pub use loading::load_tapes;
-pub use names::is_input;
 pub use probing::probe_console;
 pub use saving::save_words;
 pub use system::{Outside, SharedSystem, System};

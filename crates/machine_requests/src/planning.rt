@@ -1,14 +1,13 @@
 //! The plan of tapes.
 ghost use Rattle.std.specs.Prelude.{◌≡◌, ◌⊎◌, IfOk, IfErr};
 ghost use Rattle.std.specs.Mem.{FitsInMemory};
-ghost use Rattle.machine_requests.specs.Files.{inputs_of, only_input, AreOpened, IsUnopened, OfFiles};
-ghost use Rattle.machine_requests.specs.Files.{FailsToPlan, IsPlanned, IsPlanOf, IsUnplanned};
-ghost use Rattle.machine_requests.specs.Moment.{intake};
+ghost use Rattle.input_files.specs.Inputs.{inputs_of, only_input, AreOpened, IsUnopened, OfFiles};
+ghost use Rattle.machine_requests.specs.Planning.{FailsToPlan, IsPlanned, IsPlanOf, IsUnplanned};
+ghost use Rattle.input_files.specs.Intake.{intake};
 
-use crate::names::is_input;
 use command_io::take_tapes;
 use endings::{Failure, FaultOutput, Output, STANDARD_INPUT, Streams};
-use input_files::{InputFiles, open_all};
+use input_files::{InputFiles, is_input, open_all};
 use std::alloc::Global;
 use std::io::Read;
 use std::slice;

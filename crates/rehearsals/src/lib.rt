@@ -6,7 +6,7 @@
 //! nothing, and prints what is typed and answered as it goes, and the report.
 //!
 //! Both move their world only by the calls of `line_world::World`, whose contract is that memory is
-//! safe whatever the line does. The crate `requests` calls both.
+//! safe whatever the line does. The crate `tape_requests` calls both.
 #![tactic(auto)]
 
 mod dialogue;

@@ -1,3 +1,2 @@
-pub mod Kept
-mod OneInput
+mod Printed
 mod Whatever

@@ -3,7 +3,6 @@
 use Rattle.std.specs.Prelude.{◌≡◌, ◌⊎◌}
 use Rattle.endings.specs.declared.failure.Failure.{Failure}
 use Rattle.endings.specs.declared.status.Status.{Status}
-use Rattle.endings.specs.declared.status.Status.TheVariants.{Done}
 use Rattle.endings.specs.Failure.{status_of, is_unheard, IsToldUnless}
 use Rattle.machine_requests.specs.Loading.{AreLoaded, AreUnloaded}
 use Rattle.machine_requests.specs.Looking.{AreVerified, AreUnverified}
@@ -12,11 +11,8 @@ use Rattle.machine_requests.specs.Saving.{AreWordsSaved, AreWordsUnsaved}
 use Rattle.machine_requests.specs.Moment.{Moment, intake_at}
 use Rattle.request_values.specs.declared.request.Request.{Request}
 use Rattle.request_values.specs.Request.{only_prints}
-use Rattle.request_values.specs.declared.request.Request.TheVariants.{CheckInput, Check, Dialogue, Rehearse, «Type» as TypeKeys, Load, Verify, Save, Probe}
-use Rattle.requests.specs.Checking.{AreChecked, AreUnchecked, IsInputChecked, IsInputUnchecked}
-use Rattle.requests.specs.Rehearsing.{AreRehearsed, AreUnrehearsed}
-use Rattle.requests.specs.Showing.{AreShown, AreUnshown}
-use Rattle.requests.specs.Typing.{IsTypedThrough, IsTypingFailure}
+use Rattle.request_values.specs.declared.request.Request.TheVariants.{Load, Verify, Save, Probe}
+use Rattle.tape_requests.specs.Printing.{IsPrinted, IsUnprinted}
 
 -- nothing was asked of disk and consoles
 abbrev pub AsksNobody : Moment → Moment → Type 0
@@ -24,27 +20,19 @@ AsksNobody before after = after.asked.outside ≡ before.asked.outside
 
 -- a request was done, and the program ends so
 abbrev pub IsDone : Request → Moment → Moment → Status → Type 0
-IsDone CheckInput before after status = IsInputChecked before.held after.held status × (after.asked ≡ before.asked)
-IsDone (Check names) before after status = AreChecked names.items (intake_at before) (intake_at after) status × AsksNobody before after
-IsDone (Dialogue names stage) before after status = AreShown names.items stage (intake_at before) (intake_at after) status × AsksNobody before after
-IsDone (Rehearse rehearsal) before after status = AreRehearsed rehearsal (intake_at before) (intake_at after) status × AsksNobody before after
-IsDone (TypeKeys console) before after status = IsTypedThrough console before.held after.held × (status ≡ Done) × (after.asked ≡ before.asked)
 IsDone (Load names load) before after status = AreLoaded names.items load before after status
 IsDone (Verify names look) before after status = AreVerified names.items look before after status
 IsDone (Save save) before after status = AreWordsSaved save before after status
 IsDone (Probe request) before after status = IsConsoleProbed request before after status
+IsDone printing before after status = IsPrinted printing (intake_at before) (intake_at after) status × AsksNobody before after
 
 -- a request failed
 abbrev pub IsFailed : Request → Moment → Moment → Failure → Type 0
-IsFailed CheckInput before after failure = IsInputUnchecked before.held after.held failure × (after.asked ≡ before.asked)
-IsFailed (Check names) before after failure = AreUnchecked names.items (intake_at before) (intake_at after) failure × AsksNobody before after
-IsFailed (Dialogue names stage) before after failure = AreUnshown names.items stage (intake_at before) (intake_at after) failure × AsksNobody before after
-IsFailed (Rehearse rehearsal) before after failure = AreUnrehearsed rehearsal (intake_at before) (intake_at after) failure × AsksNobody before after
-IsFailed (TypeKeys console) before after failure = IsTypingFailure console before.held after.held failure × (after.asked ≡ before.asked)
 IsFailed (Load names load) before after failure = AreUnloaded names.items load before after failure
 IsFailed (Verify names look) before after failure = AreUnverified names.items look before after failure
 IsFailed (Save save) before after failure = AreWordsUnsaved save before after failure
 IsFailed (Probe request) before after failure = IsConsoleUnprobed request before after failure
+IsFailed printing before after failure = IsUnprinted printing (intake_at before) (intake_at after) failure × AsksNobody before after
 
 -- it was done, with this status, and standard error has nothing of it
 pub record IsDoneQuietly (request : Request) (before after : Moment) (status : Status) : Type 0 where

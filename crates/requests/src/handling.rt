@@ -1,14 +1,9 @@
 //! Doing a request, and telling how it ended.
-ghost use Rattle.std.specs.Prelude.{◌≡◌, IfOk, IfErr, true};
+ghost use Rattle.std.specs.Prelude.{◌≡◌, IfOk, IfErr};
 ghost use Rattle.std.specs.Mem.{FitsInMemory};
 ghost use Rattle.machine_requests.specs.Moment.{moment};
 ghost use Rattle.requests.specs.Attempt.{IsDone, IsFailed, IsAttempted};
-ghost use Rattle.request_values.specs.Request.{only_prints};
 
-use crate::checking::{check_input, check_tapes};
-use crate::rehearsing::rehearse;
-use crate::showing::show_dialogue;
-use crate::typing::type_input;
 use endings::{Failure, FaultOutput, Output, Status, Streams, tell_unless_unheard};
 use input_files::InputFiles;
 use machine_requests::{System, load_tapes, probe_console, save_words, verify_tapes};
@@ -19,6 +14,7 @@ use std::alloc::Global;
 use std::io::{Print, Read};
 use std::time::Clock;
 use stream_line::Dialling;
+use tape_requests::print_answer;
 
 /// Does a request in a system, which comes back, and answers the exit status, or tells why not, with the
 /// status that says so.
@@ -45,12 +41,12 @@ pub fn attempt<
 >(
     system: System<'c, F, D, N, V, C>,
     alloc: Global,
-    request: Request<'_>,
+    request: &Request<'_>,
     streams: &mut Streams<R, W, E>,
     terminal: Option<&T>,
 ) -> (System<'c, F, D, N, V, C>, Status)
     requires { FitsInMemory R.row }
-    ensures { IsAttempted request.entry (moment system.entry streams.old) (moment result.0 streams.new) result.1 }
+    ensures { IsAttempted request.now (moment system.entry streams.old) (moment result.0 streams.new) result.1 }
 {
     let only_prints = request.only_prints();
     let (system, outcome) = perform(system, alloc, request, streams, terminal);
@@ -80,67 +76,27 @@ fn perform<
     E: FaultOutput,
     T: Print,
 >(
-    system: System<'c, F, D, N, V, C>,
+    mut system: System<'c, F, D, N, V, C>,
     alloc: Global,
-    request: Request<'a>,
+    request: &Request<'a>,
     streams: &mut Streams<R, W, E>,
     terminal: Option<&T>,
 ) -> (System<'c, F, D, N, V, C>, Result<Status, Failure<'a>>)
     requires { FitsInMemory R.row }
-    ensures ok { IfOk result.1 (IsDone request.entry (moment system.entry streams.old) (moment result.0 streams.new)) }
-    ensures err { IfErr result.1 (IsFailed request.entry (moment system.entry streams.old) (moment result.0 streams.new)) }
+    ensures ok { IfOk result.1 (IsDone request.now (moment system.entry streams.old) (moment result.0 streams.new)) }
+    ensures err { IfErr result.1 (IsFailed request.now (moment system.entry streams.old) (moment result.0 streams.new)) }
     ensures quiet { streams.new.err ≡ streams.old.err }
 {
     match request {
-        Request::Load(names, load) => load_tapes(system, alloc, &names, load, streams, terminal),
+        Request::Load(names, load) => load_tapes(system, alloc, names, *load, streams, terminal),
         Request::Verify(names, look) => {
-            verify_tapes(system, alloc, &names, look, streams, terminal)
+            verify_tapes(system, alloc, names, *look, streams, terminal)
         }
-        Request::Save(save) => save_words(system, alloc, save, &mut streams.out, terminal),
-        Request::Probe(request) => probe_console(system, alloc, request, &mut streams.out),
-        printing => print(system, alloc, printing, streams),
-    }
-}
-
-// Does a request that is about no machine: one function for all took the prover much longer than these two.
-fn print<
-    'a,
-    'c,
-    F: InputFiles + Drop,
-    D: Disk + Drop,
-    N: Dialling + Drop,
-    V: DeviceOpening + Drop,
-    C: Clock,
-    R: Read,
-    W: Output,
-    E: FaultOutput,
->(
-    mut system: System<'c, F, D, N, V, C>,
-    alloc: Global,
-    request: Request<'a>,
-    streams: &mut Streams<R, W, E>,
-) -> (System<'c, F, D, N, V, C>, Result<Status, Failure<'a>>)
-    requires fits { FitsInMemory R.row }
-    requires prints { only_prints request ≡ true }
-    ensures ok { IfOk result.1 (IsDone request.entry (moment system.entry streams.old) (moment result.0 streams.new)) }
-    ensures err { IfErr result.1 (IsFailed request.entry (moment system.entry streams.old) (moment result.0 streams.new)) }
-    ensures quiet { streams.new.err ≡ streams.old.err }
-{
-    match request {
-        Request::CheckInput => (system, check_input(alloc, streams)),
-        Request::Check(names) => {
-            let outcome = check_tapes(&mut system.inputs, alloc, &names, streams);
+        Request::Save(save) => save_words(system, alloc, *save, &mut streams.out, terminal),
+        Request::Probe(probe) => probe_console(system, alloc, *probe, &mut streams.out),
+        printing => {
+            let outcome = print_answer(&mut system.inputs, alloc, printing, streams);
             (system, outcome)
         }
-        Request::Dialogue(names, stage) => {
-            let outcome = show_dialogue(&mut system.inputs, alloc, &names, stage, streams);
-            (system, outcome)
-        }
-        Request::Rehearse(rehearsal) => {
-            let outcome = rehearse(&mut system.inputs, alloc, &rehearsal, streams);
-            (system, outcome)
-        }
-        Request::Type(console) => (system, type_input(alloc, console, streams)),
-        _ => unreachable!(),
     }
 }

@@ -6,7 +6,7 @@
 //!     001000 177777 011064      address, mask, value
 //!
 //! What it writes is exactly the check text of the tapes, and every refusal comes before the first
-//! byte of it. The crate `requests` calls it.
+//! byte of it. The crate `tape_requests` calls it.
 #![tactic(auto)]
 
 mod check;

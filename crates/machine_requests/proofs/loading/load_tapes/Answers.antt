@@ -2,9 +2,9 @@ use Rattle.std.proofs.Common.{◌∙◌, inl, inr, refl, ap, sym, subst}
 use Rattle.std.proofs.lemmas.Result.{IfOk-weaker, IfErr-weaker}
 use Rattle.tape_image.specs.Plan.{starting}
 use Rattle.endings.specs.Held.{Held}
-use Rattle.machine_requests.specs.Files.{IsPlanned}
+use Rattle.machine_requests.specs.Planning.{IsPlanned}
 use Rattle.machine_requests.specs.Loading.{IsLoadDone, IsLoadFailure, told_for}
-use Rattle.machine_requests.specs.Moment.{intake}
+use Rattle.input_files.specs.Intake.{intake}
 use Rattle.machine_requests.proofs.loading.load_tapes.Goals as goal
 
 pub returns-in-Err-clause-err : goal.returns-in-Err-clause-err

@@ -1,7 +1,7 @@
 use Rattle.std.proofs.Common.{◌∙◌, length, inl, inr, ap}
 use Rattle.std.proofs.lemmas.Result.{IfErr-weaker, IfOk-weaker}
-use Rattle.machine_requests.proofs.Errors.{error_is}
-use Rattle.machine_requests.proofs.Tapes.{of_files}
+use Rattle.input_files.proofs.Errors.{error_is}
+use Rattle.input_files.proofs.Tapes.{of_files}
 use Rattle.machine_requests.proofs.planning.plan_files.Goals as goal
 
 pub returns-in_err-files-clause-err : goal.returns-in_err-files-clause-err

@@ -1,6 +1,6 @@
 use Rattle.std.proofs.Common.{◌∙◌, inl, inr, refl, sym, ⊎_elim}
 use Rattle.std.proofs.lemmas.Result.{IfErr-weaker, IfOk-weaker}
-use Rattle.machine_requests.proofs.Tapes.{of_input, of_named, unopened_named}
+use Rattle.input_files.proofs.Tapes.{of_input, of_named, unopened_named}
 use Rattle.machine_requests.proofs.planning.plan_tapes.Goals as goal
 
 pub returns-then-is_input-clause-ok : goal.returns-then-is_input-clause-ok

@@ -16,11 +16,11 @@ returns-in-Err g c =
     let held : Held = record { input = g.R.Read.remaining c.streams.inside.input; out = g.W.Write.contents out; unread = unread; err = err } in
     let before : Moment = moment c.args.system c.args.streams.now in
     let asked = c.perform-system.result.0 in
-    let failed = subst (λ outcome. IfErr outcome (λ failure. IsFailed c.args.request before (moment asked held) failure)) c.in-Err.is
+    let failed = subst (λ outcome. IfErr outcome (λ failure. IsFailed c.args.request.now before (moment asked held) failure)) c.in-Err.is
     (rw (c.streams.view_is) c.perform-system.ensures.err) in
     inr (record {
       failure = c.in-Err.failure;
-      failed = failed_whatever before asked held.input held.out unread err err' c.in-Err.failure c.args.request failed;
+      failed = failed_whatever before asked held err' c.in-Err.failure c.args.request.now failed;
       told = subst (λ prints. IsToldUnless (is_unheard prints unread c.in-Err.failure) c.args.streams.now.err err' c.in-Err.failure) c.only_prints-only_prints.ensures
           (subst (λ (e : StandardError). IsToldUnless (is_unheard c.only_prints-only_prints.result unread c.in-Err.failure) e err' c.in-Err.failure) (ap (λ (held : Held). held.err) c.streams.view_is ∙ c.perform-system.ensures.quiet) c.tell_unless_unheard.ensures.told);
       status_is = c.tell_unless_unheard.ensures.status;

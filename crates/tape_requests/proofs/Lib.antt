@@ -1,0 +1,3 @@
+pub mod Kept
+mod OneInput
+pub mod Whatever

@@ -126,6 +126,17 @@ class Building(Case):
         self.assertEqual({it: notes[it]["words"][2] for it in notes}, {"low": "4", "left": "4", "beside": "1", "right": "1"})
         self.assertEqual({it: notes[it]["nice"] - os.nice(0) for it in notes}, {"low": 0, "left": 0, "beside": min(10, 19 - os.nice(0)), "right": 19 - os.nice(0)})
 
+    def test_what_a_crate_has_to_read_counts_as_well(self):
+        with open(f"{self.top}/crates.txt", "w", encoding="utf-8") as file:
+            file.write("low:\nheavy:\nleft: low\nright: heavy\ntop: left right\n")
+        for name in ("low", "heavy", "left", "right"):
+            self.write(name, CODE)
+        os.makedirs(f"{self.top}/crates/heavy/proofs")
+        with open(f"{self.top}/crates/heavy/proofs/Lib.antt", "w", encoding="utf-8") as file:
+            file.write("-" * 100 * len(CODE))
+        _, notes = self.build("top", "4")
+        self.assertEqual({it: notes[it]["nice"] - os.nice(0) for it in ("low", "heavy")}, {"low": min(10, 19 - os.nice(0)), "heavy": 0})
+
     def test_a_small_crate_has_one_processor(self):
         self.write("low", "fn right() {}\n")
         _, notes = self.build("top", "4")

@@ -4,7 +4,7 @@
 //! refusal or failed read, by its number.
 //!
 //! The crates of the commands stand on this one (`tape_check`, `console_typing`, `rehearsals`,
-//! `tape_requests`, `machine_requests`).
+//! `tape_requests`, `requests`).
 #![tactic(auto)]
 
 mod fault;

@@ -2,7 +2,7 @@
 use Rattle.std.specs.Prelude.{ℕ, Bool, List, Option, Some, None, IsSome, String, map}
 use Rattle.std.specs.String.{string_bytes}
 use Rattle.input_files.specs.Opening.{InputStep, opening}
-use Rattle.machine_requests.specs.Asked.{Asked}
+use Rattle.requests.specs.Asked.{Asked}
 use Rattle.stream_line.specs.Dialling.{LineRequest, Dialled, Limited, OpenedDevice}
 
 -- files were opened by these names, or were not

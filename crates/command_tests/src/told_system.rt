@@ -4,7 +4,7 @@
 ghost use Rattle.std.specs.Prelude.{◌≡◌, ◌++◌, [], ◌∷◌, Some};
 ghost use Rattle.command_tests.specs.ToldSystem.{dialled_by, opened_at, opened_by, Tells};
 ghost use Rattle.input_files.specs.Opening.{opening};
-ghost use Rattle.machine_requests.specs.Moment.{moment};
+ghost use Rattle.requests.specs.Moment.{moment};
 ghost use Rattle.requests.specs.Attempt.{IsAttempted};
 
 use crate::attempts::NOBODY;

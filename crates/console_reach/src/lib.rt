@@ -6,7 +6,7 @@
 //! they were asked; a way lets its caller have these again. `listen` copies what is heard of a line to an output:
 //! what was written is promised to be what was heard, in its order, and nothing was sent.
 //!
-//! Used by `machine_load`, `machine_look`, `machine_probe` and `machine_requests`.
+//! Used by `machine_load`, `machine_look`, `machine_probe` and `requests`.
 #![tactic(auto)]
 
 mod listening;

@@ -1,7 +1,7 @@
 -- What becomes of the words of a command line (this project's own).
 use Rattle.std.specs.Prelude.{◌≡◌, ◌⊎◌}
 use Rattle.requests.specs.Attempt.{IsAttempted}
-use Rattle.machine_requests.specs.Moment.{Moment}
+use Rattle.requests.specs.Moment.{Moment}
 use Rattle.request_values.specs.declared.request.Request.{Request}
 use Rattle.request_values.specs.declared.request.Request.TheVariants.{CheckInput}
 use Rattle.endings.specs.declared.status.Status.{Status}

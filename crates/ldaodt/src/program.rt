@@ -4,7 +4,7 @@ ghost use Rattle.std.specs.Mem.{FitsInMemory};
 ghost use Rattle.request_values.specs.declared.request.Request.{Request};
 ghost use Rattle.endings.specs.declared.status.Status.{Status};
 ghost use Rattle.endings.specs.Status.{status_code};
-ghost use Rattle.machine_requests.specs.Moment.{moment};
+ghost use Rattle.requests.specs.Moment.{moment};
 ghost use Rattle.requests.specs.Attempt.{IsAttempted};
 ghost use Rattle.ldaodt.specs.Answer.{IsAnswered};
 

@@ -4,7 +4,7 @@
 //! a function of what the host has come to and of the time: a `Showing`, and at first, where a load goes on,
 //! what is verified already.
 //!
-//! The commands that take their time are shown so: `machine_requests` gives one to `machine_load` and
+//! The commands that take their time are shown so: `requests` gives one to `machine_load` and
 //! `machine_look`.
 #![tactic(auto)]
 

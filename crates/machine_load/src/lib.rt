@@ -6,7 +6,7 @@
 //! console (of the crate `console_reach`), and where its record is, in a file (of the crate `record_file`)
 //! or in memory. An `Onlooker` sees how far the load is and decides nothing.
 //!
-//! The crate `machine_requests` calls it, and its tests stand in `record_tests` and `command_tests`.
+//! The crate `requests` calls it, and its tests stand in `record_tests` and `command_tests`.
 #![tactic(auto)]
 
 mod around;

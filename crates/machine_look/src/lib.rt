@@ -6,7 +6,7 @@
 //! that is what memory holds, and it is what it was. `NewFile` is the shelf of a real system: a tape comes
 //! to its name whole, and replaces nothing.
 //!
-//! The crate `machine_requests` calls them, and their tests stand in `load_tests`, `record_tests` and
+//! The crate `requests` calls them, and their tests stand in `load_tests`, `record_tests` and
 //! `command_tests`.
 #![tactic(auto)]
 

@@ -5,7 +5,7 @@
 //! each, that nothing else was said, and exactly what was reported. Over a console like the simulated
 //! one memory is what it was; where another stored the digits, the word's old number is put back.
 //!
-//! The crate `machine_requests` calls it.
+//! The crate `requests` calls it.
 #![tactic(auto)]
 
 mod noted_line;

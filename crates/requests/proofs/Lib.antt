@@ -1,2 +1,4 @@
+mod Loaded
 mod Printed
+mod Saved
 mod Whatever

@@ -4,7 +4,7 @@ use Rattle.endings.specs.declared.failure.Failure.{Failure}
 use Rattle.endings.specs.declared.status.Status.{Status}
 use Rattle.request_values.specs.declared.request.Request.{Request}
 use Rattle.request_values.specs.declared.request.Request.TheVariants.{CheckInput, Check, Dialogue, Rehearse, «Type» as TypeKeys, Load, Verify, Save, Probe}
-use Rattle.machine_requests.specs.Moment.{Moment, intake_at}
+use Rattle.requests.specs.Moment.{Moment, intake_at}
 use Rattle.requests.specs.Attempt.{AsksNobody, IsDone, IsFailed}
 use Rattle.tape_requests.specs.Printing.{IsPrinted, IsUnprinted}
 

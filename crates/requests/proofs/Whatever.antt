@@ -9,9 +9,9 @@ use Rattle.input_files.proofs.Whatever.{tapes_whatever, unopened_whatever, with_
 use Rattle.request_values.specs.declared.request.Request.{Request}
 use Rattle.request_values.specs.declared.request.Request.TheVariants.{CheckInput, Check, Dialogue, Rehearse, «Type» as TypeKeys, Load, Verify, Save, Probe}
 use Rattle.requests.specs.Attempt.{IsFailed}
-use Rattle.machine_requests.specs.Asked.{Asked}
-use Rattle.machine_requests.specs.Moment.{Moment, moment, intake_at}
-use Rattle.machine_requests.specs.Planning.{IsUnplanned}
+use Rattle.requests.specs.Asked.{Asked}
+use Rattle.requests.specs.Moment.{Moment, moment, intake_at}
+use Rattle.requests.specs.Planning.{IsUnplanned}
 use Rattle.tape_requests.proofs.Whatever.{unprinted_whatever}
 
 module _ (before : Moment) (asked : Asked) (held : Held) (err : StandardError) (failure : Failure) where

@@ -4,11 +4,11 @@ use Rattle.std.specs.Prelude.{◌≡◌, ◌⊎◌}
 use Rattle.endings.specs.declared.failure.Failure.{Failure}
 use Rattle.endings.specs.declared.status.Status.{Status}
 use Rattle.endings.specs.Failure.{status_of, is_unheard, IsToldUnless}
-use Rattle.machine_requests.specs.Loading.{AreLoaded, AreUnloaded}
-use Rattle.machine_requests.specs.Looking.{AreVerified, AreUnverified}
-use Rattle.machine_requests.specs.Probing.{IsConsoleProbed, IsConsoleUnprobed}
-use Rattle.machine_requests.specs.Saving.{AreWordsSaved, AreWordsUnsaved}
-use Rattle.machine_requests.specs.Moment.{Moment, intake_at}
+use Rattle.requests.specs.Loading.{AreLoaded, AreUnloaded}
+use Rattle.requests.specs.Looking.{AreVerified, AreUnverified}
+use Rattle.requests.specs.Probing.{IsConsoleProbed, IsConsoleUnprobed}
+use Rattle.requests.specs.Saving.{AreWordsSaved, AreWordsUnsaved}
+use Rattle.requests.specs.Moment.{Moment, intake_at}
 use Rattle.request_values.specs.declared.request.Request.{Request}
 use Rattle.request_values.specs.Request.{only_prints}
 use Rattle.request_values.specs.declared.request.Request.TheVariants.{Load, Verify, Save, Probe}

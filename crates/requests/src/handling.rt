@@ -1,12 +1,16 @@
 //! Doing a request, and telling how it ended.
 ghost use Rattle.std.specs.Prelude.{◌≡◌, IfOk, IfErr};
 ghost use Rattle.std.specs.Mem.{FitsInMemory};
-ghost use Rattle.machine_requests.specs.Moment.{moment};
+ghost use Rattle.requests.specs.Moment.{moment};
 ghost use Rattle.requests.specs.Attempt.{IsDone, IsFailed, IsAttempted};
 
+use crate::loading::load_tapes;
+use crate::probing::probe_console;
+use crate::saving::save_words;
+use crate::system::System;
+use crate::verifying::verify_tapes;
 use endings::{Failure, FaultOutput, Output, Status, Streams, tell_unless_unheard};
 use input_files::InputFiles;
-use machine_requests::{System, load_tapes, probe_console, save_words, verify_tapes};
 use record_file::Disk;
 use request_values::Request;
 use serial_line::DeviceOpening;

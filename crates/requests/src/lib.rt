@@ -1,14 +1,25 @@
 //! Doing what a person asks of `ldaodt`, and telling how it ended.
 //!
-//! `attempt` does a request, as `request_values` has them, in a `System`, and answers the exit status; where it
-//! can't be done, one line on standard error says why, by the name of the file that was at fault. What becomes of
-//! a request at a real machine stands in `machine_requests`, of any other in `tape_requests`; which status and
-//! which line a failure has in `endings`.
+//! `attempt` does a request, as `request_values` has them, in a `System`, which comes back, and answers the exit
+//! status; where it can't be done, one line on standard error says why, by the name of what was at fault. Its
+//! contract says what is written, and, part by part where the system tells, what was asked of it: the files that
+//! are named, the console that is named and no other, of the disk what the record or the saved tape takes.
 //!
-//! The program `ldaodt` has the request from `command_line`, which makes it of words.
+//! What becomes of a request at a real machine stands here, of any other in `tape_requests`; which status and which
+//! line a failure has in `endings`. The program `ldaodt` has the request from `command_line`, which makes it of words.
 #![tactic(auto)]
 
+mod ending;
+mod errand;
 mod handling;
+mod host;
+mod listening;
+mod loading;
+mod planning;
+mod probing;
+mod saving;
+mod system;
+mod verifying;
 
 pub use handling::attempt;
-pub use machine_requests::{Outside, SharedSystem, System};
+pub use system::{Outside, SharedSystem, System};

@@ -5,7 +5,7 @@
 //! nothing is said on standard error. Its contract says which files are opened, in their order, what is written,
 //! and that nothing is read of standard input where no tape means it. Each command's own contract stands in its
 //! crate: `tape_check`, `console_typing`, `rehearsals`. What is asked of a machine is done in
-//! `machine_requests`.
+//! `requests`.
 #![tactic(auto)]
 
 mod checking;

@@ -2,7 +2,7 @@ use Rattle.std.proofs.Common.{◌∙◌, IfErr, inr, ap, subst}
 use Rattle.endings.specs.Failure.{is_unheard, IsToldUnless}
 use Rattle.endings.specs.FaultOutput.{StandardError, standard_error}
 use Rattle.endings.specs.Held.{Held}
-use Rattle.machine_requests.specs.Moment.{Moment, moment}
+use Rattle.requests.specs.Moment.{Moment, moment}
 use Rattle.requests.specs.Attempt.{IsFailed}
 use Rattle.requests.proofs.Whatever.{failed_whatever}
 use Rattle.requests.proofs.handling.attempt.Goals as goal

@@ -1,2 +1,0 @@
-mod Loaded
-mod Saved

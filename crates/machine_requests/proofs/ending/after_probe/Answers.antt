@@ -1,5 +1,0 @@
-use Rattle.std.proofs.Common.{rules}
-use Rattle.machine_requests.proofs.ending.after_probe.Goals as goal
-
-pub returns-in-NotTrusted : goal.returns-in-NotTrusted
-returns-in-NotTrusted c = search rules

@@ -1,0 +1,84 @@
+-- What becomes of a load, by what is said of its disk.
+use Rattle.std.proofs.Common.{◌≡◌, ◌∙◌, ℕ, List, Option, Some, None, Ok, inl, inr, ap, subst, ⊎_elim}
+use Rattle.std.specs.Prelude.{⊤}
+use Rattle.console_reach.specs.Console.{ConsoleTold}
+use Rattle.load_devices.specs.Told.{Gains}
+use Rattle.machine_load.proofs.OnDisk.{closed_ok}
+use Rattle.machine_load.specs.Called.{asked_by}
+use Rattle.machine_load.specs.RecordDisk.{DiskAsked, FileKnown, IsClosedAfter, RecordDisk, disk_asked_by, disk_asked_before}
+use Rattle.record_file.specs.Closing.{IsRecordClosed}
+use Rattle.record_file.specs.DiskStep.{DiskStep, HasAsked}
+use Rattle.stream_line.specs.Dialling.{Call, LineRequest}
+use Rattle.tape_image.specs.Plan.{PlanValue}
+use Rattle.endings.specs.declared.failure.Failure.{Failure}
+use Rattle.endings.specs.declared.status.Status.{Status}
+use Rattle.request_values.specs.declared.machine.Load.{Load}
+use Rattle.input_files.specs.Inputs.{Known}
+use Rattle.requests.specs.Loading.{IsPlanFailure, IsPlanLoaded, SaidOfDisk}
+
+-- whether there was a line
+abbrev pub some_line : {L : Type 0} → Option L → Option ⊤
+some_line (Some line) = Some tt
+some_line None = None
+
+pub asked_by_some : {L : Type 0} (call : Call) (line : Option L) (a b : Option (List LineRequest)) → Gains a b (asked_by call line) → Gains a b (asked_by call (some_line line))
+asked_by_some call (Some line) a b h = h
+asked_by_some call None a b h = h
+
+pub disk_by_some : {L : Type 0} (line : Option L) (on_disk : SaidOfDisk) → on_disk (disk_asked_by line) → on_disk (disk_asked_by (some_line line))
+disk_by_some (Some line) on_disk h = h
+disk_by_some None on_disk h = h
+
+-- where the console's line leads is known from before a load
+module _ (plan : PlanValue) (load : Load) (P Q : SaidOfDisk) (before : ConsoleTold) (asked : Option (List LineRequest)) (out : Known) (call call' : Call)
+    (f : (holds : RecordDisk → FileKnown → List DiskStep → Type 0) → P holds → Q holds) where
+  abbrev after : Call → ConsoleTold
+  after leads = record { asked = asked; call = leads; out = out }
+
+  pub loaded_as : (status : Status) → IsPlanLoaded plan load P before (after call) status → IsPlanLoaded plan load Q before (after call') status
+  loaded_as status h = record {
+    stop = h.stop;
+    marked = h.marked;
+    between = h.between;
+    reported = h.reported;
+    ended = h.ended;
+    line = h.line;
+    asked = h.asked;
+    disk = f (disk_asked_by h.line) h.disk;
+  }
+
+  pub failed_as : (failure : Failure) → IsPlanFailure plan load P before (after call) failure → IsPlanFailure plan load Q before (after call') failure
+  failed_as failure =
+      ⊎_elim
+      (λ h. inl (record {
+        fault = h.fault;
+        around = h.around;
+        around' = h.around';
+        is_so = h.is_so;
+        is_called = h.is_called;
+        asked = h.asked;
+        disk = f (disk_asked_before h.fault) h.disk;
+      }))
+      (λ h. inr (record {
+        stop = h.stop;
+        marked = h.marked;
+        between = h.between;
+        reported = h.reported;
+        is_so = h.is_so;
+        line = h.line;
+        asked = h.asked;
+        disk = f (disk_asked_by h.line) h.disk;
+      }))
+
+-- a disk of which this is known
+as_known : (b : RecordDisk) (asked : Option (List DiskStep)) (name : List ℕ) → b.asked ≡ asked → b.name ≡ name → b.known ≡ None
+    → b ≡ record { asked = asked; name = name; known = None }
+as_known b asked name p q r =
+    ap (λ x. record b { asked = x }) p ∙ ap (λ x. record b { asked = asked; name = x }) q ∙ ap (λ x. record b { asked = asked; name = name; known = x }) r
+
+-- a record that was new, and was closed behind a load
+pub closed_new : (b a : RecordDisk) (asked last : Option (List DiskStep)) (name : List ℕ) → b.asked ≡ asked → b.name ≡ name → b.known ≡ None
+    → HasAsked a.asked last (IsRecordClosed a.name a.known) → (holds : RecordDisk → FileKnown → List DiskStep → Type 0) → DiskAsked (Some b) (Some a) holds
+    → HasAsked asked last (IsClosedAfter holds (record { asked = asked; name = name; known = None }))
+closed_new b a asked last name p q r closed holds h =
+    subst (λ d. HasAsked d.asked last (IsClosedAfter holds d)) (as_known b asked name p q r) (closed_ok {A = ⊤} {E = ⊤} (λ _. holds) (Ok tt) b a last h closed)

@@ -1,0 +1,138 @@
+-- What becomes of a request to load a real machine.
+use Rattle.std.specs.Prelude.{◌≡◌, ◌⊎◌, ⊤, ℕ, Bool, List, Option, Some, None, IsSome, Result, IfOk, IfErr, codes}
+use Rattle.console_reach.specs.Console.{ConsoleTold}
+use Rattle.tape_image.specs.Plan.{PlanValue, starting}
+use Rattle.load_engine.specs.declared.stop.Stop.{Stop}
+use Rattle.load_devices.specs.Told.{Gains}
+use Rattle.machine_load.specs.Called.{asked_by, IsAskedBefore}
+use Rattle.machine_load.specs.Load.{Around, IsReported}
+use Rattle.machine_load.specs.LoadFault.{IsLoadFault}
+use Rattle.machine_load.specs.RecordDisk.{FileKnown, IsClosedAfter, RecordDisk, disk_asked_by, disk_asked_before}
+use Rattle.machine_load.specs.declared.fault.LoadFault.{LoadFault}
+use Rattle.request_values.specs.declared.options.LoadOptions.{LoadOptions}
+use Rattle.record_file.specs.DiskStep.{DiskStep, HasAsked}
+use Rattle.endings.specs.declared.failure.Failure.{Failure}
+use Rattle.endings.specs.declared.failure.Failure.TheVariants.{CannotWrite}
+use Rattle.endings.specs.declared.status.Status.{Status}
+use Rattle.request_values.specs.declared.machine.Load.{Load as LoadRequest}
+use Rattle.input_files.specs.Opening.{Name}
+use Rattle.requests.specs.Ending.{IsLoadFailureOf, IsStopFailure, IsStopStatus}
+use Rattle.requests.specs.Errand.{Told, told_towards}
+use Rattle.input_files.specs.Inputs.{Known}
+use Rattle.requests.specs.Planning.{IsPlanned, IsUnplanned}
+use Rattle.requests.specs.Asked.{OutsideAsked, NotElsewhere}
+use Rattle.requests.specs.Moment.{Moment, intake_at}
+use Rattle.requests.specs.Listening.{IsListenedTo, IsHeardInPart, seconds_of, quiet_time}
+
+-- what faults call the record: its file's name, where it has one
+abbrev pub record_name : Option Name → List ℕ
+record_name None = codes "the record in memory"
+record_name (Some name) = name.now
+
+-- a load of this plan, gone about so, was reported, and stopped so
+pub record IsPlanReported (plan : PlanValue) (options : LoadOptions) (out out' : Known) (stop : Stop) (marked : Bool) : Type 0 where
+  pub around : Around
+  pub around' : Around
+  pub reported : IsReported plan options (record { around = around; out = out }) (record { around = around'; out = out' }) stop marked
+
+-- what comes behind the report of a load that stopped so: what there was to listen to, and then the end
+pub record IsEnded (load : LoadRequest) (stop : Stop) (out out' : Known) (status : Status) : Type 0 where
+  pub listened : IsListenedTo (seconds_of load.listen stop) (quiet_time load.quiet_ms) out out'
+  pub status_is : IsStopStatus stop status
+
+-- there was something to listen to, and it could not be written
+pub record IsListeningCut (load : LoadRequest) (stop : Stop) (out out' : Known) (failure : Failure) : Type 0 where
+  pub asked : IsSome (seconds_of load.listen stop)
+  pub cut : IsHeardInPart out out'
+  pub is_output : failure ≡ CannotWrite
+
+-- what fails behind the report of a load that stopped so: its line or its record's keeper had, or the listening is cut
+abbrev pub IsEndFailure : LoadRequest → Stop → Bool → Known → Known → Failure → Type 0
+IsEndFailure load stop marked out out' failure =
+    (IsStopFailure stop marked (record_name load.record) failure × (out' ≡ out)) ⊎ IsListeningCut load stop out out' failure
+
+-- what is told of the console that a load is meant for, of the disk and of an output
+abbrev pub told_for : LoadRequest → OutsideAsked → Known → Told
+told_for load asked out = told_towards load.line.now load.quiet_ms asked out
+
+-- what is said of a disk, by what holds of the steps that it was asked for
+abbrev pub SaidOfDisk : Type 1
+SaidOfDisk = (RecordDisk → FileKnown → List DiskStep → Type 0) → Type 0
+
+-- nothing was asked of the disk, where the record is in memory alone; else what this holds of, and then what it takes to close the record
+abbrev pub AsksDisk : Option Name → Option (List DiskStep) → Option (List DiskStep) → SaidOfDisk
+AsksDisk None asked asked' holds = asked' ≡ asked
+AsksDisk (Some name) asked asked' holds = HasAsked asked asked' (IsClosedAfter holds (record { asked = asked; name = name.now; known = None }))
+
+-- a load of this plan was done. It had a line, for which its console was asked for once and its record begun once; or it had none, and its
+-- record was read alone
+pub record IsPlanLoaded (plan : PlanValue) (load : LoadRequest) (on_disk : SaidOfDisk) (before after : ConsoleTold) (status : Status) : Type 0 where
+  pub stop : Stop
+  pub marked : Bool
+  pub between : Known
+  pub reported : IsPlanReported plan load.options before.out between stop marked
+  pub ended : IsEnded load stop between after.out status
+  pub line : Option ⊤
+  pub asked : Gains before.asked after.asked (asked_by before.call line)
+  pub disk : on_disk (disk_asked_by line)
+
+-- a load of this plan was reported, and failed all the same
+pub record IsLoadBroken (plan : PlanValue) (load : LoadRequest) (on_disk : SaidOfDisk) (before after : ConsoleTold) (failure : Failure) : Type 0 where
+  pub stop : Stop
+  pub marked : Bool
+  pub between : Known
+  pub reported : IsPlanReported plan load.options before.out between stop marked
+  pub is_so : IsEndFailure load stop marked between after.out failure
+  pub line : Option ⊤
+  pub asked : Gains before.asked after.asked (asked_by before.call line)
+  pub disk : on_disk (disk_asked_by line)
+
+-- a load of this plan came to nothing
+pub record IsLoadCutShort (plan : PlanValue) (load : LoadRequest) (on_disk : SaidOfDisk) (before after : ConsoleTold) (failure : Failure) : Type 0 where
+  pub fault : LoadFault
+  pub around : Around
+  pub around' : Around
+  pub is_so : IsLoadFault plan load.options (record { around = around; out = before.out }) (record { around = around'; out = after.out }) fault
+  pub is_called : IsLoadFailureOf fault load.line.now (record_name load.record) failure
+  pub asked : IsAskedBefore before.call before.asked after.asked fault
+  pub disk : on_disk (disk_asked_before fault)
+
+-- a load of this plan failed
+abbrev pub IsPlanFailure : PlanValue → LoadRequest → SaidOfDisk → ConsoleTold → ConsoleTold → Failure → Type 0
+IsPlanFailure plan load on_disk before after failure =
+    IsLoadCutShort plan load on_disk before after failure ⊎ IsLoadBroken plan load on_disk before after failure
+
+-- a load of this plan was done, with its record on the disk or in memory alone
+abbrev pub IsLoadDone : PlanValue → LoadRequest → Told → Told → Status → Type 0
+IsLoadDone plan load before after status = IsPlanLoaded plan load (AsksDisk load.record before.disk after.disk) before.console after.console status
+
+-- or it failed
+abbrev pub IsLoadFailure : PlanValue → LoadRequest → Told → Told → Failure → Type 0
+IsLoadFailure plan load before after failure = IsPlanFailure plan load (AsksDisk load.record before.disk after.disk) before.console after.console failure
+
+-- what a load of this plan came to: it was done, or it failed
+pub record IsLoadOver (plan : PlanValue) (load : LoadRequest) (before after : Told) (outcome : Result Status Failure) : Type 0 where
+  pub ok : IfOk outcome (IsLoadDone plan load before after)
+  pub err : IfErr outcome (IsLoadFailure plan load before after)
+
+-- the tapes of these names were loaded, as one, with the start that is asked for, at the console that is named, and no other was asked for
+pub record AreLoaded (names : List Name) (load : LoadRequest) (before after : Moment) (status : Status) : Type 0 where
+  pub plan : PlanValue
+  pub planned : IsPlanned names (intake_at before) (intake_at after) plan
+  pub loaded : IsLoadDone (starting plan load.start) load
+      (told_for load before.asked.outside before.held.out) (told_for load after.asked.outside after.held.out) status
+  pub not_elsewhere : NotElsewhere load.line.now before.asked.outside after.asked.outside
+
+-- there is a plan, and its load failed
+pub record IsLoadUndone (names : List Name) (load : LoadRequest) (before after : Moment) (failure : Failure) : Type 0 where
+  pub plan : PlanValue
+  pub planned : IsPlanned names (intake_at before) (intake_at after) plan
+  pub failed : IsLoadFailure (starting plan load.start) load
+      (told_for load before.asked.outside before.held.out) (told_for load after.asked.outside after.held.out) failure
+  pub not_elsewhere : NotElsewhere load.line.now before.asked.outside after.asked.outside
+
+-- their load failed: it has no plan, and of disk and consoles nothing was asked; or it failed on its way
+abbrev pub AreUnloaded : List Name → LoadRequest → Moment → Moment → Failure → Type 0
+AreUnloaded names load before after failure =
+    ((after.asked.outside ≡ before.asked.outside) × IsUnplanned names (intake_at before) (intake_at after) failure)
+    ⊎ IsLoadUndone names load before after failure

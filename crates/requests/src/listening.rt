@@ -1,0 +1,101 @@
+//! Listening to a machine behind a load.
+ghost use Rattle.std.specs.Prelude.{◌≡◌, ◌⊎◌, ◌<◌, OnOk, IfErr, IsSome};
+ghost use Rattle.machine_load.specs.Load.{IsNeverBegun};
+ghost use Rattle.requests.specs.Listening.{quiet_time, seconds_of, IsHeardInPart, IsHeardOut, IsHeardOutOf, IsListenedTo, IsThisListenedTo};
+ghost use Rattle.requests.specs.Loading.{IsListeningCut};
+
+use console_reach::{listen, silences_within};
+use endings::Failure;
+use host_core::End;
+use load_devices::Line;
+use load_engine::Stop;
+use request_values::Load;
+use std::io::Write;
+
+/// Listens behind a load that stopped so, where that is asked for and the program was started or may have
+/// been; a load that was over before it began has no line. `CannotWrite` where what is heard can't be
+/// written.
+pub(crate) fn listen_behind<L: Line + Drop, W: Write>(
+    load: Load<'_>,
+    stop: Stop,
+    line: Option<L>,
+    out: &mut W,
+) -> Result<(), Failure<'static>>
+    requires { IsSome line ⊎ IsNeverBegun stop }
+    ensures ok { OnOk result (IsListenedTo
+        (seconds_of load.entry.listen stop)
+        (quiet_time load.entry.quiet_ms)
+        (W.contents out.old)
+        (W.contents out.new)) }
+    ensures err { IfErr result (IsListeningCut load.entry stop (W.contents out.old) (W.contents out.new)) }
+{
+    match line {
+        Some(mut line) => listen_to(load, stop, &mut line, out),
+        None => Ok(()),
+    }
+}
+
+// Listens to a line, where somebody does behind a load that stopped so.
+fn listen_to<L: Line, W: Write>(
+    load: Load<'_>,
+    stop: Stop,
+    line: &mut L,
+    out: &mut W,
+) -> Result<(), Failure<'static>>
+    ensures line { OnOk result (IsThisListenedTo (L.last_fault line.new) (L.told line.old) (L.told line.new)
+        (seconds_of load.entry.listen stop)
+        (quiet_time load.entry.quiet_ms)
+        (W.contents out.old)
+        (W.contents out.new)) }
+    ensures ok { OnOk result (IsListenedTo
+        (seconds_of load.entry.listen stop)
+        (quiet_time load.entry.quiet_ms)
+        (W.contents out.old)
+        (W.contents out.new)) }
+    ensures err { IfErr result (IsListeningCut load.entry stop (W.contents out.old) (W.contents out.new)) }
+{
+    match seconds_of(load.listen, stop) {
+        Some(seconds) => listen_for(seconds, load.quiet_ms, line, out),
+        None => Ok(()),
+    }
+}
+
+// How many seconds of silence end the listening, where there is any.
+fn seconds_of(listen: Option<u16>, stop: Stop) -> Option<u16>
+    ensures { result ≡ seconds_of listen stop }
+{
+    match stop {
+        Stop::Ended(End::Started | End::Uncertain) => listen,
+        _ => None,
+    }
+}
+
+// Listens until so many seconds were silent.
+fn listen_for<L: Line, W: Write>(
+    seconds: u16,
+    quiet_ms: u32,
+    line: &mut L,
+    out: &mut W,
+) -> Result<(), Failure<'static>>
+    ensures line { OnOk result (IsHeardOutOf (L.last_fault line.new) (L.told line.old) (L.told line.new)
+        seconds
+        (quiet_time quiet_ms)
+        (W.contents out.old)
+        (W.contents out.new)) }
+    ensures ok { OnOk result (IsHeardOut seconds (quiet_time quiet_ms) (W.contents out.old) (W.contents out.new)) }
+    ensures cut { IfErr result (λ failure. IsHeardInPart (W.contents out.old) (W.contents out.new) × (failure ≡ Failure.CannotWrite)) }
+{
+    let silences = silences_within(seconds, quiet_time(quiet_ms));
+    match listen(line, out, silences) {
+        Ok(()) => Ok(()),
+        Err(_) => Err(Failure::CannotWrite),
+    }
+}
+
+// The quiet time of a line in milliseconds, which is 1 at least.
+fn quiet_time(quiet_ms: u32) -> u32
+    ensures value { result ≡ quiet_time quiet_ms }
+    ensures some { 0 < result }
+{
+    if quiet_ms == 0 { 1 } else { quiet_ms }
+}

@@ -1,6 +1,7 @@
 use byte_io::WriteFault;
 use std::alloc::AllocError;
-use tape_blocks::{Fault, Memory};
+use tape_blocks::Memory;
+use tape_format::Fault;
 
 /// Why a command did not do what it was asked.
 #[derive(Clone, Copy, Debug, PartialEq, Eq)]

@@ -1,8 +1,8 @@
 -- Where the host saw the program start, it runs.
 use Rattle.std.proofs.Common.{◌≡◌, ℕ, ◌+◌, ◌≤◌, Bool, true, false, ltb, List, [], ◌∷◌, ◌++◌, length, Option, Some, None, unwrap_or, inl, inr, refl, ap, sym, subst, ◌∙◌}
 use Rattle.std.specs.Prelude.{◌==◌, ◌&&◌, ◌⊎◌, if◌then◌else◌, is_none, min}
-use Rattle.tape_image.specs.Word.{WordValue}
-use Rattle.tape_image.specs.Plan.{PlanValue}
+use Rattle.host_core.specs.Word.{WordValue}
+use Rattle.host_core.specs.Plan.{PlanValue}
 use Rattle.odt_machine.specs.Key.{key_of}
 use Rattle.odt_machine.specs.Laws.{is_running}
 use Rattle.odt_machine.specs.Machine.{Machine}

@@ -2,7 +2,7 @@
 use Rattle.std.specs.Prelude.{option_to_list}
 use Rattle.std.proofs.Common.{◌≡◌, ℕ, ◌+◌, ◌≤◌, List, [], ◌∷◌, ◌++◌, length, Option, Some, None, refl, arith, ap, sym, subst, ◌∙◌}
 use Rattle.std.proofs.lemmas.List.Elements.{Contains-append_left}
-use Rattle.tape_image.proofs.Halves.{merged-Stands}
+use Rattle.line_world.proofs.Halves.{merged-Stands}
 use Rattle.odt_machine.specs.Machine.{Machine}
 use Rattle.host_core.specs.declared.heard.Heard.{Heard}
 use Rattle.host_core.specs.Core.{Core, word_nr}

@@ -5,3 +5,6 @@ pub mod Moves
 pub mod Reached
 pub mod Starts
 pub mod Trust
+pub use Rattle.line_world.specs.Wire
+pub use Rattle.line_world.specs.Invariant
+pub use Rattle.line_world.specs.Promises

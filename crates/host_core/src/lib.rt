@@ -22,3 +22,4 @@ pub use heard::Heard;
 pub use host::HostCore;
 pub use phase::{End, Phase, Reason, Visit};
 pub use progress::{BadProgress, Progress};
+pub use tape_image::{Plan, Word};

@@ -7,8 +7,8 @@ use Rattle.std.specs.List.{remove}
 use Rattle.std.specs.Prelude.{OnOk, OnErr}
 use Rattle.std.specs.Result.{IfOk, IfErr, IsErr, IsErrAnd}
 use Rattle.load_devices.specs.Failures.{fault_of}
-use Rattle.record_file.proofs.Asking.{tells_join, tells_none}
-use Rattle.record_file.specs.DiskStep.{Tells}
+use Rattle.load_devices.proofs.Told.{tells_join, tells_none}
+use Rattle.load_devices.specs.Told.{Tells}
 use Rattle.endings.specs.declared.failure.Failure.{Failure}
 use Rattle.endings.specs.declared.failure.Failure.TheVariants.{CannotRead, NoMemory}
 use Rattle.input_files.specs.Opening.{Name, InputStep, NotOpened, opening, HasOpened, IsTried, Once, Again, AreTried, AllOpen, Opens, Shut, NoRoom, NoRoomToRetry, IsUnbuffered}

@@ -2,7 +2,7 @@
 ghost use Rattle.std.specs.Prelude.{◌≡◌, ◌+◌, ◌∷◌, [], length, true, false, is_ok, IfOk, IfErr, OnOk, OnErr};
 ghost use Rattle.std.specs.Bool.{OnTrue};
 ghost use Rattle.load_devices.specs.Failures.{fault_of};
-ghost use Rattle.record_file.specs.DiskStep.{Tells};
+ghost use Rattle.load_devices.specs.Told.{Tells};
 ghost use Rattle.input_files.specs.Opening.{HasOpened, NotOpened, IsTried, AreTried, IsUnbuffered};
 
 use crate::source::{Role, Source};

@@ -22,3 +22,4 @@ mod KeysLeft
 mod CleanKeys
 mod CleanEnds
 mod CleanLine
+pub use Rattle.tape_image.proofs.Halves

@@ -1,5 +1,5 @@
 use host_core::Heard;
-use tape_image::Word;
+use host_core::Word;
 
 /// One thing that was said on a line.
 #[derive(Clone, Copy, Debug, PartialEq, Eq)]

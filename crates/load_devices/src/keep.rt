@@ -6,7 +6,7 @@ ghost use Rattle.load_devices.specs.Failures.{count_after, fault_of};
 
 use crate::fault::KeepFault;
 use crate::item::Kept;
-use tape_image::Word;
+use host_core::Word;
 
 /// A keeper of a load's progress, which a later life can go on from.
 ///

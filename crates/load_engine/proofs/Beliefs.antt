@@ -9,8 +9,8 @@ use Rattle.host_core.specs.Core.{Core}
 use Rattle.host_core.specs.Host.{IsHost}
 use Rattle.host_core.specs.Laws.{led}
 use Rattle.host_core.specs.PhaseTable.{move}
-use Rattle.line_world.specs.Invariant.{EndIsPaid}
-use Rattle.line_world.specs.Promises.{HasCause}
+use Rattle.honest_line.specs.Invariant.{EndIsPaid}
+use Rattle.honest_line.specs.Promises.{HasCause}
 use Rattle.load_devices.specs.declared.item.Item.{Item}
 use Rattle.load_devices.specs.declared.item.Item.TheVariants.{Sent, Heard as Came}
 use Rattle.load_devices.specs.declared.item.Kept.{Kept}

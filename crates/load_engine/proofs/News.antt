@@ -3,7 +3,7 @@ use Rattle.std.proofs.Common.{◌≡◌, ℕ, ◌+◌, ◌-◌, ◌<◌, ◌≤�
 use Rattle.std.specs.Prelude.{option_to_list}
 use Rattle.std.proofs.lemmas.List.{drop_more, map-append}
 use Rattle.std.proofs.Math.Seq.{take-add, drop-drop}
-use Rattle.tape_image.specs.Word.{WordValue}
+use Rattle.host_core.specs.Word.{WordValue}
 use Rattle.host_core.specs.declared.heard.Heard.{Heard}
 use Rattle.host_core.specs.declared.phase.Phase.TheVariants.{Settle, Sync, Address, Ended}
 use Rattle.host_core.specs.declared.phase.Visit.TheVariants.{Look}

@@ -1,5 +1,5 @@
 -- Sessions of the engine: one turn of each kind, two sessions one after the other, and what a session says to a caller.
-use Rattle.std.proofs.Common.{◌≡◌, ℕ, ◌+◌, ◌-◌, ◌≤◌, List, [], ◌∷◌, ◌++◌, length, Option, Some, None, inl, inr, refl, arith, ap, sym, subst, ◌∙◌, append-nil, append_assoc, length-append}
+use Rattle.std.proofs.Common.{◌≡◌, ℕ, ◌+◌, ◌-◌, ◌≤◌, List, [], ◌∷◌, ◌++◌, length, Option, Some, None, inl, inr, refl, arith, ap, sym, subst, ◌∙◌, append_assoc, length-append}
 use Rattle.std.specs.Prelude.{Contains}
 use Rattle.std.proofs.lemmas.List.{append_cancel_left}
 use Rattle.std.proofs.lemmas.List.Elements.{Contains-append_left, Contains-append_right, Contains-append_cases}
@@ -15,28 +15,14 @@ use Rattle.load_devices.specs.declared.item.Item.TheVariants.{Sent, Heard as Cam
 use Rattle.load_devices.specs.declared.item.Kept.{Kept}
 use Rattle.load_devices.specs.declared.item.Kept.TheVariants.{Go}
 use Rattle.load_devices.specs.Dialogue.{said, dialogue, keys_of, news_between}
-use Rattle.load_devices.specs.Told.{Gains, SaysNothing}
+use Rattle.load_devices.specs.Told.{Gains}
+use Rattle.load_devices.proofs.Told.{gains_join, gains_none}
 use Rattle.load_engine.specs.declared.stop.Stop.{Stop}
 use Rattle.load_engine.specs.declared.stop.Stop.TheVariants.{Ended, LineFailed, KeepFailed, TurnsOver}
 use Rattle.load_engine.specs.Session.{GoesOn, IsSaid, IsKeptNews, Session, HasGained, KeepsMarkFirst, IsFailure}
 use Rattle.load_engine.proofs.News.{IsForward, news_none, news_join, led_forward}
 
 -- ---- told lists
-
-pub gains_none : {A : Type 0} → (old : Option (List A)) → Gains old old []
-gains_none None = tt
-gains_none (Some items) = sym (append-nil items)
-
-pub gains_kept : {A : Type 0} → (old new : Option (List A)) → SaysNothing old new → Gains old new []
-gains_kept None new k = tt
-gains_kept (Some items) None k = absurd k
-gains_kept (Some items) (Some same) k = k ∙ sym (append-nil items)
-
-pub gains_join : {A : Type 0} → (a b c : Option (List A)) (one two : List A) → Gains a b one → Gains b c two → Gains a c (one ++ two)
-gains_join None b c one two g h = tt
-gains_join (Some items) None c one two g h = absurd g
-gains_join (Some items) (Some grown) None one two g h = absurd h
-gains_join (Some items) (Some grown) (Some all) one two g h = h ∙ (ap (λ front. front ++ two) g ∙ append_assoc items one two)
 
 -- what a told list has gained is one list alone
 pub gained_is : {A : Type 0} → (old new : Option (List A)) (more other : List A) → HasGained old new more → Gains old new other → more ≡ other

@@ -18,7 +18,7 @@ use Rattle.load_engine.specs.declared.stop.Stop.{Stop}
 use Rattle.load_engine.specs.declared.stop.Stop.TheVariants.{LineFailed, KeepFailed}
 use Rattle.load_engine.specs.Session.{Session}
 use Rattle.load_engine.proofs.News.{news_none}
-use Rattle.load_engine.proofs.Sessions.{gains_none, gains_kept, gains_join}
+use Rattle.load_devices.proofs.Told.{gains_none, gains_kept, gains_join}
 
 -- what a step of the core gives the devices to do
 pub record IsStep (old new : Core) (heard : Heard) (key : Option ℕ) (news : Option Kept) : Type 0 where

@@ -1,7 +1,7 @@
 -- What a load does over a line in memory that is lent for it.
 use Rattle.std.specs.Prelude.{ℕ, ◌+◌, ◌≤◌, List, length}
 use Rattle.host_core.specs.Core.{Core}
-use Rattle.line_world.specs.Wire.{most_waiting}
+use Rattle.honest_line.specs.Wire.{most_waiting}
 use Rattle.load_devices.specs.declared.item.Item.{Item}
 use Rattle.load_devices.specs.Dialogue.{keys_of}
 use Rattle.honest_line.specs.Lent.{Passed}

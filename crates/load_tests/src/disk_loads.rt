@@ -1,7 +1,7 @@
 //! Loads of a machine in memory, with a record on a disk that tells what it was asked.
 ghost use Rattle.std.specs.Prelude.{IfErr, IfOk, option_map};
 ghost use Rattle.machine_load.specs.RecordDisk.{IsClosedAfter, disk_asked_by, disk_asked_before};
-ghost use Rattle.record_file.specs.DiskStep.{HasAsked};
+ghost use Rattle.load_devices.specs.Told.{HasAsked};
 ghost use Rattle.record_file.specs.Taking.{kind_of};
 ghost use Rattle.told_disk.specs.ToldSteps.{steps_of};
 

@@ -2,7 +2,7 @@
 ghost use Rattle.std.specs.Prelude.{IfErr, OnOk, option_map};
 ghost use Rattle.machine_look.specs.Beside.{room_of};
 ghost use Rattle.machine_look.specs.SaveDisk.{save_disk_asked_before, IsSavedOn};
-ghost use Rattle.record_file.specs.DiskStep.{HasAsked};
+ghost use Rattle.load_devices.specs.Told.{HasAsked};
 ghost use Rattle.told_disk.specs.ToldSteps.{steps_of, written_to};
 
 use crate::memory_reach::MemoryReach;

@@ -2,10 +2,11 @@
 use Rattle.std.proofs.Common.{◌≡◌, ℕ, List, [], ◌++◌, Option, Some, None, Result, Ok, Err, refl, sym, subst, ◌∙◌, inl, inr}
 use Rattle.std.specs.Prelude.{MatchOption, OnOk, OnErr}
 use Rattle.std.specs.Result.{IfOk, IfErr}
-use Rattle.record_file.proofs.Asking.{tells_join, tells_none}
+use Rattle.load_devices.proofs.Told.{tells_join, tells_none}
 use Rattle.record_file.specs.Beginning.{IsBegun, IsNotBegun}
 use Rattle.record_file.specs.Closing.{IsRecordClosed, Remains}
-use Rattle.record_file.specs.DiskStep.{DiskStep, HasAsked}
+use Rattle.load_devices.specs.Told.{HasAsked}
+use Rattle.record_file.specs.DiskStep.{DiskStep}
 use Rattle.record_file.specs.Reading.{IsRead, IsNotRead}
 use Rattle.record_file.specs.declared.old_record.OldRecord.{OldRecord}
 use Rattle.record_file.specs.declared.record_fault.RecordFault.{RecordFault}

@@ -1,9 +1,10 @@
 -- Looks that come to nothing.
-use Rattle.std.proofs.Common.{◌≡◌, ℕ, true, false, eqb, List, [], ◌∷◌, ◌++◌, length, Option, None, Some, Result, Ok, Err, IfErr, IfOk, IsErrAnd, refl, arith, ap, sym, subst, ◌∙◌, inl, inr, append_assoc, append-nil, OnErr, OnOk}
+use Rattle.std.proofs.Common.{◌≡◌, ℕ, true, false, eqb, List, [], ◌∷◌, length, Option, Result, Ok, Err, IfErr, IfOk, IsErrAnd, refl, arith, sym, subst, inl, inr, OnErr, OnOk}
 use Rattle.std.proofs.lemmas.Bool.{eqb-true}
 use Rattle.std.specs.Io.KnownBytes.{Keeps}
 use Rattle.tape_blocks.specs.Tape.{TapeValue, plain_text}
 use Rattle.load_devices.specs.Told.{Gains}
+use Rattle.load_devices.proofs.Told.{gains_join}
 use Rattle.machine_look.specs.declared.look_fault.LookFault.{LookFault}
 use Rattle.machine_look.specs.declared.look_fault.LookFault.TheVariants.{IsThere, WriteTape, Memory}
 use Rattle.machine_look.specs.declared.saving.SaveOptions.{SaveOptions}
@@ -15,16 +16,6 @@ use Rattle.machine_look.specs.SavedTape.{saved_tape}
 use Rattle.machine_look.specs.Shelf.{Step, Reserve, Put, NotPut, reserve_step, put_step, IsPutFault}
 
 -- ---- what is done on a shelf, one step after another
-
-pub gains_then : {A : Type 0} (a b c : Option (List A)) (xs ys : List A) → Gains a b xs → Gains b c ys → Gains a c (xs ++ ys)
-gains_then None b c xs ys first then_ = tt
-gains_then (Some old) None c xs ys first then_ = absurd first
-gains_then (Some old) (Some mid) None xs ys first then_ = absurd then_
-gains_then (Some old) (Some mid) (Some new) xs ys first then_ = then_ ∙ (ap (λ list. list ++ ys) first ∙ append_assoc old xs ys)
-
-pub gains_none : {A : Type 0} (a : Option (List A)) → Gains a a []
-gains_none None = tt
-gains_none (Some items) = sym (append-nil items)
 
 pub puts_none : (from : ℕ) (numbers : List ℕ) (start : ℕ) → eqb (length numbers) 0 ≡ true → puts from numbers start ≡ []
 puts_none from [] start none = refl
@@ -52,11 +43,11 @@ not_put tape shelf shelf' text why.Memory is can step = absurd can
 pub not_kept : (options : SaveOptions) (before after : SaveTold) (mid : Option (List Step)) (fault : LookFault) → Gains before.steps mid (Reserve ∷ [])
     → (read : IsRead options before after) → IsKeepFault (tape_to_save options read.last.values) mid after.steps fault → Keeps before.out after.out → IsSaveFault options before after fault
 not_kept options before after mid IsThere reserved read fails same =
-    inr (record { read = read; refused = gains_then before.steps mid after.steps _ _ reserved fails; nothing_reported = same })
+    inr (record { read = read; refused = gains_join before.steps mid after.steps _ _ reserved fails; nothing_reported = same })
 not_kept options before after mid WriteTape reserved read fails same =
-    inr (record { read = read; refused = gains_then before.steps mid after.steps _ _ reserved fails; nothing_reported = same })
+    inr (record { read = read; refused = gains_join before.steps mid after.steps _ _ reserved fails; nothing_reported = same })
 not_kept options before after mid Memory reserved read fails same =
-    (inr (record { nothing_put = gains_then before.steps mid after.steps _ _ reserved fails; asked = read.asked }), same)
+    (inr (record { nothing_put = gains_join before.steps mid after.steps _ _ reserved fails; asked = read.asked }), same)
 not_kept options before after mid other reserved read fails same = absurd fails
 
 -- ---- results

@@ -4,7 +4,7 @@ use Rattle.odt_machine.specs.Machine.{Machine}
 use Rattle.load_devices.specs.declared.item.Item.{Item}
 use Rattle.load_devices.specs.Dialogue.{keys_of}
 use Rattle.load_devices.specs.Turns.{most_turns}
-use Rattle.honest_line.specs.Honest.{IsHonest}
+use Rattle.reading_engine.specs.Honest.{IsHonest}
 use Rattle.reading_core.specs.declared.phase.End.{End}
 use Rattle.reading_core.specs.declared.phase.End.TheVariants.{Complete, GaveUp, NoWord}
 use Rattle.reading_core.specs.declared.phase.Phase.{Phase}

@@ -6,10 +6,11 @@ use Rattle.std.specs.Io.KnownBytes.{Appends}
 use Rattle.std.specs.Prelude.{OnSome, option_map, is_err, ⊤}
 use Rattle.std.specs.String.{string_bytes}
 use Rattle.record_file.specs.Beginning.{IsMakingHeld, new_name}
-use Rattle.record_file.specs.DiskStep.{DiskStep, HasAsked, Tells, Did, Failed, answered, step_by, LookAtName, FindFile, Open, Link, Rename, Remove, SyncFile}
+use Rattle.load_devices.specs.Told.{HasAsked, Tells}
+use Rattle.record_file.specs.DiskStep.{DiskStep, Did, Failed, answered, step_by, LookAtName, FindFile, Open, Link, Rename, Remove, SyncFile}
 use Rattle.record_file.specs.Folder.{IsFolderOf}
 use Rattle.record_file.specs.declared.disk.Access.TheVariants.{ReadOnly}
-use Rattle.record_file.proofs.Asking.{tells_join, tells_none}
+use Rattle.load_devices.proofs.Told.{tells_join, tells_none}
 use Rattle.machine_look.specs.Beside.{room_of, IsFolderOpened}
 use Rattle.machine_look.specs.ShelfDisk.{Room, ShelfDisk, ShelfAsked, HasNoRoom, HasRoomIn, IsPutOn, IsPut, Written, IsNoFileName, IsSearch, Free, IsNotReserved, NotMade, IsReserved, Reserved, IsGone, Goes, IsOnDisk, Synced, IsNaming, Renamed, NotRenamed, IsSettling, IsNamed, Named, NotNamed, IsClosed, IsReserveAnswered}
 use Rattle.machine_look.specs.declared.new_file.Beside.{Beside}

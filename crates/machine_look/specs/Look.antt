@@ -4,7 +4,7 @@ use Rattle.odt_machine.specs.Machine.{Machine}
 use Rattle.load_devices.specs.Told.{Gains}
 use Rattle.load_devices.specs.Turns.{most_turns}
 use Rattle.load_devices.specs.declared.item.Item.{Item}
-use Rattle.honest_line.specs.Honest.{IsHonest}
+use Rattle.reading_engine.specs.Honest.{IsHonest}
 use Rattle.stream_line.specs.Dialling.{Call, LineRequest, asked_once}
 use Rattle.reading_core.specs.Bound.{reading_bound}
 use Rattle.reading_core.specs.Invariant.{IsReader}

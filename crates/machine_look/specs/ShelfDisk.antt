@@ -4,7 +4,8 @@ use Rattle.std.specs.Io.KnownBytes.{Appends}
 use Rattle.load_devices.specs.Failures.{fault_of}
 use Rattle.byte_io.specs.Text.{name_slash}
 use Rattle.record_file.specs.Beginning.{IsMakingHeld, new_name}
-use Rattle.record_file.specs.DiskStep.{DiskStep, Did, Failed, HasAsked, step_by}
+use Rattle.load_devices.specs.Told.{HasAsked}
+use Rattle.record_file.specs.DiskStep.{DiskStep, Did, Failed, step_by}
 use Rattle.record_file.specs.DiskStep.{LookAtName, FindFile, Open, Link, Rename, Remove, SyncFolder, SyncFile}
 use Rattle.record_file.specs.Folder.{IsFolderOf}
 use Rattle.record_file.specs.declared.disk.Access.TheVariants.{ReadOnly}

@@ -21,7 +21,7 @@ use reading_core::ReadingCore;
 use request_values::AddressRange;
 use std::alloc::Global;
 use std::io::Write;
-use tape_blocks::write_tape;
+use tape_format::write_tape;
 
 /// What is to be saved, and how.
 #[derive(Clone, Copy, Debug, PartialEq, Eq)]

@@ -5,7 +5,7 @@ use Rattle.std.proofs.lemmas.Bool.{eq-eqb, ne_eqb, lt-leb, le-leb, leb-true, leb
 use Rattle.std.proofs.lemmas.List.Elements.{All-nil, All-cons}
 use Rattle.tape_blocks.specs.Block.{block_at}
 use Rattle.tape_blocks.specs.Tape.{TapeValue}
-use Rattle.tape_blocks.specs.declared.fault.Memory.{Memory}
+use Rattle.tape_blocks.specs.declared.memory.Memory.{Memory}
 use Rattle.tape_image.specs.Image.{Image, IsImageOf, byte_in}
 use Rattle.tape_image.specs.Memory.{half}
 use Rattle.tape_image.specs.Word.{IsWord, covers, whole_word}

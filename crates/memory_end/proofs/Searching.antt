@@ -5,8 +5,8 @@ use Rattle.odt_machine.specs.Machine.{Machine}
 use Rattle.load_devices.specs.declared.item.Item.{Item}
 use Rattle.load_devices.specs.Dialogue.{keys_of}
 use Rattle.load_devices.specs.Told.{Gains}
-use Rattle.load_engine.proofs.Sessions.{gains_none, gains_join}
-use Rattle.honest_line.specs.Honest.{IsHonest}
+use Rattle.load_devices.proofs.Told.{gains_none, gains_join}
+use Rattle.reading_engine.specs.Honest.{IsHonest}
 use Rattle.reading_core.specs.declared.phase.End.{End}
 use Rattle.reading_core.specs.declared.phase.End.TheVariants.{Complete, GaveUp, NoWord}
 use Rattle.reading_core.specs.Invariant.{IsReader}

@@ -5,8 +5,8 @@ use Rattle.std.proofs.lemmas.List.{get_or-map, length-map, length_push}
 use Rattle.std.proofs.lemmas.List.Elements.{All-nil, All-push, All-get_or, All-map}
 use Rattle.std.proofs.lemmas.List.Quantifiers.{all_pairs_push}
 use Rattle.host_core.specs.Core.{no_word}
-use Rattle.tape_image.specs.Word.{WordValue}
-use Rattle.tape_image.specs.Plan.{PlanValue, IsPlan}
+use Rattle.host_core.specs.Word.{WordValue}
+use Rattle.host_core.specs.Plan.{PlanValue, IsPlan}
 use Rattle.reading_core.specs.Addresses.{IsAddress, AreAddresses, IsRange, addresses_of, addresses_from, addresses_between}
 
 -- ---- one after another

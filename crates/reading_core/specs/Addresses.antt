@@ -1,8 +1,8 @@
 -- Which words are read, and in which order.
 use Rattle.std.specs.Prelude.{◌≡◌, ℕ, zero, suc, ◌+◌, ◌-◌, ◌*◌, ◌/◌, ◌%◌, ◌<◌, ◌≤◌, All, AllPairs, List, [], ◌∷◌, ◌++◌, length, map}
 use Rattle.tape_blocks.specs.Block.{top}
-use Rattle.tape_image.specs.Memory.{most_words}
-use Rattle.tape_image.specs.Word.{WordValue}
+use Rattle.host_core.specs.Memory.{most_words}
+use Rattle.host_core.specs.Word.{WordValue}
 
 -- a word's address is even, and below 160000 (this project's choice)
 pub record IsAddress (a : ℕ) : Type 0 where

@@ -15,7 +15,7 @@ use host_core::Heard;
 use host_core::console::{CARRIAGE_RETURN, RESYNCHRONISE};
 use std::alloc::{AllocError, Global};
 use std::marker::Model;
-use tape_image::Plan;
+use host_core::Plan;
 
 /// A host that reads the words at a list of addresses and changes none: it says which character to
 /// type next.

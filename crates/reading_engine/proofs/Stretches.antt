@@ -7,7 +7,7 @@ use Rattle.load_devices.specs.declared.item.Item.{Item}
 use Rattle.load_devices.specs.declared.item.Item.TheVariants.{Sent, Heard as Came}
 use Rattle.load_devices.specs.Dialogue.{said}
 use Rattle.load_devices.specs.Told.{Gains, SaysNothing}
-use Rattle.load_engine.proofs.Sessions.{gains_kept, gains_join}
+use Rattle.load_devices.proofs.Told.{gains_kept, gains_join}
 use Rattle.reading_core.specs.declared.phase.End.{End}
 use Rattle.reading_core.specs.Laws.{led}
 use Rattle.reading_core.specs.Reader.{Reader, ended}

@@ -1,6 +1,6 @@
 -- What a reading does over a line in memory that is lent for it.
 use Rattle.std.specs.Prelude.{ℕ, ◌+◌, ◌≤◌, List, length}
-use Rattle.line_world.specs.Wire.{most_waiting}
+use Rattle.honest_line.specs.Wire.{most_waiting}
 use Rattle.load_devices.specs.declared.item.Item.{Item}
 use Rattle.load_devices.specs.Dialogue.{keys_of}
 use Rattle.honest_line.specs.LineTable.{LineValue}

@@ -1,20 +1,8 @@
--- What was asked in two parts, one behind the other.
-use Rattle.std.proofs.Common.{◌≡◌, List, [], ◌++◌, Option, Some, None, sym, ap, ◌∙◌, ◌∷◌, append-nil, append_assoc, true, false, Result, Ok, Err}
-use Rattle.record_file.specs.DiskStep.{DiskStep, Request, Did, Failed, HasAsked, Tells, answered}
+-- What was asked, and how that went.
+use Rattle.std.proofs.Common.{◌≡◌, List, [], Option, ◌∷◌, true, false, Result, Ok, Err}
+use Rattle.load_devices.specs.Told.{HasAsked, Tells}
+use Rattle.record_file.specs.DiskStep.{DiskStep, Request, Did, Failed, answered}
 use Rattle.std.specs.Result.{is_err, IfErr, IfOk, IsErr}
-
-pub tells_none : {A : Type 0} → (old : Option (List A)) → Tells old old []
-tells_none None = tt
-tells_none (Some items) = sym (append-nil items)
-
-pub tells_join : {A : Type 0} → (a b c : Option (List A)) (one two : List A) → Tells a b one → Tells b c two → Tells a c (one ++ two)
-tells_join None None None one two g h = tt
-tells_join None None (Some all) one two g h = absurd h
-tells_join None (Some grown) c one two g h = absurd g
-tells_join (Some items) None None one two g h = tt
-tells_join (Some items) None (Some all) one two g h = absurd h
-tells_join (Some items) (Some grown) None one two g h = tt
-tells_join (Some items) (Some grown) (Some all) one two g h = h ∙ (ap (λ front. front ++ two) g ∙ append_assoc items one two)
 
 pub asked_one : {P : List DiskStep → Type 0} (a b : Option (List DiskStep)) (steps : List DiskStep) → Tells a b steps → P steps → HasAsked a b P
 asked_one a b steps g p = (steps, g, p)

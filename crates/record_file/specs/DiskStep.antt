@@ -1,5 +1,5 @@
 -- What is asked of a system of files for a record, and for the tape of a save.
-use Rattle.std.specs.Prelude.{◌≡◌, ℕ, List, [], ◌∷◌, ◌++◌, Bool, true, false, Option, Some, None, Result, Ok, Err, ⊤}
+use Rattle.std.specs.Prelude.{ℕ, List, [], ◌∷◌, Bool, true, false, Option, Result, Ok, Err}
 use Rattle.std.specs.Path.{path_buf_bytes}
 use Rattle.std.specs.declared.path.buf.PathBuf.{PathBuf}
 use Rattle.record_file.specs.declared.disk.Access.{Access}
@@ -43,17 +43,6 @@ answered request (Err error) = Failed request
 abbrev pub resolved : {A E : Type 0} → List ℕ → Result (PathBuf A) E → DiskStep
 resolved name (Ok target) = LedTo name (path_buf_bytes target)
 resolved name (Err error) = Failed (Resolve name)
-
--- a list that somebody tells has grown by these; who tells may stop, and does not begin again
-abbrev pub Tells : {A : Type 0} → Option (List A) → Option (List A) → List A → Type 0
-Tells None None more = ⊤
-Tells None (Some told) more = ⊥
-Tells (Some items) None more = ⊤
-Tells (Some items) (Some grown) more = grown ≡ items ++ more
-
--- where somebody tells what was asked, that has grown by steps of which this holds
-abbrev pub HasAsked : {A : Type 0} → Option (List A) → Option (List A) → (List A → Type 0) → Type 0
-HasAsked {A} old new P = (steps : List A) × Tells old new steps × P steps
 
 -- a name was looked at, and found to be as it should be only where something is there
 pub data IsNameSeen (name : List ℕ) : Bool → List DiskStep → Type 0 where

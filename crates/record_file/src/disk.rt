@@ -1,7 +1,8 @@
 //! Where files are: what is asked of the system for a record, and for the tape of a save.
 ghost use Rattle.std.specs.Prelude.{◌≡◌, [], ◌∷◌, ℕ, List, Option, None, IfOk, OnSome, ⊤};
 ghost use Rattle.record_file.specs.DiskStep.{Look, LookAtName, FindSoleFile, FindFile, Open, Hold, Link, Rename, Remove, SyncFolder, Cut, SyncFile};
-ghost use Rattle.record_file.specs.DiskStep.{DiskStep, Tells, answered, resolved, step_by};
+ghost use Rattle.load_devices.specs.Told.{Tells};
+ghost use Rattle.record_file.specs.DiskStep.{DiskStep, answered, resolved, step_by};
 
 use crate::locks::Locks;
 use std::alloc::Global;

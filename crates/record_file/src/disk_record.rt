@@ -8,7 +8,7 @@ ghost use Rattle.record_file.specs.Beginning.{course, IsMakingHeld, IsRenaming, 
 ghost use Rattle.record_file.specs.Beginning.{IsFileCut, IsReady, IsUnready, IsWrittenOver, IsNotWrittenOver};
 ghost use Rattle.record_file.specs.Course.{is_done, was_made, renamed};
 ghost use Rattle.record_file.specs.DiskRecord.{HasBegun};
-ghost use Rattle.record_file.specs.DiskStep.{HasAsked};
+ghost use Rattle.load_devices.specs.Told.{HasAsked};
 ghost use Rattle.record_file.specs.RecordFault.{IsUnbegun};
 
 use crate::beside::{BESIDE, folder_of, make_new};

@@ -1,7 +1,8 @@
 //! The file of a record, which one load at a time holds.
 ghost use Rattle.std.specs.Prelude.{◌≡◌, OnErr, ◌∷◌, IfErr, IfOk, None, Some, option_map, true, false};
 ghost use Rattle.record_file.specs.Beginning.{IsLetGo};
-ghost use Rattle.record_file.specs.DiskStep.{HasAsked, Tells, IsNameSeen, IsLookAtName, Failed, Open};
+ghost use Rattle.load_devices.specs.Told.{HasAsked, Tells};
+ghost use Rattle.record_file.specs.DiskStep.{IsNameSeen, IsLookAtName, Failed, Open};
 ghost use Rattle.record_file.specs.Holding.{IsFound, IsMade, IsOpened, hold_steps, IsHeld, IsTry, IsHolding, IsNotHeld};
 ghost use Rattle.record_file.specs.Taking.{made_of, IsOpenedAs, kind_of, tried, device_of, IsMadeSo};
 ghost use Rattle.record_file.specs.Reading.{kind_after};

@@ -3,7 +3,7 @@ ghost use Rattle.std.specs.Prelude.{◌≡◌, None, IfErr, IfOk, IsSome, IsTrue
 ghost use Rattle.record_file.specs.Beginning.{IsBegun, IsNotBegun};
 ghost use Rattle.record_file.specs.Closing.{IsRecordClosed, Remains};
 ghost use Rattle.record_file.specs.DiskRecord.{HasBegun};
-ghost use Rattle.record_file.specs.DiskStep.{HasAsked};
+ghost use Rattle.load_devices.specs.Told.{HasAsked};
 ghost use Rattle.record_file.specs.Reading.{IsRead, IsNotRead};
 ghost use Rattle.record_file.specs.RecordFault.{IsUnbegun, IsUnread};
 ghost use Rattle.record_file.specs.Taking.{kind_of};

@@ -1,7 +1,8 @@
 -- What becomes of a save, by what is said of its disk.
 use Rattle.std.proofs.Common.{◌≡◌, ◌∙◌, ◌++◌, ℕ, List, Option, None, Result, Ok, Err, IfOk, IfErr, inr, ap, refl, sym, subst}
-use Rattle.record_file.proofs.Asking.{tells_join}
-use Rattle.record_file.specs.DiskStep.{DiskStep, HasAsked}
+use Rattle.load_devices.proofs.Told.{tells_join}
+use Rattle.load_devices.specs.Told.{HasAsked}
+use Rattle.record_file.specs.DiskStep.{DiskStep}
 use Rattle.machine_look.specs.Save.{IsSavedAndReported}
 use Rattle.machine_look.specs.SaveDisk.{IsSavedOn}
 use Rattle.machine_look.specs.ShelfDisk.{ShelfDisk, IsClosed}

@@ -3,14 +3,14 @@ use Rattle.std.specs.Prelude.{◌≡◌, ◌⊎◌, ⊤, ℕ, Bool, List, Option
 use Rattle.console_reach.specs.Console.{ConsoleTold}
 use Rattle.tape_image.specs.Plan.{PlanValue, starting}
 use Rattle.load_engine.specs.declared.stop.Stop.{Stop}
-use Rattle.load_devices.specs.Told.{Gains}
+use Rattle.load_devices.specs.Told.{Gains, HasAsked}
 use Rattle.machine_load.specs.Called.{asked_by, IsAskedBefore}
 use Rattle.machine_load.specs.Load.{Around, IsReported}
 use Rattle.machine_load.specs.LoadFault.{IsLoadFault}
 use Rattle.machine_load.specs.RecordDisk.{FileKnown, IsClosedAfter, RecordDisk, disk_asked_by, disk_asked_before}
 use Rattle.machine_load.specs.declared.fault.LoadFault.{LoadFault}
 use Rattle.request_values.specs.declared.options.LoadOptions.{LoadOptions}
-use Rattle.record_file.specs.DiskStep.{DiskStep, HasAsked}
+use Rattle.record_file.specs.DiskStep.{DiskStep}
 use Rattle.endings.specs.declared.failure.Failure.{Failure}
 use Rattle.endings.specs.declared.failure.Failure.TheVariants.{CannotWrite}
 use Rattle.endings.specs.declared.status.Status.{Status}

@@ -1,7 +1,8 @@
 -- What becomes of a request to save what a real machine holds.
 use Rattle.std.specs.Prelude.{◌≡◌, ◌⊎◌, List, ◌++◌, Option, None, Result, Ok, Err, IfOk, IfErr}
 use Rattle.console_reach.specs.Console.{ConsoleTold}
-use Rattle.record_file.specs.DiskStep.{DiskStep, HasAsked}
+use Rattle.load_devices.specs.Told.{HasAsked}
+use Rattle.record_file.specs.DiskStep.{DiskStep}
 use Rattle.machine_look.specs.LookFault.{IsSaveFault}
 use Rattle.machine_look.specs.Save.{IsSavedAndReported, SaveTold}
 use Rattle.machine_look.specs.SaveDisk.{IsSavedOn, save_disk_asked_before}

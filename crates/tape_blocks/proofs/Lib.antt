@@ -1,16 +1,2 @@
-mod Faults
-mod Feeding
-mod FirstBlock
-mod Framing
-mod Fronts
-mod Heads
-mod Intake
-mod Joined
-mod Longer
-mod Needs
-mod Parts
-mod Plain
-mod Readings
-mod Standings
-mod Steps
-mod Totality
+pub mod Pieces
+pub mod Plain

@@ -1,14 +1,10 @@
 -- The plain text of a tape is a tape.
-use Rattle.std.proofs.Common.{◌≡◌, ℕ, ◌+◌, ◌<◌, List, [], ◌∷◌, ◌++◌, length, map, take, arith, ◌∙◌, sym, ap, subst, refl, length-append, append-nil, get_or, sum_by, All, Ok, ◌↔◌}
-use Rattle.std.proofs.lemmas.List.{take_more, map-append}
+use Rattle.std.proofs.Common.{◌≡◌, ℕ, ◌+◌, List, [], ◌∷◌, ◌++◌, length, map, arith, ◌∙◌, sym, ap, subst, refl, length-append, sum_by, All, ◌↔◌}
 use Rattle.std.proofs.lemmas.List.Sums.{sum_by-cons}
 use Rattle.tape_blocks.specs.Block.{BlockValue, IsBlock, data_block, transfer_block}
 use Rattle.tape_blocks.specs.Tape.{TapeValue, Piece, text_of, blocks_of, IsTape, IsSound, plain_text, written_length}
 use Rattle.tape_blocks.specs.Tape.Piece.{blank, block}
-use Rattle.tape_blocks.specs.Reading.{IsReading}
-use Rattle.tape_blocks.proofs.Fronts.{text_of-append}
-use Rattle.tape_blocks.proofs.Standings.{filled}
-use Rattle.tape_blocks.proofs.FirstBlock.{length-framed, take_seam}
+use Rattle.tape_blocks.proofs.Pieces.{filled, length-framed}
 
 blocks_of-blocks : (bs : List BlockValue) → blocks_of (map block bs) ≡ bs
 blocks_of-blocks [] = refl
@@ -30,30 +26,13 @@ length-plain_text tape =
     let f = length-framed tape.start [] in
     omega arith
 
-plain_text-tape : (tape : TapeValue) → IsSound tape → IsTape (plain_text tape) tape.blocks tape.start
+pub plain_text-tape : (tape : TapeValue) → IsSound tape → IsTape (plain_text tape) tape.blocks tape.start
 plain_text-tape tape s = record {
   pieces = map block tape.blocks;
   front = record { joined = refl; allowed = subst (All IsBlock) (sym (blocks_of-blocks tape.blocks)) s.each_block };
   all_used = blocks_of-blocks tape.blocks;
   within = let l = length-plain_text tape in let w = s.within in omega arith;
 }
-
--- whatever follows it
-pub read_again : (tape : TapeValue) (text more : List ℕ) (n : ℕ) → IsSound tape → text ≡ plain_text tape → n ≡ length text
-    → IsReading (text ++ more) (Ok (tape, n))
-read_again tape text more n s e l =
-    let a = length-append text more in
-    let t : take n (text ++ more) ≡ plain_text tape = take_seam n text more l ∙ e in
-    (omega arith, subst (λ x. IsTape x tape.blocks tape.start) (sym t) (plain_text-tape tape s))
-
--- one more block in the text
-pub text_of-push : (bs : List BlockValue) (i : ℕ) (b : BlockValue) → i < length bs → b ≡ get_or bs i b
-    → text_of (map block (take (i + 1) bs)) ≡ text_of (map block (take i bs)) ++ data_block b
-text_of-push bs i b h e =
-    ap (λ l. text_of (map block l)) (take_more bs i b h ∙ ap (λ x. take i bs ++ x ∷ []) (sym e))
-    ∙ ap text_of (map-append block (take i bs) (b ∷ []))
-    ∙ text_of-append (map block (take i bs)) (block b ∷ [])
-    ∙ ap (λ t. text_of (map block (take i bs)) ++ t) (append-nil (data_block b))
 
 -- pieces that fill no more than their blocks are their blocks
 only_blocks : (ps : List Piece) → length (text_of ps) ≡ sum_by (λ b. 7 + length b.bytes) (blocks_of ps) → ps ≡ map block (blocks_of ps)

@@ -2,11 +2,4 @@ pub mod Told
 pub mod Block
 pub mod Tape
 pub mod BadTape
-pub mod Fault
-pub mod Refusal
-pub mod Head
-pub mod Standing
-pub mod Progress
-pub mod Reading
-pub mod TapeReader
-pub mod Input
+pub mod OutOfMemory

@@ -1,17 +1,7 @@
 use std::marker::Model;
 
-/// What begins a block.
-pub(crate) const MARK: u8 = 1;
-
-/// The second byte of a block's mark, and what may stand before and between blocks.
-pub(crate) const BLANK: u8 = 0;
-
-/// The bytes before the data: mark, count and address. A block's count has them in, so this is the
-/// count of the transfer block, and the least one that there is.
-pub(crate) const HEADER: usize = 6;
-
 /// The bytes of a block besides its data: the header and the checksum.
-pub(crate) const FRAME: usize = 7;
+pub const FRAME: usize = 7;
 
 /// 160000 octal, the end of memory and the beginning of the I/O page: no block ends above it.
 pub const TOP: usize = 0o160000;

@@ -9,7 +9,7 @@ use std::fmt;
 use std::marker::Model;
 
 /// The most bytes that a tape may have, up to the end of its transfer block (this project's choice).
-pub(crate) const TAPE_LIMIT: usize = 1_048_576;
+pub const TAPE_LIMIT: usize = 1_048_576;
 
 /// Why a list of blocks makes no tape. Blocks are numbered from 0.
 #[derive(Clone, Copy, Debug, PartialEq, Eq)]
@@ -84,7 +84,7 @@ impl Tape {
     }
 
     /// The tape of blocks and a start address that are known to be one's.
-    pub(crate) fn of_sound(blocks: Vec<Block>, start: u16) -> Tape
+    pub fn of_sound(blocks: Vec<Block>, start: u16) -> Tape
         requires { IsSound (record { blocks = blocks.items; start = start }) }
         ensures { result ≡ record { blocks = blocks.items; start = start } }
     {

@@ -1,7 +1,7 @@
 -- The plan of blocks keeps what every plan keeps.
 use Rattle.std.proofs.Common.{◌≡◌, ℕ, zero, suc, ◌+◌, ◌*◌, ◌%◌, ◌<◌, ◌≤◌, true, false, cond, eqb, ltb, ◌++◌, List, [], Option, Some, None, refl, arith, ap, sym, ◌∙◌, subst}
 use Rattle.std.specs.Prelude.{All, IfSome, IfOk, Result}
-use Rattle.tape_blocks.specs.declared.fault.Memory.{Memory}
+use Rattle.tape_blocks.specs.declared.memory.Memory.{Memory}
 use Rattle.std.specs.Option.{option_or, option_to_list}
 use Rattle.std.specs.Ordering.{nat_cmp}
 use Rattle.std.specs.FinMap.{get, empty, get-empty}

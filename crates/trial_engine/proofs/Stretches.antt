@@ -7,7 +7,7 @@ use Rattle.load_devices.specs.declared.item.Item.{Item}
 use Rattle.load_devices.specs.declared.item.Item.TheVariants.{Sent, Heard as Came}
 use Rattle.load_devices.specs.Dialogue.{said}
 use Rattle.load_devices.specs.Told.{Gains, SaysNothing}
-use Rattle.load_engine.proofs.Sessions.{gains_kept, gains_join}
+use Rattle.load_devices.proofs.Told.{gains_kept, gains_join}
 use Rattle.trial_core.specs.declared.trial.Trial.{Trial}
 use Rattle.trial_core.specs.Laws.{led}
 use Rattle.trial_core.specs.Trial.{ended}

@@ -4,7 +4,7 @@ use Rattle.odt_machine.specs.Machine.{Machine}
 use Rattle.load_devices.specs.declared.item.Item.{Item}
 use Rattle.load_devices.specs.Dialogue.{heard_of}
 use Rattle.load_engine.specs.Session.{HasGained}
-use Rattle.honest_line.specs.Honest.{IsHonest}
+use Rattle.trial_law.specs.Honest.{IsHonest}
 use Rattle.trial_core.specs.declared.trial.Trial.{Trial}
 use Rattle.trial_law.specs.Trying.{IsLeftAlone, trial_dialogue}
 

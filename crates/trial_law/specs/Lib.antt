@@ -3,3 +3,4 @@ pub mod Rows
 pub mod Runs
 pub mod Splitting
 pub mod Trying
+pub use Rattle.honest_line.specs.Honest

@@ -1,4 +1,5 @@
-use Rattle.record_file.proofs.Asking.{asked_one, tells_none}
+use Rattle.load_devices.proofs.Told.{tells_none}
+use Rattle.record_file.proofs.Asking.{asked_one}
 use Rattle.machine_look.specs.ShelfDisk.{Free, There, Unknown, NoFileName}
 use Rattle.machine_look.proofs.new_file.find_free.Goals as goal
 

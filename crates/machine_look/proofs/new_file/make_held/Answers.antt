@@ -1,5 +1,6 @@
 use Rattle.std.proofs.Common.{true, false}
-use Rattle.record_file.proofs.Asking.{asked_one, tells_join}
+use Rattle.load_devices.proofs.Told.{tells_join}
+use Rattle.record_file.proofs.Asking.{asked_one}
 use Rattle.record_file.specs.Beginning.{IsThere, NotMade}
 use Rattle.machine_look.proofs.OnShelf.{still}
 use Rattle.machine_look.proofs.new_file.make_held.Goals as goal

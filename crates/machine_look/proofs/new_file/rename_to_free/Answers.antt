@@ -1,4 +1,5 @@
-use Rattle.record_file.proofs.Asking.{asked_one, tells_join}
+use Rattle.load_devices.proofs.Told.{tells_join}
+use Rattle.record_file.proofs.Asking.{asked_one}
 use Rattle.machine_look.specs.ShelfDisk.{NotFree}
 use Rattle.machine_look.proofs.OnShelf.{renamed, not_renamed}
 use Rattle.machine_look.proofs.new_file.rename_to_free.Goals as goal

@@ -1,4 +1,5 @@
-use Rattle.record_file.proofs.Asking.{asked_one, tells_join}
+use Rattle.load_devices.proofs.Told.{tells_join}
+use Rattle.record_file.proofs.Asking.{asked_one}
 use Rattle.machine_look.specs.ShelfDisk.{Settled, Unsettled}
 use Rattle.machine_look.proofs.OnShelf.{gone_as}
 use Rattle.machine_look.proofs.new_file.settle.Goals as goal

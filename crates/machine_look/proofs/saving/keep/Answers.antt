@@ -5,7 +5,8 @@ use Rattle.machine_look.specs.declared.look_fault.LookFault.TheVariants.{Memory}
 use Rattle.machine_look.specs.LookFault.{IsKeepFault, fault_of_shelf}
 use Rattle.machine_look.specs.SavedTape.{saved_tape}
 use Rattle.machine_look.specs.Shelf.{Put}
-use Rattle.machine_look.proofs.Faults.{error_is, gains_none, no_ok, not_put, puts_none, puts_some}
+use Rattle.load_devices.proofs.Told.{gains_none}
+use Rattle.machine_look.proofs.Faults.{error_is, no_ok, not_put, puts_none, puts_some}
 use Rattle.machine_look.specs.SaveDisk.{IsNotKeptOn, saved_text}
 use Rattle.machine_look.specs.ShelfDisk.{ShelfAskedIn}
 use Rattle.machine_look.proofs.SavedOnDisk.{kept_none, kept_some, left_alone, not_put_on}

@@ -10,7 +10,8 @@ use Rattle.machine_look.specs.LookFault.{IsKeepFault, IsSaveFault, fault_of_shel
 use Rattle.machine_look.specs.Save.{puts, save_told}
 use Rattle.machine_look.specs.SavedTape.{saved_tape}
 use Rattle.machine_look.specs.Shelf.{Reserve}
-use Rattle.machine_look.proofs.Faults.{error_is, gains_none, gains_then, no_value, not_kept, not_reserved}
+use Rattle.load_devices.proofs.Told.{gains_none, gains_join}
+use Rattle.machine_look.proofs.Faults.{error_is, no_value, not_kept, not_reserved}
 use Rattle.machine_look.proofs.SavedMemory.{read_of, reads_low}
 use Rattle.machine_look.specs.SaveDisk.{IsLeftAlone, save_disk_asked_before}
 use Rattle.machine_look.specs.ShelfDisk.{ShelfAsked}
@@ -81,7 +82,7 @@ returns-in_err-write_and_flush-clause-fault g c =
     error_is c.from_residual-in_err-write_and_flush.result WriteOutput
     (IsSaveFault c.args.options (save_told g.S.Shelf.steps g.R.Reach.asked g.R.Reach.call g.W.Write.contents c.args.shelf.now c.args.console.now c.args.out.now) (save_told g.S.Shelf.steps g.R.Reach.asked g.R.Reach.call g.W.Write.contents c.keep.new.shelf c.look_over.new.console c.write_and_flush.new.out))
     c.from_residual-in_err-write_and_flush.ensures.1 (record {
-      saved = record { read = read; is_put = gains_then (g.S.Shelf.steps c.args.shelf.now) (g.S.Shelf.steps c.reserve.new.self) (g.S.Shelf.steps c.keep.new.shelf) (Reserve ∷ []) _ c.in_ok-reserve.ensures.step kept };
+      saved = record { read = read; is_put = gains_join (g.S.Shelf.steps c.args.shelf.now) (g.S.Shelf.steps c.reserve.new.self) (g.S.Shelf.steps c.keep.new.shelf) (Reserve ∷ []) _ c.in_ok-reserve.ensures.step kept };
       missing = c.in_err-write_and_flush.ensures.err.0;
       reported = subst (λ t. WritesAllBut (g.W.Write.contents c.args.out.now) (g.W.Write.contents c.write_and_flush.new.out) t c.in_err-write_and_flush.ensures.err.0) text c.in_err-write_and_flush.ensures.err.1;
     })
@@ -108,7 +109,7 @@ returns-clause-reported g c =
     (subst (λ (numbers : List ℕ). Gains (g.S.Shelf.steps c.reserve.new.self) (g.S.Shelf.steps c.keep.new.shelf) (puts c.from-from.result numbers c.args.options.start)) c.values.ensures.value c.in_ok-keep.ensures.ok) in
     let text = c.deref.ensures.0 ∙ c.save_report.ensures in
     record {
-      saved = record { read = read; is_put = gains_then (g.S.Shelf.steps c.args.shelf.now) (g.S.Shelf.steps c.reserve.new.self) (g.S.Shelf.steps c.keep.new.shelf) (Reserve ∷ []) _ c.in_ok-reserve.ensures.step kept };
+      saved = record { read = read; is_put = gains_join (g.S.Shelf.steps c.args.shelf.now) (g.S.Shelf.steps c.reserve.new.self) (g.S.Shelf.steps c.keep.new.shelf) (Reserve ∷ []) _ c.in_ok-reserve.ensures.step kept };
       end_is = c.save_end.ensures;
       reported = subst (Appends (g.W.Write.contents c.args.out.now) (g.W.Write.contents c.write_and_flush.new.out)) text c.in_ok-write_and_flush.ensures.ok;
     }

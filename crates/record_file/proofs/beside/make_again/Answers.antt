@@ -1,4 +1,5 @@
-use Rattle.record_file.proofs.Asking.{asked_one, tells_join}
+use Rattle.load_devices.proofs.Told.{tells_join}
+use Rattle.record_file.proofs.Asking.{asked_one}
 use Rattle.record_file.proofs.Rows.{again}
 use Rattle.record_file.specs.Beginning.{Kept}
 use Rattle.record_file.proofs.beside.make_again.Goals as goal

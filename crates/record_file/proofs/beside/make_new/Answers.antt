@@ -1,4 +1,5 @@
-use Rattle.record_file.proofs.Asking.{asked_one, tells_join}
+use Rattle.load_devices.proofs.Told.{tells_join}
+use Rattle.record_file.proofs.Asking.{asked_one}
 use Rattle.record_file.proofs.Rows.{fresh}
 use Rattle.record_file.specs.Beginning.{Fresh}
 use Rattle.std.proofs.Common.{false}

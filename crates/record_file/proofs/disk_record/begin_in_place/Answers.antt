@@ -1,4 +1,5 @@
-use Rattle.record_file.proofs.Asking.{asked_one, tells_join, on_err, not_ok}
+use Rattle.load_devices.proofs.Told.{tells_join}
+use Rattle.record_file.proofs.Asking.{asked_one, on_err, not_ok}
 use Rattle.record_file.proofs.Rows.{over_device, over_file}
 use Rattle.std.proofs.Common.{subst, sym, ◌∙◌}
 use Rattle.record_file.specs.Beginning.{IsLetGo, IsReady, Unready, Unwritten, Uncut}

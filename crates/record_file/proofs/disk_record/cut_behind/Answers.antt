@@ -1,4 +1,5 @@
-use Rattle.record_file.proofs.Asking.{asked_one, tells_join, tells_failed, tells_done}
+use Rattle.load_devices.proofs.Told.{tells_join}
+use Rattle.record_file.proofs.Asking.{asked_one, tells_failed, tells_done}
 use Rattle.record_file.specs.Beginning.{CutAndSynced, NotCut}
 use Rattle.std.proofs.Common.{true, false}
 use Rattle.record_file.proofs.disk_record.cut_behind.Goals as goal

@@ -1,4 +1,5 @@
-use Rattle.record_file.proofs.Asking.{asked_one, tells_join}
+use Rattle.load_devices.proofs.Told.{tells_join}
+use Rattle.record_file.proofs.Asking.{asked_one}
 use Rattle.record_file.specs.Beginning.{IsThere, NotMade}
 use Rattle.std.proofs.Common.{true, false}
 use Rattle.record_file.proofs.disk_record.make_beside.Goals as goal

@@ -1,4 +1,5 @@
-use Rattle.record_file.proofs.Asking.{asked_one, tells_join}
+use Rattle.load_devices.proofs.Told.{tells_join}
+use Rattle.record_file.proofs.Asking.{asked_one}
 use Rattle.record_file.specs.Beginning.{FolderOpened, NotOpened}
 use Rattle.std.proofs.Common.{true, false}
 use Rattle.record_file.proofs.disk_record.sync_folder.Goals as goal

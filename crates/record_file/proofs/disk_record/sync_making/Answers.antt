@@ -1,4 +1,5 @@
-use Rattle.record_file.proofs.Asking.{asked_one, tells_none, tells_join}
+use Rattle.load_devices.proofs.Told.{tells_none, tells_join}
+use Rattle.record_file.proofs.Asking.{asked_one}
 use Rattle.record_file.proofs.Rows.{old_file, new_file, new_behind_link, unresolved}
 use Rattle.std.proofs.Common.{subst}
 use Rattle.record_file.specs.Beginning.{IsFolderSync}

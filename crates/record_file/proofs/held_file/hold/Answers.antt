@@ -1,4 +1,5 @@
-use Rattle.record_file.proofs.Asking.{asked_one, tells_none, on_err, not_ok}
+use Rattle.load_devices.proofs.Told.{tells_none}
+use Rattle.record_file.proofs.Asking.{asked_one, on_err, not_ok}
 use Rattle.record_file.proofs.Rows.{held_at_last, one_more, not_held, of_try}
 use Rattle.std.proofs.Common.{rules, ◌+◌}
 use Rattle.record_file.specs.Holding.{NoTry}

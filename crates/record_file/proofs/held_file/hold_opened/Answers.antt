@@ -1,4 +1,5 @@
-use Rattle.record_file.proofs.Asking.{asked_one, tells_none, tells_join}
+use Rattle.load_devices.proofs.Told.{tells_none, tells_join}
+use Rattle.record_file.proofs.Asking.{asked_one}
 use Rattle.record_file.proofs.Rows.{not_free, free, moved}
 use Rattle.record_file.specs.Holding.{Unknown}
 use Rattle.record_file.proofs.held_file.hold_opened.Goals as goal

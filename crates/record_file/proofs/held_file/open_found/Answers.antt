@@ -1,5 +1,6 @@
 use Rattle.record_file.specs.Holding.{Writable, Protected, Refused}
-use Rattle.record_file.proofs.Asking.{asked_one, tells_join}
+use Rattle.load_devices.proofs.Told.{tells_join}
+use Rattle.record_file.proofs.Asking.{asked_one}
 use Rattle.record_file.proofs.held_file.open_found.Goals as goal
 
 pub returns-in-Ok-clause-asked : goal.returns-in-Ok-clause-asked

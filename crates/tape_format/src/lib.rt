@@ -1,0 +1,33 @@
+//! Reads and writes absolute loader tapes (.LDA), as the RT-11 Software Support Manual lays them
+//! out. A tape is a row of blocks, and bytes 00 may stand before and between them:
+//!
+//!     01 00             mark
+//!     low high          count of the bytes from the 01 to the last data byte
+//!     low high          address of the first data byte
+//!     data bytes        count - 6 of them
+//!     checksum          makes the sum of the whole block 0 modulo 256
+//!
+//! A block of count 6 is the transfer block: it ends the tape, and its address starts the program.
+//!
+//! The contract: `read_tape` answers a tape exactly where one begins the input, and else the one
+//! fault of the input, at its place; `TapeReader` answers the same of any pieces, and `read_from` of
+//! an input, of which it takes the tape alone; `write_tape` gives the plain text, which reads as the
+//! same tape.
+//! What a tape is once it is read stands in `tape_blocks`; `command_io` reads the tapes of the commands here.
+#![tactic(auto)]
+
+mod checksum;
+mod fault;
+mod head;
+mod input;
+mod law;
+mod outcome;
+mod progress;
+mod reader;
+mod writer;
+
+pub use fault::{Fault, REFUSED_AT, ReadError, TAPE, Why};
+pub use input::{FromError, read_from};
+pub use law::{one_reading, one_tape};
+pub use reader::{Fed, TapeReader, read_tape};
+pub use writer::write_tape;

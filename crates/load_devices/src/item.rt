@@ -1,5 +1,4 @@
-use host_core::Heard;
-use host_core::Word;
+use host_core::{Heard, Word};
 
 /// One thing that was said on a line.
 #[derive(Clone, Copy, Debug, PartialEq, Eq)]

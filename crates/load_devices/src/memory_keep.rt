@@ -5,10 +5,10 @@ ghost use Rattle.load_devices.specs.KeepTable.{empty_keep, after_keeping, keep_r
 use crate::fault::KeepFault;
 use crate::item::Kept;
 use crate::keep::Keep;
+use host_core::Word;
 use std::alloc::Global;
 use std::marker::Model;
 use tape_blocks::Memory;
-use host_core::Word;
 
 /// A keeper in memory, which shows what it keeps, and can be made to fail.
 ///

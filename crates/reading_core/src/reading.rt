@@ -11,11 +11,10 @@ use crate::life::{Life, Outcome};
 use crate::phase::{End, Phase};
 use crate::table;
 use crate::turn::Turn;
-use host_core::Heard;
 use host_core::console::{CARRIAGE_RETURN, RESYNCHRONISE};
+use host_core::{Heard, Plan};
 use std::alloc::{AllocError, Global};
 use std::marker::Model;
-use host_core::Plan;
 
 /// A host that reads the words at a list of addresses and changes none: it says which character to
 /// type next.

@@ -1,14 +1,14 @@
 -- What the bytes that were taken say of the whole input.
 use Rattle.std.proofs.Common.{◌≡◌, ℕ, List, [], ◌++◌, Option, Some, None, refl, sym, ap, ◌∙◌, subst, append-nil, ⊎_elim}
 use Rattle.std.specs.Io.KnownBytes.{Consumes, IsAtEnd}
-use Rattle.tape_format.specs.Refusal.{IsRefused}
-use Rattle.tape_format.specs.Standing.{IsRefusedForGood}
-use Rattle.tape_format.specs.declared.fault.Fault.{Fault}
+use Rattle.tape_blocks.specs.Refusal.{IsRefused}
+use Rattle.tape_blocks.specs.Standing.{IsRefusedForGood}
+use Rattle.tape_blocks.specs.declared.fault.Fault.{Fault}
 use Rattle.std.specs.Prelude.{◌⊎◌}
 use Rattle.tape_blocks.specs.Tape.{TapeValue}
-use Rattle.tape_format.specs.declared.input.FromError.{FromError}
-use Rattle.tape_format.specs.declared.input.FromError.TheVariants.{Tape}
-use Rattle.tape_format.specs.Input.{IsReadFrom, input_limit}
+use Rattle.tape_blocks.specs.declared.input.FromError.{FromError}
+use Rattle.tape_blocks.specs.declared.input.FromError.TheVariants.{Tape}
+use Rattle.tape_blocks.specs.Input.{IsReadFrom, input_limit}
 use Rattle.std.proofs.Common.{Result, Ok, Err}
 use Rattle.byte_io.specs.Input.{TakesAtMost}
 use Rattle.tape_blocks.specs.Told.{IsAsTold}

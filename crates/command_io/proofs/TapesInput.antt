@@ -6,7 +6,7 @@ use Rattle.std.proofs.lemmas.List.{map-append, take-map, drop-map, take_all, tak
 use Rattle.std.proofs.lemmas.List.Elements.{AllZip-push}
 use Rattle.tape_blocks.specs.Tape.{TapeValue}
 use Rattle.byte_io.specs.Input.{TakesAtMost}
-use Rattle.tape_format.specs.Input.{input_limit}
+use Rattle.tape_blocks.specs.Input.{input_limit}
 use Rattle.command_io.specs.Tapes.{TapeText, IsTapeTaken, AreTaken, AreTapes, StopsAt, TakeAtMost, tapes_of, lengths_of}
 
 -- of the first inputs tapes were taken, and the others are as they were

@@ -1,8 +1,8 @@
 -- What an input says of a tape that is refused.
 use Rattle.std.specs.Prelude.{ℕ, List, Option}
 use Rattle.tape_blocks.specs.Told.{IsAsTold}
-use Rattle.tape_format.specs.Refusal.{IsRefused}
-use Rattle.tape_format.specs.declared.fault.Fault.{Fault}
+use Rattle.tape_blocks.specs.Refusal.{IsRefused}
+use Rattle.tape_blocks.specs.declared.fault.Fault.{Fault}
 
 -- the input is refused for this fault
 pub record IsRefusedInput (known : Option (List ℕ)) (fault : Fault) : Type 0 where

@@ -3,7 +3,7 @@ use Rattle.std.specs.Prelude.{◌≡◌, ℕ, ◌+◌, List, [], ◌∷◌, leng
 use Rattle.std.specs.List.{AllZip}
 use Rattle.std.specs.Io.KnownBytes.{Consumes}
 use Rattle.tape_blocks.specs.Tape.{TapeValue, IsTape}
-use Rattle.tape_format.specs.Input.{input_limit}
+use Rattle.tape_blocks.specs.Input.{input_limit}
 use Rattle.byte_io.specs.Input.{TakesAtMost}
 use Rattle.command_io.specs.TapeFile.{IsRefusedInput}
 use Rattle.command_io.specs.declared.fault.CommandFault.{CommandFault}

@@ -1,7 +1,6 @@
 use byte_io::WriteFault;
 use std::alloc::AllocError;
-use tape_blocks::Memory;
-use tape_format::Fault;
+use tape_blocks::{Fault, Memory};
 
 /// Why a command did not do what it was asked.
 #[derive(Clone, Copy, Debug, PartialEq, Eq)]

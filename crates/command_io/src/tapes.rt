@@ -5,8 +5,7 @@ ghost use Rattle.command_io.specs.Tapes.{AreTapes, AreTapesFault, TakeAtMost};
 use crate::fault::CommandFault;
 use std::alloc::{AllocError, Global};
 use std::io::Read;
-use tape_blocks::Tape;
-use tape_format::{FromError, read_from};
+use tape_blocks::{FromError, Tape, read_from};
 
 /// Tapes, and how many bytes each was read from.
 #[derive(Drop)]

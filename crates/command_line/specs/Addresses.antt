@@ -1,7 +1,7 @@
 -- Addresses on the command line (this project's own).
 use Rattle.std.specs.Prelude.{◌≡◌, ℕ, ◌<◌, ◌≤◌, ◌-◌, ◌%◌, List, ◌++◌, length, replicate}
 use Rattle.octal.specs.Octal.{IsOct6}
-use Rattle.tape_blocks.specs.Block.{top}
+use Rattle.tape_values.specs.Block.{top}
 
 -- the text is a number in one to six octal digits
 pub record IsOctalText (text : List ℕ) (number : ℕ) : Type 0 where

@@ -14,8 +14,8 @@ use command_words::names::{ADDRESS, FROM, NO_START, START, TO};
 use octal::read_oct6;
 use request_values::AddressRange;
 use std::alloc::Global;
-use tape_blocks::TOP;
 use tape_image::Start;
+use tape_values::TOP;
 
 // Why a word is no start of a load.
 const NO_START_ADDRESS: &str = "a start is octal, of one to six digits, and even";

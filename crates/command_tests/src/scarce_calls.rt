@@ -6,8 +6,7 @@ use odt_machine::{LARGEST_WORDS, Odt, PLAIN_STYLE};
 use scarce_memory::{Famine, ROOMS};
 use simulated_system::{NOTHING, ONE_WORD, OVERLAP, PADDED, WRONG_SUM};
 use std::alloc::{AllocError, Global};
-use tape_blocks::Tape;
-use tape_format::{Fault, ReadError, Why, read_tape, write_tape};
+use tape_blocks::{Fault, ReadError, Tape, Why, read_tape, write_tape};
 use tape_image::Plan;
 
 // A call that takes memory.

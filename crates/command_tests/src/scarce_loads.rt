@@ -9,8 +9,7 @@ use simulated_system::{AMPLE, ONE_WORD, QUIET_MS, Setting, System};
 use std::alloc::{AllocError, Global};
 use std::fs;
 use std::test::Fail;
-use tape_blocks::{Block, Tape};
-use tape_format::write_tape;
+use tape_blocks::{Block, Tape, write_tape};
 
 // How many words a long tape has: as many things have to have room in a record that is kept in memory.
 const WORDS: usize = 2000;

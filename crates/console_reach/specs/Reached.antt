@@ -1,6 +1,6 @@
 -- What reaching a console gives, and what it is for.
 use Rattle.std.specs.Prelude.{◌≡◌, ℕ, List, [], Option, None, ⊤}
-use Rattle.tape_blocks.specs.Told.{IsAsTold}
+use Rattle.tape_values.specs.Told.{IsAsTold}
 use Rattle.load_devices.specs.declared.item.Item.{Item}
 use Rattle.load_devices.specs.declared.fault.LineFault.{LineFault}
 use Rattle.load_devices.specs.declared.fault.LineFault.TheVariants.{Connect, Receive}

@@ -1,7 +1,7 @@
 //! Plans that the tests keep records of.
 
 use std::alloc::Global;
-use tape_format::read_tape;
+use tape_blocks::read_tape;
 use tape_image::Plan;
 
 // The plan of a tape, if it is one and memory is left.

@@ -6,9 +6,9 @@ use Rattle.std.specs.Char.{is_control}
 use Rattle.std.specs.Char.Escape.{escape_default}
 use Rattle.std.specs.List.{flat_map}
 use Rattle.std.specs.Str.{chars}
-use Rattle.tape_format.specs.declared.fault.Fault.{Fault}
+use Rattle.tape_blocks.specs.declared.fault.Fault.{Fault}
+use Rattle.tape_blocks.specs.Fault.{fault_text, refused_tape_text}
 use Rattle.tape_blocks.specs.OutOfMemory.{memory_text}
-use Rattle.tape_format.specs.Fault.{fault_text, refused_tape_text}
 use Rattle.endings.specs.FaultOutput.{StandardError, IsSaid}
 use Rattle.endings.specs.declared.failure.Failure.{Failure}
 use Rattle.endings.specs.declared.failure.Failure.TheVariants.{CannotRead, CannotWrite, CannotWriteFile, FileIsThere, RecordInUse, CannotConnect}

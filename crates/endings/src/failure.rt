@@ -1,7 +1,7 @@
 use crate::status::Status;
 use command_io::CommandFault;
 use load_record::RecordError;
-use tape_format::Fault;
+use tape_blocks::Fault;
 
 /// Why the program did not do what it was asked, in the words of its line on standard error.
 #[derive(Clone, Copy)]

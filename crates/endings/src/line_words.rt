@@ -2,14 +2,13 @@
 ghost use Rattle.std.specs.Prelude.{◌≡◌, ◌≤◌, ◌++◌, ◌+◌, codes, length};
 ghost use Rattle.arrayvec.specs.ArrayVec.{array_vec_len};
 ghost use Rattle.endings.specs.Failure.{failure_words, one_tape_text, refused_line_text};
-ghost use Rattle.tape_format.specs.Fault.{fault_text};
+ghost use Rattle.tape_blocks.specs.Fault.{fault_text};
 
 use crate::failure::Failure;
 use arrayvec::ArrayVec;
 use byte_io::{push_bytes, push_decimal};
 use load_record::RecordError;
-use tape_blocks::OUT_OF_MEMORY;
-use tape_format::{Fault, REFUSED_AT, TAPE};
+use tape_blocks::{Fault, OUT_OF_MEMORY, REFUSED_AT, TAPE};
 
 /// The words of a line, with room for the longest and for its end.
 pub(crate) type LineWords = ArrayVec<u8, 128>;

@@ -14,7 +14,7 @@ use load_devices::{Item, Line, LineFault};
 use odt_machine::Odt;
 use std::alloc::Global;
 use std::marker::Model;
-use tape_blocks::Memory;
+use tape_values::Memory;
 
 // The most answer characters for which the line has room.
 const WAITING_ROOM: usize = 64;

@@ -6,7 +6,7 @@ use std::alloc::{AllocError, Global};
 use std::collections::VecDeque;
 use std::io::{BufReader, ErrorKind, Read};
 use std::{io, mem};
-use tape_format::{FromError, read_from};
+use tape_blocks::{FromError, read_from};
 
 /// What a file is read as, which says how much of it is asked for.
 #[derive(Clone, Copy, Debug, PartialEq, Eq)]

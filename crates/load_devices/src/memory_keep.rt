@@ -8,7 +8,7 @@ use crate::keep::Keep;
 use host_core::Word;
 use std::alloc::Global;
 use std::marker::Model;
-use tape_blocks::Memory;
+use tape_values::Memory;
 
 /// A keeper in memory, which shows what it keeps, and can be made to fail.
 ///

@@ -7,7 +7,7 @@ use std::io::ErrorKind;
 use std::os::unix::fs::symlink;
 use std::test::Fail;
 use std::{fs, io};
-use tape_format::read_tape;
+use tape_blocks::read_tape;
 use tape_image::Plan;
 use told_disk::{Failing, ToldDisk};
 

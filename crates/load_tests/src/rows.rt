@@ -8,7 +8,7 @@ use load_engine::Stop;
 use odt_machine::{LARGEST_WORDS, Odt, PLAIN_STYLE};
 use request_values::LoadOptions;
 use std::alloc::Global;
-use tape_format::read_tape;
+use tape_blocks::read_tape;
 use tape_image::Plan;
 
 // The smallest tape with a word: 011064 at 001000, where it starts.

@@ -1,7 +1,7 @@
 -- A load: what a record says, what was done on the line, and what was reported.
 use Rattle.std.specs.Prelude.{◌≡◌, ◌⊎◌, ℕ, Bool, true, false, ◌&&◌, not, if◌then◌else◌, List, [], ◌∷◌, Option, Some, None, Ok}
 use Rattle.std.specs.Io.KnownBytes.{Appends, Keeps}
-use Rattle.tape_blocks.specs.Told.{IsAsTold}
+use Rattle.tape_values.specs.Told.{IsAsTold}
 use Rattle.tape_image.specs.Plan.{PlanValue}
 use Rattle.host_core.specs.declared.phase.End.{End}
 use Rattle.host_core.specs.declared.phase.End.TheVariants.{Loaded, MaybeStarted}

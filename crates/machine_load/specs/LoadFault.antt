@@ -1,7 +1,7 @@
 -- How a load comes to nothing, and what was done before.
 use Rattle.std.specs.Prelude.{◌≡◌, ◌⊎◌, ℕ, Bool, true, false, List, [], ◌∷◌, Option, Err}
 use Rattle.std.specs.Io.KnownBytes.{Keeps}
-use Rattle.tape_blocks.specs.Told.{IsAsTold}
+use Rattle.tape_values.specs.Told.{IsAsTold}
 use Rattle.tape_image.specs.Plan.{PlanValue}
 use Rattle.load_record.specs.declared.reader.RecordError.{RecordError}
 use Rattle.load_record.specs.Reading.{Says}

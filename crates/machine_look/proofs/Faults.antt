@@ -2,7 +2,7 @@
 use Rattle.std.proofs.Common.{◌≡◌, ℕ, true, false, eqb, List, [], ◌∷◌, length, Option, Result, Ok, Err, IfErr, IfOk, IsErrAnd, refl, arith, sym, subst, inl, inr, OnErr, OnOk}
 use Rattle.std.proofs.lemmas.Bool.{eqb-true}
 use Rattle.std.specs.Io.KnownBytes.{Keeps}
-use Rattle.tape_blocks.specs.Tape.{TapeValue, plain_text}
+use Rattle.tape_values.specs.Tape.{TapeValue, plain_text}
 use Rattle.load_devices.specs.Told.{Gains}
 use Rattle.load_devices.proofs.Told.{gains_join}
 use Rattle.machine_look.specs.declared.look_fault.LookFault.{LookFault}

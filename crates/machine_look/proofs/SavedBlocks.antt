@@ -9,11 +9,11 @@ use Rattle.std.proofs.lemmas.List.{length-take-le, take_all}
 use Rattle.std.proofs.lemmas.List.Concat.{flat_map-append}
 use Rattle.std.proofs.lemmas.List.Sums.{sum_by_push}
 use Rattle.std.proofs.lemmas.List.Elements.{All-nil, All-cons, All-push, All-head, All-tail, All-take, All-drop}
-use Rattle.tape_blocks.specs.Block.{BlockValue, IsBlock, HoldsBytes, block_at, low_first, top}
-use Rattle.tape_blocks.specs.BadTape.{IsBadTape}
-use Rattle.tape_blocks.specs.Tape.{written_length, tape_limit}
-use Rattle.tape_blocks.specs.declared.tape.BadTape.{BadTape}
-use Rattle.tape_blocks.specs.declared.tape.BadTape.TheVariants.{EmptyBlock, BlockPastTop, TooMuch}
+use Rattle.tape_values.specs.Block.{BlockValue, IsBlock, HoldsBytes, block_at, low_first, top}
+use Rattle.tape_values.specs.BadTape.{IsBadTape}
+use Rattle.tape_values.specs.Tape.{written_length, tape_limit}
+use Rattle.tape_values.specs.declared.tape.BadTape.{BadTape}
+use Rattle.tape_values.specs.declared.tape.BadTape.TheVariants.{EmptyBlock, BlockPastTop, TooMuch}
 use Rattle.tape_image.specs.Image.{byte_in, byte_at}
 use Rattle.tape_image.proofs.Blocks.{byte_in-before, byte_in-behind}
 use Rattle.tape_image.proofs.Laying.{byte_at-append, byte_in-append}

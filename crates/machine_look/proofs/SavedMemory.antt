@@ -4,7 +4,7 @@ use Rattle.std.proofs.lemmas.Bool.{cases_lt, ne_eqb}
 use Rattle.std.proofs.lemmas.List.{get_or_append_left}
 use Rattle.std.proofs.Math.Seq.{get_or-append_seam}
 use Rattle.tape_image.specs.Word.{whole_word}
-use Rattle.tape_blocks.specs.Block.{top}
+use Rattle.tape_values.specs.Block.{top}
 use Rattle.odt_machine.specs.Machine.{word_at}
 use Rattle.reading_core.specs.Addresses.{IsRange, addresses_from, addresses_between}
 use Rattle.reading_core.specs.declared.phase.End.TheVariants.{Complete}

@@ -7,8 +7,8 @@ use Rattle.std.proofs.lemmas.Bool.{cases_eq, cases_lt, eq-eqb, ne_eqb}
 use Rattle.std.proofs.lemmas.List.{take_all}
 use Rattle.std.proofs.lemmas.List.Kept.{AllPairs-cons}
 use Rattle.std.proofs.lemmas.List.Elements.{All-nil, All-cons, All-head, All-tail}
-use Rattle.tape_blocks.specs.Block.{block_at, low_first, top}
-use Rattle.tape_blocks.specs.Tape.{TapeValue}
+use Rattle.tape_values.specs.Block.{block_at, low_first, top}
+use Rattle.tape_values.specs.Tape.{TapeValue}
 use Rattle.tape_image.specs.Memory.{half}
 use Rattle.tape_image.specs.Word.{WordValue, IsWord, covers, whole_word}
 use Rattle.tape_image.specs.Image.{byte_in, byte_at}

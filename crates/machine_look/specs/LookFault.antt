@@ -1,7 +1,7 @@
 -- How a look comes to nothing, and what was done before (this project's own).
 use Rattle.std.specs.Prelude.{◌≡◌, ◌⊎◌, ℕ, List, [], ◌∷◌, Option, None}
 use Rattle.std.specs.Io.KnownBytes.{Keeps}
-use Rattle.tape_blocks.specs.Tape.{TapeValue, plain_text}
+use Rattle.tape_values.specs.Tape.{TapeValue, plain_text}
 use Rattle.tape_image.specs.Plan.{PlanValue}
 use Rattle.load_devices.specs.Told.{Gains}
 use Rattle.stream_line.specs.Dialling.{IsAskedInVain, asked_once}

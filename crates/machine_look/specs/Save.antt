@@ -1,7 +1,7 @@
 -- What `save` does (this project's own).
 use Rattle.std.specs.Prelude.{◌≡◌, ℕ, List, [], ◌∷◌, length, map, take, Option}
 use Rattle.std.specs.Io.KnownBytes.{Appends, Keeps}
-use Rattle.tape_blocks.specs.Tape.{TapeValue, plain_text}
+use Rattle.tape_values.specs.Tape.{TapeValue, plain_text}
 use Rattle.tape_image.specs.Plan.{plan_of}
 use Rattle.tape_image.specs.Word.{whole_word}
 use Rattle.odt_machine.specs.Machine.{Machine, word_at}

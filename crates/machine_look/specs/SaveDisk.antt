@@ -1,6 +1,6 @@
 -- What a save asks of the disk on which its tape goes: room is made once, and then the tape is put there once, or not at all.
 use Rattle.std.specs.Prelude.{◌≡◌, ◌⊎◌, ℕ, List, [], ◌∷◌, ◌++◌, Some, None}
-use Rattle.tape_blocks.specs.Tape.{plain_text}
+use Rattle.tape_values.specs.Tape.{plain_text}
 use Rattle.record_file.specs.DiskStep.{DiskStep}
 use Rattle.machine_look.specs.declared.look_fault.LookFault.{LookFault}
 use Rattle.machine_look.specs.declared.look_fault.LookFault.TheVariants.{IsThere, WriteTape, Connect, WriteOutput, Memory}

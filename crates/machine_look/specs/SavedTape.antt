@@ -2,8 +2,8 @@
 use Rattle.std.specs.Prelude.{◌≡◌, ℕ, zero, suc, ◌+◌, ◌-◌, ◌*◌, ◌/◌, ◌<◌, List, [], ◌∷◌, ◌++◌, length, take, drop, slice_index}
 use Rattle.std.specs.List.{flat_map}
 use Rattle.std.specs.FinMap.{get}
-use Rattle.tape_blocks.specs.Block.{BlockValue, block_at, low_first}
-use Rattle.tape_blocks.specs.Tape.{TapeValue}
+use Rattle.tape_values.specs.Block.{BlockValue, block_at, low_first}
+use Rattle.tape_values.specs.Tape.{TapeValue}
 use Rattle.tape_image.specs.Word.{WordValue, whole_word}
 use Rattle.tape_image.specs.Plan.{plan_of, given_byte, program_start}
 

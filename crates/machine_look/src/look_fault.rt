@@ -2,7 +2,7 @@ use crate::shelf::ShelfFault;
 use byte_io::WriteFault;
 use load_devices::LineFault;
 use std::alloc::AllocError;
-use tape_blocks::Memory;
+use tape_values::Memory;
 
 /// Why a look came to nothing.
 #[derive(Clone, Copy, Debug, PartialEq, Eq)]

@@ -1,11 +1,11 @@
 //! The tape of what was read.
 ghost use Rattle.std.specs.Prelude.{◌≡◌, ℕ, ◌+◌, ◌*◌, ◌%◌, ◌<◌, ◌≤◌, List, length, IfOk};
 ghost use Rattle.std.specs.List.{flat_map};
-ghost use Rattle.tape_blocks.specs.Block.{low_first, top};
+ghost use Rattle.tape_values.specs.Block.{low_first, top};
 ghost use Rattle.machine_look.specs.SavedTape.{HoldsWhatWasRead, StandFrom, saved_block, saved_tape};
 
 use std::alloc::{AllocError, Global};
-use tape_blocks::{Block, Tape};
+use tape_values::{Block, Tape};
 
 // How many words a block has, but for the last: 512 bytes.
 const BLOCK_WORDS: usize = 256;

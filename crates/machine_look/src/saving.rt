@@ -1,6 +1,6 @@
 //! The command `save`: what memory holds, as a tape.
 ghost use Rattle.std.specs.Prelude.{◌≡◌, ◌*◌, ◌+◌, ◌%◌, ◌<◌, ◌≤◌, length, IfErr, IfOk, OnOk};
-ghost use Rattle.tape_blocks.specs.Block.{top};
+ghost use Rattle.tape_values.specs.Block.{top};
 ghost use Rattle.load_devices.specs.Told.{Gains};
 ghost use Rattle.machine_look.specs.LookFault.{IsKeepFault, IsSaveFault};
 ghost use Rattle.machine_look.specs.Save.{IsSavedAndReported, puts, save_told};
@@ -21,7 +21,7 @@ use reading_core::ReadingCore;
 use request_values::AddressRange;
 use std::alloc::Global;
 use std::io::Write;
-use tape_format::write_tape;
+use tape_blocks::write_tape;
 
 /// What is to be saved, and how.
 #[derive(Clone, Copy, Debug, PartialEq, Eq)]

@@ -3,9 +3,9 @@ use Rattle.std.proofs.Common.{◌≡◌, ℕ, zero, suc, ◌+◌, ◌-◌, ◌/�
 use Rattle.std.specs.Prelude.{◌==◌, ◌&&◌, slice_get, IfOk, Result, Ok, Err}
 use Rattle.std.proofs.lemmas.Bool.{eq-eqb, ne_eqb, lt-leb, le-leb, leb-true, leb-false}
 use Rattle.std.proofs.lemmas.List.Elements.{All-nil, All-cons}
-use Rattle.tape_blocks.specs.Block.{block_at}
-use Rattle.tape_blocks.specs.Tape.{TapeValue}
-use Rattle.tape_blocks.specs.declared.memory.Memory.{Memory}
+use Rattle.tape_values.specs.Block.{block_at}
+use Rattle.tape_values.specs.Tape.{TapeValue}
+use Rattle.tape_values.specs.declared.memory.Memory.{Memory}
 use Rattle.tape_image.specs.Image.{Image, IsImageOf, byte_in}
 use Rattle.tape_image.specs.Memory.{half}
 use Rattle.tape_image.specs.Word.{IsWord, covers, whole_word}

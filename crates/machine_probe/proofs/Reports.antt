@@ -13,7 +13,7 @@ use Rattle.probe_report.specs.Ending.{probe_end}
 use Rattle.probe_report.specs.Notes.{Noted}
 use Rattle.probe_report.specs.ProbeText.{probe_text}
 use Rattle.reading_core.specs.Addresses.{IsAddress}
-use Rattle.tape_blocks.specs.Told.{IsAsTold}
+use Rattle.tape_values.specs.Told.{IsAsTold}
 use Rattle.machine_probe.specs.declared.probe_options.ProbeOptions.{ProbeOptions}
 use Rattle.machine_probe.specs.Follow.{IsBrokenOff, IsProbe}
 use Rattle.machine_probe.specs.Noted.{AreNotesSince}

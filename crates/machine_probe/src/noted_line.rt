@@ -1,7 +1,7 @@
 //! A line of which what is said is noted and timed.
 ghost use Rattle.std.specs.Prelude.{◌≡◌, []};
 ghost use Rattle.machine_probe.specs.Noted.{AreNotesSince};
-ghost use Rattle.tape_blocks.specs.Told.{IsAsTold};
+ghost use Rattle.tape_values.specs.Told.{IsAsTold};
 
 use crate::stopwatch::Stopwatch;
 use host_core::Heard;

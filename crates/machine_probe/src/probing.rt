@@ -2,7 +2,7 @@
 ghost use Rattle.std.specs.Prelude.{◌≡◌, ◌≤◌, [], vec_capacity, IfErr, IfOk, OnErr, OnOk};
 ghost use Rattle.load_devices.specs.Told.{Gains};
 ghost use Rattle.stream_line.specs.Dialling.{asked_once};
-ghost use Rattle.tape_blocks.specs.Told.{IsAsTold};
+ghost use Rattle.tape_values.specs.Told.{IsAsTold};
 ghost use Rattle.reading_core.specs.Addresses.{IsAddress};
 ghost use Rattle.probe_report.specs.ProbeText.{longest_report};
 ghost use Rattle.console_reach.specs.Console.{console_told};

@@ -9,8 +9,8 @@ use host_core::{End, HostCore, Progress};
 use load_devices::{Line, MemoryKeep, Unwatched};
 use load_engine::{Stop, drive};
 use std::alloc::{AllocError, Global};
-use tape_blocks::{Block, Tape};
 use tape_image::Plan;
+use tape_values::{Block, Tape};
 
 // An odd start address, which asks for no start.
 const NO_START: u16 = 1;

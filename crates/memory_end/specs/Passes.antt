@@ -1,6 +1,6 @@
 -- The passes of looks that find where memory ends (this project's choice).
 use Rattle.std.specs.Prelude.{◌≡◌, ℕ, zero, suc, ◌+◌, ◌-◌, ◌*◌, ◌%◌, ◌≤◌, List, [], ◌∷◌, length, vec_capacity, Some}
-use Rattle.tape_blocks.specs.Block.{top}
+use Rattle.tape_values.specs.Block.{top}
 use Rattle.load_devices.specs.declared.item.Item.{Item}
 use Rattle.reading_core.specs.declared.phase.End.TheVariants.{Complete, NoWord}
 use Rattle.reading_core.specs.Reader.{Reader, begun}

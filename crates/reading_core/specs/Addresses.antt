@@ -1,6 +1,6 @@
 -- Which words are read, and in which order.
 use Rattle.std.specs.Prelude.{◌≡◌, ℕ, zero, suc, ◌+◌, ◌-◌, ◌*◌, ◌/◌, ◌%◌, ◌<◌, ◌≤◌, All, AllPairs, List, [], ◌∷◌, ◌++◌, length, map}
-use Rattle.tape_blocks.specs.Block.{top}
+use Rattle.tape_values.specs.Block.{top}
 use Rattle.host_core.specs.Memory.{most_words}
 use Rattle.host_core.specs.Word.{WordValue}
 

@@ -7,7 +7,7 @@ use Rattle.std.proofs.lemmas.List.{take_rest, length-append}
 use Rattle.std.proofs.Math.Seq.{drop-append_seam}
 use Rattle.std.proofs.KnownBytes.{Appends-nil, Appends-trans}
 use Rattle.std.specs.Io.KnownBytes.{Appends, Keeps}
-use Rattle.tape_blocks.specs.Tape.{TapeValue}
+use Rattle.tape_values.specs.Tape.{TapeValue}
 use Rattle.tape_image.specs.declared.start.Start.{Start}
 use Rattle.tape_image.specs.Plan.{PlanValue, plan_of_all, starting}
 use Rattle.odt_machine.specs.declared.style.Style.{Style}

@@ -2,7 +2,7 @@
 use Rattle.std.proofs.Common.{◌≡◌, ℕ, ◌<◌, ◌≤◌, ◌+◌, inl, inr, ⊎_elim, List, [], ◌++◌, length, Option, [], replicate, false, arith, ap, ◌∙◌, subst, append-nil}
 use Rattle.std.specs.Io.KnownBytes.{Keeps}
 use Rattle.std.proofs.lemmas.List.{length-append}
-use Rattle.tape_blocks.specs.Tape.{TapeValue}
+use Rattle.tape_values.specs.Tape.{TapeValue}
 use Rattle.tape_image.specs.Plan.{PlanValue, plan_of_all}
 use Rattle.odt_machine.specs.declared.style.Style.{Style}
 use Rattle.odt_machine.specs.Machine.{Machine}
@@ -14,7 +14,7 @@ use Rattle.loss_scripts.specs.declared.script.StepLine.{StepLine}
 use Rattle.rehearsals.specs.Played.{Played, not_possible_lines}
 use Rattle.rehearsals.specs.Report.{report}
 use Rattle.byte_io.specs.Input.{IsTaken}
-use Rattle.tape_blocks.specs.Told.{IsAsTold}
+use Rattle.tape_values.specs.Told.{IsAsTold}
 use Rattle.command_io.specs.Tapes.{AreTapes, AreAllTaken}
 use Rattle.loss_scripts.specs.Script.{IsRefusedScript, IsRefusedLine, script_limit}
 use Rattle.rehearsals.specs.Rehearsal.{IsScriptInput, IsScriptInputFault, IsPlayFault, IsRehearseFault, IsRehearsal, IsRehearsed, AllLie, after_puts, machine_of, rehearsal_opening}

@@ -1,7 +1,7 @@
 -- A dialogue: a load into a zeroed machine on a line that loses nothing, and what is printed of it.
 use Rattle.std.specs.Prelude.{ℕ, ◌≡◌, ◌<◌, ◌⊎◌, false, List, [], ◌++◌, replicate, Option, ⊤}
 use Rattle.std.specs.Io.KnownBytes.{Appends, Keeps}
-use Rattle.tape_blocks.specs.Tape.{TapeValue}
+use Rattle.tape_values.specs.Tape.{TapeValue}
 use Rattle.tape_image.specs.declared.start.Start.{Start}
 use Rattle.tape_image.specs.Plan.{plan_of_all, starting}
 use Rattle.odt_machine.specs.declared.style.Style.{Style}

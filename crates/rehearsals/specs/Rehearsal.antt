@@ -2,7 +2,7 @@
 use Rattle.std.specs.Prelude.{◌≡◌, ℕ, ◌<◌, ◌⊎◌, true, false, List, [], ◌∷◌, ◌++◌, replicate, Option, ⊤}
 use Rattle.std.specs.List.{AllByRecursion}
 use Rattle.std.specs.Io.KnownBytes.{Keeps}
-use Rattle.tape_blocks.specs.Tape.{TapeValue}
+use Rattle.tape_values.specs.Tape.{TapeValue}
 use Rattle.tape_image.specs.Plan.{plan_of_all}
 use Rattle.odt_machine.specs.declared.style.Style.{Style}
 use Rattle.odt_machine.specs.declared.mode.Mode.TheVariants.{Prompt}
@@ -18,7 +18,7 @@ use Rattle.byte_io.specs.Output.{WritesProperPrefix}
 use Rattle.rehearsals.specs.Played.{Played, not_possible_lines}
 use Rattle.rehearsals.specs.Report.{report}
 use Rattle.loss_scripts.specs.Script.{IsScript, IsRefusedScript}
-use Rattle.tape_blocks.specs.Told.{IsAsTold}
+use Rattle.tape_values.specs.Told.{IsAsTold}
 use Rattle.command_io.specs.Tapes.{TapeText, AreTaken, AreAllTaken, AreTapesFault, tapes_of}
 
 -- the memory after these words are put into it, in order

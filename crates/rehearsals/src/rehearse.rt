@@ -15,8 +15,8 @@ use command_io::{CommandFault, take_tapes};
 use loss_scripts::{SCRIPT_LIMIT, Script, ScriptFault, read_script};
 use std::alloc::Global;
 use std::io::{Read, Write};
-use tape_blocks::Tape;
 use tape_image::Plan;
+use tape_values::Tape;
 
 /// Rehearses a script with tapes, one from each input, as one: opens the world that they set up, lets
 /// the script's lines happen, and prints the lines that were not possible and then the report.

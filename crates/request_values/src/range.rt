@@ -1,7 +1,7 @@
 ghost use Rattle.std.specs.Prelude.{◌≡◌, ◌↔◌, IsSome, IfSome};
 ghost use Rattle.reading_core.specs.Addresses.{IsRange};
 
-use tape_blocks::TOP;
+use tape_values::TOP;
 
 /// A first and a last address of words, both of them meant: even, below 160000 (octal), and in this order.
 #[derive(Clone, Copy, Debug, PartialEq, Eq)]

@@ -1,7 +1,7 @@
 //! The tapes that the tests load.
 
 use std::alloc::Global;
-use tape_format::read_tape;
+use tape_blocks::read_tape;
 use tape_image::Plan;
 
 /// The smallest tape with a word: 011064 at 001000, where it starts.

@@ -1,2 +1,16 @@
-pub mod Pieces
-pub mod Plain
+mod Faults
+mod Feeding
+mod FirstBlock
+mod Framing
+mod Fronts
+mod Heads
+mod Intake
+mod Joined
+mod Longer
+mod Needs
+mod Parts
+mod Readings
+mod Standings
+mod Steps
+mod Totality
+mod Written

@@ -1,17 +1,35 @@
-//! A tape as a value: its blocks, in their order, and its start.
+//! Reads and writes absolute loader tapes (.LDA), as the RT-11 Software Support Manual lays them
+//! out. A tape is a row of blocks, and bytes 00 may stand before and between them:
 //!
-//! A block is an address and the bytes to be stored from there on, and each ends at or below 160000
-//! (octal), where memory ends. `Tape::new` is the test which blocks make a tape, and says of others why
-//! they make none; `Tape::written_length` says how long the plain text of a tape is.
+//!     01 00             mark
+//!     low high          count of the bytes from the 01 to the last data byte
+//!     low high          address of the first data byte
+//!     data bytes        count - 6 of them
+//!     checksum          makes the sum of the whole block 0 modulo 256
 //!
-//! How a text is read as a tape, and a tape written as one, stands in `tape_format`. `tape_image` makes
-//! words of the blocks.
+//! A block of count 6 is the transfer block: it ends the tape, and its address starts the program.
+//!
+//! The contract: `read_tape` answers a tape exactly where one begins the input, and else the one
+//! fault of the input, at its place; `TapeReader` answers the same of any pieces, and `read_from` of
+//! an input, of which it takes the tape alone; `write_tape` gives the plain text, which reads as the
+//! same tape.
+//! What a tape is, as a value, stands in `tape_values`, and is passed on here; `command_io` reads the tapes of
+//! the commands.
 #![tactic(auto)]
 
-mod block;
-mod memory;
-mod tape;
+mod checksum;
+mod fault;
+mod head;
+mod input;
+mod law;
+mod outcome;
+mod progress;
+mod reader;
+mod writer;
 
-pub use block::{Block, FRAME, TOP};
-pub use memory::{Memory, OUT_OF_MEMORY};
-pub use tape::{BadTape, TAPE_LIMIT, Tape};
+pub use fault::{Fault, REFUSED_AT, ReadError, TAPE, Why};
+pub use input::{FromError, read_from};
+pub use law::{one_reading, one_tape};
+pub use reader::{Fed, TapeReader, read_tape};
+pub use tape_values::{BadTape, Block, Memory, OUT_OF_MEMORY, TOP, Tape};
+pub use writer::write_tape;

@@ -4,7 +4,7 @@ use Rattle.std.specs.Bool.{Decides}
 use Rattle.std.proofs.lemmas.Bool.{false≢true}
 use Rattle.std.proofs.lemmas.Bool.Decides.{Decides-eqb}
 use Rattle.std.proofs.lemmas.Slice.Eq.{slice_eq-Decides}
-use Rattle.tape_blocks.specs.Tape.{TapeValue, plain_text}
+use Rattle.tape_values.specs.Tape.{TapeValue, plain_text}
 use Rattle.tape_check.specs.CheckText.{is_same}
 
 both : (a b : Bool) (P Q : Type 0) → Decides a P → Decides b Q → (P → Q) → (Q → P) → a ≡ b

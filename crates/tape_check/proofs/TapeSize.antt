@@ -2,8 +2,8 @@
 use Rattle.std.proofs.Common.{◌≡◌, ◌≤◌, ◌+◌, List, [], ◌∷◌, length, arith, subst, sym}
 use Rattle.std.specs.Prelude.{sum_by}
 use Rattle.std.proofs.lemmas.List.Sums.{sum_by-cons}
-use Rattle.tape_blocks.specs.Block.{BlockValue}
-use Rattle.tape_blocks.specs.Tape.{TapeValue, IsSound, tape_limit}
+use Rattle.tape_values.specs.Block.{BlockValue}
+use Rattle.tape_values.specs.Tape.{TapeValue, IsSound, tape_limit}
 use Rattle.tape_check.specs.CheckText.{data_count}
 
 data_count-framed : (blocks : List BlockValue) → data_count blocks ≤ sum_by (λ b. 7 + length b.bytes) blocks

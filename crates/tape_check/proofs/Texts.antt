@@ -5,7 +5,7 @@ use Rattle.std.specs.List.{flat_map, AllByRecursion}
 use Rattle.std.proofs.lemmas.List.{get_or-map, take_more, length-map}
 use Rattle.std.proofs.lemmas.List.Concat.{flat_map-cons}
 use Rattle.std.proofs.lemmas.Grind.{flat_map-append}
-use Rattle.tape_blocks.specs.Tape.{TapeValue, IsTape, plain_text}
+use Rattle.tape_values.specs.Tape.{TapeValue, IsTape, plain_text}
 use Rattle.command_io.specs.Tapes.{TapeText, AreTaken, AreTapes}
 use Rattle.tape_check.specs.CheckText.{AreTexts, tape_text, blocks_text, start_text, canonical_text, is_same}
 use Rattle.byte_io.specs.Text.{line}

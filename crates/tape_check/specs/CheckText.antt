@@ -4,8 +4,8 @@ use Rattle.std.specs.List.{flat_map, AllByRecursion}
 use Rattle.std.specs.Cmp.Lexicographic.{pointwise}
 use Rattle.std.specs.Io.KnownBytes.{Appends}
 use Rattle.octal.specs.Octal.{octal_text}
-use Rattle.tape_blocks.specs.Block.{BlockValue}
-use Rattle.tape_blocks.specs.Tape.{TapeValue, IsTape, plain_text}
+use Rattle.tape_values.specs.Block.{BlockValue}
+use Rattle.tape_values.specs.Tape.{TapeValue, IsTape, plain_text}
 use Rattle.tape_image.specs.Word.{WordValue, word_fields}
 use Rattle.tape_image.specs.Plan.{plan_of_all}
 use Rattle.byte_io.specs.Text.{line}

@@ -2,7 +2,7 @@
 ghost use Rattle.std.specs.Prelude.{◌≡◌, ◌≤◌, ◌++◌, ℕ, List, length, map, [], ◌∷◌, OnOk, IfOk, IfErr};
 ghost use Rattle.std.specs.List.{flat_map};
 ghost use Rattle.octal.specs.Octal.{octal_text};
-ghost use Rattle.tape_blocks.specs.Tape.{IsTape, tape_limit};
+ghost use Rattle.tape_values.specs.Tape.{IsTape, tape_limit};
 ghost use Rattle.tape_image.specs.Word.{word_fields};
 ghost use Rattle.command_io.specs.Tapes.{TapeText, TakeAtMost};
 ghost use Rattle.byte_io.specs.Text.{line};
@@ -14,8 +14,8 @@ use byte_io::{put_decimal, put_octal, write_whole};
 use command_io::{CommandFault, Tapes, take_tapes};
 use std::alloc::{AllocError, Global};
 use std::io::{Read, Write};
-use tape_blocks::{Block, Tape};
 use tape_image::{Plan, Word};
+use tape_values::{Block, Tape};
 
 /// Checks tapes, one from each input, and prints of each its blocks, its start and whether it is
 /// canonical, and then the words of the image that they make together.

@@ -6,7 +6,7 @@ use Rattle.std.proofs.lemmas.Bool.{leb-true, le-leb, ltb-true, ltb-false}
 use Rattle.std.proofs.lemmas.Bool.Decides.{nat_tests}
 use Rattle.std.proofs.lemmas.Option.{slice_get-get_or, slice_get_past}
 use Rattle.std.proofs.lemmas.List.Elements.{All-tail, All-head}
-use Rattle.tape_blocks.specs.Block.{BlockValue, IsBlock, HoldsBytes, block_at, top}
+use Rattle.tape_values.specs.Block.{BlockValue, IsBlock, HoldsBytes, block_at, top}
 use Rattle.tape_image.specs.Image.{byte_in, byte_at}
 
 -- what holds of each byte of a list holds of the one that is found

@@ -7,7 +7,7 @@ use Rattle.std.specs.FinMap.{get, empty, get-insert, get-empty, same_map, nat_cm
 use Rattle.std.proofs.lemmas.Bool.{cases_order, eq-eqb, ne_eqb, lt-ltb, le-ltb, ltb-false}
 use Rattle.std.proofs.lemmas.Bool.Decides.{nat_tests}
 use Rattle.tape_image.specs.Image.{Image, IsImageOf, with_byte, image_below, image_of, byte_at}
-use Rattle.tape_blocks.specs.Block.{BlockValue, IsBlock, top}
+use Rattle.tape_values.specs.Block.{BlockValue, IsBlock, top}
 use Rattle.tape_image.proofs.Blocks.{byte_at-within}
 
 tied : (q a : ℕ) → eq_by_cmp nat_cmp q a ≡ eqb q a

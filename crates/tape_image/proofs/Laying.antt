@@ -4,7 +4,7 @@ use Rattle.std.specs.Option.{option_or}
 use Rattle.std.specs.FinMap.{get}
 use Rattle.std.proofs.lemmas.Bool.{cases_lt}
 use Rattle.std.proofs.lemmas.List.{get_or_append_left, get_or-append_right, take-take, drop-take, take_all, take_more}
-use Rattle.tape_blocks.specs.Block.{BlockValue, block_at}
+use Rattle.tape_values.specs.Block.{BlockValue, block_at}
 use Rattle.tape_image.specs.Image.{Image, byte_in, byte_at}
 use Rattle.tape_image.specs.Pages.{IsLaid}
 use Rattle.tape_image.proofs.Blocks.{option_or-none, option_or-assoc, byte_in-before, byte_in-inside, byte_in-behind, before, inside, behind, part_of}

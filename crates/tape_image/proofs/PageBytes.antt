@@ -6,7 +6,7 @@ use Rattle.std.specs.FinMap.{get, empty}
 use Rattle.std.proofs.lemmas.Bool.{cases_lt}
 use Rattle.std.proofs.lemmas.List.{get_or_past, get_or-replicate, length-replicate}
 use borrow.Rule.Slice.PartMut.{put_mid, mid_of}
-use Rattle.tape_blocks.specs.Block.{block_at}
+use Rattle.tape_values.specs.Block.{block_at}
 use Rattle.tape_image.specs.Image.{Image, image_below, byte_in}
 use Rattle.tape_image.specs.Pages.{marked_byte, IsLaid}
 use Rattle.tape_image.proofs.Images.{get-image_below_all, image_below-none}

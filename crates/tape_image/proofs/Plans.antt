@@ -1,14 +1,14 @@
 -- The plan of blocks keeps what every plan keeps.
 use Rattle.std.proofs.Common.{◌≡◌, ℕ, zero, suc, ◌+◌, ◌*◌, ◌%◌, ◌<◌, ◌≤◌, true, false, cond, eqb, ltb, ◌++◌, List, [], Option, Some, None, refl, arith, ap, sym, ◌∙◌, subst}
 use Rattle.std.specs.Prelude.{All, IfSome, IfOk, Result}
-use Rattle.tape_blocks.specs.declared.memory.Memory.{Memory}
+use Rattle.tape_values.specs.declared.memory.Memory.{Memory}
 use Rattle.std.specs.Option.{option_or, option_to_list}
 use Rattle.std.specs.Ordering.{nat_cmp}
 use Rattle.std.specs.FinMap.{get, empty, get-empty}
 use Rattle.std.proofs.lemmas.Bool.{eqb-true, lt-ltb}
 use Rattle.std.proofs.lemmas.List.{append-nil}
 use Rattle.std.proofs.lemmas.Result.{IfOk-weaker}
-use Rattle.tape_blocks.specs.Block.{BlockValue, IsBlock, HoldsBytes, top}
+use Rattle.tape_values.specs.Block.{BlockValue, IsBlock, HoldsBytes, top}
 use Rattle.tape_image.specs.Image.{Image, IsImageOf, image_of, byte_at}
 use Rattle.tape_image.specs.Plan.{word_of, words_below, words_of, given_byte, program_start, PlanValue, plan_with, IsPlan}
 use Rattle.tape_image.specs.Pages.{IsLaid}

@@ -7,7 +7,7 @@ use Rattle.std.specs.FinMap.{get, empty}
 use Rattle.std.proofs.lemmas.Bool.{cases_lt, cases_eq}
 use Rattle.std.proofs.lemmas.List.{get_or-replicate, length-replicate, get_or-set_same, set-set}
 use Rattle.std.proofs.lemmas.Option.{slice_get-get_or, slice_get_past, slice_get_read}
-use Rattle.tape_blocks.specs.Block.{block_at}
+use Rattle.tape_values.specs.Block.{block_at}
 use Rattle.tape_image.specs.Image.{Image, image_below, byte_in}
 use Rattle.tape_image.specs.Pages.{byte_in_page, byte_in_table, IsLaid}
 use Rattle.tape_image.proofs.Images.{get-image_below_all, image_below-none}

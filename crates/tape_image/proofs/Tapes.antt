@@ -5,8 +5,8 @@ use Rattle.std.specs.FinMap.{empty}
 use Rattle.std.proofs.lemmas.List.{append-nil, take_more}
 use Rattle.std.proofs.lemmas.List.Concat.{flat_map-append}
 use Rattle.std.proofs.lemmas.List.Elements.{All-nil, All-append, All-head, All-tail}
-use Rattle.tape_blocks.specs.Block.{IsBlock, HoldsBytes}
-use Rattle.tape_blocks.specs.Tape.{TapeValue, IsSound}
+use Rattle.tape_values.specs.Block.{IsBlock, HoldsBytes}
+use Rattle.tape_values.specs.Tape.{TapeValue, IsSound}
 use Rattle.tape_image.specs.Image.{Image, byte_at, image_of}
 use Rattle.tape_image.specs.Word.{WordValue}
 use Rattle.tape_image.specs.Pages.{IsLaid}

@@ -3,7 +3,7 @@ use Rattle.std.specs.Prelude.{◌≡◌, ℕ, zero, suc, ◌-◌, nat_le, if◌t
 use Rattle.std.specs.Option.{option_or}
 use Rattle.std.specs.Ordering.{nat_cmp}
 use Rattle.std.specs.FinMap.{FinMap, empty, insert, get}
-use Rattle.tape_blocks.specs.Block.{BlockValue, top}
+use Rattle.tape_values.specs.Block.{BlockValue, top}
 
 -- the byte that a block has for an address
 abbrev pub byte_in : BlockValue → ℕ → Option ℕ

@@ -5,8 +5,8 @@ use Rattle.std.specs.Coded.{Coded, code_by, coded×, coded_ℕ, coded_list, code
 use Rattle.std.specs.List.{flat_map}
 use Rattle.std.specs.Option.{option_to_list}
 use Rattle.std.specs.FinMap.{get, code}
-use Rattle.tape_blocks.specs.Block.{BlockValue, top}
-use Rattle.tape_blocks.specs.Tape.{TapeValue}
+use Rattle.tape_values.specs.Block.{BlockValue, top}
+use Rattle.tape_values.specs.Tape.{TapeValue}
 use Rattle.tape_image.specs.Memory.{half, most_words}
 use Rattle.tape_image.specs.Word.{WordValue, word_code, IsWord, gives}
 use Rattle.tape_image.specs.Image.{Image, image_of}

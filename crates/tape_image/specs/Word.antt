@@ -2,7 +2,7 @@
 use Rattle.std.specs.Prelude.{◌≡◌, ℕ, ◌+◌, ◌*◌, ◌/◌, ◌%◌, ◌<◌, ◌⊎◌, Bool, false, ◌==◌, ◌&&◌, if◌then◌else◌, IsTrue, List, ◌∷◌, ◌++◌, refl}
 use Rattle.std.specs.Coded.{Coded, code_by, coded×, coded_ℕ}
 use Rattle.octal.specs.Octal.{octal_text}
-use Rattle.tape_blocks.specs.Block.{top}
+use Rattle.tape_values.specs.Block.{top}
 use Rattle.tape_image.specs.Memory.{half}
 
 -- the address of the word, the bits that the tape gives (the mask), and these bits

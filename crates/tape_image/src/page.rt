@@ -1,6 +1,6 @@
 ghost use Rattle.std.specs.Prelude.{◌≡◌, ◌+◌, ◌<◌, ◌≤◌, length, IfOk};
 ghost use Rattle.std.specs.FinMap.{empty, get};
-ghost use Rattle.tape_blocks.specs.Block.{block_at};
+ghost use Rattle.tape_values.specs.Block.{block_at};
 ghost use Rattle.tape_image.specs.Image.{byte_in};
 ghost use Rattle.tape_image.specs.Pages.{AddsPageWords, IsLaid};
 

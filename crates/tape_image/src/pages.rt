@@ -1,6 +1,6 @@
 ghost use Rattle.std.specs.Prelude.{◌≡◌, ◌+◌, ◌*◌, ◌<◌, ◌≤◌, length, IfOk, All};
 ghost use Rattle.std.specs.FinMap.{empty, get};
-ghost use Rattle.tape_blocks.specs.Block.{IsBlock, block_at};
+ghost use Rattle.tape_values.specs.Block.{IsBlock, block_at};
 ghost use Rattle.tape_image.specs.Image.{byte_at, byte_in};
 ghost use Rattle.tape_image.specs.Pages.{IsLaid};
 ghost use Rattle.tape_image.specs.Plan.{words_of};
@@ -9,7 +9,7 @@ use crate::page::{PAGE, Page};
 use crate::word::Word;
 use std::alloc::{AllocError, Global};
 use std::marker::Model;
-use tape_blocks::Block;
+use tape_values::Block;
 
 // How many pages memory has below 160000 (octal).
 const PAGES: usize = 112;
@@ -26,7 +26,7 @@ impl Model for Pages {
     ghost use Rattle.std.specs.Prelude.{◌≡◌, length};
     ghost use Rattle.std.specs.Coded.{coded_ℕ};
     ghost use Rattle.std.specs.FinMap.{code};
-    ghost use Rattle.tape_blocks.specs.Block.{top};
+    ghost use Rattle.tape_values.specs.Block.{top};
     ghost use Rattle.tape_image.specs.Image.{Image, image_below};
     ghost use Rattle.tape_image.specs.Pages.{byte_in_table};
 

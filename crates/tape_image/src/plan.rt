@@ -1,6 +1,6 @@
 ghost use Rattle.std.specs.Prelude.{◌≡◌, [], ◌∷◌, IfOk};
 ghost use Rattle.std.specs.FinMap.{empty, get};
-ghost use Rattle.tape_blocks.specs.Tape.{TapeValue};
+ghost use Rattle.tape_values.specs.Tape.{TapeValue};
 ghost use Rattle.tape_image.specs.Image.{IsImageOf};
 ghost use Rattle.tape_image.specs.Plan.{AreTheWordsOf, IsPlan, blocks_of_all, plan_of, plan_of_all, plan_with, program_start, starting};
 ghost use Rattle.tape_image.specs.Overlay.{MakesOverlay};
@@ -11,7 +11,7 @@ use crate::word::Word;
 use std::alloc::Global;
 use std::marker::Model;
 use std::slice;
-use tape_blocks::{Memory, Tape};
+use tape_values::{Memory, Tape};
 
 /// What a host types to load a tape: the words of the tape's image, and the program's start.
 ///

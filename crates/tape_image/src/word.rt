@@ -1,11 +1,11 @@
 ghost use Rattle.std.specs.Prelude.{◌≡◌, ℕ, ◌%◌, ◌<◌, ◌↔◌, IsTrue, IsSome, IfSome};
-ghost use Rattle.tape_blocks.specs.Block.{top};
+ghost use Rattle.tape_values.specs.Block.{top};
 ghost use Rattle.tape_image.specs.Memory.{half};
 ghost use Rattle.tape_image.specs.Word.{IsWord, IsInside, covers, merged, merged_half, Stands};
 ghost use Rattle.tape_image.specs.Plan.{word_of};
 
 use std::marker::Model;
-use tape_blocks::TOP;
+use tape_values::TOP;
 
 // The mask of the low byte, at the word's own address.
 const LOW_BYTE: u16 = 0o377;

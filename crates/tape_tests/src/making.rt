@@ -2,8 +2,7 @@
 
 use crate::tapes::{ONE_BLOCK, tape_of, tape_with};
 use std::alloc::{AllocError, Global};
-use tape_blocks::{BadTape, Block, Tape};
-use tape_format::{read_tape, write_tape};
+use tape_blocks::{BadTape, Block, Tape, read_tape, write_tape};
 use tape_image::Plan;
 
 // Blocks of zeros: how many, their address and their length.

@@ -4,7 +4,7 @@ use crate::tapes::{ONE_BLOCK, OVERLAPPING};
 use std::alloc::{AllocError, Global};
 use std::io;
 use std::io::{ErrorKind, Read};
-use tape_format::{Fault, Fed, FromError, ReadError, TapeReader, Why, read_from};
+use tape_blocks::{Fault, Fed, FromError, ReadError, TapeReader, Why, read_from};
 
 /// Whether a reader that is fed a piece answers so.
 pub(crate) fn answers(

@@ -6,7 +6,7 @@ use crate::tapes::{ONE_BLOCK, OVERLAPPING, tape_of_copies};
 use scarce_memory::{Famine, ROOMS};
 use std::alloc::Global;
 use std::process::Abort;
-use tape_format::{Fault, Fed, FromError, ReadError, TapeReader, Why, read_from, write_tape};
+use tape_blocks::{Fault, Fed, FromError, ReadError, TapeReader, Why, read_from, write_tape};
 
 // A block and a transfer block with a wrong sum: the refusal waits behind the growths.
 const WRONG_SUM: &[u8] = &[

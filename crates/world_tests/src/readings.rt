@@ -11,7 +11,7 @@ use reading_core::{End, ReadingCore};
 use reading_engine::{Stop, inquire, inquire_in_memory};
 use std::alloc::Global;
 use std::process::Abort;
-use tape_format::read_tape;
+use tape_blocks::read_tape;
 use tape_image::Plan;
 
 // What memory holds from 001000 on.

@@ -5,7 +5,7 @@
 
 use host_core::{HostCore, Progress};
 use std::alloc::Global;
-use tape_format::read_tape;
+use tape_blocks::read_tape;
 use tape_image::Plan;
 
 /// A tape of one block, the word 011064 at 001000, that starts at 001000.

@@ -1,7 +1,7 @@
 -- The bytes so far are those of the numbers so far.
 use Rattle.std.proofs.Common.{◌≡◌, take}
 use Rattle.std.specs.List.{flat_map}
-use Rattle.tape_blocks.specs.Block.{low_first}
+use Rattle.tape_values.specs.Block.{low_first}
 use Rattle.machine_look.proofs.saved_tape.low_bytes_first.Given as goal
 
 abbrev pub invariant-loop-number : goal.invariant-loop-number

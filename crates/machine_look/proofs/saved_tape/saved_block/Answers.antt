@@ -1,6 +1,6 @@
 use Rattle.std.proofs.Common.{◌≡◌, ◌+◌, ◌*◌, ◌∙◌, ap, arith}
 use Rattle.std.specs.List.{flat_map}
-use Rattle.tape_blocks.specs.Block.{low_first}
+use Rattle.tape_values.specs.Block.{low_first}
 use Rattle.machine_look.proofs.SavedBlocks.{part_is}
 use Rattle.machine_look.proofs.saved_tape.saved_block.Goals as goal
 

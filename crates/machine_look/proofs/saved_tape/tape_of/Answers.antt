@@ -1,8 +1,8 @@
 use Rattle.std.proofs.Common.{◌≡◌, ℕ, ◌+◌, ◌/◌, ◌≤◌, List, [], ◌∷◌, ◌++◌, ◌∙◌, ap, arith, sym, subst, length, ◌<◌, Result, Ok, IfOk}
 use Rattle.std.specs.Prelude.{All}
 use Rattle.std.proofs.lemmas.List.Elements.{All-from_get_or}
-use Rattle.tape_blocks.specs.Block.{BlockValue, IsBlock}
-use Rattle.tape_blocks.specs.Tape.{TapeValue, written_length, tape_limit}
+use Rattle.tape_values.specs.Block.{BlockValue, IsBlock}
+use Rattle.tape_values.specs.Tape.{TapeValue, written_length, tape_limit}
 use Rattle.machine_look.specs.SavedTape.{saved_blocks, HoldsWhatWasRead}
 use Rattle.machine_look.proofs.SavedBlocks.{no_blocks, one_more_block, good_blocks, few_enough, never_refused}
 use Rattle.machine_look.proofs.SavedWords.{holds_what_was_read}

@@ -1,5 +1,5 @@
 use Rattle.std.proofs.Common.{[], ◌∷◌, ap, sym, subst, ◌∙◌}
-use Rattle.tape_blocks.specs.Tape.{plain_text}
+use Rattle.tape_values.specs.Tape.{plain_text}
 use Rattle.load_devices.specs.Told.{Gains}
 use Rattle.machine_look.specs.declared.look_fault.LookFault.TheVariants.{Memory}
 use Rattle.machine_look.specs.LookFault.{IsKeepFault, fault_of_shelf}

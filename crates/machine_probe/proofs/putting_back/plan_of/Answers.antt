@@ -1,6 +1,6 @@
 use Rattle.std.proofs.Common.{List, [], ◌∷◌, IfOk, arith, ap, subst, ◌∙◌}
-use Rattle.tape_blocks.specs.Block.{BlockValue, block_at}
-use Rattle.tape_blocks.specs.Tape.{TapeValue}
+use Rattle.tape_values.specs.Block.{BlockValue, block_at}
+use Rattle.tape_values.specs.Tape.{TapeValue}
 use Rattle.machine_probe.specs.PuttingBack.{IsPlanOfWord}
 use Rattle.machine_probe.proofs.OneWord.{plan_made}
 use Rattle.machine_probe.proofs.putting_back.plan_of.Goals as goal

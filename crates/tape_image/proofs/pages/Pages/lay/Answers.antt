@@ -1,6 +1,6 @@
 use Rattle.std.proofs.Common.{◌≡◌, ◌*◌, ◌/◌, ◌-◌, take, arith, subst}
 use Rattle.std.proofs.lemmas.List.{take_all}
-use Rattle.tape_blocks.specs.Block.{block_at}
+use Rattle.tape_values.specs.Block.{block_at}
 use Rattle.tape_image.specs.Image.{byte_in}
 use Rattle.tape_image.specs.Pages.{IsLaid}
 use Rattle.tape_image.proofs.Laying.{IsLaid-none, IsLaid-page, byte_in-nothing}

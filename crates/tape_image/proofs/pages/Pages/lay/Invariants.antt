@@ -1,5 +1,5 @@
 use Rattle.std.proofs.Common.{◌*◌, ◌-◌, take}
-use Rattle.tape_blocks.specs.Block.{block_at}
+use Rattle.tape_values.specs.Block.{block_at}
 use Rattle.tape_image.specs.Image.{byte_in}
 use Rattle.tape_image.specs.Pages.{IsLaid}
 use Rattle.tape_image.proofs.pages.Pages.lay.Given as goal

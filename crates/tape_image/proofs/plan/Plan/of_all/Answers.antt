@@ -2,7 +2,7 @@ use Rattle.std.proofs.Common.{◌≡◌, sym, ap, subst, ◌∙◌, take, arith}
 use Rattle.std.specs.Prelude.{All, IfOk}
 use Rattle.std.proofs.lemmas.List.{take_all}
 use Rattle.std.proofs.lemmas.List.Elements.{All-more}
-use Rattle.tape_blocks.specs.Tape.{IsSound}
+use Rattle.tape_values.specs.Tape.{IsSound}
 use Rattle.tape_image.specs.Image.{image_of, byte_at}
 use Rattle.tape_image.specs.Pages.{IsLaid}
 use Rattle.tape_image.specs.Plan.{PlanValue, IsPlan, program_start, blocks_of_all, start_of_all, plan_of_all}

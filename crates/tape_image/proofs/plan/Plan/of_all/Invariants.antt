@@ -1,6 +1,6 @@
 use Rattle.std.proofs.Common.{◌≡◌, take}
 use Rattle.std.specs.Prelude.{All}
-use Rattle.tape_blocks.specs.Tape.{IsSound}
+use Rattle.tape_values.specs.Tape.{IsSound}
 use Rattle.tape_image.specs.Image.{byte_at}
 use Rattle.tape_image.specs.Pages.{IsLaid}
 use Rattle.tape_image.specs.Plan.{blocks_of_all, start_of_all}

@@ -1,7 +1,0 @@
--- the length is that of the blocks counted so far
-use Rattle.std.proofs.Common.{◌≡◌, take}
-use Rattle.tape_blocks.specs.Tape.{written_length}
-use Rattle.tape_blocks.proofs.tape.Tape.written_length.Given as goal
-
-abbrev pub invariant-loop-block : goal.invariant-loop-block
-invariant-loop-block l = l.length ≡ written_length (take l.block-index l.block-items)

@@ -1,5 +1,0 @@
-use Rattle.std.proofs.Common.{rules}
-use Rattle.tape_blocks.proofs.tape.bad_bytes.Goals as goal
-
-pub returns-clause-judged : goal.returns-clause-judged
-returns-clause-judged c = search rules

@@ -1,0 +1,167 @@
+ghost use Rattle.std.specs.Prelude.{◌≡◌, ◌<◌, ◌^◌};
+
+use std::alloc::{AllocError, AllocFailed};
+use std::error::Error;
+use std::fmt;
+use tape_values::OUT_OF_MEMORY;
+
+/// Why an input is no tape. `s` is the place of the block's 01, and places count from 0.
+#[derive(Clone, Copy, Debug, PartialEq, Eq)]
+pub enum Why {
+    /// A byte that is not 00 and begins no block: at that byte.
+    Stray,
+
+    /// The byte behind the 01 is not 00: at `s + 1`.
+    BadMark,
+
+    /// The count is below 6: at `s + 2`.
+    BadCount,
+
+    /// The input ends inside a block: at `s`.
+    Cut,
+
+    /// The sum of the whole block is not 0 modulo 256: at `s`.
+    BadSum,
+
+    /// A data block with a good sum ends above 160000 (octal): at `s + 4`.
+    PastTop,
+
+    /// The input is over between blocks, and no transfer block came: at its length.
+    NoTransfer,
+
+    /// The tape goes on behind its last possible byte (the limit is this project's choice): at
+    /// 1,048,576.
+    TooLong,
+}
+
+impl Why {
+    ghost use Rattle.std.specs.Prelude.{◌≡◌, ◌≤◌, length};
+    ghost use Rattle.tape_blocks.specs.Fault.{why_text};
+
+    /// The reason's name, as it is printed: 10 characters at most.
+    pub fn name(self) -> &'static str
+        ensures name { result.now ≡ why_text self }
+        ensures short { length result.now ≤ 10 }
+    {
+        match self {
+            Why::Stray => "Stray",
+            Why::BadMark => "BadMark",
+            Why::BadCount => "BadCount",
+            Why::Cut => "Cut",
+            Why::BadSum => "BadSum",
+            Why::PastTop => "PastTop",
+            Why::NoTransfer => "NoTransfer",
+            Why::TooLong => "TooLong",
+        }
+    }
+}
+
+impl fmt::Display for Why {
+    ghost use Rattle.std.specs.Prelude.{Some};
+    ghost use Rattle.tape_blocks.specs.Fault.{why_text};
+
+    ghost output = { λ why. Some (why_text why) };
+
+    fn fmt<W: fmt::Write>(&self, f: &mut fmt::Formatter<W>) -> fmt::Result {
+        f.write_str(self.name())
+    }
+}
+
+/// What stands before a tape's fault where it is printed as that of a tape.
+pub const TAPE: &str = "tape ";
+
+/// What stands before the place of a fault where it is printed.
+pub const REFUSED_AT: &str = "refused at ";
+
+/// What is wrong with an input, and at which of its bytes, counted from 0.
+#[derive(Clone, Copy, Debug, PartialEq, Eq)]
+pub struct Fault {
+    /// The place of the fault in the input.
+    pub at: u32,
+
+    /// The reason.
+    pub why: Why,
+}
+
+impl Fault {
+    pub(crate) fn new(at: usize, why: Why) -> Fault
+        requires { at < 2 ^ 32 }
+        ensures { result ≡ record { at = at; why = why } }
+    {
+        Fault { at: at as u32, why }
+    }
+}
+
+impl fmt::Display for Fault {
+    ghost use Rattle.std.specs.Prelude.{Some};
+    ghost use Rattle.tape_blocks.specs.Fault.{fault_text};
+
+    ghost output = { λ fault. Some (fault_text fault) };
+
+    fn fmt<W: fmt::Write>(&self, f: &mut fmt::Formatter<W>) -> fmt::Result {
+        let at = self.at;
+        let why = self.why;
+        write!(f, "{REFUSED_AT}{at}: {why}")
+    }
+}
+
+impl Error for Fault {}
+
+/// Why an input was not read.
+#[derive(Clone, Copy, Debug, PartialEq, Eq)]
+pub enum ReadError {
+    /// The input is no tape.
+    Tape(Fault),
+
+    /// A growth of memory was refused.
+    Memory,
+}
+
+impl fmt::Display for ReadError {
+    ghost use Rattle.std.specs.Prelude.{Some};
+    ghost use Rattle.tape_blocks.specs.Fault.{read_error_text};
+
+    ghost output = { λ e. Some (read_error_text e) };
+
+    fn fmt<W: fmt::Write>(&self, f: &mut fmt::Formatter<W>) -> fmt::Result {
+        match self {
+            ReadError::Tape(fault) => write!(f, "{TAPE}{fault}"),
+            ReadError::Memory => f.write_str(OUT_OF_MEMORY),
+        }
+    }
+}
+
+impl Error for ReadError {}
+
+impl From<Fault> for ReadError {
+    ghost use Rattle.std.specs.Prelude.{◌≡◌};
+    ghost use Rattle.tape_blocks.specs.declared.fault.ReadError.TheVariants.{Tape as refused};
+
+    ghost from_gives = { λ fault e. e ≡ refused fault };
+
+    fn from(fault: Fault) -> ReadError {
+        ReadError::Tape(fault)
+    }
+}
+
+impl From<AllocError> for ReadError {
+    ghost use Rattle.std.specs.Prelude.{◌≡◌};
+    ghost use Rattle.tape_blocks.specs.declared.fault.ReadError.TheVariants.{Memory as out_of_memory};
+
+    ghost from_gives = { λ _ e. e ≡ out_of_memory };
+
+    fn from(_e: AllocError) -> ReadError {
+        ReadError::Memory
+    }
+}
+
+impl<T: Drop> From<AllocFailed<T>> for ReadError {
+    ghost use Rattle.std.specs.Prelude.{◌≡◌};
+    ghost use Rattle.tape_blocks.specs.declared.fault.ReadError.TheVariants.{Memory as out_of_memory};
+
+    ghost from_gives = { λ _ e. e ≡ out_of_memory };
+
+    fn from(_e: AllocFailed<T>) -> ReadError {
+        ReadError::Memory
+    }
+}

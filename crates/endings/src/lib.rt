@@ -23,4 +23,4 @@ pub use fault_output::FaultOutput;
 pub use output::{Output, PipedOutput};
 pub use status::Status;
 pub use streams::Streams;
-pub use telling::{tell, tell_unless_unheard, tell_unwritten};
+pub use telling::{tell, tell_unless_unheard};

@@ -36,7 +36,11 @@ pub fn tell<E: FaultOutput>(alloc: Global, failure: Failure<'_>, err: &mut E) ->
 
 /// Tells that an output can't be written, unless nobody reads it any more: whoever left doesn't wait for
 /// the rest. The status tells of it in either case.
-pub fn tell_unwritten<W: Output, E: FaultOutput>(alloc: Global, out: &W, err: &mut E) -> Status
+pub(crate) fn tell_unwritten<W: Output, E: FaultOutput>(
+    alloc: Global,
+    out: &W,
+    err: &mut E,
+) -> Status
     ensures status { result ≡ Status.DeviceFailed }
     ensures told { IsToldUnless (W.unread out.now)
         (standard_error E.contents E.failures err.old)

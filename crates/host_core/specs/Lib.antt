@@ -8,8 +8,6 @@ pub mod Life
 pub mod Opening
 pub mod PhaseTable
 pub mod Steps
-pub use Rattle.tape_image.specs.Image
 pub use Rattle.tape_image.specs.Memory
-pub use Rattle.tape_image.specs.Overlay
 pub use Rattle.tape_image.specs.Plan
 pub use Rattle.tape_image.specs.Word

@@ -3,7 +3,7 @@ use Rattle.std.specs.Prelude.{◌≡◌, ℕ, List, codes}
 use Rattle.std.specs.String.{string_bytes}
 use Rattle.endings.specs.Explained.{IsShown}
 use Rattle.endings.specs.Failure.{IsTold}
-use Rattle.endings.specs.FaultOutput.{IsSaid}
+use Rattle.endings.specs.FaultOutput.{IsSaidOnError}
 use Rattle.endings.specs.Held.{Held}
 use Rattle.endings.specs.declared.failure.Failure.TheVariants as failure
 use Rattle.endings.specs.declared.status.Status.{Status}
@@ -14,7 +14,7 @@ use Rattle.command_line.specs.declared.no_request.NoRequest.TheVariants.{Help, R
 -- the words are refused, and standard error says so by a text
 pub record AreWordsRefused (text : List ℕ) (before after : Held) (ended : Status) : Type 0 where
   pub status : ended ≡ status.BadCommandLine
-  pub told : IsSaid before.err after.err text
+  pub told : IsSaidOnError before.err after.err text
   pub out : after.out ≡ before.out
   pub input : after.input ≡ before.input
 

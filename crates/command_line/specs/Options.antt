@@ -22,18 +22,18 @@ use Rattle.request_values.specs.declared.machine.Save.{Save}
 use Rattle.command_line.specs.Addresses.{IsEvenText, IsOctalText, IsWordText}
 
 -- the decimal number that a text is
-abbrev pub number_in : List ℕ → ℕ
-number_in text = digits_value 10 (without_leading_plus text)
+abbrev pub written_number : List ℕ → ℕ
+written_number text = digits_value 10 (without_leading_plus text)
 
 -- the number that an option gives, where it is given
 pub record IsNumberGiven (found : Found) (name : List ℕ) (number : Option ℕ) : Type 0 where
   pub none : one_text found name ≡ None → number ≡ None
-  pub some : (text : List ℕ) → one_text found name ≡ Some text → number ≡ Some (number_in text)
+  pub some : (text : List ℕ) → one_text found name ≡ Some text → number ≡ Some (written_number text)
 
 -- the number that an option gives, or the one that is meant without it
 pub record IsNumberOf (found : Found) (name : List ℕ) (otherwise number : ℕ) : Type 0 where
   pub none : one_text found name ≡ None → number ≡ otherwise
-  pub some : (text : List ℕ) → one_text found name ≡ Some text → number ≡ number_in text
+  pub some : (text : List ℕ) → one_text found name ≡ Some text → number ≡ written_number text
 
 -- whether an option without a value is given
 pub record IsFlag (found : Found) (name : List ℕ) (is_set : Bool) : Type 0 where

@@ -2,7 +2,7 @@
 use Rattle.std.specs.Prelude.{ℕ, Bool, List, Option, Some, None, IsSome, String, map}
 use Rattle.std.specs.String.{string_bytes}
 use Rattle.input_files.specs.Opening.{InputStep, opening}
-use Rattle.requests.specs.Asked.{Asked}
+use Rattle.requests.specs.Asked.{SystemAsked}
 use Rattle.stream_line.specs.Dialling.{LineRequest, Dialled, Limited, OpenedDevice}
 
 -- files were opened by these names, or were not
@@ -26,7 +26,7 @@ abbrev pub opened_at : {A : Type 0} → List (String A × Option ℕ) → List L
 opened_at requests = map (λ request. opening_at (string_bytes request.0) request.1) requests
 
 -- a system tells what is asked of its files, its network and its devices; a disk may stop telling, where memory is wanting
-pub record Tells (asked : Asked) : Type 0 where
+pub record Tells (asked : SystemAsked) : Type 0 where
   pub inputs : IsSome asked.inputs
   pub network : IsSome asked.outside.network
   pub devices : IsSome asked.outside.devices

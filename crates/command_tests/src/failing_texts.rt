@@ -1,7 +1,7 @@
 //! Lines of faults and texts that explain, help and refusals, over outputs that fail once.
 ghost use Rattle.std.specs.Prelude.{Some};
 ghost use Rattle.endings.specs.Failure.{IsTold};
-ghost use Rattle.endings.specs.FaultOutput.{IsSaid};
+ghost use Rattle.endings.specs.FaultOutput.{IsSaidOnError};
 
 use endings::{Failure, FaultOutput, Output, Status, Streams, refuse, show, tell};
 use simulated_system::{BrokenOutput, UnflushedOutput};
@@ -48,7 +48,7 @@ fn a_text_that_can_not_be_shown_is_told(rt: HostRuntime) {
 
 // Refuses words on an output that tells what it took, and how often it took nothing.
 fn refuse_on(text: &str, err: &mut BrokenOutput) -> Status
-    ensures { IsSaid
+    ensures { IsSaidOnError
         (record { text = Some err.old.written.items; failures = Some err.old.refused })
         (record { text = Some err.new.written.items; failures = Some err.new.refused })
         text.now }

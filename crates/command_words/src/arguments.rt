@@ -16,28 +16,28 @@ pub(crate) struct Argument {
     help: &'static str,
 }
 
-/// What is given with an argument or an option, and when it may stand there. An option's value is called by
-/// the first text that its form has.
+// What is given with an argument or an option, and when it may stand there. An option's value is called by
+// the first text that its form has.
 enum Form {
-    /// An argument that has to be there.
+    // An argument that has to be there.
     Required,
 
-    /// An argument that may be there any number of times.
+    // An argument that may be there any number of times.
     Further,
 
-    /// An option with a text.
+    // An option with a text.
     Text(&'static str),
 
-    /// An option with a number, the least and the greatest that it may be.
+    // An option with a number, the least and the greatest that it may be.
     Number(&'static str, u16, u16),
 
-    /// An option with a number that may be 0 to this one.
+    // An option with a number that may be 0 to this one.
     Digit(&'static str, u8),
 
-    /// An option without a value, which needs that of this name.
+    // An option without a value, which needs that of this name.
     FlagBeside(&'static str),
 
-    /// An option without a value, which can't stand beside that of this name.
+    // An option without a value, which can't stand beside that of this name.
     FlagWithout(&'static str),
 }
 

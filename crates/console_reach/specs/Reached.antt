@@ -6,7 +6,7 @@ use Rattle.load_devices.specs.declared.fault.LineFault.{LineFault}
 use Rattle.load_devices.specs.declared.fault.LineFault.TheVariants.{Connect, Receive}
 
 -- a line on which nothing was said, where it tells, and of which no call failed
-pub record IsFresh (told : Option (List Item)) (failures : ℕ) (fault : Option LineFault) : Type 0 where
+pub record IsUnused (told : Option (List Item)) (failures : ℕ) (fault : Option LineFault) : Type 0 where
   pub nothing_said : IsAsTold told []
   pub none_failed : failures ≡ 0
   pub no_fault : fault ≡ None

@@ -1,5 +1,5 @@
 ghost use Rattle.std.specs.Prelude.{◌≡◌, [], List, Option, None, IfOk, IfErr};
-ghost use Rattle.console_reach.specs.Reached.{IsFresh, IsReachFault};
+ghost use Rattle.console_reach.specs.Reached.{IsUnused, IsReachFault};
 ghost use Rattle.load_devices.specs.Told.{Gains};
 ghost use Rattle.stream_line.specs.Dialling.{LineRequest, Call, ToDevice, asked_for};
 
@@ -21,7 +21,7 @@ pub trait Reach {
     /// `Connect` where the console can't be reached, and `Receive` where its line takes no such quiet
     /// time; it is then closed.
     fn reach(&mut self) -> Result<Self::Line, LineFault>
-        ensures fresh { IfOk result (λ line. IsFresh (Self.Line.told line) (Self.Line.fault_count line) (Self.Line.last_fault line)) }
+        ensures fresh { IfOk result (λ line. IsUnused (Self.Line.told line) (Self.Line.fault_count line) (Self.Line.last_fault line)) }
         ensures fault { IfErr result IsReachFault }
         ensures asked { Gains (asked self.old) (asked self.new) (asked_for (call self.old) result) }
         ensures call { call self.new ≡ call self.old };

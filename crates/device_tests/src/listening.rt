@@ -3,7 +3,7 @@
 use crate::brittle::Brittle;
 use crate::streams::{Faulty, Notes, Spoken};
 use crate::terminals::{Bench, PATH, Pace, Turn};
-use console_reach::{Reach, Wire, is_path, listen, silences_within};
+use console_reach::{Cable, Reach, is_path, listen, silences_within};
 use load_devices::{Line, LineFault};
 use serial_line::Devices;
 use std::alloc::Global;
@@ -119,13 +119,13 @@ fn is_heard_out<D: Devices + Clock>(
     copied: &[u8],
     is_over: bool,
 ) -> bool {
-    let mut wire = Wire {
+    let mut cable = Cable {
         devices: system,
         clock: system,
         path: PATH,
         quiet_ms: 1,
     };
-    let Ok(mut line) = wire.reach() else {
+    let Ok(mut line) = cable.reach() else {
         return false;
     };
     let mut out = Brittle::new(alloc, 8, 0);
@@ -274,13 +274,13 @@ fn fault_of<'a, D: Devices + Clock>(
     path: &'a str,
     quiet_ms: u32,
 ) -> Option<LineFault> {
-    let mut wire = Wire {
+    let mut cable = Cable {
         devices: system,
         clock: system,
         path,
         quiet_ms,
     };
-    wire.reach().err()
+    cable.reach().err()
 }
 
 #[test]

@@ -4,7 +4,7 @@ ghost use Rattle.stream_line.specs.Dialling.{ToDevice};
 ghost use Rattle.device_tests.specs.ToldDevices.{asked_by, asked_till, opening};
 
 use crate::terminals::{Bench, PATH, Pace, Scripted};
-use console_reach::{Reach, Wire};
+use console_reach::{Cable, Reach};
 use load_devices::LineFault;
 use serial_line::{Device, DeviceOpening, Devices};
 use std::alloc::Global;
@@ -76,14 +76,14 @@ fn reach_once<'a, R: Abort>(
 ) -> (Option<LineFault>, ToldDevices<'a, R>)
     ensures { asked_by result.1.asked.items ≡ asked_by devices.entry.asked.items ++ asked_till (ToDevice path.now quiet_ms) result.0 }
 {
-    let mut wire = Wire {
+    let mut cable = Cable {
         devices,
         clock: bench,
         path,
         quiet_ms,
     };
-    let fault = wire.reach().err();
-    (fault, wire.devices)
+    let fault = cable.reach().err();
+    (fault, cable.devices)
 }
 
 // A path, a quiet time, how no line comes of it, and the time limits that are set.

@@ -9,7 +9,7 @@ use Rattle.std.specs.Str.{chars}
 use Rattle.tape_blocks.specs.declared.fault.Fault.{Fault}
 use Rattle.tape_blocks.specs.Fault.{fault_text, refused_tape_text}
 use Rattle.tape_blocks.specs.OutOfMemory.{memory_text}
-use Rattle.endings.specs.FaultOutput.{StandardError, IsSaid}
+use Rattle.endings.specs.FaultOutput.{StandardError, IsSaidOnError}
 use Rattle.endings.specs.declared.failure.Failure.{Failure}
 use Rattle.endings.specs.declared.failure.Failure.TheVariants.{CannotRead, CannotWrite, CannotWriteFile, FileIsThere, RecordInUse, CannotConnect}
 use Rattle.endings.specs.declared.failure.Failure.TheVariants.{LineFailed, StartInDoubt, TapeRefused, OneTapeRefused, ScriptRefused, RecordRefused}
@@ -94,7 +94,7 @@ fault_line failure = codes "ldaodt: " ++ (failure_words failure ++ (failure_name
 
 -- standard error tells of a failure: its line was said there and nothing else
 abbrev pub IsTold : StandardError → StandardError → Failure → Type 0
-IsTold err err' failure = IsSaid err err' (fault_line failure)
+IsTold err err' failure = IsSaidOnError err err' (fault_line failure)
 
 -- standard error tells of a failure, unless nobody is to hear of it: then it is as it was
 abbrev pub IsToldUnless : Bool → StandardError → StandardError → Failure → Type 0

@@ -41,5 +41,5 @@ pub record IsSaidInPart (err err' : StandardError) (text : List ℕ) : Type 0 wh
   pub one_failed : OneFailed err.failures err'.failures
 
 -- a text was said: something of it is missing only where standard error failed
-abbrev pub IsSaid : StandardError → StandardError → List ℕ → Type 0
-IsSaid err err' text = IsSaidWhole err err' text ⊎ IsSaidInPart err err' text
+abbrev pub IsSaidOnError : StandardError → StandardError → List ℕ → Type 0
+IsSaidOnError err err' text = IsSaidWhole err err' text ⊎ IsSaidInPart err err' text

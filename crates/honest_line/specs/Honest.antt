@@ -11,15 +11,15 @@ resting machine waiting lost = record { machine = machine; down = []; up = waiti
 
 -- the list passes from a machine and its waiting answers to another such pair, no key is under way before or after it, and so many characters are lost
 abbrev pub Moved : Machine → List ℕ → List Item → ℕ → Machine → List ℕ → Type 0
-Moved machine waiting items lost now left = Passes (resting machine waiting 0) items (resting now left lost)
+Moved machine waiting items lost machine' left = Passes (resting machine waiting 0) items (resting machine' left lost)
 
 -- the list is honest from one machine to another, with so many characters lost: some answers may wait at first, and anything may be under way at the end
-pub record IsHonest (machine : Machine) (items : List Item) (lost : ℕ) (now : Machine) : Type 0 where
+pub record IsHonest (machine : Machine) (items : List Item) (lost : ℕ) (machine' : Machine) : Type 0 where
   pub waiting : List ℕ
   pub few : length waiting ≤ most_waiting
   pub end : Wire
   pub passes : Passes (resting machine waiting 0) items end
-  pub machine_is : end.machine ≡ now
+  pub machine_is : end.machine ≡ machine'
   pub lost_is : end.lost ≡ lost
 
 -- moves join: a list and then another from where the first ends are one list, with the losses of both

@@ -5,6 +5,10 @@ use Rattle.std.specs.Prelude.{ℕ, ◌+◌, ◌-◌, ◌^◌, min, Option, Some,
 abbrev pub one_more : ℕ → ℕ
 one_more count = min (count + 1) (2 ^ 64 - 1)
 
+-- a count with one more; at its largest, 32 bits, it stays
+abbrev pub one_more_in_32 : ℕ → ℕ
+one_more_in_32 count = min (count + 1) (2 ^ 32 - 1)
+
 -- the count after a call
 abbrev pub count_after : {T E : Type 0} → ℕ → Result T E → ℕ
 count_after count (Ok _) = count

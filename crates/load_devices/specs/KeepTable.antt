@@ -1,6 +1,6 @@
 -- A keeper in memory: what it keeps, and what its calls answer.
-use Rattle.std.specs.Prelude.{ℕ, ◌+◌, ◌-◌, ◌^◌, min, Bool, false, nat_le, nat_lt, if◌then◌else◌, List, [], ◌∷◌, ◌++◌, length, Option, Some, None}
-use Rattle.load_devices.specs.Failures.{one_more}
+use Rattle.std.specs.Prelude.{ℕ, Bool, false, nat_le, nat_lt, if◌then◌else◌, List, [], ◌∷◌, ◌++◌, length, Option, Some, None}
+use Rattle.load_devices.specs.Failures.{one_more, one_more_in_32}
 use Rattle.load_devices.specs.declared.item.Kept.{Kept}
 use Rattle.load_devices.specs.declared.fault.KeepFault.{KeepFault}
 use Rattle.load_devices.specs.declared.fault.KeepFault.TheVariants.{Write, Full}
@@ -16,7 +16,7 @@ pub record KeepValue : Type 0 where
 
 -- the number of the next call, from 1; at its largest, 32 bits, it stays
 abbrev pub next_call : KeepValue → ℕ
-next_call keep = min (keep.calls + 1) (2 ^ 32 - 1)
+next_call keep = one_more_in_32 keep.calls
 
 -- whether the call with this number is one of those that fail
 abbrev pub is_failing : Option ℕ → ℕ → Bool

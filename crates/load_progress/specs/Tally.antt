@@ -1,7 +1,8 @@
 -- How far it is, and what is shown of it.
-use Rattle.std.specs.Prelude.{ℕ, ◌+◌, ◌-◌, ◌^◌, ◌||◌, nat_lt, min, not, Bool, true, false, if◌then◌else◌, Option, Some, None}
+use Rattle.std.specs.Prelude.{ℕ, ◌-◌, ◌||◌, nat_lt, not, Bool, true, false, if◌then◌else◌, Option, Some, None}
 use Rattle.host_core.specs.declared.heard.Heard.{Heard}
 use Rattle.host_core.specs.declared.heard.Heard.TheVariants.{Got, Quiet}
+use Rattle.load_devices.specs.Failures.{one_more_in_32}
 use Rattle.load_devices.specs.declared.onlooker.Sight.{Sight}
 use Rattle.load_progress.specs.Pace.{seconds_left}
 use Rattle.load_progress.specs.declared.showing.Showing.{Showing}
@@ -15,7 +16,7 @@ beginning done words begun = record { words = words; done_at_first = done; done 
 -- largest, 32 bits, the count stays
 abbrev pub heard_behind : ℕ → Heard → Option ℕ → ℕ
 heard_behind count heard (Some key) = 0
-heard_behind count (Got character) None = min (count + 1) (2 ^ 32 - 1)
+heard_behind count (Got character) None = one_more_in_32 count
 heard_behind count Quiet None = count
 
 -- whether there is a key

@@ -10,7 +10,7 @@ use Rattle.tape_image.specs.Word.{WordValue, word_fields}
 use Rattle.load_record.specs.declared.version.Version.{Version}
 use Rattle.load_record.specs.declared.version.Version.TheVariants.{First, Second}
 use Rattle.load_record.specs.Lines.{half_line, run_text, is_full, IsHalfLine, IsRunLine, HoldsWords}
-use Rattle.load_record.specs.Reading.{IsFront, BeginsWithRun, HoldsCount, HoldsTorn}
+use Rattle.load_record.specs.Reading.{IsHeldFront, BeginsWithRun, HoldsCount, HoldsTorn}
 use Rattle.load_record.proofs.Runs.{no_half_run, length-run_text}
 
 -- the first of the next words, where some of them are one word
@@ -80,14 +80,14 @@ run_whole line words begun long =
     let nothing : begun.1.0 ≡ [] = nil_from_length begun.1.0 (omega arith) in
     record { run = begun.0; spelled = begun.1.1 ∙ ap (λ l. run_text words ++ l) nothing ∙ append-nil (run_text words) }
 
-pub run_found : (line : List ℕ) (next : List WordValue) (count : ℕ) → HoldsTorn Second line next count → length line ≡ 6 + 7 * count → IsFront (IsRunLine line) next count
+pub run_found : (line : List ℕ) (next : List WordValue) (count : ℕ) → HoldsTorn Second line next count → length line ≡ 6 + 7 * count → IsHeldFront (IsRunLine line) next count
 run_found line next count torn long = record {
   few = torn.few;
   holds = λ some. run_whole line (take count next) (torn.holds some) (long ∙ ap (λ n. 6 + 7 * n) (sym (length-take-le count next torn.few)));
   only = λ words later e h. run_only line next words later count torn e h;
 }
 
-pub run_not_found : (line : List ℕ) (next : List WordValue) (count : ℕ) → HoldsTorn Second line next count → (length line ≡ 6 + 7 * count → ⊥) → IsFront (IsRunLine line) next 0
+pub run_not_found : (line : List ℕ) (next : List WordValue) (count : ℕ) → HoldsTorn Second line next count → (length line ≡ 6 + 7 * count → ⊥) → IsHeldFront (IsRunLine line) next 0
 run_not_found line next count torn other = record {
   few = omega arith;
   holds = λ some. absurd (omega arith);
@@ -125,7 +125,7 @@ half_counted version line text next w false count v n half test t c =
     moved version Second line next (w ∷ drop 1 next) count 0 v (first_of w next n) c (half_not_held line w (drop 1 next) half (λ e. false≢true (test ∙ (bytes_eq-Decides line text).1 (e ∙ sym t))))
 
 pub run_words_counted : (version : Version) (line : List ℕ) (next : List WordValue) (w : WordValue) (count : ℕ)
-    → version ≡ Second → Some w ≡ slice_get next 0 → is_full w ≡ true → IsFront (IsRunLine line) next count → HoldsCount version line next count
+    → version ≡ Second → Some w ≡ slice_get next 0 → is_full w ≡ true → IsHeldFront (IsRunLine line) next count → HoldsCount version line next count
 run_words_counted version line next w count v n full h =
     let here : HoldsCount Second line next count = record {
       few = h.few;

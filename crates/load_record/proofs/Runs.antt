@@ -11,7 +11,7 @@ use Rattle.load_record.specs.declared.run.OpenRun.{OpenRun}
 use Rattle.load_record.specs.declared.version.Version.{Version}
 use Rattle.load_record.specs.declared.version.Version.TheVariants.{First, Second}
 use Rattle.load_record.specs.Lines.{value_text, values_text, run_text, run_at, longer, goes_on, is_full, GoOn, IsRun}
-use Rattle.load_record.specs.Reading.{IsLongestFront, BeginsWithValues, BeginsWithRun, HoldsTorn}
+use Rattle.load_record.specs.Reading.{IsLongestHeldFront, BeginsWithValues, BeginsWithRun, HoldsTorn}
 
 -- how many words a run line has once each of the next words is added whose value stands next in the text, counted as the code does
 abbrev pub values_held : OpenRun → List WordValue → List ℕ → ℕ
@@ -165,13 +165,13 @@ torn_few next text =
 -- ---- the front that is counted is the longest one
 
 -- of two counts of the longest front neither is the larger
-longest_most : (Holds : List WordValue → Type 0) (next : List WordValue) (a b : ℕ) → IsLongestFront Holds next a → IsLongestFront Holds next b → a ≤ b
+longest_most : (Holds : List WordValue → Type 0) (next : List WordValue) (a b : ℕ) → IsLongestHeldFront Holds next a → IsLongestHeldFront Holds next b → a ≤ b
 longest_most Holds next zero b one other = omega arith
 longest_most Holds next (suc a) b one other =
     let many = other.most (take (suc a) next) (drop (suc a) next) (sym (take-append-drop (suc a) next)) (one.holds (omega arith)) in
     let n = length-take-le (suc a) next one.few in omega arith
 
-pub one_longest : (Holds : List WordValue → Type 0) (next : List WordValue) (a b : ℕ) → IsLongestFront Holds next a → IsLongestFront Holds next b → a ≡ b
+pub one_longest : (Holds : List WordValue → Type 0) (next : List WordValue) (a b : ℕ) → IsLongestHeldFront Holds next a → IsLongestHeldFront Holds next b → a ≡ b
 one_longest Holds next a b one other =
     let few = longest_most Holds next a b one other in
     let many = longest_most Holds next b a other one in omega arith
@@ -186,7 +186,7 @@ values_least run (w ∷ words) later rest go =
     ap (λ t. cond t (values_held (longer run) (words ++ later) (values_text words ++ rest)) run.count) on in
     let more = values_least (longer run) words later rest go.1 in omega arith
 
-values_longest : (address : ℕ) (next : List WordValue) (text : List ℕ) → IsLongestFront (BeginsWithValues address text) next (values_held (run_at address) next text)
+values_longest : (address : ℕ) (next : List WordValue) (text : List ℕ) → IsLongestHeldFront (BeginsWithValues address text) next (values_held (run_at address) next text)
 values_longest address next text =
     let c = counted (run_at address) next text in
     let these : take (values_held (run_at address) next text) next ≡ c.words =
@@ -200,8 +200,8 @@ values_longest address next text =
     }
 
 -- what the code counts
-pub counted_values : (address : ℕ) (next : List WordValue) (text : List ℕ) (count : ℕ) → count ≡ values_held (run_at address) next text → IsLongestFront (BeginsWithValues address text) next count
-counted_values address next text count e = subst (IsLongestFront (BeginsWithValues address text) next) (sym e) (values_longest address next text)
+pub counted_values : (address : ℕ) (next : List WordValue) (text : List ℕ) (count : ℕ) → count ≡ values_held (run_at address) next text → IsLongestHeldFront (BeginsWithValues address text) next count
+counted_values address next text count e = subst (IsLongestHeldFront (BeginsWithValues address text) next) (sym e) (values_longest address next text)
 
 -- a run is counted in a piece that begins with its text, whatever follows
 run_least : (words later : List WordValue) (rest : List ℕ) → IsRun words → length words ≤ torn_words Second (words ++ later) (run_text words ++ rest)
@@ -248,7 +248,7 @@ begun_elsewhere (v ∷ next) text front w e a off =
     counted_torn (v ∷ next) text 0 (sym (ap (λ t. cond t (values_held (run_at v.address) (v ∷ next) (drop 6 text)) 0) (ap (starts_with nat_eq text) here ∙ off)))
 
 pub begun_here : (next : List WordValue) (text front left : List ℕ) (w : WordValue) (address count result : ℕ) → Some w ≡ slice_get next 0 → front ≡ octal_text w.address
-    → starts_with nat_eq text front ≡ true → address ≡ w.address → left ≡ drop 6 text → IsLongestFront (BeginsWithValues address left) next count → result ≡ count
+    → starts_with nat_eq text front ≡ true → address ≡ w.address → left ≡ drop 6 text → IsLongestHeldFront (BeginsWithValues address left) next count → result ≡ count
     → HoldsTorn Second text next result
 begun_here [] text front left w address count result e f on a l h r = absurd (cc e)
 begun_here (v ∷ next) text front left w address count result e f on a l h r =

@@ -21,20 +21,20 @@ pub record IsCut (text : List ℕ) (lines : List (List ℕ)) (torn : List ℕ) :
   pub pieces : slice_split is_line_end text ≡ lines ++ torn ∷ []
 
 -- of the words that come next, so many are a front of which this holds: the only one, and 0 where it holds of none
-pub record IsFront (Holds : List WordValue → Type 0) (next : List WordValue) (count : ℕ) : Type 0 where
+pub record IsHeldFront (Holds : List WordValue → Type 0) (next : List WordValue) (count : ℕ) : Type 0 where
   pub few : count ≤ length next
   pub holds : 0 < count → Holds (take count next)
   pub only : (words later : List WordValue) → next ≡ words ++ later → Holds words → count ≡ length words
 
 -- of the words that come next, so many are the longest front of which this holds, and 0 where it holds of none
-pub record IsLongestFront (Holds : List WordValue → Type 0) (next : List WordValue) (count : ℕ) : Type 0 where
+pub record IsLongestHeldFront (Holds : List WordValue → Type 0) (next : List WordValue) (count : ℕ) : Type 0 where
   pub few : count ≤ length next
   pub holds : 0 < count → Holds (take count next)
   pub most : (words later : List WordValue) → next ≡ words ++ later → Holds words → length words ≤ count
 
 -- of the words that come next an ended line holds so many
 abbrev pub HoldsCount : Version → List ℕ → List WordValue → ℕ → Type 0
-HoldsCount version line next count = IsFront (HoldsWords version line) next count
+HoldsCount version line next count = IsHeldFront (HoldsWords version line) next count
 
 -- the words go on a run line from an address on, and the text begins with their values
 abbrev pub BeginsWithValues : ℕ → List ℕ → List WordValue → Type 0
@@ -47,7 +47,7 @@ BeginsWithRun Second torn words = IsRun words × ((rest : List ℕ) × (torn ≡
 
 -- of the words that come next a torn piece holds so many: as many whole values as it has of them
 abbrev pub HoldsTorn : Version → List ℕ → List WordValue → ℕ → Type 0
-HoldsTorn version torn next count = IsLongestFront (BeginsWithRun version torn) next count
+HoldsTorn version torn next count = IsLongestHeldFront (BeginsWithRun version torn) next count
 
 -- a line adds the plan's next words to a progress
 pub record AddsWords (version : Version) (plan : PlanValue) (line : List ℕ) (before after : Progress) : Type 0 where

@@ -6,7 +6,7 @@ ghost use Rattle.host_core.specs.declared.progress.Progress.{Progress};
 ghost use Rattle.host_core.specs.Opening.{refusal_of};
 ghost use Rattle.load_record.specs.declared.version.Version.TheVariants.{Second};
 ghost use Rattle.load_record.specs.Lines.{IsRunLine};
-ghost use Rattle.load_record.specs.Reading.{Adds, BeginsWithValues, HoldsCount, HoldsTorn, IsFront, IsLongestFront, IsMarkDue, Says, is_line_end};
+ghost use Rattle.load_record.specs.Reading.{Adds, BeginsWithValues, HoldsCount, HoldsTorn, IsHeldFront, IsLongestHeldFront, IsMarkDue, Says, is_line_end};
 
 use crate::line::{half_line, value_text, word_fields};
 use crate::run::{OpenRun, is_full};
@@ -147,7 +147,7 @@ fn words_held(version: Version, next: &[Word], line: &[u8]) -> usize
 
 // How many of the next words a whole run line holds: 0 where it is none.
 fn run_words(next: &[Word], line: &[u8]) -> usize
-    ensures { IsFront (IsRunLine line.now) next.now result }
+    ensures { IsHeldFront (IsRunLine line.now) next.now result }
 {
     let count = words_begun(next, line);
     if line.len() == RUN_HEAD + RUN_VALUE * count {
@@ -183,7 +183,7 @@ fn words_begun(next: &[Word], begun: &[u8]) -> usize
 // How many of the next words a run line from this address has, if their values are what the text
 // begins with.
 fn values_held(address: u16, next: &[Word], text: &[u8]) -> u8
-    ensures { IsLongestFront (BeginsWithValues address text.now) next.now result }
+    ensures { IsLongestHeldFront (BeginsWithValues address text.now) next.now result }
 {
     let mut run = OpenRun::at(address);
     let mut left = text;

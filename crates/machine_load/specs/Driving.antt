@@ -15,7 +15,7 @@ use Rattle.load_engine.specs.Failing.{Counts, NamesFault}
 use Rattle.load_engine.specs.Keeping.{KeptBy}
 use Rattle.load_engine.specs.Session.{Session, KeepsMarkFirst, TellsEnd}
 use Rattle.load_engine.specs.declared.stop.Stop.{Stop}
-use Rattle.console_reach.specs.Reached.{IsFresh}
+use Rattle.console_reach.specs.Reached.{IsUnused}
 use Rattle.byte_io.specs.Output.{WritesAllBut}
 use Rattle.machine_load.specs.Load.{Around, Setting, Asks, IsIdle, IsLoadOf}
 use Rattle.machine_load.specs.LoadReport.{load_report}
@@ -60,7 +60,7 @@ keeper_tells kept failures fault keeps fails begins text = record {
 pub record IsDrivenOver {K : Type 0} (tells : KeeperTells K) (first last : Core) (stop : Stop) (line' : LineTold) (keeper' : K) : Type 0 where
   pub goes_on : ended first.phase ≡ None
   pub line : LineTold
-  pub fresh : IsFresh line.said line.failures line.fault
+  pub fresh : IsUnused line.said line.failures line.fault
   pub keeper : K
   pub begun_so : tells.begins keeper first.plan first.verified
   -- what was heard, said and kept, in its order

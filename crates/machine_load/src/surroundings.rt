@@ -5,7 +5,7 @@ ghost use Rattle.load_devices.specs.Told.{Gains};
 ghost use Rattle.machine_load.specs.Load.{IsTextBegun};
 ghost use Rattle.machine_load.specs.RecordDisk.{RecordDisk, IsReadAnswered, IsBeginAnswered};
 ghost use Rattle.record_file.specs.RecordFault.{IsUnread, IsUnbegun};
-ghost use Rattle.console_reach.specs.Reached.{IsFresh};
+ghost use Rattle.console_reach.specs.Reached.{IsUnused};
 ghost use Rattle.stream_line.specs.Dialling.{LineRequest, Call, ToDevice, asked_for};
 ghost use Rattle.tape_image.specs.Plan.{PlanValue};
 ghost use Rattle.machine_load.specs.Step.{Step, RecordGivenBack, read_step, connect_step, begin_step};
@@ -59,7 +59,7 @@ pub trait Surroundings {
     /// A connection to the console, on which nothing was said.
     fn connect(&mut self) -> Result<Self::Line, LineFault>
         ensures step { Gains (steps self.old) (steps self.new) (connect_step result ∷ []) }
-        ensures fresh { IfOk result (λ line. IsFresh (Self.Line.told line) (Self.Line.fault_count line) (Self.Line.last_fault line)) }
+        ensures fresh { IfOk result (λ line. IsUnused (Self.Line.told line) (Self.Line.fault_count line) (Self.Line.last_fault line)) }
         ensures same { Keeps (record_text self.old) (record_text self.new) }
         ensures asked { Gains (asked self.old) (asked self.new) (asked_for (call self.old) result) }
         ensures disk { disk self.new ≡ disk self.old };

@@ -33,7 +33,7 @@ IsVerifyFault plan patience before after Memory = (after.asked ≡ before.asked)
 IsVerifyFault plan patience before after other = ⊥
 
 -- room for the tape was refused, and nothing else was done
-pub record IsNotBegun (fault : ShelfFault) (before after : SaveTold) : Type 0 where
+pub record IsSaveNotBegun (fault : ShelfFault) (before after : SaveTold) : Type 0 where
   pub refused : Gains before.steps after.steps (NotReserved fault ∷ [])
   pub not_asked : after.asked ≡ before.asked
   pub nothing_reported : Keeps before.out after.out
@@ -58,8 +58,8 @@ IsKeepFault tape shelf shelf' other = ⊥
 -- how `save` comes to nothing: a file that is there or can't be made before the console is reached, a console that can't be reached and
 -- want of memory before there is a tape, a tape that can't be put there with nothing reported, a report that can't be written whole last
 abbrev pub IsSaveFault : SaveOptions → SaveTold → SaveTold → LookFault → Type 0
-IsSaveFault options before after IsThere = IsNotBegun shelf_fault.IsThere before after ⊎ IsUnput shelf_fault.IsThere options before after
-IsSaveFault options before after WriteTape = IsNotBegun shelf_fault.Write before after ⊎ IsUnput shelf_fault.Write options before after
+IsSaveFault options before after IsThere = IsSaveNotBegun shelf_fault.IsThere before after ⊎ IsUnput shelf_fault.IsThere options before after
+IsSaveFault options before after WriteTape = IsSaveNotBegun shelf_fault.Write before after ⊎ IsUnput shelf_fault.Write options before after
 IsSaveFault options before after Connect =
     Gains before.steps after.steps (Reserve ∷ []) × IsAskedInVain before.call before.asked after.asked × Keeps before.out after.out
 IsSaveFault options before after WriteOutput = IsSavedUnreported options before after

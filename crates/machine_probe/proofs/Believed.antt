@@ -37,7 +37,7 @@ use Rattle.trial_law.specs.Trying.{IsToldOf}
 use Rattle.trial_law.proofs.Runs.{IsHarmless, run_harmless}
 use Rattle.trial_law.proofs.Told.{told_honest}
 use Rattle.machine_probe.specs.declared.probe_options.ProbeOptions.{ProbeOptions}
-use Rattle.machine_probe.specs.Belief.{IsBelievable}
+use Rattle.machine_probe.specs.Belief.{AreBelievable}
 use Rattle.machine_probe.specs.Came.{extent_of, first_of, sighting_of}
 use Rattle.machine_probe.specs.Follow.{IsProbe, Made, forgets, goes_on, is_number, number_in, stores}
 use Rattle.machine_probe.specs.Runs.{LooksAt, IsSearch, IsTrialOf, One}
@@ -201,7 +201,7 @@ never_stores word (look.LineFailed fault) attempt second h k = refl
 
 -- ---- all of it
 
-pub believes : (options : ProbeOptions) (f : Findings) (parts : List (List Item)) → IsAddress options.address → options.patience < 2 ^ 32 → IsProbe options f parts → IsBelievable f parts
+pub believes : (options : ProbeOptions) (f : Findings) (parts : List (List Item)) → IsAddress options.address → options.patience < 2 ^ 32 → IsProbe options f parts → AreBelievable f parts
 believes options f parts address long p machine now lost ready all =
     let s1 = split machine now p.in_first (p.in_trial ++ (p.in_second ++ (p.in_deposit ++ p.in_search))) lost (subst (λ list. AreHonest machine list lost now) p.parts_are all) in
     let s2 = split s1.0 now p.in_trial (p.in_second ++ (p.in_deposit ++ p.in_search)) s1.2 s1.4 in

@@ -40,7 +40,7 @@ use Rattle.trial_law.proofs.Rows.{leave_ready}
 use Rattle.trial_law.proofs.Splits.{lines_split}
 use Rattle.trial_law.proofs.Told.{both_begin, told_begins}
 use Rattle.machine_probe.specs.declared.probe_options.ProbeOptions.{ProbeOptions}
-use Rattle.machine_probe.specs.Belief.{IsBelievableOver}
+use Rattle.machine_probe.specs.Belief.{AreBelievableOver}
 use Rattle.machine_probe.specs.Follow.{IsProbe, Made, forgets, goes_on, is_number, number_in, stores}
 use Rattle.machine_probe.specs.PuttingBack.{PutsBack}
 use Rattle.machine_probe.specs.Runs.{LooksAt, IsSearch, IsTrialOf, One}
@@ -245,7 +245,7 @@ hosts options f parts address long p (inr are) =
     are))
 
 pub believes_over : (options : ProbeOptions) (f : Findings) (parts : List (List Item)) → IsAddress options.address → options.patience < 2 ^ 32 →
-    IsProbe options f parts → IsBelievableOver f parts
+    IsProbe options f parts → AreBelievableOver f parts
 believes_over options f parts address long p machine now lost ready honest =
     let begins = deposit_begins options (number_in f.first) in
     let behind = behind_second options (verdict_of f) (number_in f.first) f.put_back f.search p.in_deposit p.in_search p.deposited p.searched begins long in

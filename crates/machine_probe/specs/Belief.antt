@@ -19,11 +19,11 @@ pub record IsRight (f : Findings) (before now : List ℕ) : Type 0 where
   pub top : (top : ℕ) → f.search ≡ Some (Top top) → top_of before ≡ top
 
 -- over every machine that runs no program, and honest lines in a row
-abbrev pub IsBelievable : Findings → List (List Item) → Type 0
-IsBelievable f parts =
-    (machine now : Machine) (lost : ℕ) → IsReadyMachine machine → AreHonest machine parts lost now → IsRight f machine.memory now.memory
+abbrev pub AreBelievable : Findings → List (List Item) → Type 0
+AreBelievable f parts =
+    (machine machine' : Machine) (lost : ℕ) → IsReadyMachine machine → AreHonest machine parts lost machine' → IsRight f machine.memory machine'.memory
 
 -- over every machine that runs no program, and one honest line on which all the parts were said, one after another
-abbrev pub IsBelievableOver : Findings → List (List Item) → Type 0
-IsBelievableOver f parts =
-    (machine now : Machine) (lost : ℕ) → IsReadyMachine machine → IsHonest machine (in_a_row parts) lost now → IsRight f machine.memory now.memory
+abbrev pub AreBelievableOver : Findings → List (List Item) → Type 0
+AreBelievableOver f parts =
+    (machine machine' : Machine) (lost : ℕ) → IsReadyMachine machine → IsHonest machine (in_a_row parts) lost machine' → IsRight f machine.memory machine'.memory

@@ -15,7 +15,7 @@ use Rattle.probe_report.specs.Notes.{Noted}
 use Rattle.probe_report.specs.ProbeText.{probe_text}
 use Rattle.tape_values.specs.Told.{IsAsTold}
 use Rattle.machine_probe.specs.declared.probe_options.ProbeOptions.{ProbeOptions}
-use Rattle.machine_probe.specs.Belief.{IsBelievable, IsBelievableOver}
+use Rattle.machine_probe.specs.Belief.{AreBelievable, AreBelievableOver}
 use Rattle.machine_probe.specs.Follow.{IsProbe}
 use Rattle.machine_probe.specs.Noted.{AreNotesSince}
 
@@ -26,8 +26,8 @@ pub record IsProbed (options : ProbeOptions) (line line' : Option (List Item)) (
   pub parts : List (List Item)
   pub runs : IsProbe options f parts
   pub on_line : Gains line line' (in_a_row parts)
-  pub believed : IsBelievable f parts
-  pub believed_over : IsBelievableOver f parts
+  pub believed : AreBelievable f parts
+  pub believed_over : AreBelievableOver f parts
   -- all that was said was noted
   pub notes_are : AreNotesSince line line' notes
 

@@ -27,8 +27,8 @@ IsTrueEnd (Stopped stop) memory patience lost = ⊤
 -- over every machine that runs no program, and honest lines in a row: memory is what it was, and what is answered is so
 abbrev pub IsFound : ℕ → Search → List (List Item) → Type 0
 IsFound patience search parts =
-    (machine now : Machine) (lost : ℕ) → IsReadyMachine machine → AreHonest machine parts lost now →
-    (now.memory ≡ machine.memory) × IsTrueEnd search machine.memory patience lost
+    (machine machine' : Machine) (lost : ℕ) → IsReadyMachine machine → AreHonest machine parts lost machine' →
+    (machine'.memory ≡ machine.memory) × IsTrueEnd search machine.memory patience lost
 
 -- a search with so many turns in each pass came to this, with what the line told before and tells after
 pub record FindsEnd (turns patience : ℕ) (search : Search) (line line' : Option (List Item)) : Type 0 where

@@ -22,10 +22,10 @@ struct Limits {
 
 // What a pass comes to.
 enum Outcome {
-    /// The piece that begins here is the first that lacks its last word.
+    // The piece that begins here is the first that lacks its last word.
     Lacking(u16),
 
-    /// No pass follows.
+    // No pass follows.
     Over(Search),
 }
 

@@ -7,15 +7,15 @@ use Rattle.odt_machine.specs.declared.key.Key.TheVariants.{Digit, Return, Other}
 use Rattle.odt_machine.specs.Machine.{word_at}
 
 -- the word at an address becomes a value, and every other word stays
-pub record IsStored (old new : List ℕ) (address value : ℕ) : Type 0 where
-  pub size : length new ≡ length old
-  pub changed : word_at new address ≡ value
-  pub others : (b : ℕ) → b / 2 ≢ address / 2 → word_at new b ≡ word_at old b
+pub record IsStored (before now : List ℕ) (address value : ℕ) : Type 0 where
+  pub size : length now ≡ length before
+  pub changed : word_at now address ≡ value
+  pub others : (b : ℕ) → b / 2 ≢ address / 2 → word_at now b ≡ word_at before b
 
 -- memory changes only where a return ends the typing of a value, and then only the open word
 abbrev pub StoresOnlyTyped : List ℕ → Mode → Key → List ℕ → Type 0
-StoresOnlyTyped old (Typing address value digits) Return new = IsStored old new address value
-StoresOnlyTyped old _ _ new = new ≡ old
+StoresOnlyTyped before (Typing address value digits) Return now = IsStored before now address value
+StoresOnlyTyped before _ _ now = now ≡ before
 
 -- the keys that are illegal in a mode: those that no rule of the console names there
 abbrev pub is_illegal : Mode → Key → Bool

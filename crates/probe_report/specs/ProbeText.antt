@@ -50,12 +50,12 @@ trust_lines f (Number old) = line (verdict_text (verdict_of f)) ++ word_lines f.
 trust_lines f first = []
 
 -- memory from 000000 to its last word
-abbrev pub memory_text : ℕ → List ℕ
-memory_text top = if nat_lt top 2 then codes "no memory at 000000" else codes "memory 000000 to " ++ octal_text (top - 2)
+abbrev pub extent_text : ℕ → List ℕ
+extent_text top = if nat_lt top 2 then codes "no memory at 000000" else codes "memory 000000 to " ++ octal_text (top - 2)
 
 -- memory, and the pace, where memory's end was found: where the probe ends as Probed
 abbrev pub memory_lines : Option Extent → Pace → List ℕ
-memory_lines (Some (Top top)) pace = line (memory_text top) ++ key_lines pace.key ++ load_lines pace.look (top / 2)
+memory_lines (Some (Top top)) pace = line (extent_text top) ++ key_lines pace.key ++ load_lines pace.look (top / 2)
 memory_lines search pace = []
 
 -- the name of an end

@@ -3,7 +3,7 @@ ghost use Rattle.std.specs.Prelude.{◌≡◌, ◌≤◌, ◌++◌, codes, vec_c
 ghost use Rattle.octal.specs.Octal.{octal_text};
 ghost use Rattle.byte_io.specs.Text.{line};
 ghost use Rattle.probe_report.specs.Ending.{probe_end};
-ghost use Rattle.probe_report.specs.ProbeText.{end_name, held_once, holds_again, longest_report, memory_lines, memory_text, probe_text};
+ghost use Rattle.probe_report.specs.ProbeText.{end_name, held_once, holds_again, longest_report, memory_lines, extent_text, probe_text};
 ghost use Rattle.probe_report.specs.ProbeText.{prompt_line, trust_lines, verdict_text, word_lines};
 
 use crate::ending::end_of;
@@ -125,7 +125,7 @@ fn put_memory(text: &mut Vec<u8>, search: Option<Extent>, pace: Pace) -> Result<
 }
 
 fn put_top(text: &mut Vec<u8>, top: u16) -> Result<(), AllocError>
-    ensures { OnOk result (text.new.items ≡ text.old.items ++ line (memory_text top)) }
+    ensures { OnOk result (text.new.items ≡ text.old.items ++ line (extent_text top)) }
 {
     if top < 2 {
         return text.extend_from_slice(b"no memory at 000000\n");

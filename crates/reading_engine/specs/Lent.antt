@@ -18,6 +18,6 @@ unpaid stop = 0
 -- where a reading may begin over the line's machine and at most 32 characters wait: what was read is true and nothing
 -- was changed, with the losses of what passed meanwhile
 abbrev pub ReadsTrue : Stop → Reader → Reader → LineValue → LineValue → Type 0
-ReadsTrue stop r next old new =
-    (said : List Item) (lost : ℕ) → Passed old new said lost → MayLook r old.machine → length old.waiting ≤ most_waiting →
-    IsTrue old.machine.memory next new.machine.memory (keys_of said) (lost + unpaid stop)
+ReadsTrue stop old new line line' =
+    (said : List Item) (lost : ℕ) → Passed line line' said lost → MayLook old line.machine → length line.waiting ≤ most_waiting →
+    IsTrue line.machine.memory new line'.machine.memory (keys_of said) (lost + unpaid stop)

@@ -12,6 +12,6 @@ in_a_row (said ∷ parts) = said ++ in_a_row parts
 -- the parts passed over honest lines, each from the machine where the one before it ended, and so many characters were
 -- lost in all
 abbrev pub AreHonest : Machine → List (List Item) → ℕ → Machine → Type 0
-AreHonest machine [] lost now = (now ≡ machine) × (lost ≡ 0)
-AreHonest machine (said ∷ parts) lost now =
-    (between : Machine) × (first later : ℕ) × IsHonest machine said first between × AreHonest between parts later now × (lost ≡ first + later)
+AreHonest machine [] lost machine' = (machine' ≡ machine) × (lost ≡ 0)
+AreHonest machine (said ∷ parts) lost machine' =
+    (between : Machine) × (first later : ℕ) × IsHonest machine said first between × AreHonest between parts later machine' × (lost ≡ first + later)

@@ -1,6 +1,6 @@
 -- Rows of the tables of what is asked, by what came of a call.
 use Rattle.std.proofs.Common.{◌≡◌, ℕ, ◌+◌, ◌<◌, ◌≤◌, ◌⊎◌, inl, inr, ◌∙◌, sym, subst, refl, List, [], ◌∷◌, ◌++◌, Bool, true, false, Option, Some, None, Result, Ok, Err}
-use Rattle.record_file.specs.Beginning.{IsLeftover, Left, Strange as StrangeNew, Taken, IsMaking, Fresh, Again, IsMakingHeld, new_name, Course, NotReplaced, GivenUp, Replaced, IsRenaming, Whole, Unsynced, NotRenamed, Moved, IsFolderSync, IsFileCut, IsLetGo, Goes, LeadsElsewhere, Stays, StaysBehindLink, IsWriting, NotHeld as NotHeldNew, NoRoom, NotWritten, Written, IsBeside, IsReady, ReadyDevice, ReadyFile, IsUnready, MovedAway, IsWrittenOver, Device as OverDevice, PlainFile as OverFile, AtFolder, course, IsMakingSynced, OldFile, NewFile, NewBehindLink, Unresolved}
+use Rattle.record_file.specs.Beginning.{IsLeftover, Left, Strange as StrangeNew, Taken, IsMaking, Fresh, Again, IsMakingHeld, new_name, Course, NotReplaced, GivenUp, Replaced, IsRenaming, Whole, Unsynced, NotRenamed, Moved, IsFolderSync, IsFileCut, IsLetGo, Goes, LeadsElsewhere, Stays, StaysBehindLink, IsWriting, NotHeld as NotHeldNew, NoRoom, NotWritten, Written, IsBeside, IsMadeReady, ReadyDevice, ReadyFile, IsUnready, MovedAway, IsWrittenOver, Device as OverDevice, PlainFile as OverFile, AtFolder, course, IsMakingSynced, OldFile, NewFile, NewBehindLink, Unresolved}
 use Rattle.record_file.specs.Course.{is_done, was_made, renamed}
 use Rattle.load_devices.proofs.Told.{tells_join}
 use Rattle.load_devices.specs.Told.{HasAsked, Tells}
@@ -213,17 +213,17 @@ beside_kept name made after a b kept false keeper is h = subst (λ k. HasAsked a
 -- ---- in place
 
 pub ready_device : (name : List ℕ) (made : Made) (device : Bool) (a b : Option (List DiskStep)) → device ≡ true
-    → HasAsked a b (IsMakingSynced name made true) → HasAsked a b (IsReady name made device)
-ready_device name made device a b is h = (h.0, h.1, subst (λ d. IsReady name made d h.0) (sym is) (ReadyDevice h.0 h.2))
+    → HasAsked a b (IsMakingSynced name made true) → HasAsked a b (IsMadeReady name made device)
+ready_device name made device a b is h = (h.0, h.1, subst (λ d. IsMadeReady name made d h.0) (sym is) (ReadyDevice h.0 h.2))
 
 looked : (name : List ℕ) (made : Made) (steps look : List DiskStep) → IsMakingSynced name made true steps → IsNameSeen name true look
-    → IsReady name made false (steps ++ look)
+    → IsMadeReady name made false (steps ++ look)
 looked name made steps look s Seen = ReadyFile steps s
 
 pub ready_file : (name : List ℕ) (made : Made) (device : Bool) (a b c : Option (List DiskStep)) → device ≡ false
-    → HasAsked a b (IsMakingSynced name made true) → HasAsked b c (IsNameSeen name true) → HasAsked a c (IsReady name made device)
+    → HasAsked a b (IsMakingSynced name made true) → HasAsked b c (IsNameSeen name true) → HasAsked a c (IsMadeReady name made device)
 ready_file name made device a b c is h l =
-    (h.0 ++ l.0, tells_join a b c h.0 l.0 h.1 l.1, subst (λ d. IsReady name made d (h.0 ++ l.0)) (sym is) (looked name made h.0 l.0 h.2 l.2))
+    (h.0 ++ l.0, tells_join a b c h.0 l.0 h.1 l.1, subst (λ d. IsMadeReady name made d (h.0 ++ l.0)) (sym is) (looked name made h.0 l.0 h.2 l.2))
 
 looked_in_vain : (name : List ℕ) (made : Made) (steps look : List DiskStep) → IsMakingSynced name made true steps → IsNameSeen name false look
     → IsUnready name made (steps ++ look)
@@ -234,14 +234,14 @@ pub unready_file : (name : List ℕ) (made : Made) (a b c : Option (List DiskSte
 unready_file name made a b c h l = (h.0 ++ l.0, tells_join a b c h.0 l.0 h.1 l.1, looked_in_vain name made h.0 l.0 h.2 l.2)
 
 pub over_device : (name : List ℕ) (made : Made) (text : Option (List ℕ)) (device known : Bool) (a b : Option (List DiskStep)) → known ≡ device → known ≡ true
-    → HasAsked a b (IsReady name made device) → HasAsked a b (IsWrittenOver name made text device)
+    → HasAsked a b (IsMadeReady name made device) → HasAsked a b (IsWrittenOver name made text device)
 over_device name made text device known a b same is =
-    subst (λ d. HasAsked a b (IsReady name made d) → HasAsked a b (IsWrittenOver name made text d)) (sym is ∙ same) (λ h. (h.0, h.1, OverDevice h.0 h.2))
+    subst (λ d. HasAsked a b (IsMadeReady name made d) → HasAsked a b (IsWrittenOver name made text d)) (sym is ∙ same) (λ h. (h.0, h.1, OverDevice h.0 h.2))
 
 pub over_file : (name : List ℕ) (made : Made) (text cut : Option (List ℕ)) (device known : Bool) (a b c : Option (List DiskStep)) → known ≡ device → known ≡ false
-    → cut ≡ text → HasAsked a b (IsReady name made device) → HasAsked b c (IsFileCut cut true) → HasAsked a c (IsWrittenOver name made text device)
+    → cut ≡ text → HasAsked a b (IsMadeReady name made device) → HasAsked b c (IsFileCut cut true) → HasAsked a c (IsWrittenOver name made text device)
 over_file name made text cut device known a b c same is t h q =
-    subst (λ d. HasAsked a b (IsReady name made d) → HasAsked a c (IsWrittenOver name made text d)) (sym is ∙ same)
+    subst (λ d. HasAsked a b (IsMadeReady name made d) → HasAsked a c (IsWrittenOver name made text d)) (sym is ∙ same)
     (λ r. (r.0 ++ q.0, tells_join a b c r.0 q.0 r.1 q.1, OverFile r.0 q.0 r.2 (subst (λ x. IsFileCut x true q.0) t q.2)))
     h
 

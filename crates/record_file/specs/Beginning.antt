@@ -101,9 +101,9 @@ pub data IsLetGo (name : List ℕ) : Made → List DiskStep → Type 0 where
   Goes : (removed : Bool) → IsLetGo name Here (Did (Look name) ∷ step_by (Remove name) removed ∷ [])
 
 -- the file can be written where it is: that it was made is on the disk, and its name still leads to it, which of a device is not looked up
-pub data IsReady (name : List ℕ) (made : Made) : Bool → List DiskStep → Type 0 where
-  ReadyDevice : (steps : List DiskStep) → IsMakingSynced name made true steps → IsReady name made true steps
-  ReadyFile : (steps : List DiskStep) → IsMakingSynced name made true steps → IsReady name made false (steps ++ Did (Look name) ∷ [])
+pub data IsMadeReady (name : List ℕ) (made : Made) : Bool → List DiskStep → Type 0 where
+  ReadyDevice : (steps : List DiskStep) → IsMakingSynced name made true steps → IsMadeReady name made true steps
+  ReadyFile : (steps : List DiskStep) → IsMakingSynced name made true steps → IsMadeReady name made false (steps ++ Did (Look name) ∷ [])
 
 -- or it can't: that may not be on the disk, or the file is one that is not written over, or its name leads elsewhere by now
 pub data IsUnready (name : List ℕ) (made : Made) : List DiskStep → Type 0 where
@@ -112,15 +112,15 @@ pub data IsUnready (name : List ℕ) (made : Made) : List DiskStep → Type 0 wh
 
 -- the record was written where it is; a device is not cut
 pub data IsWrittenOver (name : List ℕ) (made : Made) (text : Option (List ℕ)) : Bool → List DiskStep → Type 0 where
-  Device : (steps : List DiskStep) → IsReady name made true steps → IsWrittenOver name made text true steps
-  PlainFile : (steps cutting : List DiskStep) → IsReady name made false steps → IsFileCut text true cutting
+  Device : (steps : List DiskStep) → IsMadeReady name made true steps → IsWrittenOver name made text true steps
+  PlainFile : (steps cutting : List DiskStep) → IsMadeReady name made false steps → IsFileCut text true cutting
       → IsWrittenOver name made text false (steps ++ cutting)
 
 -- it was not: the file is let go before anything is written to it, and stays behind that
 pub data IsNotWrittenOver (name : List ℕ) (made : Made) : List DiskStep → Type 0 where
   Unready : (steps going : List DiskStep) → IsUnready name made steps → IsLetGo name made going → IsNotWrittenOver name made (steps ++ going)
-  Unwritten : (device : Bool) (steps : List DiskStep) → IsReady name made device steps → IsNotWrittenOver name made steps
-  Uncut : (text : Option (List ℕ)) (steps cutting : List DiskStep) → IsReady name made false steps → IsFileCut text false cutting
+  Unwritten : (device : Bool) (steps : List DiskStep) → IsMadeReady name made device steps → IsNotWrittenOver name made steps
+  Uncut : (text : Option (List ℕ)) (steps cutting : List DiskStep) → IsMadeReady name made false steps → IsFileCut text false cutting
       → IsNotWrittenOver name made (steps ++ cutting)
 
 -- ---- the whole

@@ -8,34 +8,34 @@ use Rattle.record_file.specs.declared.disk.Access.{Access}
 -- this much was written, or which name it leads to; a file is opened or made; it is held by this program alone, or given a second name, or
 -- renamed, or its name taken away; the folder of a name is brought to the disk; or a file of which this much was written is cut behind that,
 -- or brought to the disk
-pub data Request : Type 0 where
-  Look : List ℕ → Request
-  LookAtName : List ℕ → Request
-  FindSoleFile : List ℕ → Request
-  FindFile : List ℕ → Option (List ℕ) → Request
-  Resolve : List ℕ → Request
-  Open : Access → List ℕ → Request
-  Hold : List ℕ → Request
-  Link : List ℕ → List ℕ → Request
-  Rename : List ℕ → List ℕ → Request
-  Remove : List ℕ → Request
-  SyncFolder : List ℕ → Request
-  Cut : Option (List ℕ) → Request
-  SyncFile : Option (List ℕ) → Request
+pub data DiskRequest : Type 0 where
+  Look : List ℕ → DiskRequest
+  LookAtName : List ℕ → DiskRequest
+  FindSoleFile : List ℕ → DiskRequest
+  FindFile : List ℕ → Option (List ℕ) → DiskRequest
+  Resolve : List ℕ → DiskRequest
+  Open : Access → List ℕ → DiskRequest
+  Hold : List ℕ → DiskRequest
+  Link : List ℕ → List ℕ → DiskRequest
+  Rename : List ℕ → List ℕ → DiskRequest
+  Remove : List ℕ → DiskRequest
+  SyncFolder : List ℕ → DiskRequest
+  Cut : Option (List ℕ) → DiskRequest
+  SyncFile : Option (List ℕ) → DiskRequest
 
 -- something was asked, and done, or it failed; a name led to another
 pub data DiskStep : Type 0 where
-  Did : Request → DiskStep
-  Failed : Request → DiskStep
+  Did : DiskRequest → DiskStep
+  Failed : DiskRequest → DiskStep
   LedTo : List ℕ → List ℕ → DiskStep
 
 -- a request, and whether it was done
-abbrev pub step_by : Request → Bool → DiskStep
+abbrev pub step_by : DiskRequest → Bool → DiskStep
 step_by request true = Did request
 step_by request false = Failed request
 
 -- a request, and what was answered to it
-abbrev pub answered : {A E : Type 0} → Request → Result A E → DiskStep
+abbrev pub answered : {A E : Type 0} → DiskRequest → Result A E → DiskStep
 answered request (Ok value) = Did request
 answered request (Err error) = Failed request
 

@@ -5,7 +5,7 @@ ghost use Rattle.load_devices.specs.declared.fault.KeepFault.TheVariants as keep
 ghost use Rattle.load_record.specs.declared.version.Version.TheVariants.{Second};
 ghost use Rattle.load_record.specs.RecordText.{record_text};
 ghost use Rattle.record_file.specs.Beginning.{course, IsMakingHeld, IsRenaming, IsBeside, IsFolderSync, IsMakingSynced};
-ghost use Rattle.record_file.specs.Beginning.{IsFileCut, IsReady, IsUnready, IsWrittenOver, IsNotWrittenOver};
+ghost use Rattle.record_file.specs.Beginning.{IsFileCut, IsMadeReady, IsUnready, IsWrittenOver, IsNotWrittenOver};
 ghost use Rattle.record_file.specs.Course.{is_done, was_made, renamed};
 ghost use Rattle.record_file.specs.DiskRecord.{HasBegun};
 ghost use Rattle.load_devices.specs.Told.{HasAsked};
@@ -146,7 +146,7 @@ fn make_ready<D: Disk>(
     ensures fault { IfErr result IsUnbegun }
     ensures made { held.new.made ≡ held.old.made }
     ensures device { held.new.device ≡ held.old.device }
-    ensures asked { IfOk result (λ _. HasAsked (D.asked disk.old) (D.asked disk.new) (IsReady name.now held.old.made held.old.device)) }
+    ensures asked { IfOk result (λ _. HasAsked (D.asked disk.old) (D.asked disk.new) (IsMadeReady name.now held.old.made held.old.device)) }
     ensures failed { IfErr result (λ _. HasAsked (D.asked disk.old) (D.asked disk.new) (IsUnready name.now held.old.made)) }
 {
     sync_making(disk, name, alloc, held.made)?;

@@ -74,7 +74,7 @@ IsTalkFault fault.Write = ⊤
 IsTalkFault fault.Memory = ⊤
 IsTalkFault other = ⊥
 
--- a report was not written: a prefix of it was, or for want of memory nothing
+-- a report was not written: a proper prefix of it was, or for want of memory nothing
 abbrev pub IsReportFault : Option (List ℕ) → Option (List ℕ) → List ℕ → CommandFault → Type 0
 IsReportFault out out' text fault.Write = WritesProperPrefix out out' text
 IsReportFault out out' text fault.Memory = out' ≡ out

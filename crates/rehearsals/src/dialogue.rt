@@ -11,7 +11,7 @@ ghost use Rattle.rehearsals.specs.Dialogue.{IsDialogue, IsDialogueFault, IsRepor
 ghost use Rattle.rehearsals.specs.KeyLines.{Answered, Gathers, Notes, answered_in, answered_keys, key_text};
 
 use crate::exchange::Exchange;
-use crate::opening::{open, zeroed};
+use crate::opening::{open_world, zeroed};
 use crate::report::put_report;
 use byte_io::write_whole;
 use command_io::{CommandFault, take_tapes};
@@ -47,7 +47,7 @@ pub fn dialogue_to<R: Read, W: Write>(
     let taken = take_tapes(alloc, tapes)?;
     let odt = zeroed(alloc, words, style)?;
     let plan = Plan::of_all(alloc, &taken.tapes)?;
-    let mut world = open(plan.starting(start), odt, PLAIN_PATIENCE, &[]);
+    let mut world = open_world(plan.starting(start), odt, PLAIN_PATIENCE, &[]);
     let end = talk(alloc, &mut world, out)?;
     write_report(alloc, &world, out)?;
     Ok(end)

@@ -18,7 +18,7 @@ use tape_image::Plan;
 
 /// A host that has done nothing yet, with a plan to type into a machine at its prompt, while `waiting`
 /// answers wait for it.
-pub(crate) fn open(plan: Plan, odt: Odt, patience: u32, waiting: &[u8]) -> World
+pub(crate) fn open_world(plan: Plan, odt: Odt, patience: u32, waiting: &[u8]) -> World
     requires prompt { odt.mode ≡ Prompt }
     requires few { length waiting.now ≤ most_waiting }
     ensures world { result ≡ opened odt (begun plan 0 false patience) waiting.now }

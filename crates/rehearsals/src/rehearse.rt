@@ -7,7 +7,7 @@ ghost use Rattle.byte_io.specs.Input.{TakesAtMost};
 ghost use Rattle.rehearsals.specs.Rehearsal.{IsRehearsal, IsRehearsed, IsRehearseFault, IsScriptInput, IsScriptInputFault, IsPlayFault};
 ghost use Rattle.command_io.specs.Tapes.{TakeAtMost};
 
-use crate::opening::{open, put_words, zeroed};
+use crate::opening::{open_world, put_words, zeroed};
 use crate::play::play;
 use crate::report::put_report;
 use byte_io::{InputFault, read_up_to, write_whole};
@@ -77,7 +77,7 @@ fn rehearsal(alloc: Global, tapes: &[Tape], script: &Script) -> Result<Vec<u8>, 
         return Err(CommandFault::Script(line));
     }
     let plan = Plan::of_all(alloc, tapes)?;
-    let mut world = open(plan, odt, script.patience, script.waiting.as_slice());
+    let mut world = open_world(plan, odt, script.patience, script.waiting.as_slice());
     let mut text = Vec::new(alloc);
     play(&mut world, &script.steps, &mut text)?;
     put_report(&mut text, &world)?;

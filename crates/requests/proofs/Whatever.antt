@@ -9,12 +9,12 @@ use Rattle.input_files.proofs.Whatever.{tapes_whatever, unopened_whatever, with_
 use Rattle.request_values.specs.declared.request.Request.{Request}
 use Rattle.request_values.specs.declared.request.Request.TheVariants.{CheckInput, Check, Dialogue, Rehearse, «Type» as TypeKeys, Load, Verify, Save, Probe}
 use Rattle.requests.specs.Attempt.{IsFailed}
-use Rattle.requests.specs.Asked.{Asked}
+use Rattle.requests.specs.Asked.{SystemAsked}
 use Rattle.requests.specs.Moment.{Moment, moment, intake_at}
 use Rattle.requests.specs.Planning.{IsUnplanned}
 use Rattle.tape_requests.proofs.Whatever.{unprinted_whatever}
 
-module _ (before : Moment) (asked : Asked) (held : Held) (err : StandardError) (failure : Failure) where
+module _ (before : Moment) (asked : SystemAsked) (held : Held) (err : StandardError) (failure : Failure) where
   unplanned : (names : List Name) → IsUnplanned names (intake_at before) (intake asked.inputs held) failure
       → IsUnplanned names (intake_at before) (intake asked.inputs (with_error held err)) failure
   unplanned names =

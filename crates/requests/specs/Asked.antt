@@ -33,10 +33,10 @@ pub record AsksConsoleAlone (name : List ℕ) (asked asked' : OutsideAsked) : Ty
   pub no_disk : asked'.disk ≡ asked.disk
 
 -- what was asked of a system: which input files were opened, and what was asked of what lies outside
-pub record Asked : Type 0 where
+pub record SystemAsked : Type 0 where
   pub inputs : Option (List InputStep)
   pub outside : OutsideAsked
 
 -- what was asked of a system of which no part tells
-abbrev pub untold : Asked
+abbrev pub untold : SystemAsked
 untold = record { inputs = None; outside = record { disk = None; network = None; devices = None } }

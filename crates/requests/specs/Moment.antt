@@ -1,15 +1,15 @@
 -- What is known at a moment, before something is done or behind it.
 use Rattle.endings.specs.Held.{Held}
 use Rattle.input_files.specs.Intake.{Intake, intake}
-use Rattle.requests.specs.Asked.{Asked}
+use Rattle.requests.specs.Asked.{SystemAsked}
 
 -- what was asked of the system, and what the standard streams hold
 pub record Moment : Type 0 where
-  pub asked : Asked
+  pub asked : SystemAsked
   pub held : Held
 
 -- the moment at which this was asked and the streams hold this
-abbrev pub moment : Asked → Held → Moment
+abbrev pub moment : SystemAsked → Held → Moment
 moment asked held = record { asked = asked; held = held }
 
 -- what is known of the intake at a moment

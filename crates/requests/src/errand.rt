@@ -6,7 +6,7 @@ ghost use Rattle.requests.specs.Errand.{Told, told, told_towards};
 ghost use Rattle.requests.specs.Asked.{NotElsewhere};
 
 use crate::system::Outside;
-use console_reach::{Port, Reach, Wire, is_path};
+use console_reach::{Cable, Port, Reach, is_path};
 use endings::{Failure, Status};
 use record_file::Disk;
 use serial_line::DeviceOpening;
@@ -62,14 +62,14 @@ pub(crate) fn run_at<
         clock,
     } = outside;
     if is_path(path) {
-        let wire = Wire {
+        let cable = Cable {
             devices,
             clock,
             path,
             quiet_ms,
         };
-        let (wire, disk, outcome) = errand.run(wire, disk, out);
-        let devices = wire.devices;
+        let (cable, disk, outcome) = errand.run(cable, disk, out);
+        let devices = cable.devices;
         let outside = Outside {
             disk,
             network,

@@ -49,9 +49,9 @@ pub struct System<'c, F: InputFiles, D: Disk, N: Dialling, V: DeviceOpening, C: 
 
 impl<'c, F: InputFiles, D: Disk, N: Dialling, V: DeviceOpening, C: Clock> Model
     for System<'c, F, D, N, V, C> {
-    ghost use Rattle.requests.specs.Asked.{Asked};
+    ghost use Rattle.requests.specs.Asked.{SystemAsked};
 
-    ghost Value = { Asked };
+    ghost Value = { SystemAsked };
 
     ghost view = { λ system. record { inputs = F.opened system.inputs; outside = system.outside } };
 }

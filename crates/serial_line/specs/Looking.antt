@@ -5,17 +5,17 @@ use Rattle.std.specs.declared.io.Error.{Error}
 use Rattle.std.specs.declared.io.ErrorKind.{ErrorKind}
 use Rattle.std.specs.declared.io.ErrorKind.TheVariants.{WouldBlock, TimedOut, Interrupted}
 use Rattle.stream_line.specs.Hearing.{GoesUpBy}
-use Rattle.serial_line.specs.declared.terminal.Look.{Look}
-use Rattle.serial_line.specs.declared.terminal.Look.TheVariants.{Byte, Nothing, Gone}
+use Rattle.serial_line.specs.declared.terminal.Glance.{Glance}
+use Rattle.serial_line.specs.declared.terminal.Glance.TheVariants.{Byte, Nothing, Gone}
 
 -- what one look takes: the byte that it finds, or nothing; a terminal that is gone has nothing left
-abbrev pub IsGlance : Option (List ℕ) → Option (List ℕ) → Look → Type 0
+abbrev pub IsGlance : Option (List ℕ) → Option (List ℕ) → Glance → Type 0
 IsGlance old new (Byte byte) = Consumes old new (byte ∷ [])
 IsGlance old new Nothing = Consumes old new []
 IsGlance old new Gone = IsAtEnd new × Consumes old new []
 
 -- a look was in vain where it found nothing
-abbrev pub misses_of : Result Look Error → ℕ
+abbrev pub misses_of : Result Glance Error → ℕ
 misses_of (Ok Nothing) = 1
 misses_of (Ok (Byte byte)) = 0
 misses_of (Ok Gone) = 0

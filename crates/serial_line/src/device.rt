@@ -7,7 +7,7 @@ ghost use Rattle.stream_line.specs.Hearing.{ends_waiting};
 ghost use Rattle.serial_line.specs.Looking.{StaysRefused, IsSilence, LooksUpTo};
 
 use crate::pause::{in_microseconds, most_looks, pause};
-use crate::terminal::{Look, Terminal};
+use crate::terminal::{Glance, Terminal};
 use std::io;
 use std::io::{ErrorKind, Read, Write};
 use std::marker::Model;
@@ -69,12 +69,12 @@ impl<T: Terminal, C: Clock> Read for Device<'_, T, C> {
         let mut passed = 0;
         for _ in 0..most_looks(self.quiet_ms) {
             match self.terminal.look()? {
-                Look::Byte(byte) => {
+                Glance::Byte(byte) => {
                     buf[0] = byte;
                     return Ok(1);
                 }
-                Look::Gone => return Ok(0),
-                Look::Nothing => {}
+                Glance::Gone => return Ok(0),
+                Glance::Nothing => {}
             }
             if passed >= quiet_time {
                 break;

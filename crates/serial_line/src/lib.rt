@@ -19,4 +19,4 @@ pub use device::Device;
 pub use devices::Devices;
 pub use line::{DeviceLine, open_line};
 pub use opening::DeviceOpening;
-pub use terminal::{Look, Terminal};
+pub use terminal::{Glance, Terminal};

@@ -10,7 +10,7 @@ use std::io::{ErrorKind, IsTerminal, Read, Write};
 
 /// What one look at a terminal finds.
 #[derive(Clone, Copy, Debug, PartialEq, Eq)]
-pub enum Look {
+pub enum Glance {
     /// A byte, which is taken.
     Byte(u8),
 
@@ -30,7 +30,7 @@ pub trait Terminal: Read + Write {
     ///
     /// An error is a read that failed, and then nothing was taken. It is none of those that only say
     /// that nothing has come: WouldBlock, TimedOut and Interrupted.
-    fn look(&mut self) -> io::Result<Look>
+    fn look(&mut self) -> io::Result<Glance>
         ensures found { IfOk result (IsGlance (Self.remaining self.old) (Self.remaining self.new)) }
         ensures failed { OnErr result (Keeps (Self.remaining self.old) (Self.remaining self.new)) }
         ensures kind { IfErr result (λ error. IsRealFailure (error_kind error)) }
@@ -40,15 +40,15 @@ pub trait Terminal: Read + Write {
 impl<T: Read + Write + IsTerminal> Terminal for T {
     // A read that gives no byte means that nothing has come where the terminal is set so (`min 0 time 0`), and
     // its end where it was hung up; then it is no terminal any more.
-    fn look(&mut self) -> io::Result<Look> {
+    fn look(&mut self) -> io::Result<Glance> {
         let mut byte = [0u8; 1];
         match self.read(&mut byte) {
-            Ok(0) if self.is_terminal() => Ok(Look::Nothing),
-            Ok(0) => Ok(Look::Gone),
-            Ok(_) => Ok(Look::Byte(byte[0])),
+            Ok(0) if self.is_terminal() => Ok(Glance::Nothing),
+            Ok(0) => Ok(Glance::Gone),
+            Ok(_) => Ok(Glance::Byte(byte[0])),
             Err(error) => match error.kind() {
                 ErrorKind::WouldBlock | ErrorKind::TimedOut | ErrorKind::Interrupted => {
-                    Ok(Look::Nothing)
+                    Ok(Glance::Nothing)
                 }
                 _ => Err(error),
             },

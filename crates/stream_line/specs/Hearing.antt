@@ -31,9 +31,9 @@ IsCharacter Quiet = ⊤
 
 -- a told count goes up by so many, and is still told
 abbrev pub GoesUpBy : Option ℕ → Option ℕ → ℕ → Type 0
-GoesUpBy None new times = ⊤
-GoesUpBy (Some before) None times = ⊥
-GoesUpBy (Some before) (Some after) times = after ≡ before + times
+GoesUpBy None count' times = ⊤
+GoesUpBy (Some count) None times = ⊥
+GoesUpBy (Some count) (Some count') times = count' ≡ count + times
 
 -- silence is heard where the time limit was met once, all else where it was not
 abbrev pub silences_of : Result Heard LineFault → ℕ

@@ -23,9 +23,9 @@ pub struct StreamLine<S: TimedStream> {
 }
 
 impl<S: TimedStream> Model for StreamLine<S> {
-    ghost use Rattle.stream_line.specs.StreamLine.{LineValue};
+    ghost use Rattle.stream_line.specs.StreamLine.{StreamLineValue};
 
-    ghost Value = { LineValue };
+    ghost Value = { StreamLineValue };
 
     ghost view = { λ l. record {
       to_come = S.to_come l.stream;

@@ -78,7 +78,7 @@ used_of More = 0
 used_of (DoneAt used) = used
 
 -- what a reader of this value keeps to: it stands somewhere, and a block under way is split behind its header
-pub record IsReader (r : ReaderValue) (header body : List ℕ) : Type 0 where
+pub record IsTapeReader (r : ReaderValue) (header body : List ℕ) : Type 0 where
   pub split : IsOpen r → IsSplit header body
   pub fed : List ℕ
   pub stands : StandsAt r fed

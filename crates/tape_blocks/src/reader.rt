@@ -68,11 +68,11 @@ impl Model for TapeReader {
 
     ghost Value = { ReaderValue };
 
-    ghost use Rattle.tape_blocks.specs.TapeReader.{IsReader, value_of};
+    ghost use Rattle.tape_blocks.specs.TapeReader.{IsTapeReader, value_of};
 
     ghost view = { λ r. value_of r.progress r.outcome };
 
-    ghost invariant = { λ r. IsReader (value_of r.progress r.outcome) r.progress.header.items r.progress.body.items };
+    ghost invariant = { λ r. IsTapeReader (value_of r.progress r.outcome) r.progress.header.items r.progress.body.items };
 }
 
 impl TapeReader {

@@ -1,16 +1,14 @@
 -- The plan of blocks keeps what every plan keeps.
 use Rattle.std.proofs.Common.{◌≡◌, ℕ, zero, suc, ◌+◌, ◌*◌, ◌%◌, ◌<◌, ◌≤◌, true, false, cond, eqb, ltb, ◌++◌, List, [], Option, Some, None, refl, arith, ap, sym, ◌∙◌, subst}
-use Rattle.std.specs.Prelude.{All, IfSome, IfOk, Result}
-use Rattle.tape_values.specs.declared.memory.Memory.{Memory}
+use Rattle.std.specs.Prelude.{All, IfSome}
 use Rattle.std.specs.Option.{option_or, option_to_list}
 use Rattle.std.specs.Ordering.{nat_cmp}
 use Rattle.std.specs.FinMap.{get, empty, get-empty}
 use Rattle.std.proofs.lemmas.Bool.{eqb-true, lt-ltb}
 use Rattle.std.proofs.lemmas.List.{append-nil}
-use Rattle.std.proofs.lemmas.Result.{IfOk-weaker}
 use Rattle.tape_values.specs.Block.{BlockValue, IsBlock, HoldsBytes, top}
-use Rattle.tape_image.specs.Image.{Image, IsImageOf, image_of, byte_at}
-use Rattle.tape_image.specs.Plan.{word_of, words_below, words_of, given_byte, program_start, PlanValue, plan_with, IsPlan}
+use Rattle.tape_image.specs.Image.{Image, image_of, byte_at}
+use Rattle.tape_image.specs.Plan.{word_of, words_below, words_of, given_byte, program_start, plan_with, IsPlan}
 use Rattle.tape_image.specs.Pages.{IsLaid}
 use Rattle.tape_image.proofs.Blocks.{option_or-none, byte_at-within, byte_at-byte}
 use Rattle.tape_image.proofs.Images.{get-image_of, image_of-same}
@@ -101,13 +99,3 @@ laid-image_of blocks nothing image good none laid =
 -- plans of the same image and start
 pub plan_with-same : (m n : Image) (s t : Option ℕ) → m ≡ n → s ≡ t → plan_with m s ≡ plan_with n t
 plan_with-same m n s t e f = λ i. plan_with (e i) (f i)
-
--- what was made of an image and a start is the plan of the blocks that the image is of
-pub plan_of_blocks : (r : Result PlanValue Memory) (blocks : List BlockValue) (image : Image) (start begins : Option ℕ) → image ≡ image_of blocks → start ≡ begins
-    → IfOk r (λ plan. plan ≡ plan_with image start) → IfOk r (λ plan. plan ≡ plan_with (image_of blocks) begins)
-plan_of_blocks r blocks image start begins e f = IfOk-weaker r (λ plan. plan ≡ plan_with image start) (λ plan. plan ≡ plan_with (image_of blocks) begins) (λ plan is. is ∙ plan_with-same image (image_of blocks) start begins e f)
-
-pub image_of_blocks : (r : Result PlanValue Memory) (blocks : List BlockValue) (begins : Option ℕ) → All IsBlock blocks
-    → IfOk r (λ plan. plan ≡ plan_with (image_of blocks) begins) → IfOk r (λ plan. IsImageOf blocks plan.image)
-image_of_blocks r blocks begins good = IfOk-weaker r (λ plan. plan ≡ plan_with (image_of blocks) begins) (λ plan. IsImageOf blocks plan.image)
-    (λ plan is. subst (λ (p : PlanValue). IsImageOf blocks p.image) (sym is) (get-image_of blocks good))

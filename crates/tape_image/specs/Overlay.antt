@@ -6,10 +6,10 @@ use Rattle.tape_image.specs.Memory.{byte_of, top_of}
 use Rattle.tape_image.specs.Word.{WordValue, merged}
 use Rattle.tape_image.specs.Image.{Image}
 
--- the memory after is as large, and has at each address the image's byte where there is one, else the byte before
-pub record IsOverlay (before : List ℕ) (image : Image) (after : List ℕ) : Type 0 where
-  pub size : length after ≡ length before
-  pub bytes : (b : ℕ) → b < top_of before → byte_of after b ≡ unwrap_or (get image b) (byte_of before b)
+-- the memory is as large as before, and has at each address the image's byte where there is one, else the byte before
+pub record IsOverlay (before : List ℕ) (image : Image) (now : List ℕ) : Type 0 where
+  pub size : length now ≡ length before
+  pub bytes : (b : ℕ) → b < top_of before → byte_of now b ≡ unwrap_or (get image b) (byte_of before b)
 
 -- the memory after the word is merged into it at its address; a word above the memory changes nothing
 abbrev pub merge_at : List ℕ → WordValue → List ℕ
@@ -26,5 +26,5 @@ merge_all memory (w ∷ words) = merge_all (merge_at memory w) words
 -- merged words make the overlay: for every memory, in every order of the words, what they leave is the one overlay
 abbrev pub MakesOverlay : Image → List WordValue → Type 0
 MakesOverlay image words =
-    (memory after : List ℕ) (ordered : List WordValue) → IsPermutation words ordered
-    → IsOverlay memory image after ↔ (after ≡ merge_all memory ordered)
+    (before now : List ℕ) (ordered : List WordValue) → IsPermutation words ordered
+    → IsOverlay before image now ↔ (now ≡ merge_all before ordered)

@@ -8,7 +8,7 @@ ghost use Rattle.tape_image.specs.Overlay.{MakesOverlay};
 use crate::pages::Pages;
 use crate::start::{Start, program_start};
 use crate::word::Word;
-use std::alloc::Global;
+use std::alloc::{AllocError, Global};
 use std::marker::Model;
 use std::slice;
 use tape_values::{Memory, Tape};
@@ -64,12 +64,12 @@ impl Plan {
             pages.lay_blocks(alloc, tape.blocks())?;
             start = program_start(tape.start());
         }
-        Plan::of_pages(alloc, pages, start)
+        Ok(Plan::of_pages(alloc, pages, start)?)
     }
 
-    // The plan of the image in the pages, with this start. The one error is want of memory, for the
-    // words.
-    fn of_pages(alloc: Global, pages: Pages, start: Option<u16>) -> Result<Plan, Memory>
+    // The plan of the image in the pages, with this start. The error comes where there is no memory for
+    // the words.
+    fn of_pages(alloc: Global, pages: Pages, start: Option<u16>) -> Result<Plan, AllocError>
         requires { IsPlan (plan_with pages start) }
         ensures plan { IfOk result (λ plan. plan ≡ plan_with pages start) }
         ensures words { IfOk result (λ plan. AreTheWordsOf plan.image plan.words) }

@@ -1,16 +1,16 @@
 -- The steps that a list of the program stands for.
 use Rattle.std.specs.Prelude.{ℕ, List, map, Option, Some, Vec, option_map}
 use Rattle.std.specs.String.{string_bytes}
-use Rattle.record_file.specs.DiskStep.{DiskStep, Request}
+use Rattle.record_file.specs.DiskStep.{DiskStep, DiskRequest}
 use Rattle.record_file.specs.DiskStep as disk
 use Rattle.told_disk.specs.declared.file.ToldFile.{ToldFile}
-use Rattle.told_disk.specs.declared.step.Request.{Request as ToldRequest}
+use Rattle.told_disk.specs.declared.step.Request.{Request}
 use Rattle.told_disk.specs.declared.step.Request.TheVariants.{Look, LookAtName, FindSoleFile, FindFile, Resolve}
 use Rattle.told_disk.specs.declared.step.Request.TheVariants.{Open, Hold, Link, Rename, Remove, SyncFolder, Cut, SyncFile}
 use Rattle.told_disk.specs.declared.step.Step.{Step}
 use Rattle.told_disk.specs.declared.step.Step.TheVariants.{Did, Failed, LedTo}
 
-abbrev pub request_of : ToldRequest → Request
+abbrev pub request_of : Request → DiskRequest
 request_of (Look name) = disk.Look (string_bytes name)
 request_of (LookAtName name) = disk.LookAtName (string_bytes name)
 request_of (FindSoleFile name) = disk.FindSoleFile (string_bytes name)

@@ -41,28 +41,28 @@ IsBorneOut memory lost (Look addresses patience heard) =
 IsBorneOut memory lost (Try address old patience heard) = All IsTrying (keys_of (trial_dialogue (begun_trial address old patience) heard))
 
 -- what came of these hosts: the next may begin, memory is what it was, and what each of them learned is borne out
-pub record AreHarmless (machine : Machine) (runs : List Run) (lost : ℕ) (now : Machine) : Type 0 where
-  pub ready : IsReadyMachine now
-  pub memory : now.memory ≡ machine.memory
+pub record AreHarmless (machine : Machine) (runs : List Run) (lost : ℕ) (machine' : Machine) : Type 0 where
+  pub ready : IsReadyMachine machine'
+  pub memory : machine'.memory ≡ machine.memory
   pub learned : All (IsBorneOut machine.memory lost) runs
 
 -- looks and trials over one honest line, as many as there are, do no harm
 abbrev pub LooksAndTrialsDoNoHarm : Type 0
 LooksAndTrialsDoNoHarm =
-    (machine now : Machine) (runs : List Run) (told : List Item) (lost : ℕ) → IsReadyMachine machine → All MayBeSuchAHost runs → AreTold runs told →
-    IsHonest machine told lost now → AreHarmless machine runs lost now
+    (machine machine' : Machine) (runs : List Run) (told : List Item) (lost : ℕ) → IsReadyMachine machine → All MayBeSuchAHost runs → AreTold runs told →
+    IsHonest machine told lost machine' → AreHarmless machine runs lost machine'
 
 -- the hosts did no harm up to a machine, and what was told behind them is honest from there, with these losses together
-pub record AreHarmlessBefore (machine : Machine) (runs : List Run) (more : List Item) (lost : ℕ) (now : Machine) : Type 0 where
+pub record AreHarmlessBefore (machine : Machine) (runs : List Run) (more : List Item) (lost : ℕ) (machine' : Machine) : Type 0 where
   pub between : Machine
   pub lost_before : ℕ
   pub lost_after : ℕ
   pub before : AreHarmless machine runs lost_before between
-  pub after : IsHonest between more lost_after now
+  pub after : IsHonest between more lost_after machine'
   pub losses : lost_before + lost_after ≡ lost
 
 -- the same where any other host followed on the line
 abbrev pub OthersMayFollow : Type 0
 OthersMayFollow =
-    (machine now : Machine) (runs : List Run) (told more : List Item) (lost : ℕ) → IsReadyMachine machine → All MayBeSuchAHost runs → AreTold runs told →
-    BeginsByListening more → IsHonest machine (told ++ more) lost now → AreHarmlessBefore machine runs more lost now
+    (machine machine' : Machine) (runs : List Run) (told more : List Item) (lost : ℕ) → IsReadyMachine machine → All MayBeSuchAHost runs → AreTold runs told →
+    BeginsByListening more → IsHonest machine (told ++ more) lost machine' → AreHarmlessBefore machine runs more lost machine'

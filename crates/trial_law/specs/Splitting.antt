@@ -31,20 +31,20 @@ BeginsByListening (Sent key ∷ items) = ⊥
 BeginsByListening (Came what ∷ items) = ⊤
 
 -- a list is honest up to a machine, and a second one from there, with these losses together
-pub record PartsAt (machine : Machine) (items more : List Item) (lost : ℕ) (now : Machine) : Type 0 where
+pub record PartsAt (machine : Machine) (items more : List Item) (lost : ℕ) (machine' : Machine) : Type 0 where
   pub between : Machine
   pub lost_before : ℕ
   pub lost_after : ℕ
   pub before : IsHonest machine items lost_before between
-  pub after : IsHonest between more lost_after now
+  pub after : IsHonest between more lost_after machine'
   pub losses : lost_before + lost_after ≡ lost
 
 -- an honest list splits where the line is tidy and what follows begins by listening: a key that was still under way there was taken or
 -- lost before anything more was heard
 abbrev pub HonestLinesSplit : Type 0
 HonestLinesSplit =
-    (machine now : Machine) (items more : List Item) (lost : ℕ) → EndsTidily machine items → BeginsByListening more →
-    IsHonest machine (items ++ more) lost now → PartsAt machine items more lost now
+    (machine machine' : Machine) (items more : List Item) (lost : ℕ) → EndsTidily machine items → BeginsByListening more →
+    IsHonest machine (items ++ more) lost machine' → PartsAt machine items more lost machine'
 
 -- a reading ends tidily
 abbrev pub ReadingsEndTidily : Type 0

@@ -12,16 +12,16 @@ use Rattle.trial_core.specs.Trial.{IsTrial}
 use Rattle.trial_core.specs.TrialTable.{IsTrying, ask}
 
 -- nothing was stored and nothing was started
-pub record IsLeftAlone (machine now : Machine) : Type 0 where
-  pub memory : now.memory ≡ machine.memory
-  pub stopped : is_running machine.mode ≡ false → is_running now.mode ≡ false
-  pub console : IsMachine machine → IsMachine now
+pub record IsLeftAlone (machine machine' : Machine) : Type 0 where
+  pub memory : machine'.memory ≡ machine.memory
+  pub stopped : is_running machine.mode ≡ false → is_running machine'.mode ≡ false
+  pub console : IsMachine machine → IsMachine machine'
 
 -- digits, `/` and `Z` alone store nothing and start nothing: whatever the console is in the middle of, whatever answers wait,
 -- whatever is lost
 abbrev pub TryingKeysStoreNothing : Type 0
 TryingKeysStoreNothing =
-    (machine now : Machine) (items : List Item) (lost : ℕ) → All IsTrying (keys_of items) → IsHonest machine items lost now → IsLeftAlone machine now
+    (machine machine' : Machine) (items : List Item) (lost : ℕ) → All IsTrying (keys_of items) → IsHonest machine items lost machine' → IsLeftAlone machine machine'
 
 -- each heard thing, and right after it the key that it makes the trial send
 abbrev pub trial_dialogue : Trial → List Heard → List Item

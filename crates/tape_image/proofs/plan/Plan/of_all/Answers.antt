@@ -1,12 +1,13 @@
 use Rattle.std.proofs.Common.{◌≡◌, sym, ap, subst, ◌∙◌, take, arith}
-use Rattle.std.specs.Prelude.{All, IfOk}
+use Rattle.std.specs.Prelude.{All}
 use Rattle.std.proofs.lemmas.List.{take_all}
 use Rattle.std.proofs.lemmas.List.Elements.{All-more}
 use Rattle.tape_values.specs.Tape.{IsSound}
-use Rattle.tape_image.specs.Image.{image_of, byte_at}
+use Rattle.tape_image.specs.Image.{image_of, byte_at, IsImageOf}
 use Rattle.tape_image.specs.Pages.{IsLaid}
 use Rattle.tape_image.specs.Plan.{PlanValue, IsPlan, program_start, blocks_of_all, start_of_all, plan_of_all}
-use Rattle.tape_image.proofs.Plans.{IsPlan-of_blocks, laid-image_of, plan_with-same, plan_of_blocks, image_of_blocks}
+use Rattle.tape_image.proofs.Plans.{IsPlan-of_blocks, laid-image_of, plan_with-same}
+use Rattle.tape_image.proofs.Images.{get-image_of}
 use Rattle.tape_image.proofs.Tapes.{start_of_all-next, IsLaid-tape, each_block, each_byte, start_of_all-even, plan_of_all-one, plan_of_all-none}
 use Rattle.tape_image.proofs.plan.Plan.of_all.Goals as goal
 
@@ -42,13 +43,15 @@ of_pages-requires c =
     (IsPlan-of_blocks (blocks_of_all tapes) (start_of_all tapes) (each_block tapes (sound c)) (each_byte tapes (sound c)) (start_of_all-even tapes (sound c)))
 
 pub returns-clause-plan : goal.returns-clause-plan
-returns-clause-plan c = plan_of_blocks _ _ _ _ _ (image_is c.before) (start_is c.before) c.of_pages.ensures.plan
+returns-clause-plan c = c.in_ok-of_pages.ensures.plan ∙ plan_with-same _ _ _ _ (image_is c.before.before.before) (start_is c.before.before.before)
 
 pub returns-clause-bytes : goal.returns-clause-bytes
-returns-clause-bytes c = image_of_blocks _ _ _ (each_block c.args.tapes.now (sound c.before)) (returns-clause-plan c)
+returns-clause-bytes c =
+    let blocks = blocks_of_all c.args.tapes.now in
+    subst (λ (p : PlanValue). IsImageOf blocks p.image) (sym (returns-clause-plan c)) (get-image_of blocks (each_block _ (sound c.before.before.before)))
 
 pub returns-clause-none : goal.returns-clause-none
-returns-clause-none c none = subst (λ (p : PlanValue). IfOk c.of_pages.result (λ plan. plan ≡ p)) (ap plan_of_all none ∙ plan_of_all-none) (returns-clause-plan c)
+returns-clause-none c none = returns-clause-plan c ∙ ap plan_of_all none ∙ plan_of_all-none
 
 pub returns-clause-one : goal.returns-clause-one
-returns-clause-one c tape one = subst (λ (p : PlanValue). IfOk c.of_pages.result (λ plan. plan ≡ p)) (ap plan_of_all one ∙ plan_of_all-one tape) (returns-clause-plan c)
+returns-clause-one c tape one = returns-clause-plan c ∙ ap plan_of_all one ∙ plan_of_all-one tape

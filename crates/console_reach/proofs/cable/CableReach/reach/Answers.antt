@@ -1,5 +1,5 @@
 use Rattle.std.proofs.Common.{rules}
-use Rattle.console_reach.proofs.wire.WireReach.reach.Goals as goal
+use Rattle.console_reach.proofs.cable.CableReach.reach.Goals as goal
 
 pub returns-clause-asked : goal.returns-clause-asked
 returns-clause-asked g c = search rules

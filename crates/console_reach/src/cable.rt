@@ -10,7 +10,7 @@ use std::time::Clock;
 
 /// A console at a serial device.
 #[derive(Drop)]
-pub struct Wire<'a, V: DeviceOpening, C: Clock> {
+pub struct Cable<'a, V: DeviceOpening, C: Clock> {
     /// The system's devices.
     pub devices: V,
 
@@ -24,12 +24,12 @@ pub struct Wire<'a, V: DeviceOpening, C: Clock> {
     pub quiet_ms: u32,
 }
 
-impl<'a, V: DeviceOpening, C: Clock> Reach for Wire<'a, V, C> {
+impl<'a, V: DeviceOpening, C: Clock> Reach for Cable<'a, V, C> {
     type Line = DeviceLine<'a, V::Terminal, C>;
 
-    ghost asked = { λ wire. V.asked wire.devices };
+    ghost asked = { λ cable. V.asked cable.devices };
 
-    ghost call = { λ wire. ToDevice wire.path.now wire.quiet_ms };
+    ghost call = { λ cable. ToDevice cable.path.now cable.quiet_ms };
 
     fn reach(&mut self) -> Result<DeviceLine<'a, V::Terminal, C>, LineFault> {
         open_line(&mut self.devices, self.clock, self.path, self.quiet_ms)

@@ -26,4 +26,5 @@ AreBelievable f parts =
 -- over every machine that runs no program, and one honest line on which all the parts were said, one after another
 abbrev pub AreBelievableOver : Findings → List (List Item) → Type 0
 AreBelievableOver f parts =
-    (machine machine' : Machine) (lost : ℕ) → IsReadyMachine machine → IsHonest machine (in_a_row parts) lost machine' → IsRight f machine.memory machine'.memory
+    (machine machine' : Machine) (lost : ℕ) → IsReadyMachine machine → IsHonest machine (in_a_row parts) lost machine' →
+    IsRight f machine.memory machine'.memory

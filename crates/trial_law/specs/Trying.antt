@@ -21,7 +21,8 @@ pub record IsLeftAlone (machine machine' : Machine) : Type 0 where
 -- whatever is lost
 abbrev pub TryingKeysStoreNothing : Type 0
 TryingKeysStoreNothing =
-    (machine machine' : Machine) (items : List Item) (lost : ℕ) → All IsTrying (keys_of items) → IsHonest machine items lost machine' → IsLeftAlone machine machine'
+    (machine machine' : Machine) (items : List Item) (lost : ℕ) → All IsTrying (keys_of items) →
+    IsHonest machine items lost machine' → IsLeftAlone machine machine'
 
 -- each heard thing, and right after it the key that it makes the trial send
 abbrev pub trial_dialogue : Trial → List Heard → List Item

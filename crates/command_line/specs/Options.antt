@@ -8,6 +8,7 @@ use Rattle.clap.specs.declared.parser.matches.Found.{Found}
 use Rattle.tape_image.specs.declared.start.Start.{Start}
 use Rattle.tape_image.specs.declared.start.Start.TheVariants.{OfTape, At, Nowhere}
 use Rattle.request_values.specs.declared.range.AddressRange.{AddressRange}
+use Rattle.host_core.specs.Core.{plain_patience}
 use Rattle.odt_machine.specs.Machine.{largest_words}
 use Rattle.odt_machine.specs.Style.{style_number}
 use Rattle.request_values.specs.declared.request.Console.{Console}
@@ -76,10 +77,6 @@ NamesTapes found names = (first : List ℕ) × ((first_value found (codes "TAPE"
 pub record IsConsoleOf (found : Found) (console : Console) : Type 0 where
   pub words : IsNumberOf found (codes "words") largest_words console.words
   pub style : IsNumberOf found (codes "style") 0 (style_number console.style)
-
--- the mishaps that are survived where nothing else is said: a good line has none, and a dead one is told of after ten silences
-abbrev pub plain_patience : ℕ
-plain_patience = 8
 
 -- the quiet time, in milliseconds, where nothing else is said: too short is dangerous, too long costs little, and adapters hold back far less
 abbrev pub plain_quiet : ℕ

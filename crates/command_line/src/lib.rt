@@ -24,15 +24,13 @@ use clap::ArgMatches;
 use command_words::known_words;
 use command_words::names::{FILE, LISTEN, PATIENCE, QUIET, RECHECK, RECORD, SCRIPT, TAPE};
 pub use explaining::explain;
+use host_core::PLAIN_PATIENCE;
 pub use no_request::NoRequest;
 pub use process_words::words_of;
 use request_values::{Load, LoadOptions, Look, Probe, Rehearsal, Request, Save, Stage};
 use shown_words::{have_control, shown_words};
 use std::alloc::Global;
 use values::{console_of, further_tapes_of, line_of, number_given, number_of, tapes_of, text_of};
-
-// How many mishaps a load, a look or a probe survives where nothing else is said.
-const PLAIN_PATIENCE: u16 = 8;
 
 // How many milliseconds of silence mean that nothing more is coming, where nothing else is said.
 const PLAIN_QUIET: u16 = 2000;
@@ -112,7 +110,7 @@ fn load_of<'a>(alloc: Global, found: &ArgMatches<'a>) -> Result<Load<'a>, NoRequ
         line: line_of(alloc, found)?,
         record: found.get_str(RECORD),
         options: LoadOptions {
-            patience: u32::from(number_of(found, PATIENCE, PLAIN_PATIENCE)?),
+            patience: u32::from(number_of(found, PATIENCE, PLAIN_PATIENCE as u16)?),
             recheck: found.get_flag(RECHECK),
         },
         start: start_of(alloc, found)?,
@@ -163,7 +161,7 @@ fn look_of<'a>(alloc: Global, found: &ArgMatches<'a>) -> Result<Look<'a>, NoRequ
 {
     Ok(Look {
         line: line_of(alloc, found)?,
-        patience: u32::from(number_of(found, PATIENCE, PLAIN_PATIENCE)?),
+        patience: u32::from(number_of(found, PATIENCE, PLAIN_PATIENCE as u16)?),
         quiet_ms: u32::from(number_of(found, QUIET, PLAIN_QUIET)?),
     })
 }

@@ -6,10 +6,11 @@ use Rattle.std.specs.Io.KnownBytes.{Appends}
 use Rattle.byte_io.specs.Output.{WritesPrefix}
 use Rattle.host_core.specs.declared.heard.Heard.{Heard}
 use Rattle.host_core.specs.declared.heard.Heard.TheVariants.{Got, Quiet}
+use Rattle.load_devices.specs.Dialogue.{characters_of}
 use Rattle.load_devices.specs.Told.{Gains}
 use Rattle.load_devices.specs.declared.item.Item.{Item}
 use Rattle.load_devices.specs.declared.item.Item.TheVariants.{Heard as Came}
-use Rattle.console_reach.specs.Listening.{IsCopied, IsCopiedInPart, characters_of, silences_behind}
+use Rattle.console_reach.specs.Listening.{Copying, IsCopied, IsCopiedInPart, silences_behind}
 
 characters_of-append : (xs ys : List Heard) → characters_of (xs ++ ys) ≡ characters_of xs ++ characters_of ys
 characters_of-append [] ys = refl
@@ -28,26 +29,26 @@ gains_more (Some items) None d xs ys first then_ = absurd first
 gains_more (Some items) (Some more) None xs ys first then_ = absurd then_
 gains_more (Some items) (Some more) (Some most) xs ys first then_ = then_ ∙ ap (λ l. l ++ ys) first ∙ append_assoc items xs ys
 
-copied_more : (xs ys : List Heard) (a b d : Option (List Item)) (o p q : Option (List ℕ)) → IsCopied xs a b o p → IsCopied ys b d p q → IsCopied (xs ++ ys) a d o q
-copied_more xs ys a b d o p q before more = record {
-  on_line = subst (Gains a d) (sym (map-append Came xs ys)) (gains_more a b d _ _ before.on_line more.on_line);
-  written = subst (Appends o q) (sym (characters_of-append xs ys)) (Appends-trans o p q _ _ before.written more.written);
+copied_more : (xs ys : List Heard) (before between after : Copying) → IsCopied xs before between → IsCopied ys between after → IsCopied (xs ++ ys) before after
+copied_more xs ys before between after first more = record {
+  on_line = subst (Gains before.said after.said) (sym (map-append Came xs ys)) (gains_more before.said between.said after.said _ _ first.on_line more.on_line);
+  written = subst (Appends before.out after.out) (sym (characters_of-append xs ys)) (Appends-trans before.out between.out after.out _ _ first.written more.written);
 }
 
 -- so much was heard and copied, and so many silences stand at its end
-pub record HeardSoFar (silent count : ℕ) (told told' : Option (List Item)) (out out' : Option (List ℕ)) : Type 0 where
+pub record HeardSoFar (silent count : ℕ) (before after : Copying) : Type 0 where
   pub heard : List Heard
-  pub copied : IsCopied heard told told' out out'
+  pub copied : IsCopied heard before after
   pub silent_is : silences_behind 0 heard ≡ silent
   pub counted : length heard ≡ count
 
-pub more_heard : (silent count : ℕ) (next : Heard) (a b d : Option (List Item)) (o p q : Option (List ℕ))
-    → HeardSoFar silent count a b o p → IsCopied (next ∷ []) b d p q → HeardSoFar (silences_behind silent (next ∷ [])) (count + 1) a d o q
-more_heard silent count next a b d o p q before more = record {
-  heard = before.heard ++ next ∷ [];
-  copied = copied_more before.heard (next ∷ []) a b d o p q before.copied more;
-  silent_is = silences_behind-append 0 before.heard (next ∷ []) ∙ ap (λ s. silences_behind s (next ∷ [])) before.silent_is;
-  counted = omega (arith, length-append before.heard (next ∷ []), before.counted);
+pub more_heard : (silent count : ℕ) (next : Heard) (before between after : Copying)
+    → HeardSoFar silent count before between → IsCopied (next ∷ []) between after → HeardSoFar (silences_behind silent (next ∷ [])) (count + 1) before after
+more_heard silent count next before between after so_far more = record {
+  heard = so_far.heard ++ next ∷ [];
+  copied = copied_more so_far.heard (next ∷ []) before between after so_far.copied more;
+  silent_is = silences_behind-append 0 so_far.heard (next ∷ []) ∙ ap (λ s. silences_behind s (next ∷ [])) so_far.silent_is;
+  counted = omega (arith, length-append so_far.heard (next ∷ []), so_far.counted);
 }
 
 -- what was written before, and then more but for one character at its end
@@ -58,15 +59,15 @@ written_behind xs ys both character o p q is before (inr more) = inr (subst (App
     (Appends-trans o p q xs (ys ++ character ∷ []) before more))
 
 -- a write failed behind what was heard
-pub cut_behind : (silent count : ℕ) (a b d : Option (List Item)) (o p q : Option (List ℕ))
-    → HeardSoFar silent count a b o p → IsCopiedInPart b d p q → IsCopiedInPart a d o q
-cut_behind silent count a b d o p q before cut = record {
-  heard = before.heard ++ cut.heard;
+pub cut_behind : (silent count : ℕ) (before between after : Copying) → HeardSoFar silent count before between → IsCopiedInPart between after → IsCopiedInPart before after
+cut_behind silent count before between after so_far cut = record {
+  heard = so_far.heard ++ cut.heard;
   character = cut.character;
-  on_line = subst (λ l. Gains a d (map Came l)) (sym (append_assoc before.heard cut.heard (Got cut.character ∷ [])))
-      (subst (Gains a d) (sym (map-append Came before.heard (cut.heard ++ Got cut.character ∷ []))) (gains_more a b d _ _ before.copied.on_line cut.on_line));
-  written = written_behind (characters_of before.heard) (characters_of cut.heard) (characters_of (before.heard ++ cut.heard)) cut.character o p q
-      (characters_of-append before.heard cut.heard) before.copied.written cut.written;
+  on_line = subst (λ l. Gains before.said after.said (map Came l)) (sym (append_assoc so_far.heard cut.heard (Got cut.character ∷ [])))
+      (subst (Gains before.said after.said) (sym (map-append Came so_far.heard (cut.heard ++ Got cut.character ∷ [])))
+      (gains_more before.said between.said after.said _ _ so_far.copied.on_line cut.on_line));
+  written = written_behind (characters_of so_far.heard) (characters_of cut.heard) (characters_of (so_far.heard ++ cut.heard)) cut.character before.out between.out after.out
+      (characters_of-append so_far.heard cut.heard) so_far.copied.written cut.written;
 }
 
 -- of one character that was to be written nothing was, or all
@@ -77,13 +78,13 @@ one_written out out' character (x ∷ []) left whole appended = let same : x ≡
 one_written out out' character (x ∷ y ∷ more) left whole appended = absurd (cc whole)
 
 -- a character was heard that could not be written
-pub cut_at_once : (told told' : Option (List Item)) (out out' : Option (List ℕ)) (character : ℕ) → Gains told told' (Came (Got character) ∷ [])
-    → WritesPrefix out out' (character ∷ []) → IsCopiedInPart told told' out out'
-cut_at_once told told' out out' character gained prefix = record {
+pub cut_at_once : (before after : Copying) (character : ℕ) → Gains before.said after.said (Came (Got character) ∷ [])
+    → WritesPrefix before.out after.out (character ∷ []) → IsCopiedInPart before after
+cut_at_once before after character gained prefix = record {
   heard = [];
   character = character;
   on_line = gained;
-  written = one_written out out' character prefix.1.written prefix.0 prefix.1.whole prefix.1.appended;
+  written = one_written before.out after.out character prefix.1.written prefix.0 prefix.1.whole prefix.1.appended;
 }
 
 -- what is known anyway is known of an error

@@ -1,6 +1,6 @@
 //! Copying what is heard of a console.
 ghost use Rattle.std.specs.Prelude.{◌≡◌, ◌<◌, ◌≤◌, ◌+◌, ◌-◌, ◌*◌, ◌^◌, [], ◌∷◌, OnOk, OnErr, IfOk};
-ghost use Rattle.console_reach.specs.Listening.{IsCopiedInPart, IsListening, IsNextCopied, silences_behind};
+ghost use Rattle.console_reach.specs.Listening.{IsCopiedInPart, IsListening, IsNextCopied, copying, silences_behind};
 
 use byte_io::{WriteFault, write_and_flush};
 use host_core::Heard;
@@ -14,8 +14,10 @@ use std::io::Write;
 /// The fault is a write or a flush that failed: the last character may be missing. A line that is over
 /// is no fault; it tells its own.
 pub fn listen<L: Line, W: Write>(line: &mut L, out: &mut W, silences: u32) -> Result<(), WriteFault>
-    ensures copied { OnOk result (IsListening silences (L.last_fault line.new) (L.told line.old) (L.told line.new) (W.contents out.old) (W.contents out.new)) }
-    ensures cut { OnErr result (IsCopiedInPart (L.told line.old) (L.told line.new) (W.contents out.old) (W.contents out.new)) }
+    ensures copied { OnOk result (IsListening silences (L.last_fault line.new)
+        (copying L.told W.contents line.old out.old)
+        (copying L.told W.contents line.new out.new)) }
+    ensures cut { OnErr result (IsCopiedInPart (copying L.told W.contents line.old out.old) (copying L.told W.contents line.new out.new)) }
 {
     let mut silent = 0;
     for _ in 0..u64::MAX {
@@ -44,8 +46,10 @@ fn silences_then(silent: u32, heard: Heard) -> u32
 
 // Copies what is heard next, and answers it; None where the line is over.
 fn copy_next<L: Line, W: Write>(line: &mut L, out: &mut W) -> Result<Option<Heard>, WriteFault>
-    ensures copied { IfOk result (IsNextCopied (L.last_fault line.new) (L.told line.old) (L.told line.new) (W.contents out.old) (W.contents out.new)) }
-    ensures cut { OnErr result (IsCopiedInPart (L.told line.old) (L.told line.new) (W.contents out.old) (W.contents out.new)) }
+    ensures copied { IfOk result (IsNextCopied (L.last_fault line.new)
+        (copying L.told W.contents line.old out.old)
+        (copying L.told W.contents line.new out.new)) }
+    ensures cut { OnErr result (IsCopiedInPart (copying L.told W.contents line.old out.old) (copying L.told W.contents line.new out.new)) }
 {
     match line.hear() {
         Ok(Heard::Got(character)) => {

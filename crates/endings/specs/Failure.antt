@@ -55,6 +55,10 @@ abbrev pub shown_name : List ℕ → List ℕ
 shown_name [] = codes "''"
 shown_name (b ∷ bs) = flat_map shown_char (chars (b ∷ bs))
 
+-- that the line failed
+abbrev pub line_failed : List ℕ
+line_failed = codes "line failed"
+
 -- what a failure's line says after the program's name, up to the name in it where it has one
 abbrev pub failure_words : Failure → List ℕ
 failure_words (CannotRead name) = codes "cannot read "
@@ -63,8 +67,8 @@ failure_words (CannotWriteFile name) = codes "cannot write "
 failure_words (CannotConnect address) = codes "cannot connect to "
 failure_words (FileIsThere name) = []
 failure_words (RecordInUse name) = codes "record in use: "
-failure_words LineFailed = codes "line failed"
-failure_words StartInDoubt = codes "line failed\nldaodt: the start may have gone out: look at the machine first"
+failure_words LineFailed = line_failed
+failure_words StartInDoubt = line_failed
 failure_words (TapeRefused refusal) = refused_tape_text refusal
 failure_words (OneTapeRefused number refusal) = codes "tape " ++ one_tape_text number refusal
 failure_words (ScriptRefused number) = codes "script " ++ refused_line_text number
@@ -83,9 +87,10 @@ failure_name (RecordInUse name) = shown_name name.now
 failure_name (CannotConnect address) = shown_name address.now
 failure_name other = []
 
--- what stands behind the name, and the line's end
+-- what stands behind the name, and the line's end; where the start may have gone out, a line of its own says so
 abbrev pub failure_end : Failure → List ℕ
 failure_end (FileIsThere name) = codes " is there already\n"
+failure_end StartInDoubt = codes "\nldaodt: the start may have gone out: look at the machine first\n"
 failure_end other = codes "\n"
 
 -- the line of a failure on standard error

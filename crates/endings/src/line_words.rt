@@ -37,11 +37,7 @@ fn push_words(words: &mut LineWords, failure: Failure<'_>)
         Failure::FileIsThere(_) => {}
         Failure::CannotConnect(_) => push_bytes(words, b"cannot connect to "),
         Failure::RecordInUse(_) => push_bytes(words, b"record in use: "),
-        Failure::LineFailed => push_bytes(words, b"line failed"),
-        Failure::StartInDoubt => push_bytes(
-            words,
-            b"line failed\nldaodt: the start may have gone out: look at the machine first",
-        ),
+        Failure::LineFailed | Failure::StartInDoubt => push_bytes(words, b"line failed"),
         Failure::TapeRefused(fault) => {
             push_bytes(words, TAPE.as_bytes());
             push_fault(words, fault);
@@ -72,6 +68,15 @@ fn push_tape(words: &mut LineWords, number: usize, fault: Fault)
     push_fault(words, fault);
 }
 
+// Puts a tape's fault behind other words, as it is shown.
+fn push_fault(words: &mut LineWords, fault: Fault)
+    requires { array_vec_len words.old ≤ 64 }
+    ensures words { words.new.items ≡ words.old.items ++ fault_text fault }
+    ensures short { array_vec_len words.new ≤ array_vec_len words.old + 33 }
+{
+    push_bytes(words, fault.text().as_str().as_bytes());
+}
+
 // Puts what is refused, and the number of its line, behind other words.
 fn push_place(words: &mut LineWords, refused: &[u8], line: u32)
     requires before { array_vec_len words.old ≤ 8 }
@@ -83,16 +88,4 @@ fn push_place(words: &mut LineWords, refused: &[u8], line: u32)
     push_bytes(words, REFUSED_AT.as_bytes());
     push_bytes(words, b"line ");
     push_decimal(words, u64::from(line));
-}
-
-// Puts what is wrong with a tape, and where, behind others, as the fault itself is shown.
-fn push_fault(words: &mut LineWords, fault: Fault)
-    requires { array_vec_len words.old ≤ 64 }
-    ensures words { words.new.items ≡ words.old.items ++ fault_text fault }
-    ensures short { array_vec_len words.new ≤ array_vec_len words.old + 43 }
-{
-    push_bytes(words, REFUSED_AT.as_bytes());
-    push_decimal(words, u64::from(fault.at));
-    push_bytes(words, b": ");
-    push_bytes(words, fault.why.name().as_bytes());
 }

@@ -125,6 +125,9 @@ fn line_end(failure: Failure<'_>) -> &'static [u8]
 {
     match failure {
         Failure::FileIsThere(_) => b" is there already\n",
+        Failure::StartInDoubt => {
+            b"\nldaodt: the start may have gone out: look at the machine first\n"
+        }
         _ => b"\n",
     }
 }

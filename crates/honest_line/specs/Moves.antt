@@ -9,36 +9,37 @@ use Rattle.load_devices.specs.declared.item.Item.TheVariants.{Sent, Heard as Cam
 
 -- the machine takes the first key under way, and answers
 abbrev pub Takes : Wire → Wire → Type 0
-Takes x y = (c : ℕ) × (rest : List ℕ) × (x.down ≡ c ∷ rest) × (y ≡ with_answer x rest (take_of x.machine c))
+Takes wire wire' = (c : ℕ) × (rest : List ℕ) × (wire.down ≡ c ∷ rest) × (wire' ≡ with_answer wire rest (take_of wire.machine c))
 
 -- the line loses a key under way
 abbrev pub LosesDown : Wire → Wire → Type 0
-LosesDown x y = (k : ℕ) × (k < length x.down) × (y ≡ without_down x k)
+LosesDown wire wire' = (k : ℕ) × (k < length wire.down) × (wire' ≡ without_down wire k)
 
 -- the line loses an answer character under way
 abbrev pub LosesUp : Wire → Wire → Type 0
-LosesUp x y = (k : ℕ) × (k < length x.up) × (y ≡ without_up x k)
+LosesUp wire wire' = (k : ℕ) × (k < length wire.up) × (wire' ≡ without_up wire k)
 
 -- one move: a delivery to the machine, or a loss
 abbrev pub Moves : Wire → Wire → Type 0
-Moves x y = Takes x y ⊎ (LosesDown x y ⊎ LosesUp x y)
+Moves wire wire' = Takes wire wire' ⊎ (LosesDown wire wire' ⊎ LosesUp wire wire')
 
 -- so many moves, one after another
 abbrev pub MovesTimes : ℕ → Wire → Wire → Type 0
-MovesTimes zero x y = y ≡ x
-MovesTimes (suc n) x y = (z : Wire) × Moves x z × MovesTimes n z y
+MovesTimes zero wire wire' = wire' ≡ wire
+MovesTimes (suc n) wire wire' = (between : Wire) × Moves wire between × MovesTimes n between wire'
 
 -- any number of moves
 abbrev pub MovesOn : Wire → Wire → Type 0
-MovesOn x y = (n : ℕ) × MovesTimes n x y
+MovesOn wire wire' = (n : ℕ) × MovesTimes n wire wire'
 
 -- a character is heard where it is the first under way, and nothing where nothing is under way in either direction
 abbrev pub Gives : Wire → Heard → Wire → Type 0
-Gives x (Got c) y = (rest : List ℕ) × (x.up ≡ c ∷ rest) × (y ≡ heard x rest)
-Gives x Quiet y = (x.down ≡ []) × (x.up ≡ []) × (y ≡ x)
+Gives wire (Got c) wire' = (rest : List ℕ) × (wire.up ≡ c ∷ rest) × (wire' ≡ heard wire rest)
+Gives wire Quiet wire' = (wire.down ≡ []) × (wire.up ≡ []) × (wire' ≡ wire)
 
 -- a list passes over the line: each key is sent, and before each heard thing, and once at the end, stand any moves
 abbrev pub Passes : Wire → List Item → Wire → Type 0
-Passes x [] y = MovesOn x y
-Passes x (Sent key ∷ items) y = Passes (sent x (key ∷ [])) items y
-Passes x (Came what ∷ items) y = (z : Wire) × (v : Wire) × MovesOn x z × Gives z what v × Passes v items y
+Passes wire [] wire' = MovesOn wire wire'
+Passes wire (Sent key ∷ items) wire' = Passes (sent wire (key ∷ [])) items wire'
+Passes wire (Came what ∷ items) wire' =
+    (moved : Wire) × (given : Wire) × MovesOn wire moved × Gives moved what given × Passes given items wire'

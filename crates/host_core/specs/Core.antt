@@ -42,6 +42,11 @@ first_phase plan verified going =
     else (if verified == length plan.words && is_none plan.start then Ended Loaded
     else Settle)
 
+-- the mishaps that a life survives where nothing else is said: a good line has none, and a dead one is told of after ten silences
+-- (this project's choice)
+abbrev pub plain_patience : ℕ
+plain_patience = 8
+
 -- a core at the beginning of a life
 abbrev pub begun : PlanValue → ℕ → Bool → ℕ → Core
 begun plan verified going patience = record {

@@ -11,11 +11,14 @@ ghost use Rattle.host_core.specs.Steps.{IsVerifying, IsMarking};
 mod turns;
 
 use crate::heard::Heard;
-use crate::life::{Life, Outcome};
+use crate::life::{LifeState, Outcome};
 use crate::phase::{End, Phase};
 use crate::progress::{BadProgress, Progress};
 use std::marker::Model;
 use tape_image::Plan;
+
+/// The patience of a host where nothing names one, in mishaps.
+pub const PLAIN_PATIENCE: u32 = 8;
 
 /// A host that loads one plan: it says which character to type next.
 ///
@@ -25,7 +28,7 @@ use tape_image::Plan;
 pub struct HostCore {
     plan: Plan,
     patience: u32,
-    life: Life,
+    life: LifeState,
 }
 
 impl Model for HostCore {
@@ -69,7 +72,7 @@ impl HostCore {
         if let Some(why) = progress.refusal(&plan) {
             return Err((plan, why));
         }
-        let life = Life::begun(&plan, progress);
+        let life = LifeState::begun(&plan, progress);
         Ok(HostCore {
             plan,
             patience,
@@ -132,7 +135,7 @@ impl HostCore {
         ensures fresh { IsTrue result ↔ IsFresh self.now }
         ensures kept { IsHost self.now }
     {
-        let Life {
+        let LifeState {
             progress,
             spent,
             sent,
@@ -170,7 +173,7 @@ impl HostCore {
             verified: kept.min(verified),
             going,
         };
-        self.life = Life::begun(&self.plan, progress);
+        self.life = LifeState::begun(&self.plan, progress);
     }
 
     /// Hears one thing and answers the character to send now, if any: a step of the phase table. It

@@ -19,7 +19,7 @@ mod table;
 mod turn;
 
 pub use heard::Heard;
-pub use host::HostCore;
+pub use host::{HostCore, PLAIN_PATIENCE};
 pub use phase::{End, Phase, Reason, Visit};
 pub use progress::{BadProgress, Progress};
 pub use tape_image::{Plan, Word};

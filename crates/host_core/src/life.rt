@@ -8,7 +8,7 @@ use tape_image::Plan;
 
 /// One life of the host: what changes from step to step.
 #[derive(Clone, Copy)]
-pub(crate) struct Life {
+pub(crate) struct LifeState {
     pub(crate) progress: Progress,
     pub(crate) spent: u32,
     pub(crate) sent: u64,
@@ -18,13 +18,13 @@ pub(crate) struct Life {
 /// A life after a step, and the character that the step sends.
 #[derive(Clone, Copy)]
 pub(crate) struct Outcome {
-    pub(crate) life: Life,
+    pub(crate) life: LifeState,
     pub(crate) key: Option<u8>,
 }
 
-impl Life {
+impl LifeState {
     /// The beginning of a life: after the mark nothing is typed; with all words verified and no start nothing is left to do.
-    pub(crate) fn begun(plan: &Plan, progress: Progress) -> Life
+    pub(crate) fn begun(plan: &Plan, progress: Progress) -> LifeState
         ensures { (patience : ℕ) → core_of plan.now patience result ≡ begun plan.now progress.verified progress.going patience }
     {
         let phase = if progress.going {
@@ -34,7 +34,7 @@ impl Life {
         } else {
             Phase::Settle
         };
-        Life {
+        LifeState {
             progress,
             spent: 0,
             sent: 0,
@@ -43,12 +43,12 @@ impl Life {
     }
 
     /// One more word is verified.
-    pub(crate) fn with_word(self) -> Life
+    pub(crate) fn with_word(self) -> LifeState
         requires { self.progress.verified + 1 < 2 ^ 32 }
         ensures { result ≡ record self { progress = record { verified = self.progress.verified + 1; going = self.progress.going } } }
     {
         let verified = self.progress.verified + 1;
-        Life {
+        LifeState {
             progress: Progress {
                 verified,
                 ..self.progress
@@ -58,10 +58,10 @@ impl Life {
     }
 
     /// The mark is set.
-    pub(crate) fn with_mark(self) -> Life
+    pub(crate) fn with_mark(self) -> LifeState
         ensures { result ≡ record self { progress = record { verified = self.progress.verified; going = true } } }
     {
-        Life {
+        LifeState {
             progress: Progress {
                 going: true,
                 ..self.progress
@@ -71,11 +71,11 @@ impl Life {
     }
 
     /// One mishap more.
-    pub(crate) fn with_mishap(self) -> Life
+    pub(crate) fn with_mishap(self) -> LifeState
         requires { self.spent + 1 < 2 ^ 32 }
         ensures { result ≡ record self { spent = self.spent + 1 } }
     {
-        Life {
+        LifeState {
             spent: self.spent + 1,
             ..self
         }
@@ -86,7 +86,7 @@ impl Life {
         ensures { result ≡ record { life = record self { phase = phase }; key = None } }
     {
         Outcome {
-            life: Life { phase, ..self },
+            life: LifeState { phase, ..self },
             key: None,
         }
     }
@@ -97,7 +97,7 @@ impl Life {
         ensures { result ≡ record { life = record self { sent = self.sent + 1; phase = phase }; key = Some key } }
     {
         Outcome {
-            life: Life {
+            life: LifeState {
                 sent: self.sent + 1,
                 phase,
                 ..self

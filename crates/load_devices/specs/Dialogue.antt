@@ -1,8 +1,9 @@
 -- What a host says on a line, and what it gives to be kept, while it hears things.
-use Rattle.std.specs.Prelude.{ℕ, ◌-◌, Bool, true, false, List, [], ◌∷◌, ◌++◌, map, take, drop, Option, Some, None}
+use Rattle.std.specs.Prelude.{◌≡◌, ℕ, ◌-◌, Bool, true, false, List, [], ◌∷◌, ◌++◌, map, take, drop, Option, Some, None}
 use Rattle.host_core.specs.Core.{Core}
 use Rattle.host_core.specs.PhaseTable.{move}
 use Rattle.host_core.specs.declared.heard.Heard.{Heard}
+use Rattle.host_core.specs.declared.heard.Heard.TheVariants.{Got, Quiet}
 use Rattle.load_devices.specs.declared.item.Item.{Item}
 use Rattle.load_devices.specs.declared.item.Item.TheVariants.{Sent, Heard as Came}
 use Rattle.load_devices.specs.declared.item.Kept.{Kept}
@@ -29,6 +30,16 @@ abbrev pub heard_of : List Item → List Heard
 heard_of [] = []
 heard_of (Sent key ∷ items) = heard_of items
 heard_of (Came heard ∷ items) = heard ∷ heard_of items
+
+-- the characters that were heard, in their order
+abbrev pub characters_of : List Heard → List ℕ
+characters_of [] = []
+characters_of (Got character ∷ more) = character ∷ characters_of more
+characters_of (Quiet ∷ more) = characters_of more
+
+-- all but the last, which is a character that was to be sent
+abbrev pub LacksKey : List Item → List Item → Type 0
+LacksKey all most = (key : ℕ) × (all ≡ most ++ Sent key ∷ [])
 
 -- the start mark, where it was set meanwhile
 abbrev pub mark_between : Bool → Bool → List Kept

@@ -14,7 +14,7 @@ use Rattle.honest_line.specs.Promises.{HasCause}
 use Rattle.load_devices.specs.declared.item.Item.{Item}
 use Rattle.load_devices.specs.declared.item.Item.TheVariants.{Sent, Heard as Came}
 use Rattle.load_devices.specs.declared.item.Kept.{Kept}
-use Rattle.load_devices.specs.Dialogue.{said, dialogue, heard_of}
+use Rattle.load_devices.specs.Dialogue.{LacksKey, said, dialogue, heard_of}
 use Rattle.honest_line.specs.Starts.{TellsStart}
 use Rattle.honest_line.specs.Trust.{IsTrustworthy}
 use Rattle.honest_line.proofs.Started.{tells_start, tells_start_unsaid}
@@ -22,7 +22,7 @@ use Rattle.honest_line.proofs.Trusted.{trustworthy, trustworthy_unsaid}
 use Rattle.load_engine.specs.declared.stop.Stop.{Stop}
 use Rattle.load_engine.specs.declared.stop.Stop.TheVariants.{Ended, LineFailed, KeepFailed, TurnsOver}
 use Rattle.load_engine.specs.Belief.{IsBelievable, IsBelievableOver, TellsStartOver}
-use Rattle.load_engine.specs.Session.{Session, LacksKey, IsSaid}
+use Rattle.load_engine.specs.Session.{Session, IsSaid}
 use Rattle.load_engine.proofs.Sessions.{gained_is}
 
 -- ---- what was heard in a dialogue

@@ -6,10 +6,9 @@ use Rattle.host_core.specs.Core.{Core, ended}
 use Rattle.host_core.specs.Laws.{led}
 use Rattle.host_core.specs.PhaseTable.{move}
 use Rattle.load_devices.specs.declared.item.Item.{Item}
-use Rattle.load_devices.specs.declared.item.Item.TheVariants.{Sent}
 use Rattle.load_devices.specs.declared.item.Kept.{Kept}
 use Rattle.load_devices.specs.declared.item.Kept.TheVariants.{Go}
-use Rattle.load_devices.specs.Dialogue.{dialogue, keys_of, news_between}
+use Rattle.load_devices.specs.Dialogue.{LacksKey, dialogue, keys_of, news_between}
 use Rattle.load_devices.specs.Told.{Gains}
 use Rattle.load_engine.specs.declared.stop.Stop.{Stop}
 use Rattle.load_engine.specs.declared.stop.Stop.TheVariants.{Ended, LineFailed, KeepFailed, TurnsOver}
@@ -22,10 +21,6 @@ GoesOn core (heard ∷ more) = (ended core.phase ≡ None) × GoesOn (move core 
 -- all but the last
 abbrev pub LacksLast : {A : Type 0} → List A → List A → Type 0
 LacksLast {A} all most = (last : A) × (all ≡ most ++ last ∷ [])
-
--- all but the last, which is a character that was to be sent
-abbrev pub LacksKey : List Item → List Item → Type 0
-LacksKey all most = (key : ℕ) × (all ≡ most ++ Sent key ∷ [])
 
 -- what was said of a dialogue, by how the turns stopped (None: they are over, and may go on) and how many turns were left: all
 -- of it, but for the last character where the keeper failed. A line fails at a hear of a further turn, or at the last character.

@@ -7,10 +7,10 @@ use Rattle.host_core.specs.declared.heard.Heard.{Heard}
 use Rattle.host_core.specs.Core.{Core, begun}
 use Rattle.load_devices.specs.declared.item.Item.{Item}
 use Rattle.load_devices.specs.declared.item.Item.TheVariants.{Sent, Heard as Came}
-use Rattle.load_devices.specs.Dialogue.{said, dialogue}
+use Rattle.load_devices.specs.Dialogue.{LacksKey, said, dialogue}
 use Rattle.load_engine.specs.declared.stop.Stop.{Stop}
 use Rattle.load_engine.specs.declared.stop.Stop.TheVariants.{Ended, LineFailed, KeepFailed, TurnsOver}
-use Rattle.load_engine.specs.Session.{IsSaid, LacksKey}
+use Rattle.load_engine.specs.Session.{IsSaid}
 use Rattle.load_engine.proofs.Sessions.{dialogue_join}
 use Rattle.load_record.specs.declared.version.Version.TheVariants.{Second}
 use Rattle.load_record.specs.Lines.{header}

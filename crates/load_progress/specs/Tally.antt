@@ -1,5 +1,5 @@
 -- How far it is, and what is shown of it.
-use Rattle.std.specs.Prelude.{ℕ, ◌-◌, ◌||◌, nat_lt, not, Bool, true, false, if◌then◌else◌, Option, Some, None}
+use Rattle.std.specs.Prelude.{ℕ, ◌-◌, ◌||◌, nat_lt, not, Bool, false, if◌then◌else◌, Option, Some, None, is_some}
 use Rattle.host_core.specs.declared.heard.Heard.{Heard}
 use Rattle.host_core.specs.declared.heard.Heard.TheVariants.{Got, Quiet}
 use Rattle.load_devices.specs.Failures.{one_more_in_32}
@@ -19,16 +19,11 @@ heard_behind count heard (Some key) = 0
 heard_behind count (Got character) None = one_more_in_32 count
 heard_behind count Quiet None = count
 
--- whether there is a key
-abbrev pub is_sent : Option ℕ → Bool
-is_sent None = false
-is_sent (Some key) = true
-
 -- the host has taken a step: words and mishaps are its own
 abbrev pub after_sight : Tally → Sight → Tally
 after_sight tally sight = record tally {
   done = sight.done;
-  has_sent = tally.has_sent || is_sent sight.key;
+  has_sent = tally.has_sent || is_some sight.key;
   mishaps = sight.spent;
   heard = heard_behind tally.heard sight.heard sight.key;
 }

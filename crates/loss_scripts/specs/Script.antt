@@ -4,6 +4,7 @@ use Rattle.std.specs.Prelude.{Option, Some, None, unwrap_or, slice_get, slice_in
 use Rattle.std.specs.List.{AllZip, enumerate_from}
 use Rattle.std.specs.Str.Lines.{lines}
 use Rattle.arrayvec.specs.ArrayVec.{ArrayVec}
+use Rattle.host_core.specs.Core.{plain_patience}
 use Rattle.odt_machine.specs.declared.style.Style.{Style}
 use Rattle.odt_machine.specs.Machine.{largest_words}
 use Rattle.odt_machine.specs.Style.{plain_style}
@@ -22,10 +23,6 @@ use Rattle.loss_scripts.specs.Line.{IsLine}
 -- without end is refused (this project's choice)
 abbrev pub script_limit : ℕ
 script_limit = 1048576
-
--- the patience of a host where nothing names one (this project's choice)
-abbrev pub plain_patience : ℕ
-plain_patience = 8
 
 -- the size of the machine that a line names
 abbrev pub words_in : Line → Option ℕ

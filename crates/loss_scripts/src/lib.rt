@@ -14,6 +14,4 @@ mod line;
 mod script;
 
 pub use line::{Step, Waiting};
-pub use script::{
-    PLAIN_PATIENCE, PutLine, SCRIPT_LIMIT, Script, ScriptFault, StepLine, read_script,
-};
+pub use script::{PutLine, SCRIPT_LIMIT, Script, ScriptFault, StepLine, read_script};

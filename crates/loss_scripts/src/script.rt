@@ -11,14 +11,12 @@ ghost use Rattle.loss_scripts.specs.Law.{IsOnlyScript, IsOnlyFault};
 ghost use Rattle.loss_scripts.specs.Draft.{HasNamed, Joins};
 
 use crate::line::{Line, Setting, Step, Waiting, read_line};
+use host_core::PLAIN_PATIENCE;
 use odt_machine::{LARGEST_WORDS, PLAIN_STYLE, Style};
 use std::alloc::{AllocError, Global};
 
 /// The most bytes that a script may have.
 pub const SCRIPT_LIMIT: usize = 1_048_576;
-
-/// The patience of a host where nothing names one.
-pub const PLAIN_PATIENCE: u32 = 8;
 
 /// A line that puts a word into memory.
 #[derive(Clone, Copy)]

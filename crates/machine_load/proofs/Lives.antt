@@ -91,7 +91,7 @@ module _ (plan : PlanValue) (progress : Progress) (patience : ℕ) (told : Optio
   )
     where
       same : new.text ≡ old.text
-      same = kept_text told after.record_text old.text new.text (Keeps-trans told between.record_text after.record_text read idle.idle.record_same) was is
+      same = kept_text told after.record_text old.text new.text (Keeps-trans told between.record_text after.record_text read idle.idle.left_alone.record_same) was is
 
   -- one that is driven
   driven_life : {writable : Bool} (life : IsDrivenLife of_file writable (begun plan progress.verified progress.going patience) between after finish)

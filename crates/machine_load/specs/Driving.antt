@@ -57,25 +57,25 @@ keeper_tells kept failures fault keeps fails begins text = record {
 
 -- from one core to another the engine had the most turns, over a fresh line and a keeper that was begun with the words that were
 -- verified already, and it stopped so; then line and keeper tell this
-pub record IsDrivenOver {K : Type 0} (tells : KeeperTells K) (first last : Core) (stop : Stop) (line' : LineTold) (keeper' : K) : Type 0 where
-  pub goes_on : ended first.phase ≡ None
+pub record IsDrivenOver {K : Type 0} (tells : KeeperTells K) (old new : Core) (stop : Stop) (line' : LineTold) (keeper' : K) : Type 0 where
+  pub goes_on : ended old.phase ≡ None
   pub line : LineTold
   pub fresh : IsUnused line.said line.failures line.fault
   pub keeper : K
-  pub begun_so : tells.begins keeper first.plan first.verified
+  pub begun_so : tells.begins keeper old.plan old.verified
   -- what was heard, said and kept, in its order
-  pub session : Session most_turns (Some stop) first last line.said line'.said (tells.kept keeper) (tells.kept keeper')
-  pub end : TellsEnd stop last
+  pub session : Session most_turns (Some stop) old new line.said line'.said (tells.kept keeper) (tells.kept keeper')
+  pub end : TellsEnd stop new
   -- which device failed
   pub counted : Counts (Some stop) line.failures line'.failures (tells.failures keeper) (tells.failures keeper')
   pub named : NamesFault (Some stop) line'.fault (tells.fault keeper')
   -- what the keeper was made of, and that the mark came before `G`
-  pub kept_by : KeptBy tells.keeps tells.fails (Some stop) keeper (news_between first last) keeper'
+  pub kept_by : KeptBy tells.keeps tells.fails (Some stop) keeper (news_between old new) keeper'
   pub mark_first : KeepsMarkFirst line.said line'.said (tells.kept keeper) (tells.kept keeper')
   -- what may be believed where the line was honest
-  pub honest : IsBelievableOver stop first last line.said line'.said
-  pub start : TellsStartOver first last line.said line'.said
-  pub bound : last.sent ≤ character_bound (length last.plan.words) last.patience
+  pub honest : IsBelievableOver stop old new line.said line'.said
+  pub start : TellsStartOver old new line.said line'.said
+  pub bound : new.sent ≤ character_bound (length new.plan.words) new.patience
 
 -- how a life ended: the core that it came to, why it stopped, and what its line tells then, where it had one
 pub record Finish : Type 0 where

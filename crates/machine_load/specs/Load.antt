@@ -49,6 +49,11 @@ Asks before after steps = Gains before.steps after.steps steps
 abbrev pub KeepsRecord : Around → Around → Type 0
 KeepsRecord before after = Keeps before.record_text after.record_text
 
+-- nobody was asked, and the record is as it was
+pub record AsksNothing (before after : Around) : Type 0 where
+  pub nothing_asked : Asks before after []
+  pub record_same : KeepsRecord before after
+
 -- how many words count as verified: all that the record says; none where each is to be looked at again, unless the start was typed
 abbrev pub words_taken : Bool → Progress → ℕ
 words_taken recheck said = if recheck && not said.going then 0 else said.verified
@@ -98,8 +103,7 @@ IsTextBegun told plan k = IsAsTold told (record_text Second plan k false)
 -- the life ends as it began, with nobody asked and the record left alone
 pub record IsIdle (old new : Core) (stop : Stop) (before after : Around) : Type 0 where
   pub over : IsOverAtOnce old new stop
-  pub nothing_asked : Asks before after []
-  pub record_same : KeepsRecord before after
+  pub left_alone : AsksNothing before after
 
 -- the life goes on, over a record that may be written: a connection is made, then the record is begun anew, and in the end its keeper
 -- is given back

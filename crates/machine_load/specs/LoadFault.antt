@@ -6,7 +6,7 @@ use Rattle.tape_image.specs.Plan.{PlanValue}
 use Rattle.load_record.specs.declared.reader.RecordError.{RecordError}
 use Rattle.load_record.specs.Reading.{Says}
 use Rattle.load_record.specs.declared.reader.RecordError.TheVariants.{NotARecord}
-use Rattle.machine_load.specs.Load.{Around, Setting, Asks, KeepsRecord, IsCutShort}
+use Rattle.machine_load.specs.Load.{Around, Setting, Asks, AsksNothing, KeepsRecord, IsCutShort}
 use Rattle.record_file.specs.OldRecord.{HoldsNoRecord}
 use Rattle.machine_load.specs.Step.{Step, reading, ReadProtected, Connected, InUse, NotRead, NotConnected, NotBegun, OutOfMemory}
 use Rattle.request_values.specs.declared.options.LoadOptions.{LoadOptions}
@@ -36,11 +36,6 @@ IsOpeningFault plan before after (Record why) =
     ((writable : Bool) × Asks before after (reading writable ∷ [])) × IsRefusedRecord before.record_text plan why
 IsOpeningFault plan before after Memory = Asks before after (OutOfMemory ∷ [])
 IsOpeningFault plan before after other = ⊥
-
--- nobody was asked, and the record is as it was
-pub record AsksNothing (before after : Around) : Type 0 where
-  pub nothing_asked : Asks before after []
-  pub record_same : KeepsRecord before after
 
 -- how an opened life comes to no line or no record: one that may not be written fails before there is a connection; and without a
 -- connection the record is as it was

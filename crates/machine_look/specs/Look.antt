@@ -16,22 +16,22 @@ use Rattle.reading_engine.specs.Inquired.{Inquired, TellsEnd}
 use Rattle.reading_engine.specs.declared.stop.Stop.{Stop}
 
 -- an engine that had the most turns led the one reader to the other, with what was said meanwhile, and stopped so
-pub record IsLook (first last : Reader) (stop : Stop) : Type 0 where
+pub record IsLook (old new : Reader) (stop : Stop) : Type 0 where
   pub line : Option (List Item)
   pub line' : Option (List Item)
-  pub inquired : Inquired most_turns (Some stop) first last line line'
-  pub end : TellsEnd stop last
+  pub inquired : Inquired most_turns (Some stop) old new line line'
+  pub end : TellsEnd stop new
   -- where what was said is honest, memory is what it was and what was read is what it holds
-  pub believed : IsBelievableAt stop first last inquired.said
-  pub addresses : last.addresses ≡ first.addresses
-  pub patience : last.patience ≡ first.patience
-  pub bound : last.sent ≤ reading_bound (length last.addresses) last.patience
-  pub kept : IsReader last
+  pub believed : IsBelievableAt stop old new inquired.said
+  pub addresses : new.addresses ≡ old.addresses
+  pub patience : new.patience ≡ old.patience
+  pub bound : new.sent ≤ reading_bound (length new.addresses) new.patience
+  pub kept : IsReader new
 
 -- what holds of memory wherever a look was over an honest line of a machine that runs no program
-abbrev pub OverHonestLine : {first last : Reader} {stop : Stop} → IsLook first last stop → (Machine → Machine → Type 0) → Type 0
-OverHonestLine {first} look holds =
-    (machine now : Machine) (lost : ℕ) → MayLook first machine → IsHonest machine look.inquired.said lost now → holds machine now
+abbrev pub OverHonestLine : {old new : Reader} {stop : Stop} → IsLook old new stop → (Machine → Machine → Type 0) → Type 0
+OverHonestLine {old} look holds =
+    (machine now : Machine) (lost : ℕ) → MayLook old machine → IsHonest machine look.inquired.said lost now → holds machine now
 
 -- the console was asked for once, where there is something to look at, and else nothing was asked
 abbrev pub AsksOnce : Option End → Call → Option (List LineRequest) → Option (List LineRequest) → Type 0

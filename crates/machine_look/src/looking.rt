@@ -5,7 +5,8 @@ ghost use Rattle.reading_core.specs.Bound.{reading_bound};
 ghost use Rattle.reading_core.specs.Invariant.{IsReader};
 ghost use Rattle.reading_core.specs.Reader.{ended};
 ghost use Rattle.reading_engine.specs.Belief.{IsBelievableOver};
-ghost use Rattle.reading_engine.specs.Failing.{Counts, NamesFault};
+ghost use Rattle.load_devices.specs.Failures.{CountsFault, IsLastFault};
+ghost use Rattle.reading_engine.specs.Failing.{line_fault};
 ghost use Rattle.reading_engine.specs.Inquired.{Inquired, TellsEnd};
 ghost use Rattle.stream_line.specs.Dialling.{IsAskedInVain};
 ghost use Rattle.machine_look.specs.Look.{AsksOnce, IsLook};
@@ -25,8 +26,8 @@ pub fn look<L: Line + Drop, O: Onlooker>(
 ) -> ((ReadingCore, Stop), L)
     ensures turns { Inquired most_turns (Some result.0.1) core result.0.0 (L.told line) (L.told result.1) }
     ensures end { TellsEnd result.0.1 result.0.0 }
-    ensures counted { Counts (Some result.0.1) (L.fault_count line) (L.fault_count result.1) }
-    ensures fault { NamesFault (Some result.0.1) (L.last_fault result.1) }
+    ensures counted { CountsFault (line_fault (Some result.0.1)) (L.fault_count line) (L.fault_count result.1) }
+    ensures fault { IsLastFault (line_fault (Some result.0.1)) (L.last_fault result.1) }
     ensures honest { IsBelievableOver result.0.1 core result.0.0 (L.told line) (L.told result.1) }
     ensures same_addresses { result.0.0.addresses ≡ core.addresses }
     ensures same_patience { result.0.0.patience ≡ core.patience }

@@ -3,7 +3,8 @@ ghost use Rattle.load_devices.specs.Told.{SaysNothing};
 ghost use Rattle.memory_end.specs.Ending.{FindsEnd, stop_of};
 ghost use Rattle.memory_end.specs.Passes.{ArePieces, IsRoom};
 ghost use Rattle.memory_end.specs.Steps.{Stepped, LiesWithin, passed, stop_in};
-ghost use Rattle.reading_engine.specs.Failing.{Counts, NamesFault};
+ghost use Rattle.load_devices.specs.Failures.{CountsFault, IsLastFault};
+ghost use Rattle.reading_engine.specs.Failing.{line_fault};
 
 use crate::pieces::{LARGE, Pieces, SMALL, WORDS};
 use crate::room::Room;
@@ -42,8 +43,8 @@ pub fn find_end<L: Line>(
     turns: u64,
 ) -> Result<Search, AllocError>
     ensures found { IfOk result (λ search. FindsEnd turns patience search (L.told line.old) (L.told line.new)) }
-    ensures counted { IfOk result (λ search. Counts (stop_of search) (L.fault_count line.old) (L.fault_count line.new)) }
-    ensures fault { IfOk result (λ search. NamesFault (stop_of search) (L.last_fault line.new)) }
+    ensures counted { IfOk result (λ search. CountsFault (line_fault (stop_of search)) (L.fault_count line.old) (L.fault_count line.new)) }
+    ensures fault { IfOk result (λ search. IsLastFault (line_fault (stop_of search)) (L.last_fault line.new)) }
     ensures unsaid { OnErr result (SaysNothing (L.told line.old) (L.told line.new)) }
     ensures uncounted { OnErr result (L.fault_count line.new ≡ L.fault_count line.old) }
 {
@@ -71,8 +72,8 @@ fn pass<L: Line>(room: Room, from: u16, pieces: Pieces, limits: Limits, line: &m
     requires pieces { ArePieces from pieces }
     ensures pass { Stepped limits.turns limits.patience from pieces result (L.told line.old) (L.told line.new) }
     ensures within { LiesWithin from pieces result }
-    ensures counted { Counts (stop_in result) (L.fault_count line.old) (L.fault_count line.new) }
-    ensures fault { NamesFault (stop_in result) (L.last_fault line.new) }
+    ensures counted { CountsFault (line_fault (stop_in result)) (L.fault_count line.old) (L.fault_count line.new) }
+    ensures fault { IsLastFault (line_fault (stop_in result)) (L.last_fault line.new) }
 {
     let core = room.core(from, pieces, limits.patience);
     let (core, stop) = inquire(core, line, limits.turns, &Unwatched);

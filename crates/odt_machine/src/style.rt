@@ -39,4 +39,13 @@ impl Style {
             echo_illegal: number / 4 == 1,
         })
     }
+
+    /// The number of this style, 7 at most.
+    pub fn number(self) -> u8
+        ensures { result ≡ style_number self }
+    {
+        u8::from(self.space_before)
+            + 2 * u8::from(self.two_returns)
+            + 4 * u8::from(self.echo_illegal)
+    }
 }

@@ -3,15 +3,15 @@ use Rattle.std.proofs.Common.{◌≡◌, ℕ, Bool, true, false, ◌&&◌, ◌||
 use Rattle.host_core.specs.declared.heard.Heard.TheVariants.{Got, Quiet}
 use Rattle.load_devices.specs.declared.item.Item.{Item}
 use Rattle.load_devices.specs.declared.item.Item.TheVariants.{Sent, Heard as Came}
-use Rattle.probe_report.specs.Notes.{Noted, characters, echoes, has_prompt, last_of, notes_of, only_echoes, tail_length, typed_last}
+use Rattle.probe_report.specs.Notes.{Noted, heard_characters, echoes, has_prompt, last_of, notes_of, only_echoes, tail_length, typed_last}
 
 -- ---- lists that are joined
 
-characters-append : (xs ys : List Item) → characters (xs ++ ys) ≡ characters xs ++ characters ys
-characters-append [] ys = refl
-characters-append (Sent key ∷ xs) ys = characters-append xs ys
-characters-append (Came (Got c) ∷ xs) ys = ap (λ (cs : List ℕ). c ∷ cs) (characters-append xs ys)
-characters-append (Came Quiet ∷ xs) ys = characters-append xs ys
+heard_characters-append : (xs ys : List Item) → heard_characters (xs ++ ys) ≡ heard_characters xs ++ heard_characters ys
+heard_characters-append [] ys = refl
+heard_characters-append (Sent key ∷ xs) ys = heard_characters-append xs ys
+heard_characters-append (Came (Got c) ∷ xs) ys = ap (λ (cs : List ℕ). c ∷ cs) (heard_characters-append xs ys)
+heard_characters-append (Came Quiet ∷ xs) ys = heard_characters-append xs ys
 
 typed_last-append : (last : Option ℕ) (xs ys : List Item) → typed_last last (xs ++ ys) ≡ typed_last (typed_last last xs) ys
 typed_last-append last [] ys = refl
@@ -57,23 +57,23 @@ noted_by a b prompt echo key tail =
 
 pub noted_sent : (items : List Item) (key : ℕ) → record (notes_of items) { last_key = Some key } ≡ notes_of (items ++ Sent key ∷ [])
 noted_sent items key =
-    let same : characters items ≡ characters (items ++ Sent key ∷ []) = sym (characters-append items (Sent key ∷ []) ∙ append-nil (characters items)) in
+    let same : heard_characters items ≡ heard_characters (items ++ Sent key ∷ []) = sym (heard_characters-append items (Sent key ∷ []) ∙ append-nil (heard_characters items)) in
     noted_by (record (notes_of items) { last_key = Some key }) (notes_of (items ++ Sent key ∷ []))
     (ap has_prompt same) (sym (only_echoes-append None items (Sent key ∷ []) ∙ and_true (only_echoes None items)))
     (sym (typed_last-append None items (Sent key ∷ []))) (ap (last_of tail_length) same)
 
 pub noted_quiet : (items : List Item) → notes_of items ≡ notes_of (items ++ Came Quiet ∷ [])
 noted_quiet items =
-    let same : characters items ≡ characters (items ++ Came Quiet ∷ []) = sym (characters-append items (Came Quiet ∷ []) ∙ append-nil (characters items)) in
+    let same : heard_characters items ≡ heard_characters (items ++ Came Quiet ∷ []) = sym (heard_characters-append items (Came Quiet ∷ []) ∙ append-nil (heard_characters items)) in
     noted_by (notes_of items) (notes_of (items ++ Came Quiet ∷ []))
     (ap has_prompt same) (sym (only_echoes-append None items (Came Quiet ∷ []) ∙ and_true (only_echoes None items)))
     (sym (typed_last-append None items (Came Quiet ∷ []))) (ap (last_of tail_length) same)
 
-pub noted_got : (items : List Item) (c : ℕ) (n : Noted) → n.prompt ≡ (has_prompt (characters items) || (c == 64)) → n.only_echoes ≡ (only_echoes None items && echoes (typed_last None items) c)
-    → n.last_key ≡ typed_last None items → n.tail ≡ last_of tail_length (characters items ++ c ∷ []) → n ≡ notes_of (items ++ Came (Got c) ∷ [])
+pub noted_got : (items : List Item) (c : ℕ) (n : Noted) → n.prompt ≡ (has_prompt (heard_characters items) || (c == 64)) → n.only_echoes ≡ (only_echoes None items && echoes (typed_last None items) c)
+    → n.last_key ≡ typed_last None items → n.tail ≡ last_of tail_length (heard_characters items ++ c ∷ []) → n ≡ notes_of (items ++ Came (Got c) ∷ [])
 noted_got items c n prompt echo key tail =
-    let chars : characters (items ++ Came (Got c) ∷ []) ≡ characters items ++ c ∷ [] = characters-append items (Came (Got c) ∷ []) in
+    let chars : heard_characters (items ++ Came (Got c) ∷ []) ≡ heard_characters items ++ c ∷ [] = heard_characters-append items (Came (Got c) ∷ []) in
     noted_by n (notes_of (items ++ Came (Got c) ∷ []))
-    (prompt ∙ sym (ap has_prompt chars ∙ (has_prompt-append (characters items) (c ∷ []) ∙ ap (λ b. has_prompt (characters items) || b) (or_false (c == 64)))))
+    (prompt ∙ sym (ap has_prompt chars ∙ (has_prompt-append (heard_characters items) (c ∷ []) ∙ ap (λ b. has_prompt (heard_characters items) || b) (or_false (c == 64)))))
     (echo ∙ sym (only_echoes-append None items (Came (Got c) ∷ []) ∙ ap (λ b. only_echoes None items && b) (and_true (echoes (typed_last None items) c))))
     (key ∙ sym (typed_last-append None items (Came (Got c) ∷ []))) (tail ∙ ap (last_of tail_length) (sym chars))

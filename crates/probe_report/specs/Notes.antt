@@ -2,15 +2,13 @@
 use Rattle.std.specs.Prelude.{ℕ, ◌-◌, Bool, true, false, ◌==◌, ◌&&◌, ◌||◌, List, [], ◌∷◌, length, drop, Option, Some, None}
 use Rattle.host_core.specs.Console.{prompt}
 use Rattle.host_core.specs.declared.heard.Heard.TheVariants.{Got, Quiet}
+use Rattle.load_devices.specs.Dialogue.{characters_of, heard_of}
 use Rattle.load_devices.specs.declared.item.Item.{Item}
 use Rattle.load_devices.specs.declared.item.Item.TheVariants.{Sent, Heard as Came}
 
--- the characters that were heard, in their order
-abbrev pub characters : List Item → List ℕ
-characters [] = []
-characters (Came (Got c) ∷ items) = c ∷ characters items
-characters (Came Quiet ∷ items) = characters items
-characters (Sent key ∷ items) = characters items
+-- the characters among what was said on a line that were heard, in their order
+abbrev pub heard_characters : List Item → List ℕ
+heard_characters items = characters_of (heard_of items)
 
 -- one of them is the prompt, `@`
 abbrev pub has_prompt : List ℕ → Bool
@@ -53,8 +51,8 @@ pub record Noted : Type 0 where
 -- what is noted of what was said on a line
 abbrev pub notes_of : List Item → Noted
 notes_of items = record {
-  prompt = has_prompt (characters items);
+  prompt = has_prompt (heard_characters items);
   only_echoes = only_echoes None items;
   last_key = typed_last None items;
-  tail = last_of tail_length (characters items);
+  tail = last_of tail_length (heard_characters items);
 }

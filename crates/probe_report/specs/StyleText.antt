@@ -1,5 +1,7 @@
 -- What a probe prints of a console's style (this project's own).
-use Rattle.std.specs.Prelude.{ℕ, ◌+◌, Bool, true, false, ◌&&◌, if◌then◌else◌, List, [], ◌++◌, codes, decimal, Option, Some, None}
+use Rattle.std.specs.Prelude.{ℕ, Bool, true, false, ◌&&◌, if◌then◌else◌, List, [], ◌++◌, codes, decimal, Option, Some, None}
+use Rattle.odt_machine.specs.Style.{style_number}
+use Rattle.odt_machine.specs.declared.style.Style.{Style}
 use Rattle.byte_io.specs.Text.{line}
 use Rattle.trial_core.specs.declared.sight.Sight.{Sight}
 use Rattle.trial_core.specs.declared.sight.Sight.TheVariants.{Unseen, Yes, Mixed}
@@ -17,15 +19,20 @@ is_done Yes = true
 is_done Mixed = true
 is_done sight = false
 
--- the number of `--style`: 1 for a space before the digits, plus 2 for two CRs, plus 4 for the echo of an illegal key
-abbrev pub style_number : Seen → ℕ
-style_number seen =
-    (if is_done seen.space_before then 1 else 0) + (if is_done seen.two_returns then 2 else 0) + (if is_done seen.echo_illegal then 4 else 0)
+-- the style that was seen
+abbrev pub style_of : Seen → Style
+style_of seen = record {
+  space_before = is_done seen.space_before;
+  two_returns = is_done seen.two_returns;
+  echo_illegal = is_done seen.echo_illegal;
+}
 
--- it is printed where all three were seen
+-- its number, that of `--style`, is printed where all three were seen
 abbrev pub number_lines : Seen → List ℕ
 number_lines seen =
-    if is_seen seen.space_before && is_seen seen.two_returns && is_seen seen.echo_illegal then line (codes "style " ++ decimal (style_number seen)) else []
+    if is_seen seen.space_before && is_seen seen.two_returns && is_seen seen.echo_illegal
+    then line (codes "style " ++ decimal (style_number (style_of seen)))
+    else []
 
 -- a character that was lost looks like another style
 abbrev pub mishap_text : Bool → List ℕ

@@ -1,9 +1,10 @@
 //! What a probe prints of a console's style.
 ghost use Rattle.std.specs.Prelude.{◌≡◌, ◌++◌, codes, decimal, OnOk};
 ghost use Rattle.byte_io.specs.Text.{line};
-ghost use Rattle.probe_report.specs.StyleText.{is_done, is_seen, mishap_text, mixed_lines, number_lines, seen_lines, style_lines, style_number};
+ghost use Rattle.probe_report.specs.StyleText.{is_done, is_seen, mishap_text, mixed_lines, number_lines, seen_lines, style_lines, style_of};
 
 use crate::findings::Attempt;
+use odt_machine::Style;
 use std::alloc::AllocError;
 use std::io::Write;
 use trial_core::{Seen, Sight};
@@ -42,7 +43,7 @@ fn put_number(text: &mut Vec<u8>, seen: Seen) -> Result<(), AllocError>
     ensures { OnOk result (text.new.items ≡ text.old.items ++ number_lines seen) }
 {
     if is_seen(seen.space_before) && is_seen(seen.two_returns) && is_seen(seen.echo_illegal) {
-        put_style_number(text, style_number(seen))
+        put_style_number(text, style_of(seen).number())
     } else {
         Ok(())
     }
@@ -57,13 +58,15 @@ fn put_style_number(text: &mut Vec<u8>, number: u8) -> Result<(), AllocError>
     }
 }
 
-// The number of `--style`. What comes from time to time counts as there.
-fn style_number(seen: Seen) -> u8
-    ensures { result ≡ style_number seen }
+// The style that was seen. What comes from time to time counts as there.
+fn style_of(seen: Seen) -> Style
+    ensures { result ≡ style_of seen }
 {
-    u8::from(is_done(seen.space_before))
-        + 2 * u8::from(is_done(seen.two_returns))
-        + 4 * u8::from(is_done(seen.echo_illegal))
+    Style {
+        space_before: is_done(seen.space_before),
+        two_returns: is_done(seen.two_returns),
+        echo_illegal: is_done(seen.echo_illegal),
+    }
 }
 
 fn is_seen(sight: Sight) -> bool

@@ -4,7 +4,7 @@ use Rattle.reading_core.specs.declared.phase.Phase.{Phase}
 use Rattle.reading_core.specs.declared.phase.Phase.TheVariants.{Settle, Ended}
 use Rattle.reading_core.specs.declared.phase.End.{End}
 use Rattle.reading_core.specs.declared.phase.End.TheVariants.{Complete}
-use Rattle.reading_core.specs.declared.life.Life.{Life}
+use Rattle.reading_core.specs.declared.life.LifeState.{LifeState}
 
 -- the addresses to be read, the numbers read so far at the first of them, how many mishaps a life survives and
 -- how many it has had, the characters it has sent, and its phase
@@ -49,7 +49,7 @@ ended (Ended end) = Some end
 ended _ = None
 
 -- the reader with these addresses, numbers and patience, in the middle of a life
-abbrev pub reader_of : List ℕ → List ℕ → ℕ → Life → Reader
+abbrev pub reader_of : List ℕ → List ℕ → ℕ → LifeState → Reader
 reader_of addresses values patience life = record {
   addresses = addresses;
   values = values;

@@ -5,7 +5,7 @@ use crate::phase::{End, Phase};
 
 /// What changes from step to step in one life of the host, beside the numbers that were read.
 #[derive(Clone, Copy)]
-pub(crate) struct Life {
+pub(crate) struct LifeState {
     pub(crate) spent: u32,
     pub(crate) sent: u64,
     pub(crate) phase: Phase,
@@ -14,13 +14,13 @@ pub(crate) struct Life {
 /// A life after a step, and the character that the step sends.
 #[derive(Clone, Copy)]
 pub(crate) struct Outcome {
-    pub(crate) life: Life,
+    pub(crate) life: LifeState,
     pub(crate) key: Option<u8>,
 }
 
-impl Life {
+impl LifeState {
     /// The beginning of a life: with every word read nothing is left to do.
-    pub(crate) fn begun(addresses: usize, read: usize) -> Life
+    pub(crate) fn begun(addresses: usize, read: usize) -> LifeState
         ensures { result ≡ record { spent = 0; sent = 0; phase = first_phase addresses read } }
     {
         let phase = if read == addresses {
@@ -28,7 +28,7 @@ impl Life {
         } else {
             Phase::Settle
         };
-        Life {
+        LifeState {
             spent: 0,
             sent: 0,
             phase,
@@ -36,11 +36,11 @@ impl Life {
     }
 
     /// One mishap more.
-    pub(crate) fn with_mishap(self) -> Life
+    pub(crate) fn with_mishap(self) -> LifeState
         requires { self.spent + 1 < 2 ^ 32 }
         ensures { result ≡ record self { spent = self.spent + 1 } }
     {
-        Life {
+        LifeState {
             spent: self.spent + 1,
             ..self
         }
@@ -51,7 +51,7 @@ impl Life {
         ensures { result ≡ record { life = record self { phase = phase }; key = None } }
     {
         Outcome {
-            life: Life { phase, ..self },
+            life: LifeState { phase, ..self },
             key: None,
         }
     }
@@ -62,7 +62,7 @@ impl Life {
         ensures { result ≡ record { life = record self { sent = self.sent + 1; phase = phase }; key = Some key } }
     {
         Outcome {
-            life: Life {
+            life: LifeState {
                 sent: self.sent + 1,
                 phase,
                 ..self

@@ -7,7 +7,7 @@ ghost use Rattle.reading_core.specs.Laws.{KeepsBound};
 ghost use Rattle.reading_core.specs.Reader.{address_under_way, begun, ended, reader_of, restarted};
 ghost use Rattle.reading_core.specs.ReadingTable.{ask, is_read, next_word, taken, turn_of, values_after};
 
-use crate::life::{Life, Outcome};
+use crate::life::{LifeState, Outcome};
 use crate::phase::{End, Phase};
 use crate::table;
 use crate::turn::Turn;
@@ -27,7 +27,7 @@ pub struct ReadingCore {
     addresses: Vec<u16>,
     values: Vec<u16>,
     patience: u32,
-    life: Life,
+    life: LifeState,
 }
 
 impl Model for ReadingCore {
@@ -63,7 +63,7 @@ impl ReadingCore {
         ensures begun { result ≡ begun addresses.items [] patience }
         ensures kept { IsReader result }
     {
-        let life = Life::begun(addresses.len(), 0);
+        let life = LifeState::begun(addresses.len(), 0);
         ReadingCore {
             addresses,
             values: room,
@@ -160,7 +160,7 @@ impl ReadingCore {
         ensures kept { IsReader self.new }
     {
         self.values.truncate(kept as usize);
-        self.life = Life::begun(self.addresses.len(), self.values.len());
+        self.life = LifeState::begun(self.addresses.len(), self.values.len());
     }
 
     /// Hears one thing and answers the character to send now, if any: a step of the table. It never

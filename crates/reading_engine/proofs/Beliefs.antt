@@ -3,8 +3,7 @@ use Rattle.std.proofs.Common.{◌≡◌, ℕ, ◌+◌, ◌-◌, List, [], ◌∷
 use Rattle.host_core.specs.declared.heard.Heard.{Heard}
 use Rattle.load_devices.specs.declared.item.Item.{Item}
 use Rattle.load_devices.specs.declared.item.Item.TheVariants.{Sent, Heard as Came}
-use Rattle.load_devices.specs.Dialogue.{said, heard_of}
-use Rattle.load_engine.specs.Session.{LacksKey}
+use Rattle.load_devices.specs.Dialogue.{LacksKey, said, heard_of}
 use Rattle.load_engine.proofs.Sessions.{gained_is}
 use Rattle.reading_core.specs.declared.phase.End.{End}
 use Rattle.reading_core.specs.declared.phase.End.TheVariants.{Complete, GaveUp, NoWord}

@@ -1,10 +1,10 @@
 ghost use Rattle.std.specs.Prelude.{◌≡◌, ◌≤◌, None, Some, length};
-ghost use Rattle.load_devices.specs.Failures.{count_after, fault_of};
+ghost use Rattle.load_devices.specs.Failures.{CountsFault, IsLastFault, count_after, fault_of};
 ghost use Rattle.reading_core.specs.Bound.{reading_bound};
 ghost use Rattle.reading_core.specs.Invariant.{IsReader};
 ghost use Rattle.reading_core.specs.Reader.{ended};
 ghost use Rattle.reading_engine.specs.Belief.{IsBelievableOver};
-ghost use Rattle.reading_engine.specs.Failing.{Counts, NamesFault};
+ghost use Rattle.reading_engine.specs.Failing.{line_fault};
 ghost use Rattle.reading_engine.specs.Inquired.{Inquired, TellsEnd, failure_of};
 
 use crate::stop::Stop;
@@ -25,8 +25,8 @@ pub fn inquire<L: Line, O: Onlooker>(
 ) -> (ReadingCore, Stop)
     ensures turns { Inquired turns (Some result.1) core result.0 (L.told line.old) (L.told line.new) }
     ensures end { TellsEnd result.1 result.0 }
-    ensures counted { Counts (Some result.1) (L.fault_count line.old) (L.fault_count line.new) }
-    ensures fault { NamesFault (Some result.1) (L.last_fault line.new) }
+    ensures counted { CountsFault (line_fault (Some result.1)) (L.fault_count line.old) (L.fault_count line.new) }
+    ensures fault { IsLastFault (line_fault (Some result.1)) (L.last_fault line.new) }
     ensures honest { IsBelievableOver result.1 core result.0 (L.told line.old) (L.told line.new) }
     ensures same_addresses { result.0.addresses ≡ core.addresses }
     ensures same_patience { result.0.patience ≡ core.patience }

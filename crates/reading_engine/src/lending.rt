@@ -2,7 +2,8 @@ ghost use Rattle.std.specs.Prelude.{◌≡◌, ◌≤◌, Some, length};
 ghost use Rattle.honest_line.specs.Lent.{HasMovedOn};
 ghost use Rattle.reading_core.specs.Bound.{reading_bound};
 ghost use Rattle.reading_core.specs.Invariant.{IsReader};
-ghost use Rattle.reading_engine.specs.Failing.{Counts, NamesFault};
+ghost use Rattle.load_devices.specs.Failures.{CountsFault, IsLastFault};
+ghost use Rattle.reading_engine.specs.Failing.{line_fault};
 ghost use Rattle.reading_engine.specs.Inquired.{Inquired, TellsEnd};
 ghost use Rattle.reading_engine.specs.Lent.{ReadsTrue};
 
@@ -25,8 +26,8 @@ pub fn inquire_in_memory(
     ensures reading { ReadsTrue result.0.1 core result.0.0 line result.1 }
     ensures turns { Inquired turns (Some result.0.1) core result.0.0 (Some line.items) (Some result.1.items) }
     ensures end { TellsEnd result.0.1 result.0.0 }
-    ensures counted { Counts (Some result.0.1) line.failures result.1.failures }
-    ensures fault { NamesFault (Some result.0.1) result.1.fault }
+    ensures counted { CountsFault (line_fault (Some result.0.1)) line.failures result.1.failures }
+    ensures fault { IsLastFault (line_fault (Some result.0.1)) result.1.fault }
     ensures same_addresses { result.0.0.addresses ≡ core.addresses }
     ensures same_patience { result.0.0.patience ≡ core.patience }
     ensures bound { result.0.0.sent ≤ reading_bound (length result.0.0.addresses) result.0.0.patience }
@@ -46,8 +47,8 @@ fn inquire_lent<E: Opening>(
     ensures reading { ReadsTrue result.0.1 core result.0.0 E.line result.1 }
     ensures turns { Inquired turns (Some result.0.1) core result.0.0 (Some line.items) (Some result.1.items) }
     ensures end { TellsEnd result.0.1 result.0.0 }
-    ensures counted { Counts (Some result.0.1) line.failures result.1.failures }
-    ensures fault { NamesFault (Some result.0.1) result.1.fault }
+    ensures counted { CountsFault (line_fault (Some result.0.1)) line.failures result.1.failures }
+    ensures fault { IsLastFault (line_fault (Some result.0.1)) result.1.fault }
     ensures same_addresses { result.0.0.addresses ≡ core.addresses }
     ensures same_patience { result.0.0.patience ≡ core.patience }
     ensures bound { result.0.0.sent ≤ reading_bound (length result.0.0.addresses) result.0.0.patience }

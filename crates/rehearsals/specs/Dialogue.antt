@@ -7,13 +7,12 @@ use Rattle.tape_image.specs.Plan.{plan_of_all, starting}
 use Rattle.odt_machine.specs.declared.style.Style.{Style}
 use Rattle.odt_machine.specs.Machine.{largest_words}
 use Rattle.host_core.specs.declared.phase.End.{End}
-use Rattle.host_core.specs.Core.{begun}
+use Rattle.host_core.specs.Core.{begun, plain_patience}
 use Rattle.line_world.specs.Scene.{Scene}
 use Rattle.line_world.specs.Opening.{opened}
 use Rattle.line_world.specs.Runs.{RunsTo}
 use Rattle.command_io.specs.declared.fault.CommandFault.{CommandFault}
 use Rattle.command_io.specs.declared.fault.CommandFault.TheVariants as fault
-use Rattle.loss_scripts.specs.Script.{plain_patience}
 use Rattle.rehearsals.specs.KeyLines.{answered_keys, key_text}
 use Rattle.rehearsals.specs.Rehearsal.{machine_of}
 use Rattle.rehearsals.specs.Report.{report}

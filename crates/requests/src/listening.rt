@@ -1,5 +1,6 @@
 //! Listening to a machine behind a load.
 ghost use Rattle.std.specs.Prelude.{◌≡◌, ◌⊎◌, ◌<◌, OnOk, IfErr, IsSome};
+ghost use Rattle.console_reach.specs.Listening.{copying};
 ghost use Rattle.machine_load.specs.Load.{IsNeverBegun};
 ghost use Rattle.requests.specs.Listening.{quiet_time, seconds_of, IsHeardInPart, IsHeardOut, IsHeardOutOf, IsListenedTo, IsThisListenedTo};
 ghost use Rattle.requests.specs.Loading.{IsListeningCut};
@@ -42,11 +43,11 @@ fn listen_to<L: Line, W: Write>(
     line: &mut L,
     out: &mut W,
 ) -> Result<(), Failure<'static>>
-    ensures line { OnOk result (IsThisListenedTo (L.last_fault line.new) (L.told line.old) (L.told line.new)
+    ensures line { OnOk result (IsThisListenedTo (L.last_fault line.new)
         (seconds_of load.entry.listen stop)
         (quiet_time load.entry.quiet_ms)
-        (W.contents out.old)
-        (W.contents out.new)) }
+        (copying L.told W.contents line.old out.old)
+        (copying L.told W.contents line.new out.new)) }
     ensures ok { OnOk result (IsListenedTo
         (seconds_of load.entry.listen stop)
         (quiet_time load.entry.quiet_ms)
@@ -77,11 +78,11 @@ fn listen_for<L: Line, W: Write>(
     line: &mut L,
     out: &mut W,
 ) -> Result<(), Failure<'static>>
-    ensures line { OnOk result (IsHeardOutOf (L.last_fault line.new) (L.told line.old) (L.told line.new)
+    ensures line { OnOk result (IsHeardOutOf (L.last_fault line.new)
         seconds
         (quiet_time quiet_ms)
-        (W.contents out.old)
-        (W.contents out.new)) }
+        (copying L.told W.contents line.old out.old)
+        (copying L.told W.contents line.new out.new)) }
     ensures ok { OnOk result (IsHeardOut seconds (quiet_time quiet_ms) (W.contents out.old) (W.contents out.new)) }
     ensures cut { IfErr result (λ failure. IsHeardInPart (W.contents out.old) (W.contents out.new) × (failure ≡ Failure.CannotWrite)) }
 {

@@ -1,5 +1,7 @@
 ghost use Rattle.std.specs.Prelude.{◌≡◌, ◌<◌, ◌^◌};
 
+use arrayvec::ArrayString;
+use itoa::Buffer;
 use std::alloc::{AllocError, AllocFailed};
 use std::error::Error;
 use std::fmt;
@@ -73,6 +75,9 @@ pub const TAPE: &str = "tape ";
 /// What stands before the place of a fault where it is printed.
 pub const REFUSED_AT: &str = "refused at ";
 
+/// A fault as it is shown, with room for the longest.
+pub type FaultText = ArrayString<33>;
+
 /// What is wrong with an input, and at which of its bytes, counted from 0.
 #[derive(Clone, Copy, Debug, PartialEq, Eq)]
 pub struct Fault {
@@ -84,11 +89,28 @@ pub struct Fault {
 }
 
 impl Fault {
+    ghost use Rattle.arrayvec.specs.ArrayString.{array_string_len};
+    ghost use Rattle.std.specs.Prelude.{◌≡◌, ◌<◌, ◌≤◌, ◌^◌};
+    ghost use Rattle.tape_blocks.specs.Fault.{fault_text};
+
     pub(crate) fn new(at: usize, why: Why) -> Fault
         requires { at < 2 ^ 32 }
         ensures { result ≡ record { at = at; why = why } }
     {
         Fault { at: at as u32, why }
+    }
+
+    /// The fault as it is shown: its place in decimal, and its reason. It takes no memory, and can't fail.
+    pub fn text(self) -> FaultText
+        ensures text { result.bytes ≡ fault_text self }
+        ensures short { array_string_len result ≤ 33 }
+    {
+        let mut text = FaultText::new();
+        text.push_str(REFUSED_AT);
+        text.push_str(Buffer::new().format(self.at));
+        text.push_str(": ");
+        text.push_str(self.why.name());
+        text
     }
 }
 
@@ -99,9 +121,7 @@ impl fmt::Display for Fault {
     ghost output = { λ fault. Some (fault_text fault) };
 
     fn fmt<W: fmt::Write>(&self, f: &mut fmt::Formatter<W>) -> fmt::Result {
-        let at = self.at;
-        let why = self.why;
-        write!(f, "{REFUSED_AT}{at}: {why}")
+        f.write_str(self.text().as_str())
     }
 }
 

@@ -27,7 +27,7 @@ mod progress;
 mod reader;
 mod writer;
 
-pub use fault::{Fault, REFUSED_AT, ReadError, TAPE, Why};
+pub use fault::{Fault, FaultText, REFUSED_AT, ReadError, TAPE, Why};
 pub use input::{FromError, read_from};
 pub use law::{one_reading, one_tape};
 pub use reader::{Fed, TapeReader, read_tape};

@@ -3,6 +3,7 @@ ghost use Rattle.std.specs.Prelude.{◌≡◌, ◌≤◌, ◌++◌, ℕ, List, l
 ghost use Rattle.std.specs.List.{flat_map};
 ghost use Rattle.octal.specs.Octal.{octal_text};
 ghost use Rattle.tape_values.specs.Tape.{IsTape, tape_limit};
+ghost use Rattle.tape_image.specs.Plan.{plan_of_all};
 ghost use Rattle.tape_image.specs.Word.{word_fields};
 ghost use Rattle.command_io.specs.Tapes.{TapeText, TakeAtMost};
 ghost use Rattle.byte_io.specs.Text.{line};
@@ -34,19 +35,19 @@ pub fn check_to<R: Read, W: Write>(
     ensures at_most { TakeAtMost (map R.remaining tapes.old) (map R.remaining tapes.new) }
 {
     let taken = take_tapes(alloc, tapes)?;
-    let report = check_text(alloc, &taken)?;
+    let plan = Plan::of_all(alloc, &taken.tapes)?;
+    let report = check_text(alloc, &taken, &plan)?;
     write_whole(out, &report)?;
     Ok(())
 }
 
-// What is printed of tapes.
-fn check_text(alloc: Global, taken: &Tapes) -> Result<Vec<u8>, CommandFault>
-    requires { length taken.now.lengths.items ≡ length taken.now.tapes.items }
-    ensures ok { IfOk result (λ report. (texts : List TapeText) → AreTexts taken.now.tapes.items taken.now.lengths.items texts →
+// What is printed of tapes, which make this plan together.
+fn check_text(alloc: Global, taken: &Tapes, plan: &Plan) -> Result<Vec<u8>, AllocError>
+    requires lengths { length taken.now.lengths.items ≡ length taken.now.tapes.items }
+    requires plan { plan.now ≡ plan_of_all taken.now.tapes.items }
+    ensures { IfOk result (λ report. (texts : List TapeText) → AreTexts taken.now.tapes.items taken.now.lengths.items texts →
         report.items ≡ text_of_check texts) }
-    ensures err { IfErr result (λ fault. fault ≡ CommandFault.Memory) }
 {
-    let plan = Plan::of_all(alloc, &taken.tapes)?;
     let mut report = Vec::new(alloc);
     for place in 0..taken.tapes.len() {
         put_tape(&mut report, &taken.tapes[place], taken.lengths[place])?;

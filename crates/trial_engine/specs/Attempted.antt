@@ -4,7 +4,7 @@ use Rattle.host_core.specs.declared.heard.Heard.{Heard}
 use Rattle.load_devices.specs.declared.fault.LineFault.{LineFault}
 use Rattle.load_devices.specs.declared.item.Item.{Item}
 use Rattle.load_devices.specs.Told.{Gains}
-use Rattle.load_engine.specs.Session.{LacksKey}
+use Rattle.load_devices.specs.Dialogue.{LacksKey}
 use Rattle.trial_core.specs.declared.trial.Trial.{Trial}
 use Rattle.trial_core.specs.Laws.{led}
 use Rattle.trial_core.specs.Trial.{ended}

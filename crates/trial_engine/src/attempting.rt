@@ -1,8 +1,8 @@
 ghost use Rattle.std.specs.Prelude.{◌≡◌, None, Some};
-ghost use Rattle.load_devices.specs.Failures.{count_after, fault_of};
+ghost use Rattle.load_devices.specs.Failures.{CountsFault, IsLastFault, count_after, fault_of};
 ghost use Rattle.trial_core.specs.Trial.{IsTrial, ended};
 ghost use Rattle.trial_engine.specs.Attempted.{Attempted, TellsEnd, failure_of};
-ghost use Rattle.trial_engine.specs.Failing.{Counts, NamesFault};
+ghost use Rattle.trial_engine.specs.Failing.{line_fault};
 ghost use Rattle.trial_engine.specs.Harmless.{IsHarmlessOver};
 
 use crate::stop::Stop;
@@ -18,8 +18,8 @@ pub fn attempt<L: Line>(mut trial: Trial, line: &mut L, turns: u64) -> (Trial, S
     requires { IsTrial trial }
     ensures turns { Attempted turns (Some result.1) trial result.0 (L.told line.old) (L.told line.new) }
     ensures end { TellsEnd result.1 result.0 }
-    ensures counted { Counts (Some result.1) (L.fault_count line.old) (L.fault_count line.new) }
-    ensures fault { NamesFault (Some result.1) (L.last_fault line.new) }
+    ensures counted { CountsFault (line_fault (Some result.1)) (L.fault_count line.old) (L.fault_count line.new) }
+    ensures fault { IsLastFault (line_fault (Some result.1)) (L.last_fault line.new) }
     ensures harmless { IsHarmlessOver trial (L.told line.old) (L.told line.new) }
     ensures same_address { result.0.address ≡ trial.address }
     ensures same_digits { result.0.digits ≡ trial.digits }

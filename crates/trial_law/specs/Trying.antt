@@ -4,8 +4,8 @@ use Rattle.odt_machine.specs.Machine.{Machine, IsMachine}
 use Rattle.odt_machine.specs.Laws.{is_running}
 use Rattle.host_core.specs.declared.heard.Heard.{Heard}
 use Rattle.load_devices.specs.declared.item.Item.{Item}
-use Rattle.load_devices.specs.declared.item.Item.TheVariants.{Sent, Heard as Came}
-use Rattle.load_devices.specs.Dialogue.{said, keys_of}
+use Rattle.load_devices.specs.declared.item.Item.TheVariants.{Heard as Came}
+use Rattle.load_devices.specs.Dialogue.{LacksKey, said, keys_of}
 use Rattle.honest_line.specs.Honest.{IsHonest}
 use Rattle.trial_core.specs.declared.trial.Trial.{Trial}
 use Rattle.trial_core.specs.Trial.{IsTrial}
@@ -31,7 +31,7 @@ trial_dialogue t (heard ∷ more) = Came heard ∷ (said (ask t heard).key ++ tr
 
 -- what was said of a dialogue on a line: all of it, or, where the line failed, all but its last key
 abbrev pub IsToldOf : (all told : List Item) → Type 0
-IsToldOf all told = (told ≡ all) ⊎ ((key : ℕ) × (all ≡ told ++ Sent key ∷ []))
+IsToldOf all told = (told ≡ all) ⊎ LacksKey all told
 
 -- whatever a trial hears, its keys are digits, `/` and `Z`
 abbrev pub TrialsOnlyTry : Type 0

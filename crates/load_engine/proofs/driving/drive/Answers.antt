@@ -43,7 +43,7 @@ pub returns-in-Some-clause-counted : goal.returns-in-Some-clause-counted
 returns-in-Some-clause-counted g c = c.loop.invariant.counted
 
 pub returns-in-Some-clause-fault : goal.returns-in-Some-clause-fault
-returns-in-Some-clause-fault g c = tt
+returns-in-Some-clause-fault g c = (tt, tt)
 
 pub returns-in-Some-clause-bound : goal.returns-in-Some-clause-bound
 returns-in-Some-clause-bound g c = within_bound c.loop.core c.loop.invariant.kept
@@ -130,7 +130,7 @@ pub returns-clause-counted : goal.returns-clause-counted
 returns-clause-counted g c = elim c.match-end-2.branch [ in-Some-end w ↦ rw w.stop-is c.loop.invariant.counted | in-None w ↦ rw w.stop-is c.loop.invariant.counted ]
 
 pub returns-clause-fault : goal.returns-clause-fault
-returns-clause-fault g c = elim c.match-end-2.branch [ in-Some-end w ↦ rw w.stop-is tt | in-None w ↦ rw w.stop-is tt ]
+returns-clause-fault g c = elim c.match-end-2.branch [ in-Some-end w ↦ rw w.stop-is (tt, tt) | in-None w ↦ rw w.stop-is (tt, tt) ]
 
 pub returns-clause-bound : goal.returns-clause-bound
 returns-clause-bound g c = within_bound c.loop.core c.loop.invariant.kept

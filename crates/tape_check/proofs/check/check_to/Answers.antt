@@ -16,7 +16,7 @@ returns-in_err-write_whole-clause-err g c =
       texts = are.texts;
       taken = are.taken;
       written = subst (WritesProperPrefix (g.W.Write.contents c.args.out.now) (g.W.Write.contents c.write_whole.new.out))
-          (c.deref.ensures.value ∙ c.in_ok-report.ensures.ok are.texts (are_texts _ _ _ _ are)) c.in_err-write_whole.ensures.err;
+          (c.deref-2.ensures.value ∙ c.in_ok-report.ensures are.texts (are_texts _ _ _ _ are)) c.in_err-write_whole.ensures.err;
     })
 
 pub returns-clause-ok : goal.returns-clause-ok
@@ -26,5 +26,5 @@ returns-clause-ok g c =
       texts = are.texts;
       taken = are.taken;
       written = subst (Appends (g.W.Write.contents c.args.out.now) (g.W.Write.contents c.write_whole.new.out))
-          (c.deref.ensures.value ∙ c.in_ok-report.ensures.ok are.texts (are_texts _ _ _ _ are)) c.in_ok-write_whole.ensures.ok;
+          (c.deref-2.ensures.value ∙ c.in_ok-report.ensures are.texts (are_texts _ _ _ _ are)) c.in_ok-write_whole.ensures.ok;
     }

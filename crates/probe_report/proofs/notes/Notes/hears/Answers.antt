@@ -1,7 +1,7 @@
 use Rattle.std.proofs.Common.{ℕ, ◌&&◌, ◌||◌, ◌==◌, ap, sym, ◌∙◌, ◌++◌, ◌∷◌, []}
 use Rattle.host_core.specs.declared.heard.Heard.{Heard}
 use Rattle.load_devices.specs.declared.item.Item.TheVariants.{Heard as Came}
-use Rattle.probe_report.specs.Notes.{Noted, characters, echoes, notes_of}
+use Rattle.probe_report.specs.Notes.{Noted, heard_characters, echoes, notes_of}
 use Rattle.probe_report.proofs.Noting.{noted_got, noted_quiet}
 use Rattle.probe_report.proofs.notes.Notes.hears.Goals as goal
 
@@ -13,7 +13,7 @@ returns-in-Got c items is =
     noted_got items this _
     (c.prompt_by_now-self-inside.ensures ∙ ap (λ (n : Noted). n.prompt || (this == 64)) all)
     (c.still_echoes-self-inside.ensures ∙ ap (λ (n : Noted). n.only_echoes && echoes n.last_key this) all)
-    key (c.push_last.ensures (characters items) (ap (λ (n : Noted). n.tail) all))
+    key (c.push_last.ensures (heard_characters items) (ap (λ (n : Noted). n.tail) all))
     ∙ sym (ap (λ (h : Heard). notes_of (items ++ Came h ∷ [])) c.in-Got.is)
 
 pub returns-in-Quiet : goal.returns-in-Quiet

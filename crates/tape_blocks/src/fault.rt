@@ -40,8 +40,8 @@ impl Why {
     ghost use Rattle.std.specs.Prelude.{◌≡◌, ◌≤◌, length};
     ghost use Rattle.tape_blocks.specs.Fault.{why_text};
 
-    /// The reason's name, as it is printed: 10 characters at most.
-    pub fn name(self) -> &'static str
+    // The reason's name, as it is printed: 10 characters at most.
+    fn name(self) -> &'static str
         ensures name { result.now ≡ why_text self }
         ensures short { length result.now ≤ 10 }
     {

@@ -202,19 +202,27 @@ class Crates(Case):
 
     def setUp(self):
         super().setUp()
-        lines = [it.split(":") for it in text_at("crates.txt").split("\n") if it and not it.startswith("#")]
-        self.crates = {name.strip(): rest.split() for name, rest in lines}
+        self.crates, self.floor_of, floor = {}, {}, None
+        for line in text_at("crates.txt").split("\n"):
+            heading = re.match(r"# (?:Floor (\d+)$|Tests:)", line)
+            if heading:
+                floor = int(heading[1] or 99)
+            elif line and not line.startswith("#"):
+                name, _, libraries = line.partition(":")
+                self.crates[name], self.floor_of[name] = libraries.split(), floor
 
-    def test_the_map_has_each_crate_and_what_it_stands_on(self):
-        page = text_at("docs/MAP.md")
-        rows = {cells[0].strip("`"): cells for cells in rows_of(page) if len(cells) == 4 and cells[0].startswith("`")}
-        tests = {it for it in self.crates if it.endswith("_tests")} | {"scarce_memory", "told_disk", "simulated_system"}
-        self.is_so(set(rows), set(self.crates) - tests)
-        for it in tests:
-            self.assertIn(f"`{it}`", page)
-        for name, cells in rows.items():
-            for below in re.findall(r"`(\w+)`", cells[2]):
-                self.assertIn(below, self.crates[name], f"{name} does not stand on {below}")
+    def test_the_map_has_each_crate_on_its_floor(self):
+        told = {}
+        for part in section(text_at("docs/MAP.md"), "## The crates").split("\n**")[1:]:
+            floor = re.match(r"(?:Floor (\d+)|Tests)\*\*\n", part)
+            told.update({name: int(floor[1] or 99) for name in re.findall(r"^- `(\w+)`(?: \(for tests\))?: ", part, re.MULTILINE)})
+        self.is_so(told, self.floor_of)
+
+    def test_each_crate_stands_on_lower_floors_alone(self):
+        """And as low as that lets it."""
+        for name, libraries in self.crates.items():
+            below = max([self.floor_of[it] for it in libraries if it in self.crates], default=-1)
+            self.is_so((name, self.floor_of[name]), (name, 99 if name.endswith("_tests") else below + 1))
 
     def test_each_crate_names_what_it_is_said_to_stand_on(self):
         """A library that is listed and not named would be one more that is walked before each check."""
@@ -224,19 +232,10 @@ class Crates(Case):
             for library in libraries:
                 self.assertTrue(re.search(rf"\b{library}::|Rattle\.{library}\b", text), f"{name} does not name {library}")
 
-    def test_each_crate_stands_on_lower_floors_alone(self):
-        floors = re.findall(r"^ +(\d+)   (\w.*)$", section(text_at("docs/MAP.md"), "## How the crates stand on one another"), re.MULTILINE)
-        floor_of = {name: int(number) for number, names in floors for name in names.split(" · ")}
-        self.is_so(set(floor_of), {it for it in self.crates if not it.endswith("_tests")})
-        for name, floor in floor_of.items():
-            for below in self.crates[name]:
-                self.assertLess(floor_of.get(below, -1), floor, f"{name} and {below}")
-
     def test_the_way_of_a_key_is_a_way(self):
         """Each call stands in its file, and its body names the next one."""
-        calls = [(cells[1].strip("`"), re.match(r"`(.*?)`", cells[2])[1]) for cells in rows_of(section(text_at("docs/MAP.md"), "## The way of a key"))
-                 if cells[0].isdecimal()]
-        self.assertGreater(len(calls), 10)
+        calls = re.findall(r"^\d+\. `(\w+)`, `(.*?)`", section(text_at("docs/MAP.md"), "## The way of a key"), re.MULTILINE)
+        self.assertGreater(len(calls), 7)
         for number, (call, file) in enumerate(calls):
             bodies = [it[1] for it in re.findall(rf"\n( *)(?:pub(?:\(crate\))? )?(fn {call}\b.*?\n)\1\}}\n", text_at(file), re.DOTALL)]
             following = calls[number + 1][0] if number + 1 < len(calls) else "write"

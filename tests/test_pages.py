@@ -197,6 +197,19 @@ class Options(Case):
         self.assertGreater(compared, 15)
 
 
+CRATES = sorted(glob.glob(f"{TOP}/crates/*/src"))
+
+
+def defined_in(folders):
+    """The functions and types of some crates: of each name what stands behind it, up to the next one."""
+    found = collections.defaultdict(list)
+    for folder in folders:
+        text = "\n".join(text_at(os.path.relpath(file, TOP)) for file in sorted(glob.glob(f"{folder}/**/*.rt", recursive=True)))
+        for part in re.split(r"\b(?:fn|struct) (?=\w)", text)[1:]:
+            found[re.match(r"\w+", part)[0]].append(part)
+    return found
+
+
 class Crates(Case):
     """What docs/MAP.md and docs/PROVED.md say of the crates."""
 
@@ -242,22 +255,21 @@ class Crates(Case):
             self.assertTrue(any(re.search(rf"\b{following}\(", it.split("{", 1)[-1]) for it in bodies), f"{call} in {file} calls no {following}")
 
     def test_each_function_and_clause_that_is_named_is_there(self):
-        crates = [it for it in glob.glob(f"{TOP}/crates/*/src") if "_tests/" not in it]
-        bodies = collections.defaultdict(list)
-        for crate in crates:
-            text = "\n".join(text_at(os.path.relpath(file, TOP)) for file in sorted(glob.glob(f"{crate}/**/*.rt", recursive=True)))
-            for body in re.split(r"\bfn (?=\w)", text)[1:]:
-                bodies[re.match(r"\w+", body)[0]].append(body)
+        """As `World::run`: `safe`, `since`; told: `drive_in_memory`; and functions with one clause, which has no name."""
+        crates, tests = defined_in(it for it in CRATES if "_tests/" not in it), defined_in(CRATES)
         named = 0
         for cells in rows_of(text_at("docs/PROVED.md")):
-            if len(cells) != 3 or not re.fullmatch(r"`[\w:]+`", cells[1]):
+            if len(cells) != 2 or "`" not in cells[1]:
                 continue
-            named += 1
-            clauses = re.findall(r"`(\w+)`", cells[2])
-            wanted = [rf"ensures {it} \{{" for it in clauses] or [r"ensures"]
-            its_bodies = bodies[cells[1].strip("`").split("::")[-1]]
-            self.assertTrue(any(all(re.search(it, body) for it in wanted) for body in its_bodies), f"{cells[1]} has no {cells[2]}")
-        self.assertGreater(named, 60)
+            carried, _, told = cells[1].partition(";")
+            functions, _, clauses = carried.replace("::", ".").partition(":")
+            wanted = [rf"ensures {it} \{{" for it in re.findall(r"`(\w+)`", clauses)] or [r"ensures"]
+            for function in re.findall(r"`(?:\w+\.)?(\w+)`", functions):
+                named += 1
+                self.assertTrue(any(all(re.search(it, body) for it in wanted) for body in crates[function]), f"{function} has no {clauses}")
+            for it in re.findall(r"`(\w+)`", told):
+                self.assertTrue(tests[it], f"{it} is not there")
+        self.assertGreater(named, 50)
 
     def test_no_page_names_a_crate_that_is_gone(self):
         gone = {"load_command", "socket_line", "load_reports"} - set(self.crates)

@@ -1,5 +1,5 @@
-# What a person does here; README.md has it as a table. Only `make`, `make test` and `make edits` need rt, the command
-# of the Rattle toolchain: the others take a ./ldaodt that is there.
+# What a person does here. Only `make`, `make test` and `make edits` need rt, the command of the Rattle toolchain: the
+# others take a ./ldaodt that is there.
 
 # Where make install puts things; DESTDIR goes before it, for packagers. They reach the shell as variables, so that a
 # space in them is a space.

@@ -64,11 +64,10 @@ class Assembler(Case):
 
     def test_it_makes_the_words_of_hello(self):
         """hello.md has its instructions as text, and beside them the words that hello.lda has."""
-        rows = re.findall(r"^\| ([0-7]{6}) \| [0-7]{6} \| ([0-7]{6}) \| (instruction|operand|address) \| (?:`(.*?)`)? ?\|",
-                          text_at("examples/hello.md"), re.MULTILINE)
-        source = "TEXT = 1040\nEND = 1067\n. = 1000\n" + "".join(f"{text}\n" for _, _, _, text in rows if text) + ".END START\n"
+        rows = re.findall(r"^(0010[0-3][0-7]) 177777 ([0-7]{6})  (.*?) *;", text_at("examples/hello.md"), re.MULTILINE)
+        source = "TEXT = 1040\nEND = 1067\n. = 1000\n" + "".join(f"{text}\n" for _, _, text in rows if text) + ".END START\n"
         made = Assembly(source)
-        self.is_so(words_of(made), [int(word, 8) for _, word, _, _ in rows])
+        self.is_so(words_of(made), [int(word, 8) for _, word, _ in rows])
         self.is_so(made.tape()[:-7], bytes_of(HELLO)[:39])
 
     def test_what_it_refuses(self):

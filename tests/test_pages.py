@@ -197,24 +197,45 @@ class Options(Case):
         self.assertGreater(compared, 15)
 
 
+CRATES = sorted(glob.glob(f"{TOP}/crates/*/src"))
+
+
+def defined_in(folders):
+    """The functions and types of some crates: of each name what stands behind it, up to the next one."""
+    found = collections.defaultdict(list)
+    for folder in folders:
+        text = "\n".join(text_at(os.path.relpath(file, TOP)) for file in sorted(glob.glob(f"{folder}/**/*.rt", recursive=True)))
+        for part in re.split(r"\b(?:fn|struct) (?=\w)", text)[1:]:
+            found[re.match(r"\w+", part)[0]].append(part)
+    return found
+
+
 class Crates(Case):
     """What docs/MAP.md and docs/PROVED.md say of the crates."""
 
     def setUp(self):
         super().setUp()
-        lines = [it.split(":") for it in text_at("crates.txt").split("\n") if it and not it.startswith("#")]
-        self.crates = {name.strip(): rest.split() for name, rest in lines}
+        self.crates, self.floor_of, floor = {}, {}, None
+        for line in text_at("crates.txt").split("\n"):
+            heading = re.match(r"# (?:Floor (\d+)$|Tests:)", line)
+            if heading:
+                floor = int(heading[1] or 99)
+            elif line and not line.startswith("#"):
+                name, _, libraries = line.partition(":")
+                self.crates[name], self.floor_of[name] = libraries.split(), floor
 
-    def test_the_map_has_each_crate_and_what_it_stands_on(self):
-        page = text_at("docs/MAP.md")
-        rows = {cells[0].strip("`"): cells for cells in rows_of(page) if len(cells) == 4 and cells[0].startswith("`")}
-        tests = {it for it in self.crates if it.endswith("_tests")} | {"scarce_memory", "told_disk", "simulated_system"}
-        self.is_so(set(rows), set(self.crates) - tests)
-        for it in tests:
-            self.assertIn(f"`{it}`", page)
-        for name, cells in rows.items():
-            for below in re.findall(r"`(\w+)`", cells[2]):
-                self.assertIn(below, self.crates[name], f"{name} does not stand on {below}")
+    def test_the_map_has_each_crate_on_its_floor(self):
+        told = {}
+        for part in section(text_at("docs/MAP.md"), "## The crates").split("\n**")[1:]:
+            floor = re.match(r"(?:Floor (\d+)|Tests)\*\*\n", part)
+            told.update({name: int(floor[1] or 99) for name in re.findall(r"^- `(\w+)`(?: \(for tests\))?: ", part, re.MULTILINE)})
+        self.is_so(told, self.floor_of)
+
+    def test_each_crate_stands_on_lower_floors_alone(self):
+        """And as low as that lets it."""
+        for name, libraries in self.crates.items():
+            below = max([self.floor_of[it] for it in libraries if it in self.crates], default=-1)
+            self.is_so((name, self.floor_of[name]), (name, 99 if name.endswith("_tests") else below + 1))
 
     def test_each_crate_names_what_it_is_said_to_stand_on(self):
         """A library that is listed and not named would be one more that is walked before each check."""
@@ -224,41 +245,31 @@ class Crates(Case):
             for library in libraries:
                 self.assertTrue(re.search(rf"\b{library}::|Rattle\.{library}\b", text), f"{name} does not name {library}")
 
-    def test_each_crate_stands_on_lower_floors_alone(self):
-        floors = re.findall(r"^ +(\d+)   (\w.*)$", section(text_at("docs/MAP.md"), "## How the crates stand on one another"), re.MULTILINE)
-        floor_of = {name: int(number) for number, names in floors for name in names.split(" · ")}
-        self.is_so(set(floor_of), {it for it in self.crates if not it.endswith("_tests")})
-        for name, floor in floor_of.items():
-            for below in self.crates[name]:
-                self.assertLess(floor_of.get(below, -1), floor, f"{name} and {below}")
-
     def test_the_way_of_a_key_is_a_way(self):
         """Each call stands in its file, and its body names the next one."""
-        calls = [(cells[1].strip("`"), re.match(r"`(.*?)`", cells[2])[1]) for cells in rows_of(section(text_at("docs/MAP.md"), "## The way of a key"))
-                 if cells[0].isdecimal()]
-        self.assertGreater(len(calls), 10)
+        calls = re.findall(r"^\d+\. `(\w+)`, `(.*?)`", section(text_at("docs/MAP.md"), "## The way of a key"), re.MULTILINE)
+        self.assertGreater(len(calls), 7)
         for number, (call, file) in enumerate(calls):
             bodies = [it[1] for it in re.findall(rf"\n( *)(?:pub(?:\(crate\))? )?(fn {call}\b.*?\n)\1\}}\n", text_at(file), re.DOTALL)]
             following = calls[number + 1][0] if number + 1 < len(calls) else "write"
             self.assertTrue(any(re.search(rf"\b{following}\(", it.split("{", 1)[-1]) for it in bodies), f"{call} in {file} calls no {following}")
 
     def test_each_function_and_clause_that_is_named_is_there(self):
-        crates = [it for it in glob.glob(f"{TOP}/crates/*/src") if "_tests/" not in it]
-        bodies = collections.defaultdict(list)
-        for crate in crates:
-            text = "\n".join(text_at(os.path.relpath(file, TOP)) for file in sorted(glob.glob(f"{crate}/**/*.rt", recursive=True)))
-            for body in re.split(r"\bfn (?=\w)", text)[1:]:
-                bodies[re.match(r"\w+", body)[0]].append(body)
+        """As `World::run`: `safe`, `since`; told: `drive_in_memory`; and functions with one clause, which has no name."""
+        crates, tests = defined_in(it for it in CRATES if "_tests/" not in it), defined_in(CRATES)
         named = 0
         for cells in rows_of(text_at("docs/PROVED.md")):
-            if len(cells) != 3 or not re.fullmatch(r"`[\w:]+`", cells[1]):
+            if len(cells) != 2 or "`" not in cells[1]:
                 continue
-            named += 1
-            clauses = re.findall(r"`(\w+)`", cells[2])
-            wanted = [rf"ensures {it} \{{" for it in clauses] or [r"ensures"]
-            its_bodies = bodies[cells[1].strip("`").split("::")[-1]]
-            self.assertTrue(any(all(re.search(it, body) for it in wanted) for body in its_bodies), f"{cells[1]} has no {cells[2]}")
-        self.assertGreater(named, 60)
+            carried, _, told = cells[1].partition(";")
+            functions, _, clauses = carried.replace("::", ".").partition(":")
+            wanted = [rf"ensures {it} \{{" for it in re.findall(r"`(\w+)`", clauses)] or [r"ensures"]
+            for function in re.findall(r"`(?:\w+\.)?(\w+)`", functions):
+                named += 1
+                self.assertTrue(any(all(re.search(it, body) for it in wanted) for body in crates[function]), f"{function} has no {clauses}")
+            for it in re.findall(r"`(\w+)`", told):
+                self.assertTrue(tests[it], f"{it} is not there")
+        self.assertGreater(named, 50)
 
     def test_no_page_names_a_crate_that_is_gone(self):
         gone = {"load_command", "socket_line", "load_reports"} - set(self.crates)

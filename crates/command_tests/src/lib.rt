@@ -14,7 +14,7 @@
 #[cfg(test)]
 mod attempts;
 #[cfg(test)]
-mod failing;
+mod failing_commands;
 #[cfg(test)]
 mod failing_keys;
 #[cfg(test)]

@@ -1,7 +1,7 @@
 //! Keepers of a record: which text they write, that each call flushes, and that a fault stays; and how a refusal of
 //! a record is shown.
 
-use crate::brittle::Brittle;
+use crate::brittle_writer::Brittle;
 use crate::plans::{one_word, two_words};
 use host_core::Progress;
 use load_devices::{Keep, KeepFault};

@@ -10,7 +10,7 @@
 #![tactic(auto)]
 
 #[cfg(test)]
-mod brittle;
+mod brittle_writer;
 #[cfg(test)]
 mod devices;
 #[cfg(test)]

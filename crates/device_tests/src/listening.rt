@@ -1,6 +1,6 @@
 //! The ways to a console, and listening: what is copied of a device and a stream, and when that is over.
 
-use crate::brittle::Brittle;
+use crate::brittle_writer::Brittle;
 use crate::streams::{Faulty, Notes, Spoken};
 use crate::terminals::{Bench, PATH, Pace, Turn};
 use console_reach::{Cable, Reach, is_path, listen, silences_within};

@@ -19,14 +19,14 @@ mod disk_loads;
 #[cfg(test)]
 mod disk_saves;
 #[cfg(test)]
+mod disk_steps_of_loads;
+#[cfg(test)]
+mod disk_steps_of_records;
+#[cfg(test)]
+mod disk_steps_of_saves;
+#[cfg(test)]
 mod disk_text;
 #[cfg(test)]
+mod loads_in_a_row;
+#[cfg(test)]
 mod memory_reach;
-#[cfg(test)]
-mod record_courses;
-#[cfg(test)]
-mod records;
-#[cfg(test)]
-mod rows;
-#[cfg(test)]
-mod saves;

@@ -1,7 +1,7 @@
 //! Devices that fail once and would then go on: the record of a load, as it is read and as it is
 //! written.
 
-use crate::frail::{Frail, RECORD, Stopped, VERIFIED, load_one_word, machine};
+use crate::frail_surroundings::{Frail, RECORD, Stopped, VERIFIED, load_one_word, machine};
 use host_core::End;
 use load_devices::KeepFault;
 use load_engine::Stop;

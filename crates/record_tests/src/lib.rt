@@ -9,11 +9,11 @@
 #![tactic(auto)]
 
 #[cfg(test)]
-mod driving;
+mod engine_over_devices;
 #[cfg(test)]
 mod failing_records;
 #[cfg(test)]
-mod frail;
+mod frail_surroundings;
 #[cfg(test)]
 mod old_records;
 #[cfg(test)]

@@ -1,7 +1,7 @@
 //! What a load makes of the record that it finds: one that is protected, in use, no record, or whose words
 //! are to be looked at again; and what it says of a line that fails before and behind the start.
 
-use crate::frail::{Frail, RECORD, Stopped, VERIFIED, load_one_word, machine};
+use crate::frail_surroundings::{Frail, RECORD, Stopped, VERIFIED, load_one_word, machine};
 use host_core::End;
 use load_engine::Stop;
 use load_record::RecordError;

@@ -1,7 +1,7 @@
 //! The simulated console as only a call in the process asks for it: in a mode, and at the end of its
 //! memory.
 
-use crate::checks::check_that;
+use crate::assertion::check_that;
 use odt_machine::{LARGEST_WORDS, Mode, Odt, OdtError, PLAIN_STYLE};
 use std::alloc::Global;
 use std::process::Abort;

@@ -1,6 +1,6 @@
 //! The keeper in memory, and the texts of the devices' faults.
 
-use crate::checks::check_that;
+use crate::assertion::check_that;
 use load_devices::{Keep, KeepFault, Kept, LineFault, MemoryKeep};
 use std::alloc::Global;
 use std::fmt::Display;

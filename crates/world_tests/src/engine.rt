@@ -4,9 +4,9 @@
 mod failing;
 mod peers;
 
-use crate::checks::check_that;
+use crate::assertion::check_that;
+use crate::counting_onlooker::Watch;
 use crate::tapes::{ONE_WORD, fresh_host};
-use crate::watch::Watch;
 use honest_line::{Loss, MemoryLine};
 use host_core::{End, Heard, HostCore};
 use load_devices::{Item, Keep, KeepFault, Kept, Line, LineFault, MemoryKeep};

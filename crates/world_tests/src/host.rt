@@ -2,7 +2,7 @@
 
 mod phases;
 
-use crate::checks::check_that;
+use crate::assertion::check_that;
 use crate::tapes::{HIGH_BYTE, NOTHING, ONE_WORD, fresh_host, plan_of};
 use host_core::{BadProgress, End, Heard, HostCore, Progress};
 use std::alloc::Global;

@@ -11,9 +11,11 @@
 #![tactic(auto)]
 
 #[cfg(test)]
-mod checks;
+mod assertion;
 #[cfg(test)]
 mod consoles;
+#[cfg(test)]
+mod counting_onlooker;
 #[cfg(test)]
 mod devices;
 #[cfg(test)]
@@ -28,7 +30,5 @@ mod readings;
 mod searches;
 #[cfg(test)]
 mod tapes;
-#[cfg(test)]
-mod watch;
 #[cfg(test)]
 mod worlds;

@@ -1,6 +1,6 @@
 //! The line in memory: what it loses, how it fails, and how much may be said on it.
 
-use crate::checks::check_that;
+use crate::assertion::check_that;
 use honest_line::{Loss, MemoryLine};
 use host_core::Heard;
 use load_devices::{Line, LineFault};

@@ -2,8 +2,8 @@
 //! counts are by hand: `Z` and its answer of six characters; a word is eight keys, the address, `/` and
 //! CR, and nineteen characters, seven echoes, eight of the reading and four after CR.
 
-use crate::checks::check_that;
-use crate::watch::Watch;
+use crate::assertion::check_that;
+use crate::counting_onlooker::Watch;
 use honest_line::{Loss, MemoryLine};
 use load_devices::{Item, Line, LineFault, Onlooker, Unwatched};
 use odt_machine::{Odt, Style};

@@ -1,7 +1,7 @@
 //! Searches for the end of memory over the line in memory. The looks are counted by hand: one for each
 //! piece that is there, and one for the piece that lacks its last word, in each pass.
 
-use crate::checks::check_that;
+use crate::assertion::check_that;
 use honest_line::{Loss, MemoryLine};
 use load_devices::Item;
 use memory_end::{Search, find_end};

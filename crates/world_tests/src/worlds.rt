@@ -1,6 +1,6 @@
 //! What a world begins with.
 
-use crate::checks::check_that;
+use crate::assertion::check_that;
 use crate::tapes::{ONE_WORD, host_for, plan_of};
 use host_core::HostCore;
 use line_world::{Setup, World};

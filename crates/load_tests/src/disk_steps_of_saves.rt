@@ -1,8 +1,8 @@
 //! What a disk is asked over a whole save, by what becomes of the save.
 
 use crate::disk_saves::save_on_disk;
+use crate::loads_in_a_row::new_machine;
 use crate::memory_reach::MemoryReach;
-use crate::rows::new_machine;
 use machine_look::{LookFault, NewFile, SaveEnd, SaveOptions};
 use request_values::AddressRange;
 use std::alloc::Global;

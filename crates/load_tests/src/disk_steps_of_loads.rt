@@ -1,9 +1,9 @@
 //! What a disk is asked over a whole load, by what becomes of the load.
 
 use crate::disk_loads::load_on_disk;
+use crate::disk_steps_of_records::{RECORD, held};
+use crate::loads_in_a_row::{OPTIONS, new_machine, plan_of_one_word};
 use crate::memory_reach::MemoryReach;
-use crate::record_courses::{RECORD, held};
-use crate::rows::{OPTIONS, new_machine, plan_of_one_word};
 use load_record::RecordError;
 use machine_load::{Around, LoadFault};
 use record_file::RecordFile;

@@ -196,7 +196,7 @@ pub exchanges_are_true : ExchangesAreTrue
 exchanges_are_true program x y o is =
     let lost : ℕ = length o.unsent + y.lost in
     let t = whole_exchange program o.plan o.from o.chunks o.heard x (record y { lost = lost }) is.chunks is.begins
-      (subst (λ list. Passes program x list (record y { lost = lost })) (sym is.stopped) (passes_unsent program o.unsent o.items x y is.passes)) in record {
+    (subst (λ list. Passes program x list (record y { lost = lost })) (sym is.stopped) (passes_unsent program o.unsent o.items x y is.passes)) in record {
       is = t.is;
       holds = t.holds;
       words = t.words;

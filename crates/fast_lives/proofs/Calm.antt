@@ -1,9 +1,7 @@
 -- Where nothing is sent, what is known of a line goes on to hold.
-use Rattle.std.proofs.Common.{◌≡◌, ℕ, zero, suc, ◌+◌, ◌*◌, ◌<◌, ◌≤◌, ◌⊎◌, Bool, true, false, List, [], ◌∷◌, ◌++◌, length, Option, Some, None, inl, inr, refl, arith, ap, sym, subst, ◌∙◌}
-use Rattle.std.specs.Prelude.{◌==◌, ◌&&◌, ◌%◌, nat_lt, Contains, IsSome}
+use Rattle.std.proofs.Common.{◌≡◌, ℕ, zero, suc, ◌≤◌, ◌⊎◌, Bool, true, false, List, [], ◌∷◌, length, Option, Some, None, inl, inr, refl, arith, ap, sym, subst, ◌∙◌}
+use Rattle.std.specs.Prelude.{Contains, IsSome}
 use Rattle.std.specs.FinMap.{get}
-use Rattle.std.specs.List.{remove}
-use Rattle.tape_image.specs.Memory.{byte_of, top_of}
 use Rattle.tape_image.specs.Plan.{PlanValue, IsPlan}
 use Rattle.tape_image.specs.Word.{gives}
 use Rattle.odt_machine.specs.KeyTable.{take_of}
@@ -21,9 +19,9 @@ use Rattle.line_world.proofs.Taking.{key_takes}
 use Rattle.load_devices.specs.declared.item.Item.{Item}
 use Rattle.load_devices.specs.declared.item.Item.TheVariants.{Heard as Came, Sent}
 use Rattle.load_devices.specs.Dialogue.{keys_of}
-use Rattle.exchange_law.specs.Line.{Gives, Link, Moves, MovesOn, MovesTimes, Passes, Takes}
-use Rattle.exchange_law.specs.Station.{Each, Meets, Program, Station, Stub, after_odt, begins}
-use Rattle.exchange_law.specs.Unsettled.{IsForStub, IsUnsettled, Untouched}
+use Rattle.exchange_law.specs.Line.{Gives, Link, Moves, MovesTimes, Passes}
+use Rattle.exchange_law.specs.Station.{Meets, Program, Station, Stub, after_odt, begins}
+use Rattle.exchange_law.specs.Unsettled.{IsUnsettled, Untouched}
 use Rattle.exchange_law.proofs.Words.{lies_same, still_stands}
 use Rattle.recovery_law.specs.Recovery.{IsInOrder, IsLater}
 use Rattle.recovery_law.proofs.Mirrors.{no_first, none_begun, none_removed}
@@ -107,24 +105,33 @@ idling_move program R before x y s (inl t) = elim s.idle [
         untouched = untouched_then R before x.station.machine.memory t.station'.machine.memory s.untouched (subst (λ (st : Station). Untouched R x.station.machine.memory st.machine.memory) (sym station) k.untouched);
       })
 ]
-idling_move program R before x y s (inr (inl (k, below, now))) = subst (Idling program R before) (sym now) (record { untouched = s.untouched; idle = elim s.idle [
-  | inl none ↦ absurd (none_removed x.down k none below)
-  | inr last ↦ inl (one_removed x.down last.key k last.down below)
-] })
-idling_move program R before x y s (inr (inr (k, below, now))) = subst (Idling program R before) (sym now) (record { untouched = s.untouched; idle = elim s.idle [
-  | inl none ↦ inl none
-  | inr last ↦ inr (record { key = last.key; down = last.down; none = last.none; untouched = last.untouched })
-] })
+idling_move program R before x y s (inr (inl (k, below, now))) = subst (Idling program R before) (sym now) (record {
+  untouched = s.untouched;
+  idle = elim s.idle [
+    | inl none ↦ absurd (none_removed x.down k none below)
+    | inr last ↦ inl (one_removed x.down last.key k last.down below)
+  ];
+})
+idling_move program R before x y s (inr (inr (k, below, now))) = subst (Idling program R before) (sym now) (record {
+  untouched = s.untouched;
+  idle = elim s.idle [
+    | inl none ↦ inl none
+    | inr last ↦ inr (record { key = last.key; down = last.down; none = last.none; untouched = last.untouched })
+  ];
+})
 
 idling_times : (program : Program) (R : ℕ → Type 0) (before : List ℕ) (n : ℕ) (x y : Link) → Idling program R before x → MovesTimes program n x y → Idling program R before y
 idling_times program R before zero x y s same = subst (Idling program R before) (sym same) s
 idling_times program R before (suc n) x y s (z, move, rest) = idling_times program R before n z y (idling_move program R before x z s move) rest
 
 idling_gives : (program : Program) (R : ℕ → Type 0) (before : List ℕ) (what : Heard) (x v : Link) → Idling program R before x → Gives x what v → Idling program R before v
-idling_gives program R before (Got c) x v s (rest, is, now) = subst (Idling program R before) (sym now) (record { untouched = s.untouched; idle = elim s.idle [
-  | inl none ↦ inl none
-  | inr last ↦ inr (record { key = last.key; down = last.down; none = last.none; untouched = last.untouched })
-] })
+idling_gives program R before (Got c) x v s (rest, is, now) = subst (Idling program R before) (sym now) (record {
+  untouched = s.untouched;
+  idle = elim s.idle [
+    | inl none ↦ inl none
+    | inr last ↦ inr (record { key = last.key; down = last.down; none = last.none; untouched = last.untouched })
+  ];
+})
 idling_gives program R before Quiet x v s (none, empty, now) = subst (Idling program R before) (sym now) s
 
 idling_passes : (program : Program) (R : ℕ → Type 0) (before : List ℕ) (items : List Item) (x y : Link) → keys_of items ≡ [] → Idling program R before x → Passes program x items y → Idling program R before y

@@ -1,7 +1,7 @@
 -- The three kinds of hosts at a line on which a stub may be at work, each from what holds before it to what holds behind it.
-use Rattle.std.proofs.Common.{◌≡◌, ℕ, zero, suc, ◌+◌, ◌-◌, ◌*◌, ◌/◌, ◌%◌, ◌^◌, ◌<◌, ◌≤◌, ◌⊎◌, Bool, true, false, List, [], ◌∷◌, length, drop, get_or, Option, Some, None, unwrap_or, inl, inr, refl, arith, ap, sym, subst, ◌∙◌}
+use Rattle.std.proofs.Common.{◌≡◌, ℕ, ◌+◌, ◌-◌, ◌*◌, ◌/◌, ◌%◌, ◌^◌, ◌<◌, ◌≤◌, Bool, true, false, List, length, Option, Some, None, unwrap_or, inl, inr, refl, arith, ap, sym, subst, ◌∙◌}
 use Rattle.std.proofs.lemmas.List.{get_or_default}
-use Rattle.std.specs.Prelude.{◌==◌, ◌&&◌, nat_lt, All, IsSome, Contains, slice_index}
+use Rattle.std.specs.Prelude.{◌==◌, ◌&&◌, nat_lt, IsSome, slice_index}
 use Rattle.std.specs.FinMap.{get}
 use Rattle.tape_image.specs.Image.{Image}
 use Rattle.tape_image.specs.Memory.{byte_of, top_of}
@@ -10,7 +10,7 @@ use Rattle.tape_image.specs.Word.{WordValue, Stands, gives}
 use Rattle.tape_image.proofs.Standing.{IsOverlay-standing}
 use Rattle.odt_machine.specs.declared.mode.Mode.TheVariants.{Running}
 use Rattle.odt_machine.specs.Laws.{is_running}
-use Rattle.odt_machine.specs.Machine.{Machine, is_word, word_at}
+use Rattle.odt_machine.specs.Machine.{is_word}
 use Rattle.host_core.specs.declared.heard.Heard.{Heard}
 use Rattle.host_core.specs.declared.phase.End.TheVariants.{Started}
 use Rattle.host_core.specs.declared.phase.Phase.TheVariants.{Ended}
@@ -25,21 +25,21 @@ use Rattle.line_world.proofs.Frame.{scene}
 use Rattle.load_devices.specs.Dialogue.{dialogue, keys_of}
 use Rattle.exchange_core.specs.declared.chunk.Chunk.{Chunk}
 use Rattle.exchange_core.specs.declared.exchange.Exchange.{Exchange}
-use Rattle.exchange_core.specs.Chunk.{AreChunks, IsIn, chunk_nr, words_behind}
+use Rattle.exchange_core.specs.Chunk.{AreChunks, chunk_nr, words_behind}
 use Rattle.exchange_core.specs.Exchange.{begun as exchange_begun, led as exchange_led}
-use Rattle.exchange_law.specs.Station.{Each, Program, Stub, begins, fresh}
+use Rattle.exchange_law.specs.Station.{Program, fresh}
 use Rattle.exchange_law.specs.Line.{Link, Passes}
-use Rattle.exchange_law.specs.Unsettled.{AreWithin, IsUnsettled, MayFill, Untouched}
+use Rattle.exchange_law.specs.Unsettled.{IsUnsettled, MayFill, Untouched}
 use Rattle.exchange_law.specs.Law.{IsExchanged, MayExchange, dialogue as exchange_dialogue, pieces_of}
 use Rattle.exchange_law.proofs.Passing.{led_from, whole_exchange, within_all}
-use Rattle.exchange_law.proofs.Words.{begins_within, still_stands, words_within}
-use Rattle.recovery_law.specs.Recovery.{HasStarted, IsBeside, IsInOrder, IsLater, IsPaid, IsTrustedBehind}
+use Rattle.exchange_law.proofs.Words.{begins_within, still_stands}
+use Rattle.recovery_law.specs.Recovery.{HasStarted, IsLater, IsTrustedBehind}
 use Rattle.recovery_law.proofs.Recovering.{has_cause, hosts_recover}
 use Rattle.fast_lives.specs.Between.{Between, KeepsOutside}
 use Rattle.fast_lives.specs.FastLoads.{IsLoadedOn}
-use Rattle.fast_lives.specs.StubParts.{IsStubFor, IsStubOf, StubPart, bringer}
-use Rattle.fast_lives.proofs.Leaving.{StartsWithin, StoresWithin, in_order_unsettled}
-use Rattle.fast_lives.proofs.Storing.{chunk_later, fewer_later, fewer_stand, gives_below, left_later, lies_below, stub_stores, tape_stores, unsettled_weaker}
+use Rattle.fast_lives.specs.StubParts.{IsStubFor, StubPart, bringer}
+use Rattle.fast_lives.proofs.Leaving.{StartsWithin, in_order_unsettled}
+use Rattle.fast_lives.proofs.Storing.{chunk_later, fewer_stand, gives_below, left_later, lies_below, stub_stores, tape_stores, unsettled_weaker}
 
 none_or : (o : Option ℕ) → (IsSome o → ⊥) → o ≡ None
 none_or None h = refl
@@ -67,7 +67,7 @@ stub_host part is long = begun_kept part.stub 0 false part.patience is (omega ar
 stub_starts : (program : Program) (tape stub : PlanValue) (from : ℕ) (chunks : List Chunk) (core : Core) → IsStubFor program tape from stub chunks → core.plan ≡ stub → StartsWithin program (IsLater tape from) core
 stub_starts program tape stub from chunks core for plan memory set all =
     let lies : program memory (start_of core) ≡ Some (pieces_of chunks) =
-      ap (λ (p : PlanValue). program memory (unwrap_or p.start 0)) plan ∙ for.code.lies memory (subst (λ (p : PlanValue). FirstStand p.words (length p.words) memory) plan all) in
+    ap (λ (p : PlanValue). program memory (unwrap_or p.start 0)) plan ∙ for.code.lies memory (subst (λ (p : PlanValue). FirstStand p.words (length p.words) memory) plan all) in
     subst (MayFill (IsLater tape from) (Running (start_of core))) (sym (ap fresh lies))
     (refl, within_all (IsLater tape from) chunks (λ i below b inside. chunk_later tape from chunks 0 i for.words (omega arith) below b inside))
 
@@ -88,7 +88,7 @@ brought program tape stub from before chunks core keys x y is within for plan ho
       | inl u ↦ u.0
       | inr o ↦ in_order_unsettled program (IsLater tape from) core y o (stub_starts program tape stub from chunks core for plan)
           (λ lost down up memory k stores. stub_stores tape from (ground (scene y.station.machine core down up lost)) memory k.host.image (λ j some. for.inside j (subst (λ (p : PlanValue). IsSome (get p.image j)) plan some))
-            (λ i less j g. subst (λ (p : PlanValue). get p.image j ≡ None) (sym plan) (for.behind i less j g)) stores)
+          (λ i less j g. subst (λ (p : PlanValue). get p.image j ≡ None) (sym plan) (for.behind i less j g)) stores)
     ];
   };
   starts = λ e. let s : HasStarted program core y = t.started e in record {
@@ -119,7 +119,7 @@ pub stub_brought : (program : Program) (tape : PlanValue) (part : StubPart) (fro
 stub_brought program tape part from before things x y for long between passes =
     let host = stub_host part for.plan long in
     let t = hosts_recover program tape from (bringer part) things x y
-      (record { host = host; at_first = refl; stand = none_stand part.stub x.station.machine.memory; beside = λ i less b g later. absurd (omega (arith, less)); line = between.line }) passes in
+    (record { host = host; at_first = refl; stand = none_stand part.stub x.station.machine.memory; beside = λ i less b g later. absurd (omega (arith, less)); line = between.line }) passes in
     brought program tape part.stub from before part.chunks (led (bringer part) things) _ x y for.words.sound (begins_within tape from part.chunks for.words) for (led_plan (bringer part) things) (led_kept (bringer part) things host) between t
 
 -- ---- an exchange
@@ -168,7 +168,7 @@ loaded_on program tape from before core keys x y is plan host b t = record {
           (λ k later. record { inside = later.inside; later = λ i less g. u.2 i (omega (arith, less, le)) k (subst (λ (p : PlanValue). gives (word_nr p.words i) k ≡ true) (sym plan) g) later }) y u.0
       | inr o ↦ in_order_unsettled program (IsLater tape fewer) core y o (λ memory set all. absurd (not_both core.going set unset))
           (λ lost down up memory k stores. subst (λ (p : PlanValue). Untouched (IsLater p fewer) y.station.machine.memory memory) plan
-            (tape_stores (ground (scene y.station.machine core down up lost)) fewer memory k.host.image (let w = host.within in omega (arith, le, w)) (fewer_stand core.plan.words fewer core.verified y.station.machine.memory le t.safe.verified) stores))
+          (tape_stores (ground (scene y.station.machine core down up lost)) fewer memory k.host.image (let w = host.within in omega (arith, le, w)) (fewer_stand core.plan.words fewer core.verified y.station.machine.memory le t.safe.verified) stores))
     ];
   };
   paid = record {
@@ -191,5 +191,5 @@ load_went program tape from patience before things x y is within long between pa
     let core : Core = begun tape from false patience in
     let host : IsHost core = begun_kept tape from false patience is within long (λ set. absurd (cc set)) in
     let t = hosts_recover program tape from core things x y
-      (record { host = host; at_first = refl; stand = between.stand; beside = λ i less b g later. later.later i less g; line = between.line }) passes in
+    (record { host = host; at_first = refl; stand = between.stand; beside = λ i less b g later. later.later i less g; line = between.line }) passes in
     loaded_on program tape from before (led core things) (keys_of (dialogue core things)) x y is (led_plan core things) (led_kept core things host) between t

@@ -1,5 +1,5 @@
 -- No word is lost on the way, and what holds between two lives.
-use Rattle.std.proofs.Common.{◌≡◌, ℕ, zero, suc, ◌+◌, ◌^◌, ◌<◌, ◌≤◌, Bool, true, false, List, [], ◌∷◌, ◌++◌, length, inl, inr, refl, arith, ap, sym, subst, ◌∙◌}
+use Rattle.std.proofs.Common.{◌≡◌, ℕ, ◌≤◌, Bool, true, false, List, [], ◌∷◌, length, inl, inr, refl, arith, ap, sym, subst, ◌∙◌}
 use Rattle.std.specs.Prelude.{if◌then◌else◌}
 use Rattle.tape_image.specs.Image.{Image}
 use Rattle.tape_image.specs.Plan.{PlanValue}
@@ -10,9 +10,9 @@ use Rattle.exchange_core.specs.Chunk.{AreChunks, words_behind}
 use Rattle.exchange_core.specs.Exchange.{IsExchange, advance, begun as exchange_begun, led as exchange_led}
 use Rattle.exchange_core.proofs.Chunks.{behind_grows}
 use Rattle.exchange_core.proofs.Steps.{AreSmall, are_small, step_kept}
-use Rattle.exchange_law.specs.Station.{Each, Program}
+use Rattle.exchange_law.specs.Station.{Program}
 use Rattle.exchange_law.specs.Line.{Link}
-use Rattle.exchange_law.specs.Unsettled.{IsForStub, IsUnsettled}
+use Rattle.exchange_law.specs.Unsettled.{IsUnsettled}
 use Rattle.exchange_law.proofs.Passing.{led_from, losses_aside}
 use Rattle.exchange_law.proofs.Words.{words_within}
 use Rattle.recovery_law.specs.Recovery.{IsLater}

@@ -1,26 +1,24 @@
 -- Where a host is in order at a machine, a next one may begin there, whatever key is under way.
-use Rattle.std.proofs.Common.{◌≡◌, ℕ, zero, suc, ◌+◌, ◌<◌, ◌≤◌, ◌⊎◌, Bool, true, false, List, [], ◌∷◌, ◌++◌, length, Option, Some, None, unwrap_or, inl, inr, refl, arith, ap, sym, subst, ◌∙◌}
+use Rattle.std.proofs.Common.{◌≡◌, ℕ, ◌<◌, ◌⊎◌, Bool, true, false, List, [], ◌∷◌, ◌++◌, length, Option, inl, inr, refl, ap, sym, subst, ◌∙◌}
 use Rattle.std.specs.Prelude.{if◌then◌else◌}
 use Rattle.odt_machine.specs.declared.mode.Mode.{Mode}
 use Rattle.odt_machine.specs.declared.mode.Mode.TheVariants.{Prompt, Number, Opened, Typing, Running}
 use Rattle.odt_machine.specs.KeyTable.{after_key, take_of}
 use Rattle.odt_machine.specs.Laws.{is_running}
-use Rattle.odt_machine.specs.Machine.{Machine, IsMachine, word_at}
+use Rattle.odt_machine.specs.Machine.{Machine, word_at}
 use Rattle.tape_image.proofs.Halves.{Stands-unchanged}
 use Rattle.host_core.specs.Core.{Core, start_of, word_nr}
 use Rattle.line_world.specs.declared.event.Event.TheVariants.{Take}
-use Rattle.line_world.specs.Invariant.{IsKept, OneWay, RunsWith}
+use Rattle.line_world.specs.Invariant.{IsKept, RunsWith}
 use Rattle.line_world.specs.Safe.{FirstStand}
-use Rattle.line_world.specs.Scene.{over}
 use Rattle.line_world.specs.Site.{IsThere, ground, site_of}
 use Rattle.line_world.proofs.Events.{kept_event}
 use Rattle.line_world.proofs.Frame.{scene}
 use Rattle.line_world.proofs.Keys.{Stores, lawful}
 use Rattle.line_world.proofs.Taking.{key_takes}
-use Rattle.exchange_law.specs.Station.{Each, Program, Stub, Station, after_odt, begins, fresh}
+use Rattle.exchange_law.specs.Station.{Each, Program, Stub, begins, fresh}
 use Rattle.exchange_law.specs.Line.{Link}
 use Rattle.exchange_law.specs.Unsettled.{IsForStub, IsLastKey, IsUnsettled, MayFill, Untouched}
-use Rattle.recovery_law.specs.Mirror.{wire_at}
 use Rattle.recovery_law.specs.Recovery.{IsInOrder}
 use Rattle.recovery_law.proofs.Mirrors.{no_first, none_begun}
 use Rattle.recovery_law.proofs.Starting.{RunsFrom, key_runs}
@@ -70,19 +68,19 @@ key_left : (program : Program) (R : ℕ → Type 0) (core : Core) (m : Machine) 
 key_left program R core m stub c rest up lost own k is quiet starts stores = stopped_or _ (is_running m.mode)
     (λ runs. absurd (no_first (c ∷ rest) rest c (quiet runs) refl))
     (λ stopped.
-      let one : rest ≡ [] = k.one_way.0 in
-      let after = kept_event (scene m core (c ∷ rest) up lost) Take k in
-      let takes = key_takes m core c rest up lost k in
-      let from = key_runs core.going (ground (scene m core (c ∷ rest) up lost)) c (lawful m core c rest up lost k) takes.running in record {
-        key = c;
-        down = ap (λ list. c ∷ list) one;
-        none = is ∙ none_begun program m.memory m.mode stopped;
-        untouched = stores lost (c ∷ rest) up (take_of m c).memory k takes.memory;
-        console = after.machine;
-        stub = subst (λ test. MayFill R (after_key m c).mode (begins program test (after_key m c).memory (after_key m c).mode)) (sym stopped)
-            (fills program R (after_key m c).memory (after_key m c).mode (start_of core) core.going takes.running from
-            (λ set. starts (after_key m c).memory set (all_stand (after_key m c) core rest (up ++ (take_of m c).answer) lost after set)));
-      })
+    let one : rest ≡ [] = k.one_way.0 in
+    let after = kept_event (scene m core (c ∷ rest) up lost) Take k in
+    let takes = key_takes m core c rest up lost k in
+    let from = key_runs core.going (ground (scene m core (c ∷ rest) up lost)) c (lawful m core c rest up lost k) takes.running in record {
+      key = c;
+      down = ap (λ list. c ∷ list) one;
+      none = is ∙ none_begun program m.memory m.mode stopped;
+      untouched = stores lost (c ∷ rest) up (take_of m c).memory k takes.memory;
+      console = after.machine;
+      stub = subst (λ test. MayFill R (after_key m c).mode (begins program test (after_key m c).memory (after_key m c).mode)) (sym stopped)
+          (fills program R (after_key m c).memory (after_key m c).mode (start_of core) core.going takes.running from
+          (λ set. starts (after_key m c).memory set (all_stand (after_key m c) core rest (up ++ (take_of m c).answer) lost after set)));
+    })
 
 left_by : (program : Program) (R : ℕ → Type 0) (core : Core) (m : Machine) (stub : Option Stub) (down up : List ℕ) (lost own : ℕ) → IsKept (scene m core down up lost) → stub ≡ begins program false m.memory m.mode → (is_running m.mode ≡ true → down ≡ []) →
     StartsWithin program R core → StoresWithin R core m → Each IsForStub down ⊎ IsLastKey program R (record { station = record { machine = m; stub = stub }; down = down; up = up; lost = own })

@@ -5,3 +5,4 @@ mod Calm
 mod Growing
 mod Loads
 mod Backs
+mod Chains

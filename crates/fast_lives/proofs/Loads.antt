@@ -1,16 +1,14 @@
 -- A whole load that brings in stubs.
-use Rattle.std.proofs.Common.{◌≡◌, ℕ, ◌+◌, ◌^◌, ◌<◌, ◌≤◌, Bool, true, false, List, [], ◌∷◌, ◌++◌, length, inl, inr, refl, arith, ap, sym, subst, ◌∙◌}
+use Rattle.std.proofs.Common.{◌≡◌, ℕ, ◌+◌, ◌≤◌, Bool, true, false, List, [], ◌∷◌, ◌++◌, length, refl, sym, subst}
 use Rattle.std.specs.Prelude.{if◌then◌else◌}
 use Rattle.tape_image.specs.Plan.{PlanValue, IsPlan}
-use Rattle.host_core.specs.declared.phase.End.{End}
 use Rattle.host_core.specs.declared.phase.End.TheVariants.{Loaded, Started, Uncertain, MaybeStarted, GaveUp, NoWord, WontHold}
 use Rattle.host_core.specs.declared.phase.Phase.{Phase}
 use Rattle.host_core.specs.declared.phase.Phase.TheVariants.{Settle, Sync, Address, Slash, Before, Value, Deposit, Return, Start, Go, Ended}
 use Rattle.host_core.specs.Laws.{led}
-use Rattle.load_devices.specs.declared.item.Item.{Item}
 use Rattle.load_devices.specs.Dialogue.{dialogue}
 use Rattle.exchange_core.specs.Exchange.{begun as exchange_begun, led as exchange_led}
-use Rattle.exchange_law.specs.Law.{MayExchange, dialogue as exchange_dialogue, said_all}
+use Rattle.exchange_law.specs.Law.{MayExchange, dialogue as exchange_dialogue}
 use Rattle.exchange_law.specs.Line.{Link, Passes}
 use Rattle.exchange_law.specs.Station.{Program}
 use Rattle.exchange_law.proofs.Links.{passes_split, passes_unsent}
@@ -73,7 +71,7 @@ fast_loads_are_trusted program tape before x y load is =
     let lost : ℕ = length load.unsent + y.lost in
     let end : Link = record y { lost = lost } in
     let whole : Passes program x (stubs_said tape load.verified load.stubs ++ dialogue (rest_core tape load) load.heard) end =
-      subst (λ list. Passes program x list end) (sym is.stopped) (passes_unsent program load.unsent load.items x y is.passes) in
+    subst (λ list. Passes program x list end) (sym is.stopped) (passes_unsent program load.unsent load.items x y is.passes) in
     let parts = passes_split program (stubs_said tape load.verified load.stubs) (dialogue (rest_core tape load) load.heard) x end whole in
     let b : Between program tape (verified_by tape load.verified load.stubs) before parts.0 = stubs_went program tape load.stubs load.verified before x parts.0 is.plan is.within is.stubs is.begins parts.1 in
     let t = load_went program tape (verified_by tape load.verified load.stubs) load.patience before load.heard parts.0 end is.plan (parts_within program tape load.verified load.stubs is.within is.stubs) is.patient b parts.2 in record {

@@ -1,34 +1,34 @@
 -- Bytes of a tape's image behind its first words.
-use Rattle.std.proofs.Common.{◌≡◌, ℕ, zero, suc, ◌+◌, ◌*◌, ◌/◌, ◌%◌, ◌<◌, ◌≤◌, ◌⊎◌, Bool, true, false, List, [], ◌∷◌, length, drop, Option, Some, None, inl, inr, refl, arith, ap, sym, subst, ◌∙◌}
+use Rattle.std.proofs.Common.{◌≡◌, ℕ, suc, ◌+◌, ◌*◌, ◌%◌, ◌<◌, ◌≤◌, ◌⊎◌, Bool, true, false, List, [], ◌∷◌, length, drop, Option, Some, None, inl, inr, refl, arith, ap, sym, subst, ◌∙◌}
 use Rattle.std.proofs.lemmas.Bool.{and_parts, eqb-true}
 use Rattle.std.proofs.lemmas.Bool.Decides.{nat_tests}
 use Rattle.std.proofs.lemmas.List.{get_or-drop, length-drop}
 use Rattle.std.proofs.lemmas.List.Elements.{Contains-get_or}
-use Rattle.std.specs.Prelude.{◌==◌, ◌&&◌, nat_lt, IsSome, Contains}
+use Rattle.std.specs.Prelude.{◌==◌, nat_lt, IsSome}
 use Rattle.std.specs.FinMap.{get}
 use Rattle.tape_image.specs.Memory.{byte_of, half, top_of}
 use Rattle.tape_image.specs.Plan.{PlanValue, IsPlan}
-use Rattle.tape_image.specs.Word.{WordValue, Stands, gives}
+use Rattle.tape_image.specs.Word.{WordValue, gives}
 use Rattle.tape_image.proofs.Given.{gives-address, image_at_word}
 use Rattle.tape_image.proofs.Standing.{byte_of-with_word_cases}
-use Rattle.odt_machine.specs.Machine.{Machine, is_word, word_at}
-use Rattle.host_core.specs.Core.{Core, no_word, word_nr}
-use Rattle.line_world.specs.Safe.{FirstStand, WordLies}
+use Rattle.odt_machine.specs.Machine.{is_word}
+use Rattle.host_core.specs.Core.{no_word, word_nr}
+use Rattle.line_world.specs.Safe.{FirstStand}
 use Rattle.line_world.specs.Site.{Ground}
 use Rattle.line_world.proofs.Keys.{Stores}
 use Rattle.line_world.proofs.Taking.{stores_length}
 use Rattle.exchange_core.specs.declared.chunk.Chunk.{Chunk}
 use Rattle.exchange_core.specs.Chunk.{AreChunks, IsIn, chunk_nr, no_chunk, words_behind}
-use Rattle.exchange_law.specs.Station.{Program, Each}
+use Rattle.exchange_law.specs.Station.{Program}
 use Rattle.exchange_law.specs.Line.{Link}
-use Rattle.exchange_law.specs.Unsettled.{AreWithin, IsAmong, IsForStub, IsLastKey, IsUnsettled, MayFill, Untouched}
+use Rattle.exchange_law.specs.Unsettled.{AreWithin, IsAmong, IsUnsettled, MayFill, Untouched}
 use Rattle.odt_machine.specs.declared.mode.Mode.{Mode}
 use Rattle.exchange_core.specs.declared.stretch.Stretch.{Stretch}
 use Rattle.exchange_law.specs.Station.{Stub}
 use Rattle.exchange_core.proofs.Chunks.{chunk_has, chunks_apart}
 use Rattle.exchange_law.specs.Law.{pieces_of}
 use Rattle.exchange_law.proofs.Holding.{in_of}
-use Rattle.exchange_law.proofs.Words.{find, first_others, still_stands, stands_there}
+use Rattle.exchange_law.proofs.Words.{find, first_others, stands_there}
 use Rattle.recovery_law.specs.Recovery.{IsLater}
 
 -- ---- lists of bytes that may change, one within another
@@ -93,9 +93,9 @@ stub_stores tape from g memory is inside behind stores = record {
   bytes = λ b none. elim (stored_bytes g memory is stores b) [
     | inl same ↦ same
     | inr some ↦ absurd (none (record {
-        inside = inside b (some_of (get g.plan.image b) (byte_of memory b) some);
-        later = λ i less g_i. clash (get g.plan.image b) (byte_of memory b) some (behind i less b g_i);
-      }))
+      inside = inside b (some_of (get g.plan.image b) (byte_of memory b) some);
+      later = λ i less g_i. clash (get g.plan.image b) (byte_of memory b) some (behind i less b g_i);
+    }))
   ];
 }
   where
@@ -123,12 +123,12 @@ tape_stores g first memory is within stand stores = record {
   bytes = λ b none. elim (stored_bytes g memory is stores b) [
     | inl same ↦ same
     | inr some ↦ decided (byte_of memory b) (byte_of g.machine.memory b) (λ other. none (record {
-        inside = some_of (get g.plan.image b) (byte_of memory b) some;
-        later = λ i less g_i.
-            let given = image_at_word g.plan (word_nr g.plan.words i) b is (Contains-get_or g.plan.words i no_word (omega (arith, less, within))) g_i in
-            let there = stands_there g.machine.memory (word_nr g.plan.words i) (stand.stands i less) b g_i in
-            other (same_some (get g.plan.image b) (byte_of memory b) (half b (word_nr g.plan.words i).value) some given ∙ sym there);
-      }))
+      inside = some_of (get g.plan.image b) (byte_of memory b) some;
+      later = λ i less g_i.
+          let given = image_at_word g.plan (word_nr g.plan.words i) b is (Contains-get_or g.plan.words i no_word (omega (arith, less, within))) g_i in
+          let there = stands_there g.machine.memory (word_nr g.plan.words i) (stand.stands i less) b g_i in
+          other (same_some (get g.plan.image b) (byte_of memory b) (half b (word_nr g.plan.words i).value) some given ∙ sym there);
+    }))
   ];
 }
 

@@ -1,0 +1,3 @@
+pub mod Chunks
+mod Keys
+pub mod Steps

@@ -1,8 +1,7 @@
 -- Each instruction, worked out by hand.
 use Rattle.std.specs.Prelude.{◌≡◌, ℕ, Bool, true, false, List, [], ◌∷◌}
-use Rattle.tape_image.specs.Memory.{byte_of}
 use Rattle.processor.specs.Console.{Console, arrived, left}
-use Rattle.processor.specs.Machine.{Machine, Codes, State, Runs, Halted, Astray}
+use Rattle.processor.specs.Machine.{Machine, Codes, Runs, Halted, Astray}
 use Rattle.processor.specs.Instruction.{Halt, Mov, Movb, Cmp, Bit, Bic, Add, Sub, Com, Asl, Asr, Tstb, Mtps, Br, Bne, Beq, Bpl, Bhi, Other, decoded}
 use Rattle.processor.specs.Execution.{step}
 
@@ -40,9 +39,19 @@ resting = record { done = false; came = 0; ready = true; leaving = 0; fetched = 
 -- a machine at address 000000 with this memory and these numbers in r1 and r2; N, Z and V are set, so that it shows where one is cleared
 abbrev pub before : List ℕ → Bool → ℕ → ℕ → Machine
 before memory carry r1 r2 = record {
-  r0 = 0; r1 = r1; r2 = r2; r3 = 0; r4 = 0; r5 = 0; sp = 0; pc = 0;
+  r0 = 0;
+  r1 = r1;
+  r2 = r2;
+  r3 = 0;
+  r4 = 0;
+  r5 = 0;
+  sp = 0;
+  pc = 0;
   codes = record { n = true; z = true; v = true; c = carry };
-  masked = false; memory = memory; console = resting; state = Runs;
+  masked = false;
+  memory = memory;
+  console = resting;
+  state = Runs;
 }
 
 -- the codes by their letters

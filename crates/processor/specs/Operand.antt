@@ -1,5 +1,5 @@
 -- The addressing modes: how six bits of an instruction name a word or a byte.
-use Rattle.std.specs.Prelude.{ℕ, ◌+◌, ◌*◌, ◌/◌, ◌%◌, ◌==◌, nat_lt, nat_le, if◌then◌else◌}
+use Rattle.std.specs.Prelude.{ℕ, ◌+◌, ◌/◌, ◌%◌, ◌==◌, nat_lt, nat_le, if◌then◌else◌}
 use Rattle.processor.specs.Machine.{Machine, register, with_register, astray}
 use Rattle.processor.specs.Access.{Got, word_from, byte_from, word_to, byte_to}
 

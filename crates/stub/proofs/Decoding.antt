@@ -6,7 +6,7 @@ use Rattle.tape_image.specs.Memory.{top_of}
 use Rattle.odt_machine.specs.Machine.{is_word, word_at}
 use Rattle.exchange_core.specs.declared.stretch.Stretch.{Stretch}
 use Rattle.stub.specs.Words.{code, code_bytes, table}
-use Rattle.stub.specs.Place.{AreThere, StretchFits, StretchesFit, stub_end, Stands}
+use Rattle.stub.specs.Place.{AreThere, StretchFits, StretchesFit, stub_end, StubStands}
 use Rattle.stub.specs.Decoder.{has_words, put_before, table_at, fits, all_fit, fitting, stub_at, StubsAreFound}
 use Rattle.stub.proofs.Sizes.{table_size}
 
@@ -203,14 +203,14 @@ rise place until top (stretch ∷ stretches) fit = (some stretch.from stretch.to
 
 -- ---- the stub
 
-found_stands : (memory : List ℕ) (place : ℕ) (stretches : List Stretch) → stub_at memory place ≡ Some stretches → Stands memory place stretches
+found_stands : (memory : List ℕ) (place : ℕ) (stretches : List Stretch) → stub_at memory place ≡ Some stretches → StubStands memory place stretches
 found_stands memory place stretches h = by_code (has_words memory place (code place)) refl h
   where
     by_fit : (those : List Stretch) (test : Bool) → table_at (length memory) memory (place + code_bytes) ≡ Some those → has_words memory place (code place) ≡ true →
-        all_fit place (stub_end place those) (top_of memory) those ≡ test → (if test then Some those else None) ≡ Some stretches → Stands memory place stretches
+        all_fit place (stub_end place those) (top_of memory) those ≡ test → (if test then Some those else None) ≡ Some stretches → StubStands memory place stretches
     by_fit those false is has e h = absurd (cc)
     by_fit those true is has e h =
-        subst (Stands memory place) (one those h) record {
+        subst (StubStands memory place) (one those h) record {
           words = there_joined memory place (code place) (table those) (has_there memory place (code place) has) (table_there (length memory) memory (place + code_bytes) those is);
           fit = all_fit_so place (stub_end place those) (top_of memory) those e;
         }
@@ -218,11 +218,11 @@ found_stands memory place stretches h = by_code (has_words memory place (code pl
         one : (those : List Stretch) → Some those ≡ Some stretches → those ≡ stretches
         one those h = cc
 
-    by_table : (those : Option (List Stretch)) → table_at (length memory) memory (place + code_bytes) ≡ those → has_words memory place (code place) ≡ true → fitting memory place those ≡ Some stretches → Stands memory place stretches
+    by_table : (those : Option (List Stretch)) → table_at (length memory) memory (place + code_bytes) ≡ those → has_words memory place (code place) ≡ true → fitting memory place those ≡ Some stretches → StubStands memory place stretches
     by_table None is has h = absurd (cc)
     by_table (Some those) is has h = by_fit those (all_fit place (stub_end place those) (top_of memory) those) is has refl h
 
-    by_code : (test : Bool) → has_words memory place (code place) ≡ test → (if test then fitting memory place (table_at (length memory) memory (place + code_bytes)) else None) ≡ Some stretches → Stands memory place stretches
+    by_code : (test : Bool) → has_words memory place (code place) ≡ test → (if test then fitting memory place (table_at (length memory) memory (place + code_bytes)) else None) ≡ Some stretches → StubStands memory place stretches
     by_code false e h = absurd (cc)
     by_code true e h = by_table (table_at (length memory) memory (place + code_bytes)) refl e h
 
@@ -239,7 +239,7 @@ few_stretches memory a stretches there = fewer (length stretches) (length (table
     fewer : (n t k a : ℕ) → t ≡ 2 * n + 1 → a + 2 * (2 * n) < 2 * k → n < k
     fewer n t k a is less = omega arith
 
-stands_found : (memory : List ℕ) (place : ℕ) (stretches : List Stretch) → Stands memory place stretches → stub_at memory place ≡ Some stretches
+stands_found : (memory : List ℕ) (place : ℕ) (stretches : List Stretch) → StubStands memory place stretches → stub_at memory place ≡ Some stretches
 stands_found memory place stretches stands =
     let behind : AreThere memory (place + code_bytes) (table stretches) = there_behind memory place (code place) (table stretches) stands.words in
     let has = there_has memory place (code place) (there_front memory place (code place) (table stretches) stands.words) in

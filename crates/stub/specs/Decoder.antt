@@ -4,7 +4,7 @@ use Rattle.tape_image.specs.Memory.{top_of}
 use Rattle.odt_machine.specs.Machine.{is_word, word_at}
 use Rattle.exchange_core.specs.declared.stretch.Stretch.{Stretch}
 use Rattle.stub.specs.Words.{code_bytes, code}
-use Rattle.stub.specs.Place.{Stands, stub_end}
+use Rattle.stub.specs.Place.{StubStands, stub_end}
 
 -- memory has these words, one after another from an address on
 abbrev pub has_words : List ℕ → ℕ → List ℕ → Bool
@@ -45,4 +45,4 @@ stub_at memory place =
 
 -- these and no others: what is read out of a memory is the stub that stands there
 abbrev pub StubsAreFound : Type 0
-StubsAreFound = (memory : List ℕ) (place : ℕ) (stretches : List Stretch) → stub_at memory place ≡ Some stretches ↔ Stands memory place stretches
+StubsAreFound = (memory : List ℕ) (place : ℕ) (stretches : List Stretch) → stub_at memory place ≡ Some stretches ↔ StubStands memory place stretches

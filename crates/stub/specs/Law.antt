@@ -8,14 +8,14 @@ use Rattle.processor.specs.Events.{Event, ran}
 use Rattle.exchange_core.specs.declared.stretch.Stretch.{Stretch}
 use Rattle.exchange_core.specs.Stretch.{pieces}
 use Rattle.stub.specs.Filling.{Filling, begun, after}
-use Rattle.stub.specs.Place.{Stands}
+use Rattle.stub.specs.Place.{StubStands}
 
 -- the machine is at the stub's start, and the stub stands there; the registers, the codes and the console are whatever they are, and the notes of
 -- what was fetched and what has left begin here
 pub record IsStarted (place : ℕ) (stretches : List Stretch) (m : Machine) : Type 0 where
   pub size : length m.memory ≤ largest_words
   pub wide : IsWide m.memory
-  pub stands : Stands m.memory place stretches
+  pub stands : StubStands m.memory place stretches
   pub pc : m.pc ≡ place
   pub running : m.state ≡ Runs
   pub fetched : m.console.fetched ≡ []

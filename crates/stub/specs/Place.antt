@@ -26,6 +26,6 @@ abbrev pub stub_end : ℕ → List Stretch → ℕ
 stub_end place stretches = place + 2 * length (stub_words place stretches)
 
 -- a stub with these stretches stands at an address: memory has its words, and its stretches fit
-pub record Stands (memory : List ℕ) (place : ℕ) (stretches : List Stretch) : Type 0 where
+pub record StubStands (memory : List ℕ) (place : ℕ) (stretches : List Stretch) : Type 0 where
   pub words : AreThere memory place (stub_words place stretches)
   pub fit : StretchesFit place (stub_end place stretches) (top_of memory) stretches

@@ -1,4 +1,5 @@
 pub mod Decoder
+pub mod Example
 pub mod Filling
 pub mod Law
 pub mod Pace

@@ -1,4 +1,5 @@
 ghost use Rattle.stub.specs.Decoder.{StubsAreFound};
+ghost use Rattle.stub.specs.Example.{AStubRuns};
 ghost use Rattle.stub.specs.Law.{StubsDoAsTold};
 ghost use Rattle.stub.specs.Pace.{StubsKeepUp, StubsRest};
 ghost use Rattle.stub.specs.Seen.{StubsAreSeenSo};
@@ -33,4 +34,9 @@ pub fn stubs_rest()
 /// is the law.
 pub fn stubs_are_found()
     ensures { StubsAreFound }
+{}
+
+/// One run of the stub, by computing alone. This function does nothing: its contract is the example.
+pub fn a_stub_runs()
+    ensures { AStubRuns }
 {}

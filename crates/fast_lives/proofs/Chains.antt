@@ -45,15 +45,16 @@ use Rattle.exchange_law.specs.Station.{Each, Program, Station, Stub}
 use Rattle.exchange_law.specs.Unsettled.{IsForStub, MayFill}
 use Rattle.exchange_law.proofs.Passing.{losses_aside}
 use Rattle.recovery_law.specs.Recovery.{IsLater, IsPaid}
+use Rattle.stub_station.specs.Start.{program as stub_program}
 use Rattle.fast_lives.specs.Between.{Between, KeepsOutside}
-use Rattle.fast_lives.specs.FastLives.{FastLife, FastLived, FastLivesAreTrusted, IsFastLife, IsLatestPaid, LinkAndRecord, MayOpenAt, PassesAt, ReopensAt, StopsBehindStubs, StopsWithStubs, last_core, typed}
+use Rattle.fast_lives.specs.FastLives.{AreFastTrusted, FastLife, FastLived, FastLivesAreTrusted, IsFastLife, IsLatestPaid, LinkAndRecord, MayOpenAt, PassesAt, ReopensAt, StopsBehindStubs, StopsWithStubs, last_core, typed}
 use Rattle.fast_lives.specs.FastLoads.{IsLoadedOn}
 use Rattle.fast_lives.specs.StubParts.{AreStubParts, stubs_said, verified_by}
 use Rattle.fast_lives.proofs.Backs.{back}
 use Rattle.fast_lives.proofs.Calm.{IsIdle, Rested, StaysRested, all_in_order, between_passes, idle_behind, kept_on, rested_passes, stands_on}
 use Rattle.fast_lives.proofs.Going.{loaded_by}
 use Rattle.fast_lives.proofs.Growing.{between_fewer, between_reopened, parts_grow, parts_within, station_reopened, unsettled_reopened}
-use Rattle.fast_lives.proofs.Loads.{fast_loads_are_trusted}
+use Rattle.fast_lives.proofs.Loads.{any_load}
 use Rattle.fast_lives.proofs.Storing.{fewer_stand}
 
 -- ---- what the lives so far leave, which sent these keys
@@ -217,7 +218,7 @@ load_of : (program : Program) (tape : PlanValue) (before : List ℕ) (life : Fas
     stubs_said tape life.progress.verified life.stubs ++ dialogue (bare tape life) life.heard ≡ (life.front ++ life.rest) ++ said_all life.unsent →
     IsLoadedOn program tape before (led (bare tape life) life.heard) (keys_of (dialogue (bare tape life) life.heard)) (length life.unsent + y.lost) y
 load_of program tape before life x y o passes all =
-    fast_loads_are_trusted program tape before x y
+    any_load program tape before x y
     (record { verified = life.progress.verified; stubs = life.stubs; patience = life.patience; heard = life.heard; items = life.front ++ life.rest; unsent = life.unsent })
     (record { plan = o.plan; within = o.within; patient = o.patient; stubs = o.stubs; begins = o.begins; stopped = all; passes = passes })
 
@@ -322,7 +323,7 @@ taken_back program tape before life x y few key o passes all load host set le =
     let parts : life.front ++ life.rest ≡ items ++ Came l.1 ∷ [] = ap (λ rest. life.front ++ rest) l.3 ∙ sym (append_assoc life.front (dialogue (bare tape life) first) (Came l.1 ∷ [])) in
     let gone = back program items l.1 x y (subst (λ list. Passes program x list y) parts passes) in
     let whole : stubs_said tape life.progress.verified life.stubs ++ dialogue (bare tape life) first ≡ items ++ [] = ap (λ front. front ++ dialogue (bare tape life) first) all ∙ sym (append-nil items) in
-    let t = fast_loads_are_trusted program tape before x (record y { lost = gone.0 })
+    let t = any_load program tape before x (record y { lost = gone.0 })
     (record { verified = life.progress.verified; stubs = life.stubs; patience = life.patience; heard = first; items = items; unsent = [] })
     (record { plan = o.plan; within = o.within; patient = o.patient; stubs = o.stubs; begins = o.begins; stopped = whole; passes = gone.1 }) in
     let n = t.next unmarked few (omega (arith, le, words)) in
@@ -470,8 +471,9 @@ opens program tape old may = record {
 still : (R : ℕ → Type 0) (mode : Mode) (stub : Option Stub) → MayFill R mode stub → stub ≡ None → is_running mode ≡ true → ⊥
 still R mode stub may none runs = not_both (is_running mode) runs (subst (MayFill R mode) none may)
 
-pub fast_lives_are_trusted : FastLivesAreTrusted
-fast_lives_are_trusted program tape old new lives is may lived =
+any_lives : (program : Program) (tape : PlanValue) (old new : LinkAndRecord) (lives : List FastLife) → IsPlan tape → MayOpenAt tape old → FastLived program tape old lives new →
+    AreFastTrusted program tape old.link.station.machine.memory lives new
+any_lives program tape old new lives is may lived =
     let first = opens program tape old may in
     let s = stood program tape old.link.station.machine.memory lives old new is first lived in record {
       progress = s.progress;
@@ -492,3 +494,6 @@ fast_lives_are_trusted program tape old new lives is may lived =
       | inl u ↦ absurd (still (IsLater tape (length tape.words)) new.link.station.machine.mode new.link.station.stub u.stub none runs)
       | inr (has, idle) ↦ has
     ]
+
+pub fast_lives_are_trusted : FastLivesAreTrusted
+fast_lives_are_trusted tape old new lives is may lived = any_lives stub_program tape old new lives is may lived

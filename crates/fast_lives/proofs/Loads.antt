@@ -6,7 +6,7 @@ use Rattle.host_core.specs.declared.phase.End.TheVariants.{Loaded, Started, Unce
 use Rattle.host_core.specs.declared.phase.Phase.{Phase}
 use Rattle.host_core.specs.declared.phase.Phase.TheVariants.{Settle, Sync, Address, Slash, Before, Value, Deposit, Return, Start, Go, Ended}
 use Rattle.host_core.specs.Laws.{led}
-use Rattle.load_devices.specs.Dialogue.{dialogue}
+use Rattle.load_devices.specs.Dialogue.{dialogue, keys_of}
 use Rattle.exchange_core.specs.Exchange.{begun as exchange_begun, led as exchange_led}
 use Rattle.exchange_law.specs.Law.{MayExchange, dialogue as exchange_dialogue}
 use Rattle.exchange_law.specs.Line.{Link, Passes}
@@ -14,8 +14,9 @@ use Rattle.exchange_law.specs.Station.{Program}
 use Rattle.exchange_law.proofs.Links.{passes_split, passes_unsent}
 use Rattle.exchange_law.proofs.Passing.{losses_aside}
 use Rattle.recovery_law.specs.Recovery.{IsLater}
+use Rattle.stub_station.specs.Start.{program as stub_program}
 use Rattle.fast_lives.specs.Between.{Between}
-use Rattle.fast_lives.specs.FastLoads.{FastLoadsAreTrusted, rest_core}
+use Rattle.fast_lives.specs.FastLoads.{FastLoad, FastLoadsAreTrusted, IsFastLoad, IsLoadedOn, rest_core}
 use Rattle.fast_lives.specs.StubParts.{AreStubParts, IsStubFor, StubPart, bringer, exchange_said, is_started, starts, stubs_said, verified_after, verified_by}
 use Rattle.fast_lives.proofs.Calm.{between_passes}
 use Rattle.fast_lives.proofs.Going.{IsBrought, exchange_went, load_went, stub_brought}
@@ -66,8 +67,9 @@ stubs_went program tape (part ∷ more) v before x y is within parts b passes =
 
 -- ---- wherever it stops
 
-pub fast_loads_are_trusted : FastLoadsAreTrusted
-fast_loads_are_trusted program tape before x y load is =
+pub any_load : (program : Program) (tape : PlanValue) (before : List ℕ) (x y : Link) (load : FastLoad) → IsFastLoad program tape before x load y →
+    IsLoadedOn program tape before (led (rest_core tape load) load.heard) (keys_of (dialogue (rest_core tape load) load.heard)) (length load.unsent + y.lost) y
+any_load program tape before x y load is =
     let lost : ℕ = length load.unsent + y.lost in
     let end : Link = record y { lost = lost } in
     let whole : Passes program x (stubs_said tape load.verified load.stubs ++ dialogue (rest_core tape load) load.heard) end =
@@ -85,3 +87,6 @@ fast_loads_are_trusted program tape before x y load is =
       next = λ unset fewer le. let n = t.next unset fewer le in record { stand = n.stand; kept = n.kept; line = losses_aside program (IsLater tape fewer) y lost n.line };
       paid = t.paid;
     }
+
+pub fast_loads_are_trusted : FastLoadsAreTrusted
+fast_loads_are_trusted tape before x y load is = any_load stub_program tape before x y load is

@@ -22,6 +22,7 @@ use Rattle.exchange_law.specs.Line.{Link, Passes}
 use Rattle.exchange_law.specs.Station.{Program}
 use Rattle.exchange_law.specs.Unsettled.{IsUnsettled}
 use Rattle.recovery_law.specs.Recovery.{IsLater, IsPaid}
+use Rattle.stub_station.specs.Start.{program as stub_program}
 use Rattle.fast_lives.specs.Between.{KeepsOutside}
 use Rattle.fast_lives.specs.StubParts.{AreStubParts, StubPart, stubs_said, verified_by}
 
@@ -139,8 +140,8 @@ pub record AreFastTrusted (program : Program) (tape : PlanValue) (before : List 
   pub by_go : now.link.station.stub ≡ None → RunsByGo now.link.station.machine (typed lives)
   pub latest : IsLatestPaid tape lives now.link
 
--- lives may be trusted, however many they are and wherever each was stopped, with stubs or without
+-- lives may be trusted, however many they are and wherever each was stopped, with stubs or without: which stub stands at an address is read out of memory
 abbrev pub FastLivesAreTrusted : Type 0
 FastLivesAreTrusted =
-    (program : Program) (tape : PlanValue) (old new : LinkAndRecord) (lives : List FastLife) → IsPlan tape →
-    MayOpenAt tape old → FastLived program tape old lives new → AreFastTrusted program tape old.link.station.machine.memory lives new
+    (tape : PlanValue) (old new : LinkAndRecord) (lives : List FastLife) → IsPlan tape → MayOpenAt tape old → FastLived stub_program tape old lives new →
+    AreFastTrusted stub_program tape old.link.station.machine.memory lives new

@@ -13,6 +13,7 @@ use Rattle.exchange_law.specs.Law.{said_all}
 use Rattle.exchange_law.specs.Line.{Link, Passes}
 use Rattle.exchange_law.specs.Station.{Program}
 use Rattle.recovery_law.specs.Recovery.{IsInOrder, IsPaid}
+use Rattle.stub_station.specs.Start.{program as stub_program}
 use Rattle.fast_lives.specs.Between.{Between, KeepsOutside}
 use Rattle.fast_lives.specs.StubParts.{AreStubParts, StubPart, stubs_said, verified_by}
 
@@ -60,5 +61,5 @@ pub record IsLoadedOn (program : Program) (tape : PlanValue) (before : List ℕ)
 -- a load that brings in stubs may be trusted as every load, wherever it stops
 abbrev pub FastLoadsAreTrusted : Type 0
 FastLoadsAreTrusted =
-    (program : Program) (tape : PlanValue) (before : List ℕ) (x y : Link) (load : FastLoad) → IsFastLoad program tape before x load y →
-    IsLoadedOn program tape before (led (rest_core tape load) load.heard) (keys_of (dialogue (rest_core tape load) load.heard)) (length load.unsent + y.lost) y
+    (tape : PlanValue) (before : List ℕ) (x y : Link) (load : FastLoad) → IsFastLoad stub_program tape before x load y →
+    IsLoadedOn stub_program tape before (led (rest_core tape load) load.heard) (keys_of (dialogue (rest_core tape load) load.heard)) (length load.unsent + y.lost) y

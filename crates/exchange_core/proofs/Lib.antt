@@ -1,3 +1,3 @@
 pub mod Chunks
-mod Keys
+pub mod Keys
 pub mod Steps

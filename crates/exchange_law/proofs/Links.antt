@@ -72,8 +72,16 @@ passes_lost program items key x y passes =
     passes_then program items (Sent key ∷ []) x y (later 1 y) passes (suc zero, (later 1 y, lost_at_once program key y, refl))
 
 -- a list that passed, and characters that were not sent, as of a line that lost these
-pub passes_unsent : (program : Program) (keys : List ℕ) (items : List Item) (x y : Link) → Passes program x items y → (n : ℕ) × Passes program x (items ++ said_all keys) (record y { lost = n })
-passes_unsent program [] items x y passes = (y.lost, subst (λ list. Passes program x list y) (sym (append-nil items)) passes)
+pub passes_unsent : (program : Program) (keys : List ℕ) (items : List Item) (x y : Link) → Passes program x items y → Passes program x (items ++ said_all keys) (later (length keys) y)
+passes_unsent program [] items x y passes =
+    subst (λ n. Passes program x (items ++ []) (record y { lost = n })) (nothing_more y.lost) (subst (λ list. Passes program x list y) (sym (append-nil items)) passes)
+  where
+    nothing_more : (lost : ℕ) → lost ≡ 0 + lost
+    nothing_more lost = omega arith
 passes_unsent program (key ∷ keys) items x y passes =
-    let rest = passes_unsent program keys (items ++ Sent key ∷ []) x (later 1 y) (passes_lost program items key x y passes) in
-    (rest.0, subst (λ list. Passes program x list (record y { lost = rest.0 })) (append_assoc items (Sent key ∷ []) (said_all keys)) rest.1)
+    subst (λ n. Passes program x (items ++ said_all (key ∷ keys)) (record y { lost = n })) (turned (length keys) y.lost)
+    (subst (λ list. Passes program x list (later (length keys) (later 1 y))) (append_assoc items (Sent key ∷ []) (said_all keys))
+    (passes_unsent program keys (items ++ Sent key ∷ []) x (later 1 y) (passes_lost program items key x y passes)))
+  where
+    turned : (n lost : ℕ) → n + (1 + lost) ≡ suc n + lost
+    turned n lost = omega arith

@@ -194,12 +194,12 @@ losses_aside program R y n u = record {
 
 pub exchanges_are_true : ExchangesAreTrue
 exchanges_are_true program x y o is =
-    let lost = passes_unsent program o.unsent o.items x y is.passes in
-    let t = whole_exchange program o.plan o.from o.chunks o.heard x (record y { lost = lost.0 }) is.chunks is.begins
-    (subst (λ list. Passes program x list (record y { lost = lost.0 })) (sym is.stopped) lost.1) in record {
+    let lost : ℕ = length o.unsent + y.lost in
+    let t = whole_exchange program o.plan o.from o.chunks o.heard x (record y { lost = lost }) is.chunks is.begins
+    (subst (λ list. Passes program x list (record y { lost = lost })) (sym is.stopped) (passes_unsent program o.unsent o.items x y is.passes)) in record {
       is = t.is;
       holds = t.holds;
       words = t.words;
       back = λ e. let b = t.back e in record { no_stub = b.no_stub; prompt = b.prompt; none_down = b.none_down };
-      left = losses_aside program _ y lost.0 t.left;
+      left = losses_aside program _ y lost t.left;
     }

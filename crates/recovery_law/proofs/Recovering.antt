@@ -295,7 +295,7 @@ strays program R before paid core v host unmarked region s few done owed = by (l
         (record { host = h; unmarked = unmarked; region = region; settling = s; stands = used_up core.patience core.spent paid v.lost (not_below core.spent core.patience e) owed })
 
 -- a character is heard: the line is else as it was
-heard_line : (program : Program) (R : ℕ → Type 0) (before : List ℕ) (x : Link) (rest : List ℕ) → Settling program R before x → Settling program R before (record x { up = rest })
+pub heard_line : (program : Program) (R : ℕ → Type 0) (before : List ℕ) (x : Link) (rest : List ℕ) → Settling program R before x → Settling program R before (record x { up = rest })
 heard_line program R before x rest s = record {
   line = record {
     console = s.line.console;
@@ -538,7 +538,7 @@ end_paid Loaded memory patience spent lost more le p = tt
 end_paid Started memory patience spent lost more le p = tt
 end_paid MaybeStarted memory patience spent lost more le p = tt
 
-has_cause : (phase : Phase) (memory : List ℕ) (patience spent lost more : ℕ) → lost ≤ more → HasCause phase memory patience spent lost → HasCause phase memory patience spent more
+pub has_cause : (phase : Phase) (memory : List ℕ) (patience spent lost more : ℕ) → lost ≤ more → HasCause phase memory patience spent lost → HasCause phase memory patience spent more
 has_cause (Ended end) memory patience spent lost more le h = end_paid end memory patience spent lost more le h
 has_cause Settle memory patience spent lost more le h = tt
 has_cause (Sync place) memory patience spent lost more le h = tt
@@ -687,5 +687,5 @@ hosts_recover program tape verified core things x y may passes =
       typed = λ set. subst (λ keys. Contains keys 71) (sym (keys_of-dialogue things core)) (c.typed set);
       started = c.started;
       leaves = c.leaves;
-      paid = record { spent = c.spent; cause = c.cause };
+      paid = record { spent = let le = c.spent in omega (arith, le); cause = c.cause };
     }

@@ -22,7 +22,7 @@ use Rattle.exchange_law.proofs.Texts.{each_removed}
 pub untouched_same : (R : ℕ → Type 0) (memory : List ℕ) → Untouched R memory memory
 untouched_same R memory = record { size = refl; bytes = λ b none. refl }
 
-untouched_then : (R : ℕ → Type 0) (a b c : List ℕ) → Untouched R a b → Untouched R b c → Untouched R a c
+pub untouched_then : (R : ℕ → Type 0) (a b c : List ℕ) → Untouched R a b → Untouched R b c → Untouched R a c
 untouched_then R a b c one two = record { size = two.size ∙ one.size; bytes = λ k none. two.bytes k none ∙ one.bytes k none }
 
 -- ---- a key of such a line at ODT
@@ -206,7 +206,7 @@ settling_takes program R before x y s for t =
       untouched = untouched_then R before x.station.machine.memory t.station'.machine.memory s.untouched stays.untouched;
     })
 
-one_removed : (xs : List ℕ) (c k : ℕ) → xs ≡ c ∷ [] → k < length xs → remove xs k ≡ []
+pub one_removed : (xs : List ℕ) (c k : ℕ) → xs ≡ c ∷ [] → k < length xs → remove xs k ≡ []
 one_removed xs c zero is below = subst (λ (list : List ℕ). remove list 0 ≡ []) (sym is) refl
 one_removed xs c (suc k) is below = absurd (omega (arith, below, ap length is))
 

@@ -69,10 +69,10 @@ pub record HasStarted (program : Program) (core : Core) (y : Link) : Type 0 wher
   pub runs : y.station.machine.mode ≡ Running (start_of core)
   pub stub : y.station.stub ≡ fresh (program y.station.machine.memory (start_of core))
 
--- mishaps are never more than losses and one: a stub that is found running costs one, since it halts at the first `Z`, which nobody answers
-pub record IsPaid (x : Link) (core : Core) (y : Link) : Type 0 where
-  pub spent : core.spent + x.lost ≤ y.lost + 1
-  pub cause : HasCause core.phase y.station.machine.memory core.patience core.spent (y.lost + 1 - x.lost)
+-- so many losses pay for the mishaps of a host, and for its end
+pub record IsPaid (core : Core) (now : List ℕ) (lost : ℕ) : Type 0 where
+  pub spent : core.spent ≤ lost
+  pub cause : HasCause core.phase now core.patience core.spent lost
 
 -- what came of a host that began at one line, became a core and sent these keys
 pub record IsTrustedBehind (program : Program) (tape : PlanValue) (verified : ℕ) (x : Link) (core : Core) (keys : List ℕ) (y : Link) : Type 0 where
@@ -83,7 +83,8 @@ pub record IsTrustedBehind (program : Program) (tape : PlanValue) (verified : �
   pub typed : core.going ≡ true → Contains keys go
   pub started : core.phase ≡ Ended Started → HasStarted program core y
   pub leaves : Leaves program tape verified core y
-  pub paid : IsPaid x core y
+  -- its losses pay, and one more: a stub that it finds running halts at the first `Z`, which nobody answers
+  pub paid : IsPaid core y.station.machine.memory (y.lost + 1 - x.lost)
 
 -- an ordinary host may be trusted that begins over such a line, whatever the stub is in the middle of and whatever is under way
 abbrev pub HostsRecover : Type 0

@@ -1,0 +1,4 @@
+pub mod Between
+pub mod StubParts
+pub mod FastLoads
+pub mod FastLives

@@ -1,0 +1,4 @@
+mod Lines
+mod Starting
+mod Steps
+mod Verified

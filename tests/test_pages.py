@@ -271,6 +271,16 @@ class Crates(Case):
                 self.assertTrue(tests[it], f"{it} is not there")
         self.assertGreater(named, 50)
 
+    def test_promises_are_printed(self):
+        ran = subprocess.run([f"{TOP}/tools/promises", "octal", "load_devices"], capture_output=True, text=True)
+        self.is_so((ran.returncode, ran.stderr), (0, ""))
+        self.assertIn("\nfn oct6(word: u16) -> [u8; 6]\n    The octal text of `word`: six ASCII digits, the first `0` or `1`.\n"
+                      "    ensures text: result ≡ octal_text word\n    ensures is_octal: IsOct6 word result\n", ran.stdout)
+        self.assertIn("line.rt: pub trait Line\n\nfn send(&mut self, key: u8)", ran.stdout)
+        self.assertNotIn("digit_at", ran.stdout)
+        ran = subprocess.run([f"{TOP}/tools/promises", "nothing"], capture_output=True, text=True)
+        self.is_so((ran.returncode, ran.stderr), (2, "promises: crates.txt has no nothing\n"))
+
     def test_no_page_names_a_crate_that_is_gone(self):
         gone = {"load_command", "socket_line", "load_reports"} - set(self.crates)
         for name in ("README.md", "CONTRIBUTING.md", *(os.path.relpath(it, TOP) for it in glob.glob(f"{TOP}/docs/*"))):

@@ -22,25 +22,28 @@ class RunningMachine(odt_peer.Machine):
     def take(self, key):
         if self.mode == odt_peer.RUNNING:
             self.computer.arrive(ord(key))
-            return self.go_on()
+            return self.printed()
         starts = len(self.starts)
         answer = super().take(key)
-        return answer + self.start() if len(self.starts) > starts else answer
+        return answer + self.started() if len(self.starts) > starts else answer
 
-    def start(self):
+    def go_on(self):
+        return self.printed()
+
+    def started(self):
         """Starts the program; returns what it prints in a character's time."""
         self.computer.bus.words = self.words
         self.computer.start(self.starts[-1])
         self.computer.is_running = not self.has_halt_switch_on
-        return self.go_on()
+        return self.printed()
 
-    def go_on(self):
-        printed = self.computer.run().decode("latin-1")
-        return printed if self.computer.is_running else printed + self.halted()
+    def printed(self):
+        """What the program prints in a character's time, and ODT behind it where it halts."""
+        text = self.computer.run().decode("latin-1")
+        return text if self.computer.is_running else text + self.halted()
 
     def halted(self):
         """Comes back to ODT; returns what it prints."""
-        address = self.computer.processor.registers[pdp11.PC]
+        address, line = self.computer.processor.registers[pdp11.PC], self.computer.line
         shown = self.to_prompt(f"{self.newline}{address:06o}")
-        line = self.computer.line
-        return shown + self.take(chr(line.fetch())) if line.receiver.is_ready else shown
+        return shown + super().take(chr(line.fetch())) if line.receiver.is_ready else shown

@@ -19,8 +19,11 @@ LSI_11 = ("set cpu 11/03", "set cpu noeis", "set cpu nofis")
 REGISTERS = ("R0", "R1", "R2", "R3", "R4", "R5", "SP", "PC")
 
 
-def is_installed():
-    return shutil.which("pdp11") is not None
+def ask_for(test):
+    """Leaves a test out where SIMH is not installed, and says so."""
+    if not shutil.which("pdp11"):
+        print("left out: what is compared with SIMH: not installed here: pdp11", flush=True)
+        test.skipTest("not installed here: pdp11")
 
 
 def limit():

@@ -55,7 +55,7 @@ ONE_OPERAND = (
     (0o105400, 0o000200, "", 0o000200, "NVC", "NEGB: the smallest byte has none"),
     (0o005500, 0o077777, "C", 0o100000, "NV", "ADC past the largest number"),
     (0o005500, 0o177777, "C", 0o000000, "ZC", "ADC carries on"),
-    (0o005500, 0o177777, "NVC"[:2], 0o177777, "N", "ADC of no carry"),
+    (0o005500, 0o177777, "NV", 0o177777, "N", "ADC of no carry"),
     (0o105500, 0o123777, "C", 0o123400, "ZC", "ADCB carries into C and not into the high byte"),
     (0o005600, 0o100000, "C", 0o077777, "V", "SBC past the smallest number"),
     (0o005600, 0o000000, "C", 0o177777, "NC", "SBC borrows on"),
@@ -105,6 +105,8 @@ TWO_OPERANDS = (
     (0o060001, 0o077777, 0o000001, "", 0o100000, "NV", "ADD past the largest number"),
     (0o060001, 0o177777, 0o000001, "", 0o000000, "ZC", "ADD carries"),
     (0o060001, 0o100000, 0o100000, "", 0o000000, "ZVC", "ADD: the smallest number twice"),
+    (0o060001, 0o177777, 0o177777, "V", 0o177776, "NC", "ADD: -1 twice"),
+    (0o060001, 0o000001, 0o177776, "", 0o177777, "N", "ADD of two signs can't pass a border"),
     (0o160001, 0o000001, 0o100000, "", 0o077777, "V", "SUB: the destination less the source"),
     (0o160001, 0o000001, 0o000000, "", 0o177777, "NC", "SUB borrows"),
     (0o160001, 0o000140, 0o000137, "", 0o177777, "NC", "SUB: a character below 140"),
@@ -134,6 +136,19 @@ MODES = (
     (0o005737, (0o002004,), 7, 0o1000, 0o1004, 0o002004, "@#2004"),
     (0o005767, (0o001000,), 7, 0o1000, 0o1004, 0o002004, "2004: from behind the word that says how far"),
     (0o005777, (0o001004,), 7, 0o1000, 0o1004, 0o002020, "@2010"),
+)
+
+# Instructions that have no byte form: with (R2)+, or (R1)+, a step is a word.
+WORDS_ALONE = (
+    (0o062102, 0o2002, 0o002000 + 0o002100, "ADD (R1)+, R2"),
+    (0o162102, 0o2002, 0o002100 - 0o002000, "SUB (R1)+, R2, although its highest bit is set"),
+)
+WORDS_CHANGED = (
+    (0o060322, 0o002103, "ADD R3, (R2)+"),
+    (0o160322, 0o002075, "SUB R3, (R2)+"),
+    (0o074322, 0o002103, "XOR R3, (R2)+"),
+    (0o000322, 0o040004, "SWAB (R2)+"),
+    (0o006722, 0o177777, "SXT (R2)+"),
 )
 
 # A branch, and whether it is taken behind CMP of two numbers: what a person means by it.
@@ -217,6 +232,15 @@ class Instructions(unittest.TestCase):
             self.assertEqual(f"{it.bus.words[0o2000 // 2]:06o}", f"{wanted:06o}")
             self.assertEqual(it.registers[pdp11.PC], AT + 6)
 
+    def test_words_alone(self):
+        memory = {address: address for address in range(0o2000, 0o2200, 2)}
+        for word, step, value, reason in WORDS_ALONE:
+            it = self.after([word], [0, 0o2000, 0o2100], memory=memory)
+            self.assertEqual((it.registers[1:3]), [step, value], reason)
+        for word, value, reason in WORDS_CHANGED:
+            it = self.after([word], [0, 0, 0o2100, 3], codes_of("N"), memory=memory)
+            self.assertEqual((it.registers[2], f"{it.bus.words[0o2100 // 2]:06o}"), (0o2102, f"{value:06o}"), reason)
+
     def test_a_register_that_steps_is_both_operands(self):
         """MOV R2, (R2)+ stores what R2 was; MOV (R2)+, (R2) what lay there, behind it."""
         it = self.after([0o010222], [0, 0, 0o2000])
@@ -250,8 +274,8 @@ class Instructions(unittest.TestCase):
 
     def test_sob(self):
         for before, after, address in ((2, 1, AT - 4), (1, 0, AT + 2), (0, 0o177777, AT - 4)):
-            it = self.after([0o077003], [before], 0o17)
-            self.assertEqual((it.registers[0], it.registers[pdp11.PC], it.status), (after, address, 0o17))
+            it = self.after([0o077503], [0, 0, 0, 0, 0, before], 0o17)
+            self.assertEqual((it.registers[5], it.registers[pdp11.PC], it.status), (after, address, 0o17))
 
     def test_jumps(self):
         for code, address, reason in (
@@ -261,7 +285,7 @@ class Instructions(unittest.TestCase):
             self.assertEqual(self.after(code, [0, 0, 0o2000]).registers[pdp11.PC], address, reason)
 
     def test_subroutines(self):
-        it = self.after([0o004537, 0o2000], [0, 0, 0, 0, 0, 0o123456], memory={0o2000: 0o000205})
+        it = self.after([0o004537, 0o2000], [0, 0, 0, 0, 0, 0o123456], memory={0o2000: 0o000205, STACK - 2: 0o177777})
         self.assertEqual(it.registers[5:], [AT + 4, STACK - 2, 0o2000])
         self.assertEqual(it.bus.words[(STACK - 2) // 2], 0o123456)
         it.step()
@@ -285,6 +309,13 @@ class Instructions(unittest.TestCase):
         self.assertEqual(self.after([0o106701], (), 0o205).registers[1], 0o177605)
         self.assertEqual(self.after([0o106737, 0o2000], (), 0o205, memory={0o2000: 0o123456}).bus.words[0o2000 // 2], 0o123605)
 
+    def test_a_reset(self):
+        it = processor_with([0o000005], [1], 0o217)
+        it.bus.write(0o177560, 0o100, 2)
+        it.bus.line.arrive(0o101)
+        it.step()
+        self.assertEqual((it.bus.read(0o177560, 2), it.registers[0], it.registers[pdp11.PC], it.status), (0, 1, AT + 2, 0o217))
+
     def test_halt(self):
         it = processor_with([0])
         self.assertRaises(pdp11.Halt, it.step)
@@ -297,7 +328,7 @@ class Traps(unittest.TestCase):
     def test_each_trap(self):
         for code, vector, reason in TRAPS:
             with self.subTest(reason):
-                it = processor_with(code, status=0o205, memory={vector: 0o3000, vector + 2: 0o342})
+                it = processor_with(code, status=0o205, memory={vector: 0o3000, vector + 2: 0o342, STACK - 2: 0o177777, STACK - 4: 0o177777})
                 it.step()
                 stack = it.bus.words[(STACK - 4) // 2:STACK // 2]
                 self.assertEqual((it.registers[6:], it.status, stack), ([STACK - 4, 0o3000], 0o342, [AT + 2 * len(code), 0o205]))
@@ -347,7 +378,7 @@ class SerialLine(unittest.TestCase):
 
     def setUp(self):
         self.line = pdp11.SerialLine()
-        self.bus = pdp11.Bus([0] * 4, self.line)
+        self.bus = pdp11.Bus([0] * 4, self.line, odd_addresses_trap=False)
 
     def statuses(self):
         return self.bus.read(0o177560, 2), self.bus.read(0o177564, 2)
@@ -445,6 +476,18 @@ class Computer(unittest.TestCase):
                 it.run()
                 self.assertEqual((it.time, it.is_busy), (2100, False))
 
+    def test_one_that_was_not_started(self):
+        it = pdp11.Computer([0o000777])
+        self.assertEqual((it.is_busy, it.run(), it.time), (False, b"", 0))
+
+    def test_it_is_an_lsi_11(self):
+        """It has no trap at an odd address."""
+        it = self.computer_with([0o013700, AT + 1, 0])
+        self.assertTrue(it.is_busy)
+        it.run()
+        self.assertFalse(it.is_busy)
+        self.assertEqual((it.is_running, it.processor.registers[0], it.time), (False, 0o013700, 2))
+
     def test_a_program_that_counts_is_executed(self):
         """It goes round 65,536 times, and halts."""
         it = self.computer_with([0o005200, 0o001376, 0o000000])
@@ -480,8 +523,7 @@ class BesideSimh(unittest.TestCase):
     """Instructions by chance, each executed by SIMH's PDP-11 too."""
 
     def setUp(self):
-        if not simh.is_installed():
-            self.skipTest("not installed here: pdp11")
+        simh.ask_for(self)
 
     def told(self, case):
         """What SIMH is told of a case."""

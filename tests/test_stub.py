@@ -256,8 +256,7 @@ class InSimhs(Trials, unittest.TestCase):
     kind = InSimh
 
     def setUp(self):
-        if not simh.is_installed():
-            self.skipTest("not installed here: pdp11")
+        simh.ask_for(self)
 
     def test_a_pace_at_which_some_are_lost(self):
         it, wanted, sent = self.paced(15)

@@ -137,7 +137,7 @@ class Bus:
 
     REGISTERS = (RECEIVER_STATUS, RECEIVER_BUFFER, TRANSMITTER_STATUS, TRANSMITTER_BUFFER)
 
-    def __init__(self, words, line, odd_addresses_trap=False):
+    def __init__(self, words, line, odd_addresses_trap):
         self.words, self.line, self.odd_addresses_trap = words, line, odd_addresses_trap
         # It grows with each word that gets another value.
         self.changes = 0

@@ -654,8 +654,8 @@ class Computer:
                 self.time = min(end, self.leaves_at or end)
             else:
                 self.execute()
-            if self.line.leaving is not None and self.has_left():
-                left.append(self.line.leave())
+            if self.line.leaving is not None:
+                left += self.leave()
         return bytes(left)
 
     def execute(self):
@@ -671,11 +671,11 @@ class Computer:
             changes = self.bus.changes + self.line.changes
             self.is_waiting = self.watch.has_seen(changes, (*registers, processor.status, processor.is_waiting))
 
-    def has_left(self):
-        """Whether the transmitter's character has left by now."""
+    def leave(self):
+        """The transmitter's character, if it has left by now."""
         if self.leaves_at is None:
             self.leaves_at = self.time + self.character_time
         if self.time < self.leaves_at and self.is_running:
-            return False
+            return b""
         self.leaves_at, self.is_waiting = None, False
-        return True
+        return bytes([self.line.leave()])

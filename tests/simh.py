@@ -8,12 +8,16 @@ import subprocess
 import tempfile
 import time
 
-SECONDS = 60
+SECONDS = 30
 
 # What SIMH may write to a file. At the end of its input it would print prompts for ever.
 MOST_BYTES = 100_000_000
 
 LSI_11 = ("set cpu 11/03", "set cpu noeis", "set cpu nofis")
+
+# The line clock of SIMH's LSI-11 can't be switched off. At priority 0 it interrupts after 16,667 instructions, if no RESET came before;
+# with these words, a vector and an RTI, a program may ignore it.
+NO_CLOCK = {0o100: 0o200, 0o102: 0o340, 0o200: 0o000002}
 
 
 REGISTERS = ("R0", "R1", "R2", "R3", "R4", "R5", "SP", "PC")
@@ -73,7 +77,7 @@ class Simh:
         # Opened for both, so that this does not wait for SIMH to open its end.
         self.commands = os.fdopen(os.open(f"{self.room}/commands", os.O_RDWR), "w", buffering=1)
         port = free_port()
-        self.do(*LSI_11, "set cpu 56k", "set tti 8b", "set tto 8b", f"deposit tti time {pace}", "deposit tto time 2", f"set console telnet={port}")
+        self.do(*LSI_11, "set tti 8b", "set tto 8b", f"deposit tti time {pace}", "deposit tto time 2", f"set console telnet={port}")
         self.line.connect(("127.0.0.1", port))
         self.line.setsockopt(socket.IPPROTO_TCP, socket.TCP_NODELAY, 1)
         self.line.settimeout(SECONDS)

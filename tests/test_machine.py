@@ -2,7 +2,6 @@
 interrupted, wait, go on for ever and halt; the HALT switch, losses, and a line that breaks while a program prints."""
 import glob
 import os
-import re
 import select
 import socket
 import subprocess
@@ -10,33 +9,11 @@ import time
 import unittest
 
 from cases import Case, LossyRunningConsole, RunningConsole
-from outside import HELLO, TOP, bytes_of
+from outside import TOP, bytes_of
+from programs import COMPUTING, ECHO, ENDLESS, HELLO_TEXT, WAITING, placed, words_of_hello
 from stub_listing import CHUNK, HALTED, answered, stub_words, typed
 
 SECONDS = 20
-
-# Programs, at 001000.
-ECHO = (  # a character that comes interrupts a WAIT, and is printed; Z halts
-    0o012706, 0o001000, 0o012737, 0o001040, 0o000060, 0o012737, 0o000100, 0o177560,  # MOV #1000,SP; MOV #1040,@#60; MOV #100,@#177560
-    0o000001, 0o000776, 0, 0, 0, 0, 0, 0,  # WAIT; BR .-2
-    0o113700, 0o177562, 0o110037, 0o177566, 0o120027, 0o000132, 0o001401, 0o000002,  # MOVB, MOVB, CMPB #132, BEQ; RTI
-    0o000000,  # HALT
-)
-ENDLESS = (0o105737, 0o177564, 0o100375, 0o112737, 0o000101, 0o177566, 0o000771)  # it prints A on and on
-WAITING = (0o105737, 0o177560, 0o100375, 0o000000)  # it waits for a character, and halts
-COMPUTING = (0o005200, 0o000776)  # it counts on and on
-HELLO_TEXT = "HELLO FROM THE LSI-11\r\n"
-
-
-def words_of_hello():
-    """The words of hello.lda by their addresses, as its page lists them."""
-    rows = re.findall(r"^\| ([0-7]{6}) \| [0-7]{6} \| ([0-7]{6}) \|", bytes_of(HELLO.replace(".lda", ".md")).decode(), re.MULTILINE)
-    return {int(address, 8): int(word, 8) for address, word in rows}
-
-
-def placed(program, place=0o1000):
-    return {place + 2 * number: word for number, word in enumerate(program)}
-
 
 def is_there(end, seconds):
     return bool(select.select([end], [], [], seconds)[0])

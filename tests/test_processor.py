@@ -8,6 +8,7 @@ import cases  # finds tools/
 import instruction_cases
 import pdp11
 import simh
+from programs import ECHO, HELLO_TEXT, placed, words_of_hello
 
 AT, STACK = 0o1000, 0o4000
 
@@ -496,11 +497,16 @@ class Computer(unittest.TestCase):
         it.run()
         self.assertEqual((it.is_running, it.time), (False, 131_073))
 
-    def test_a_character_leaves_in_its_time(self):
-        """MOVB to the transmitter, twice, with a wait between; then BR . ."""
+    def test_characters_leave_one_behind_the_other(self):
+        """MOVB to the transmitter, twice, with a wait between; then BR . . The first leaves at once, by the first instruction's end, and
+        the second when the line is free again."""
         it = self.computer_with([0o112737, 0o101, 0o177566, 0o105737, 0o177564, 0o100375, 0o112737, 0o102, 0o177566, 0o000777])
-        self.assertEqual([it.run(25), it.run(25), it.run(49), it.run(5), it.is_busy, it.run(110), it.is_busy],
-                         [b"", b"", b"", b"A", True, b"B", False])
+        self.assertEqual([it.run(1), it.run(99), it.is_busy, it.run(1), it.run(10), it.is_busy], [b"A", b"", True, b"B", b"", False])
+
+    def test_one_that_is_written_too_early(self):
+        """Three at once: the first is on the line, and the last takes the place of the second."""
+        it = self.computer_with([0o112737, 0o101, 0o177566, 0o112737, 0o102, 0o177566, 0o112737, 0o103, 0o177566, 0o000777])
+        self.assertEqual(it.run(200), b"AC")
 
     def test_what_is_leaving_at_a_halt_has_left(self):
         it = self.computer_with([0o112737, 0o101, 0o177566, 0])
@@ -520,7 +526,7 @@ class Computer(unittest.TestCase):
 
 
 class BesideSimh(unittest.TestCase):
-    """Instructions by chance, each executed by SIMH's PDP-11 too."""
+    """Instructions by chance, each executed by SIMH's PDP-11 too, and whole programs."""
 
     def setUp(self):
         simh.ask_for(self)
@@ -555,6 +561,39 @@ class BesideSimh(unittest.TestCase):
         self.assertEqual({case.steps for case in made}, {1, 2})
         self.assertEqual(collections.Counter(case.name for case in made if case.has_halted), {"HALT": 60})
         self.compare(maker, made, [])
+
+    def program_in_simh(self, words, sent, count):
+        """What SIMH shows when a program at 001000 hears this, and what its registers are at the halt."""
+        it = simh.Simh(20)
+        self.addCleanup(it.close)
+        there = {**simh.NO_CLOCK, **words}
+        it.do(*(f"deposit {name} 0" for name in ("PSW", *simh.REGISTERS)), *(f"deposit {address:o} {word:o}" for address, word in there.items()))
+        done = it.begin(f"go {AT:o}")
+        it.send(sent)
+        shown = it.hear(count)
+        it.wait(done)
+        return shown, simh.registers_in(it.do("examine R0-R5,SP,PC,PSW"))
+
+    def shown_by(self, computer, sent):
+        """What a computer shows that hears this."""
+        computer.start(AT)
+        heard = computer.run()
+        for character in sent:
+            computer.arrive(character)
+            heard += computer.run()
+        while computer.is_busy:
+            heard += computer.run()
+        return heard.decode()
+
+    def test_whole_programs(self):
+        """One that is interrupted, and one that waits until its characters have left."""
+        for words, sent, shown in ((placed(ECHO), b"AB12/GZ", "AB12/GZ"), (words_of_hello(), b"", HELLO_TEXT)):
+            it = pdp11.Computer([0] * 4096)
+            for address, word in words.items():
+                it.bus.words[address // 2] = word
+            self.assertEqual(self.shown_by(it, sent), shown)
+            registers = dict(zip(simh.REGISTERS, it.processor.registers), PSW=it.processor.status)
+            self.assertEqual(self.program_in_simh(words, sent, len(shown)), (shown, registers))
 
     def test_a_model_that_traps_at_odd_addresses(self):
         """SIMH's 11/34; it has a limit to its stack, which an LSI-11 hasn't."""

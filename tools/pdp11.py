@@ -614,9 +614,9 @@ class LoopWatch:
 class Computer:
     """A processor with its memory and the serial line of its console. Its time is counted in instructions.
 
-    A character takes so many of them to leave the transmitter; one that comes is given to `arrive` when it has come. At 9600 baud
-    a character takes 1,042 microseconds, in which an LSI-11 executes more than a hundred instructions. While a program only waits
-    for the console, nothing is executed: time passes without it."""
+    A character takes so many of them on the line: the transmitter's leaves once the line is free, and one that comes is given to
+    `arrive` when it has come. At 9600 baud a character takes 1,042 microseconds, in which an LSI-11 executes more than a hundred
+    instructions. While a program only waits for the console, nothing is executed: time passes without it."""
 
     CHARACTER_TIME = 100
 
@@ -624,7 +624,7 @@ class Computer:
         self.line = SerialLine()
         self.bus = Bus(words, self.line, odd_addresses_trap)
         self.processor, self.watch = Processor(self.bus), LoopWatch()
-        self.character_time, self.time, self.leaves_at = character_time, 0, None
+        self.character_time, self.time, self.free_at = character_time, 0, 0
         # Whether it has not halted, and whether the program only waits for the console.
         self.is_running = self.is_waiting = False
 
@@ -651,7 +651,7 @@ class Computer:
         left = bytearray()
         while self.is_running and self.time < end:
             if self.is_waiting:
-                self.time = min(end, self.leaves_at or end)
+                self.time = end if self.line.leaving is None else min(end, self.free_at)
             else:
                 self.execute()
             if self.line.leaving is not None:
@@ -672,10 +672,8 @@ class Computer:
             self.is_waiting = self.watch.has_seen(changes, (*registers, processor.status, processor.is_waiting))
 
     def leave(self):
-        """The transmitter's character, if it has left by now."""
-        if self.leaves_at is None:
-            self.leaves_at = self.time + self.character_time
-        if self.time < self.leaves_at and self.is_running:
+        """The transmitter's character, if the line is free for it by now."""
+        if self.time < self.free_at and self.is_running:
             return b""
-        self.leaves_at, self.is_waiting = None, False
+        self.free_at, self.is_waiting = self.time + self.character_time, False
         return bytes([self.line.leave()])

@@ -76,10 +76,11 @@ class BehindOdt:
         self.heard = self.typed(f"{place:06o}G").removeprefix(f"{place:06o}G")
 
     def talk(self, characters, _count=None):
-        """Sends characters, and hears what comes of them."""
+        """Sends characters, and hears what comes of them; returns all since the start."""
         self.heard += self.typed(characters.decode("latin-1"))
         while self.machine.is_busy:
             self.heard += self.machine.go_on()
+        return self.heard
 
     def halted(self, address):
         """All that was heard, without the text of a halt there; none where it has not halted so."""
@@ -109,9 +110,9 @@ class InSimh:
         self.done = self.simh.begin(f"go {place:o}")
 
     def talk(self, characters, count=0):
-        """Sends characters, and hears so many in all since the start."""
+        """Sends characters, and hears so many in all since the start, which it returns."""
         self.simh.send(characters)
-        self.simh.hear(len(self.before) + count)
+        return self.simh.hear(len(self.before) + count)[len(self.before):]
 
     def halted(self, address):
         self.simh.wait(self.done)
@@ -144,7 +145,8 @@ class Trials:
         for first, end in chunks(stretches):
             chunk = bytes(data[at] for at in range(first, end))
             wanted += answered(chunk)
-            it.talk(with_parity(typed(chunk)) if parity else typed(chunk).encode(), len(wanted))
+            heard = it.talk(with_parity(typed(chunk)) if parity else typed(chunk).encode(), len(wanted))
+            self.assertEqual(heard[:len(wanted)], wanted)
         it.talk(sent.encode("latin-1") if isinstance(sent, str) else sent, len(wanted))
         return wanted
 
@@ -207,6 +209,12 @@ class Trials:
 
 class InTheProcessor(Trials, unittest.TestCase):
     kind = BehindOdt
+
+    def test_no_interrupt_comes_between(self):
+        it = self.station()
+        it.put(PLACE, stub_words(PLACE, LARGE))
+        it.start(PLACE)
+        self.assertEqual(it.machine.computer.processor.upper, 0o340)
 
     def test_a_pace_at_which_some_are_lost(self):
         it, _, sent = self.paced(15)

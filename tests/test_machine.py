@@ -171,7 +171,7 @@ class Machine(Case):
         for seed in (1, 1, 2):
             it = self.switched_on(f"--loss 30 --seed {seed}")
             it.types("1000/123456\r" * 20)
-            while not it.hears_nothing():
+            while not it.hears_nothing(3 * self.quiet / 1000):
                 it.heard += os.read(it.end, 64).decode()
             shown.append(it.heard)
             self.switch_off()

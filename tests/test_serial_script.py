@@ -8,6 +8,7 @@ import re
 import shutil
 import signal
 import subprocess
+import sys
 import termios
 import time
 import unittest
@@ -104,38 +105,41 @@ TERMINAL_WORDS = {
 
 SPEEDS = "9600 300 1200 2400 4800 19200 38400 110".split()
 
-# A terminal that begins as picocom and tio do: what waits is thrown away. Before, it makes the machine say something.
-FLUSHING = """#!/usr/bin/env python3
+# A terminal that begins as picocom and tio do: what waits is thrown away. Before, it makes the machine say something; and again once
+# nobody else can be listening.
+FLUSHING = f"""#!{sys.executable}
 import os, sys, termios, time
 line = os.open(sys.argv[-1], os.O_RDWR | os.O_NOCTTY)
 os.write(line, b"k")
 time.sleep(0.5)
 termios.tcflush(line, termios.TCIFLUSH)
+time.sleep(2.5)
 os.write(line, b"l")
-time.sleep(3)
 print(os.read(line, 100).decode())
 sys.exit(7)
 """
 
+STARTED = "sent 30 spent 0 verified 1 of 1\nend Started\n"
+
 
 class Talking(Console):
-    """Its program answers two keys, the first one once a terminal begins."""
+    """Its program answers two keys."""
 
     def take(self, key):
-        return {"k": "KEPT", "l": "LATER"}.get(key) or super().take(key)
+        return {"k": "KEPT ", "l": "LATER"}.get(key) or super().take(key)
 
 
 class Paced(Console):
-    """It answers at one speed of its device; at any other what comes is no character."""
+    """It answers at one speed of its device; at any other nothing that it says is a character of ODT."""
 
     def __init__(self, speed):
         super().__init__()
-        self.speed, self.device, self.strangers = speed, None, 0
+        self.speed, self.device, self.unheard = speed, None, ""
 
     def take(self, key):
         if termios.tcgetattr(self.device.theirs)[4] == self.speed:
             return super().take(key)
-        self.strangers += 1
+        self.unheard += key
         return "\0~"
 
 
@@ -436,6 +440,130 @@ class Terminals(Script):
             self.is_so(self.notes()[-1], "ldaodt load a.lda DEVICE --listen 1")
 
 
+class Machines(Script):
+    """With the real `stty` and the program, at a machine whose device is set as a terminal is."""
+
+    def setUp(self):
+        super().setUp()
+        self.put_tapes("first.lda")
+        os.symlink(PROGRAM, self.path("ldaodt"))
+        os.symlink(shutil.which("stty"), self.path("bin/stty"))
+
+    def machine(self, machine):
+        line = self.device_at(machine, settings="sane 300")
+        self.device = line.name
+        return line
+
+    def begin(self, words):
+        """Begins a command, as at a terminal: in a group of its own, to be interrupted as a whole."""
+        env = {**os.environ, "PATH": self.path("bin"), "NOTES": self.path("notes")}
+        heed = lambda: signal.signal(signal.SIGINT, signal.SIG_DFL)
+        process = subprocess.Popen([self.path("tools/serial"), *words.replace("DEVICE", self.device).split()], cwd=self.room, env=env, text=True,
+                                   stdin=subprocess.DEVNULL, stdout=subprocess.PIPE, stderr=subprocess.PIPE, start_new_session=True, preexec_fn=heed)
+        self.addCleanup(process.communicate)
+        self.addCleanup(process.kill)
+        return process
+
+    def test_how_the_device_is_set_then(self):
+        """No load succeeds at a device that is set as a terminal is, and none with an echo."""
+        line = self.machine(Console())
+        self.ends(self.serial(f"1200 DEVICE load first.lda --quiet {self.quiet}"), 0, STARTED)
+        line.settle()
+        self.is_so((line.machine.word(0o1000), line.machine.starts), (0o011064, [0o1000]))
+        inputs, outputs, control, local, *speeds = termios.tcgetattr(line.theirs)[:6]
+        self.is_so(inputs & (termios.ICRNL | termios.INLCR | termios.IGNCR | termios.ISTRIP | termios.IXON | termios.IXOFF), 0)
+        self.is_so(outputs & termios.OPOST, 0)
+        self.is_so(local & (termios.ECHO | termios.ICANON | termios.ISIG), 0)
+        framing = termios.CSIZE | termios.PARENB | termios.CSTOPB | termios.CRTSCTS | termios.CLOCAL | termios.HUPCL
+        self.is_so(control & framing, termios.CS8 | termios.CLOCAL)
+        self.is_so(speeds, [termios.B1200, termios.B1200])
+
+    def test_each_command(self):
+        self.machine(Console(memory={0o1000: 0o011064}))
+        for words, end in (("verify first.lda", "Same"), ("save a.lda 1000 1000", "Saved"), ("probe", "Probed"), ("load first.lda", "Started")):
+            with self.subTest(words):
+                given = self.serial(f"9600 DEVICE {words} --quiet {self.quiet}")
+                self.is_so((given.status, given.out.split("\n")[-2], given.err), (0, f"end {end}", ""))
+
+    def test_what_a_pseudo_terminal_can_not_be_set_to(self):
+        """As an adapter that knows no 7 bits: nothing is typed."""
+        line = self.machine(Console())
+        given = self.serial("9600/7e1 DEVICE probe")
+        self.is_so((given.status, given.out, "to 9600/7e1: " in given.err, "does not know this speed, or these bits" in given.err), (4, "", True, True))
+        line.settle()
+        self.is_so(line.machine.typed, "")
+
+    def test_beside_a_load(self):
+        """The load goes on at its speed."""
+        line = self.machine(Console())
+        first = self.begin("1200 DEVICE load first.lda --quiet 3000")
+        until = time.monotonic() + 60
+        while not is_locked(line) and time.monotonic() < until:
+            time.sleep(0.01)
+        for words in ("300 DEVICE probe", "scan DEVICE", "300 DEVICE load first.lda"):
+            given = self.serial(words)
+            self.is_so((given.status, "in use by another program" in given.err), (4, True))
+        self.is_so((first.communicate(timeout=60), first.returncode), ((STARTED, ""), 0))
+        self.is_so(termios.tcgetattr(line.theirs)[4], termios.B1200)
+
+    def test_a_scan(self):
+        """At a wrong speed nothing is typed but `Z`."""
+        line = self.machine(Paced(termios.B300))
+        line.machine.device = line
+        given = self.serial("scan DEVICE")
+        self.assertRegex(given.out, r"\A9600: no ODT, heard ~+\n300: an ODT answers\nprompt yes\n(.*\n)+end Probed\nnow write: \S+ 300 \S+ load TAPE\n\Z")
+        self.is_so((given.status, given.err, set(line.machine.unheard)), (0, "", {"Z"}))
+
+    def test_what_is_said_until_a_terminal_begins(self):
+        """It is shown, though the terminal throws away what waits for it; and what comes then is the terminal's."""
+        self.machine(Talking())
+        self.stand_in("bin/picocom", text=FLUSHING)
+        given = self.serial(f"9600 DEVICE load first.lda --quiet {self.quiet} --talk")
+        self.is_so((given.status, given.out), (7, f"{STARTED}KEPT LATER\n"))
+
+    def test_an_interrupt_while_it_listens(self):
+        """A program that prints for ever is interrupted, and talked with."""
+        self.machine(Console(says=[(0.1, "END PASS\r\n")] * 300))
+        self.stand_in("bin/minicom")
+        process = self.begin(f"9600 DEVICE load first.lda --quiet {self.quiet} --talk")
+        said = ""
+        while "END PASS" not in said:
+            said += process.stdout.readline()
+        os.killpg(process.pid, signal.SIGINT)
+        process.communicate(timeout=60)
+        self.is_so((process.returncode, self.notes()[-1]), (0, "minicom -o -D DEVICE -b 9600"))
+
+    def test_an_interrupt_in_a_load(self):
+        """No terminal follows it."""
+        line = self.machine(Console())
+        self.stand_in("bin/minicom")
+        process = self.begin("9600 DEVICE load first.lda --quiet 60000 --talk")
+        until = time.monotonic() + 60
+        while not is_locked(line) and time.monotonic() < until:
+            time.sleep(0.01)
+        os.killpg(process.pid, signal.SIGINT)
+        process.communicate(timeout=60)
+        self.is_so((process.returncode, os.path.exists(self.path("notes"))), (130, False))
+
+    def test_the_simulated_machine(self):
+        """`tools/machine` runs what it is loaded with."""
+        shutil.copyfile(HELLO, self.path("hello.lda"))
+        subprocess.run([f"{TOP}/tools/machine", "./ttyUSB0"], cwd=self.room, check=True, stdout=subprocess.DEVNULL)
+        self.addCleanup(os.remove, self.path("ttyUSB0"))
+        given = self.serial(f"9600 ttyUSB0 load hello.lda --record hello.record --listen 1 --quiet {max(300, self.quiet)}")
+        self.ends(given, 0, "sent 610 spent 0 verified 28 of 28\nend Started\nHELLO FROM THE LSI-11\r\n\r\n001040\r\n@")
+
+
+def is_locked(line):
+    """Whether somebody else has a device."""
+    try:
+        fcntl.flock(line.theirs, fcntl.LOCK_EX | fcntl.LOCK_NB)
+    except OSError:
+        return True
+    fcntl.flock(line.theirs, fcntl.LOCK_UN)
+    return False
+
+
 class Installed(Script):
     """Where `make install` and `make dist` put it: beside the program, which it finds there."""
 
@@ -450,7 +578,8 @@ class Installed(Script):
         self.stand_in("bin/stty", "repository/ldaodt")
 
     def lay_out(self, *words):
-        return subprocess.run([f"{self.top}/tools/lay-out", *words], capture_output=True, text=True, check=True).stdout
+        env = {**os.environ, "NOTES": self.path("notes")}
+        return subprocess.run([f"{self.top}/tools/lay-out", *words], env=env, capture_output=True, text=True, check=True).stdout
 
     def test_below_a_folder_and_gone_again(self):
         self.lay_out("install", self.path("a prefix"))
@@ -462,8 +591,7 @@ class Installed(Script):
 
     def test_in_the_archive(self):
         """Beside the program, and where the documents have it."""
-        self.stand_in("repository/ldaodt", text=f'#!/bin/bash\n[ "$1" != --version ] || echo "ldaodt 0.0.0"\necho "$*" >> "$NOTES"\n')
-        os.environ["NOTES"] = self.path("notes")
+        self.stand_in("repository/ldaodt", text='#!/bin/bash\n[ "$1" != --version ] || echo "ldaodt 0.0.0"\necho "$*" >> "$NOTES"\n')
         archive = self.lay_out("dist").strip()
         subprocess.run(["tar", "-C", self.room, "-xf", f"{self.top}/{archive}"], check=True)
         for name in ("ldaodt-serial", "tools/serial"):

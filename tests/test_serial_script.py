@@ -51,6 +51,7 @@ PLACES = (
     # What stands behind an option that has a value is no tape, wherever that stands.
     ("load --record a.record a.lda --listen 10 b.lda", "load --record a.record a.lda LINE --listen 10 b.lda"),
     ("load --patience 100 --quiet 300 --start 1000 a.lda", "load --patience 100 --quiet 300 --start 1000 a.lda LINE"),
+    ("load --listen 10 a.lda b.lda", "load --listen 10 a.lda LINE b.lda"),
     ("save --start 1000 a.lda 0 100", "save --start 1000 a.lda LINE 0 100"),
     ("probe --address 2000", "probe LINE --address 2000"),
     # An option that has none, or has it in one word, or is not known here.
@@ -280,6 +281,14 @@ class Troubles(Script):
             with self.subTest(said):
                 given = self.serial("9600 DEVICE probe", env={"stty_says": said.replace("DEVICE", self.device), "stty_ends": "1"})
                 self.is_trouble(given, self.device, reason, remedy.replace("DEVICE", self.device))
+
+    def test_the_words_of_stty_are_read_in_no_other_language(self):
+        """The program's are the person's own."""
+        self.stand_in("bin/stty", text="#!/bin/bash\necho \"stty: it: $LC_ALL\" >&2\nexit 1\n")
+        self.is_trouble(self.serial("9600 DEVICE probe", env={"LC_ALL": "C.UTF-8"}), self.device, "C", "step 3")
+        self.stand_in("bin/stty")
+        self.stand_in("ldaodt", text="#!/bin/bash\necho \"$LC_ALL\"\n")
+        self.ends(self.serial("9600 DEVICE probe", env={"LC_ALL": "C.UTF-8"}), 0, "C.UTF-8\n")
 
     def test_names_that_are_no_device(self):
         self.put("plain", b"")

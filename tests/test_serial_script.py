@@ -15,6 +15,7 @@ import unittest
 
 from cases import Case, Console
 from outside import HELLO, PROGRAM, TOP, Answer, text_of
+from test_devices import is_locked
 
 # A command that notes its words, and its device where that is its input; it says and ends as the test asks.
 STAND_IN = """#!/bin/bash
@@ -27,7 +28,7 @@ exit "${!ended-0}"
 """
 
 # What the script calls and a test has no stand-in for.
-CALLED = "bash dirname readlink flock stat cat timeout sleep mktemp grep rm".split()
+CALLED = "bash dirname readlink flock stat cat timeout sleep mktemp grep sed tee rm".split()
 
 TERMINALS = ("picocom", "tio", "minicom")
 
@@ -116,7 +117,10 @@ time.sleep(0.5)
 termios.tcflush(line, termios.TCIFLUSH)
 time.sleep(2.5)
 os.write(line, b"l")
-print(os.read(line, 100).decode())
+said = b""
+while b"LATER" not in said:
+    said += os.read(line, 100)
+print(said.decode())
 sys.exit(7)
 """
 
@@ -535,9 +539,9 @@ class Machines(Script):
         self.machine(Console(says=[(0.1, "END PASS\r\n")] * 300))
         self.stand_in("bin/minicom")
         process = self.begin(f"9600 DEVICE load first.lda --quiet {self.quiet} --talk")
-        said = ""
-        while "END PASS" not in said:
-            said += process.stdout.readline()
+        for line in process.stdout:
+            if "END PASS" in line:
+                break
         os.killpg(process.pid, signal.SIGINT)
         process.communicate(timeout=60)
         self.is_so((process.returncode, self.notes()[-1]), (0, "minicom -o -D DEVICE -b 9600"))
@@ -561,16 +565,6 @@ class Machines(Script):
         self.addCleanup(os.remove, self.path("ttyUSB0"))
         given = self.serial(f"9600 ttyUSB0 load hello.lda --record hello.record --listen 1 --quiet {max(300, self.quiet)}")
         self.ends(given, 0, "sent 610 spent 0 verified 28 of 28\nend Started\nHELLO FROM THE LSI-11\r\n\r\n001040\r\n@")
-
-
-def is_locked(line):
-    """Whether somebody else has a device."""
-    try:
-        fcntl.flock(line.theirs, fcntl.LOCK_EX | fcntl.LOCK_NB)
-    except OSError:
-        return True
-    fcntl.flock(line.theirs, fcntl.LOCK_UN)
-    return False
 
 
 class Installed(Script):

@@ -477,6 +477,13 @@ class Machines(Script):
         self.addCleanup(process.kill)
         return process
 
+    def until_it_loads(self, process, line):
+        """Waits until the program of such a command has the device; before, the script looks whether it is free."""
+        until = time.monotonic() + 60
+        while "/ldaodt load " not in subprocess.run(["ps", "-s", str(process.pid), "-o", "args="], capture_output=True, text=True).stdout or not is_locked(line):
+            self.assertLess(time.monotonic(), until, "it never came to that")
+            time.sleep(0.01)
+
     def test_how_the_device_is_set_then(self):
         """No load succeeds at a device that is set as a terminal is, and none with an echo."""
         line = self.machine(Console())
@@ -510,9 +517,7 @@ class Machines(Script):
         """The load goes on at its speed."""
         line = self.machine(Console())
         first = self.begin("1200 DEVICE load first.lda --quiet 3000")
-        until = time.monotonic() + 60
-        while not is_locked(line) and time.monotonic() < until:
-            time.sleep(0.01)
+        self.until_it_loads(first, line)
         for words in ("300 DEVICE probe", "scan DEVICE", "300 DEVICE load first.lda"):
             given = self.serial(words)
             self.is_so((given.status, "in use by another program" in given.err), (4, True))
@@ -551,9 +556,7 @@ class Machines(Script):
         line = self.machine(Console())
         self.stand_in("bin/minicom")
         process = self.begin("9600 DEVICE load first.lda --quiet 60000 --talk")
-        until = time.monotonic() + 60
-        while not is_locked(line) and time.monotonic() < until:
-            time.sleep(0.01)
+        self.until_it_loads(process, line)
         os.killpg(process.pid, signal.SIGINT)
         process.communicate(timeout=60)
         self.is_so((process.returncode, os.path.exists(self.path("notes"))), (130, False))

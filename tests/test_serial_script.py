@@ -533,11 +533,15 @@ class Machines(Script):
         self.is_so((given.status, given.err, set(line.machine.unheard)), (0, "", {"Z"}))
 
     def test_what_is_said_until_a_terminal_begins(self):
-        """It is shown, though the terminal throws away what waits for it; and what comes then is the terminal's."""
-        self.machine(Talking())
-        self.stand_in("bin/picocom", text=FLUSHING)
-        given = self.serial(f"9600 DEVICE load first.lda --quiet {self.quiet} --talk")
-        self.is_so((given.status, given.out), (7, f"{STARTED}KEPT LATER\n"))
+        """It is shown, though the terminal throws away what waits for it; and what comes then is the terminal's. `tio` would end where
+        somebody else reads, too, so that nobody does once it has begun."""
+        for terminal, shown in (("picocom", "KEPT LATER"), ("tio", "LATER")):
+            with self.subTest(terminal):
+                self.machine(Talking())
+                self.stand_in(f"bin/{terminal}", text=FLUSHING)
+                given = self.serial(f"9600 DEVICE load first.lda --quiet {self.quiet} --talk")
+                self.is_so((given.status, given.out), (7, f"{STARTED}{shown}\n"))
+                os.remove(self.path(f"bin/{terminal}"))
 
     def test_an_interrupt_while_it_listens(self):
         """A program that prints for ever is interrupted, and talked with."""

@@ -97,7 +97,7 @@ brought program tape stub from before chunks core keys x y is within for plan ho
     console = s.console;
     runs = ap is_running s.runs;
     stub = s.stub ∙ ap fresh (ap (λ (p : PlanValue). program y.station.machine.memory (unwrap_or p.start 0)) plan ∙ for.code.lies y.station.machine.memory (all s));
-    room = λ k below. room s k below (for.code.soundings k below);
+    room = λ k below. room s k below (for.code.above k below);
   };
 }
   where

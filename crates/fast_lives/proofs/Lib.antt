@@ -6,3 +6,4 @@ mod Growing
 mod Loads
 mod Backs
 mod Chains
+mod Planning

@@ -2,3 +2,4 @@ pub mod Between
 pub mod StubParts
 pub mod FastLoads
 pub mod FastLives
+pub mod Planned

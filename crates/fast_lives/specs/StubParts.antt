@@ -23,7 +23,7 @@ use Rattle.exchange_law.specs.Station.{Program}
 -- known to be there
 pub record IsStubOf (program : Program) (stub : PlanValue) (chunks : List Chunk) : Type 0 where
   pub lies : (memory : List ℕ) → FirstStand stub.words (length stub.words) memory → program memory (unwrap_or stub.start 0) ≡ Some (pieces_of chunks)
-  pub soundings : (k : ℕ) → k < length chunks →
+  pub above : (k : ℕ) → k < length chunks →
       (i : ℕ) × (i < length stub.words) × ((chunk_nr chunks k).address + (chunk_nr chunks k).size ≤ (word_nr stub.words i).address + 2)
 
 -- a stub for the words of a tape behind the first ones: its plan touches bytes of the tape's image alone, and none of the first words

@@ -8,4 +8,4 @@
 
 mod law;
 
-pub use law::{fast_lives_are_trusted, fast_loads_are_trusted};
+pub use law::{fast_lives_are_trusted, fast_loads_are_trusted, planned_stubs_are_stubs};

@@ -15,6 +15,7 @@ from concurrent.futures import ProcessPoolExecutor
 
 sys.path.insert(0, os.path.join(os.path.dirname(os.path.dirname(os.path.realpath(__file__))), "tools"))
 import odt_peer
+from lsi11 import RunningMachine
 from outside import FIRST, TOP, Answer, HeldUp, bytes_of, run, run_often
 
 # The tapes that the tests name, by the names that they have in a test's folder.
@@ -56,6 +57,11 @@ class Keeping:
         self.answered += len(answer)
         return answer
 
+    def go_on(self):
+        answer = super().go_on()
+        self.answered += len(answer)
+        return answer
+
 
 class Losing:
     """A machine behind a line that loses one character: the key or the answer's character that comes as this one."""
@@ -68,8 +74,14 @@ class Losing:
         if len(self.typed) == self.lost_key:
             self.typed += key
             return ""
-        place = None if self.lost_answer is None else self.lost_answer - self.answered
-        answer = super().take(key)
+        return self.passed(self.answered, super().take(key))
+
+    def go_on(self):
+        return self.passed(self.answered, super().go_on())
+
+    def passed(self, before, answer):
+        """What passes of an answer, before which so many characters were answered."""
+        place = None if self.lost_answer is None else self.lost_answer - before
         return answer if place is None or not 0 <= place < len(answer) else answer[:place] + answer[place + 1:]
 
 
@@ -79,6 +91,14 @@ class Console(Keeping, odt_peer.Machine):
 
 class LossyConsole(Losing, Console):
     """ODT behind such a line."""
+
+
+class RunningConsole(Keeping, RunningMachine):
+    """ODT, and the program that is started runs."""
+
+
+class LossyRunningConsole(Losing, RunningConsole):
+    """The same behind such a line."""
 
 
 class SlowConsole(Console):

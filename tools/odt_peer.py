@@ -31,8 +31,8 @@ class Machine:
     """An LSI-11 as its console shows it. What its program prints, once it is started, is pieces of text, each
     behind so many seconds."""
 
-    # How many digits of a word it prints, and what it prints again and again, unasked.
-    width, chatter = 6, ""
+    # How many digits of a word it prints, what it prints again and again, unasked, and whether there is more to come without a key.
+    width, chatter, is_busy = 6, "", False
 
     def __init__(self, words=28672, style=0, says=()):
         self.words = [0] * words
@@ -74,6 +74,10 @@ class Machine:
             self.starts.append(self.number)
             return "G"
         return self.to_prompt(f"{key}?" if self.echoes_illegal else "?")
+
+    def go_on(self):
+        """Lets a busy machine go on for a while; returns all that it prints meanwhile."""
+        return ""
 
 
 class StoringMachine(Machine):
@@ -130,8 +134,13 @@ CONSOLES = {
 }
 
 
+def is_there(*ends):
+    """Whether something can be read at one of these."""
+    return bool(select.select(ends, [], [], 0)[0])
+
+
 class Line:
-    """A machine, and the line to it: subclasses say what the line is made of."""
+    """A machine, and the line to it: subclasses say what the line is made of, and whether a key is waiting there."""
 
     def __init__(self, machine, loss=0.0, seed=0, close_after=None, takes_last=False, baud=None, tell=None, at_once=False):
         self.machine, self.loss, self.baud = machine, loss, baud
@@ -153,7 +162,7 @@ class Line:
 
     def answer(self, receive, send):
         """The same, beside what it prints unasked."""
-        while keys := receive(64):
+        while self.go_on(send) and (keys := receive(64)):
             for key in keys.decode("latin-1"):
                 self.keys += 1
                 if self.is_over():
@@ -170,7 +179,14 @@ class Line:
                     self.tell(f"started at {self.machine.starts[-1]:06o}")
                 if not self.say(answer, send) or is_started and not self.run(send):
                     return True
-        return False
+        return self.is_over()
+
+    def go_on(self, send):
+        """Lets a busy machine go on until it waits for a key, or one is there; returns whether the line still holds."""
+        while self.machine.is_busy and not self.is_key_there():
+            if not self.say(self.machine.go_on(), send):
+                return False
+        return True
 
     @contextlib.contextmanager
     def chattering(self, send):
@@ -238,7 +254,7 @@ class Peer(Line):
 
     def __init__(self, machine, port=0, host="127.0.0.1", **named):
         super().__init__(machine, **named)
-        self.connections = 0
+        self.connections, self.connection = 0, None
         family = socket.AF_INET6 if ":" in host else socket.AF_INET
         self.listener = socket.create_server((host, port), family=family)
         self.host, self.port = self.listener.getsockname()[:2]
@@ -252,6 +268,7 @@ class Peer(Line):
             except OSError:
                 return
             self.connections += 1
+            self.connection = connection
             self.tell("connected")
             with connection:
                 try:
@@ -260,6 +277,9 @@ class Peer(Line):
                 except OSError:
                     pass
             self.tell(f"gone: {self.count()}")
+
+    def is_key_there(self):
+        return is_there(self.connection)
 
     def settle(self, seconds=10):
         """Waits until all earlier callers are served, and what they sent is taken: connections are served in turn,
@@ -328,6 +348,9 @@ class Device(Line):
                 return b""
             else:
                 self.is_settled.set()
+
+    def is_key_there(self):
+        return is_there(self.ours, self.asks)
 
     def send(self, text):
         """Sends; a device at which nobody reads holds only so much, and the rest is lost, as on a real line."""

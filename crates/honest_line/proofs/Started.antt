@@ -48,7 +48,7 @@ use Rattle.honest_line.proofs.Wires.{passes_lost}
 -- ---- the one row that ends a life as started
 
 -- a turn that does not say that the program started
-abbrev NoStart : Turn → Type 0
+abbrev pub NoStart : Turn → Type 0
 NoStart (Listen phase) = phase ≡ Ended Started → ⊥
 NoStart (Key key phase) = phase ≡ Ended Started → ⊥
 NoStart (Stop end) = end ≡ Started → ⊥
@@ -63,7 +63,7 @@ comes_back Store = tt
 comes_back Close = tt
 
 -- on a character the table says so at the echo of `G` alone, or where it was said before
-hears_start : (word : WordValue) (start : ℕ) (phase : Phase) (c : ℕ) → NoStart (hears word start phase c) ⊎ ((phase ≡ Go) ⊎ (phase ≡ Ended Started))
+pub hears_start : (word : WordValue) (start : ℕ) (phase : Phase) (c : ℕ) → NoStart (hears word start phase c) ⊎ ((phase ≡ Go) ⊎ (phase ≡ Ended Started))
 hears_start word start Settle c = inl (λ e. cc)
 hears_start word start (Sync place) c = inl (sync_walk NoStart place c tt (λ k within e. cc) tt)
 hears_start word start (Address visit place) c = inl (address_walk NoStart word.address visit place c tt (λ less e. cc) (λ e. cc))
@@ -78,7 +78,7 @@ hears_start word start Go c = inr (inl refl)
 hears_start word start (Ended Started) c = inr (inr refl)
 hears_start word start (Ended end) c = inl (λ e. cc)
 
-waits_start : (phase : Phase) → NoStart (waits phase) ⊎ (phase ≡ Ended Started)
+pub waits_start : (phase : Phase) → NoStart (waits phase) ⊎ (phase ≡ Ended Started)
 waits_start Settle = inl (λ e. cc)
 waits_start Go = inl (λ e. cc)
 waits_start (Ended Started) = inr refl
@@ -86,7 +86,7 @@ waits_start (Ended end) = inl (λ e. cc)
 waits_start phase = inl tt
 
 -- the move of such a turn
-abbrev EndsOtherwise : Move → Type 0
+abbrev pub EndsOtherwise : Move → Type 0
 EndsOtherwise m = m.next.phase ≡ Ended Started → ⊥
 
 words_otherwise : (core : Core) (start : Option ℕ) → EndsOtherwise (after_words core start)
@@ -99,7 +99,7 @@ stops_otherwise core end other e = other (same end e)
     same : (end : End) → Ended end ≡ Ended Started → end ≡ Started
     same end e = cc
 
-otherwise : (core : Core) (turn : Turn) → NoStart turn → EndsOtherwise (taken core turn)
+pub otherwise : (core : Core) (turn : Turn) → NoStart turn → EndsOtherwise (taken core turn)
 otherwise core (Listen phase) none e = none e
 otherwise core (Key key phase) none e = none e
 otherwise core (Stop end) none e = stops_otherwise core end none e
@@ -149,7 +149,7 @@ silence_started m core [] [] lost s = λ e. elim (waits_start core.phase) [ inl 
 silence_started m core (c ∷ down) up lost s = s
 silence_started m core [] (c ∷ up) lost s = s
 
-begins_otherwise : (plan : PlanValue) (k : ℕ) (going : Bool) → first_phase plan k going ≡ Ended Started → ⊥
+pub begins_otherwise : (plan : PlanValue) (k : ℕ) (going : Bool) → first_phase plan k going ≡ Ended Started → ⊥
 begins_otherwise plan k true e = cc
 begins_otherwise plan k false e = on_test (λ v. (if v then Ended Loaded else Settle) ≡ Ended Started → ⊥) (k == length plan.words && is_none plan.start) (λ _ f. cc) (λ _ f. cc) e
 

@@ -99,7 +99,7 @@ not_set true is = absurd (is refl)
 not_set false is = refl
 
 -- the dialogue ended with a key
-last_key : (core : Core) (things : List Heard) (front : List Item) (key : ℕ) → dialogue core things ≡ front ++ Sent key ∷ [] →
+pub last_key : (core : Core) (things : List Heard) (front : List Item) (key : ℕ) → dialogue core things ≡ front ++ Sent key ∷ [] →
     (first : List Heard) × (last : Heard) × (led core things ≡ (move (led core first) last).next) × (front ≡ dialogue core first ++ Came last ∷ []) × ((move (led core first) last).key ≡ Some key)
 last_key core things front key is = one (broken core things front (Sent key ∷ []) is)
   where

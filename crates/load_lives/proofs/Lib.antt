@@ -1,8 +1,8 @@
 mod Renewals
 mod Running
-mod LastTurns
-mod Records
+pub mod LastTurns
+pub mod Records
 mod Starting
-mod Chains
+pub mod Chains
 pub mod Stopping
 pub mod Keepers

@@ -61,7 +61,7 @@ untouched plan recorded begun core items old new mark stays set says same = reco
 }
 
 -- where the whole new text says the mark, the text says it
-said_whole : (plan : PlanValue) (core : Core) (new : List ℕ) (progress : Progress) → IsPlan plan → core.going ≡ true → CanBeRead plan core → Says plan new (Ok progress) →
+pub said_whole : (plan : PlanValue) (core : Core) (new : List ℕ) (progress : Progress) → IsPlan plan → core.going ≡ true → CanBeRead plan core → Says plan new (Ok progress) →
     new ≡ record_text Second plan core.verified true → progress.going ≡ true
 said_whole plan core new progress fits set sound says whole =
     let readable : IsSound plan (record { verified = core.verified; going = true }) = subst (λ g. IsSound plan (record { verified = core.verified; going = g })) set sound in

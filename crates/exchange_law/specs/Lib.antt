@@ -1,0 +1,4 @@
+pub mod Station
+pub mod Line
+pub mod Unsettled
+pub mod Law

@@ -1,0 +1,9 @@
+mod Storing
+mod Leaving
+mod Going
+mod Calm
+mod Growing
+mod Loads
+mod Backs
+mod Chains
+mod Planning

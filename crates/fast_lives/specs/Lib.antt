@@ -1,0 +1,5 @@
+pub mod Between
+pub mod StubParts
+pub mod FastLoads
+pub mod FastLives
+pub mod Planned

@@ -1,0 +1,7 @@
+mod Bytes
+mod Cuts
+mod Fronts
+mod Parts
+mod Soundings
+mod Stubs
+mod Together

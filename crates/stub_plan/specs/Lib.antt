@@ -1,0 +1,3 @@
+pub mod Chunking
+pub mod StubPlan
+pub mod Window

@@ -1,0 +1,3 @@
+mod Lines
+mod Starting
+mod Steps

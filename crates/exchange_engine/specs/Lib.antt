@@ -1,0 +1,4 @@
+pub mod Belief
+pub mod Exchanged
+pub mod Failing
+pub mod Keeping

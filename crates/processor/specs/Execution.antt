@@ -4,7 +4,8 @@ use Rattle.odt_machine.specs.Machine.{is_word, word_at}
 use Rattle.processor.specs.Machine.{Machine, State, Runs, Halted, Astray, astray}
 use Rattle.processor.specs.Access.{Got}
 use Rattle.processor.specs.Operand.{Width, Word, Byte, Location, Found, found, read, operand, write, extended, move_byte}
-use Rattle.processor.specs.Instruction.{Instruction, Halt, Mov, Movb, Cmp, Bit, Bic, Add, Sub, Com, Asl, Asr, Tstb, Mtps, Br, Bne, Beq, Bpl, Bhi, Other, decoded}
+use Rattle.processor.specs.Instruction.{Instruction, Halt, Mov, Movb, Cmp, Bit, Bic, Add, Sub, Com, Asl, Asr, Tstb, Mtps, Other, decoded}
+use Rattle.processor.specs.Instruction.{Br, Bne, Beq, Bpl, Bhi}
 
 -- ---- numbers of sixteen bits
 

@@ -1,4 +1,3 @@
 mod Lines
 mod Starting
 mod Steps
-mod Verified

@@ -1,3 +1,2 @@
 pub mod Start
 pub mod Station
-pub mod Verified

@@ -1,6 +1,5 @@
 ghost use Rattle.stub_station.specs.Start.{StartedStubsAreStations};
 ghost use Rattle.stub_station.specs.Station.{StubsAreStations, StubsBeginFresh};
-ghost use Rattle.stub_station.specs.Verified.{VerifiedStubsAreFound};
 
 /// What passes between a host and the machine with the stub's words in it passes over a line at whose
 /// end a station stands on which that stub runs. This function does nothing: its contract is the law.
@@ -18,10 +17,4 @@ pub fn stubs_begin_fresh()
 /// contract is the law.
 pub fn started_stubs_are_stations()
     ensures { StartedStubsAreStations }
-{}
-
-/// A stub all of whose words a host verified stands where it was typed. This function does nothing: its
-/// contract is the law.
-pub fn verified_stubs_are_found()
-    ensures { VerifiedStubsAreFound }
 {}

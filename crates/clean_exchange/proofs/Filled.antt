@@ -94,12 +94,12 @@ abbrev pub behind : Image → Chunk → List Stretch → List ℕ → List ℕ �
 behind image c rest memory answers =
     record { memory = written image c memory c.size; left = rest; next = first_byte rest; high = None; answers = answers ++ chunk_text (written image c memory c.size) (stretch_of c) }
 
-after_then : (f : Filling) (xs ys : List ℕ) → after f (xs ++ ys) ≡ after (after f xs) ys
+pub after_then : (f : Filling) (xs ys : List ℕ) → after f (xs ++ ys) ≡ after (after f xs) ys
 after_then f [] ys = refl
 after_then f (x ∷ xs) ys = after_then (taken f x) xs ys
 
 -- a nibble's character is taken
-one_taken : (f : Filling) (s : Stretch) (rest : List Stretch) (n : ℕ) → n < 16 → takes f (s ∷ rest) (96 + n) ≡ with_nibble f f.high n s rest
+pub one_taken : (f : Filling) (s : Stretch) (rest : List Stretch) (n : ℕ) → n < 16 → takes f (s ∷ rest) (96 + n) ≡ with_nibble f f.high n s rest
 one_taken f s rest n small =
     ap (λ (t : Bool). if t then with_nibble f f.high (96 + n - 96) s rest else record f { left = [] }) (is_one n small) ∙ ap (λ k. with_nibble f f.high k s rest) (the_nibble n)
   where
@@ -110,7 +110,7 @@ one_taken f s rest n small =
     the_nibble n = omega arith
 
 -- the characters of a byte
-even_key : (image : Image) (c : Chunk) (j : ℕ) → key_at image c (2 * j) ≡ 96 + told image (c.address + j) / 16
+pub even_key : (image : Image) (c : Chunk) (j : ℕ) → key_at image c (2 * j) ≡ 96 + told image (c.address + j) / 16
 even_key image c j = ap (λ i. key_for (told image (c.address + i)) (2 * j)) (half_of j) ∙ ap (λ (t : Bool). 96 + (if t then told image (c.address + j) / 16 else told image (c.address + j) % 16)) (test j)
   where
     half_of : (j : ℕ) → 2 * j / 2 ≡ j
@@ -162,7 +162,7 @@ unfolding chunk_keys
 keys_none image c = refl
 
 -- the first bytes of a chunk
-some_taken : (image : Image) (c : Chunk) (rest : List Stretch) (memory answers : List ℕ) (j : ℕ) → AreBytes image → j < c.size → after (midway image c rest memory answers 0) (chunk_keys image c (2 * j)) ≡ midway image c rest memory answers j
+pub some_taken : (image : Image) (c : Chunk) (rest : List Stretch) (memory answers : List ℕ) (j : ℕ) → AreBytes image → j < c.size → after (midway image c rest memory answers 0) (chunk_keys image c (2 * j)) ≡ midway image c rest memory answers j
 some_taken image c rest memory answers zero small less = ap (after (midway image c rest memory answers 0)) (keys_none image c)
 some_taken image c rest memory answers (suc j) small less =
     ap (after (midway image c rest memory answers 0)) (keys_twice image c j)
@@ -235,7 +235,7 @@ spelled_told image memory a (suc n) same =
     next : (a i : ℕ) → a + suc i ≡ a + 1 + i
     next a i = omega arith
 
-chunk_told : (image : Image) (c : Chunk) (memory : List ℕ) → AreBytes image → IsWide memory → c.address + c.size ≤ top_of memory → chunk_text (written image c memory c.size) (stretch_of c) ≡ told_text image c.address c.size
+pub chunk_told : (image : Image) (c : Chunk) (memory : List ℕ) → AreBytes image → IsWide memory → c.address + c.size ≤ top_of memory → chunk_text (written image c memory c.size) (stretch_of c) ≡ told_text image c.address c.size
 chunk_told image c memory small wide room =
     ap (spelled (written image c memory c.size) c.address) (size c.address c.size) ∙ spelled_told image (written image c memory c.size) c.address c.size (λ i less. written_in image c memory c.size i small wide less room)
   where

@@ -81,7 +81,7 @@ same_is : (a b : ℕ) → a ≡ b → (a == b) ≡ true
 same_is a b e = grind (arith, nat_tests)
 
 -- one that is not the last
-goes_on : (image : Image) (chunks : List Chunk) (e : Exchange) (place x : ℕ) → x ≡ answer_at image (chunk_nr chunks e.done) place → place + 1 < 2 * (chunk_nr chunks e.done).size →
+pub goes_on : (image : Image) (chunks : List Chunk) (e : Exchange) (place x : ℕ) → x ≡ answer_at image (chunk_nr chunks e.done) place → place + 1 < 2 * (chunk_nr chunks e.done).size →
     advance image chunks (record e { phase = Answer place }) (Got x) ≡ listens e (Answer (place + 1))
 goes_on image chunks e place x is more =
     ap (λ (t : Bool). taken image chunks (record e { phase = Answer place }) (if t then (if nat_lt (place + 1) (2 * (chunk_nr chunks e.done).size) then Listen (Answer (place + 1)) else Verified) else Listen Leave))
@@ -92,7 +92,7 @@ goes_on image chunks e place x is more =
     less a b h = grind (arith, nat_tests)
 
 -- the last one
-ends_chunk : (image : Image) (chunks : List Chunk) (e : Exchange) (place x : ℕ) → x ≡ answer_at image (chunk_nr chunks e.done) place → place + 1 ≡ 2 * (chunk_nr chunks e.done).size →
+pub ends_chunk : (image : Image) (chunks : List Chunk) (e : Exchange) (place x : ℕ) → x ≡ answer_at image (chunk_nr chunks e.done) place → place + 1 ≡ 2 * (chunk_nr chunks e.done).size →
     advance image chunks (record e { phase = Answer place }) (Got x) ≡ next_chunk image chunks (with_chunk chunks e)
 ends_chunk image chunks e place x is last =
     ap (λ (t : Bool). taken image chunks (record e { phase = Answer place }) (if t then (if nat_lt (place + 1) (2 * (chunk_nr chunks e.done).size) then Listen (Answer (place + 1)) else Verified) else Listen Leave))
@@ -102,7 +102,7 @@ ends_chunk image chunks e place x is last =
     not_less : (a b : ℕ) → a ≡ b → nat_lt a b ≡ false
     not_less a b h = grind (arith, nat_tests)
 
-even_answer : (image : Image) (c : Chunk) (a j : ℕ) → a ≡ c.address + j → answered (told image a / 16) ≡ answer_at image c (2 * j)
+pub even_answer : (image : Image) (c : Chunk) (a j : ℕ) → a ≡ c.address + j → answered (told image a / 16) ≡ answer_at image c (2 * j)
 even_answer image c a j is =
     ap (λ b. answered (told image b / 16)) is
     ∙ (sym (ap (λ (t : Bool). 111 - (if t then told image (c.address + j) / 16 else told image (c.address + j) % 16)) (test j)) ∙ ap (λ i. answer_for (told image (c.address + i)) (2 * j)) (sym (half_of j)))
@@ -113,7 +113,7 @@ even_answer image c a j is =
     test : (j : ℕ) → (2 * j % 2 == 0) ≡ true
     test j = grind (arith, nat_tests)
 
-odd_answer : (image : Image) (c : Chunk) (a j : ℕ) → a ≡ c.address + j → answered (told image a % 16) ≡ answer_at image c (2 * j + 1)
+pub odd_answer : (image : Image) (c : Chunk) (a j : ℕ) → a ≡ c.address + j → answered (told image a % 16) ≡ answer_at image c (2 * j + 1)
 odd_answer image c a j is =
     ap (λ b. answered (told image b % 16)) is
     ∙ (sym (ap (λ (t : Bool). 111 - (if t then told image (c.address + j) / 16 else told image (c.address + j) % 16)) (test j)) ∙ ap (λ i. answer_for (told image (c.address + i)) (2 * j + 1)) (sym (half_of j)))

@@ -1,0 +1,4 @@
+mod Filled
+mod Hearing
+mod Whole
+mod Running

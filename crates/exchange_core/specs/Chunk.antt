@@ -1,5 +1,6 @@
 -- The chunks in which a stub takes an image, and the characters in which they are told (this project's choice).
-use Rattle.std.specs.Prelude.{◌≡◌, ◌↔◌, ℕ, zero, suc, ◌+◌, ◌-◌, ◌/◌, ◌%◌, ◌<◌, ◌≤◌, ◌==◌, true, if◌then◌else◌, IsSome, List, [], ◌∷◌, ◌++◌, length, get_or, unwrap_or}
+use Rattle.std.specs.Prelude.{◌≡◌, ◌↔◌, ℕ, zero, suc, ◌+◌, ◌-◌, ◌/◌, ◌%◌, ◌<◌, ◌≤◌, ◌==◌, true, if◌then◌else◌}
+use Rattle.std.specs.Prelude.{IsSome, List, [], ◌∷◌, ◌++◌, length, get_or, unwrap_or}
 use Rattle.std.specs.FinMap.{get}
 use Rattle.tape_values.specs.Block.{top}
 use Rattle.tape_image.specs.Image.{Image}

@@ -83,7 +83,8 @@ abbrev pub StubMeets : Bool → Machine → List Stretch → ℕ → Station →
 StubMeets false m stretches count station' answer = (station' ≡ halted m m.memory) × IsHaltText answer
 StubMeets true m [] count station' answer = (station' ≡ halted m m.memory) × IsHaltText answer
 StubMeets true m (stretch ∷ stretches) count station' answer =
-    (memory : List ℕ) × ChangesWithin stretch m.memory memory × Fills (nat_lt (count + 1) (2 * size_of stretch)) m memory stretch stretches count station' answer
+    (memory : List ℕ) × ChangesWithin stretch m.memory memory
+    × Fills (nat_lt (count + 1) (2 * size_of stretch)) m memory stretch stretches count station' answer
 
 -- which stretches a stub fills that lies in a memory at an address, where one lies there
 abbrev pub Program : Type 0

@@ -7,7 +7,8 @@ use Rattle.odt_machine.specs.Machine.{IsWide}
 use Rattle.processor.specs.Access.{with_byte}
 use Rattle.exchange_core.specs.declared.stretch.Stretch.{Stretch}
 use Rattle.exchange_core.specs.Stretch.{pieces}
-use Rattle.stub.specs.Filling.{Filling, begun, after, taken, takes, with_nibble, stored_next, first_byte, is_nibble, chunk_text}
+use Rattle.exchange_core.specs.Chunk.{is_nibble}
+use Rattle.stub.specs.Filling.{Filling, begun, after, taken, takes, with_nibble, stored_next, first_byte, chunk_text}
 use Rattle.stub.specs.Place.{StretchesFit}
 use Rattle.stub.specs.Law.{IsOutside, filled, seven}
 use Rattle.stub.proofs.Cuts.{chunks_fit, chunks_outside}

@@ -34,9 +34,15 @@ QUIET, PATIENT_QUIET, LONG_QUIET = 200, 1000, 3000
 class Keeping:
     """A machine that keeps which keys were typed at it, and when, and how many characters it answered."""
 
+    # The machines of the test under way.
+    made = []
+
     def __init__(self, words=28672, memory=None, style=0, says=()):
         super().__init__(words, style, says)
         self.typed, self.times, self.answered = "", [], 0
+        # What is typed behind the start, where a test says that something is.
+        self.behind_start = ""
+        Keeping.made.append(self)
         for address, value in (memory or {}).items():
             self.words[address // 2] = value
 
@@ -99,6 +105,10 @@ class RunningConsole(Keeping, RunningMachine):
 
 class LossyRunningConsole(Losing, RunningConsole):
     """The same behind such a line."""
+
+
+class StoringConsole(Losing, Keeping, odt_peer.StoringMachine):
+    """An illegal key stores the digits that were typed."""
 
 
 class SlowConsole(Console):
@@ -198,6 +208,14 @@ class Case(unittest.TestCase):
     def setUp(self):
         self.room = tempfile.mkdtemp(prefix="outside-")
         self.addCleanup(shutil.rmtree, self.room)
+        Keeping.made.clear()
+        self.addCleanup(self.were_started_once)
+
+    def were_started_once(self):
+        """Asserts of each machine of the test, whatever that is about: its program's start was typed once at most, and
+        nothing behind it but what the test says."""
+        for machine in Keeping.made:
+            self.is_so(machine.typed.partition("G")[2], machine.behind_start)
 
     def path(self, name):
         return os.path.join(self.room, name)
@@ -230,6 +248,7 @@ class Case(unittest.TestCase):
         """Puts a machine behind a port; `named` says after how many characters the line breaks."""
         peer = odt_peer.Peer(machine, **named)
         self.addCleanup(peer.close)
+        self.addCleanup(peer.settle)
         peer.address = peer.name
         return peer
 
@@ -254,6 +273,7 @@ class Case(unittest.TestCase):
         """Puts a machine at a serial device; `named` says how it is set, and after how many characters it hangs up."""
         device = odt_peer.Device(machine, **named)
         self.addCleanup(device.close)
+        self.addCleanup(device.settle)
         device.address = device.name
         return device
 

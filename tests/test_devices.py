@@ -152,25 +152,32 @@ class Loads(Devices):
 class Refusals(Devices):
     """Names that are no serial device, or none that may be used."""
 
-    def is_refused(self, name, **more):
+    def is_refused(self, name, is_none=False):
+        """A name that is there and no character device is refused as such, before anything is read."""
         self.put("a.record", b"LDAODT 2\n")
-        given = self.ldaodt(["load", "first.lda", name, "--quiet", str(self.quiet), "--record", "a.record"], **more)
-        self.ends(given, 4, "", f"ldaodt: cannot connect to {name}\n")
+        given = self.ldaodt(["load", "first.lda", name, "--quiet", str(self.quiet), "--record", "a.record"])
+        if is_none:
+            self.ends(given, 2, "", f"ldaodt: {name} is no serial device: load TAPE LINE [MORE]..\n")
+        else:
+            self.ends(given, 4, "", f"ldaodt: cannot connect to {name}\n")
         self.is_so(bytes_of(self.path("a.record")), b"LDAODT 2\n")
 
     def test_names_that_are_no_device(self):
         self.put("plain", b"")
         os.mkfifo(self.path("pipe"))
-        for name in ("./nothing", "./plain", "./pipe", "./nothing/device", ".", "/", "/dev", "/dev/null", "/dev/zero", "/dev/full"):
+        for name in ("./plain", "./pipe", "./", "/", "/dev"):
             with self.subTest(name):
-                self.is_refused("./" if name == "." else name)
+                self.is_refused(name, is_none=True)
+        for name in ("./nothing", "./nothing/device", "/dev/null", "/dev/zero", "/dev/full"):
+            with self.subTest(name):
+                self.is_refused(name)
 
     def test_a_pipe_is_not_even_opened(self):
         """Who reads it would find out that somebody had come and gone."""
         os.mkfifo(self.path("pipe"))
         reader = os.open(self.path("pipe"), os.O_RDONLY | os.O_NONBLOCK)
         self.addCleanup(os.close, reader)
-        self.is_refused("./pipe")
+        self.is_refused("./pipe", is_none=True)
         waiting = select.poll()
         waiting.register(reader, 0)
         self.is_so(waiting.poll(0), [])

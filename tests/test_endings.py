@@ -74,6 +74,7 @@ LOADS = [
     ("", FalteringConsole, 30, 1, "Started", 0, "", None),
     ("--no-start", FalteringConsole, 23, 1, "Loaded", 0, "", None),
     ("", SilentStart, 30, 1, "Uncertain", 6, "", None),
+    ("--listen 1", SilentStart, 30, 1, "Uncertain", 6, "", None),
     ("", small, 8, 0, "NoWord 001000", 5, "", None),
     ("", StubbornConsole, 22, 0, "WontHold 001000", 5, "", None),
     ("", FalteringConsole, 2, 0, "LineFailed", 4, LINE_FAILED, TO_PROMPT),

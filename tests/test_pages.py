@@ -9,7 +9,7 @@ import subprocess
 import unittest
 from concurrent.futures import ThreadPoolExecutor
 
-from cases import Case
+from cases import Case, Console, StoringConsole
 from outside import FIRST, HELLO, PROGRAM, TOP, run
 
 ROW = re.compile(r"^\|(.*)\|$", re.MULTILINE)
@@ -314,11 +314,20 @@ class Links(unittest.TestCase):
         self.assertGreater(named, 10)
 
 
+class FadingConsole(Console):
+    """Once a second load or look begins, which types a `Z`, its word at 001000 is gone."""
+
+    def take(self, key):
+        if key == "Z" and "Z" in self.typed:
+            self.words[0o1000 // 2] = 0
+        return super().take(key)
+
+
 class Pasting(Case):
     """Blocks that are shown to be pasted into a shell, as they stand, with a simulated machine for the device. They are
     pasted side by side, each in a folder of its own."""
 
-    def folder(self, number):
+    def folder(self, number, device=None):
         """A folder that has what a block names: the program, by its name alone too, the tapes, and a machine's console."""
         room = self.path(str(number))
         os.makedirs(f"{room}/bin")
@@ -327,8 +336,11 @@ class Pasting(Case):
         os.symlink(PROGRAM, f"{room}/bin/ldaodt")
         os.symlink(HELLO, f"{room}/program.lda")
         os.symlink(FIRST, f"{room}/first.lda")
-        subprocess.run(["tools/machine", "./ttyUSB0"], cwd=room, check=True, stdout=subprocess.DEVNULL)
-        self.addCleanup(self.switch_off, room)
+        if device:
+            os.symlink(device, f"{room}/ttyUSB0")
+        else:
+            subprocess.run(["tools/machine", "./ttyUSB0"], cwd=room, check=True, stdout=subprocess.DEVNULL)
+            self.addCleanup(self.switch_off, room)
         return room
 
     def switch_off(self, room):
@@ -344,10 +356,14 @@ class Pasting(Case):
         if "verify" in block and "load" not in block:
             loaded = run("load first.lda ./ttyUSB0 --no-start --quiet 300".split(), cwd=room)
             self.is_so((loaded.status, loaded.err), (0, ""))
+        ran = self.shell(["bash", "-e"], block, room)
+        return ran.returncode, ran.stderr
+
+    def shell(self, words, block, room):
+        """What a shell makes of a block that is typed into it."""
         text = block.replace("/dev/ttyUSB0", "./ttyUSB0").replace("--listen 10", "--listen 1")
         env = {**os.environ, "PATH": f"{room}/bin:{os.environ['PATH']}"}
-        ran = subprocess.run(["bash", "-e"], input=text, text=True, cwd=room, env=env, capture_output=True, timeout=600)
-        return ran.returncode, ran.stderr
+        return subprocess.run(words, input=text, text=True, cwd=room, env=env, capture_output=True, timeout=600, check=False)
 
     def paste_all(self, blocks):
         """Asserts that each command of each block ends well and says nothing of a fault."""
@@ -356,25 +372,63 @@ class Pasting(Case):
                 with self.subTest(block):
                     self.is_so(ended, (0, ""))
 
-    def test_the_blocks_of_the_pages(self):
-        blocks = re.findall(r"^```sh\n(.*?)^```$", "".join(map(text_at, ("README.md", "docs/REAL-MACHINE.md", "examples/README.md"))),
-                            re.MULTILINE | re.DOTALL)
-        self.assertGreaterEqual(len(blocks), 4)
-        self.paste_all(blocks)
+    def of_the_pages(self):
+        pages = "".join(map(text_at, ("README.md", "docs/REAL-MACHINE.md", "examples/README.md")))
+        return re.findall(r"^```sh\n(.*?)^```$", pages, re.MULTILINE | re.DOTALL)
 
-    def test_the_examples_of_help(self):
+    def of_help(self):
         blocks = []
         for command in ["", *commands()]:
             examples = run([*command.split(), "--help"]).out.split("Example")[1:]
             self.assertTrue(examples, command)
             blocks.extend("".join(f"{it[2:]}\n" for it in text.split("\n")[1:] if it.startswith("  ")) for text in examples)
-        self.paste_all(blocks)
+        return blocks
 
-    def test_the_examples_of_the_manual_page(self):
+    def of_the_manual_page(self):
         page = text_at("docs/ldaodt.1").split(".Sh EXAMPLES")[1].split(".Sh DIAGNOSTICS")[0].replace("\\e", "\\")
         blocks = re.findall(r"^\.Dl (\$ .*\n)", page, re.MULTILINE) + re.findall(r"^\.Bd -literal.*?\n(.*?)^\.Ed", page, re.MULTILINE | re.DOTALL)
-        self.assertGreaterEqual(len(blocks), 4)
-        self.paste_all([re.sub(r"^\$ ", "", it, flags=re.MULTILINE).replace("0 157776", "0 176") for it in blocks])
+        return [re.sub(r"^\$ ", "", it, flags=re.MULTILINE).replace("0 157776", "0 176") for it in blocks]
+
+    def test_the_blocks_of_the_pages(self):
+        self.assertGreaterEqual(len(self.of_the_pages()), 4)
+        self.paste_all(self.of_the_pages())
+
+    def test_the_examples_of_help(self):
+        self.paste_all(self.of_help())
+
+    def test_the_examples_of_the_manual_page(self):
+        self.assertGreaterEqual(len(self.of_the_manual_page()), 4)
+        self.paste_all(self.of_the_manual_page())
+
+    def typed_by(self, block, console, number):
+        """What is typed at such a console where a block is typed into a shell. Nothing is started there."""
+        device = self.device_at(console())
+        self.shell(["bash"], block, self.folder(number, device.name))
+        device.settle()
+        self.is_so(device.machine.starts, [])
+        return device.machine.typed
+
+    def shown_before_a_load(self, command):
+        blocks = [*self.of_the_pages(), *self.of_help(), *self.of_the_manual_page()]
+        return [it for it in blocks if re.search(rf"ldaodt {command} .*ldaodt load ", it, re.DOTALL)]
+
+    def test_no_load_behind_a_probe_that_warns(self):
+        """At a console that stores: behind what the probe types there may be looks, and no digit is typed into a word."""
+        alone = self.typed_by("ldaodt probe /dev/ttyUSB0\n", StoringConsole, "alone")
+        blocks = self.shown_before_a_load("probe")
+        self.assertGreaterEqual(len(blocks), 2)
+        for number, block in enumerate(blocks):
+            with self.subTest(block):
+                typed = self.typed_by(block, StoringConsole, number)
+                self.is_so(typed[: len(alone)], alone)
+                self.assertIsNone(re.search(r"/[0-7]|[^0-7/\rZ]", typed[len(alone) :]), repr(typed))
+
+    def test_no_start_behind_a_verify_that_finds_a_difference(self):
+        blocks = self.shown_before_a_load("verify")
+        self.assertGreaterEqual(len(blocks), 1)
+        for number, block in enumerate(blocks):
+            with self.subTest(block):
+                self.typed_by(block, FadingConsole, number)
 
 
 if __name__ == "__main__":

@@ -136,7 +136,7 @@ class PowerLoss(Loads):
         self.is_whole_and_started(peer)
 
     def test_a_terminal_is_told_that_words_are_believed(self):
-        """Before the first key, and only where some are."""
+        """Before the first key and behind the report, and only where some are."""
         for record, option, is_told in ((ONE_WORD, "", True), (ONE_WORD, " --recheck", False), ("", "", False)):
             self.put("a.record", record.encode())
             peer = self.console_at(Console(memory={0o1000: 0o031421}))
@@ -144,7 +144,7 @@ class PowerLoss(Loads):
             given, shown = self.at_a_terminal(lambda terminal: self.load(peer, words, stderr=terminal))
             self.is_so(given.status, 0)
             self.is_so(GOING_ON in shown, is_told)
-            self.assertTrue(shown.endswith("\r\x1b[K"), repr(shown))
+            self.is_so(shown.split("\r\x1b[K")[-1], "1 of 2 by the record\r\n" if is_told else "")
 
 
 class BehindTheStart(Loads):

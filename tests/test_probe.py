@@ -16,7 +16,7 @@ import time
 import unittest
 from concurrent.futures import ThreadPoolExecutor
 
-from cases import BabblingPeer, Case, Console, DeafConsole, Keeping, Losing, LossyConsole, SlowConsole, pace, timeless
+from cases import BabblingPeer, Case, Console, DeafConsole, Keeping, LossyConsole, SlowConsole, StoringConsole, pace, timeless
 from outside import NO_OUTPUT, PROGRAM
 import odt_peer
 
@@ -29,10 +29,6 @@ PROMPTED, STYLE_SEEN = 5, LOOK_OVER + 20
 
 # What is lost of a look, a trial and a look: each key, and each third character of the answers.
 LOSSES = [{"lost_key": it} for it in range(30)] + [{"lost_answer": it} for it in range(0, 67, 3)]
-
-
-class StoringConsole(Losing, Keeping, odt_peer.StoringMachine):
-    """An illegal key stores the digits that were typed."""
 
 
 class WideConsole(Keeping, odt_peer.WideMachine):

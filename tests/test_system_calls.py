@@ -257,6 +257,52 @@ class Answers(Calls):
             self.is_so(line.machine.typed, "")
 
 
+class Steps(Calls):
+    """A record that is written where it is, behind a link, is looked at behind every call: each word that it says then is in
+    memory."""
+
+    MEMORY = {0o1000: 0o011064, 0o1002: 0, 0o1004: 0o777}
+
+    def words_said(self):
+        """The words that the record says, as far as their values are whole."""
+        said = {}
+        for line in bytes_of(self.path("b.record")).decode().split("\n")[1:]:
+            address, *values = line.split(" ")
+            said.update((int(address, 8) + 2 * place, int(value, 8)) for place, value in enumerate(values) if len(value) == 6)
+        return said
+
+    def load_over(self, text, before=lambda call: None):
+        """Loads three words, of which two stand, with this record; returns the answer and the line."""
+        line = self.console_at(Console(memory=self.MEMORY))
+        self.put("three-words.lda", tape_of([(0o1000, b"\x34\x12\0\0\0\0")], 0o1000))
+        self.put("b.record", text.encode())
+        os.path.lexists(self.path("a.record")) or os.symlink("b.record", self.path("a.record"))
+        untrue = []
+
+        def looked_at(call):
+            untrue.extend((call.name, it) for it, value in self.words_said().items() if line.machine.word(it) != value)
+            return before(call)
+
+        given = self.ask(line, "load three-words.lda LINE --record a.record", looked_at)
+        self.is_so(untrue, [])
+        return given, line
+
+    def test_a_record_that_is_a_front_of_the_new_one_or_begins_with_it(self):
+        for text in ("", "LDAODT", "LDAODT 2\n", "LDAODT 2\n001000 011064\n0010", "LDAODT 2\n001000 011064 00", "LDAODT 2\n001000 011064 000000\n"):
+            with self.subTest(text):
+                given, line = self.load_over(text)
+                self.is_so((given.status, given.err, line.machine.starts), (0, "", [0o1000]))
+                self.is_so(bytes_of(self.path("b.record")).decode(), "LDAODT 2\n001000 011064 000000 000000\nG\n")
+
+    def test_a_record_of_which_a_byte_would_be_another_one(self):
+        """It is as good as any. Written over it would say a third word, up to the cut: it stays as it is, and nothing is typed."""
+        text = "LDAODT 2\n001000 011064\n001002 000000\n"
+        for before in (lambda call: None, lambda call: call.fails(errno.EIO) if call.name == "ftruncate" else None):
+            given, line = self.load_over(text, before)
+            self.ends(given, 4, "", NO_RECORD)
+            self.is_so((bytes_of(self.path("b.record")).decode(), line.machine.typed), (text, ""))
+
+
 class Orders(Calls):
     """Which calls come, how often, and in which order."""
 

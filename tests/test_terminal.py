@@ -20,6 +20,10 @@ CLEARED = "\r\x1b[K"
 GOING_ON = "going on behind 1 of 2 words, listening; power lost? use --recheck"
 STARTED = "sent 30 spent 0 verified 1 of 1\nend Started\n"
 
+# What a person is told behind the report.
+ASK_PROBE = "'ldaodt probe LINE' says what is wrong\r\n"
+GOES_ON = "the same line goes on where it was; power lost? add --recheck\r\n"
+
 
 class SlowConsole(Console):
     """It takes its time for each key behind some: a line is shown a tenth of a second after the one before it, or later."""
@@ -51,6 +55,8 @@ class Screen:
                 self.line = self.line[:self.column]
             elif piece == "\r":
                 self.column = 0
+            elif piece == "\n":
+                self.row, self.line = self.row + 1, ""
             elif piece >= " ":
                 self.print(piece)
             else:
@@ -98,10 +104,12 @@ class Terminal(Case):
         self.is_so(given.status, 0)
         for columns, seen in ((20, "going on behind 1 of"), (40, "going on behind 1 of 2 words, listening"), (80, GOING_ON)):
             screen, lines = Screen(columns), []
-            for one in shown.split("\r")[1:]:
+            progress, told = shown.split(CLEARED)
+            for one in (progress + CLEARED).split("\r")[1:]:
                 screen.show(f"\r{one}")
                 lines.append(screen.line)
             with self.subTest(columns):
+                self.is_so(told, "1 of 2 by the record\r\n")
                 self.assertEqual((screen.row, screen.line, screen.wraps), (0, "", True))
                 self.assertEqual(lines[0][:len(seen) - 1], seen[:-1])
                 self.assertLessEqual(max(map(len, lines)), columns)
@@ -140,7 +148,7 @@ class Terminal(Case):
         given, shown = self.load_at_a_terminal(DeafConsole(), "first.lda --patience 3")
         self.is_so((given.status, given.out), (5, "sent 4 spent 3 verified 0 of 1\nend GaveUp\n"))
         mishaps = "".join(SHOWN.format(f"0 of 1 words, 0%, {text}") for text in ("1 mishap", "2 mishaps", "3 mishaps"))
-        self.is_so(shown, LISTENING + NO_WORD + mishaps + CLEARED)
+        self.is_so(shown, LISTENING + NO_WORD + mishaps + CLEARED + ASK_PROBE)
 
     def test_a_line_that_talks_is_listened_to(self):
         """Until its first key, and again for the four tenths of a second that the babble takes behind that: its first
@@ -158,7 +166,37 @@ class Terminal(Case):
         self.is_so((given.status, given.out), (0, "sent 16 spent 0 verified 2 of 2\nend Started\n"))
         self.assertTrue(shown.startswith(SHOWN.format(GOING_ON)), repr(shown))
         self.is_so(shown.count(GOING_ON), 1)
-        self.assertTrue(shown.endswith(SHOWN.format("2 of 2 words, 100%, 0:00 left") + CLEARED), repr(shown))
+        self.assertTrue(shown.endswith(SHOWN.format("2 of 2 words, 100%, 0:00 left") + CLEARED + "1 of 2 by the record\r\n"), repr(shown))
+
+    def test_what_is_told_behind_the_report(self):
+        """How many words the record alone has verified, and what helps where a load is broken off; nothing where the start may
+        have gone out, or nobody will go on. The line breaks behind so many keys and answers."""
+        one, both = "LDAODT 2\n001000 031421", "LDAODT 2\n001000 031421\nH 001002 000377 000104\n"
+        for record, close_after, more, end, told in (
+            (None, None, "", "Started", ""),
+            (one, None, "--recheck", "Started", ""),
+            (both, None, "", "Started", "2 of 2 by the record\r\n"),
+            (f"{both}G\n", None, "", "MaybeStarted", "2 of 2 by the record\r\n"),
+            (both, None, "--no-start", "Loaded", "2 of 2 by the record\r\n"),
+            (one, 4, "", "LineFailed", f"1 of 2 by the record\r\n{GOES_ON}ldaodt: line failed\r\n"),
+            ("", 4, "", "LineFailed", f"{GOES_ON}ldaodt: line failed\r\n"),
+            (None, 4, "", "LineFailed", "ldaodt: line failed\r\n"),
+            (both, 4 + 2 * 6 + 1, "", "LineFailed",
+             "2 of 2 by the record\r\nldaodt: line failed\r\nldaodt: the start may have gone out: look at the machine first\r\n"),
+        ):
+            with self.subTest(record=record, close_after=close_after, more=more):
+                if record is not None:
+                    self.put("a.record", record.encode())
+                words = f"two-words.lda {more} {'' if record is None else '--record a.record'}"
+                given, shown = self.load_at_a_terminal(words=words, close_after=close_after)
+                self.is_so(given.out.split("\n")[1], f"end {end}")
+                self.is_so(shown.split(CLEARED)[-1], told)
+
+    def test_a_probe_says_that_it_works(self):
+        """Before its first key, on a line of its own."""
+        peer = self.console_at(Console())
+        given, shown = self.at_a_terminal(lambda terminal: self.ldaodt(["probe", peer.address, "--quiet", str(self.quiet)], stderr=terminal))
+        self.is_so((given.status, given.out.split("\n")[-2], shown), (0, "end Probed", "probing: four to six quiet times, mostly 8 seconds\r\n"))
 
     def test_a_verified_word_is_shown_also_where_it_can_not_be_kept(self):
         """The report counts it, too. The record has room for its header alone, and the keys that look at the word again

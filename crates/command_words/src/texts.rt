@@ -34,6 +34,7 @@ Each word is looked at, deposited where it is not there yet, and read back; at
 the end the program is started, once at most. Without --record a later load
 knows nothing of that, and may start it again. A record is good while the
 machine keeps its power and nobody resets it; else load with --recheck, too.
+'verified' counts the words read back, now or by the record before.
 
 A device in the working folder is ./ttyUSB0. It is used as stty has set it.
 

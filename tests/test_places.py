@@ -1,0 +1,77 @@
+"""Names in each other's places on the command line: a tape where the line belongs, a device where a tape does. Each is refused
+before anything is read, since who reads a device waits for what it says.
+"""
+import os
+import pty
+import unittest
+
+from cases import Case, Console
+from outside import run
+
+ORDERS = {"load": "load TAPE LINE [MORE]..", "verify": "verify TAPE LINE [MORE]..", "save": "save FILE LINE FROM TO", "probe": "probe LINE"}
+
+
+class Places(Case):
+    """A device in the test's folder, and what may be taken for it."""
+
+    def setUp(self):
+        super().setUp()
+        self.put_tapes("first.lda", "two-words.lda")
+        self.put("a.script", b"clean\n")
+        os.mkdir(self.path("folder"))
+        os.mkfifo(self.path("pipe"))
+        self.device = self.device_at(Console())
+        os.symlink(self.device.name, self.path("ttyUSB0"))
+
+    def is_refused(self, words, err):
+        """Asserts that words are refused at once: nothing is typed, nothing printed, and no file made or read."""
+        with self.subTest(words):
+            self.ends(run(words.split(), cwd=self.room, seconds=10), 2, "", f"ldaodt: {err}\n")
+            self.device.settle()
+            self.is_so(self.device.machine.typed, "")
+            self.holds({"a.script": "clean\n"})
+
+    def holds(self, files):
+        here = set(files) | {"folder", "pipe", "ttyUSB0", "first.lda", "two-words.lda"}
+        self.is_so(set(os.listdir(self.room)), here)
+
+    def test_a_line_that_is_no_device(self):
+        """As in the order of cp, or with the line left out."""
+        for line in ("./two-words.lda", "./folder", "./pipe", "./", self.path("first.lda")):
+            for words in ("load first.lda LINE ./ttyUSB0 --record a.record", "verify first.lda LINE ./ttyUSB0", "save new.lda LINE 1000 1000",
+                          "probe LINE", "load ./ttyUSB0 LINE"):
+                order = ORDERS[words.split()[0]]
+                self.is_refused(words.replace("LINE", line), f"{line} is no serial device: {order}")
+
+    def test_a_terminal_that_is_read(self):
+        peer = self.console_at(Console())
+        for words in ("check ./ttyUSB0", "check first.lda ./ttyUSB0", "dialogue ./ttyUSB0", "rehearse ./ttyUSB0 a.script",
+                      "rehearse first.lda a.script ./ttyUSB0", "load ./ttyUSB0 ./ttyUSB0", f"load first.lda {peer.name} ./ttyUSB0",
+                      f"verify ./ttyUSB0 {peer.name}"):
+            self.is_refused(words, "./ttyUSB0 is a terminal, no tape")
+        self.is_refused("rehearse first.lda ./ttyUSB0", "./ttyUSB0 is a terminal, no script")
+        self.is_refused(f"load first.lda {peer.name} --record ./ttyUSB0", "./ttyUSB0 is a terminal, no record")
+        self.is_so(peer.connections, 0)
+
+    def test_a_name_that_would_command_a_terminal(self):
+        """It is shown as in every fault."""
+        self.put("\x1b[2J", b"")
+        given = run(["load", "first.lda", "./\x1b[2J"], cwd=self.room, seconds=10)
+        self.ends(given, 2, "", "ldaodt: ./\\u{1b}[2J is no serial device: load TAPE LINE [MORE]..\n")
+
+    def test_what_is_left_to_who_opens_it(self):
+        """What is not there, and a line that is another device; standard input may be a terminal, and is read to its end."""
+        os.symlink("/dev/null", self.path("null"))
+        for line in ("./nowhere", "./null"):
+            self.ends(run(["load", "first.lda", line], cwd=self.room, seconds=10), 4, "", f"ldaodt: cannot connect to {line}\n")
+        self.ends(run(["check", "./nowhere"], cwd=self.room, seconds=10), 4, "", "ldaodt: cannot read ./nowhere\n")
+        ours, theirs = pty.openpty()
+        os.write(ours, b"\x04")
+        given = run(["check", "-"], cwd=self.room, seconds=10, stdin=theirs)
+        self.ends(given, 3, "", "ldaodt: tape refused at 0: NoTransfer\n")
+        for end in (ours, theirs):
+            os.close(end)
+
+
+if __name__ == "__main__":
+    unittest.main()

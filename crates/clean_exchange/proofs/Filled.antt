@@ -9,10 +9,10 @@ use Rattle.odt_machine.specs.Machine.{IsWide, word_at}
 use Rattle.processor.specs.Access.{with_byte, with_half}
 use Rattle.exchange_core.specs.declared.chunk.Chunk.{Chunk}
 use Rattle.exchange_core.specs.declared.stretch.Stretch.{Stretch}
-use Rattle.exchange_core.specs.Chunk.{IsIn, chunk_keys, chunk_nr, key_at, key_for, told}
+use Rattle.exchange_core.specs.Chunk.{IsIn, chunk_keys, chunk_nr, is_nibble, key_at, key_for, told}
 use Rattle.exchange_core.specs.Stretch.{stretch_of}
 use Rattle.exchange_law.specs.Law.{pieces_of}
-use Rattle.stub.specs.Filling.{Filling, after, answered, chunk_text, first_byte, is_nibble, spelled, stored_next, taken, takes, with_nibble}
+use Rattle.stub.specs.Filling.{Filling, after, answered, chunk_text, first_byte, spelled, stored_next, taken, takes, with_nibble}
 use Rattle.stub.proofs.Memory.{byte_other, length_with, wide_with}
 use Rattle.clean_exchange.specs.Clean.{all_keys}
 

@@ -45,4 +45,5 @@ abbrev pub CleanExchangesComplete : Type 0
 CleanExchangesComplete =
     (plan : PlanValue) (from : ℕ) (chunks : List Chunk) (memory : List ℕ) → AreChunks plan from chunks → IsWide memory →
     ((k : ℕ) → k < length chunks → (chunk_nr chunks k).address + (chunk_nr chunks k).size ≤ top_of memory) →
-    IsBroughtIn plan from chunks memory (stub_behind plan.image chunks memory) (led plan.image chunks (begun from) (all_heard (stub_behind plan.image chunks memory)))
+    IsBroughtIn plan from chunks memory (stub_behind plan.image chunks memory)
+    (led plan.image chunks (begun from) (all_heard (stub_behind plan.image chunks memory)))

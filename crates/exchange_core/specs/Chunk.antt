@@ -1,5 +1,6 @@
 -- The chunks in which a stub takes an image, and the characters in which they are told (this project's choice).
-use Rattle.std.specs.Prelude.{◌≡◌, ◌↔◌, ℕ, zero, suc, ◌+◌, ◌-◌, ◌/◌, ◌%◌, ◌<◌, ◌≤◌, ◌==◌, true, if◌then◌else◌, IsSome, List, [], ◌∷◌, ◌++◌, length, get_or, unwrap_or}
+use Rattle.std.specs.Prelude.{◌≡◌, ◌↔◌, ℕ, zero, suc, ◌+◌, ◌-◌, ◌/◌, ◌%◌, ◌<◌, ◌≤◌, ◌==◌, Bool, ◌&&◌, nat_le, true, if◌then◌else◌}
+use Rattle.std.specs.Prelude.{IsSome, List, [], ◌∷◌, ◌++◌, length, get_or, unwrap_or}
 use Rattle.std.specs.FinMap.{get}
 use Rattle.tape_values.specs.Block.{top}
 use Rattle.tape_image.specs.Image.{Image}
@@ -40,6 +41,10 @@ key_for byte place = 0o140 + nibble_of byte place
 -- the character in which a byte is answered: that of the complement of the nibble, from 0157 down
 abbrev pub answer_for : ℕ → ℕ → ℕ
 answer_for byte place = 0o157 - nibble_of byte place
+
+-- these are the characters of a stub: 0140 to 0157
+abbrev pub is_nibble : ℕ → Bool
+is_nibble c = nat_le 0o140 c && nat_le c 0o157
 
 -- the character that is sent at a place of a chunk
 abbrev pub key_at : Image → Chunk → ℕ → ℕ

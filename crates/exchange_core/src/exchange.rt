@@ -2,7 +2,8 @@ ghost use Rattle.std.specs.Prelude.{◌≡◌, ◌<◌, ◌≤◌, ◌*◌, ◌^
 ghost use Rattle.host_core.specs.declared.heard.Heard.TheVariants.{Got};
 ghost use Rattle.exchange_core.specs.Chunk.{AreChunks, IsChunk};
 ghost use Rattle.exchange_core.specs.declared.turn.Turn.TheVariants.{Verified};
-ghost use Rattle.exchange_core.specs.Exchange.{IsExchange, RisesByAnswer, advance, answer_hears, begun, ended, exchange_bound, listens, next_chunk, taken, turn_of, waits};
+ghost use Rattle.exchange_core.specs.Exchange.{IsExchange, RisesByAnswer, exchange_bound};
+ghost use Rattle.exchange_core.specs.Exchange.{advance, answer_hears, begun, ended, listens, next_chunk, taken, turn_of, waits};
 
 use crate::chunk::{Chunk, Keys, awaited, keys_of};
 use crate::phase::{End, Phase};

@@ -40,7 +40,8 @@ IsSaid None left all said = (said ≡ all) × (left ≡ 0)
 
 -- at most so many turns from one exchange to another, which stopped so: what was heard and what was said on the line, with what the line told before and
 -- tells after
-pub record Exchanged (plan : PlanValue) (chunks : List Chunk) (turns : ℕ) (stop : Option Stop) (old new : Exchange) (line line' : Option (List Item)) : Type 0 where
+pub record Exchanged (plan : PlanValue) (chunks : List Chunk) (turns : ℕ) (stop : Option Stop) (old new : Exchange) (line line' : Option (List Item))
+    : Type 0 where
   pub heard : List Heard
   pub said : List Item
   -- the exchange heard these things, and nothing more once it had an end

@@ -14,13 +14,13 @@ use Rattle.exchange_core.specs.declared.phase.Phase.{Phase}
 use Rattle.exchange_core.specs.declared.phase.Phase.TheVariants.{Settle, Answer, Leave, Ended}
 use Rattle.exchange_core.specs.declared.phase.End.TheVariants.{Complete, Broken}
 use Rattle.exchange_core.specs.declared.turn.Turn.TheVariants.{Listen, Verified, Stop}
-use Rattle.exchange_core.specs.Chunk.{IsChunk, answer_at, answer_for, chunk_keys, chunk_nr, told}
+use Rattle.exchange_core.specs.Chunk.{IsChunk, answer_at, answer_for, chunk_keys, chunk_nr, is_nibble, told}
 use Rattle.exchange_core.specs.Exchange.{IsExchange, PhaseFits, Step, advance, listens, next_chunk, taken, with_chunk}
 use Rattle.exchange_core.proofs.Keys.{keys_length}
 use Rattle.exchange_core.proofs.Steps.{below, not_below, on_step, on_turn}
 use Rattle.exchange_core.specs.declared.stretch.Stretch.{Stretch}
 use Rattle.exchange_core.specs.Stretch.{stretch_of}
-use Rattle.exchange_law.specs.Station.{Station, Each, IsHaltText, answer_from, is_nibble}
+use Rattle.exchange_law.specs.Station.{Station, Each, IsHaltText, answer_from}
 use Rattle.exchange_law.specs.Line.{Gives, Link, sent}
 use Rattle.exchange_law.specs.Law.{Holds, pieces_of}
 use Rattle.exchange_law.proofs.Holding.{IsAnswered, one_more_holds}

@@ -8,10 +8,10 @@ use Rattle.exchange_core.specs.declared.chunk.Chunk.{Chunk}
 use Rattle.exchange_core.specs.declared.phase.Phase.{Phase}
 use Rattle.exchange_core.specs.declared.phase.Phase.TheVariants.{Settle, Answer, Leave, Ended}
 use Rattle.exchange_core.specs.declared.phase.End.TheVariants.{Complete, Broken}
-use Rattle.exchange_core.specs.Chunk.{chunk_nr}
+use Rattle.exchange_core.specs.Chunk.{chunk_nr, is_nibble}
 use Rattle.exchange_core.specs.Exchange.{PhaseFits}
 use Rattle.exchange_core.specs.Stretch.{stretch_of}
-use Rattle.exchange_law.specs.Station.{Program, Station, Each, StubMeets, Meets, answer_from, is_nibble, size_of}
+use Rattle.exchange_law.specs.Station.{Program, Station, Each, StubMeets, Meets, answer_from, size_of}
 use Rattle.exchange_law.specs.Line.{Link, Moves, MovesTimes, MovesOn}
 use Rattle.exchange_law.specs.Law.{Holds, pieces_of}
 use Rattle.exchange_law.proofs.Holding.{AreApart}

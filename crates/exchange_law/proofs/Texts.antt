@@ -9,9 +9,9 @@ use Rattle.tape_image.specs.Memory.{byte_of}
 use Rattle.tape_image.specs.Plan.{PlanValue, IsPlan}
 use Rattle.odt_machine.specs.Machine.{IsWide}
 use Rattle.exchange_core.specs.declared.chunk.Chunk.{Chunk}
-use Rattle.exchange_core.specs.Chunk.{chunk_keys, key_at, key_for, answer_for, nibble_of, told}
+use Rattle.exchange_core.specs.Chunk.{answer_for, chunk_keys, is_nibble, key_at, key_for, nibble_of, told}
 use Rattle.exchange_core.specs.declared.stretch.Stretch.{Stretch}
-use Rattle.exchange_law.specs.Station.{Each, IsHaltCharacter, IsHaltText, is_nibble, answer_from}
+use Rattle.exchange_law.specs.Station.{Each, IsHaltCharacter, IsHaltText, answer_from}
 
 -- a character of a stub
 abbrev pub IsNibble : ℕ → Type 0

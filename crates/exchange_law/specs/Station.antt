@@ -1,7 +1,7 @@
 -- A station: a machine at whose console ODT listens, or on which a program runs, which may be a stub (this project's choice). A stub takes stretches of
 -- memory one after another: for each it hears two characters a byte, then it answers with what memory holds there, then the next; behind the last it halts.
 -- What it does is said as a host sees it, and no more than a host relies on: how it makes bytes of characters is left open.
-use Rattle.std.specs.Prelude.{◌≡◌, ℕ, zero, suc, ◌+◌, ◌-◌, ◌*◌, ◌/◌, ◌<◌, ◌≤◌, ◌⊎◌, Bool, true, false, ◌&&◌, nat_le, nat_lt, List, [], ◌∷◌, ◌++◌, length, Option, Some, None, ⊤}
+use Rattle.std.specs.Prelude.{◌≡◌, ℕ, zero, suc, ◌+◌, ◌-◌, ◌*◌, ◌/◌, ◌<◌, ◌≤◌, ◌⊎◌, Bool, true, false, nat_lt, List, [], ◌∷◌, ◌++◌, length, Option, Some, None, ⊤}
 use Rattle.octal.specs.Octal.{is_digit}
 use Rattle.tape_image.specs.Memory.{byte_of}
 use Rattle.odt_machine.specs.Character.{carriage_return, line_feed, prompt}
@@ -11,7 +11,7 @@ use Rattle.odt_machine.specs.Machine.{Machine, IsWide}
 use Rattle.odt_machine.specs.declared.mode.Mode.{Mode}
 use Rattle.odt_machine.specs.declared.mode.Mode.TheVariants.{Prompt, Running}
 use Rattle.exchange_core.specs.declared.stretch.Stretch.{Stretch}
-use Rattle.exchange_core.specs.Chunk.{answer_for}
+use Rattle.exchange_core.specs.Chunk.{answer_for, is_nibble}
 
 -- a stub that runs: the stretches that it has still to fill, and how many characters for the first it has taken
 pub record Stub : Type 0 where
@@ -37,10 +37,6 @@ pub record ChangesWithin (stretch : Stretch) (before now : List ℕ) : Type 0 wh
   pub size : length now ≡ length before
   pub wide : IsWide before → IsWide now
   pub bytes : (b : ℕ) → (IsInStretch stretch b → ⊥) → byte_of now b ≡ byte_of before b
-
--- the characters of a stub: 0140 to 0157
-abbrev pub is_nibble : ℕ → Bool
-is_nibble c = nat_le 0o140 c && nat_le c 0o157
 
 -- what ODT may print where a program halts: an address, in lines of its own, and its prompt
 abbrev pub IsHaltCharacter : ℕ → Type 0
@@ -87,7 +83,8 @@ abbrev pub StubMeets : Bool → Machine → List Stretch → ℕ → Station →
 StubMeets false m stretches count station' answer = (station' ≡ halted m m.memory) × IsHaltText answer
 StubMeets true m [] count station' answer = (station' ≡ halted m m.memory) × IsHaltText answer
 StubMeets true m (stretch ∷ stretches) count station' answer =
-    (memory : List ℕ) × ChangesWithin stretch m.memory memory × Fills (nat_lt (count + 1) (2 * size_of stretch)) m memory stretch stretches count station' answer
+    (memory : List ℕ) × ChangesWithin stretch m.memory memory
+    × Fills (nat_lt (count + 1) (2 * size_of stretch)) m memory stretch stretches count station' answer
 
 -- which stretches a stub fills that lies in a memory at an address, where one lies there
 abbrev pub Program : Type 0

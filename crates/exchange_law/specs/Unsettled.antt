@@ -6,8 +6,9 @@ use Rattle.odt_machine.specs.Machine.{IsMachine}
 use Rattle.odt_machine.specs.declared.mode.Mode.{Mode}
 use Rattle.host_core.specs.Console.{resynchronise}
 use Rattle.exchange_core.specs.declared.stretch.Stretch.{Stretch}
+use Rattle.exchange_core.specs.Chunk.{is_nibble}
 use Rattle.exchange_law.specs.Line.{Link}
-use Rattle.exchange_law.specs.Station.{Each, IsInStretch, Program, Stub, after_odt, is_nibble}
+use Rattle.exchange_law.specs.Station.{Each, IsInStretch, Program, Stub, after_odt}
 
 -- an address is one of these stretches'
 abbrev pub IsAmong : List Stretch → ℕ → Type 0

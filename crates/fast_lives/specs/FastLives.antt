@@ -98,7 +98,8 @@ pub record IsFastLife (program : Program) (tape : PlanValue) (old : LinkAndRecor
 -- lives one after another, the latest first: each finds what the one before it left
 abbrev pub FastLived : Program → PlanValue → LinkAndRecord → List FastLife → LinkAndRecord → Type 0
 FastLived program tape old [] new = new ≡ old
-FastLived program tape old (life ∷ earlier) new = (between : LinkAndRecord) × FastLived program tape old earlier between × IsFastLife program tape between life new
+FastLived program tape old (life ∷ earlier) new =
+    (between : LinkAndRecord) × FastLived program tape old earlier between × IsFastLife program tape between life new
 
 -- the keys that all these lives sent behind their stubs, in their order: the program's `G` is one of them, a stub's is not
 abbrev pub typed : List FastLife → List ℕ

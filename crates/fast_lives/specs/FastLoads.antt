@@ -62,4 +62,5 @@ pub record IsLoadedOn (program : Program) (tape : PlanValue) (before : List ℕ)
 abbrev pub FastLoadsAreTrusted : Type 0
 FastLoadsAreTrusted =
     (tape : PlanValue) (before : List ℕ) (x y : Link) (load : FastLoad) → IsFastLoad stub_program tape before x load y →
-    IsLoadedOn stub_program tape before (led (rest_core tape load) load.heard) (keys_of (dialogue (rest_core tape load) load.heard)) (length load.unsent + y.lost) y
+    IsLoadedOn stub_program tape before (led (rest_core tape load) load.heard) (keys_of (dialogue (rest_core tape load) load.heard))
+    (length load.unsent + y.lost) y

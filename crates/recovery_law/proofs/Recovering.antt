@@ -41,7 +41,8 @@ use Rattle.exchange_core.proofs.Steps.{not_below}
 use Rattle.load_devices.specs.Dialogue.{dialogue}
 use Rattle.honest_line.proofs.Runs.{Leads, dialogue_leads}
 use Rattle.honest_line.proofs.Trusted.{keys_of-dialogue}
-use Rattle.exchange_law.specs.Station.{Program, Station, Stub, Each, IsHaltCharacter, Meets, StubMeets, begins, halted, is_nibble}
+use Rattle.exchange_core.specs.Chunk.{is_nibble}
+use Rattle.exchange_law.specs.Station.{Program, Station, Stub, Each, IsHaltCharacter, Meets, StubMeets, begins, halted}
 use Rattle.exchange_law.specs.Line.{Gives, Link, Moves, MovesTimes, Passes, Takes, sent}
 use Rattle.exchange_law.specs.Unsettled.{IsForStub, IsUnsettled, MayFill, Untouched}
 use Rattle.exchange_law.proofs.Texts.{each_removed}

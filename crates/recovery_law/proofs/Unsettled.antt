@@ -14,7 +14,8 @@ use Rattle.odt_machine.specs.KeyTable.{Taken, row, take_of, after_key}
 use Rattle.odt_machine.specs.Laws.{is_running}
 use Rattle.odt_machine.specs.Machine.{Machine, IsMachine, IsWide, ModeFits}
 use Rattle.exchange_core.specs.declared.stretch.Stretch.{Stretch}
-use Rattle.exchange_law.specs.Station.{Program, Station, Stub, ChangesWithin, Each, Answers, Fills, IsInStretch, Meets, StubMeets, after_odt, begins, halted, is_nibble, running, size_of}
+use Rattle.exchange_core.specs.Chunk.{is_nibble}
+use Rattle.exchange_law.specs.Station.{Program, Station, Stub, ChangesWithin, Each, Answers, Fills, IsInStretch, Meets, StubMeets, after_odt, begins, halted, running, size_of}
 use Rattle.exchange_law.specs.Line.{Link, Moves, Takes}
 use Rattle.exchange_law.specs.Unsettled.{AreWithin, IsForStub, IsLastKey, IsUnsettled, MayFill, Untouched}
 use Rattle.exchange_law.proofs.Texts.{each_removed}

@@ -46,7 +46,7 @@ end_below a hi = omega arith
 pub end_same : (a hi e : ℕ) → e ≡ piece_end a hi → a + 1 < e → e ≡ piece_end (a + 1) hi
 end_same a hi e is less = omega arith
 
--- the end is the run's end or a multiple of 16
+-- the end is the stretch's end or a multiple of 16
 pub end_is : (a hi e : ℕ) → e ≡ piece_end a hi → (e ≡ hi) ⊎ (e % 16 ≡ 0)
 end_is a hi e is = elim (either hi (16 * (a / 16 + 1))) [
   | inl low ↦ inl (first a hi e is low)
@@ -69,7 +69,7 @@ inside_not a hi e is less = (omega arith, multiple a hi e is less)
     multiple : (a hi e : ℕ) → e ≡ piece_end a hi → a + 1 < e → (a + 1) % 16 ≢ 0
     multiple a hi e is less zero_is = omega arith
 
--- ---- what holds of the runs holds of their chunks
+-- ---- what holds of stretches holds of their chunks
 
 cut_fits : (place end top : ℕ) (n a lo hi : ℕ) (more : List Stretch) → lo ≤ a → hi ≤ top → (hi ≤ place) ⊎ (end ≤ lo) → StretchesFit place end top more → StretchesFit place end top (cut n a hi ++ more)
 cut_fits place end top zero a lo hi more from below apart fit = fit
@@ -124,7 +124,7 @@ pub chunks_outside : (b : ℕ) (stretches : List Stretch) → IsOutside stretche
 chunks_outside b [] outside = tt
 chunks_outside b (stretch ∷ stretches) outside = cut_outside b (stretch.to - stretch.from) stretch.from stretch.from stretch.to (pieces stretches) (omega arith) outside.0 (chunks_outside b stretches outside.1)
 
--- ---- the last of some runs
+-- ---- the last of some stretches
 
 pub fit_behind : (place end top : ℕ) (front left : List Stretch) → StretchesFit place end top (front ++ left) → StretchesFit place end top left
 fit_behind place end top [] left fit = fit

@@ -1,4 +1,4 @@
--- What happens to the console between two instructions, and whole runs.
+-- What happens to the console between two instructions, and whole lists of events.
 use Rattle.std.proofs.Common.{◌≡◌, ℕ, ◌+◌, ◌<◌, ◌≤◌, Bool, true, false, if◌then◌else◌, List, [], ◌∷◌, ◌++◌, length, inl, inr, refl, ap, sym, subst, ◌∙◌, append-nil}
 use Rattle.tape_image.specs.Memory.{top_of}
 use Rattle.processor.specs.Console.{Console}

@@ -82,7 +82,7 @@ byte_other memory a v b wide small apart = elim (same_or (b / 2) (a / 2)) [
 pub length_code : (place : ℕ) → length (code place) ≡ 65
 length_code place = refl
 
--- the table behind some of its pieces
+-- the table behind some of its stretches
 pub table_behind : (front stretches : List Stretch) (i : ℕ) → get_or (table (front ++ stretches)) (2 * length front + i) 0 ≡ get_or (table stretches) i 0
 table_behind [] stretches i = ap (λ n. get_or (table stretches) n 0) (none i)
   where

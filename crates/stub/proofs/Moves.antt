@@ -10,9 +10,10 @@ use Rattle.processor.specs.Machine.{Machine, Runs, Halted}
 use Rattle.processor.specs.Access.{with_byte}
 use Rattle.processor.specs.Execution.{step, difference, halved}
 use Rattle.exchange_core.specs.declared.stretch.Stretch.{Stretch}
+use Rattle.exchange_core.specs.Chunk.{is_nibble}
 use Rattle.stub.specs.Words.{code, code_bytes, table, stub_words}
 use Rattle.exchange_core.specs.Stretch.{piece_end, cut, pieces}
-use Rattle.stub.specs.Filling.{Filling, after, begun, taken, takes, first_byte, is_nibble, with_nibble, answered, spelled, chunk_text}
+use Rattle.stub.specs.Filling.{Filling, after, begun, taken, takes, first_byte, with_nibble, answered, spelled, chunk_text}
 use Rattle.stub.specs.Seen.{held}
 use Rattle.stub.specs.Place.{AreThere, StretchesFit, stub_end}
 use Rattle.stub.specs.Law.{waiting, seven, filled}

@@ -7,7 +7,7 @@ use Rattle.processor.specs.Operand.{Word, Byte}
 use Rattle.processor.specs.Console.{status}
 use Rattle.processor.specs.Operand.{extended}
 use Rattle.processor.specs.Execution.{difference, halved, negative}
-use Rattle.stub.specs.Filling.{is_nibble}
+use Rattle.exchange_core.specs.Chunk.{is_nibble}
 use Rattle.stub.proofs.Points.{HighFits, sentinel}
 
 -- a test has two outcomes

@@ -1,4 +1,4 @@
--- The stub, as the host knows it, writes no byte outside its pieces.
+-- The stub, as the host knows it, writes no byte outside its chunks.
 use Rattle.std.proofs.Common.{◌≡◌, ◌≢◌, ℕ, ◌+◌, ◌-◌, ◌*◌, ◌<◌, ◌≤◌, ◌⊎◌, true, false, if◌then◌else◌, List, [], ◌∷◌, ◌++◌, map, Option, Some, None, inl, inr, refl, arith, sym, subst, ◌∙◌}
 use Rattle.std.specs.Prelude.{◌==◌}
 use Rattle.std.proofs.lemmas.Bool.Decides.{nat_tests}
@@ -7,7 +7,8 @@ use Rattle.odt_machine.specs.Machine.{IsWide}
 use Rattle.processor.specs.Access.{with_byte}
 use Rattle.exchange_core.specs.declared.stretch.Stretch.{Stretch}
 use Rattle.exchange_core.specs.Stretch.{pieces}
-use Rattle.stub.specs.Filling.{Filling, begun, after, taken, takes, with_nibble, stored_next, first_byte, is_nibble, chunk_text}
+use Rattle.exchange_core.specs.Chunk.{is_nibble}
+use Rattle.stub.specs.Filling.{Filling, begun, after, taken, takes, with_nibble, stored_next, first_byte, chunk_text}
 use Rattle.stub.specs.Place.{StretchesFit}
 use Rattle.stub.specs.Law.{IsOutside, filled, seven}
 use Rattle.stub.proofs.Cuts.{chunks_fit, chunks_outside}
@@ -15,12 +16,12 @@ use Rattle.stub.proofs.Memory.{byte_other, wide_with}
 use Rattle.stub.proofs.Numbers.{on_test}
 use Rattle.stub.proofs.Points.{HighFits}
 
--- each piece has a byte
+-- each chunk has a byte
 abbrev pub IsRising : List Stretch → Type 0
 IsRising [] = Unit {0}
 IsRising (chunk ∷ stretches) = (chunk.from < chunk.to) × IsRising stretches
 
--- the next byte is one of the piece under way
+-- the next byte is one of the chunk under way
 abbrev pub IsUnder : List Stretch → ℕ → Type 0
 IsUnder [] next = Unit {0}
 IsUnder (chunk ∷ stretches) next = (chunk.from ≤ next) × (next < chunk.to)
@@ -87,7 +88,7 @@ pub rises : (place end top : ℕ) (stretches : List Stretch) → StretchesFit pl
 rises place end top [] fit = tt
 rises place end top (chunk ∷ stretches) fit = (fit.0.rising, rises place end top stretches fit.1)
 
--- a byte outside the runs is what it was
+-- a byte outside the stretches is what it was
 pub outside_stays : (place end top : ℕ) (before : List ℕ) (stretches : List Stretch) (took : List ℕ) (b : ℕ) → IsWide before → StretchesFit place end top stretches → IsOutside stretches b →
     byte_of (filled before stretches took).memory b ≡ byte_of before b
 outside_stays place end top before stretches took b wide fit outside =

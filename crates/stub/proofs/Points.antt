@@ -207,13 +207,13 @@ sentinel None = 128
 sentinel (Some h) = 2048 + h
 
 module _ (place : ℕ) (stretches : List Stretch) (top : ℕ) where
-  -- r5 is so far behind the table's entry for the first of these runs, which are the last of all
+  -- r5 is so far behind the table's entry for the first of these stretches, which are the last of all
   pub record Row (behind r5 : ℕ) (left : List Stretch) : Type 0 where
     pub front : List Stretch
     pub all : stretches ≡ front ++ left
     pub at : r5 ≡ place + code_bytes + 4 * length front + behind
 
-  -- what is left of the run under way begins at an address a and ends at r1; behind it come the runs from r5 on
+  -- what is left of the stretch under way begins at an address a and ends at r1; behind it come the stretches from r5 on
   pub record Within (those : List Stretch) (a r1 r5 : ℕ) : Type 0 where
     pub fuel : ℕ
     pub later : List Stretch
@@ -222,7 +222,7 @@ module _ (place : ℕ) (stretches : List Stretch) (top : ℕ) where
     pub row : Row 0 r5 later
     pub below : r1 ≤ top
 
-  -- a chunk is under way: where its next byte goes is r0, its run's end r1, its beginning r2, and r5 is at the next entry
+  -- a chunk is under way: where its next byte goes is r0, its stretch's end r1, its beginning r2, and r5 is at the next entry
   pub record Getting (f : Filling) (r0 r1 r2 r5 : ℕ) : Type 0 where
     pub chunk : Stretch
     pub rest : List Stretch

@@ -1,8 +1,9 @@
 -- The stub as the host knows it: it takes characters, and answers a whole chunk at once.
-use Rattle.std.specs.Prelude.{ℕ, zero, suc, ◌+◌, ◌-◌, ◌*◌, ◌/◌, ◌%◌, ◌==◌, nat_le, Bool, ◌&&◌, if◌then◌else◌, List, [], ◌∷◌, ◌++◌, Option, Some, None}
+use Rattle.std.specs.Prelude.{ℕ, zero, suc, ◌+◌, ◌-◌, ◌*◌, ◌/◌, ◌%◌, ◌==◌, if◌then◌else◌, List, [], ◌∷◌, ◌++◌, Option, Some, None}
 use Rattle.tape_image.specs.Memory.{byte_of}
 use Rattle.processor.specs.Access.{with_byte}
 use Rattle.exchange_core.specs.declared.stretch.Stretch.{Stretch}
+use Rattle.exchange_core.specs.Chunk.{is_nibble}
 
 -- memory; the chunks that are left, the one under way first (where none is left, it has halted); where the next byte belongs; the high nibble of that
 -- byte, where it has come; and all that was answered
@@ -21,10 +22,6 @@ first_byte (chunk ∷ chunks) = chunk.from
 -- it has just been started, with these chunks to fill
 abbrev pub begun : List ℕ → List Stretch → Filling
 begun memory chunks = record { memory = memory; left = chunks; next = first_byte chunks; high = None; answers = [] }
-
--- the characters that stand for nibbles: 0140 to 0157
-abbrev pub is_nibble : ℕ → Bool
-is_nibble c = nat_le 0o140 c && nat_le c 0o157
 
 -- the character in which a nibble is answered: that of its complement
 abbrev pub answered : ℕ → ℕ

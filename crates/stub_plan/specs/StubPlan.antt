@@ -1,8 +1,9 @@
 -- The plan by which a stub is brought in: its words at a window of the tape's words, and soundings of the words before it (this project's choice).
-use Rattle.std.specs.Prelude.{◌≡◌, ℕ, ◌+◌, ◌-◌, ◌*◌, ◌/◌, ◌%◌, ◌<◌, ◌≤◌, ◌⊎◌, ◌==◌, true, if◌then◌else◌, All, List, [], ◌∷◌, ◌++◌, length, Some, None, IsSome, slice_index}
+use Rattle.std.specs.Prelude.{◌≡◌, ℕ, ◌+◌, ◌-◌, ◌*◌, ◌/◌, ◌%◌, ◌<◌, ◌≤◌, ◌⊎◌, ◌==◌, true, if◌then◌else◌}
+use Rattle.std.specs.Prelude.{All, List, [], ◌∷◌, ◌++◌, length, Some, None, IsSome, slice_index}
 use Rattle.std.specs.FinMap.{get}
-use Rattle.tape_values.specs.Block.{BlockValue, HoldsBytes, IsBlock, block_at, low_first}
 use Rattle.std.specs.List.{flat_map}
+use Rattle.tape_values.specs.Block.{BlockValue, HoldsBytes, IsBlock, block_at, low_first}
 use Rattle.tape_values.specs.Tape.{TapeValue, written_length}
 use Rattle.tape_image.specs.Image.{byte_at}
 use Rattle.tape_image.specs.Memory.{half}
@@ -32,7 +33,8 @@ pub record IsStubPlan (tape : PlanValue) (from window : ℕ) (words : List ℕ) 
   pub start : stub.start ≡ Some (place_of tape window)
   pub code : (b : ℕ) → IsOfStub (place_of tape window) words b → get stub.image b ≡ Some (half b (slice_index words ((b - place_of tape window) / 2)))
   pub sounded : (j : ℕ) → IsSounding from window j → (b : ℕ) → gives (word_nr tape.words j) b ≡ true → get stub.image b ≡ get tape.image b
-  pub others : (b : ℕ) → (IsOfStub (place_of tape window) words b → ⊥) → IsSome (get stub.image b) → (j : ℕ) × IsSounding from window j × (gives (word_nr tape.words j) b ≡ true)
+  pub others : (b : ℕ) → (IsOfStub (place_of tape window) words b → ⊥) → IsSome (get stub.image b) →
+      (j : ℕ) × IsSounding from window j × (gives (word_nr tape.words j) b ≡ true)
 
 -- a plan that touches bytes of a tape's image alone, and none of its first words
 pub record LiesBehind (tape : PlanValue) (from : ℕ) (stub : PlanValue) : Type 0 where

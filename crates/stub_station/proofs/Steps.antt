@@ -5,8 +5,8 @@ use Rattle.std.proofs.lemmas.List.{append_cancel_left}
 use Rattle.std.proofs.lemmas.Bool.Decides.{nat_tests}
 use Rattle.tape_image.specs.Memory.{byte_of}
 use Rattle.odt_machine.specs.Machine.{Machine, IsWide}
-use Rattle.exchange_core.specs.Chunk.{answer_for}
-use Rattle.exchange_law.specs.Station.{ChangesWithin, IsHaltText, Fills, Answers, StubMeets, running, answer_from, answer_text, is_nibble}
+use Rattle.exchange_core.specs.Chunk.{answer_for, is_nibble}
+use Rattle.exchange_law.specs.Station.{ChangesWithin, IsHaltText, Fills, Answers, StubMeets, running, answer_from, answer_text}
 use Rattle.processor.specs.Access.{with_byte}
 use Rattle.exchange_core.specs.declared.stretch.Stretch.{Stretch}
 use Rattle.stub.specs.Filling.{Filling, taken, takes, with_nibble, stored_next, first_byte, answered, spelled, chunk_text}

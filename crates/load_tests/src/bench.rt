@@ -1,8 +1,9 @@
 //! Surroundings of a load that tell what they are.
 ghost use Rattle.std.specs.Prelude.{IfErr, IfOk, None, Some, option_map};
 ghost use Rattle.load_record.specs.Keeper.{HoldsRecord};
-ghost use Rattle.machine_load.specs.Driving.{ending_of, line_told, IsLoadReported};
+ghost use Rattle.machine_load.specs.Driving.{ending_of, IsLoadReported};
 ghost use Rattle.machine_load.specs.Lives.{of_file};
+ghost use Rattle.machine_load.specs.Scene.{line_told};
 ghost use Rattle.record_file.specs.RecordFault.{IsUnbegun};
 
 use crate::disk_text::DiskText;
@@ -118,7 +119,7 @@ pub(crate) fn load_once(
         (record { around = record { steps = None; record_text = bench.old.keeper.text }; out = Some report.old.items })
         (record { around = record { steps = None; record_text = bench.new.keeper.text }; out = Some report.new.items })
         (ending_of outcome.stop outcome.marked
-        (option_map (line_told (λ line. Some line.items) (λ line. line.failures) (λ line. line.fault)) outcome.line))) }
+        (option_map (line_told (record { told = λ line. Some line.items; fault_count = λ line. line.failures; last_fault = λ line. line.fault })) outcome.line))) }
 {
     load(alloc, plan, options, bench, report, &Unwatched)
 }

@@ -9,6 +9,10 @@ use Rattle.machine_load.specs.Step.{reading, Connected, begin_step}
 use Rattle.machine_load.proofs.Steps.{gains_more, gains_nothing}
 use Rattle.machine_load.specs.Load.{Around, Setting, Asks, KeepsRecord, IsLoad}
 use Rattle.machine_load.specs.LoadReport.{load_report}
+use Rattle.machine_load.specs.Called.{IsAskedBefore}
+use Rattle.machine_load.specs.Driving.{KeeperTells, IsLoadUntold}
+use Rattle.machine_load.specs.RecordDisk.{DiskAsked, disk_asked_before}
+use Rattle.machine_load.specs.Scene.{Scene, IsNotLoaded}
 use Rattle.machine_load.specs.LoadFault.{IsLoadFault, IsOpeningFault, IsDrivingFault, fault_of_record}
 use Rattle.record_file.specs.RecordFault.{IsUnbegun}
 use Rattle.request_values.specs.declared.options.LoadOptions.{LoadOptions}
@@ -86,3 +90,11 @@ error_is (Err e) error P is h = subst P (sym is) h
 pub no_value : {T E : Type 0} (r : Result T E) (error : E) (P : T → Type 0) → IsErrAnd r (λ e. e ≡ error) → IfOk r P
 no_value (Ok x) error P is = absurd is
 no_value (Err e) error P is = tt
+
+-- all that is said of a load that came to nothing
+pub not_loaded : {T K : Type 0} (r : Result T LoadFault) (keeper : KeeperTells K) (plan : PlanValue) (options : LoadOptions) (before after : Scene)
+    → IfErr r (IsLoadFault plan options before.setting after.setting) → IfErr r (λ why. why ≡ WriteOutput → IsLoadUntold keeper plan options before.setting after.setting)
+    → IfErr r (IsAskedBefore before.call before.asked after.asked) → IfErr r (λ why. DiskAsked before.disk after.disk (disk_asked_before why))
+    → IfErr r (IsNotLoaded keeper plan options before after)
+not_loaded (Ok x) keeper plan options before after fault untold asked disk = tt
+not_loaded (Err why) keeper plan options before after fault untold asked disk = record { fault = fault; untold = untold; asked = asked; disk = disk }

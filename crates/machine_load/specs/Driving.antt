@@ -28,10 +28,6 @@ pub record LineTold : Type 0 where
   pub failures : ℕ
   pub fault : Option LineFault
 
--- what a line tells
-abbrev pub line_told : {L : Type 0} → (L → Option (List Item)) → (L → ℕ) → (L → Option LineFault) → L → LineTold
-line_told said failures fault line = record { said = said line; failures = failures line; fault = fault line }
-
 -- what keepers of a type tell at a moment, and what their calls make of them
 pub record KeeperTells (K : Type 0) : Type 1 where
   pub kept : K → Option (List Kept)
@@ -41,19 +37,6 @@ pub record KeeperTells (K : Type 0) : Type 1 where
   pub fails : K → Kept → K → Type 0
   pub begins : K → PlanValue → ℕ → Type 0
   pub text : K → Option (List ℕ)
-
--- what keepers of a type tell
-abbrev pub keeper_tells : {K : Type 0} → (K → Option (List Kept)) → (K → ℕ) → (K → Option KeepFault) → (K → Kept → K → Type 0) → (K → Kept → K → Type 0)
-    → (K → PlanValue → ℕ → Type 0) → (K → Option (List ℕ)) → KeeperTells K
-keeper_tells kept failures fault keeps fails begins text = record {
-  kept = kept;
-  failures = failures;
-  fault = fault;
-  keeps = keeps;
-  fails = fails;
-  begins = begins;
-  text = text;
-}
 
 -- from one core to another the engine had the most turns, over a fresh line and a keeper that was begun with the words that were
 -- verified already, and it stopped so; then line and keeper tell this

@@ -33,14 +33,6 @@ pub record Setting : Type 0 where
   pub around : Around
   pub out : Option (List ℕ)
 
--- what surroundings tell
-abbrev pub around_of : {S : Type 0} → (S → Option (List Step)) → (S → Option (List ℕ)) → S → Around
-around_of steps_of text_of surroundings = record { steps = steps_of surroundings; record_text = text_of surroundings }
-
--- what surroundings tell, and what an output holds
-abbrev pub setting : {S W : Type 0} → (S → Option (List Step)) → (S → Option (List ℕ)) → (W → Option (List ℕ)) → S → W → Setting
-setting steps_of text_of contents surroundings out = record { around = around_of steps_of text_of surroundings; out = contents out }
-
 -- these steps were asked from then on
 abbrev pub Asks : Around → Around → List Step → Type 0
 Asks before after steps = Gains before.steps after.steps steps

@@ -1,6 +1,5 @@
 use Rattle.std.proofs.Common.{true, refl, rules}
-use Rattle.machine_load.specs.Driving.{line_told}
-use Rattle.machine_load.specs.Load.{around_of}
+use Rattle.machine_load.specs.Scene.{around_of, line_told}
 use Rattle.machine_load.specs.LoadFault.{IsDrivingFault, fault_of_record}
 use Rattle.machine_load.proofs.Faults.{error_is, not_begun}
 use Rattle.machine_load.proofs.Steps.{gains_more}
@@ -10,10 +9,10 @@ pub returns-in_err-keeper-clause-fault : goal.returns-in_err-keeper-clause-fault
 returns-in_err-keeper-clause-fault g c =
     error_is c.from_residual-in_err-keeper.result (fault_of_record c.in_err-keeper.field-0.0)
     (IsDrivingFault true
-    (around_of g.S.Surroundings.steps g.S.Surroundings.record_text c.args.around.now)
-    (around_of g.S.Surroundings.steps g.S.Surroundings.record_text c.begin_record.new.self))
+    (around_of g.S.Surroundings c.args.around.now)
+    (around_of g.S.Surroundings c.begin_record.new.self))
     c.from_residual-in_err-keeper.ensures.1
-    (not_begun _ (around_of g.S.Surroundings.steps g.S.Surroundings.record_text c.connect.new.self) _ c.in_err-keeper.field-0.0 c.in_err-keeper.ensures.fault c.in_ok-line.ensures.step c.in_err-keeper.ensures.step)
+    (not_begun _ (around_of g.S.Surroundings c.connect.new.self) _ c.in_err-keeper.field-0.0 c.in_err-keeper.ensures.fault c.in_ok-line.ensures.step c.in_err-keeper.ensures.step)
 
 pub returns-clause-driven : goal.returns-clause-driven
 returns-clause-driven g c = record {
@@ -24,7 +23,7 @@ returns-clause-driven g c = record {
   keeper' = c.drive_watched-driven.result.1;
   driven = record {
     goes_on = c.requires.goes_on;
-    line = line_told g.S.Line.Line.told g.S.Line.Line.fault_count g.S.Line.Line.last_fault c.in_ok-line.line;
+    line = line_told g.S.Line.Line c.in_ok-line.line;
     fresh = c.in_ok-line.ensures.fresh;
     keeper = c.in_ok-keeper.keeper;
     begun_so = rw (c.plan.ensures.value, c.progress-verified.ensures.verified) at c.in_ok-keeper.ensures.keeper;

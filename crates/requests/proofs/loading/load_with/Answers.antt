@@ -1,6 +1,6 @@
 use Rattle.std.proofs.Common.{inl, inr, subst}
 use Rattle.std.proofs.lemmas.Result.{IfOk-weaker, IfErr-weaker}
-use Rattle.machine_load.specs.Load.{around_of}
+use Rattle.machine_load.specs.Scene.{around_of}
 use Rattle.machine_load.specs.RecordDisk.{DiskAsked}
 use Rattle.requests.specs.Ending.{IsLoadFailureOf}
 use Rattle.requests.proofs.Loaded.{some_line, asked_by_some, disk_by_some}
@@ -14,8 +14,8 @@ returns-in-Ok-clause-ok g c =
       marked = c.in-Ok.outcome.marked;
       between = g.W.Write.contents c.load.new.out;
       reported = record {
-        around = around_of g.S.Surroundings.steps g.S.Surroundings.record_text c.args.around.now;
-        around' = around_of g.S.Surroundings.steps g.S.Surroundings.record_text c.load.new.around;
+        around = around_of g.S.Surroundings c.args.around.now;
+        around' = around_of g.S.Surroundings c.load.new.around;
         reported = c.in-Ok.ensures.reported;
       };
       ended = is;
@@ -33,8 +33,8 @@ returns-in-Ok-clause-err g c =
       marked = c.in-Ok.outcome.marked;
       between = g.W.Write.contents c.load.new.out;
       reported = record {
-        around = around_of g.S.Surroundings.steps g.S.Surroundings.record_text c.args.around.now;
-        around' = around_of g.S.Surroundings.steps g.S.Surroundings.record_text c.load.new.around;
+        around = around_of g.S.Surroundings c.args.around.now;
+        around' = around_of g.S.Surroundings c.load.new.around;
         reported = c.in-Ok.ensures.reported;
       };
       is_so = is;
@@ -48,8 +48,8 @@ pub returns-in-Err-clause-err : goal.returns-in-Err-clause-err
 returns-in-Err-clause-err g c =
     inl (record {
       fault = c.in-Err.fault;
-      around = around_of g.S.Surroundings.steps g.S.Surroundings.record_text c.args.around.now;
-      around' = around_of g.S.Surroundings.steps g.S.Surroundings.record_text c.load.new.around;
+      around = around_of g.S.Surroundings c.args.around.now;
+      around' = around_of g.S.Surroundings c.load.new.around;
       is_so = c.in-Err.ensures.fault;
       is_called = subst (λ file. IsLoadFailureOf c.in-Err.fault c.args.request.line.now file c.load_failure.result) c.record_name.ensures c.load_failure.ensures;
       asked = c.in-Err.ensures.asked_in_vain;

@@ -5,5 +5,6 @@ pub mod Called
 pub mod RecordDisk
 pub mod Scene
 pub mod Driving
+pub mod GivenBack
 pub mod Step
 pub mod Lives

@@ -8,8 +8,8 @@ use Rattle.load_devices.specs.Dialogue.{dialogue}
 use Rattle.load_record.specs.Keeper.{Keeper, HasKept, HasCutShort, HoldsRecord, fault_now}
 use Rattle.load_lives.specs.Keepers.{WentOutAt}
 use Rattle.load_lives.specs.Lives.{Life, PassesOver, IsLife, WireAndRecord, last_core}
-use Rattle.machine_load.specs.Driving.{KeeperTells, Finish, IsLived, IsLoadLived}
-use Rattle.machine_load.specs.Load.{Around}
+use Rattle.machine_load.specs.Driving.{KeeperTells, IsLived, IsLoadLived}
+use Rattle.machine_load.specs.Load.{Around, Finish}
 use Rattle.request_values.specs.declared.options.LoadOptions.{LoadOptions}
 
 -- what the keeper of a record's file tells, where its writer tells what it holds, and where it held nothing before

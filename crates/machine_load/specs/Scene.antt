@@ -4,25 +4,26 @@ use Rattle.std.specs.declared.io.Write.{Ghosts as Write}
 use Rattle.load_devices.specs.declared.keep.Keep.{Ghosts as Keep}
 use Rattle.load_devices.specs.declared.line.Line.{Ghosts as Line}
 use Rattle.load_devices.specs.Told.{Gains}
+use Rattle.console_reach.specs.Reached.{line_told}
 use Rattle.machine_load.specs.declared.fault.LoadFault.{LoadFault}
 use Rattle.machine_load.specs.declared.fault.LoadFault.TheVariants.{WriteOutput}
 use Rattle.machine_load.specs.declared.outcome.Outcome.{Outcome}
 use Rattle.machine_load.specs.declared.surroundings.Surroundings.{Ghosts as Surroundings}
 use Rattle.machine_load.specs.Called.{asked_by, IsAskedBefore}
-use Rattle.machine_load.specs.Driving.{Ending, KeeperTells, LineTold, IsLoadReported, IsLoadUntold}
+use Rattle.machine_load.specs.Driving.{KeeperTells, IsLoadReported, IsLoadUntold}
 use Rattle.machine_load.specs.LoadFault.{IsLoadFault}
 use Rattle.machine_load.specs.RecordDisk.{RecordDisk, DiskAsked, disk_asked_by, disk_asked_before}
 use Rattle.request_values.specs.declared.options.LoadOptions.{LoadOptions}
 use Rattle.stream_line.specs.Dialling.{LineRequest, Call}
 use Rattle.tape_image.specs.Plan.{PlanValue}
-use Rattle.machine_load.specs.Load.{Around, Setting, IsNeverBegun, IsReported}
+use Rattle.machine_load.specs.Load.{Around, Ending, Setting, IsNeverBegun, IsReported}
 
 -- what surroundings tell
 abbrev pub around_of : {S L K : Type 0} → Surroundings S L K → S → Around
 around_of tell around = record { steps = tell.steps around; record_text = tell.record_text around }
 
--- what is known of a load at a moment: what was asked of its surroundings, its record and its output, what was asked for lines and of the
--- disk, and whom a connection leads to
+-- what is known of a load at a moment: what was asked of its surroundings, its record, the lines that were given back and its output, what
+-- was asked for lines and of the disk, and whom a connection leads to
 pub record Scene : Type 0 where
   pub setting : Setting
   pub asked : Option (List LineRequest)
@@ -32,15 +33,11 @@ pub record Scene : Type 0 where
 -- what surroundings and an output tell
 abbrev pub scene : {S L K W : Type 0} → Surroundings S L K → Write W → S → W → Scene
 scene tell write around out = record {
-  setting = record { around = around_of tell around; out = write.contents out };
+  setting = record { around = around_of tell around; lines = tell.lines around; out = write.contents out };
   asked = tell.asked around;
   call = tell.call around;
   disk = tell.disk around;
 }
-
--- what a line tells
-abbrev pub line_told : {L : Type 0} → Line L → L → LineTold
-line_told tell line = record { said = tell.told line; failures = tell.fault_count line; fault = tell.last_fault line }
 
 -- what the keepers tell that surroundings begin
 abbrev pub keeper_of : {S L K : Type 0} → Surroundings S L K → Keep K → KeeperTells K
@@ -58,10 +55,10 @@ keeper_of around tell = record {
 abbrev pub ending : {L : Type 0} → Line L → Outcome L → Ending
 ending tell outcome = record { stop = outcome.stop; marked = outcome.marked; line = option_map (line_told tell) outcome.line }
 
--- a load was reported
+-- a load was reported, and gives its line back to whoever would listen
 pub record IsLoaded {L K : Type 0} (keeper : KeeperTells K) (tell : Line L) (plan : PlanValue) (options : LoadOptions) (before after : Scene)
     (outcome : Outcome L) : Type 0 where
-  pub reported : IsReported plan options before.setting after.setting outcome.stop outcome.marked
+  pub reported : IsReported plan options before.setting after.setting (ending tell outcome)
   -- the report is of the core that the engine gave back, over the line that was reached and the keeper that was begun
   pub lived : IsLoadReported keeper plan options before.setting after.setting (ending tell outcome)
   pub line : IsSome outcome.line ⊎ IsNeverBegun outcome.stop

@@ -15,12 +15,14 @@ ghost use Rattle.load_devices.specs.Turns.{most_turns};
 ghost use Rattle.byte_io.specs.Output.{WritesPrefix};
 ghost use Rattle.machine_load.specs.Called.{asked_by, IsAskedBefore};
 ghost use Rattle.stream_line.specs.Dialling.{asked_once};
-ghost use Rattle.machine_load.specs.Driving.{finish_of, IsDrivenLife, IsLived, IsLoadReported, IsLoadUntold};
-ghost use Rattle.machine_load.specs.Load.{Asks, IsNeverBegun, IsOpening, IsReported, words_taken};
-ghost use Rattle.machine_load.specs.LoadFault.{IsLoadFault, IsOpeningFault, IsDrivingFault};
+ghost use Rattle.console_reach.specs.Reached.{line_told};
+ghost use Rattle.machine_load.specs.Driving.{IsDrivenLife, IsLived};
+ghost use Rattle.machine_load.specs.GivenBack.{GivesNothingSaid, IsGivenBack};
+ghost use Rattle.machine_load.specs.Load.{finish_of, Asks, IsOpening, words_taken};
+ghost use Rattle.machine_load.specs.LoadFault.{IsOpeningFault, IsDrivingFault};
 ghost use Rattle.machine_load.specs.LoadReport.{load_report};
 ghost use Rattle.machine_load.specs.RecordDisk.{DiskAsked, disk_asked_by, disk_asked_before, IsBegunOn, IsOnlyRead, IsLivedOn, IsNotLivedOn};
-ghost use Rattle.machine_load.specs.Scene.{around_of, keeper_of, line_told, scene, IsLoaded, IsNotLoaded};
+ghost use Rattle.machine_load.specs.Scene.{around_of, keeper_of, scene, IsLoaded, IsNotLoaded};
 ghost use Rattle.record_file.specs.OldRecord.{HoldsNoRecord};
 ghost use Rattle.machine_load.specs.Step.{reading};
 
@@ -68,8 +70,27 @@ pub fn load<S: Surroundings, W: Write, O: Onlooker>(
 {
     let (core, writable) = first_core(alloc, plan, options, around)?;
     let lived = live(alloc, core, writable, around, onlooker)?;
-    report_life(&lived.core, lived.stop, out)?;
-    Ok(lived.outcome())
+    match report_life(&lived.core, lived.stop, out) {
+        Ok(()) => Ok(lived.outcome()),
+        Err(fault) => {
+            let Lived { core: _, stop: _, line } = lived;
+            give_back(around, line);
+            Err(LoadFault::from(fault))
+        }
+    }
+}
+
+// Gives a line back, where there is one.
+fn give_back<S: Surroundings>(around: &mut S, line: Option<S::Line>)
+    ensures lines { IsGivenBack (S.lines around.old) (S.lines around.new) (option_map (line_told S.Line.Line) line) }
+    ensures steps { S.steps around.new ≡ S.steps around.old }
+    ensures text { S.record_text around.new ≡ S.record_text around.old }
+    ensures asked { S.asked around.new ≡ S.asked around.old }
+    ensures disk { S.disk around.new ≡ S.disk around.old }
+{
+    if let Some(line) = line {
+        around.let_go(line);
+    }
 }
 
 // A life that is over, and the line that it had.
@@ -109,6 +130,7 @@ fn first_core<S: Surroundings>(
     ensures same { Keeps (S.record_text around.old) (S.record_text around.new) }
     ensures asked { S.asked around.new ≡ S.asked around.old }
     ensures call { S.call around.new ≡ S.call around.old }
+    ensures lines { S.lines around.new ≡ S.lines around.old }
     ensures disk { OnOk result (DiskAsked (S.disk around.old) (S.disk around.new) IsOnlyRead) }
     ensures disk_in_vain { IfErr result (λ fault. DiskAsked (S.disk around.old) (S.disk around.new) (disk_asked_before fault)) }
 {
@@ -161,6 +183,8 @@ fn live<S: Surroundings, O: Onlooker>(
     ensures fault { IfErr result (IsDrivingFault writable (around_of S.Surroundings around.old) (around_of S.Surroundings around.new)) }
     ensures asked { IfOk result (λ lived. Gains (S.asked around.old) (S.asked around.new) (asked_by (S.call around.old) lived.line)) }
     ensures asked_in_vain { IfErr result (IsAskedBefore (S.call around.old) (S.asked around.old) (S.asked around.new)) }
+    ensures lines { OnOk result (S.lines around.new ≡ S.lines around.old) }
+    ensures lines_in_vain { OnErr result (GivesNothingSaid (S.lines around.old) (S.lines around.new)) }
     ensures disk { IfOk result (λ lived. IsLivedOn (S.disk around.old) (S.disk around.new) lived.line) }
     ensures disk_in_vain { IfErr result (IsNotLivedOn (S.disk around.old) (S.disk around.new)) }
 {
@@ -202,19 +226,27 @@ fn drive_over<S: Surroundings, O: Onlooker>(
     ensures fault { IfErr result (IsDrivingFault true (around_of S.Surroundings around.old) (around_of S.Surroundings around.new)) }
     ensures asked { IfOk result (λ driven. Gains (S.asked around.old) (S.asked around.new) (asked_once (S.call around.old))) }
     ensures asked_in_vain { IfErr result (IsAskedBefore (S.call around.old) (S.asked around.old) (S.asked around.new)) }
+    ensures lines { OnOk result (S.lines around.new ≡ S.lines around.old) }
+    ensures lines_in_vain { OnErr result (GivesNothingSaid (S.lines around.old) (S.lines around.new)) }
     ensures disk { OnOk result (DiskAsked (S.disk around.old) (S.disk around.new) IsBegunOn) }
     ensures disk_in_vain { IfErr result (IsNotLivedOn (S.disk around.old) (S.disk around.new)) }
 {
     let line = around.connect()?;
     let verified = core.progress().verified;
-    let keeper = around.begin_record(alloc, core.plan(), verified)?;
+    let keeper = match around.begin_record(alloc, core.plan(), verified) {
+        Ok(keeper) => keeper,
+        Err(fault) => {
+            around.let_go(line);
+            return Err(LoadFault::from(fault));
+        }
+    };
     let (driven, keeper) = drive_watched(core, line, keeper, onlooker);
     around.end_record(keeper);
     Ok(driven)
 }
 
 // Drives a life that an onlooker is told of. Line and keeper come back.
-fn drive_watched<L: Line + Drop, K: Keep + Drop, O: Onlooker>(
+fn drive_watched<L: Line, K: Keep + Drop, O: Onlooker>(
     core: HostCore,
     mut line: L,
     mut keeper: K,

@@ -156,7 +156,13 @@ fn is_said(rt: &HostRuntime, names: &[&str], line: &str) -> bool {
         return false;
     };
     let system = System::new(rt, AMPLE);
-    run(&system, rt.alloc(), Request::Tape(TapeRequest::Check(names)), &[], &mut ended);
+    run(
+        &system,
+        rt.alloc(),
+        Request::Tape(TapeRequest::Check(names)),
+        &[],
+        &mut ended,
+    );
     ended.is(Status::DeviceFailed, "", line)
 }
 

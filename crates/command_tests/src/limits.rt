@@ -84,7 +84,15 @@ fn remove_tapes(rt: &HostRuntime) -> io::Result<()> {
 fn a_machine_that_is_too_large_is_refused(rt: HostRuntime) -> Result<(), Fail> {
     put_tapes(&rt)?;
     let status = Status::BadCommandLine;
-    assert!(rt; is_refused(&rt, Request::Tape(TapeRequest::Type(TOO_LARGE)), b"0/", status, REFUSED));
+    assert!(rt;
+        is_refused(
+            &rt,
+            Request::Tape(TapeRequest::Type(TOO_LARGE)),
+            b"0/",
+            status,
+            REFUSED
+        )
+    );
     assert!(rt; is_dialogue_refused(&rt, GOOD, status, REFUSED));
     assert!(rt; is_dialogue_refused(&rt, BAD, Status::Refused, TAPE_REFUSED));
     Ok(remove_tapes(&rt)?)

@@ -3,7 +3,9 @@
 
 use crate::attempts::{Ended, run};
 use endings::Status;
-use request_values::{AddressRange, Load, LoadOptions, Look, MachineRequest, Probe, Request, Save, TapeRequest};
+use request_values::{
+    AddressRange, Load, LoadOptions, Look, MachineRequest, Probe, Request, Save, TapeRequest,
+};
 use simulated_system::{AMPLE, DEVICE, ONE_WORD, QUIET_MS, Setting, System, remove};
 use std::alloc::{AllocError, Global};
 use std::fs;

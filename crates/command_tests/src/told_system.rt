@@ -10,7 +10,10 @@ ghost use Rattle.requests.specs.Attempt.{IsAttempted};
 use crate::attempts::NOBODY;
 use endings::{Status, Streams};
 use input_files::InputFiles;
-use request_values::{AddressRange, Load, LoadOptions, Look, MachineRequest, Probe, Rehearsal, Request, Save, TapeRequest};
+use request_values::{
+    AddressRange, Load, LoadOptions, Look, MachineRequest, Probe, Rehearsal, Request, Save,
+    TapeRequest,
+};
 use requests::{Outside, System, attempt};
 use serial_line::{Device, DeviceOpening, Devices};
 use simulated_system::{AMPLE, Console, DEVICE, ONE_WORD, QUIET_MS, System as Simulated};
@@ -263,7 +266,10 @@ fn request_of(alloc: Global, wanted: Wanted) -> Result<Request<'static>, AllocEr
             },
         )),
         Wanted::Verify(name, line) => {
-            Request::Machine(MachineRequest::Verify(Vec::from_slice(alloc, &[name])?, look_at(line)))
+            Request::Machine(MachineRequest::Verify(
+                Vec::from_slice(alloc, &[name])?,
+                look_at(line),
+            ))
         }
         Wanted::Save(name, line) => match AddressRange::new(0o001000, 0o001000) {
             Some(range) => Request::Machine(MachineRequest::Save(Save {

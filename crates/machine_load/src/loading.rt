@@ -73,7 +73,11 @@ pub fn load<S: Surroundings, W: Write, O: Onlooker>(
     match report_life(&lived.core, lived.stop, out) {
         Ok(()) => Ok(lived.outcome()),
         Err(fault) => {
-            let Lived { core: _, stop: _, line } = lived;
+            let Lived {
+                core: _,
+                stop: _,
+                line,
+            } = lived;
             give_back(around, line);
             Err(LoadFault::from(fault))
         }

@@ -16,9 +16,12 @@ returns-in-Err-clause-fault g c =
 
 pub returns-in-Err-clause-lines_in_vain : goal.returns-in-Err-clause-lines_in_vain
 returns-in-Err-clause-lines_in_vain g c =
-    inr (line_told g.S.Line.Line c.in_ok-line.line, c.in_ok-line.ensures.fresh,
-    subst (λ lines. Gains lines (g.S.Surroundings.lines c.let_go.new.self) (line_told g.S.Line.Line c.in_ok-line.line ∷ []))
-    (c.in-Err.ensures.lines ∙ c.in_ok-line.ensures.lines) c.let_go.ensures.lines)
+    inr (
+      line_told g.S.Line.Line c.in_ok-line.line,
+      c.in_ok-line.ensures.fresh,
+      subst (λ lines. Gains lines (g.S.Surroundings.lines c.let_go.new.self) (line_told g.S.Line.Line c.in_ok-line.line ∷ []))
+          (c.in-Err.ensures.lines ∙ c.in_ok-line.ensures.lines) c.let_go.ensures.lines,
+    )
 
 pub returns-clause-driven : goal.returns-clause-driven
 returns-clause-driven g c = record {

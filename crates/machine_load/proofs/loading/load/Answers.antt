@@ -64,14 +64,14 @@ returns-in-Err-clause-err g c =
     let after = scene g.S.Surroundings g.W.Write c.give_back.new.around c.report_life.new.out in
     let line = option_map (line_told g.S.Line.Line) c.in_ok-lived.lived.line in
     let untold : IsLoadUntold keeper c.args.plan c.args.options before.setting after.setting =
-        rw (sym c.give_back.ensures.steps, sym c.give_back.ensures.text) at
-        (load_untold keeper c.args.plan c.args.options before.setting
-        (record { around = around_of g.S.Surroundings c.live.new.around; lines = g.S.Surroundings.lines c.give_back.new.around; out = g.W.Write.contents c.report_life.new.out })
-        (around_of g.S.Surroundings c.first_core.new.around)
-        c.in_ok-core.core c.in_ok-core.writable
-        (finish_of c.in_ok-lived.lived.core c.in_ok-lived.lived.stop line)
-        c.in_ok-core.ensures.step c.first_core.ensures.same c.in_ok-core.ensures.opened c.in_ok-lived.ensures.lived c.in-Err.ensures.err
-        (subst (λ lines. IsGivenBack lines (g.S.Surroundings.lines c.give_back.new.around) line) (c.in_ok-lived.ensures.lines ∙ c.first_core.ensures.lines) c.give_back.ensures.lines)) in
+    rw (sym c.give_back.ensures.steps, sym c.give_back.ensures.text) at
+    (load_untold keeper c.args.plan c.args.options before.setting
+    (record { around = around_of g.S.Surroundings c.live.new.around; lines = g.S.Surroundings.lines c.give_back.new.around; out = g.W.Write.contents c.report_life.new.out })
+    (around_of g.S.Surroundings c.first_core.new.around)
+    c.in_ok-core.core c.in_ok-core.writable
+    (finish_of c.in_ok-lived.lived.core c.in_ok-lived.lived.stop line)
+    c.in_ok-core.ensures.step c.first_core.ensures.same c.in_ok-core.ensures.opened c.in_ok-lived.ensures.lived c.in-Err.ensures.err
+    (subst (λ lines. IsGivenBack lines (g.S.Surroundings.lines c.give_back.new.around) line) (c.in_ok-lived.ensures.lines ∙ c.first_core.ensures.lines) c.give_back.ensures.lines)) in
     subst (IsNotLoaded keeper c.args.plan c.args.options before after) (sym c.from.ensures) (record {
       fault = cut_short_of keeper c.args.plan c.args.options before.setting after.setting untold;
       untold = λ _. untold;
@@ -87,11 +87,11 @@ returns-in-Ok-clause-ok g c =
     let before = scene g.S.Surroundings g.W.Write c.args.around.now c.args.out.now in
     let after = scene g.S.Surroundings g.W.Write c.live.new.around c.report_life.new.out in
     let lived : IsLoadReported keeper c.args.plan c.args.options before.setting after.setting (ending g.S.Line.Line c.outcome.result) =
-        rw (sym c.outcome.ensures.stop, sym c.outcome.ensures.marked, sym c.outcome.ensures.line) at
-        (load_reported keeper (line_told g.S.Line.Line) c.args.plan c.args.options before.setting after.setting
-        (around_of g.S.Surroundings c.first_core.new.around)
-        c.in_ok-core.core c.in_ok-lived.lived.core c.in_ok-core.writable c.in_ok-lived.lived.stop c.in_ok-lived.lived.line
-        c.in_ok-core.ensures.step c.first_core.ensures.same c.in_ok-core.ensures.opened c.in_ok-lived.ensures.lived c.in-Ok.ensures.ok) in
+    rw (sym c.outcome.ensures.stop, sym c.outcome.ensures.marked, sym c.outcome.ensures.line) at
+    (load_reported keeper (line_told g.S.Line.Line) c.args.plan c.args.options before.setting after.setting
+    (around_of g.S.Surroundings c.first_core.new.around)
+    c.in_ok-core.core c.in_ok-lived.lived.core c.in_ok-core.writable c.in_ok-lived.lived.stop c.in_ok-lived.lived.line
+    c.in_ok-core.ensures.step c.first_core.ensures.same c.in_ok-core.ensures.opened c.in_ok-lived.ensures.lived c.in-Ok.ensures.ok) in
     record {
       reported = reported_of keeper c.args.plan c.args.options before.setting after.setting (ending g.S.Line.Line c.outcome.result) (c.in_ok-lived.ensures.lines ∙ c.first_core.ensures.lines) lived;
       lived = lived;

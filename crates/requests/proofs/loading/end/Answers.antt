@@ -26,19 +26,19 @@ returns-in-Some-clause-err g c =
     subst (λ line. IfErr c.end_over-ended.result (IsEndFailure c.args.load (ending_of outcome.stop outcome.marked (option_map tell line)) before after)) (sym c.in-Some.is)
     (IfErr-weaker c.end_over-ended.result _ (IsEndFailure c.args.load (ending_of outcome.stop outcome.marked (Some (tell c.in-Some.line))) before after)
     (λ failure is. ⊎_elim
-      (λ stopped. inl (
-        stopped.0,
-        subst (λ (line : LineTold). IsGivenBack before.lines after.lines (Some line)) (ap tell stopped.1) c.let_go.ensures.lines,
-        ap g.W.Write.contents stopped.2,
-      ))
-      (λ cut. inr (record {
-        first = tell c.in-Some.line;
-        has_line = refl;
-        last = tell c.end_over-ended.new.line;
-        given_back = c.let_go.ensures.lines;
-        cut = cut;
-      }))
-      is)
+    (λ stopped. inl (
+      stopped.0,
+      subst (λ (line : LineTold). IsGivenBack before.lines after.lines (Some line)) (ap tell stopped.1) c.let_go.ensures.lines,
+      ap g.W.Write.contents stopped.2,
+    ))
+    (λ cut. inr (record {
+      first = tell c.in-Some.line;
+      has_line = refl;
+      last = tell c.end_over-ended.new.line;
+      given_back = c.let_go.ensures.lines;
+      cut = cut;
+    }))
+    is)
     c.end_over-ended.ensures.err)
 
 pub returns-in-None-clause-ok : goal.returns-in-None-clause-ok

@@ -4,6 +4,7 @@ ghost use Rattle.std.specs.Mem.{FitsInMemory};
 ghost use Rattle.requests.specs.Moment.{moment};
 ghost use Rattle.requests.specs.Attempt.{IsDone, IsFailed, IsAttempted};
 
+use crate::advice::say_probing;
 use crate::loading::load_tapes;
 use crate::probing::probe_console;
 use crate::saving::save_words;
@@ -97,7 +98,10 @@ fn perform<
             verify_tapes(system, alloc, names, *look, streams, terminal)
         }
         Request::Save(save) => save_words(system, alloc, *save, &mut streams.out, terminal),
-        Request::Probe(probe) => probe_console(system, alloc, *probe, &mut streams.out),
+        Request::Probe(probe) => {
+            say_probing(terminal);
+            probe_console(system, alloc, *probe, &mut streams.out)
+        }
         printing => {
             let outcome = print_answer(&mut system.inputs, alloc, printing, streams);
             (system, outcome)

@@ -75,7 +75,7 @@ pub(crate) fn load_tapes<
     };
     let System { inputs, outside } = system;
     let errand = Loading {
-        host: Host::new(alloc, outside.clock, terminal),
+        host: Host::new(alloc, outside.clock, terminal, load.record.is_some()),
         plan: planned.starting(load.start),
         load,
     };
@@ -135,6 +135,7 @@ fn load_with<'a, K: Clock, T: Print, S: Surroundings, W: Write>(
         (console_told S.asked S.call W.contents around.old out.old)
         (console_told S.asked S.call W.contents around.new out.new)) }
 {
+    let words = plan.words().len() as u32;
     match load(
         host.alloc,
         plan,
@@ -143,7 +144,10 @@ fn load_with<'a, K: Clock, T: Print, S: Surroundings, W: Write>(
         out,
         &host.progress,
     ) {
-        Ok(outcome) => end(request, outcome, out),
+        Ok(outcome) => {
+            host.advise(request, words, &outcome);
+            end(request, outcome, out)
+        }
         Err(fault) => Err(load_failure(fault, request.line, record_name(request.record))),
     }
 }

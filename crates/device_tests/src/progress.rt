@@ -38,11 +38,12 @@ impl Clock for SetClock {
     }
 }
 
-// A terminal that keeps what was written last, and counts the writes.
+// A terminal that keeps what was written last and what before, and counts the writes.
 #[derive(Drop)]
 struct Screen {
     alloc: Global,
     text: RefCell<Vec<u8>>,
+    before: RefCell<Vec<u8>>,
     writes: Cell<u32>,
 }
 
@@ -51,6 +52,7 @@ impl Screen {
         Screen {
             alloc,
             text: RefCell::new(Vec::new(alloc)),
+            before: RefCell::new(Vec::new(alloc)),
             writes: Cell::new(0),
         }
     }
@@ -63,12 +65,30 @@ impl Screen {
         }
     }
 
-    // Whether there were so many writes, and the last put this in the line's place, for a terminal that
-    // does not wrap it.
+    // Whether there were so many writes, and the last put this in the line's place.
     fn has_shown(&self, writes: u32, text: &str) -> bool {
+        self.writes.get() == writes && self.puts(text)
+    }
+
+    // Whether the last write put this in the line's place, for a terminal that does not wrap it.
+    fn puts(&self, text: &str) -> bool {
         match format!(in self.alloc; "\r\x1b[?7l{text}\x1b[K\x1b[?7h") {
-            Ok(line) => self.writes.get() == writes && self.shows(&line),
+            Ok(line) => self.shows(&line),
             Err(_) => false,
+        }
+    }
+
+    // Whether the write before the last left this above the line, where that was due.
+    fn has_said(&self, said: Option<&str>) -> bool {
+        let Some(said) = said else {
+            return true;
+        };
+        match (
+            format!(in self.alloc; "\r{said}\x1b[K\n"),
+            self.before.try_borrow(),
+        ) {
+            (Ok(line), Ok(before)) => before.as_slice() == line.as_bytes(),
+            _ => false,
         }
     }
 }
@@ -84,7 +104,12 @@ impl Print for Screen {
 
     fn write_all(&self, bytes: &[u8]) -> io::Result<()> {
         self.writes.set(self.writes.get().saturating_add(1));
-        if let Ok(mut text) = self.text.try_borrow_mut() {
+        if let (Ok(mut text), Ok(mut before)) = (
+            self.text.try_borrow_mut(),
+            self.before.try_borrow_mut(),
+        ) {
+            before.clear();
+            before.extend_from_slice(&text)?;
             text.clear();
             text.extend_from_slice(bytes)?;
         }
@@ -98,33 +123,34 @@ const BEGINNING: u64 = 7_000_000;
 // What is shown of it before its first key.
 const GOING_ON: &str = "going on behind 500 of 2000 words, listening; power lost? use --recheck";
 
-// Of a load of 2,000 words, 500 of them verified before: the time since then in milliseconds, how many words are
+// Of a load of 2,000 words, 500 of them verified before, whose pace is measured from its first key on, 10 ms later: the
+// time since it began in milliseconds, how many words are
 // verified and how many mishaps there were, how often something was shown by then, and what last.
 const STORY: [(u64, u32, u32, u32, &str); 7] = [
     (10, 500, 0, 1, GOING_ON),
     (99, 501, 0, 1, GOING_ON),
-    (100, 502, 0, 2, "502 of 2000 words, 25%, 1:14 left"),
-    (199, 503, 0, 2, "502 of 2000 words, 25%, 1:14 left"),
+    (100, 502, 0, 2, "502 of 2000 words, 25%, 1:07 left"),
+    (199, 503, 0, 2, "502 of 2000 words, 25%, 1:07 left"),
     (
         200,
         503,
         1,
         3,
-        "503 of 2000 words, 25%, 1 mishap, 1:39 left",
+        "503 of 2000 words, 25%, 1 mishap, 1:34 left",
     ),
     (
         1000,
         503,
         2,
         4,
-        "503 of 2000 words, 25%, 2 mishaps, 8:19 left",
+        "503 of 2000 words, 25%, 2 mishaps, 8:14 left",
     ),
     (
         10000,
         504,
         2,
         5,
-        "504 of 2000 words, 25%, 2 mishaps, 1:02:20 left",
+        "504 of 2000 words, 25%, 2 mishaps, 1:02:16 left",
     ),
 ];
 
@@ -152,7 +178,7 @@ fn noticed(heard: Heard, done: u32) -> Sight {
 fn a_load_is_shown_at_its_pace(rt: HostRuntime) {
     let clock = SetClock::new(Some(BEGINNING));
     let terminal = Screen::new(rt.alloc());
-    let line = ProgressLine::new(&clock, &terminal);
+    let line = ProgressLine::new(&clock, &terminal, false);
     line.begins(500, 2000);
     for row in &STORY {
         let (millis, done, spent, writes, text) = *row;
@@ -189,7 +215,7 @@ const BEGINNINGS: [(u32, u32, &str); 5] = [
 fn begins_so(alloc: Global, time: Option<u64>, done: u32, words: u32, text: &str) -> bool {
     let clock = SetClock::new(time);
     let terminal = Screen::new(alloc);
-    ProgressLine::new(&clock, &terminal).begins(done, words);
+    ProgressLine::new(&clock, &terminal, false).begins(done, words);
     terminal.has_shown(1, text)
 }
 
@@ -236,7 +262,7 @@ const GOING_BACK: [(Option<u64>, u32, &str); 4] = [
 fn is_shown(alloc: Global, first: Option<u64>, rows: &[(Option<u64>, u32, &str)]) -> bool {
     let clock = SetClock::new(first);
     let terminal = Screen::new(alloc);
-    let line = ProgressLine::new(&clock, &terminal);
+    let line = ProgressLine::new(&clock, &terminal, false);
     line.begins(0, 4);
     let mut done = 0u32;
     for row in rows {
@@ -356,7 +382,7 @@ const LONGEST: &str =
 fn the_longest_line_has_room(rt: HostRuntime) {
     let clock = SetClock::new(Some(0));
     let terminal = Screen::new(rt.alloc());
-    let line = ProgressLine::new(&clock, &terminal);
+    let line = ProgressLine::new(&clock, &terminal, false);
     line.begins(0, u32::MAX);
     clock.millis.set(Some(u64::MAX));
     line.sees(Sight {
@@ -369,18 +395,23 @@ fn the_longest_line_has_room(rt: HostRuntime) {
 }
 
 // How many characters are heard behind the first key of a load of 28 words, and what is then shown of it: a console
-// answers with 32 at most, and whatever says more is listened to until it is silent, or the next key is sent.
-const TALKS: [(u32, &str); 3] = [
-    (0, "0 of 28 words, 0%"),
-    (32, "0 of 28 words, 0%"),
-    (33, "0 of 28 words, 0%, listening"),
+// answers with 32 at most, and whatever says more is listened to until it is silent, or the next key is sent,
+// from where the pace of the first word is measured then.
+const TALKS: [(u32, &str, &str); 3] = [
+    (0, "0 of 28 words, 0%", "1 of 28 words, 3%, 0:08 left"),
+    (32, "0 of 28 words, 0%", "1 of 28 words, 3%, 0:08 left"),
+    (
+        33,
+        "0 of 28 words, 0%, listening",
+        "1 of 28 words, 3%, 0:02 left",
+    ),
 ];
 
 // Whether a load is shown so, each tenth of a second.
-fn is_talk_shown(alloc: Global, heard: u32, text: &str) -> bool {
+fn is_talk_shown(alloc: Global, heard: u32, text: &str, behind: &str) -> bool {
     let clock = SetClock::new(Some(BEGINNING));
     let terminal = Screen::new(alloc);
-    let line = ProgressLine::new(&clock, &terminal);
+    let line = ProgressLine::new(&clock, &terminal, false);
     line.begins(0, 28);
     clock.millis.set(Some(BEGINNING.saturating_add(100)));
     line.sees(answered(b'Z', 0, 0));
@@ -395,16 +426,99 @@ fn is_talk_shown(alloc: Global, heard: u32, text: &str) -> bool {
     clock.millis.set(Some(BEGINNING.saturating_add(400)));
     line.sees(answered(b'1', 1, 0));
     let writes = if heard > 32 { 5 } else { 3 };
-    is_so && terminal.has_shown(writes, "1 of 28 words, 3%, 0:10 left")
+    is_so && terminal.has_shown(writes, behind)
 }
 
 #[test]
 fn a_line_that_talks_is_listened_to(rt: HostRuntime) {
     for row in &TALKS {
-        let (heard, text) = *row;
+        let (heard, text, behind) = *row;
         assert!(rt;
-            is_talk_shown(rt.alloc(), heard, text),
+            is_talk_shown(rt.alloc(), heard, text, behind),
             "{heard} characters"
+        );
+    }
+}
+
+// A load of 10,000 words that verifies ten a second, and is held from the 60th second to the 80th: the second, how many
+// words are verified by then, and what is shown of them. A minute behind the pause it is forgotten.
+const HELD: [(u64, u32, &str); 5] = [
+    (1, 10, "10 of 10000 words, 0%, 16:39 left"),
+    (60, 600, "600 of 10000 words, 6%, 15:40 left"),
+    (81, 610, "610 of 10000 words, 6%, 25:44 left"),
+    (111, 910, "910 of 10000 words, 9%, 24:55 left"),
+    (140, 1200, "1200 of 10000 words, 12%, 14:40 left"),
+];
+
+// How many words that load has verified at a second.
+fn verified_at(second: u64) -> u32 {
+    let seconds = second.min(60).saturating_add(second.saturating_sub(80));
+    u32::try_from(seconds.saturating_mul(10)).unwrap_or(0)
+}
+
+// Whether this is shown of that load, where it is due at this second.
+fn is_as_due(terminal: &Screen, second: u64) -> bool {
+    for row in &HELD {
+        let (due, _, text) = *row;
+        if due == second && !terminal.puts(text) {
+            return false;
+        }
+    }
+    true
+}
+
+#[test]
+fn a_pause_is_forgotten_within_a_minute(rt: HostRuntime) {
+    let clock = SetClock::new(Some(BEGINNING));
+    let terminal = Screen::new(rt.alloc());
+    let line = ProgressLine::new(&clock, &terminal, false);
+    line.begins(0, 10000);
+    line.sees(answered(b'Z', 0, 0));
+    for second in 1..141u64 {
+        clock.millis.set(Some(BEGINNING.saturating_add(second.saturating_mul(1000))));
+        line.sees(answered(b'/', verified_at(second), 0));
+        assert!(rt; is_as_due(&terminal, second), "{second}");
+    }
+}
+
+// How many words there are of which eight are verified within a second, whether the load goes on behind a break, how
+// often something was shown by then, and the line that says how long it takes, where that is two minutes or more.
+const FORECASTS: [(u32, bool, u32, Option<&str>); 4] = [
+    (967, true, 2, None),
+    (
+        968,
+        true,
+        3,
+        Some("some 2 minutes at this pace; after Ctrl-C the same line goes on"),
+    ),
+    (968, false, 3, Some("some 2 minutes at this pace")),
+    (28672, false, 3, Some("some 59 minutes at this pace")),
+];
+
+// Whether a load says so how long it takes, above what it shows then, and never again.
+fn is_forecast(alloc: Global, words: u32, goes_on: bool, writes: u32, said: Option<&str>) -> bool {
+    let clock = SetClock::new(Some(BEGINNING));
+    let terminal = Screen::new(alloc);
+    let line = ProgressLine::new(&clock, &terminal, goes_on);
+    line.begins(0, words);
+    line.sees(answered(b'Z', 0, 0));
+    clock.millis.set(Some(BEGINNING.saturating_add(1000)));
+    line.sees(answered(b'/', 8, 0));
+    if terminal.writes.get() != writes || !terminal.has_said(said) {
+        return false;
+    }
+    clock.millis.set(Some(BEGINNING.saturating_add(2000)));
+    line.sees(answered(b'/', 9, 0));
+    terminal.writes.get() == writes.saturating_add(1)
+}
+
+#[test]
+fn a_long_load_says_once_how_long_it_takes(rt: HostRuntime) {
+    for row in &FORECASTS {
+        let (words, goes_on, writes, said) = *row;
+        assert!(rt;
+            is_forecast(rt.alloc(), words, goes_on, writes, said),
+            "{words}"
         );
     }
 }

@@ -13,7 +13,9 @@ use Rattle.endings.specs.FaultOutput.{StandardError, IsSaidOnError}
 use Rattle.endings.specs.declared.failure.Failure.{Failure}
 use Rattle.endings.specs.declared.failure.Failure.TheVariants.{CannotRead, CannotWrite, CannotWriteFile, FileIsThere, RecordInUse, CannotConnect}
 use Rattle.endings.specs.declared.failure.Failure.TheVariants.{LineFailed, StartInDoubt, TapeRefused, OneTapeRefused, ScriptRefused, RecordRefused}
-use Rattle.endings.specs.declared.failure.Failure.TheVariants.{TooLarge, BadWord, NoMemory}
+use Rattle.endings.specs.declared.failure.Failure.TheVariants.{TooLarge, Misplaced, BadWord, NoMemory}
+use Rattle.endings.specs.declared.place.Place.{Place}
+use Rattle.endings.specs.declared.place.Place.TheVariants.{LineOfLoad, LineOfVerify, LineOfSave, LineOfProbe, Tape, Script, Record}
 use Rattle.command_io.specs.declared.fault.CommandFault.{CommandFault}
 use Rattle.command_io.specs.declared.fault.CommandFault.TheVariants as fault
 use Rattle.load_record.specs.declared.reader.RecordError.TheVariants as why
@@ -35,6 +37,7 @@ status_of (OneTapeRefused number refusal) = Refused
 status_of (ScriptRefused number) = Refused
 status_of (RecordRefused reason) = Refused
 status_of TooLarge = BadCommandLine
+status_of (Misplaced name place) = BadCommandLine
 status_of BadWord = BadCommandLine
 status_of NoMemory = OutOfMemory
 
@@ -66,6 +69,7 @@ failure_words CannotWrite = codes "cannot write output"
 failure_words (CannotWriteFile name) = codes "cannot write "
 failure_words (CannotConnect address) = codes "cannot connect to "
 failure_words (FileIsThere name) = []
+failure_words (Misplaced name place) = []
 failure_words (RecordInUse name) = codes "record in use: "
 failure_words LineFailed = line_failed
 failure_words StartInDoubt = line_failed
@@ -84,12 +88,25 @@ failure_name (CannotRead name) = shown_name name.now
 failure_name (CannotWriteFile name) = shown_name name.now
 failure_name (FileIsThere name) = shown_name name.now
 failure_name (RecordInUse name) = shown_name name.now
+failure_name (Misplaced name place) = shown_name name.now
 failure_name (CannotConnect address) = shown_name address.now
 failure_name other = []
+
+-- what is told of a name that can't be what its place asks for, and the line's end: a line has to be a serial device, and nothing that is read a
+-- terminal
+abbrev pub misplaced_end : Place → List ℕ
+misplaced_end LineOfLoad = codes " is no serial device: load TAPE LINE [MORE]..\n"
+misplaced_end LineOfVerify = codes " is no serial device: verify TAPE LINE [MORE]..\n"
+misplaced_end LineOfSave = codes " is no serial device: save FILE LINE FROM TO\n"
+misplaced_end LineOfProbe = codes " is no serial device: probe LINE\n"
+misplaced_end Tape = codes " is a terminal, no tape\n"
+misplaced_end Script = codes " is a terminal, no script\n"
+misplaced_end Record = codes " is a terminal, no record\n"
 
 -- what stands behind the name, and the line's end; where the start may have gone out, a line of its own says so
 abbrev pub failure_end : Failure → List ℕ
 failure_end (FileIsThere name) = codes " is there already\n"
+failure_end (Misplaced name place) = misplaced_end place
 failure_end StartInDoubt = codes "\nldaodt: the start may have gone out: look at the machine first\n"
 failure_end other = codes "\n"
 

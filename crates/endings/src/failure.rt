@@ -1,3 +1,4 @@
+use crate::place::Place;
 use crate::status::Status;
 use command_io::CommandFault;
 use load_record::RecordError;
@@ -44,6 +45,9 @@ pub enum Failure<'a> {
 
     /// The machine is larger than an LSI-11's memory.
     TooLarge,
+
+    /// What has this name can't be what its place on the command line asks for.
+    Misplaced(&'a str, Place),
 
     /// A word of the command line is no text, so it names nothing.
     BadWord,
@@ -107,7 +111,7 @@ impl<'a> Failure<'a> {
             | Failure::OneTapeRefused(..)
             | Failure::ScriptRefused(_)
             | Failure::RecordRefused(_) => Status::Refused,
-            Failure::TooLarge | Failure::BadWord => Status::BadCommandLine,
+            Failure::TooLarge | Failure::BadWord | Failure::Misplaced(..) => Status::BadCommandLine,
             Failure::NoMemory => Status::NoMemory,
         }
     }

@@ -34,7 +34,7 @@ fn push_words(words: &mut LineWords, failure: Failure<'_>)
         Failure::CannotRead(_) => push_bytes(words, b"cannot read "),
         Failure::CannotWrite => push_bytes(words, b"cannot write output"),
         Failure::CannotWriteFile(_) => push_bytes(words, b"cannot write "),
-        Failure::FileIsThere(_) => {}
+        Failure::FileIsThere(_) | Failure::Misplaced(..) => {}
         Failure::CannotConnect(_) => push_bytes(words, b"cannot connect to "),
         Failure::RecordInUse(_) => push_bytes(words, b"record in use: "),
         Failure::LineFailed | Failure::StartInDoubt => push_bytes(words, b"line failed"),

@@ -5,12 +5,13 @@ ghost use Rattle.std.specs.Prelude.{◌≡◌, ◌<◌, OnOk, OnErr, IsTrue};
 ghost use Rattle.std.specs.Char.{is_control, digit_char};
 ghost use Rattle.std.specs.Char.Escape.{escape_default};
 ghost use Rattle.endings.specs.FaultOutput.{IsSaidInPart, IsSaidWhole};
-ghost use Rattle.endings.specs.Failure.{status_of, failure_end, failure_name, fault_line, shown_char, shown_name, is_unheard, IsTold, IsToldUnless};
+ghost use Rattle.endings.specs.Failure.{status_of, failure_end, failure_name, fault_line, misplaced_end, shown_char, shown_name, is_unheard, IsTold, IsToldUnless};
 
 use crate::failure::Failure;
 use crate::fault_output::{FaultOutput, say};
 use crate::line_words::line_words;
 use crate::output::Output;
+use crate::place::Place;
 use crate::status::Status;
 use arrayvec::ArrayVec;
 use byte_io::{WriteFault, push_bytes};
@@ -104,10 +105,26 @@ fn line_end(failure: Failure<'_>) -> &'static [u8]
 {
     match failure {
         Failure::FileIsThere(_) => b" is there already\n",
+        Failure::Misplaced(_, place) => misplaced_end(place),
         Failure::StartInDoubt => {
             b"\nldaodt: the start may have gone out: look at the machine first\n"
         }
         _ => b"\n",
+    }
+}
+
+// What is told of a name that can't be what its place asks for, and the line's end.
+fn misplaced_end(place: Place) -> &'static [u8]
+    ensures { result.now ≡ misplaced_end place }
+{
+    match place {
+        Place::LineOfLoad => b" is no serial device: load TAPE LINE [MORE]..\n",
+        Place::LineOfVerify => b" is no serial device: verify TAPE LINE [MORE]..\n",
+        Place::LineOfSave => b" is no serial device: save FILE LINE FROM TO\n",
+        Place::LineOfProbe => b" is no serial device: probe LINE\n",
+        Place::Tape => b" is a terminal, no tape\n",
+        Place::Script => b" is a terminal, no script\n",
+        Place::Record => b" is a terminal, no record\n",
     }
 }
 
@@ -121,6 +138,7 @@ fn write_shown_name<E: FaultOutput>(err: &mut E, failure: Failure<'_>) -> Result
         | Failure::CannotWriteFile(name)
         | Failure::FileIsThere(name)
         | Failure::RecordInUse(name)
+        | Failure::Misplaced(name, _)
         | Failure::CannotConnect(name) => write_name(err, name),
         _ => Ok(()),
     }

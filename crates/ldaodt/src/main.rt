@@ -2,11 +2,13 @@
 //! becomes the exit status. What words ask for stands in `command_line`, all that is done in `requests` and below.
 #![tactic(auto)]
 
+mod misplaced;
 mod program;
 
-use command_line::words_of;
-use endings::{PipedOutput, Streams, tell};
+use command_line::{parse, words_of};
+use endings::{Failure, PipedOutput, Streams, tell};
 use requests::SharedSystem;
+use std::alloc::Global;
 use std::fs;
 use std::fs::File;
 use std::io::{Eprint, IsTerminal};
@@ -28,11 +30,20 @@ fn main(rt: HostRuntime) -> ExitCode {
     if words.is_empty() && streams.input.is_terminal() {
         say_what_is_read(&rt);
     }
+    if let Some(failure) = misplaced_in(&rt, alloc, &words) {
+        return ExitCode::from(tell(alloc, failure, &mut streams.err).code());
+    }
     let screen = rt.stderr();
     let terminal = screen.is_terminal().then_some(&screen);
     let system = SharedSystem::of(&rt);
     let (_, code) = program::program(system, alloc, &words, &mut streams, terminal);
     ExitCode::from(code)
+}
+
+// The first name among the words that can't be what its place asks for, where the words ask for something.
+fn misplaced_in<'a>(rt: &HostRuntime, alloc: Global, words: &'a [String]) -> Option<Failure<'a>> {
+    let request = parse(alloc, words).ok()?;
+    misplaced::misplaced(rt, &request)
 }
 
 // Says to whoever typed the program's name alone what it waits for. What can't be said is not told.

@@ -2,6 +2,7 @@
 use Rattle.std.specs.Prelude.{ℕ, ◌/◌, ◌%◌, ◌==◌, nat_lt, Bool, true, false, if◌then◌else◌, List, [], ◌∷◌, ◌++◌, codes, decimal, Option, Some, None}
 use Rattle.load_progress.specs.Pace.{percent_of}
 use Rattle.load_progress.specs.declared.showing.Showing.{Showing}
+use Rattle.load_progress.specs.declared.showing.Forecast.{Forecast}
 use Rattle.load_progress.specs.declared.showing.GoingOn.{GoingOn}
 
 -- a number below a hundred
@@ -47,6 +48,12 @@ going_on_text going_on =
     codes "going on behind " ++ decimal going_on.done ++ codes " of " ++ decimal going_on.words
     ++ codes " words, listening; power lost? use --recheck"
 
+-- how long it takes, and that it goes on after a break where that is so
+abbrev pub forecast_text : Forecast → List ℕ
+forecast_text forecast =
+    if forecast.goes_on then codes "some " ++ decimal forecast.minutes ++ codes " minutes at this pace; after Ctrl-C the same line goes on"
+    else codes "some " ++ decimal forecast.minutes ++ codes " minutes at this pace"
+
 -- CR, and ESC [ ? 7 l, which asks a terminal to cut what has no column
 abbrev pub before_text : List ℕ
 before_text = 13 ∷ 27 ∷ 91 ∷ 63 ∷ 55 ∷ 108 ∷ []
@@ -58,3 +65,7 @@ behind_text = 27 ∷ 91 ∷ 75 ∷ 27 ∷ 91 ∷ 63 ∷ 55 ∷ 104 ∷ []
 -- what is written to put a text in the line's place
 abbrev pub on_line : List ℕ → List ℕ
 on_line text = before_text ++ text ++ behind_text
+
+-- what is written to leave a text above the line: CR, the text, ESC [ K, and the line's end
+abbrev pub above_line : List ℕ → List ℕ
+above_line text = 13 ∷ text ++ 27 ∷ 91 ∷ 75 ∷ 10 ∷ []

@@ -1,16 +1,30 @@
 -- How far it is, and what is shown of it.
-use Rattle.std.specs.Prelude.{ℕ, ◌-◌, ◌||◌, nat_lt, not, Bool, false, if◌then◌else◌, Option, Some, None, is_some}
+use Rattle.std.specs.Prelude.{ℕ, ◌-◌, ◌||◌, ◌==◌, nat_lt, not, Bool, false, if◌then◌else◌, Option, Some, None, is_some}
 use Rattle.host_core.specs.declared.heard.Heard.{Heard}
 use Rattle.host_core.specs.declared.heard.Heard.TheVariants.{Got, Quiet}
 use Rattle.load_devices.specs.Failures.{one_more_in_32}
 use Rattle.load_devices.specs.declared.onlooker.Sight.{Sight}
 use Rattle.load_progress.specs.Pace.{seconds_left}
 use Rattle.load_progress.specs.declared.showing.Showing.{Showing}
+use Rattle.load_progress.specs.declared.tally.Mark.{Mark}
 use Rattle.load_progress.specs.declared.tally.Tally.{Tally}
+
+-- so many were done at a time
+abbrev pub mark_at : ℕ → Option ℕ → Mark
+mark_at done time = record { done = done; time = time }
 
 -- nothing was done and no key sent since it began
 abbrev pub beginning : ℕ → ℕ → Option ℕ → Tally
-beginning done words begun = record { words = words; done_at_first = done; done = done; has_sent = false; mishaps = 0; heard = 0; begun = begun }
+beginning done words time = record {
+  words = words;
+  done_at_first = done;
+  done = done;
+  has_sent = false;
+  mishaps = 0;
+  heard = 0;
+  from = mark_at done time;
+  next = mark_at done time;
+}
 
 -- how many characters were heard since the last key, where so many were before, and then this was heard and this key answered; at its
 -- largest, 32 bits, the count stays
@@ -40,8 +54,23 @@ is_listening tally = not tally.has_sent || nat_lt most_answered tally.heard
 -- the time between two, where both are known and the second is not the earlier one
 abbrev pub time_between : Option ℕ → Option ℕ → Option ℕ
 time_between None now = None
-time_between (Some begun) None = None
-time_between (Some begun) (Some now) = if nat_lt now begun then None else Some (now - begun)
+time_between (Some earlier) None = None
+time_between (Some earlier) (Some now) = if nat_lt now earlier then None else Some (now - earlier)
+
+-- how long a pace is measured before what was earlier is forgotten, in milliseconds: half a minute (this project's choice)
+abbrev pub measured : ℕ
+measured = 30000
+
+-- so much time went by since the next mark: once it is enough, the pace is measured from there
+abbrev pub measured_since : Tally → Option ℕ → Option ℕ → Tally
+measured_since tally now None = tally
+measured_since tally now (Some time) = if nat_lt time measured then tally else record tally { from = tally.next; next = mark_at tally.done now }
+
+-- what is known at a time: the pace is measured from before the first word on, and a pause is forgotten once two marks lie behind it
+abbrev pub measured_anew : Tally → Option ℕ → Tally
+measured_anew tally now =
+    if tally.done == tally.done_at_first then record tally { from = mark_at tally.done now; next = mark_at tally.done now }
+    else measured_since tally now (time_between tally.next.time now)
 
 -- what is shown at a time
 abbrev pub showing_of : Tally → Option ℕ → Showing
@@ -50,5 +79,5 @@ showing_of tally now = record {
   words = tally.words;
   is_listening = is_listening tally;
   mishaps = tally.mishaps;
-  seconds_left = seconds_left (time_between tally.begun now) (tally.done - tally.done_at_first) (tally.words - tally.done);
+  seconds_left = seconds_left (time_between tally.from.time now) (tally.done - tally.from.done) (tally.words - tally.done);
 }

@@ -1,9 +1,9 @@
 //! One line on a terminal that says how far it is, rewritten in place.
 ghost use Rattle.std.specs.Prelude.{◌≡◌, IfSome};
-ghost use Rattle.load_progress.specs.ProgressText.{going_on_text, on_line, showing_text};
+ghost use Rattle.load_progress.specs.ProgressText.{above_line, forecast_text, going_on_text, on_line, showing_text};
 
 use crate::pace::is_due;
-use crate::showing::{GoingOn, Showing};
+use crate::showing::{Forecast, GoingOn, Showing};
 use crate::tally::Tally;
 use arrayvec::ArrayString;
 use load_devices::{Onlooker, Sight};
@@ -15,12 +15,16 @@ use std::time::Clock;
 // What moves the cursor to the line's beginning and clears the line.
 const CLEARED: &str = "\r\x1b[K";
 
+// How many minutes are long.
+const LONG: u64 = 2;
+
 // Room for the longest line.
 type LineText = ArrayString<128>;
 
 /// Shows, while a load or a reading goes on, how many words are done of all, the mishaps, and the time
 /// left at the pace so far: one line, at most ten times a second. A terminal that has fewer columns cuts
-/// it, so that it never wraps. What can't be written is left out.
+/// it, so that it never wraps. Where it takes two minutes or more, a line above it says so once, as soon as
+/// the pace is known. What can't be written is left out.
 #[derive(Drop)]
 pub struct ProgressLine<'a, C: Clock, E: Print> {
     clock: &'a C,
@@ -29,17 +33,41 @@ pub struct ProgressLine<'a, C: Clock, E: Print> {
 
     // When it was last shown, in milliseconds of the clock, where it was.
     shown: Cell<Option<u64>>,
+
+    // Whether what was done need not be done again after a break.
+    goes_on: bool,
+
+    // Whether the line above it is still to be written.
+    is_forecast_due: Cell<bool>,
 }
 
 impl<'a, C: Clock, E: Print> ProgressLine<'a, C, E> {
-    /// A line on a terminal, which shows nothing yet.
-    pub fn new(clock: &'a C, terminal: &'a E) -> ProgressLine<'a, C, E> {
+    /// A line on a terminal, which shows nothing yet. `goes_on` says whether what was done need not be done
+    /// again after a break.
+    pub fn new(clock: &'a C, terminal: &'a E, goes_on: bool) -> ProgressLine<'a, C, E> {
         ProgressLine {
             clock,
             terminal,
             tally: Cell::new(Tally::new(0, 0, None)),
             shown: Cell::new(None),
+            goes_on,
+            is_forecast_due: Cell::new(true),
         }
+    }
+
+    /// How many words were done when it began.
+    pub fn done_at_first(&self) -> u32 {
+        self.tally.get().done_at_first
+    }
+
+    /// How many words are done.
+    pub fn done(&self) -> u32 {
+        self.tally.get().done
+    }
+
+    /// Writes a text to the terminal, where it goes on.
+    pub fn say(&self, text: &str) {
+        let _ = self.terminal.write_all(text.as_bytes());
     }
 
     // The clock's time in milliseconds, where it has one.
@@ -50,15 +78,34 @@ impl<'a, C: Clock, E: Print> ProgressLine<'a, C, E> {
 
     // Keeps a tally, and shows it where that is due. A clock with no time makes nothing due.
     fn keep(&self, tally: Tally) {
-        self.tally.set(tally);
         let now = self.now();
+        let tally = tally.measured_anew(now);
+        self.tally.set(tally);
         let due = match (self.shown.get(), now) {
             (Some(shown), Some(now)) => is_due(shown, now),
             (None, Some(_)) => true,
             (_, None) => false,
         };
         if due {
-            self.put(showing_line(tally.showing(now)), now);
+            let showing = tally.showing(now);
+            self.forecast(tally, showing.seconds_left);
+            self.put(showing_line(showing), now);
+        }
+    }
+
+    // Says once how long it takes, as soon as the pace is known, where that is long.
+    fn forecast(&self, tally: Tally, seconds_left: Option<u64>) {
+        if !self.is_forecast_due.get() || !tally.has_pace() {
+            return;
+        }
+        self.is_forecast_due.set(false);
+        let minutes = seconds_left.unwrap_or(0) / 60;
+        if minutes < LONG {
+            return;
+        }
+        let goes_on = self.goes_on;
+        if let Some(line) = forecast_line(Forecast { minutes, goes_on }) {
+            self.say(line.as_str());
         }
     }
 
@@ -66,7 +113,7 @@ impl<'a, C: Clock, E: Print> ProgressLine<'a, C, E> {
     fn put(&self, line: Option<LineText>, now: Option<u64>) {
         self.shown.set(now);
         if let Some(line) = line {
-            let _ = self.terminal.write_all(line.as_str().as_bytes());
+            self.say(line.as_str());
         }
     }
 }
@@ -94,7 +141,7 @@ impl<C: Clock, E: Print> Onlooker for ProgressLine<'_, C, E> {
     }
 
     fn ends(&self) {
-        let _ = self.terminal.write_all(CLEARED.as_bytes());
+        self.say(CLEARED);
     }
 }
 
@@ -115,6 +162,17 @@ fn going_on_line(going_on: GoingOn) -> Option<LineText>
 {
     let mut line = LineText::new();
     match write!(line, "\r\x1b[?7l{going_on}\x1b[K\x1b[?7h") {
+        Ok(()) => Some(line),
+        Err(_) => None,
+    }
+}
+
+// What is written to say how long it takes; none where that has no room.
+fn forecast_line(forecast: Forecast) -> Option<LineText>
+    ensures { IfSome result (λ line. line.bytes ≡ above_line (forecast_text forecast)) }
+{
+    let mut line = LineText::new();
+    match write!(line, "\r{forecast}\x1b[K\n") {
         Ok(()) => Some(line),
         Err(_) => None,
     }

@@ -62,6 +62,35 @@ impl fmt::Display for GoingOn {
     }
 }
 
+/// How long it takes at the pace so far, as it is shown once where that is long.
+#[derive(Clone, Copy, Debug, PartialEq, Eq)]
+pub(crate) struct Forecast {
+    /// How many minutes are left.
+    pub(crate) minutes: u64,
+
+    /// Whether what was done by then need not be done again after a break.
+    pub(crate) goes_on: bool,
+}
+
+impl fmt::Display for Forecast {
+    ghost use Rattle.std.specs.Prelude.{Some};
+    ghost use Rattle.load_progress.specs.ProgressText.{forecast_text};
+
+    ghost output = { λ forecast. Some (forecast_text forecast) };
+
+    fn fmt<W: fmt::Write>(&self, f: &mut fmt::Formatter<W>) -> fmt::Result {
+        let minutes = self.minutes;
+        if self.goes_on {
+            write!(
+                f,
+                "some {minutes} minutes at this pace; after Ctrl-C the same line goes on"
+            )
+        } else {
+            write!(f, "some {minutes} minutes at this pace")
+        }
+    }
+}
+
 // Which part of all words is done, where there are any.
 #[derive(Clone, Copy)]
 struct Part {

@@ -1,6 +1,6 @@
 //! What is known of how far it is.
 ghost use Rattle.std.specs.Prelude.{◌≡◌, ◌≢◌, ◌⊎◌, ◌↔◌, IsTrue};
-ghost use Rattle.load_progress.specs.Tally.{after_sight, beginning, heard_behind, is_listening, showing_of, time_between};
+ghost use Rattle.load_progress.specs.Tally.{after_sight, beginning, heard_behind, is_listening, measured_anew, showing_of, time_between};
 
 use crate::pace::time_left;
 use crate::showing::Showing;
@@ -9,6 +9,22 @@ use load_devices::Sight;
 
 // More characters than these a console answers to no key.
 const MOST_ANSWERED: u32 = 32;
+
+// How many words tell a pace.
+const TELLING: u32 = 8;
+
+// How long a pace is measured before what was earlier is forgotten, in milliseconds.
+const MEASURED: u64 = 30_000;
+
+/// How many words were done at a time.
+#[derive(Clone, Copy)]
+pub(crate) struct Mark {
+    /// How many were done.
+    pub(crate) done: u32,
+
+    /// The time in milliseconds of the clock, where the clock had one.
+    pub(crate) time: Option<u64>,
+}
 
 /// How far it is.
 #[derive(Clone, Copy)]
@@ -31,15 +47,19 @@ pub(crate) struct Tally {
     /// How many characters were heard since the last key.
     pub(crate) heard: u32,
 
-    /// When it began, in milliseconds of the clock, where the clock had a time.
-    pub(crate) begun: Option<u64>,
+    /// From where the pace is measured.
+    pub(crate) from: Mark,
+
+    /// From where it is measured next.
+    pub(crate) next: Mark,
 }
 
 impl Tally {
-    /// It begins.
-    pub(crate) fn new(done: u32, words: u32, begun: Option<u64>) -> Tally
-        ensures { result ≡ beginning done words begun }
+    /// It begins at a time.
+    pub(crate) fn new(done: u32, words: u32, time: Option<u64>) -> Tally
+        ensures { result ≡ beginning done words time }
     {
+        let mark = Mark { done, time };
         Tally {
             words,
             done_at_first: done,
@@ -47,7 +67,8 @@ impl Tally {
             has_sent: false,
             mishaps: 0,
             heard: 0,
-            begun,
+            from: mark,
+            next: mark,
         }
     }
 
@@ -61,6 +82,32 @@ impl Tally {
             mishaps: sight.spent,
             heard: heard_behind(self.heard, sight),
             ..self
+        }
+    }
+
+    /// What is known at a time, in milliseconds of the clock. The pace is measured from where the first word
+    /// was begun, and later over the last minute at most, so that a pause is forgotten.
+    pub(crate) fn measured_anew(self, now: Option<u64>) -> Tally
+        ensures { result ≡ measured_anew self now }
+    {
+        let mark = Mark {
+            done: self.done,
+            time: now,
+        };
+        if self.done == self.done_at_first {
+            return Tally {
+                from: mark,
+                next: mark,
+                ..self
+            };
+        }
+        match elapsed(self.next.time, now) {
+            Some(time) if time >= MEASURED => Tally {
+                from: self.next,
+                next: mark,
+                ..self
+            },
+            _ => self,
         }
     }
 
@@ -84,18 +131,23 @@ impl Tally {
             || self.mishaps != earlier.mishaps
     }
 
+    /// Whether so many words were done that their pace tells of the rest.
+    pub(crate) fn has_pace(self) -> bool {
+        self.done.saturating_sub(self.done_at_first) >= TELLING
+    }
+
     /// What is shown of it at a time, in milliseconds of the clock, where the clock has one.
     pub(crate) fn showing(self, now: Option<u64>) -> Showing
         ensures { result ≡ showing_of self now }
     {
-        let done = self.done.saturating_sub(self.done_at_first);
+        let done = self.done.saturating_sub(self.from.done);
         let left = self.words.saturating_sub(self.done);
         Showing {
             done: self.done,
             words: self.words,
             is_listening: self.is_listening(),
             mishaps: self.mishaps,
-            seconds_left: time_left(elapsed(self.begun, now), done, left),
+            seconds_left: time_left(elapsed(self.from.time, now), done, left),
         }
     }
 }
@@ -112,8 +164,8 @@ fn heard_behind(count: u32, sight: Sight) -> u32
 }
 
 // The time between two, where both are known and the second is not the earlier one.
-fn elapsed(begun: Option<u64>, now: Option<u64>) -> Option<u64>
-    ensures { result ≡ time_between begun now }
+fn elapsed(earlier: Option<u64>, now: Option<u64>) -> Option<u64>
+    ensures { result ≡ time_between earlier now }
 {
-    now?.checked_sub(begun?)
+    now?.checked_sub(earlier?)
 }

@@ -195,7 +195,10 @@ const WRITTEN_OVER: &str = "+ look d.record\n\
     + cut LDAODT 2\n001000 011064\n\
     + sync LDAODT 2\n001000 011064\n";
 
-// A record of version 1 is never written over.
+// A record of version 2 whose lines are others than those that are written.
+const OTHER_LINES: &str = "LDAODT 2\n001000 001000\n";
+
+// A record is never written over where a byte of it would become another one.
 const NOT_WRITTEN_OVER: &str = "+ look d.record\n\
     + open to write d.record\n\
     + hold d.record\n\
@@ -225,12 +228,14 @@ fn a_file_with_another_name_is_written_over(rt: HostRuntime) -> Result<(), Fail>
         "second name"
     );
     assert!(rt; holds(&rt, OTHER, Some(BEGUN)));
-    put_link(&rt, OLD)?;
-    assert!(rt;
-        is_course(&rt, (RECORD, NO_FAULT), UNBEGUN, NOT_WRITTEN_OVER),
-        "version 1"
-    );
-    assert!(rt; holds(&rt, OTHER, Some(OLD)));
+    for text in [OLD, OTHER_LINES] {
+        put_link(&rt, text)?;
+        assert!(rt;
+            is_course(&rt, (RECORD, NO_FAULT), UNBEGUN, NOT_WRITTEN_OVER),
+            "{text}"
+        );
+        assert!(rt; holds(&rt, OTHER, Some(text)));
+    }
     put_link(&rt, CURRENT)?;
     let gone: Failing = &[(5, ErrorKind::NotFound)];
     assert!(rt; is_course(&rt, (RECORD, gone), UNBEGUN, GONE), "gone");

@@ -6,22 +6,19 @@ use Rattle.load_record.specs.declared.version.Version.{Version}
 use Rattle.load_record.specs.declared.version.Version.TheVariants.{First, Second}
 use Rattle.load_record.specs.Lines.{header}
 use Rattle.load_record.proofs.Runs.{begins, begins_with}
+use Rattle.record_file.specs.InPlace.{IsFrontOf}
 use Rattle.record_file.specs.OldRecord.{BeginsHeader, HoldsNoRecord}
 
--- a text that a header begins with is a beginning of it, and the other way round
-is_beginning : (version : Version) (text : List ℕ) → starts_with nat_eq (header version) text ≡ true → BeginsHeader version text
-is_beginning version text on = (drop (length text) (header version), sym (begins (header version) text on))
+-- a text that another one begins with is a front of it, and the other way round
+is_front : (front text : List ℕ) → starts_with nat_eq text front ≡ true → IsFrontOf front text
+is_front front text on = (drop (length front) text, sym (begins text front on))
 
-has_beginning : (version : Version) (text : List ℕ) → BeginsHeader version text → starts_with nat_eq (header version) text ≡ true
-has_beginning version text h = subst (λ whole. starts_with nat_eq whole text ≡ true) h.1 (begins_with text h.0)
+has_front : (front text : List ℕ) → IsFrontOf front text → starts_with nat_eq text front ≡ true
+has_front front text h = subst (λ whole. starts_with nat_eq whole front ≡ true) h.1 (begins_with front h.0)
 
--- what the test says of a text, where it was made of the header
-pub tests_header : (version : Version) (text whole : List ℕ) (b : Bool) → whole ≡ header version → b ≡ starts_with nat_eq whole text
-    → (IsTrue b → BeginsHeader version text) × (BeginsHeader version text → IsTrue b)
-tests_header version text whole b is tests =
-    (λ on. is_beginning version text (sym means ∙ cc (on)), λ h. cc (means ∙ has_beginning version text h)) where
-      means : b ≡ starts_with nat_eq (header version) text
-      means = subst (λ w. b ≡ starts_with nat_eq w text) is tests
+-- what the test says of two texts
+pub tests_front : (front text : List ℕ) (b : Bool) → b ≡ starts_with nat_eq text front → (IsTrue b → IsFrontOf front text) × (IsFrontOf front text → IsTrue b)
+tests_front front text b means = (λ on. is_front front text (sym means ∙ cc (on)), λ h. cc (means ∙ has_front front text h))
 
 -- no line and the beginning of neither header
 is_none : (text : List ℕ) → (Contains text 10 → ⊥) → (BeginsHeader First text → ⊥) → (BeginsHeader Second text → ⊥) → HoldsNoRecord text

@@ -5,6 +5,7 @@ pub mod DiskRecord
 pub mod DiskStep
 pub mod Folder
 pub mod Holding
+pub mod InPlace
 pub mod OldRecord
 pub mod Reading
 pub mod RecordFault

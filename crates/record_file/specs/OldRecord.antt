@@ -1,12 +1,13 @@
 -- What the record's file held before a load.
-use Rattle.std.specs.Prelude.{◌≡◌, ℕ, List, ◌++◌, Contains}
+use Rattle.std.specs.Prelude.{ℕ, List, Contains}
 use Rattle.byte_io.specs.Text.{line_end}
 use Rattle.load_record.specs.declared.version.Version.{Version}
 use Rattle.load_record.specs.Lines.{header}
+use Rattle.record_file.specs.InPlace.{IsFrontOf}
 
 -- the text is the beginning of a version's header, or all of it
 abbrev pub BeginsHeader : Version → List ℕ → Type 0
-BeginsHeader version text = (missing : List ℕ) × (text ++ missing ≡ header version)
+BeginsHeader version text = IsFrontOf text (header version)
 
 -- a text that was never a record, cut off or whole: it has no line, and is the beginning of no header
 pub record HoldsNoRecord (text : List ℕ) : Type 0 where

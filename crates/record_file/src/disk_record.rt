@@ -1,5 +1,5 @@
 //! A record that is begun anew: the old one is replaced whole, or written over where it is.
-ghost use Rattle.std.specs.Prelude.{◌≡◌, false, List, ℕ, IfOk, IfErr, IfSome};
+ghost use Rattle.std.specs.Prelude.{◌≡◌, false, List, ℕ, IfOk, IfErr, IfSome, OnOk};
 ghost use Rattle.std.specs.Io.KnownBytes.{Appends};
 ghost use Rattle.load_devices.specs.declared.fault.KeepFault.TheVariants as keep;
 ghost use Rattle.load_record.specs.declared.version.Version.TheVariants.{Second};
@@ -9,7 +9,9 @@ ghost use Rattle.record_file.specs.Beginning.{IsFileCut, IsMadeReady, IsUnready,
 ghost use Rattle.record_file.specs.Course.{is_done, was_made, renamed};
 ghost use Rattle.record_file.specs.DiskRecord.{HasBegun};
 ghost use Rattle.load_devices.specs.Told.{HasAsked};
+ghost use Rattle.record_file.specs.InPlace.{ChangesNoByte, HasRead, MayBeWrittenOver};
 ghost use Rattle.record_file.specs.RecordFault.{IsUnbegun};
+ghost use Rattle.record_file.specs.Taking.{kind_of};
 
 use crate::beside::{BESIDE, folder_of, make_new};
 use crate::disk::{Access, Disk};
@@ -21,7 +23,7 @@ use load_devices::KeepFault;
 use load_record::FileKeep;
 use std::alloc::Global;
 use std::fs::OpenFile;
-use std::io::{ErrorKind, Write};
+use std::io::{ErrorKind, Read, Seek, Write};
 use tape_image::Plan;
 
 /// A record on the disk: what its keeper has flushed survives a loss of power.
@@ -46,6 +48,7 @@ pub(crate) fn begin_beside<D: Disk>(
     ensures begun { IfOk result (λ kept. IfSome kept (HasBegun D.File.contents plan.now verified)) }
     ensures fault { IfErr result IsUnbegun }
     ensures device { held.new.device ≡ held.old.device }
+    ensures standing { held.new.standing ≡ held.old.standing }
     ensures asked { HasAsked (D.asked disk.old) (D.asked disk.new) (IsBeside name.now held.old.made (course result) held.new.made) }
 {
     // A rename does not reach what a link leads to, and leaves the old record under another name.
@@ -86,6 +89,7 @@ fn replace<D: Disk>(
 ) -> Result<bool, RecordFault>
     ensures fault { IfErr result IsUnbegun }
     ensures device { held.new.device ≡ held.old.device }
+    ensures standing { held.new.standing ≡ held.old.standing }
     ensures asked { (dir : List ℕ) → D.is_opened_as folder.now dir
         → HasAsked (D.asked disk.old) (D.asked disk.new) (IsRenaming name.now beside.now dir held.old.made (renamed result) held.new.made) }
 {
@@ -106,9 +110,10 @@ fn replace<D: Disk>(
 
 /// Begins a record anew, with the first verified words of a plan, in the file that is held.
 ///
-/// What is written over a record of the same version changes none of its words; what that has more is cut
-/// off last. The fault is `Write`, also for a record of version 1 and where the name leads to the held file
-/// no more, or `Memory`.
+/// No byte that stands there becomes another one, and what it has more is cut off last; so whatever happens
+/// meanwhile, the file is the old record or the new one, or, where it was no more than a front of that, a front
+/// of it. The fault is `Write`, also where a byte would be another one, as in a record of version 1, and where
+/// the name leads to the held file no more, or `Memory`.
 pub(crate) fn begin_in_place<D: Disk>(
     disk: &mut D,
     name: &str,
@@ -118,11 +123,12 @@ pub(crate) fn begin_in_place<D: Disk>(
     verified: u32,
 ) -> Result<DiskRecord<D::File>, RecordFault>
     ensures begun { IfOk result (HasBegun D.File.contents plan.now verified) }
+    ensures over { OnOk result (MayBeWrittenOver (record_text Second plan.now verified false) held) }
     ensures fault { IfErr result IsUnbegun }
     ensures asked { IfOk result (λ keeper. HasAsked (D.asked disk.old) (D.asked disk.new) (IsWrittenOver name.now held.made keeper.text held.device)) }
     ensures failed { IfErr result (λ _. HasAsked (D.asked disk.old) (D.asked disk.new) (IsNotWrittenOver name.now held.made)) }
 {
-    if let Err(fault) = make_ready(disk, name, alloc, &mut held) {
+    if let Err(fault) = make_ready(disk, name, alloc, plan, verified, &mut held) {
         let_go(disk, name, held);
         return Err(fault);
     }
@@ -135,14 +141,18 @@ pub(crate) fn begin_in_place<D: Disk>(
     Ok(keeper)
 }
 
-// Brings to the disk that the file was made, where this load made it, goes back to its beginning, and finds that
-// its name still leads to it: what is written to a file that somebody has removed meanwhile is lost.
+// Brings to the disk that the file was made, where this load made it, goes back to its beginning, where the new
+// record may be written there, and finds that its name still leads to it: what is written to a file that somebody
+// has removed meanwhile is lost.
 fn make_ready<D: Disk>(
     disk: &mut D,
     name: &str,
     alloc: Global,
+    plan: &Plan,
+    verified: u32,
     held: &mut HeldFile<D::File>,
 ) -> Result<(), RecordFault>
+    ensures over { OnOk result (MayBeWrittenOver (record_text Second plan.now verified false) held.old) }
     ensures fault { IfErr result IsUnbegun }
     ensures made { held.new.made ≡ held.old.made }
     ensures device { held.new.device ≡ held.old.device }
@@ -153,10 +163,30 @@ fn make_ready<D: Disk>(
     if held.device {
         return Ok(());
     }
-    if !held.rewind() {
-        return Err(RecordFault::Write);
-    }
+    rewind(alloc, plan, verified, held)?;
     if is_named(disk, name, held) {
+        Ok(())
+    } else {
+        Err(RecordFault::Write)
+    }
+}
+
+// Goes back to a file's beginning, where the record of a plan's first words may be written over what stands there.
+fn rewind<T: Read + Seek + OpenFile + Drop>(
+    alloc: Global,
+    plan: &Plan,
+    verified: u32,
+    held: &mut HeldFile<T>,
+) -> Result<(), RecordFault>
+    ensures over { OnOk result (HasRead (ChangesNoByte (record_text Second plan.now verified false)) held.old) }
+    ensures kind { kind_of held.new ≡ kind_of held.old }
+    ensures fault { IfErr result IsUnbegun }
+{
+    let mut keeper = FileKeep::new(Vec::new(alloc));
+    if keeper.begin(plan, verified).is_err() {
+        return Err(RecordFault::Memory);
+    }
+    if held.rewind_for(keeper.writer()) {
         Ok(())
     } else {
         Err(RecordFault::Write)

@@ -1,19 +1,21 @@
 //! The file of a record, which one load at a time holds.
 ghost use Rattle.std.specs.Prelude.{◌≡◌, OnErr, ◌∷◌, IfErr, IfOk, None, Some, option_map, true, false};
+ghost use Rattle.std.specs.Bool.{OnTrue};
 ghost use Rattle.record_file.specs.Beginning.{IsLetGo};
 ghost use Rattle.load_devices.specs.Told.{HasAsked, Tells};
 ghost use Rattle.record_file.specs.DiskStep.{IsNameSeen, IsLookAtName, Failed, Open};
 ghost use Rattle.record_file.specs.Holding.{IsFound, IsMade, IsOpened, hold_steps, IsHeld, IsTry, IsHolding, IsNotHeld};
 ghost use Rattle.record_file.specs.Taking.{made_of, IsOpenedAs, kind_of, tried, device_of, IsMadeSo};
+ghost use Rattle.record_file.specs.InPlace.{ChangesNoByte, HasRead};
 ghost use Rattle.record_file.specs.Reading.{kind_after};
 ghost use Rattle.record_file.specs.RecordFault.{IsUnread};
 
 use crate::disk::{Access, Disk};
+use crate::in_place::changes_no_byte;
 use crate::made::Made;
-use crate::old_record::has_line;
 use crate::record_fault::RecordFault;
 use byte_io::read_up_to;
-use load_record::{RECORD_LIMIT, Version};
+use load_record::RECORD_LIMIT;
 use std::alloc::Global;
 use std::fs::{Metadata, OpenFile};
 use std::io::{ErrorKind, Read, Seek, SeekFrom};
@@ -67,9 +69,8 @@ pub(crate) struct HeldFile<T: Drop> {
     /// Whether it is a device, which has no length and nothing to go back to.
     pub(crate) device: bool,
 
-    /// Whether it held a record of the version that is written, or none, so that what is written over it
-    /// takes none of its words away.
-    current: bool,
+    /// What stood in it when it was read, once it was.
+    standing: Option<Vec<u8>>,
 
     /// Whether this load made it.
     pub(crate) made: Made,
@@ -97,10 +98,13 @@ impl<T: Read + Seek + OpenFile + Drop> HeldFile<T> {
     pub(crate) fn read(&mut self, alloc: Global) -> Result<Vec<u8>, RecordFault>
         ensures fault { IfErr result IsUnread }
         ensures kind { IfOk result (λ text. kind_of self.new ≡ kind_after text.items (kind_of self.old)) }
+        ensures standing { IfOk result (λ text. HasRead (λ standing. standing ≡ text.items) self.new) }
         ensures same { OnErr result (kind_of self.new ≡ kind_of self.old) }
     {
         let text = read_up_to(alloc, &mut self.file, RECORD_LIMIT + 1)?;
-        self.current = !has_line(&text) || text.starts_with(Version::Second.header());
+        let mut standing = Vec::new(alloc);
+        standing.extend_from_slice(&text)?;
+        self.standing = Some(standing);
         // Another load may have written to it between its making and its lock.
         if !text.is_empty() {
             self.made = Made::Before;
@@ -108,12 +112,17 @@ impl<T: Read + Seek + OpenFile + Drop> HeldFile<T> {
         Ok(text)
     }
 
-    /// Goes back to the beginning, to write there. A record of version 1 is not written over: its lines
-    /// are others, and where a write failed it would be neither the old record nor the new one.
-    pub(crate) fn rewind(&mut self) -> bool
-        ensures { kind_of self.new ≡ kind_of self.old }
+    /// Goes back to the beginning, to write this text there. Where a byte that stands there would become
+    /// another one it is not written: halfway it would be neither the old record nor the new one.
+    pub(crate) fn rewind_for(&mut self, text: &[u8]) -> bool
+        ensures kind { kind_of self.new ≡ kind_of self.old }
+        ensures agrees { OnTrue result (HasRead (ChangesNoByte text.now) self.old) }
     {
-        self.current && self.file.seek(SeekFrom::Start(0)).is_ok()
+        let agrees = match &self.standing {
+            Some(standing) => changes_no_byte(text, standing),
+            None => false,
+        };
+        agrees && self.file.seek(SeekFrom::Start(0)).is_ok()
     }
 }
 
@@ -181,7 +190,7 @@ fn hold_opened<D: Disk>(
             file: opened.file,
             id,
             device,
-            current: false,
+            standing: None,
             made: opened.made,
             writable: opened.writable,
         })),

@@ -2,7 +2,7 @@
 //!
 //! One load at a time has it: `RecordFile` holds its file from its reading on. What the file held is read
 //! whole; a record that is begun anew replaces it whole, or is written over it where a rename would not
-//! reach it (`DiskRecord`); and what was kept in it is on the disk (`DurableWriter`). Where the system of
+//! reach it and no byte that stands there becomes another one (`DiskRecord`); and what was kept in it is on the disk (`DurableWriter`). Where the system of
 //! files tells what was asked of it (`Disk`), the contracts say that, step by step. Every system that
 //! `Locks` is such a one, and tells nothing.
 //!
@@ -15,6 +15,7 @@ mod disk;
 mod disk_record;
 mod durable;
 mod held_file;
+mod in_place;
 mod locks;
 mod made;
 mod old_record;

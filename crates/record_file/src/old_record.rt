@@ -3,6 +3,7 @@ ghost use Rattle.std.specs.Prelude.{◌↔◌, Contains, IsTrue};
 ghost use Rattle.byte_io.specs.Text.{line_end};
 ghost use Rattle.record_file.specs.OldRecord.{BeginsHeader, HoldsNoRecord};
 
+use crate::in_place::is_front;
 use load_record::Version;
 
 /// The record of earlier lives.
@@ -33,7 +34,7 @@ pub fn holds_no_record(text: &[u8]) -> bool
 fn begins(text: &[u8], version: Version) -> bool
     ensures { IsTrue result ↔ BeginsHeader version text.now }
 {
-    version.header().starts_with(text)
+    is_front(text, version.header())
 }
 
 /// Whether a text has a line: an LF stands in it.

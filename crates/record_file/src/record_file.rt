@@ -1,9 +1,12 @@
 //! The record's file over a whole load.
-ghost use Rattle.std.specs.Prelude.{◌≡◌, None, IfErr, IfOk, IsSome, IsTrue, OnErr, OnOk, MatchOption, option_map};
+ghost use Rattle.std.specs.Prelude.{◌≡◌, None, false, IfErr, IfOk, IsSome, IsTrue, OnErr, OnOk, MatchOption, option_map};
 ghost use Rattle.record_file.specs.Beginning.{IsBegun, IsNotBegun};
 ghost use Rattle.record_file.specs.Closing.{IsRecordClosed, Remains};
 ghost use Rattle.record_file.specs.DiskRecord.{HasBegun};
 ghost use Rattle.load_devices.specs.Told.{HasAsked};
+ghost use Rattle.record_file.specs.InPlace.{HasRead, MayBeWrittenOver};
+ghost use Rattle.load_record.specs.RecordText.{record_text};
+ghost use Rattle.load_record.specs.declared.version.Version.TheVariants.{Second};
 ghost use Rattle.record_file.specs.Reading.{IsRead, IsNotRead};
 ghost use Rattle.record_file.specs.RecordFault.{IsUnbegun, IsUnread};
 ghost use Rattle.record_file.specs.Taking.{kind_of};
@@ -49,6 +52,7 @@ impl<'a, D: Disk + Drop> RecordFile<'a, D> {
         ensures fault { IfErr result IsUnread }
         ensures name { self.new.name.now ≡ self.old.name.now }
         ensures writable { IfOk result (λ old. IsTrue old.writable → IsSome self.new.held) }
+        ensures standing { IfOk result (λ old. IsTrue old.writable → MatchOption self.new.held ⊥ (HasRead (λ standing. standing ≡ old.text.items))) }
         ensures asked { IfOk result (λ old. HasAsked (D.asked self.old.disk) (D.asked self.new.disk)
             (IsRead self.old.name.now old.text.items (option_map kind_of self.old.held) (option_map kind_of self.new.held))) }
         ensures failed { IfErr result (λ _. HasAsked (D.asked self.old.disk) (D.asked self.new.disk) (IsNotRead self.old.name.now)) }
@@ -80,6 +84,8 @@ impl<'a, D: Disk + Drop> RecordFile<'a, D> {
     /// The fault is `Write`, where the new record can't be written, or none was read, or its name leads elsewhere
     /// by now; or `Memory`.
     ///
+    /// Where no old file is held any more, the record was written over it, and no byte of it became another one.
+    ///
     /// A record that was begun remains where it is, also once it is closed; of one that was not no file is held
     /// any more.
     pub fn begin(
@@ -96,6 +102,8 @@ impl<'a, D: Disk + Drop> RecordFile<'a, D> {
         ensures failed { IfErr result (λ _. MatchOption (option_map kind_of self.old.held) (D.asked self.new.disk ≡ D.asked self.old.disk) (λ kind.
             HasAsked (D.asked self.old.disk) (D.asked self.new.disk) (IsNotBegun self.old.name.now kind.0))) }
         ensures remains { OnOk result (Remains (option_map kind_of self.new.held)) }
+        ensures over { OnOk result (option_map kind_of self.new.held ≡ None
+            → MatchOption self.old.held ⊥ (MayBeWrittenOver (record_text Second plan.now verified false))) }
         ensures not_held { OnErr result (option_map kind_of self.new.held ≡ None) }
     {
         let Some(mut held) = self.held.take() else {

@@ -6,9 +6,9 @@ use crate::record_steps::{
 use simulated_system::Step;
 use std::io::ErrorKind;
 
-// A record that is written where it is, and each step fails in turn. It is never less
-// than it was: one of version 1 is not written over.
-const WRITTEN_OVER: [Row; 13] = [
+// A record that is written where it is, and each step fails in turn. It is never anything but what it was or what it
+// is to be: one of which a byte would become another one is not written over.
+const WRITTEN_OVER: [Row; 15] = [
     (
         Before::Link(CURRENT),
         &[(Step::Look, 3, ErrorKind::NotFound)],
@@ -102,12 +102,28 @@ const WRITTEN_OVER: [Row; 13] = [
         Some(BEGUN),
     ),
     (
-        Before::Link("LDAODT 1"),
+        Before::Link(""),
         &[(Step::SyncAll, 1, ErrorKind::Other)],
         UNBEGUN,
         READ,
         IN_PLACE,
         Some(BEGUN),
+    ),
+    (
+        Before::Link("LDAODT 1"),
+        NO_FAULT,
+        UNBEGUN,
+        READ,
+        &[],
+        Some("LDAODT 1"),
+    ),
+    (
+        Before::Link("LDAODT 2\n001000 001000\n"),
+        NO_FAULT,
+        UNBEGUN,
+        READ,
+        &[],
+        Some("LDAODT 2\n001000 001000\n"),
     ),
     (
         Before::Named(CURRENT),

@@ -4,6 +4,7 @@ ghost use Rattle.std.specs.Mem.{FitsInMemory};
 ghost use Rattle.requests.specs.Moment.{moment};
 ghost use Rattle.requests.specs.Attempt.{IsDone, IsFailed, IsAttempted};
 
+use crate::advice::say_probing;
 use crate::loading::load_tapes;
 use crate::probing::probe_console;
 use crate::saving::save_words;
@@ -106,6 +107,7 @@ fn perform<
             save_words(system, alloc, *save, &mut streams.out, terminal)
         }
         Request::Machine(MachineRequest::Probe(probe)) => {
+            say_probing(terminal);
             probe_console(system, alloc, *probe, &mut streams.out)
         }
     }

@@ -16,10 +16,16 @@ pub(crate) struct Host<'a, K: Clock, T: Print> {
 }
 
 impl<'a, K: Clock, T: Print> Host<'a, K, T> {
-    /// A host that shows on a terminal, where there is one, how far it is.
-    pub(crate) fn new(alloc: Global, clock: &'a K, terminal: Option<&'a T>) -> Host<'a, K, T> {
+    /// A host that shows on a terminal, where there is one, how far it is. `goes_on` says whether what it has
+    /// done need not be done again after a break.
+    pub(crate) fn new(
+        alloc: Global,
+        clock: &'a K,
+        terminal: Option<&'a T>,
+        goes_on: bool,
+    ) -> Host<'a, K, T> {
         let progress = match terminal {
-            Some(terminal) => Some(ProgressLine::new(clock, terminal)),
+            Some(terminal) => Some(ProgressLine::new(clock, terminal, goes_on)),
             None => None,
         };
         Host { alloc, progress }

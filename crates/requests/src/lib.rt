@@ -9,6 +9,7 @@
 //! line a failure has in `endings`. The program `ldaodt` has the request from `command_line`, which makes it of words.
 #![tactic(auto)]
 
+mod advice;
 mod ending;
 mod errand;
 mod handling;

@@ -78,7 +78,7 @@ pub(crate) fn load_tapes<
     };
     let System { inputs, outside } = system;
     let errand = Loading {
-        host: Host::new(alloc, outside.clock, terminal),
+        host: Host::new(alloc, outside.clock, terminal, load.record.is_some()),
         plan: planned.starting(load.start),
         load,
     };
@@ -138,6 +138,7 @@ fn load_with<'a, K: Clock, T: Print, S: Surroundings, W: Write>(
         (console_around S.Surroundings W.Write around.old out.old)
         (console_around S.Surroundings W.Write around.new out.new)) }
 {
+    let words = plan.words().len() as u32;
     match load(
         host.alloc,
         plan,
@@ -146,7 +147,10 @@ fn load_with<'a, K: Clock, T: Print, S: Surroundings, W: Write>(
         out,
         &host.progress,
     ) {
-        Ok(outcome) => end(request, outcome, around, out),
+        Ok(outcome) => {
+            host.advise(request, words, &outcome);
+            end(request, outcome, around, out)
+        }
         Err(fault) => Err(load_failure(fault, request.line, record_name(request.record))),
     }
 }

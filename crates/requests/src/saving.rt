@@ -59,7 +59,7 @@ pub(crate) fn save_words<
     let System { inputs, outside } = system;
     let look = save.look;
     let errand = Saving {
-        host: Host::new(alloc, outside.clock, terminal),
+        host: Host::new(alloc, outside.clock, terminal, false),
         save,
     };
     let (outside, outcome) = run_at(errand, outside, look.line, look.quiet_ms, out);

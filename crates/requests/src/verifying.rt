@@ -66,7 +66,7 @@ pub(crate) fn verify_tapes<
     };
     let System { inputs, outside } = system;
     let errand = Verifying {
-        host: Host::new(alloc, outside.clock, terminal),
+        host: Host::new(alloc, outside.clock, terminal, false),
         plan: &plan,
         look,
     };

@@ -13,8 +13,8 @@ returns-in_err-sync_making-clause-failed g c = let h = c.in_err-sync_making.ensu
 pub returns-then-held-clause-asked : goal.returns-then-held-clause-asked
 returns-then-held-clause-asked g c = ready_device _ _ _ _ _ c.if-held.true c.in_ok-sync_making.ensures.asked
 
-pub returns-then-not-rewind-clause-failed : goal.returns-then-not-rewind-clause-failed
-returns-then-not-rewind-clause-failed g c = let h = c.in_ok-sync_making.ensures.asked in (h.0, h.1, NotWritable true h.0 h.2)
+pub returns-in_err-rewind-clause-failed : goal.returns-in_err-rewind-clause-failed
+returns-in_err-rewind-clause-failed g c = let h = c.in_ok-sync_making.ensures.asked in on_err c.from_residual-in_err-rewind.result (h.0, h.1, NotWritable true h.0 h.2)
 
 pub returns-then-is_named-clause-asked : goal.returns-then-is_named-clause-asked
 returns-then-is_named-clause-asked g c = ready_file _ _ _ _ _ _ c.if-held.false c.in_ok-sync_making.ensures.asked c.if-is_named.ensures.asked

@@ -1,0 +1,81 @@
+//! Names that stand in each other's places on the command line, as a tape where the line belongs: what a device
+//! sends would be waited for, and nobody told.
+
+use console_reach::is_path;
+use endings::{Failure, Place};
+use input_files::is_input;
+use request_values::{MachineRequest, Request, TapeRequest};
+use std::fs;
+use std::fs::File;
+use std::io::IsTerminal;
+use std::os::unix::fs::FileTypeExt;
+
+/// The first name of a request that can't be what its place asks for. Nothing is read for that.
+///
+/// What is not there, or can't be opened, is left to whoever opens it; so is a line that is a character device,
+/// which to open twice may do something.
+pub(crate) fn misplaced<'a>(rt: &HostRuntime, request: &Request<'a>) -> Option<Failure<'a>> {
+    if let Some((line, place)) = line_of(request)
+        && is_no_device(rt, line)
+    {
+        return Some(Failure::Misplaced(line, place));
+    }
+    match request {
+        Request::Machine(MachineRequest::Load(tapes, load)) => {
+            terminal_among(rt, tapes).or(
+                load.record
+                    .and_then(|name| terminal(rt, name, Place::Record)),
+            )
+        }
+        Request::Machine(MachineRequest::Verify(tapes, _))
+        | Request::Tape(TapeRequest::Check(tapes))
+        | Request::Tape(TapeRequest::Dialogue(tapes, _)) => terminal_among(rt, tapes),
+        Request::Tape(TapeRequest::Rehearse(rehearsal)) => terminal_among(rt, &[rehearsal.tape])
+            .or(terminal(rt, rehearsal.script, Place::Script))
+            .or(terminal_among(rt, &rehearsal.more)),
+        Request::Tape(_) | Request::Machine(_) => None,
+    }
+}
+
+// The line of a request at a real machine, and whose it is.
+fn line_of<'a>(request: &Request<'a>) -> Option<(&'a str, Place)> {
+    match request {
+        Request::Machine(MachineRequest::Load(_, load)) => Some((load.line, Place::LineOfLoad)),
+        Request::Machine(MachineRequest::Verify(_, look)) => Some((look.line, Place::LineOfVerify)),
+        Request::Machine(MachineRequest::Save(save)) => Some((save.look.line, Place::LineOfSave)),
+        Request::Machine(MachineRequest::Probe(probe)) => Some((probe.look.line, Place::LineOfProbe)),
+        Request::Tape(_) => None,
+    }
+}
+
+// Whether a line is the path of something that is there and no device.
+fn is_no_device(rt: &HostRuntime, line: &str) -> bool {
+    match fs::metadata(rt, line) {
+        Ok(metadata) => is_path(line) && !metadata.file_type().is_char_device(),
+        Err(_) => false,
+    }
+}
+
+// The first of some tapes that is a terminal. Standard input may be one.
+fn terminal_among<'a>(rt: &HostRuntime, tapes: &[&'a str]) -> Option<Failure<'a>> {
+    if is_input(tapes) {
+        return None;
+    }
+    for name in tapes {
+        if let Some(failure) = terminal(rt, name, Place::Tape) {
+            return Some(failure);
+        }
+    }
+    None
+}
+
+// That a name is a terminal, where it is one. Only a character device is opened: to open a pipe does something.
+fn terminal<'a>(rt: &HostRuntime, name: &'a str, place: Place) -> Option<Failure<'a>> {
+    let metadata = fs::metadata(rt, name).ok()?;
+    if !metadata.file_type().is_char_device() {
+        return None;
+    }
+    let file = fs::open(rt, name).ok()?;
+    file.is_terminal()
+        .then_some(Failure::Misplaced(name, place))
+}

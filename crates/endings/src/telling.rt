@@ -5,7 +5,8 @@ ghost use Rattle.std.specs.Prelude.{◌≡◌, ◌<◌, OnOk, OnErr, IsTrue};
 ghost use Rattle.std.specs.Char.{is_control, digit_char};
 ghost use Rattle.std.specs.Char.Escape.{escape_default};
 ghost use Rattle.endings.specs.FaultOutput.{IsSaidInPart, IsSaidWhole};
-ghost use Rattle.endings.specs.Failure.{status_of, failure_end, failure_name, fault_line, misplaced_end, shown_char, shown_name, is_unheard, IsTold, IsToldUnless};
+ghost use Rattle.endings.specs.Failure.{status_of, failure_end, failure_name, fault_line, misplaced_end, shown_char, shown_name};
+ghost use Rattle.endings.specs.Failure.{is_unheard, IsTold, IsToldUnless};
 
 use crate::failure::Failure;
 use crate::fault_output::{FaultOutput, say};

@@ -182,7 +182,8 @@ fn live<S: Surroundings, O: Onlooker>(
     around: &mut S,
     onlooker: &O,
 ) -> Result<Lived<S::Line>, LoadFault>
-    ensures lived { IfOk result (λ lived. IsLived (keeper_of S.Surroundings S.Keeper.Keep) writable core (around_of S.Surroundings around.old) (around_of S.Surroundings around.new)
+    ensures lived { IfOk result (λ lived. IsLived (keeper_of S.Surroundings S.Keeper.Keep) writable core
+        (around_of S.Surroundings around.old) (around_of S.Surroundings around.new)
         (finish_of lived.core lived.stop (option_map (line_told S.Line.Line) lived.line))) }
     ensures fault { IfErr result (IsDrivingFault writable (around_of S.Surroundings around.old) (around_of S.Surroundings around.new)) }
     ensures asked { IfOk result (λ lived. Gains (S.asked around.old) (S.asked around.new) (asked_by (S.call around.old) lived.line)) }
@@ -225,7 +226,8 @@ fn drive_over<S: Surroundings, O: Onlooker>(
     onlooker: &O,
 ) -> Result<Driven<S::Line>, LoadFault>
     requires goes_on { ended core.phase ≡ None }
-    ensures driven { IfOk result (λ driven. IsDrivenLife (keeper_of S.Surroundings S.Keeper.Keep) true core (around_of S.Surroundings around.old) (around_of S.Surroundings around.new)
+    ensures driven { IfOk result (λ driven. IsDrivenLife (keeper_of S.Surroundings S.Keeper.Keep) true core
+        (around_of S.Surroundings around.old) (around_of S.Surroundings around.new)
         (finish_of driven.core driven.stop (Some (line_told S.Line.Line driven.line)))) }
     ensures fault { IfErr result (IsDrivingFault true (around_of S.Surroundings around.old) (around_of S.Surroundings around.new)) }
     ensures asked { IfOk result (λ driven. Gains (S.asked around.old) (S.asked around.new) (asked_once (S.call around.old))) }

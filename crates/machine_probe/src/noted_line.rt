@@ -66,7 +66,7 @@ impl<'a, L: Line, C: Clock, E: Opening> NotedLine<'a, L, C, E> {
 
     /// The line in it.
     pub(crate) fn into_line(self) -> L
-        ensures { result ≡ self }
+        ensures { result ≡ self.entry }
     {
         let NotedLine {
             line,

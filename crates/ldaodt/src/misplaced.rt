@@ -50,8 +50,11 @@ fn line_of<'a>(request: &Request<'a>) -> Option<(&'a str, Place)> {
 
 // Whether a line is the path of something that is there and no device.
 fn is_no_device(rt: &HostRuntime, line: &str) -> bool {
+    if !is_path(line) {
+        return false;
+    }
     match fs::metadata(rt, line) {
-        Ok(metadata) => is_path(line) && !metadata.file_type().is_char_device(),
+        Ok(metadata) => !metadata.file_type().is_char_device(),
         Err(_) => false,
     }
 }

@@ -29,7 +29,7 @@ HELLO_TEXT = "HELLO FROM THE LSI-11\r\n"
 
 def words_of_hello():
     """The words of hello.lda by their addresses, as its page lists them."""
-    rows = re.findall(r"^\| ([0-7]{6}) \| [0-7]{6} \| ([0-7]{6}) \|", bytes_of(HELLO.replace(".lda", ".md")).decode(), re.MULTILINE)
+    rows = re.findall(r"^([0-7]{6}) [0-7]{6} ([0-7]{6})  ", bytes_of(HELLO.replace(".lda", ".md")).decode(), re.MULTILINE)
     return {int(address, 8): int(word, 8) for address, word in rows}
 
 

@@ -289,14 +289,19 @@ class Made(Files):
         self.is_so(os.stat(self.path("a.record")).st_ino, os.stat(self.path("b.record")).st_ino)
         self.ends(self.load("b.record"), 6, "sent 0 spent 0 verified 1 of 1\nend MaybeStarted\n")
 
-    def test_a_text_that_is_written_over(self):
-        """The words of the old record are in shorter runs, so that from its second line on it is another text."""
+    def test_a_text_that_is_not_written_over(self):
+        """The words of the old record are in shorter runs, so that from its second line on it is another text: with a second
+        name it stays as it is, and by one name it is replaced."""
         self.put("row.lda", tape_of(((0o1000, b"\1\0\2\0"),), 0o1000))
         self.put("a.record", b"LDAODT 2\n001000 000001\n001002 000002\n")
         os.link(self.path("a.record"), self.path("b.record"))
+        before = os.lstat(self.path("a.record"))
+        self.ends(self.load("a.record", tape="row.lda"), 4, "", "ldaodt: cannot write a.record\n")
+        self.is_untouched("a.record", before)
+        self.was_nothing_typed(connections=1)
+        os.remove(self.path("b.record"))
         self.ends(self.load("a.record", tape="row.lda"), 0, "sent 8 spent 0 verified 2 of 2\nend Started\n")
-        for name in ("a.record", "b.record"):
-            self.is_so(bytes_of(self.path(name)), b"LDAODT 2\n001000 000001 000002\nG\n")
+        self.is_so(bytes_of(self.path("a.record")), b"LDAODT 2\n001000 000001 000002\nG\n")
 
     def test_what_a_dead_load_left(self):
         """It is replaced, whatever stands in it, also where that is longer than the new record."""

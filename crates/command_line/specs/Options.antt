@@ -16,9 +16,10 @@ use Rattle.request_values.specs.declared.machine.Load.{Load}
 use Rattle.request_values.specs.declared.machine.Look.{Look}
 use Rattle.request_values.specs.declared.machine.Probe.{Probe}
 use Rattle.request_values.specs.declared.request.Rehearsal.{Rehearsal}
-use Rattle.request_values.specs.declared.request.Request.{Request}
-use Rattle.request_values.specs.declared.request.Request.TheVariants.{CheckInput, Check, Dialogue, Rehearse, «Type» as TypeKeys}
-use Rattle.request_values.specs.declared.request.Request.TheVariants.{Load as Loads, Verify, Save as Saves, Probe as Probes}
+use Rattle.request_values.specs.declared.request.MachineRequest.{MachineRequest}
+use Rattle.request_values.specs.declared.request.MachineRequest.TheVariants.{Load as Loads, Verify, Save as Saves, Probe as Probes}
+use Rattle.request_values.specs.declared.request.TapeRequest.{TapeRequest}
+use Rattle.request_values.specs.declared.request.TapeRequest.TheVariants.{CheckInput, Check, Dialogue, Rehearse, «Type» as TypeKeys}
 use Rattle.request_values.specs.declared.machine.Save.{Save}
 use Rattle.command_line.specs.Addresses.{IsEvenText, IsOctalText, IsWordText}
 
@@ -121,14 +122,17 @@ pub record IsProbeOf (found : Found) (probe : Probe) : Type 0 where
   pub address : IsProbedWord (first_value found (codes "address")) probe.address
   pub look : IsLookOf found probe.look
 
--- a request is what the arguments and options of its command say
-abbrev pub IsRequestOf : Found → Request → Type 0
-IsRequestOf found (Check names) = NamesTapes found names.items
-IsRequestOf found (Dialogue names stage) = NamesTapes found names.items × IsConsoleOf found stage.console × IsStartOf found stage.start
-IsRequestOf found (Rehearse rehearsal) = IsRehearsalOf found rehearsal
-IsRequestOf found (TypeKeys console) = IsConsoleOf found console
-IsRequestOf found (Loads names load) = NamesTapes found names.items × SaysLoad found load
-IsRequestOf found (Verify names look) = NamesTapes found names.items × IsLookOf found look
-IsRequestOf found (Saves save) = IsSaveOf found save
-IsRequestOf found (Probes probe) = IsProbeOf found probe
-IsRequestOf found CheckInput = ⊥
+-- a request that is about no machine is what the arguments and options of its command say
+abbrev pub IsTapeRequestOf : Found → TapeRequest → Type 0
+IsTapeRequestOf found (Check names) = NamesTapes found names.items
+IsTapeRequestOf found (Dialogue names stage) = NamesTapes found names.items × IsConsoleOf found stage.console × IsStartOf found stage.start
+IsTapeRequestOf found (Rehearse rehearsal) = IsRehearsalOf found rehearsal
+IsTapeRequestOf found (TypeKeys console) = IsConsoleOf found console
+IsTapeRequestOf found CheckInput = ⊥
+
+-- one at a machine is
+abbrev pub IsMachineRequestOf : Found → MachineRequest → Type 0
+IsMachineRequestOf found (Loads names load) = NamesTapes found names.items × SaysLoad found load
+IsMachineRequestOf found (Verify names look) = NamesTapes found names.items × IsLookOf found look
+IsMachineRequestOf found (Saves save) = IsSaveOf found save
+IsMachineRequestOf found (Probes probe) = IsProbeOf found probe

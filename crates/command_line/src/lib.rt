@@ -9,7 +9,7 @@
 
 ghost use Rattle.std.specs.Prelude.{◌≡◌, ◌≢◌, [], IfOk};
 ghost use Rattle.clap.specs.Matches.{found_of};
-ghost use Rattle.command_line.specs.Options.{SaysLoad, IsLookOf, IsRequestOf};
+ghost use Rattle.command_line.specs.Options.{SaysLoad, IsLookOf, IsMachineRequestOf, IsTapeRequestOf};
 
 mod addresses;
 mod explaining;
@@ -27,7 +27,9 @@ pub use explaining::explain;
 use host_core::PLAIN_PATIENCE;
 pub use no_request::NoRequest;
 pub use process_words::words_of;
-use request_values::{Load, LoadOptions, Look, Probe, Rehearsal, Request, Save, Stage};
+use request_values::{
+    Load, LoadOptions, Look, MachineRequest, Probe, Rehearsal, Request, Save, Stage, TapeRequest,
+};
 use shown_words::{have_control, shown_words};
 use std::alloc::Global;
 use values::{console_of, further_tapes_of, line_of, number_given, number_of, tapes_of, text_of};
@@ -37,11 +39,11 @@ const PLAIN_QUIET: u16 = 2000;
 
 /// Reads the words after the program's name. Without any the tape on standard input is to be checked.
 pub fn parse<'a>(alloc: Global, words: &'a [String]) -> Result<Request<'a>, NoRequest>
-    ensures none { words.now ≡ [] → result ≡ Ok Request.CheckInput }
-    ensures some { IfOk result (λ request. request ≡ Request.CheckInput → words.now ≡ []) }
+    ensures none { words.now ≡ [] → result ≡ Ok (Request.Tape TapeRequest.CheckInput) }
+    ensures some { IfOk result (λ request. request ≡ Request.Tape TapeRequest.CheckInput → words.now ≡ []) }
 {
     let Some(first) = words.first() else {
-        return Ok(Request::CheckInput);
+        return Ok(Request::Tape(TapeRequest::CheckInput));
     };
     match read(alloc, first, words) {
         Err(NoRequest::Refused(text)) => Err(shown_refusal(alloc, words, text)),
@@ -68,7 +70,7 @@ fn refusal_of(alloc: Global, words: &[String]) -> Option<NoRequest> {
 
 // What words ask for, of which this is the first.
 fn read<'a>(alloc: Global, first: &str, words: &'a [String]) -> Result<Request<'a>, NoRequest>
-    ensures { IfOk result (λ request. request ≢ Request.CheckInput) }
+    ensures { IfOk result (λ request. request ≢ Request.Tape TapeRequest.CheckInput) }
 {
     match known_words(alloc)?.try_get_matches_from(words) {
         Ok(matches) => request_of(alloc, &matches),
@@ -78,28 +80,27 @@ fn read<'a>(alloc: Global, first: &str, words: &'a [String]) -> Result<Request<'
 
 // What the parsed words ask for, where there were any.
 fn request_of<'a>(alloc: Global, matches: &ArgMatches<'a>) -> Result<Request<'a>, NoRequest>
-    ensures { IfOk result (λ request. request ≢ Request.CheckInput) }
+    ensures { IfOk result (λ request. request ≢ Request.Tape TapeRequest.CheckInput) }
 {
     match matches.subcommand() {
-        Some(("load", found)) => loading_of(alloc, found),
-        Some(("verify", found)) => verifying_of(alloc, found),
-        Some(("save", found)) => saving_of(alloc, found),
-        Some(("probe", found)) => probing_of(alloc, found),
-        Some(("check", found)) => Ok(Request::Check(tapes_of(alloc, found)?)),
-        Some(("dialogue", found)) => dialogue_of(alloc, found),
-        Some(("rehearse", found)) => rehearsal_of(alloc, found),
-        Some(("type", found)) => Ok(Request::Type(console_of(found)?)),
+        Some(("load", found)) => Ok(Request::Machine(loading_of(alloc, found)?)),
+        Some(("verify", found)) => Ok(Request::Machine(verifying_of(alloc, found)?)),
+        Some(("save", found)) => Ok(Request::Machine(saving_of(alloc, found)?)),
+        Some(("probe", found)) => Ok(Request::Machine(probing_of(alloc, found)?)),
+        Some(("check", found)) => Ok(Request::Tape(TapeRequest::Check(tapes_of(alloc, found)?))),
+        Some(("dialogue", found)) => Ok(Request::Tape(dialogue_of(alloc, found)?)),
+        Some(("rehearse", found)) => Ok(Request::Tape(rehearsal_of(alloc, found)?)),
+        Some(("type", found)) => Ok(Request::Tape(TapeRequest::Type(console_of(found)?))),
         _ => Err(NoRequest::Meaningless),
     }
 }
 
 // The load of tapes into a machine.
-fn loading_of<'a>(alloc: Global, found: &ArgMatches<'a>) -> Result<Request<'a>, NoRequest>
-    ensures value { IfOk result (IsRequestOf (found_of found.now)) }
-    ensures some { IfOk result (λ request. request ≢ Request.CheckInput) }
+fn loading_of<'a>(alloc: Global, found: &ArgMatches<'a>) -> Result<MachineRequest<'a>, NoRequest>
+    ensures { IfOk result (IsMachineRequestOf (found_of found.now)) }
 {
     let load = load_of(alloc, found)?;
-    Ok(Request::Load(tapes_of(alloc, found)?, load))
+    Ok(MachineRequest::Load(tapes_of(alloc, found)?, load))
 }
 
 // A load, but for its tapes.
@@ -120,24 +121,22 @@ fn load_of<'a>(alloc: Global, found: &ArgMatches<'a>) -> Result<Load<'a>, NoRequ
 }
 
 // The look whether a machine holds what tapes say.
-fn verifying_of<'a>(alloc: Global, found: &ArgMatches<'a>) -> Result<Request<'a>, NoRequest>
-    ensures value { IfOk result (IsRequestOf (found_of found.now)) }
-    ensures some { IfOk result (λ request. request ≢ Request.CheckInput) }
+fn verifying_of<'a>(alloc: Global, found: &ArgMatches<'a>) -> Result<MachineRequest<'a>, NoRequest>
+    ensures { IfOk result (IsMachineRequestOf (found_of found.now)) }
 {
     let look = look_of(alloc, found)?;
-    Ok(Request::Verify(tapes_of(alloc, found)?, look))
+    Ok(MachineRequest::Verify(tapes_of(alloc, found)?, look))
 }
 
 // The save of words of a machine.
-fn saving_of<'a>(alloc: Global, found: &ArgMatches<'a>) -> Result<Request<'a>, NoRequest>
-    ensures value { IfOk result (IsRequestOf (found_of found.now)) }
-    ensures some { IfOk result (λ request. request ≢ Request.CheckInput) }
+fn saving_of<'a>(alloc: Global, found: &ArgMatches<'a>) -> Result<MachineRequest<'a>, NoRequest>
+    ensures { IfOk result (IsMachineRequestOf (found_of found.now)) }
 {
     let file = text_of(found, FILE)?;
     let look = look_of(alloc, found)?;
     let range = range_of(alloc, found)?;
     let start = saved_start_of(alloc, found)?;
-    Ok(Request::Save(Save {
+    Ok(MachineRequest::Save(Save {
         file,
         range,
         start,
@@ -146,13 +145,12 @@ fn saving_of<'a>(alloc: Global, found: &ArgMatches<'a>) -> Result<Request<'a>, N
 }
 
 // The probe of a machine's console.
-fn probing_of<'a>(alloc: Global, found: &ArgMatches<'a>) -> Result<Request<'a>, NoRequest>
-    ensures value { IfOk result (IsRequestOf (found_of found.now)) }
-    ensures some { IfOk result (λ request. request ≢ Request.CheckInput) }
+fn probing_of<'a>(alloc: Global, found: &ArgMatches<'a>) -> Result<MachineRequest<'a>, NoRequest>
+    ensures { IfOk result (IsMachineRequestOf (found_of found.now)) }
 {
     let look = look_of(alloc, found)?;
     let address = probed_of(alloc, found)?;
-    Ok(Request::Probe(Probe { address, look }))
+    Ok(MachineRequest::Probe(Probe { address, look }))
 }
 
 // A look at a machine.
@@ -167,23 +165,23 @@ fn look_of<'a>(alloc: Global, found: &ArgMatches<'a>) -> Result<Look<'a>, NoRequ
 }
 
 // The dialogue of tapes with a console.
-fn dialogue_of<'a>(alloc: Global, found: &ArgMatches<'a>) -> Result<Request<'a>, NoRequest>
-    ensures value { IfOk result (IsRequestOf (found_of found.now)) }
-    ensures some { IfOk result (λ request. request ≢ Request.CheckInput) }
+fn dialogue_of<'a>(alloc: Global, found: &ArgMatches<'a>) -> Result<TapeRequest<'a>, NoRequest>
+    ensures value { IfOk result (IsTapeRequestOf (found_of found.now)) }
+    ensures some { IfOk result (λ request. request ≢ TapeRequest.CheckInput) }
 {
     let console = console_of(found)?;
     let start = start_of(alloc, found)?;
     let stage = Stage { console, start };
-    Ok(Request::Dialogue(tapes_of(alloc, found)?, stage))
+    Ok(TapeRequest::Dialogue(tapes_of(alloc, found)?, stage))
 }
 
 // The rehearsal of a tape, its script and further tapes.
-fn rehearsal_of<'a>(alloc: Global, found: &ArgMatches<'a>) -> Result<Request<'a>, NoRequest>
-    ensures value { IfOk result (IsRequestOf (found_of found.now)) }
-    ensures some { IfOk result (λ request. request ≢ Request.CheckInput) }
+fn rehearsal_of<'a>(alloc: Global, found: &ArgMatches<'a>) -> Result<TapeRequest<'a>, NoRequest>
+    ensures value { IfOk result (IsTapeRequestOf (found_of found.now)) }
+    ensures some { IfOk result (λ request. request ≢ TapeRequest.CheckInput) }
 {
     let tape = text_of(found, TAPE)?;
     let script = text_of(found, SCRIPT)?;
     let more = further_tapes_of(alloc, found)?;
-    Ok(Request::Rehearse(Rehearsal { tape, script, more }))
+    Ok(TapeRequest::Rehearse(Rehearsal { tape, script, more }))
 }

@@ -2,7 +2,7 @@
 
 use endings::{Status, Streams};
 use record_file::Locks;
-use request_values::{Load, LoadOptions, Request};
+use request_values::{Load, LoadOptions, MachineRequest, Request};
 use requests::{SharedSystem, attempt};
 use serial_line::Devices;
 use simulated_system::QUIET_MS;
@@ -79,7 +79,7 @@ pub(crate) fn load_of<'a>(
     tape: &'a str,
     record: Option<&'a str>,
 ) -> Result<Request<'a>, AllocError> {
-    Ok(Request::Load(
+    Ok(Request::Machine(MachineRequest::Load(
         Vec::from_slice(alloc, &[tape])?,
         Load {
             line: "127.0.0.1:2323",
@@ -89,5 +89,5 @@ pub(crate) fn load_of<'a>(
             listen: None,
             quiet_ms: QUIET_MS,
         },
-    ))
+    )))
 }

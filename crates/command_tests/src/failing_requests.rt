@@ -4,7 +4,7 @@
 use crate::attempts::{Ended, NOBODY, load_of, run};
 use endings::{Output, Status, Streams};
 use odt_machine::{LARGEST_WORDS, PLAIN_STYLE};
-use request_values::{Console, Request};
+use request_values::{Console, Request, TapeRequest};
 use requests::{SharedSystem, attempt};
 use simulated_system::{
     AMPLE, BrokenInput, BrokenOutput, NOWHERE, ONE_WORD, Setting, System, UnflushedOutput,
@@ -27,11 +27,11 @@ const TAPE: &str = "failing.lda";
 // The request.
 fn request_of(alloc: Global, asked: Asked) -> Result<Request<'static>, AllocError> {
     match asked {
-        Asked::CheckInput => Ok(Request::CheckInput),
-        Asked::Type => Ok(Request::Type(Console {
+        Asked::CheckInput => Ok(Request::Tape(TapeRequest::CheckInput)),
+        Asked::Type => Ok(Request::Tape(TapeRequest::Type(Console {
             words: LARGEST_WORDS,
             style: PLAIN_STYLE,
-        })),
+        }))),
         Asked::Load => load_of(alloc, TAPE, None),
     }
 }
@@ -156,7 +156,13 @@ fn is_said(rt: &HostRuntime, names: &[&str], line: &str) -> bool {
         return false;
     };
     let system = System::new(rt, AMPLE);
-    run(&system, rt.alloc(), Request::Check(names), &[], &mut ended);
+    run(
+        &system,
+        rt.alloc(),
+        Request::Tape(TapeRequest::Check(names)),
+        &[],
+        &mut ended,
+    );
     ended.is(Status::DeviceFailed, "", line)
 }
 

@@ -3,7 +3,7 @@
 use crate::attempts::{Ended, run};
 use endings::Status;
 use odt_machine::PLAIN_STYLE;
-use request_values::{Console, Request, Stage};
+use request_values::{Console, Request, Stage, TapeRequest};
 use simulated_system::{ONE_WORD, WRONG_SUM};
 use std::alloc::{AllocError, Global};
 use std::test::Fail;
@@ -37,7 +37,7 @@ fn dialogue(alloc: Global, tape: &str) -> Result<Request<'_>, AllocError> {
         console: TOO_LARGE,
         start: Start::OfTape,
     };
-    Ok(Request::Dialogue(names, stage))
+    Ok(Request::Tape(TapeRequest::Dialogue(names, stage)))
 }
 
 // The line that says that a machine is too large.
@@ -84,7 +84,15 @@ fn remove_tapes(rt: &HostRuntime) -> io::Result<()> {
 fn a_machine_that_is_too_large_is_refused(rt: HostRuntime) -> Result<(), Fail> {
     put_tapes(&rt)?;
     let status = Status::BadCommandLine;
-    assert!(rt; is_refused(&rt, Request::Type(TOO_LARGE), b"0/", status, REFUSED));
+    assert!(rt;
+        is_refused(
+            &rt,
+            Request::Tape(TapeRequest::Type(TOO_LARGE)),
+            b"0/",
+            status,
+            REFUSED
+        )
+    );
     assert!(rt; is_dialogue_refused(&rt, GOOD, status, REFUSED));
     assert!(rt; is_dialogue_refused(&rt, BAD, Status::Refused, TAPE_REFUSED));
     Ok(remove_tapes(&rt)?)

@@ -3,7 +3,9 @@
 
 use crate::attempts::{Ended, run};
 use endings::Status;
-use request_values::{AddressRange, Load, LoadOptions, Look, Probe, Request, Save};
+use request_values::{
+    AddressRange, Load, LoadOptions, Look, MachineRequest, Probe, Request, Save, TapeRequest,
+};
 use simulated_system::{AMPLE, DEVICE, ONE_WORD, QUIET_MS, Setting, System, remove};
 use std::alloc::{AllocError, Global};
 use std::fs;
@@ -51,21 +53,21 @@ enum Asked {
 fn request_of(alloc: Global, asked: Asked) -> Result<Request<'static>, AllocError> {
     let names = Vec::from_slice(alloc, &[TAPE])?;
     Ok(match asked {
-        Asked::Load(load) => Request::Load(names, load),
-        Asked::Verify(look) => Request::Verify(names, look),
+        Asked::Load(load) => Request::Machine(MachineRequest::Load(names, load)),
+        Asked::Verify(look) => Request::Machine(MachineRequest::Verify(names, look)),
         Asked::Save(look) => match AddressRange::new(0o001000, 0o001000) {
-            Some(range) => Request::Save(Save {
+            Some(range) => Request::Machine(MachineRequest::Save(Save {
                 file: SAVED,
                 range,
                 start: 1,
                 look,
-            }),
-            None => Request::CheckInput,
+            })),
+            None => Request::Tape(TapeRequest::CheckInput),
         },
-        Asked::Probe(look) => Request::Probe(Probe {
+        Asked::Probe(look) => Request::Machine(MachineRequest::Probe(Probe {
             address: 0o001000,
             look,
-        }),
+        })),
     })
 }
 

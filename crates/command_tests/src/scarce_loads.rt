@@ -3,7 +3,7 @@
 
 use crate::attempts::{Ended, OUT_OF_MEMORY, load_of, run};
 use endings::Status;
-use request_values::{AddressRange, Look, Request, Save};
+use request_values::{AddressRange, Look, MachineRequest, Request, Save, TapeRequest};
 use scarce_memory::{Famine, ROOMS};
 use simulated_system::{AMPLE, ONE_WORD, QUIET_MS, Setting, System};
 use std::alloc::{AllocError, Global};
@@ -75,18 +75,18 @@ fn request_of(alloc: Global, asked: Asked<'_>) -> Result<Request<'_>, AllocError
 }
 
 fn verify_of<'a>(alloc: Global, tape: &'a str, look: Look<'a>) -> Result<Request<'a>, AllocError> {
-    Ok(Request::Verify(Vec::from_slice(alloc, &[tape])?, look))
+    Ok(Request::Machine(MachineRequest::Verify(Vec::from_slice(alloc, &[tape])?, look)))
 }
 
 fn save_of<'a>(name: &'a str, look: Look<'a>) -> Request<'a> {
     match AddressRange::new(0o001000, 0o010636) {
-        Some(range) => Request::Save(Save {
+        Some(range) => Request::Machine(MachineRequest::Save(Save {
             file: name,
             range,
             start: 1,
             look,
-        }),
-        None => Request::CheckInput,
+        })),
+        None => Request::Tape(TapeRequest::CheckInput),
     }
 }
 

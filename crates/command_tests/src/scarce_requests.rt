@@ -4,7 +4,9 @@
 use crate::attempts::{Ended, OUT_OF_MEMORY, run};
 use endings::Status;
 use odt_machine::{LARGEST_WORDS, PLAIN_STYLE};
-use request_values::{Console, Load, LoadOptions, Look, Probe, Rehearsal, Request, Stage};
+use request_values::{
+    Console, Load, LoadOptions, Look, MachineRequest, Probe, Rehearsal, Request, Stage, TapeRequest,
+};
 use scarce_memory::{Famine, ROOMS};
 use simulated_system::{NOTHING, ONE_WORD, ONE_WORD_DIALOGUE, ONE_WORD_TEXT, PADDED, WRONG_SUM};
 use std::alloc::{AllocError, Global};
@@ -94,26 +96,29 @@ enum Asked {
 // The request of a row.
 fn request_of(alloc: Global, asked: Asked) -> Result<Request<'static>, AllocError> {
     Ok(match asked {
-        Asked::CheckInput => Request::CheckInput,
-        Asked::Check(tapes) => Request::Check(Vec::from_slice(alloc, tapes)?),
+        Asked::CheckInput => Request::Tape(TapeRequest::CheckInput),
+        Asked::Check(tapes) => Request::Tape(TapeRequest::Check(Vec::from_slice(alloc, tapes)?)),
         Asked::Dialogue(tapes, console) => {
             let stage = Stage {
                 console,
                 start: Start::OfTape,
             };
-            Request::Dialogue(Vec::from_slice(alloc, tapes)?, stage)
+            Request::Tape(TapeRequest::Dialogue(Vec::from_slice(alloc, tapes)?, stage))
         }
-        Asked::Rehearse(tape, script) => Request::Rehearse(Rehearsal {
+        Asked::Rehearse(tape, script) => Request::Tape(TapeRequest::Rehearse(Rehearsal {
             tape,
             script,
             more: Vec::new(alloc),
-        }),
-        Asked::Type(console) => Request::Type(console),
-        Asked::Load(tapes, load) => Request::Load(Vec::from_slice(alloc, tapes)?, load),
-        Asked::Probe(look) => Request::Probe(Probe {
+        })),
+        Asked::Type(console) => Request::Tape(TapeRequest::Type(console)),
+        Asked::Load(tapes, load) => Request::Machine(MachineRequest::Load(
+            Vec::from_slice(alloc, tapes)?,
+            load,
+        )),
+        Asked::Probe(look) => Request::Machine(MachineRequest::Probe(Probe {
             address: 0o001000,
             look,
-        }),
+        })),
     })
 }
 
@@ -300,7 +305,13 @@ fn each_growth_is_refused_in_turn(rt: HostRuntime) -> Result<(), Fail> {
 // Runs a request where there is no memory, and answers whether there was none.
 fn run_without_memory(rt: &HostRuntime, ended: &mut Ended) -> bool {
     let famine = Famine::begin(rt.alloc());
-    run(rt, rt.alloc(), Request::CheckInput, &ONE_WORD, ended);
+    run(
+        rt,
+        rt.alloc(),
+        Request::Tape(TapeRequest::CheckInput),
+        &ONE_WORD,
+        ended,
+    );
     famine.is_ok()
 }
 

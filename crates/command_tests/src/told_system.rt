@@ -10,7 +10,10 @@ ghost use Rattle.requests.specs.Attempt.{IsAttempted};
 use crate::attempts::NOBODY;
 use endings::{Status, Streams};
 use input_files::InputFiles;
-use request_values::{AddressRange, Load, LoadOptions, Look, Probe, Rehearsal, Request, Save};
+use request_values::{
+    AddressRange, Load, LoadOptions, Look, MachineRequest, Probe, Rehearsal, Request, Save,
+    TapeRequest,
+};
 use requests::{Outside, System, attempt};
 use serial_line::{Device, DeviceOpening, Devices};
 use simulated_system::{AMPLE, Console, DEVICE, ONE_WORD, QUIET_MS, System as Simulated};
@@ -242,13 +245,13 @@ fn look_at(line: &'static str) -> Look<'static> {
 // The request.
 fn request_of(alloc: Global, wanted: Wanted) -> Result<Request<'static>, AllocError> {
     Ok(match wanted {
-        Wanted::Check(names) => Request::Check(Vec::from_slice(alloc, names)?),
-        Wanted::Rehearse(tape, script, more) => Request::Rehearse(Rehearsal {
+        Wanted::Check(names) => Request::Tape(TapeRequest::Check(Vec::from_slice(alloc, names)?)),
+        Wanted::Rehearse(tape, script, more) => Request::Tape(TapeRequest::Rehearse(Rehearsal {
             tape,
             script,
             more: Vec::from_slice(alloc, more)?,
-        }),
-        Wanted::Load(line, file) => Request::Load(
+        })),
+        Wanted::Load(line, file) => Request::Machine(MachineRequest::Load(
             Vec::from_slice(alloc, &[TAPE])?,
             Load {
                 line,
@@ -261,23 +264,26 @@ fn request_of(alloc: Global, wanted: Wanted) -> Result<Request<'static>, AllocEr
                 listen: None,
                 quiet_ms: QUIET_MS,
             },
-        ),
+        )),
         Wanted::Verify(name, line) => {
-            Request::Verify(Vec::from_slice(alloc, &[name])?, look_at(line))
+            Request::Machine(MachineRequest::Verify(
+                Vec::from_slice(alloc, &[name])?,
+                look_at(line),
+            ))
         }
         Wanted::Save(name, line) => match AddressRange::new(0o001000, 0o001000) {
-            Some(range) => Request::Save(Save {
+            Some(range) => Request::Machine(MachineRequest::Save(Save {
                 file: name,
                 range,
                 start: 1,
                 look: look_at(line),
-            }),
-            None => Request::CheckInput,
+            })),
+            None => Request::Tape(TapeRequest::CheckInput),
         },
-        Wanted::Probe(line) => Request::Probe(Probe {
+        Wanted::Probe(line) => Request::Machine(MachineRequest::Probe(Probe {
             address: 0o001000,
             look: look_at(line),
-        }),
+        })),
     })
 }
 

@@ -34,6 +34,9 @@ impl<'a, V: DeviceOpening, C: Clock> Reach for Cable<'a, V, C> {
     fn reach(&mut self) -> Result<DeviceLine<'a, V::Terminal, C>, LineFault> {
         open_line(&mut self.devices, self.clock, self.path, self.quiet_ms)
     }
+
+    // It is closed.
+    fn let_go(&mut self, _line: DeviceLine<'a, V::Terminal, C>) {}
 }
 
 /// Whether a name is the path of a device, and not HOST:PORT: whether it has a slash, which none of

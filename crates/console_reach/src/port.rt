@@ -28,4 +28,7 @@ impl<D: Dialling> Reach for Port<'_, D> {
     fn reach(&mut self) -> Result<SocketLine<D::Stream>, LineFault> {
         SocketLine::connect(&mut self.net, self.address, self.quiet_ms)
     }
+
+    // It is closed.
+    fn let_go(&mut self, _line: SocketLine<D::Stream>) {}
 }

@@ -10,9 +10,9 @@ pub record StandardError : Type 0 where
   pub text : Option (List ℕ)
   pub failures : Option ℕ
 
--- what is known of a standard error, by what its type tells
-abbrev pub standard_error : {E : Type 0} → (E → Option (List ℕ)) → (E → Option ℕ) → E → StandardError
-standard_error contents failures err = record { text = contents err; failures = failures err }
+-- what is known of one whose type tells nothing
+abbrev pub untold : StandardError
+untold = record { text = None; failures = None }
 
 -- no write failed since
 abbrev pub NoneFailed : Option ℕ → Option ℕ → Type 0

@@ -1,7 +1,7 @@
 //! Texts for words that ask for nothing to be done: help, the version, or what is wrong with the words.
 ghost use Rattle.std.specs.Prelude.{◌≡◌};
 ghost use Rattle.endings.specs.Explained.{IsShown};
-ghost use Rattle.endings.specs.FaultOutput.{IsSaidOnError, standard_error};
+ghost use Rattle.endings.specs.FaultOutput.{IsSaidOnError};
 
 use crate::fault_output::{FaultOutput, say};
 use crate::output::Output;
@@ -29,10 +29,7 @@ pub fn show<R: Read, W: Output, E: FaultOutput>(
 
 /// Says what is wrong with the words, in one write. What can't be written is not told.
 pub fn refuse<E: FaultOutput>(text: &str, err: &mut E) -> Status
-    ensures said { IsSaidOnError
-        (standard_error E.contents E.failures err.old)
-        (standard_error E.contents E.failures err.new)
-        text.now }
+    ensures said { IsSaidOnError (E.said err.old) (E.said err.new) text.now }
     ensures status { result ≡ Status.BadCommandLine }
 {
     let _ = say(err, text.as_bytes());

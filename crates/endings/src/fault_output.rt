@@ -1,8 +1,8 @@
 //! Where faults are said, with no second try where that fails.
-ghost use Rattle.std.specs.Prelude.{ℕ, Option, None, OnOk, OnErr};
+ghost use Rattle.std.specs.Prelude.{Some, None, OnOk, OnErr};
 ghost use Rattle.std.specs.Io.{WritesAtMost};
 ghost use Rattle.std.specs.Io.KnownBytes.{WriteAppends};
-ghost use Rattle.endings.specs.FaultOutput.{CountsWrite, IsSaidInPart, IsSaidWhole, standard_error};
+ghost use Rattle.endings.specs.FaultOutput.{StandardError, CountsWrite, IsSaidInPart, IsSaidWhole, untold};
 
 use byte_io::WriteFault;
 use std::io;
@@ -10,14 +10,14 @@ use std::io::{Stderr, Write};
 
 /// What faults are written to: standard error.
 pub trait FaultOutput: Write {
-    /// How many writes failed, or took nothing of a text; None where the type doesn't tell.
-    ghost failures: { Self → Option ℕ } = { λ _. None };
+    /// What it holds, and how many writes failed, or took nothing of a text, each where the type tells.
+    ghost said: { Self → StandardError } = { λ _. untold };
 
     /// Writes a beginning of the text, as `write` does, and answers how many bytes it took.
     fn put(&mut self, text: &[u8]) -> io::Result<usize>
         ensures bound { WritesAtMost result text.now }
-        ensures bytes { WriteAppends (Self.contents self.old) (Self.contents self.new) result text.now }
-        ensures counted { CountsWrite (failures self.old) (failures self.new) result };
+        ensures bytes { WriteAppends (said self.old).text (said self.new).text result text.now }
+        ensures counted { CountsWrite (said self.old).failures (said self.new).failures result };
 }
 
 impl FaultOutput for Stderr {
@@ -28,6 +28,8 @@ impl FaultOutput for Stderr {
 
 // A text in memory, in which a line is gathered.
 impl FaultOutput for Vec<u8> {
+    ghost said = { λ text. record { text = Some text.items; failures = None } };
+
     fn put(&mut self, text: &[u8]) -> io::Result<usize> {
         self.write(text)
     }
@@ -35,14 +37,8 @@ impl FaultOutput for Vec<u8> {
 
 /// Says a text. At the first write that fails, or takes nothing, it stops.
 pub(crate) fn say<E: FaultOutput>(err: &mut E, text: &[u8]) -> Result<(), WriteFault>
-    ensures ok { OnOk result (IsSaidWhole
-        (standard_error E.contents E.failures err.old)
-        (standard_error E.contents E.failures err.new)
-        text.now) }
-    ensures err { OnErr result (IsSaidInPart
-        (standard_error E.contents E.failures err.old)
-        (standard_error E.contents E.failures err.new)
-        text.now) }
+    ensures ok { OnOk result (IsSaidWhole (E.said err.old) (E.said err.new) text.now) }
+    ensures err { OnErr result (IsSaidInPart (E.said err.old) (E.said err.new) text.now) }
 {
     let mut left = text;
     while !left.is_empty() {

@@ -19,7 +19,6 @@ pub struct Streams<R: Read, W: Output, E: FaultOutput> {
 }
 
 impl<R: Read, W: Output, E: FaultOutput> Model for Streams<R, W, E> {
-    ghost use Rattle.endings.specs.FaultOutput.{standard_error};
     ghost use Rattle.endings.specs.Held.{Held};
 
     ghost Value = { Held };
@@ -28,6 +27,6 @@ impl<R: Read, W: Output, E: FaultOutput> Model for Streams<R, W, E> {
       input = R.remaining streams.input;
       out = W.contents streams.out;
       unread = W.unread streams.out;
-      err = standard_error E.contents E.failures streams.err;
+      err = E.said streams.err;
     } };
 }

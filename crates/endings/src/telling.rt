@@ -4,8 +4,9 @@
 ghost use Rattle.std.specs.Prelude.{◌≡◌, ◌<◌, OnOk, OnErr, IsTrue};
 ghost use Rattle.std.specs.Char.{is_control, digit_char};
 ghost use Rattle.std.specs.Char.Escape.{escape_default};
-ghost use Rattle.endings.specs.FaultOutput.{IsSaidInPart, IsSaidWhole, standard_error};
-ghost use Rattle.endings.specs.Failure.{status_of, failure_end, failure_name, fault_line, misplaced_end, shown_char, shown_name, is_unheard, IsTold, IsToldUnless};
+ghost use Rattle.endings.specs.FaultOutput.{IsSaidInPart, IsSaidWhole};
+ghost use Rattle.endings.specs.Failure.{status_of, failure_end, failure_name, fault_line, misplaced_end, shown_char, shown_name};
+ghost use Rattle.endings.specs.Failure.{is_unheard, IsTold, IsToldUnless};
 
 use crate::failure::Failure;
 use crate::fault_output::{FaultOutput, say};
@@ -26,10 +27,7 @@ type Shown = ArrayVec<u8, 6>;
 /// there is no memory for is written in pieces. What can't be written is not told.
 pub fn tell<E: FaultOutput>(alloc: Global, failure: Failure<'_>, err: &mut E) -> Status
     ensures status { result ≡ status_of failure.entry }
-    ensures told { IsTold
-        (standard_error E.contents E.failures err.old)
-        (standard_error E.contents E.failures err.new)
-        failure.entry }
+    ensures told { IsTold (E.said err.old) (E.said err.new) failure.entry }
 {
     let _ = write_at_once(alloc, failure, err);
     failure.status()
@@ -43,10 +41,7 @@ pub(crate) fn tell_unwritten<W: Output, E: FaultOutput>(
     err: &mut E,
 ) -> Status
     ensures status { result ≡ Status.DeviceFailed }
-    ensures told { IsToldUnless (W.unread out.now)
-        (standard_error E.contents E.failures err.old)
-        (standard_error E.contents E.failures err.new)
-        Failure.CannotWrite }
+    ensures told { IsToldUnless (W.unread out.now) (E.said err.old) (E.said err.new) Failure.CannotWrite }
 {
     if out.is_unread() {
         Status::DeviceFailed
@@ -65,10 +60,7 @@ pub fn tell_unless_unheard<W: Output, E: FaultOutput>(
     err: &mut E,
 ) -> Status
     ensures status { result ≡ status_of failure.entry }
-    ensures told { IsToldUnless (is_unheard only_prints (W.unread out.now) failure.entry)
-        (standard_error E.contents E.failures err.old)
-        (standard_error E.contents E.failures err.new)
-        failure.entry }
+    ensures told { IsToldUnless (is_unheard only_prints (W.unread out.now) failure.entry) (E.said err.old) (E.said err.new) failure.entry }
 {
     match failure {
         Failure::CannotWrite if only_prints => tell_unwritten(alloc, out, err),
@@ -83,14 +75,8 @@ fn write_at_once<E: FaultOutput>(
     failure: Failure<'_>,
     err: &mut E,
 ) -> Result<(), WriteFault>
-    ensures ok { OnOk result (IsSaidWhole
-        (standard_error E.contents E.failures err.old)
-        (standard_error E.contents E.failures err.new)
-        (fault_line failure.entry)) }
-    ensures err { OnErr result (IsSaidInPart
-        (standard_error E.contents E.failures err.old)
-        (standard_error E.contents E.failures err.new)
-        (fault_line failure.entry)) }
+    ensures ok { OnOk result (IsSaidWhole (E.said err.old) (E.said err.new) (fault_line failure.entry)) }
+    ensures err { OnErr result (IsSaidInPart (E.said err.old) (E.said err.new) (fault_line failure.entry)) }
 {
     if let Failure::NoMemory = failure {
         let mut line = line_words(failure);
@@ -106,14 +92,8 @@ fn write_at_once<E: FaultOutput>(
 
 // Writes a failure's line in pieces. At the first write that fails it stops.
 fn write_line<E: FaultOutput>(err: &mut E, failure: Failure<'_>) -> Result<(), WriteFault>
-    ensures ok { OnOk result (IsSaidWhole
-        (standard_error E.contents E.failures err.old)
-        (standard_error E.contents E.failures err.new)
-        (fault_line failure.entry)) }
-    ensures err { OnErr result (IsSaidInPart
-        (standard_error E.contents E.failures err.old)
-        (standard_error E.contents E.failures err.new)
-        (fault_line failure.entry)) }
+    ensures ok { OnOk result (IsSaidWhole (E.said err.old) (E.said err.new) (fault_line failure.entry)) }
+    ensures err { OnErr result (IsSaidInPart (E.said err.old) (E.said err.new) (fault_line failure.entry)) }
 {
     say(err, &line_words(failure))?;
     write_shown_name(err, failure)?;
@@ -151,14 +131,8 @@ fn misplaced_end(place: Place) -> &'static [u8]
 
 // Writes the name in a failure's line, where it has one.
 fn write_shown_name<E: FaultOutput>(err: &mut E, failure: Failure<'_>) -> Result<(), WriteFault>
-    ensures ok { OnOk result (IsSaidWhole
-        (standard_error E.contents E.failures err.old)
-        (standard_error E.contents E.failures err.new)
-        (failure_name failure.entry)) }
-    ensures err { OnErr result (IsSaidInPart
-        (standard_error E.contents E.failures err.old)
-        (standard_error E.contents E.failures err.new)
-        (failure_name failure.entry)) }
+    ensures ok { OnOk result (IsSaidWhole (E.said err.old) (E.said err.new) (failure_name failure.entry)) }
+    ensures err { OnErr result (IsSaidInPart (E.said err.old) (E.said err.new) (failure_name failure.entry)) }
 {
     match failure {
         Failure::CannotRead(name)
@@ -173,14 +147,8 @@ fn write_shown_name<E: FaultOutput>(err: &mut E, failure: Failure<'_>) -> Result
 
 // Writes a name as a fault shows it.
 fn write_name<E: FaultOutput>(err: &mut E, name: &str) -> Result<(), WriteFault>
-    ensures ok { OnOk result (IsSaidWhole
-        (standard_error E.contents E.failures err.old)
-        (standard_error E.contents E.failures err.new)
-        (shown_name name.now)) }
-    ensures err { OnErr result (IsSaidInPart
-        (standard_error E.contents E.failures err.old)
-        (standard_error E.contents E.failures err.new)
-        (shown_name name.now)) }
+    ensures ok { OnOk result (IsSaidWhole (E.said err.old) (E.said err.new) (shown_name name.now)) }
+    ensures err { OnErr result (IsSaidInPart (E.said err.old) (E.said err.new) (shown_name name.now)) }
 {
     if name.is_empty() {
         return say(err, b"''");

@@ -3,7 +3,8 @@ use Rattle.std.specs.Prelude.{◌≡◌, ◌⊎◌}
 use Rattle.requests.specs.Attempt.{IsAttempted}
 use Rattle.requests.specs.Moment.{Moment}
 use Rattle.request_values.specs.declared.request.Request.{Request}
-use Rattle.request_values.specs.declared.request.Request.TheVariants.{CheckInput}
+use Rattle.request_values.specs.declared.request.Request.TheVariants.{Tape}
+use Rattle.request_values.specs.declared.request.TapeRequest.TheVariants.{CheckInput}
 use Rattle.endings.specs.declared.status.Status.{Status}
 use Rattle.command_line.specs.declared.no_request.NoRequest.{NoRequest}
 use Rattle.command_line.specs.Explanation.{IsExplained}
@@ -12,5 +13,5 @@ use Rattle.command_line.specs.Explanation.{IsExplained}
 -- asked of the system
 abbrev pub IsAnswered : Type 0 → Moment → Moment → Status → Type 0
 IsAnswered no_words before after ended =
-    ((request : Request) × ((request ≡ CheckInput → no_words) × IsAttempted request before after ended))
+    ((request : Request) × ((request ≡ Tape CheckInput → no_words) × IsAttempted request before after ended))
     ⊎ ((answer : NoRequest) × IsExplained answer before.held after.held ended × (after.asked ≡ before.asked))

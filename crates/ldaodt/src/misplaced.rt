@@ -4,7 +4,7 @@
 use console_reach::is_path;
 use endings::{Failure, Place};
 use input_files::is_input;
-use request_values::Request;
+use request_values::{MachineRequest, Request, TapeRequest};
 use std::fs;
 use std::fs::File;
 use std::io::IsTerminal;
@@ -21,30 +21,30 @@ pub(crate) fn misplaced<'a>(rt: &HostRuntime, request: &Request<'a>) -> Option<F
         return Some(Failure::Misplaced(line, place));
     }
     match request {
-        Request::Load(tapes, load) => {
+        Request::Machine(MachineRequest::Load(tapes, load)) => {
             terminal_among(rt, tapes).or(
                 load.record
                     .and_then(|name| terminal(rt, name, Place::Record)),
             )
         }
-        Request::Verify(tapes, _) | Request::Check(tapes) | Request::Dialogue(tapes, _) => {
-            terminal_among(rt, tapes)
-        }
-        Request::Rehearse(rehearsal) => terminal_among(rt, &[rehearsal.tape])
+        Request::Machine(MachineRequest::Verify(tapes, _))
+        | Request::Tape(TapeRequest::Check(tapes))
+        | Request::Tape(TapeRequest::Dialogue(tapes, _)) => terminal_among(rt, tapes),
+        Request::Tape(TapeRequest::Rehearse(rehearsal)) => terminal_among(rt, &[rehearsal.tape])
             .or(terminal(rt, rehearsal.script, Place::Script))
             .or(terminal_among(rt, &rehearsal.more)),
-        Request::CheckInput | Request::Type(_) | Request::Save(_) | Request::Probe(_) => None,
+        Request::Tape(_) | Request::Machine(_) => None,
     }
 }
 
 // The line of a request at a real machine, and whose it is.
 fn line_of<'a>(request: &Request<'a>) -> Option<(&'a str, Place)> {
     match request {
-        Request::Load(_, load) => Some((load.line, Place::LineOfLoad)),
-        Request::Verify(_, look) => Some((look.line, Place::LineOfVerify)),
-        Request::Save(save) => Some((save.look.line, Place::LineOfSave)),
-        Request::Probe(probe) => Some((probe.look.line, Place::LineOfProbe)),
-        _ => None,
+        Request::Machine(MachineRequest::Load(_, load)) => Some((load.line, Place::LineOfLoad)),
+        Request::Machine(MachineRequest::Verify(_, look)) => Some((look.line, Place::LineOfVerify)),
+        Request::Machine(MachineRequest::Save(save)) => Some((save.look.line, Place::LineOfSave)),
+        Request::Machine(MachineRequest::Probe(probe)) => Some((probe.look.line, Place::LineOfProbe)),
+        Request::Tape(_) => None,
     }
 }
 

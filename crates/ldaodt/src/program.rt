@@ -2,6 +2,7 @@
 ghost use Rattle.std.specs.Prelude.{◌≡◌, []};
 ghost use Rattle.std.specs.Mem.{FitsInMemory};
 ghost use Rattle.request_values.specs.declared.request.Request.{Request};
+ghost use Rattle.request_values.specs.declared.request.TapeRequest.{TapeRequest};
 ghost use Rattle.endings.specs.declared.status.Status.{Status};
 ghost use Rattle.endings.specs.Status.{status_code};
 ghost use Rattle.requests.specs.Moment.{moment};
@@ -46,7 +47,8 @@ pub(crate) fn program<
     requires { FitsInMemory R.row }
     // With no words, the tape on the input is checked.
     ensures checked { words.now ≡ [] → (status : Status)
-        × IsAttempted Request.CheckInput (moment system.entry streams.old) (moment result.0 streams.new) status × (result.1 ≡ status_code status) }
+        × IsAttempted (Request.Tape TapeRequest.CheckInput) (moment system.entry streams.old) (moment result.0 streams.new) status
+        × (result.1 ≡ status_code status) }
     // Whatever the words are, they ask for something that is then attempted, or they are explained. Only where
     // there are none, the input is checked.
     ensures answered { (status : Status)

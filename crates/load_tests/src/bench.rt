@@ -1,8 +1,9 @@
 //! Surroundings of a load that tell what they are.
-ghost use Rattle.std.specs.Prelude.{IfErr, IfOk, None, Some, option_map};
+ghost use Rattle.std.specs.Prelude.{IfErr, IfOk, None, Some};
 ghost use Rattle.load_record.specs.Keeper.{HoldsRecord};
-ghost use Rattle.machine_load.specs.Driving.{ending_of, line_told, IsLoadReported};
+ghost use Rattle.machine_load.specs.Driving.{IsLoadReported};
 ghost use Rattle.machine_load.specs.Lives.{of_file};
+ghost use Rattle.machine_load.specs.Scene.{ending};
 ghost use Rattle.record_file.specs.RecordFault.{IsUnbegun};
 
 use crate::disk_text::DiskText;
@@ -93,6 +94,10 @@ impl Surroundings for Bench {
     fn end_record(&mut self, keeper: FileKeep<DiskText>) {
         self.keeper = keeper;
     }
+
+    fn let_go(&mut self, line: MemoryLine) {
+        self.console.let_go(line);
+    }
 }
 
 // A new record of the first verified words of a plan.
@@ -115,10 +120,9 @@ pub(crate) fn load_once(
     report: &mut Vec<u8>,
 ) -> Result<Outcome<MemoryLine>, LoadFault>
     ensures lived { IfOk result (λ outcome. IsLoadReported of_file plan options
-        (record { around = record { steps = None; record_text = bench.old.keeper.text }; out = Some report.old.items })
-        (record { around = record { steps = None; record_text = bench.new.keeper.text }; out = Some report.new.items })
-        (ending_of outcome.stop outcome.marked
-        (option_map (line_told (λ line. Some line.items) (λ line. line.failures) (λ line. line.fault)) outcome.line))) }
+        (record { around = record { steps = None; record_text = bench.old.keeper.text }; lines = None; out = Some report.old.items })
+        (record { around = record { steps = None; record_text = bench.new.keeper.text }; lines = None; out = Some report.new.items })
+        (ending (record { told = λ line. Some line.items; fault_count = λ line. line.failures; last_fault = λ line. line.fault }) outcome)) }
 {
     load(alloc, plan, options, bench, report, &Unwatched)
 }

@@ -54,4 +54,7 @@ impl Reach for MemoryReach {
             Err(_) => Err(LineFault::Connect),
         }
     }
+
+    // Its machine goes with it.
+    fn let_go(&mut self, _line: MemoryLine) {}
 }

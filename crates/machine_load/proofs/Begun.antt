@@ -8,8 +8,9 @@ use Rattle.host_core.specs.declared.phase.Phase.TheVariants.{Settle, Ended as Ha
 use Rattle.host_core.specs.Core.{Core, ended}
 use Rattle.load_engine.specs.declared.stop.Stop.{Stop}
 use Rattle.load_engine.specs.declared.stop.Stop.TheVariants.{Ended}
-use Rattle.machine_load.specs.Driving.{KeeperTells, LineTold, IsLived, finish_of}
-use Rattle.machine_load.specs.Load.{Around, IsOpening, IsOverAtOnce, IsNeverBegun, words_taken}
+use Rattle.console_reach.specs.Reached.{LineTold}
+use Rattle.machine_load.specs.Driving.{KeeperTells, IsLived}
+use Rattle.machine_load.specs.Load.{Around, finish_of, IsOpening, IsOverAtOnce, IsNeverBegun, words_taken}
 use Rattle.request_values.specs.declared.options.LoadOptions.{LoadOptions}
 
 abbrev end_of : (otherwise : End) → Option End → End

@@ -1,12 +1,17 @@
 -- Loads by their lives.
-use Rattle.std.proofs.Common.{◌≡◌, Bool, [], ◌∷◌, Option, option_map, refl, subst, inl, inr}
+use Rattle.std.proofs.Common.{◌≡◌, ◌⊎◌, Bool, List, [], ◌∷◌, Option, Some, None, option_map, refl, subst, inl, inr}
 use Rattle.std.specs.Io.KnownBytes.{Appends}
 use Rattle.tape_image.specs.Plan.{PlanValue}
 use Rattle.byte_io.specs.Output.{WritesPrefix}
 use Rattle.host_core.specs.Core.{Core}
 use Rattle.load_engine.specs.declared.stop.Stop.{Stop}
-use Rattle.machine_load.specs.Driving.{Finish, LineTold, KeeperTells, IsLived, IsLoadReported, IsLoadUntold, ending_of, finish_of}
-use Rattle.machine_load.specs.Load.{Around, Setting, Asks, KeepsRecord, IsLoadLife, IsOpening}
+use Rattle.console_reach.specs.Reached.{LineTold}
+use Rattle.load_devices.specs.Told.{Gains}
+use Rattle.stream_line.specs.Dialling.{Call, LineRequest, asked_once}
+use Rattle.machine_load.specs.Called.{asked_by}
+use Rattle.machine_load.specs.Driving.{KeeperTells, IsLived, IsLoadLived, IsLoadReported, IsLoadUntold}
+use Rattle.machine_load.specs.GivenBack.{IsGivenBack}
+use Rattle.machine_load.specs.Load.{Around, Ending, Finish, Setting, Asks, KeepsRecord, IsCutShort, IsLoad, IsLoadLife, IsOpening, IsReported, ending_of, finish_of}
 use Rattle.machine_load.specs.LoadFault.{IsOpeningFault, IsDrivingFault}
 use Rattle.machine_load.specs.LoadReport.{load_report}
 use Rattle.machine_load.specs.Step.{reading}
@@ -14,25 +19,64 @@ use Rattle.machine_load.specs.declared.fault.LoadFault.{LoadFault}
 use Rattle.machine_load.specs.declared.fault.LoadFault.TheVariants.{WriteOutput}
 use Rattle.request_values.specs.declared.options.LoadOptions.{LoadOptions}
 
--- a life over its line is a life
+-- a life over its line and its keeper is one over its line
 pub is_life : {K : Type 0} (tells : KeeperTells K) (writable : Bool) (first : Core) (before after : Around) (finish : Finish)
-    → IsLived tells writable first before after finish → IsLoadLife writable first finish.last finish.stop before after
-is_life tells writable first before after finish (inl idle) = inl idle.idle
+    → IsLived tells writable first before after finish → IsLoadLife writable first before after finish
+is_life tells writable first before after finish (inl idle) = inl idle
 is_life tells writable first before after finish (inr life) = inr (record {
   may_write = life.may_write;
+  goes_on = life.driven.goes_on;
+  line' = life.line';
+  has_line = life.has_line;
   driven = record {
-    goes_on = life.driven.goes_on;
-    driven = record {
-      line = life.driven.line.said;
-      line' = life.line'.said;
-      keeper = tells.kept life.driven.keeper;
-      keeper' = tells.kept life.keeper';
-      session = life.driven.session;
-      end = life.driven.end;
-    };
+    line = life.driven.line;
+    fresh = life.driven.fresh;
+    keeper = tells.kept life.driven.keeper;
+    keeper' = tells.kept life.keeper';
+    session = life.driven.session;
+    end = life.driven.end;
+    counted = life.driven.counted.0;
+    named = life.driven.named.0;
+    mark_first = life.driven.mark_first;
+    honest = life.driven.honest;
+    start = life.driven.start;
+    bound = life.driven.bound;
   };
   asked = life.asked;
 })
+
+is_load : {K : Type 0} (tells : KeeperTells K) (plan : PlanValue) (options : LoadOptions) (before after : Around) (finish : Finish)
+    → IsLoadLived tells plan options before after finish → IsLoad plan options before after finish
+is_load tells plan options before after finish load = record {
+  first = load.first;
+  writable = load.writable;
+  between = load.between;
+  read_first = load.read_first;
+  record_read = load.record_read;
+  opened = load.opened;
+  life = is_life tells load.writable load.first load.between after finish load.life;
+}
+
+-- what is said of a load with its keeper is so of its line
+pub reported_of : {K : Type 0} (tells : KeeperTells K) (plan : PlanValue) (options : LoadOptions) (before after : Setting) (ending : Ending)
+    → after.lines ≡ before.lines → IsLoadReported tells plan options before after ending → IsReported plan options before after ending
+reported_of tells plan options before after ending kept load = record {
+  last = load.last;
+  load = is_load tells plan options before.around after.around (finish_of load.last ending.stop ending.line) load.lived;
+  marked_is = load.marked_is;
+  reported = load.reported;
+  line_kept = kept;
+}
+
+pub cut_short_of : {K : Type 0} (tells : KeeperTells K) (plan : PlanValue) (options : LoadOptions) (before after : Setting)
+    → IsLoadUntold tells plan options before after → IsCutShort plan options before after
+cut_short_of tells plan options before after load = record {
+  finish = load.finish;
+  load = is_load tells plan options before.around after.around load.finish load.lived;
+  given_back = load.given_back;
+  missing = load.missing;
+  reported = load.reported;
+}
 
 -- a load that was reported
 pub load_reported : {K L : Type 0} (tells : KeeperTells K) (told_of : L → LineTold) (plan : PlanValue) (options : LoadOptions) (before after : Setting) (between : Around) (first last : Core)
@@ -50,13 +94,20 @@ load_reported tells told_of plan options before after between first last writabl
 pub load_untold : {K : Type 0} (tells : KeeperTells K) (plan : PlanValue) (options : LoadOptions) (before after : Setting) (between : Around) (first : Core) (writable : Bool) (finish : Finish)
     → Asks before.around between (reading writable ∷ []) → KeepsRecord before.around between → IsOpening before.around.record_text plan options first
     → IsLived tells writable first between after.around finish → WritesPrefix before.out after.out (load_report finish.last finish.stop)
-    → IsLoadUntold tells plan options before after
-load_untold tells plan options before after between first writable finish read same opened lived fails = record {
+    → IsGivenBack before.lines after.lines finish.line → IsLoadUntold tells plan options before after
+load_untold tells plan options before after between first writable finish read same opened lived fails given = record {
   finish = finish;
+  given_back = given;
   lived = record { first = first; writable = writable; between = between; read_first = read; record_read = same; opened = opened; life = lived };
   missing = fails.0;
   reported = fails.1;
 }
+
+-- the line of a load whose report failed was asked for, where there was one
+pub asked_untold : {L : Type 0} (call : Call) (line : Option L) (asked asked' : Option (List LineRequest)) → Gains asked asked' (asked_by call line)
+    → Gains asked asked' [] ⊎ Gains asked asked' (asked_once call)
+asked_untold call (Some line) asked asked' once = inr once
+asked_untold call None asked asked' none = inl none
 
 -- a life that does not open, or comes to no line or no record, is no report that fails
 pub unopened_told : {A : Type 0} (plan : PlanValue) (before after : Around) (fault : LoadFault) → IsOpeningFault plan before after fault → fault ≡ WriteOutput → A

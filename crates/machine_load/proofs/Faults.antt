@@ -2,13 +2,15 @@
 use Rattle.std.proofs.Common.{◌≡◌, ℕ, Bool, true, false, List, Option, Result, Ok, Err, IfErr, IfOk, IsErrAnd, [], ◌∷◌, inr, inl, refl, sym, subst}
 use Rattle.std.proofs.KnownBytes.{Keeps-refl, Keeps-trans}
 use Rattle.tape_image.specs.Plan.{PlanValue}
-use Rattle.byte_io.specs.Output.{WritesPrefix}
-use Rattle.host_core.specs.Core.{Core}
-use Rattle.load_engine.specs.declared.stop.Stop.{Stop}
+use Rattle.console_reach.specs.Reached.{LineTold}
 use Rattle.machine_load.specs.Step.{reading, Connected, begin_step}
 use Rattle.machine_load.proofs.Steps.{gains_more, gains_nothing}
-use Rattle.machine_load.specs.Load.{Around, Setting, Asks, KeepsRecord, IsLoad}
-use Rattle.machine_load.specs.LoadReport.{load_report}
+use Rattle.machine_load.specs.GivenBack.{GivesNothingSaid}
+use Rattle.machine_load.specs.Load.{Around, Asks, KeepsRecord}
+use Rattle.machine_load.specs.Called.{IsAskedBefore}
+use Rattle.machine_load.specs.Driving.{KeeperTells, IsLoadUntold}
+use Rattle.machine_load.specs.RecordDisk.{DiskAsked, disk_asked_before}
+use Rattle.machine_load.specs.Scene.{Scene, IsNotLoaded}
 use Rattle.machine_load.specs.LoadFault.{IsLoadFault, IsOpeningFault, IsDrivingFault, fault_of_record}
 use Rattle.record_file.specs.RecordFault.{IsUnbegun}
 use Rattle.request_values.specs.declared.options.LoadOptions.{LoadOptions}
@@ -18,57 +20,57 @@ use Rattle.machine_load.specs.declared.fault.LoadFault.{LoadFault}
 use Rattle.machine_load.specs.declared.fault.LoadFault.TheVariants.{Record, RecordInUse, ReadRecord, Connect, WriteRecord, WriteOutput, Memory}
 
 -- a life that does not open
-pub of_opening : (plan : PlanValue) (options : LoadOptions) (before after : Around) (out : Option (List ℕ)) (fault : LoadFault)
-    → IsOpeningFault plan before after fault → KeepsRecord before after
-    → IsLoadFault plan options (record { around = before; out = out }) (record { around = after; out = out }) fault
-of_opening plan options before after out ReadRecord fails same = record { steps_are = fails; record_same = same; nothing_reported = Keeps-refl out }
-of_opening plan options before after out RecordInUse fails same = record { steps_are = fails; record_same = same; nothing_reported = Keeps-refl out }
-of_opening plan options before after out (Record why) fails same =
-    ((fails.0.0, record { steps_are = fails.0.1; record_same = same; nothing_reported = Keeps-refl out }), fails.1)
-of_opening plan options before after out Memory fails same = inl (record { steps_are = fails; record_same = same; nothing_reported = Keeps-refl out })
-of_opening plan options before after out other fails same = absurd fails
-
--- a report that fails is that of the load
-pub of_report : (plan : PlanValue) (options : LoadOptions) (before after : Setting) (last : Core) (stop : Stop)
-    → IsLoad plan options before.around after.around last stop → WritesPrefix before.out after.out (load_report last stop) → IsLoadFault plan options before after WriteOutput
-of_report plan options before after last stop load fails = record { last = last; stop = stop; load = load; missing = fails.0; reported = fails.1 }
+pub of_opening : (plan : PlanValue) (options : LoadOptions) (before after : Around) (lines lines' : Option (List LineTold)) (out : Option (List ℕ)) (fault : LoadFault)
+    → IsOpeningFault plan before after fault → KeepsRecord before after → GivesNothingSaid lines lines'
+    → IsLoadFault plan options (record { around = before; lines = lines; out = out }) (record { around = after; lines = lines'; out = out }) fault
+of_opening plan options before after lines lines' out ReadRecord fails same unsaid =
+    record { steps_are = fails; record_same = same; nothing_said = unsaid; nothing_reported = Keeps-refl out }
+of_opening plan options before after lines lines' out RecordInUse fails same unsaid =
+    record { steps_are = fails; record_same = same; nothing_said = unsaid; nothing_reported = Keeps-refl out }
+of_opening plan options before after lines lines' out (Record why) fails same unsaid =
+    ((fails.0.0, record { steps_are = fails.0.1; record_same = same; nothing_said = unsaid; nothing_reported = Keeps-refl out }), fails.1)
+of_opening plan options before after lines lines' out Memory fails same unsaid =
+    inl (record { steps_are = fails; record_same = same; nothing_said = unsaid; nothing_reported = Keeps-refl out })
+of_opening plan options before after lines lines' out other fails same unsaid = absurd fails
 
 -- an opened life over a record that may be written comes to nothing, before anything is reported
-of_busy : (plan : PlanValue) (options : LoadOptions) (before between after : Around) (out : Option (List ℕ)) (fault : LoadFault)
-    → Asks before between (reading true ∷ []) → KeepsRecord before between → IsDrivingFault true between after fault
-    → IsLoadFault plan options (record { around = before; out = out }) (record { around = after; out = out }) fault
-of_busy plan options before between after out Connect read same fails = record {
+of_busy : (plan : PlanValue) (options : LoadOptions) (before between after : Around) (lines lines' : Option (List LineTold)) (out : Option (List ℕ)) (fault : LoadFault)
+    → Asks before between (reading true ∷ []) → KeepsRecord before between → GivesNothingSaid lines lines' → IsDrivingFault true between after fault
+    → IsLoadFault plan options (record { around = before; lines = lines; out = out }) (record { around = after; lines = lines'; out = out }) fault
+of_busy plan options before between after lines lines' out Connect read same unsaid fails = record {
   steps_are = gains_more _ _ _ _ _ read fails.1;
   record_same = Keeps-trans _ _ _ same fails.2;
+  nothing_said = unsaid;
   nothing_reported = Keeps-refl out;
 }
-of_busy plan options before between after out WriteRecord read same (inl protected) = absurd (cc (protected.0))
-of_busy plan options before between after out WriteRecord read same (inr unbegun) =
-    inr (record { steps_are = gains_more _ _ _ _ _ read unbegun.1; nothing_reported = Keeps-refl out })
-of_busy plan options before between after out Memory read same fails =
-    inr (record { steps_are = gains_more _ _ _ _ _ read fails.1; nothing_reported = Keeps-refl out })
-of_busy plan options before between after out other read same fails = absurd fails
+of_busy plan options before between after lines lines' out WriteRecord read same unsaid (inl protected) = absurd (cc (protected.0))
+of_busy plan options before between after lines lines' out WriteRecord read same unsaid (inr unbegun) =
+    inr (record { steps_are = gains_more _ _ _ _ _ read unbegun.1; nothing_said = unsaid; nothing_reported = Keeps-refl out })
+of_busy plan options before between after lines lines' out Memory read same unsaid fails =
+    inr (record { steps_are = gains_more _ _ _ _ _ read fails.1; nothing_said = unsaid; nothing_reported = Keeps-refl out })
+of_busy plan options before between after lines lines' out other read same unsaid fails = absurd fails
 
 -- an opened life over a protected record comes to nothing
-of_protected : (plan : PlanValue) (options : LoadOptions) (before between after : Around) (out : Option (List ℕ)) (fault : LoadFault)
-    → Asks before between (reading false ∷ []) → KeepsRecord before between → IsDrivingFault false between after fault
-    → IsLoadFault plan options (record { around = before; out = out }) (record { around = after; out = out }) fault
-of_protected plan options before between after out WriteRecord read same (inl protected) = inl (record {
+of_protected : (plan : PlanValue) (options : LoadOptions) (before between after : Around) (lines lines' : Option (List LineTold)) (out : Option (List ℕ)) (fault : LoadFault)
+    → Asks before between (reading false ∷ []) → KeepsRecord before between → GivesNothingSaid lines lines' → IsDrivingFault false between after fault
+    → IsLoadFault plan options (record { around = before; lines = lines; out = out }) (record { around = after; lines = lines'; out = out }) fault
+of_protected plan options before between after lines lines' out WriteRecord read same unsaid (inl protected) = inl (record {
   steps_are = gains_nothing _ _ _ _ read protected.1.nothing_asked;
   record_same = Keeps-trans _ _ _ same protected.1.record_same;
+  nothing_said = unsaid;
   nothing_reported = Keeps-refl out;
 })
-of_protected plan options before between after out WriteRecord read same (inr unbegun) = absurd (cc (unbegun.0))
-of_protected plan options before between after out Connect read same fails = absurd (cc (fails.0))
-of_protected plan options before between after out Memory read same fails = absurd (cc (fails.0))
-of_protected plan options before between after out other read same fails = absurd fails
+of_protected plan options before between after lines lines' out WriteRecord read same unsaid (inr unbegun) = absurd (cc (unbegun.0))
+of_protected plan options before between after lines lines' out Connect read same unsaid fails = absurd (cc (fails.0))
+of_protected plan options before between after lines lines' out Memory read same unsaid fails = absurd (cc (fails.0))
+of_protected plan options before between after lines lines' out other read same unsaid fails = absurd fails
 
 -- an opened life that comes to nothing, before anything is reported
-pub of_driving : (plan : PlanValue) (options : LoadOptions) (writable : Bool) (before between after : Around) (out : Option (List ℕ)) (fault : LoadFault)
-    → Asks before between (reading writable ∷ []) → KeepsRecord before between → IsDrivingFault writable between after fault
-    → IsLoadFault plan options (record { around = before; out = out }) (record { around = after; out = out }) fault
-of_driving plan options true before between after out fault read same fails = of_busy plan options before between after out fault read same fails
-of_driving plan options false before between after out fault read same fails = of_protected plan options before between after out fault read same fails
+pub of_driving : (plan : PlanValue) (options : LoadOptions) (writable : Bool) (before between after : Around) (lines lines' : Option (List LineTold)) (out : Option (List ℕ)) (fault : LoadFault)
+    → Asks before between (reading writable ∷ []) → KeepsRecord before between → GivesNothingSaid lines lines' → IsDrivingFault writable between after fault
+    → IsLoadFault plan options (record { around = before; lines = lines; out = out }) (record { around = after; lines = lines'; out = out }) fault
+of_driving plan options true before between after lines lines' out fault read same unsaid fails = of_busy plan options before between after lines lines' out fault read same unsaid fails
+of_driving plan options false before between after lines lines' out fault read same unsaid fails = of_protected plan options before between after lines lines' out fault read same unsaid fails
 
 -- a record that is not begun, once there is a connection
 pub not_begun : (before between after : Around) (why : RecordFault) → IsUnbegun why
@@ -86,3 +88,11 @@ error_is (Err e) error P is h = subst P (sym is) h
 pub no_value : {T E : Type 0} (r : Result T E) (error : E) (P : T → Type 0) → IsErrAnd r (λ e. e ≡ error) → IfOk r P
 no_value (Ok x) error P is = absurd is
 no_value (Err e) error P is = tt
+
+-- all that is said of a load that came to nothing
+pub not_loaded : {T K : Type 0} (r : Result T LoadFault) (keeper : KeeperTells K) (plan : PlanValue) (options : LoadOptions) (before after : Scene)
+    → IfErr r (IsLoadFault plan options before.setting after.setting) → IfErr r (λ why. why ≡ WriteOutput → IsLoadUntold keeper plan options before.setting after.setting)
+    → IfErr r (IsAskedBefore before.call before.asked after.asked) → IfErr r (λ why. DiskAsked before.disk after.disk (disk_asked_before why))
+    → IfErr r (IsNotLoaded keeper plan options before after)
+not_loaded (Ok x) keeper plan options before after fault untold asked disk = tt
+not_loaded (Err why) keeper plan options before after fault untold asked disk = record { fault = fault; untold = untold; asked = asked; disk = disk }

@@ -19,9 +19,9 @@ use Rattle.load_lives.specs.Stops.{WentOut}
 use Rattle.load_record.specs.Reading.{Says}
 use Rattle.load_lives.proofs.Keepers.{keepers_leave}
 use Rattle.load_lives.proofs.Stopping.{sessions_are_lives}
-use Rattle.machine_load.specs.Driving.{Finish, IsDrivenLife, IsIdleLife, IsLived}
+use Rattle.machine_load.specs.Driving.{IsDrivenLife, IsLived}
 use Rattle.machine_load.specs.Lives.{GoesOut, LoadsAreLives, of_file}
-use Rattle.machine_load.specs.Load.{Around, words_taken}
+use Rattle.machine_load.specs.Load.{Around, Finish, IsIdleLife, words_taken}
 
 -- a life that goes on began without the mark
 unmarked : (plan : PlanValue) (verified patience : ℕ) (going : Bool) → ended (begun plan verified going patience).phase ≡ None → going ≡ false

@@ -5,8 +5,6 @@ use Rattle.tape_image.specs.Plan.{PlanValue}
 use Rattle.host_core.specs.Bound.{character_bound}
 use Rattle.host_core.specs.Core.{Core, ended}
 use Rattle.load_devices.specs.declared.fault.KeepFault.{KeepFault}
-use Rattle.load_devices.specs.declared.fault.LineFault.{LineFault}
-use Rattle.load_devices.specs.declared.item.Item.{Item}
 use Rattle.load_devices.specs.declared.item.Kept.{Kept}
 use Rattle.load_devices.specs.Dialogue.{news_between}
 use Rattle.load_devices.specs.Turns.{most_turns}
@@ -15,22 +13,13 @@ use Rattle.load_engine.specs.Failing.{Counts, NamesFault}
 use Rattle.load_engine.specs.Keeping.{KeptBy}
 use Rattle.load_engine.specs.Session.{Session, KeepsMarkFirst, TellsEnd}
 use Rattle.load_engine.specs.declared.stop.Stop.{Stop}
-use Rattle.console_reach.specs.Reached.{IsUnused}
+use Rattle.console_reach.specs.Reached.{IsUnused, LineTold}
 use Rattle.byte_io.specs.Output.{WritesAllBut}
-use Rattle.machine_load.specs.Load.{Around, Setting, Asks, IsIdle, IsLoadOf}
+use Rattle.machine_load.specs.GivenBack.{IsGivenBack}
+use Rattle.machine_load.specs.Load.{Around, Ending, Finish, Setting, Asks, IsIdleLife, IsLoadOf, finish_of}
 use Rattle.machine_load.specs.LoadReport.{load_report}
 use Rattle.machine_load.specs.Step.{Connected, RecordBegun, RecordGivenBack}
 use Rattle.request_values.specs.declared.options.LoadOptions.{LoadOptions}
-
--- what a line tells at a moment: what was said on it, how many calls of it failed, and the fault of the last one
-pub record LineTold : Type 0 where
-  pub said : Option (List Item)
-  pub failures : ℕ
-  pub fault : Option LineFault
-
--- what a line tells
-abbrev pub line_told : {L : Type 0} → (L → Option (List Item)) → (L → ℕ) → (L → Option LineFault) → L → LineTold
-line_told said failures fault line = record { said = said line; failures = failures line; fault = fault line }
 
 -- what keepers of a type tell at a moment, and what their calls make of them
 pub record KeeperTells (K : Type 0) : Type 1 where
@@ -41,19 +30,6 @@ pub record KeeperTells (K : Type 0) : Type 1 where
   pub fails : K → Kept → K → Type 0
   pub begins : K → PlanValue → ℕ → Type 0
   pub text : K → Option (List ℕ)
-
--- what keepers of a type tell
-abbrev pub keeper_tells : {K : Type 0} → (K → Option (List Kept)) → (K → ℕ) → (K → Option KeepFault) → (K → Kept → K → Type 0) → (K → Kept → K → Type 0)
-    → (K → PlanValue → ℕ → Type 0) → (K → Option (List ℕ)) → KeeperTells K
-keeper_tells kept failures fault keeps fails begins text = record {
-  kept = kept;
-  failures = failures;
-  fault = fault;
-  keeps = keeps;
-  fails = fails;
-  begins = begins;
-  text = text;
-}
 
 -- from one core to another the engine had the most turns, over a fresh line and a keeper that was begun with the words that were
 -- verified already, and it stopped so; then line and keeper tell this
@@ -77,21 +53,6 @@ pub record IsDrivenOver {K : Type 0} (tells : KeeperTells K) (old new : Core) (s
   pub start : TellsStartOver old new line.said line'.said
   pub bound : new.sent ≤ character_bound (length new.plan.words) new.patience
 
--- how a life ended: the core that it came to, why it stopped, and what its line tells then, where it had one
-pub record Finish : Type 0 where
-  pub last : Core
-  pub stop : Stop
-  pub line : Option LineTold
-
--- how it ended
-abbrev pub finish_of : Core → Stop → Option LineTold → Finish
-finish_of last stop line = record { last = last; stop = stop; line = line }
-
--- a life that was over at once has no line; nobody was asked, and the record is as it was
-pub record IsIdleLife (first : Core) (before after : Around) (finish : Finish) : Type 0 where
-  pub idle : IsIdle first finish.last finish.stop before after
-  pub no_line : finish.line ≡ None
-
 -- a life that goes on has a line: a connection is made, the record is begun anew, the engine drives the life, and in the end the record is
 -- what its keeper has kept
 pub record IsDrivenLife {K : Type 0} (tells : KeeperTells K) (writable : Bool) (first : Core) (before after : Around) (finish : Finish) : Type 0 where
@@ -112,16 +73,6 @@ abbrev pub IsLoadLived : {K : Type 0} → KeeperTells K → PlanValue → LoadOp
 IsLoadLived tells plan options before after finish =
     IsLoadOf plan options before (λ writable first between. IsLived tells writable first between after finish)
 
--- what a load gives back that was reported: why it stopped, whether the host had come to the start, and what the line tells, where there is one
-pub record Ending : Type 0 where
-  pub stop : Stop
-  pub marked : Bool
-  pub line : Option LineTold
-
--- what it gives back
-abbrev pub ending_of : Stop → Bool → Option LineTold → Ending
-ending_of stop marked line = record { stop = stop; marked = marked; line = line }
-
 -- a load that was reported: the report is of the core that the life came to which was over this line
 pub record IsLoadReported {K : Type 0} (tells : KeeperTells K) (plan : PlanValue) (options : LoadOptions) (before after : Setting)
     (ending : Ending) : Type 0 where
@@ -130,9 +81,10 @@ pub record IsLoadReported {K : Type 0} (tells : KeeperTells K) (plan : PlanValue
   pub marked_is : ending.marked ≡ last.going
   pub reported : Appends before.out after.out (load_report last ending.stop)
 
--- a load whose report could not be written whole: its life was lived all the same
+-- a load whose report could not be written whole: its life was lived all the same, and its line given back
 pub record IsLoadUntold {K : Type 0} (tells : KeeperTells K) (plan : PlanValue) (options : LoadOptions) (before after : Setting) : Type 0 where
   pub finish : Finish
+  pub given_back : IsGivenBack before.lines after.lines finish.line
   pub lived : IsLoadLived tells plan options before.around after.around finish
   pub missing : List ℕ
   pub reported : WritesAllBut before.out after.out (load_report finish.last finish.stop) missing

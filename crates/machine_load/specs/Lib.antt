@@ -3,6 +3,8 @@ pub mod LoadFault
 pub mod LoadReport
 pub mod Called
 pub mod RecordDisk
+pub mod Scene
 pub mod Driving
+pub mod GivenBack
 pub mod Step
 pub mod Lives

@@ -8,15 +8,21 @@ use Rattle.load_devices.specs.Dialogue.{dialogue}
 use Rattle.load_record.specs.Keeper.{Keeper, HasKept, HasCutShort, HoldsRecord, fault_now}
 use Rattle.load_lives.specs.Keepers.{WentOutAt}
 use Rattle.load_lives.specs.Lives.{Life, PassesOver, IsLife, WireAndRecord, last_core}
-use Rattle.machine_load.specs.Driving.{KeeperTells, keeper_tells, Finish, IsLived, IsLoadLived}
-use Rattle.machine_load.specs.Load.{Around}
+use Rattle.machine_load.specs.Driving.{KeeperTells, IsLived, IsLoadLived}
+use Rattle.machine_load.specs.Load.{Around, Finish}
 use Rattle.request_values.specs.declared.options.LoadOptions.{LoadOptions}
 
 -- what the keeper of a record's file tells, where its writer tells what it holds, and where it held nothing before
 abbrev pub of_file : KeeperTells Keeper
-of_file =
-    keeper_tells (λ _. None) (λ keeper. keeper.failures) (λ keeper. fault_now keeper.failures) HasKept HasCutShort (λ keeper plan k. HoldsRecord keeper plan k)
-    (λ keeper. keeper.text)
+of_file = record {
+  kept = λ _. None;
+  failures = λ keeper. keeper.failures;
+  fault = λ keeper. fault_now keeper.failures;
+  keeps = HasKept;
+  fails = HasCutShort;
+  begins = λ keeper plan k. HoldsRecord keeper plan k;
+  text = λ keeper. keeper.text;
+}
 
 -- what was said of a life in its dialogue with the console: nothing, where it was over at once; else what its line tells, or all of the
 -- dialogue, where the call that failed sent its key after all

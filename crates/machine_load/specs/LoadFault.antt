@@ -6,6 +6,7 @@ use Rattle.tape_image.specs.Plan.{PlanValue}
 use Rattle.load_record.specs.declared.reader.RecordError.{RecordError}
 use Rattle.load_record.specs.Reading.{Says}
 use Rattle.load_record.specs.declared.reader.RecordError.TheVariants.{NotARecord}
+use Rattle.machine_load.specs.GivenBack.{GivesNothingSaid}
 use Rattle.machine_load.specs.Load.{Around, Setting, Asks, AsksNothing, KeepsRecord, IsCutShort}
 use Rattle.record_file.specs.OldRecord.{HoldsNoRecord}
 use Rattle.machine_load.specs.Step.{Step, reading, ReadProtected, Connected, InUse, NotRead, NotConnected, NotBegun, OutOfMemory}
@@ -46,15 +47,17 @@ IsDrivingFault writable before after WriteRecord =
 IsDrivingFault writable before after Memory = (writable ≡ true) × Asks before after (Connected ∷ OutOfMemory ∷ [])
 IsDrivingFault writable before after other = ⊥
 
--- so far was gone, with nothing reported
+-- so far was gone, with nothing said and nothing reported
 pub record StopsSilently (before after : Setting) (done : List Step) : Type 0 where
   pub steps_are : Asks before.around after.around done
+  pub nothing_said : GivesNothingSaid before.lines after.lines
   pub nothing_reported : Keeps before.out after.out
 
--- so far was gone, with nothing reported, and with the record as it was
+-- so far was gone, with nothing said and nothing reported, and with the record as it was
 pub record StopsAfter (before after : Setting) (done : List Step) : Type 0 where
   pub steps_are : Asks before.around after.around done
   pub record_same : KeepsRecord before.around after.around
+  pub nothing_said : GivesNothingSaid before.lines after.lines
   pub nothing_reported : Keeps before.out after.out
 
 -- the record was read, and nothing else came of the load

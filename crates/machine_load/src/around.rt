@@ -27,6 +27,8 @@ impl<C: Reach, R: Records> Surroundings for Around<C, R> {
 
     ghost call = { λ around. C.call around.console };
 
+    ghost lines = { λ around. C.lines around.console };
+
     ghost begins = { λ keeper plan count. R.begins keeper plan count };
 
     ghost disk = { λ around. R.disk around.records };
@@ -46,6 +48,10 @@ impl<C: Reach, R: Records> Surroundings for Around<C, R> {
         verified: u32,
     ) -> Result<R::Keeper, RecordFault> {
         self.records.begin(alloc, plan, verified)
+    }
+
+    fn let_go(&mut self, line: C::Line) {
+        self.console.let_go(line);
     }
 
     // Its file is closed with the keeper, and held on by the records.

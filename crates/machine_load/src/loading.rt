@@ -15,11 +15,14 @@ ghost use Rattle.load_devices.specs.Turns.{most_turns};
 ghost use Rattle.byte_io.specs.Output.{WritesPrefix};
 ghost use Rattle.machine_load.specs.Called.{asked_by, IsAskedBefore};
 ghost use Rattle.stream_line.specs.Dialling.{asked_once};
-ghost use Rattle.machine_load.specs.Driving.{ending_of, finish_of, keeper_tells, line_told, IsDrivenLife, IsLived, IsLoadReported, IsLoadUntold};
-ghost use Rattle.machine_load.specs.Load.{around_of, setting, Asks, IsNeverBegun, IsOpening, IsReported, words_taken};
-ghost use Rattle.machine_load.specs.LoadFault.{IsLoadFault, IsOpeningFault, IsDrivingFault};
+ghost use Rattle.console_reach.specs.Reached.{line_told};
+ghost use Rattle.machine_load.specs.Driving.{IsDrivenLife, IsLived};
+ghost use Rattle.machine_load.specs.GivenBack.{GivesNothingSaid, IsGivenBack};
+ghost use Rattle.machine_load.specs.Load.{finish_of, Asks, IsOpening, words_taken};
+ghost use Rattle.machine_load.specs.LoadFault.{IsOpeningFault, IsDrivingFault};
 ghost use Rattle.machine_load.specs.LoadReport.{load_report};
 ghost use Rattle.machine_load.specs.RecordDisk.{DiskAsked, disk_asked_by, disk_asked_before, IsBegunOn, IsOnlyRead, IsLivedOn, IsNotLivedOn};
+ghost use Rattle.machine_load.specs.Scene.{around_of, keeper_of, scene, IsLoaded, IsNotLoaded};
 ghost use Rattle.record_file.specs.OldRecord.{HoldsNoRecord};
 ghost use Rattle.machine_load.specs.Step.{reading};
 
@@ -60,34 +63,38 @@ pub fn load<S: Surroundings, W: Write, O: Onlooker>(
     out: &mut W,
     onlooker: &O,
 ) -> Result<Outcome<S::Line>, LoadFault>
-    ensures reported { IfOk result (λ outcome. IsReported plan options
-        (setting S.steps S.record_text W.contents around.old out.old)
-        (setting S.steps S.record_text W.contents around.new out.new)
-        outcome.stop outcome.marked) }
-    ensures lived { IfOk result (λ outcome. IsLoadReported
-        (keeper_tells S.Keeper.told S.Keeper.fault_count S.Keeper.last_fault S.Keeper.keeps S.Keeper.fails S.begins S.kept_text)
-        plan options
-        (setting S.steps S.record_text W.contents around.old out.old)
-        (setting S.steps S.record_text W.contents around.new out.new)
-        (ending_of outcome.stop outcome.marked (option_map (line_told S.Line.told S.Line.fault_count S.Line.last_fault) outcome.line))) }
-    ensures untold { IfErr result (λ fault. fault ≡ LoadFault.WriteOutput → IsLoadUntold
-        (keeper_tells S.Keeper.told S.Keeper.fault_count S.Keeper.last_fault S.Keeper.keeps S.Keeper.fails S.begins S.kept_text)
-        plan options
-        (setting S.steps S.record_text W.contents around.old out.old)
-        (setting S.steps S.record_text W.contents around.new out.new)) }
-    ensures line { IfOk result (λ outcome. IsSome outcome.line ⊎ IsNeverBegun outcome.stop) }
-    ensures asked { IfOk result (λ outcome. Gains (S.asked around.old) (S.asked around.new) (asked_by (S.call around.old) outcome.line)) }
-    ensures asked_in_vain { IfErr result (IsAskedBefore (S.call around.old) (S.asked around.old) (S.asked around.new)) }
-    ensures disk { IfOk result (λ outcome. DiskAsked (S.disk around.old) (S.disk around.new) (disk_asked_by outcome.line)) }
-    ensures disk_in_vain { IfErr result (λ fault. DiskAsked (S.disk around.old) (S.disk around.new) (disk_asked_before fault)) }
-    ensures fault { IfErr result (IsLoadFault plan options
-        (setting S.steps S.record_text W.contents around.old out.old)
-        (setting S.steps S.record_text W.contents around.new out.new)) }
+    ensures ok { IfOk result (IsLoaded (keeper_of S.Surroundings S.Keeper.Keep) S.Line.Line plan options
+        (scene S.Surroundings W.Write around.old out.old) (scene S.Surroundings W.Write around.new out.new)) }
+    ensures err { IfErr result (IsNotLoaded (keeper_of S.Surroundings S.Keeper.Keep) plan options
+        (scene S.Surroundings W.Write around.old out.old) (scene S.Surroundings W.Write around.new out.new)) }
 {
     let (core, writable) = first_core(alloc, plan, options, around)?;
     let lived = live(alloc, core, writable, around, onlooker)?;
-    report_life(&lived.core, lived.stop, out)?;
-    Ok(lived.outcome())
+    match report_life(&lived.core, lived.stop, out) {
+        Ok(()) => Ok(lived.outcome()),
+        Err(fault) => {
+            let Lived {
+                core: _,
+                stop: _,
+                line,
+            } = lived;
+            give_back(around, line);
+            Err(LoadFault::from(fault))
+        }
+    }
+}
+
+// Gives a line back, where there is one.
+fn give_back<S: Surroundings>(around: &mut S, line: Option<S::Line>)
+    ensures lines { IsGivenBack (S.lines around.old) (S.lines around.new) (option_map (line_told S.Line.Line) line) }
+    ensures steps { S.steps around.new ≡ S.steps around.old }
+    ensures text { S.record_text around.new ≡ S.record_text around.old }
+    ensures asked { S.asked around.new ≡ S.asked around.old }
+    ensures disk { S.disk around.new ≡ S.disk around.old }
+{
+    if let Some(line) = line {
+        around.let_go(line);
+    }
 }
 
 // A life that is over, and the line that it had.
@@ -121,16 +128,13 @@ fn first_core<S: Surroundings>(
     around: &mut S,
 ) -> Result<(HostCore, bool), LoadFault>
     ensures opened { IfOk result (λ opened. IsOpening (S.record_text around.old) plan options opened.0) }
-    ensures step { IfOk result (λ opened. Asks
-        (around_of S.steps S.record_text around.old)
-        (around_of S.steps S.record_text around.new)
+    ensures step { IfOk result (λ opened. Asks (around_of S.Surroundings around.old) (around_of S.Surroundings around.new)
         (reading opened.1 ∷ [])) }
-    ensures fault { IfErr result (IsOpeningFault plan
-        (around_of S.steps S.record_text around.old)
-        (around_of S.steps S.record_text around.new)) }
+    ensures fault { IfErr result (IsOpeningFault plan (around_of S.Surroundings around.old) (around_of S.Surroundings around.new)) }
     ensures same { Keeps (S.record_text around.old) (S.record_text around.new) }
     ensures asked { S.asked around.new ≡ S.asked around.old }
     ensures call { S.call around.new ≡ S.call around.old }
+    ensures lines { S.lines around.new ≡ S.lines around.old }
     ensures disk { OnOk result (DiskAsked (S.disk around.old) (S.disk around.new) IsOnlyRead) }
     ensures disk_in_vain { IfErr result (λ fault. DiskAsked (S.disk around.old) (S.disk around.new) (disk_asked_before fault)) }
 {
@@ -178,17 +182,14 @@ fn live<S: Surroundings, O: Onlooker>(
     around: &mut S,
     onlooker: &O,
 ) -> Result<Lived<S::Line>, LoadFault>
-    ensures lived { IfOk result (λ lived. IsLived
-        (keeper_tells S.Keeper.told S.Keeper.fault_count S.Keeper.last_fault S.Keeper.keeps S.Keeper.fails S.begins S.kept_text)
-        writable core
-        (around_of S.steps S.record_text around.old)
-        (around_of S.steps S.record_text around.new)
-        (finish_of lived.core lived.stop (option_map (line_told S.Line.told S.Line.fault_count S.Line.last_fault) lived.line))) }
-    ensures fault { IfErr result (IsDrivingFault writable
-        (around_of S.steps S.record_text around.old)
-        (around_of S.steps S.record_text around.new)) }
+    ensures lived { IfOk result (λ lived. IsLived (keeper_of S.Surroundings S.Keeper.Keep) writable core
+        (around_of S.Surroundings around.old) (around_of S.Surroundings around.new)
+        (finish_of lived.core lived.stop (option_map (line_told S.Line.Line) lived.line))) }
+    ensures fault { IfErr result (IsDrivingFault writable (around_of S.Surroundings around.old) (around_of S.Surroundings around.new)) }
     ensures asked { IfOk result (λ lived. Gains (S.asked around.old) (S.asked around.new) (asked_by (S.call around.old) lived.line)) }
     ensures asked_in_vain { IfErr result (IsAskedBefore (S.call around.old) (S.asked around.old) (S.asked around.new)) }
+    ensures lines { OnOk result (S.lines around.new ≡ S.lines around.old) }
+    ensures lines_in_vain { OnErr result (GivesNothingSaid (S.lines around.old) (S.lines around.new)) }
     ensures disk { IfOk result (λ lived. IsLivedOn (S.disk around.old) (S.disk around.new) lived.line) }
     ensures disk_in_vain { IfErr result (IsNotLivedOn (S.disk around.old) (S.disk around.new)) }
 {
@@ -225,30 +226,33 @@ fn drive_over<S: Surroundings, O: Onlooker>(
     onlooker: &O,
 ) -> Result<Driven<S::Line>, LoadFault>
     requires goes_on { ended core.phase ≡ None }
-    ensures driven { IfOk result (λ driven. IsDrivenLife
-        (keeper_tells S.Keeper.told S.Keeper.fault_count S.Keeper.last_fault S.Keeper.keeps S.Keeper.fails S.begins S.kept_text)
-        true core
-        (around_of S.steps S.record_text around.old)
-        (around_of S.steps S.record_text around.new)
-        (finish_of driven.core driven.stop (Some (line_told S.Line.told S.Line.fault_count S.Line.last_fault driven.line)))) }
-    ensures fault { IfErr result (IsDrivingFault true
-        (around_of S.steps S.record_text around.old)
-        (around_of S.steps S.record_text around.new)) }
+    ensures driven { IfOk result (λ driven. IsDrivenLife (keeper_of S.Surroundings S.Keeper.Keep) true core
+        (around_of S.Surroundings around.old) (around_of S.Surroundings around.new)
+        (finish_of driven.core driven.stop (Some (line_told S.Line.Line driven.line)))) }
+    ensures fault { IfErr result (IsDrivingFault true (around_of S.Surroundings around.old) (around_of S.Surroundings around.new)) }
     ensures asked { IfOk result (λ driven. Gains (S.asked around.old) (S.asked around.new) (asked_once (S.call around.old))) }
     ensures asked_in_vain { IfErr result (IsAskedBefore (S.call around.old) (S.asked around.old) (S.asked around.new)) }
+    ensures lines { OnOk result (S.lines around.new ≡ S.lines around.old) }
+    ensures lines_in_vain { OnErr result (GivesNothingSaid (S.lines around.old) (S.lines around.new)) }
     ensures disk { OnOk result (DiskAsked (S.disk around.old) (S.disk around.new) IsBegunOn) }
     ensures disk_in_vain { IfErr result (IsNotLivedOn (S.disk around.old) (S.disk around.new)) }
 {
     let line = around.connect()?;
     let verified = core.progress().verified;
-    let keeper = around.begin_record(alloc, core.plan(), verified)?;
+    let keeper = match around.begin_record(alloc, core.plan(), verified) {
+        Ok(keeper) => keeper,
+        Err(fault) => {
+            around.let_go(line);
+            return Err(LoadFault::from(fault));
+        }
+    };
     let (driven, keeper) = drive_watched(core, line, keeper, onlooker);
     around.end_record(keeper);
     Ok(driven)
 }
 
 // Drives a life that an onlooker is told of. Line and keeper come back.
-fn drive_watched<L: Line + Drop, K: Keep + Drop, O: Onlooker>(
+fn drive_watched<L: Line, K: Keep + Drop, O: Onlooker>(
     core: HostCore,
     mut line: L,
     mut keeper: K,

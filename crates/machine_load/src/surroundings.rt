@@ -5,7 +5,7 @@ ghost use Rattle.load_devices.specs.Told.{Gains};
 ghost use Rattle.machine_load.specs.Load.{IsTextBegun};
 ghost use Rattle.machine_load.specs.RecordDisk.{RecordDisk, IsReadAnswered, IsBeginAnswered};
 ghost use Rattle.record_file.specs.RecordFault.{IsUnread, IsUnbegun};
-ghost use Rattle.console_reach.specs.Reached.{IsUnused};
+ghost use Rattle.console_reach.specs.Reached.{IsUnused, LineTold, line_told};
 ghost use Rattle.stream_line.specs.Dialling.{LineRequest, Call, ToDevice, asked_for};
 ghost use Rattle.tape_image.specs.Plan.{PlanValue};
 ghost use Rattle.machine_load.specs.Step.{Step, RecordGivenBack, read_step, connect_step, begin_step};
@@ -19,7 +19,7 @@ use tape_image::Plan;
 /// a keeper for the life that begins.
 pub trait Surroundings {
     /// The line to the console.
-    type Line: Line + Drop;
+    type Line: Line;
 
     /// Who keeps the progress of the life that begins.
     type Keeper: Keep + Drop;
@@ -32,6 +32,9 @@ pub trait Surroundings {
 
     /// Whom a connection leads to, where the type tells what was asked.
     ghost call: { Self → Call } = { λ _. ToDevice [] 0 };
+
+    /// What the lines tell that were given back, in their order; None where the type doesn't tell.
+    ghost lines: { Self → Option (List LineTold) } = { λ _. None };
 
     /// What the record is; None where the type doesn't tell.
     ghost record_text: { Self → Option (List ℕ) } = { λ _. None };
@@ -48,6 +51,7 @@ pub trait Surroundings {
     /// The record of earlier lives, which from there on is held: no other load has it until this one is
     /// over. It is changed in nothing.
     fn read_record(&mut self, alloc: Global) -> Result<OldRecord, RecordFault>
+        ensures lines { lines self.new ≡ lines self.old }
         ensures step { Gains (steps self.old) (steps self.new) (read_step result ∷ []) }
         ensures text { IfOk result (λ old. IsAsTold (record_text self.old) old.text.items) }
         ensures fault { IfErr result IsUnread }
@@ -58,6 +62,7 @@ pub trait Surroundings {
 
     /// A connection to the console, on which nothing was said.
     fn connect(&mut self) -> Result<Self::Line, LineFault>
+        ensures lines { lines self.new ≡ lines self.old }
         ensures step { Gains (steps self.old) (steps self.new) (connect_step result ∷ []) }
         ensures fresh { IfOk result (λ line. IsUnused (Self.Line.told line) (Self.Line.fault_count line) (Self.Line.last_fault line)) }
         ensures same { Keeps (record_text self.old) (record_text self.new) }
@@ -71,6 +76,7 @@ pub trait Surroundings {
         plan: &Plan,
         verified: u32,
     ) -> Result<Self::Keeper, RecordFault>
+        ensures lines { lines self.new ≡ lines self.old }
         ensures step { Gains (steps self.old) (steps self.new) (begin_step result ∷ []) }
         ensures fault { IfErr result IsUnbegun }
         ensures begun { OnOk result (IsTextBegun (record_text self.new) plan.now verified) }
@@ -80,8 +86,17 @@ pub trait Surroundings {
 
     /// Takes back the keeper of a life that is over: the record is what it has kept.
     fn end_record(&mut self, keeper: Self::Keeper)
+        ensures lines { lines self.new ≡ lines self.old }
         ensures step { Gains (steps self.old) (steps self.new) (RecordGivenBack ∷ []) }
         ensures text { record_text self.new ≡ kept_text keeper }
+        ensures asked { asked self.new ≡ asked self.old }
+        ensures disk { disk self.new ≡ disk self.old };
+
+    /// Takes back a line that it gave.
+    fn let_go(&mut self, line: Self::Line)
+        ensures lines { Gains (lines self.old) (lines self.new) (line_told Self.Line.Line line ∷ []) }
+        ensures steps { steps self.new ≡ steps self.old }
+        ensures text { record_text self.new ≡ record_text self.old }
         ensures asked { asked self.new ≡ asked self.old }
         ensures disk { disk self.new ≡ disk self.old };
 }

@@ -28,10 +28,10 @@ puts_some from (n ∷ numbers) start some = refl
 -- ---- how a save fails
 
 pub not_reserved : (options : SaveOptions) (before after : SaveTold) (fault : ShelfFault) → Gains before.steps after.steps (reserve_step (Err fault) ∷ [])
-    → after.asked ≡ before.asked → Keeps before.out after.out → IsSaveFault options before after (fault_of_shelf fault)
-not_reserved options before after why.IsThere step unasked same = inl (record { refused = step; not_asked = unasked; nothing_reported = same })
-not_reserved options before after why.Write step unasked same = inl (record { refused = step; not_asked = unasked; nothing_reported = same })
-not_reserved options before after why.Memory step unasked same = (inl (record { nothing_put = inr step; not_asked = unasked }), same)
+    → after.asked ≡ before.asked → after.lines ≡ before.lines → Keeps before.out after.out → IsSaveFault options before after (fault_of_shelf fault)
+not_reserved options before after why.IsThere step unasked unlined same = inl (record { refused = step; not_asked = unasked; no_line = unlined; nothing_reported = same })
+not_reserved options before after why.Write step unasked unlined same = inl (record { refused = step; not_asked = unasked; no_line = unlined; nothing_reported = same })
+not_reserved options before after why.Memory step unasked unlined same = (inl (record { nothing_put = inr step; not_asked = unasked; no_line = unlined }), same)
 
 -- a tape that the shelf does not take
 pub not_put : (tape : TapeValue) (shelf shelf' : Option (List Step)) (text : List ℕ) (fault : ShelfFault) → text ≡ plain_text tape → IsPutFault fault
@@ -47,7 +47,7 @@ not_kept options before after mid IsThere reserved read fails same =
 not_kept options before after mid WriteTape reserved read fails same =
     inr (record { read = read; refused = gains_join before.steps mid after.steps _ _ reserved fails; nothing_reported = same })
 not_kept options before after mid Memory reserved read fails same =
-    (inr (record { nothing_put = gains_join before.steps mid after.steps _ _ reserved fails; asked = read.asked }), same)
+    (inr (record { nothing_put = gains_join before.steps mid after.steps _ _ reserved fails; read = read }), same)
 not_kept options before after mid other reserved read fails same = absurd fails
 
 -- ---- results

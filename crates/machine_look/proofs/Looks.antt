@@ -1,5 +1,5 @@
 -- Looks, and what they say over an honest line.
-use Rattle.std.proofs.Common.{◌≡◌, ℕ, ◌+◌, ◌≤◌, List, [], length, Option, Some, None, refl, arith}
+use Rattle.std.proofs.Common.{◌≡◌, ℕ, ◌+◌, ◌≤◌, List, [], length, Option, Some, None, refl, arith, sym, subst}
 use Rattle.odt_machine.specs.Machine.{Machine}
 use Rattle.load_devices.specs.declared.item.Item.{Item}
 use Rattle.load_devices.specs.Dialogue.{keys_of}
@@ -19,7 +19,8 @@ use Rattle.reading_engine.specs.declared.stop.Stop.TheVariants.{Ended, LineFaile
 use Rattle.reading_engine.specs.Belief.{IsBelievableAt}
 use Rattle.reading_engine.specs.Inquired.{Inquired, TellsEnd}
 use Rattle.reading_engine.proofs.Beliefs.{inquired_believable}
-use Rattle.machine_look.specs.Look.{IsLook}
+use Rattle.console_reach.specs.Reached.{LineTold}
+use Rattle.machine_look.specs.Look.{IsLineOf, IsLook}
 
 -- ---- how a look comes to be
 
@@ -37,12 +38,14 @@ believed_said turns stop first last line line' s reads =
     } in
     inquired_believable turns stop first last (Some []) (Some s.said) reads told s.said ([], refl, refl)
 
-pub is_look : (first last : Reader) (stop : Stop) (line line' : Option (List Item)) → IsReader first → Inquired most_turns (Some stop) first last line line' → TellsEnd stop last
-    → last.addresses ≡ first.addresses → last.patience ≡ first.patience → last.sent ≤ reading_bound (length last.addresses) last.patience → IsReader last → IsLook first last stop
-is_look first last stop line line' reads inquired end addresses patience bound kept = record {
+pub is_look : (first last : Reader) (stop : Stop) (line line' : Option (List Item)) (lines lines' : Option (List LineTold)) → IsReader first → Inquired most_turns (Some stop) first last line line'
+    → IsLineOf (ended first.phase) stop line line' lines lines' → TellsEnd stop last
+    → last.addresses ≡ first.addresses → last.patience ≡ first.patience → last.sent ≤ reading_bound (length last.addresses) last.patience → IsReader last → IsLook first last stop lines lines'
+is_look first last stop line line' lines lines' reads inquired is end addresses patience bound kept = record {
   line = line;
   line' = line';
   inquired = inquired;
+  line_is = is;
   end = end;
   believed = believed_said most_turns stop first last line line' inquired reads;
   addresses = addresses;
@@ -52,8 +55,8 @@ is_look first last stop line line' reads inquired end addresses patience bound k
 }
 
 -- a reader that has an end from the beginning needs no line
-pub no_look : (reader : Reader) (end : End) → IsReader reader → ended reader.phase ≡ Some end → IsLook reader reader (Ended end)
-no_look reader end reads is =
+pub no_look : (reader : Reader) (end : End) (lines : Option (List LineTold)) → IsReader reader → ended reader.phase ≡ Some end → IsLook reader reader (Ended end) lines lines
+no_look reader end lines reads is =
     let nothing : Inquired most_turns (Some (Ended end)) reader reader None None = record {
       heard = [];
       said = [];
@@ -63,7 +66,7 @@ no_look reader end reads is =
       items = refl;
       on_line = tt;
     } in
-    is_look reader reader (Ended end) None None reads nothing is refl refl (within_bound reader reads) reads
+    is_look reader reader (Ended end) None None lines lines reads nothing (subst (λ over. IsLineOf over (Ended end) None None lines lines) (sym is) refl) is refl refl (within_bound reader reads) reads
 
 -- ---- what it says
 

@@ -1,5 +1,5 @@
 -- What was read over an honest line is what memory holds.
-use Rattle.std.proofs.Common.{◌≡◌, ℕ, zero, suc, ◌+◌, ◌-◌, ◌*◌, ◌/◌, ◌<◌, ◌≤◌, List, [], ◌∷◌, ◌++◌, length, get_or, map, take, cond, None, refl, arith, ap, subst, ◌∙◌, inl, inr}
+use Rattle.std.proofs.Common.{◌≡◌, ℕ, zero, suc, ◌+◌, ◌-◌, ◌*◌, ◌/◌, ◌<◌, ◌≤◌, List, [], ◌∷◌, ◌++◌, length, get_or, map, take, cond, Option, None, refl, arith, ap, subst, ◌∙◌, inl, inr}
 use Rattle.std.proofs.lemmas.Bool.{cases_lt, ne_eqb}
 use Rattle.std.proofs.lemmas.List.{get_or_append_left}
 use Rattle.std.proofs.Math.Seq.{get_or-append_seam}
@@ -11,6 +11,7 @@ use Rattle.reading_core.specs.declared.phase.End.TheVariants.{Complete}
 use Rattle.reading_core.specs.declared.phase.Phase.TheVariants.{Settle, Ended as Over}
 use Rattle.reading_core.specs.Reader.{Reader, begun, ended}
 use Rattle.reading_core.proofs.Asking.{one_more, length_from}
+use Rattle.console_reach.specs.Reached.{LineTold}
 use Rattle.reading_engine.specs.declared.stop.Stop.{Stop}
 use Rattle.machine_look.specs.declared.saving.SaveOptions.{SaveOptions}
 use Rattle.machine_look.specs.Look.{AsksOnce, IsLook, OverHonestLine}
@@ -57,11 +58,11 @@ range_goes_on : (from to patience : ℕ) → ended (begun (addresses_between fro
 range_goes_on from to patience =
     ap (λ t. ended (cond t (Over Complete) Settle)) (ne_eqb 0 (length (addresses_between from to)) (λ none. omega (arith, none, range_length from to)))
 
-few_read : (options : SaveOptions) (last : Reader) (stop : Stop) → IsLook (begun (addresses_in options.range) [] options.patience) last stop → length last.values ≤ length (addresses_in options.range)
+few_read : (options : SaveOptions) (last : Reader) (stop : Stop) {lines lines' : Option (List LineTold)} → IsLook (begun (addresses_in options.range) [] options.patience) last stop lines lines' → length last.values ≤ length (addresses_in options.range)
 few_read options last stop look = subst (λ (list : List ℕ). length last.values ≤ length list) look.addresses look.kept.within
 
-pub holds_read : (options : SaveOptions) (last : Reader) (stop : Stop) → IsRange options.range.from options.range.to → options.start < 65536
-    → IsLook (begun (addresses_in options.range) [] options.patience) last stop → HoldsWhatWasRead (addresses_in options.range) last.values (tape_to_save options last.values)
+pub holds_read : (options : SaveOptions) (last : Reader) (stop : Stop) {lines lines' : Option (List LineTold)} → IsRange options.range.from options.range.to → options.start < 65536
+    → IsLook (begun (addresses_in options.range) [] options.patience) last stop lines lines' → HoldsWhatWasRead (addresses_in options.range) last.values (tape_to_save options last.values)
 holds_read options last stop range begins look =
     let from = options.range.from in
     let to = options.range.to in
@@ -69,8 +70,8 @@ holds_read options last stop range begins look =
     let low : from + 2 * length last.values ≤ top = omega (arith, few, range_length from to, range.from_is.even, range.to_is.even, range.to_is.below, range.order) in
     holds_what_was_read from (addresses_between from to) last.values options.start range.from_is.even low look.kept.numbers begins (range_stands from to) few
 
-pub memory_read : (options : SaveOptions) (last : Reader) (stop : Stop) → IsRange options.range.from options.range.to → options.start < 65536
-    → (look : IsLook (begun (addresses_in options.range) [] options.patience) last stop)
+pub memory_read : (options : SaveOptions) (last : Reader) (stop : Stop) {lines lines' : Option (List LineTold)} → IsRange options.range.from options.range.to → options.start < 65536
+    → (look : IsLook (begun (addresses_in options.range) [] options.patience) last stop lines lines')
     → OverHonestLine look (IsMemoryAt (take (length last.values) (addresses_in options.range)) (tape_to_save options last.values))
 memory_read options last stop range begins look machine now lost may honest =
     let true = is_true stop _ last look.inquired.said machine now lost look.believed may honest in (
@@ -86,9 +87,9 @@ asked_for_range options before after first is asks =
     subst (λ o. AsksOnce o before.call before.asked after.asked) (ap (λ r. ended r.phase) is ∙ range_goes_on options.range.from options.range.to options.patience) asks
 
 abbrev pub read_of : (options : SaveOptions) (before after : SaveTold) (first last : Reader) (stop : Stop) → IsRange options.range.from options.range.to → options.start < 65536
-    → first ≡ begun (addresses_in options.range) [] options.patience → IsLook first last stop → AsksOnce (ended first.phase) before.call before.asked after.asked → IsRead options before after
+    → first ≡ begun (addresses_in options.range) [] options.patience → IsLook first last stop before.lines after.lines → AsksOnce (ended first.phase) before.call before.asked after.asked → IsRead options before after
 read_of options before after first last stop range begins is look asks =
-    let moved : IsLook (begun (addresses_in options.range) [] options.patience) last stop = subst (λ r. IsLook r last stop) is look in
+    let moved : IsLook (begun (addresses_in options.range) [] options.patience) last stop before.lines after.lines = subst (λ r. IsLook r last stop before.lines after.lines) is look in
     record {
       last = last;
       stop = stop;
@@ -99,7 +100,7 @@ read_of options before after first last stop range begins is look asks =
     }
 
 -- the numbers that were read end at or below the top
-pub reads_low : (from to patience : ℕ) (first last : Reader) (stop : Stop) → IsRange from to → first ≡ begun (addresses_between from to) [] patience → IsLook first last stop → from + 2 * length last.values ≤ top
+pub reads_low : (from to patience : ℕ) (first last : Reader) (stop : Stop) {lines lines' : Option (List LineTold)} → IsRange from to → first ≡ begun (addresses_between from to) [] patience → IsLook first last stop lines lines' → from + 2 * length last.values ≤ top
 reads_low from to patience first last stop range is look =
     let as_many : length last.addresses ≡ (to - from) / 2 + 1 = ap length (look.addresses ∙ ap (λ r. r.addresses) is) ∙ range_length from to in
     omega (arith, look.kept.within, as_many, range.from_is.even, range.to_is.even, range.to_is.below, range.order)

@@ -1,5 +1,5 @@
 -- A verification that ends as `Same` over an honest line.
-use Rattle.std.proofs.Common.{◌≡◌, ℕ, ◌<◌, true, false, cond, eqb, List, [], ◌++◌, length, get_or, Some, refl, arith, ap, sym, subst, ◌∙◌}
+use Rattle.std.proofs.Common.{◌≡◌, ℕ, ◌<◌, true, false, cond, eqb, List, [], ◌++◌, length, get_or, Option, Some, refl, arith, ap, sym, subst, ◌∙◌}
 use Rattle.std.proofs.lemmas.Bool.{eqb-true}
 use Rattle.std.proofs.lemmas.List.{get_or-map, length-map}
 use Rattle.tape_image.specs.Plan.{PlanValue}
@@ -12,6 +12,7 @@ use Rattle.reading_core.specs.declared.phase.End.TheVariants.{Complete, GaveUp a
 use Rattle.reading_core.specs.Addresses.{addresses_of}
 use Rattle.reading_core.specs.Reader.{Reader, begun, ended}
 use Rattle.reading_law.specs.Belief.{IsTrue}
+use Rattle.console_reach.specs.Reached.{LineTold}
 use Rattle.reading_engine.specs.Inquired.{TellsEnd}
 use Rattle.reading_engine.specs.declared.stop.Stop.{Stop}
 use Rattle.reading_engine.specs.declared.stop.Stop.TheVariants.{Ended, LineFailed as LineHasFailed, TurnsOver as TurnsAreOver}
@@ -48,7 +49,7 @@ stand_where_read words last before now keys lost are all none heard = record {
       subst (Stands (word_nr words i)) here (Stands-unchanged (word_nr words i) (get_or last.values i 0) (none_differ words last.values all none i low));
 }
 
-pub all_stand : (words : List WordValue) (first last : Reader) (stop : Stop) (look : IsLook first last stop) → first.addresses ≡ addresses_of words
+pub all_stand : (words : List WordValue) (first last : Reader) (stop : Stop) {lines lines' : Option (List LineTold)} (look : IsLook first last stop lines lines') → first.addresses ≡ addresses_of words
     → verify_end (length (differences words last.values)) stop ≡ Same → OverHonestLine look (IsSameWith words)
 all_stand words first last stop look are same machine now lost may honest =
     let means = same_means (length (differences words last.values)) stop same in
@@ -58,15 +59,15 @@ all_stand words first last stop look are same machine now lost may honest =
     let heard = is_true stop first last look.inquired.said machine now lost look.believed may honest in
     (heard.1.same, stand_where_read words last machine.memory now.memory _ _ addresses all means.1 heard.1)
   where
-    ended_is : (last : Reader) (stop : Stop) → stop ≡ Ended Complete → IsLook first last stop → ended last.phase ≡ Some Complete
+    ended_is : (last : Reader) (stop : Stop) {lines lines' : Option (List LineTold)} → stop ≡ Ended Complete → IsLook first last stop lines lines' → ended last.phase ≡ Some Complete
     ended_is last stop is look = subst (λ s. TellsEnd s last) is look.end
 
 -- ---- a verification
 
-abbrev pub verified_of : (plan : PlanValue) (patience : ℕ) (before after : ConsoleTold) (first last : Reader) (stop : Stop) (end : VerifyEnd) → first ≡ begun (addresses_of plan.words) [] patience → IsLook first last stop
+abbrev pub verified_of : (plan : PlanValue) (patience : ℕ) (before after : ConsoleTold) (first last : Reader) (stop : Stop) (end : VerifyEnd) → first ≡ begun (addresses_of plan.words) [] patience → IsLook first last stop before.lines after.lines
     → AsksOnce (ended first.phase) before.call before.asked after.asked → end ≡ verify_end (length (differences plan.words last.values)) stop → IsVerified plan patience before after end
 verified_of plan patience before after first last stop end is look asks ends =
-    let moved : IsLook (begun (addresses_of plan.words) [] patience) last stop = subst (λ r. IsLook r last stop) is look in
+    let moved : IsLook (begun (addresses_of plan.words) [] patience) last stop before.lines after.lines = subst (λ r. IsLook r last stop before.lines after.lines) is look in
     record {
       last = last;
       stop = stop;

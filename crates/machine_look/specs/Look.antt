@@ -1,25 +1,45 @@
 -- A look at a machine: a reading that begins with nothing read, over a line that was reached for it.
-use Rattle.std.specs.Prelude.{◌≡◌, ℕ, ◌≤◌, List, length, Option, Some, None}
+use Rattle.std.specs.Prelude.{◌≡◌, ℕ, ◌≤◌, List, [], ◌∷◌, length, Option, Some, None}
 use Rattle.odt_machine.specs.Machine.{Machine}
 use Rattle.load_devices.specs.Told.{Gains}
+use Rattle.load_devices.specs.Failures.{CountsFault, IsLastFault}
+use Rattle.console_reach.specs.Reached.{LineTold}
+use Rattle.reading_engine.specs.Failing.{line_fault}
 use Rattle.load_devices.specs.Turns.{most_turns}
+use Rattle.tape_values.specs.Told.{IsAsTold}
 use Rattle.load_devices.specs.declared.item.Item.{Item}
 use Rattle.reading_engine.specs.Honest.{IsHonest}
 use Rattle.stream_line.specs.Dialling.{Call, LineRequest, asked_once}
 use Rattle.reading_core.specs.Bound.{reading_bound}
 use Rattle.reading_core.specs.Invariant.{IsReader}
-use Rattle.reading_core.specs.Reader.{Reader}
+use Rattle.reading_core.specs.Reader.{Reader, ended}
 use Rattle.reading_core.specs.declared.phase.End.{End}
 use Rattle.reading_law.specs.Belief.{MayLook}
 use Rattle.reading_engine.specs.Belief.{IsBelievableAt}
 use Rattle.reading_engine.specs.Inquired.{Inquired, TellsEnd}
 use Rattle.reading_engine.specs.declared.stop.Stop.{Stop}
 
--- an engine that had the most turns led the one reader to the other, with what was said meanwhile, and stopped so
-pub record IsLook (old new : Reader) (stop : Stop) : Type 0 where
+-- a line on which nothing had been said, and of which no call had failed, told this in the end, with the fault by which a look stopped, if by
+-- any; and then it was given back
+pub record IsGivenBack (stop : Stop) (line line' : Option (List Item)) (lines lines' : Option (List LineTold)) : Type 0 where
+  pub fresh : IsAsTold line []
+  pub last : LineTold
+  pub said : last.said ≡ line'
+  pub counted : CountsFault (line_fault (Some stop)) 0 last.failures
+  pub named : IsLastFault (line_fault (Some stop)) last.fault
+  pub given : Gains lines lines' (last ∷ [])
+
+-- the line of a look, which there is only where there is something to look at
+abbrev pub IsLineOf : Option End → Stop → Option (List Item) → Option (List Item) → Option (List LineTold) → Option (List LineTold) → Type 0
+IsLineOf (Some end) stop line line' lines lines' = lines' ≡ lines
+IsLineOf None stop line line' lines lines' = IsGivenBack stop line line' lines lines'
+
+-- an engine that had the most turns led the one reader to the other, and stopped so; what was said meanwhile is all that was said on the line
+pub record IsLook (old new : Reader) (stop : Stop) (lines lines' : Option (List LineTold)) : Type 0 where
   pub line : Option (List Item)
   pub line' : Option (List Item)
   pub inquired : Inquired most_turns (Some stop) old new line line'
+  pub line_is : IsLineOf (ended old.phase) stop line line' lines lines'
   pub end : TellsEnd stop new
   -- where what was said is honest, memory is what it was and what was read is what it holds
   pub believed : IsBelievableAt stop old new inquired.said
@@ -29,7 +49,8 @@ pub record IsLook (old new : Reader) (stop : Stop) : Type 0 where
   pub kept : IsReader new
 
 -- what holds of memory wherever a look was over an honest line of a machine that runs no program
-abbrev pub OverHonestLine : {old new : Reader} {stop : Stop} → IsLook old new stop → (Machine → Machine → Type 0) → Type 0
+abbrev pub OverHonestLine : {old new : Reader} {stop : Stop} {lines lines' : Option (List LineTold)} → IsLook old new stop lines lines'
+    → (Machine → Machine → Type 0) → Type 0
 OverHonestLine {old} look holds =
     (machine now : Machine) (lost : ℕ) → MayLook old machine → IsHonest machine look.inquired.said lost now → holds machine now
 

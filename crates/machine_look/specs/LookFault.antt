@@ -4,7 +4,7 @@ use Rattle.std.specs.Io.KnownBytes.{Keeps}
 use Rattle.tape_values.specs.Tape.{TapeValue, plain_text}
 use Rattle.tape_image.specs.Plan.{PlanValue}
 use Rattle.load_devices.specs.Told.{Gains}
-use Rattle.stream_line.specs.Dialling.{IsAskedInVain, asked_once}
+use Rattle.stream_line.specs.Dialling.{IsAskedInVain}
 use Rattle.reading_core.specs.Addresses.{addresses_of}
 use Rattle.reading_core.specs.Reader.{begun, ended}
 use Rattle.machine_look.specs.declared.look_fault.LookFault.{LookFault}
@@ -13,7 +13,7 @@ use Rattle.machine_look.specs.declared.saving.SaveOptions.{SaveOptions}
 use Rattle.machine_look.specs.declared.shelf.ShelfFault.{ShelfFault}
 use Rattle.machine_look.specs.declared.shelf.ShelfFault.TheVariants as shelf_fault
 use Rattle.console_reach.specs.Console.{ConsoleTold}
-use Rattle.machine_look.specs.Save.{IsUnput, IsSavedUnreported, SaveTold}
+use Rattle.machine_look.specs.Save.{IsRead, IsUnput, IsSavedUnreported, SaveTold}
 use Rattle.machine_look.specs.Shelf.{Step, Reserve, NotReserved, NotPut}
 use Rattle.machine_look.specs.Verify.{IsCutShort}
 
@@ -27,26 +27,29 @@ fault_of_shelf shelf_fault.Memory = Memory
 -- a report that can't be written whole last
 abbrev pub IsVerifyFault : PlanValue → ℕ → ConsoleTold → ConsoleTold → LookFault → Type 0
 IsVerifyFault plan patience before after Connect =
-    (ended (begun (addresses_of plan.words) [] patience).phase ≡ None) × IsAskedInVain before.call before.asked after.asked × Keeps before.out after.out
+    (ended (begun (addresses_of plan.words) [] patience).phase ≡ None) × IsAskedInVain before.call before.asked after.asked
+    × (after.lines ≡ before.lines) × Keeps before.out after.out
 IsVerifyFault plan patience before after WriteOutput = IsCutShort plan patience before after
-IsVerifyFault plan patience before after Memory = (after.asked ≡ before.asked) × Keeps before.out after.out
+IsVerifyFault plan patience before after Memory = (after.asked ≡ before.asked) × (after.lines ≡ before.lines) × Keeps before.out after.out
 IsVerifyFault plan patience before after other = ⊥
 
 -- room for the tape was refused, and nothing else was done
 pub record IsSaveNotBegun (fault : ShelfFault) (before after : SaveTold) : Type 0 where
   pub refused : Gains before.steps after.steps (NotReserved fault ∷ [])
   pub not_asked : after.asked ≡ before.asked
+  pub no_line : after.lines ≡ before.lines
   pub nothing_reported : Keeps before.out after.out
 
 -- memory was wanting before the console was asked for: for the host, or for the shelf
 pub record IsWantingBefore (before after : SaveTold) : Type 0 where
   pub nothing_put : Gains before.steps after.steps [] ⊎ Gains before.steps after.steps (NotReserved shelf_fault.Memory ∷ [])
   pub not_asked : after.asked ≡ before.asked
+  pub no_line : after.lines ≡ before.lines
 
 -- or behind the look: for the tape
-pub record IsWantingBehind (before after : SaveTold) : Type 0 where
+pub record IsWantingBehind (options : SaveOptions) (before after : SaveTold) : Type 0 where
   pub nothing_put : Gains before.steps after.steps (Reserve ∷ [])
-  pub asked : Gains before.asked after.asked (asked_once before.call)
+  pub read : IsRead options before after
 
 -- a tape is not put on a shelf: that takes none, or memory is wanting before
 abbrev pub IsKeepFault : TapeValue → Option (List Step) → Option (List Step) → LookFault → Type 0
@@ -61,6 +64,7 @@ abbrev pub IsSaveFault : SaveOptions → SaveTold → SaveTold → LookFault →
 IsSaveFault options before after IsThere = IsSaveNotBegun shelf_fault.IsThere before after ⊎ IsUnput shelf_fault.IsThere options before after
 IsSaveFault options before after WriteTape = IsSaveNotBegun shelf_fault.Write before after ⊎ IsUnput shelf_fault.Write options before after
 IsSaveFault options before after Connect =
-    Gains before.steps after.steps (Reserve ∷ []) × IsAskedInVain before.call before.asked after.asked × Keeps before.out after.out
+    Gains before.steps after.steps (Reserve ∷ []) × IsAskedInVain before.call before.asked after.asked × (after.lines ≡ before.lines)
+    × Keeps before.out after.out
 IsSaveFault options before after WriteOutput = IsSavedUnreported options before after
-IsSaveFault options before after Memory = (IsWantingBefore before after ⊎ IsWantingBehind before after) × Keeps before.out after.out
+IsSaveFault options before after Memory = (IsWantingBefore before after ⊎ IsWantingBehind options before after) × Keeps before.out after.out

@@ -1,11 +1,14 @@
 -- What `save` does (this project's own).
 use Rattle.std.specs.Prelude.{◌≡◌, ℕ, List, [], ◌∷◌, length, map, take, Option}
 use Rattle.std.specs.Io.KnownBytes.{Appends, Keeps}
+use Rattle.std.specs.declared.io.Write.{Ghosts as Write}
 use Rattle.tape_values.specs.Tape.{TapeValue, plain_text}
 use Rattle.tape_image.specs.Plan.{plan_of}
 use Rattle.tape_image.specs.Word.{whole_word}
 use Rattle.odt_machine.specs.Machine.{Machine, word_at}
 use Rattle.load_devices.specs.Told.{Gains}
+use Rattle.console_reach.specs.declared.reach.Reach.{Ghosts as Reach}
+use Rattle.console_reach.specs.Reached.{LineTold}
 use Rattle.stream_line.specs.Dialling.{Call, LineRequest, asked_once}
 use Rattle.byte_io.specs.Output.{WritesAllBut}
 use Rattle.reading_core.specs.Addresses.{addresses_between}
@@ -14,6 +17,7 @@ use Rattle.reading_engine.specs.declared.stop.Stop.{Stop}
 use Rattle.request_values.specs.declared.range.AddressRange.{AddressRange}
 use Rattle.machine_look.specs.declared.save_end.SaveEnd.{SaveEnd}
 use Rattle.machine_look.specs.declared.saving.SaveOptions.{SaveOptions}
+use Rattle.machine_look.specs.declared.shelf.Shelf.{Ghosts as Shelf}
 use Rattle.machine_look.specs.declared.shelf.ShelfFault.{ShelfFault}
 use Rattle.machine_look.specs.Look.{IsLook, OverHonestLine}
 use Rattle.machine_look.specs.SavedTape.{saved_tape, HoldsWhatWasRead}
@@ -30,18 +34,24 @@ abbrev pub IsMemoryAt : List ℕ → TapeValue → Machine → Machine → Type 
 IsMemoryAt addresses tape before now =
     (now.memory ≡ before.memory) × ((plan_of tape).words ≡ map (λ address. whole_word address (word_at now.memory address)) addresses)
 
--- what a save's shelf, console and output tell: what was asked of the first, what was asked for a line and where the second leads, and what
--- the third holds
+-- what a save's shelf, console and output tell: what was asked of the first, what was asked for a line, where the second leads and what its
+-- lines tell that were given back, and what the third holds
 pub record SaveTold : Type 0 where
   pub steps : Option (List Step)
   pub asked : Option (List LineRequest)
   pub call : Call
+  pub lines : Option (List LineTold)
   pub out : Option (List ℕ)
 
--- what this shelf, this console and this output tell, read by what each of them says of itself
-abbrev pub save_told : {S R W : Type 0} → (S → Option (List Step)) → (R → Option (List LineRequest)) → (R → Call) → (W → Option (List ℕ)) → S → R → W → SaveTold
-save_told steps_of asked_of call_of contents shelf console out =
-    record { steps = steps_of shelf; asked = asked_of console; call = call_of console; out = contents out }
+-- what this shelf, this console and this output tell
+abbrev pub save_told : {S R L W : Type 0} → Shelf S → Reach R L → Write W → S → R → W → SaveTold
+save_told shelf_tell tell write shelf console out = record {
+  steps = shelf_tell.steps shelf;
+  asked = tell.asked console;
+  call = tell.call console;
+  lines = tell.lines console;
+  out = write.contents out;
+}
 
 -- the addresses of a range, both ends included
 abbrev pub addresses_in : AddressRange → List ℕ
@@ -55,7 +65,7 @@ tape_to_save options numbers = saved_tape options.range.from numbers options.sta
 pub record IsRead (options : SaveOptions) (before after : SaveTold) : Type 0 where
   pub last : Reader
   pub stop : Stop
-  pub look : IsLook (begun (addresses_in options.range) [] options.patience) last stop
+  pub look : IsLook (begun (addresses_in options.range) [] options.patience) last stop before.lines after.lines
   pub asked : Gains before.asked after.asked (asked_once before.call)
   -- the tape of what was read is memory, where the line was honest
   pub holds : HoldsWhatWasRead (addresses_in options.range) last.values (tape_to_save options last.values)

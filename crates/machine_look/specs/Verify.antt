@@ -24,7 +24,7 @@ IsSameWith words before now = (now.memory ≡ before.memory) × FirstStand words
 pub record IsVerified (plan : PlanValue) (patience : ℕ) (before after : ConsoleTold) (end : VerifyEnd) : Type 0 where
   pub last : Reader
   pub stop : Stop
-  pub look : IsLook (begun (addresses_of plan.words) [] patience) last stop
+  pub look : IsLook (begun (addresses_of plan.words) [] patience) last stop before.lines after.lines
   pub asked : AsksOnce (ended (begun (addresses_of plan.words) [] patience).phase) before.call before.asked after.asked
   pub end_is : end ≡ verify_end (length (differences plan.words last.values)) stop
   pub stand : end ≡ Same → OverHonestLine look (IsSameWith plan.words)

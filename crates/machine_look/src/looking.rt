@@ -19,7 +19,7 @@ use reading_engine::{Stop, inquire};
 
 /// Lends the core to the line for at most 10,000,000 turns, as `inquire` does, and the line comes back. An
 /// onlooker is told of each step.
-pub fn look<L: Line + Drop, O: Onlooker>(
+pub fn look<L: Line, O: Onlooker>(
     core: ReadingCore,
     mut line: L,
     onlooker: &O,
@@ -48,7 +48,8 @@ pub(crate) fn look_over<R: Reach, O: Onlooker>(
     console: &mut R,
     onlooker: &O,
 ) -> Result<(ReadingCore, Stop), LookFault>
-    ensures look { IfOk result (λ looked. IsLook core looked.0 looked.1) }
+    ensures look { IfOk result (λ looked. IsLook core looked.0 looked.1 (R.lines console.old) (R.lines console.new)) }
+    ensures no_line { OnErr result (R.lines console.new ≡ R.lines console.old) }
     ensures asked { OnOk result (AsksOnce (ended core.phase) (R.call console.old) (R.asked console.old) (R.asked console.new)) }
     ensures asked_in_vain { OnErr result (IsAskedInVain (R.call console.old) (R.asked console.old) (R.asked console.new)) }
     ensures call { R.call console.new ≡ R.call console.old }
@@ -58,6 +59,7 @@ pub(crate) fn look_over<R: Reach, O: Onlooker>(
         return Ok((core, Stop::Ended(end)));
     }
     let line = console.reach()?;
-    let (answer, _line) = look(core, line, onlooker);
+    let (answer, line) = look(core, line, onlooker);
+    console.let_go(line);
     Ok(answer)
 }

@@ -57,12 +57,12 @@ pub fn save<S: Shelf, R: Reach, W: Write, O: Onlooker>(
     ensures disk { OnOk result (ShelfAsked (S.disk shelf.old) (S.disk shelf.new) (IsSavedOn options)) }
     ensures disk_in_vain { IfErr result (λ fault. ShelfAsked (S.disk shelf.old) (S.disk shelf.new) (save_disk_asked_before options fault)) }
     ensures reported { IfOk result (IsSavedAndReported options
-        (save_told S.steps R.asked R.call W.contents shelf.old console.old out.old)
-        (save_told S.steps R.asked R.call W.contents shelf.new console.new out.new)) }
+        (save_told S.Shelf R.Reach W.Write shelf.old console.old out.old)
+        (save_told S.Shelf R.Reach W.Write shelf.new console.new out.new)) }
     ensures call { R.call console.new ≡ R.call console.old }
     ensures fault { IfErr result (IsSaveFault options
-        (save_told S.steps R.asked R.call W.contents shelf.old console.old out.old)
-        (save_told S.steps R.asked R.call W.contents shelf.new console.new out.new)) }
+        (save_told S.Shelf R.Reach W.Write shelf.old console.old out.old)
+        (save_told S.Shelf R.Reach W.Write shelf.new console.new out.new)) }
 {
     let (from, to) = (options.range.from(), options.range.to());
     let core = ReadingCore::of_range(alloc, from, to, options.patience)?;

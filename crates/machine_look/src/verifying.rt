@@ -33,12 +33,12 @@ pub fn verify<R: Reach, W: Write, O: Onlooker>(
     onlooker: &O,
 ) -> Result<VerifyEnd, LookFault>
     ensures reported { IfOk result (IsReported plan.now patience
-        (console_told R.asked R.call W.contents console.old out.old)
-        (console_told R.asked R.call W.contents console.new out.new)) }
+        (console_told R.Reach W.Write console.old out.old)
+        (console_told R.Reach W.Write console.new out.new)) }
     ensures call { R.call console.new ≡ R.call console.old }
     ensures fault { IfErr result (IsVerifyFault plan.now patience
-        (console_told R.asked R.call W.contents console.old out.old)
-        (console_told R.asked R.call W.contents console.new out.new)) }
+        (console_told R.Reach W.Write console.old out.old)
+        (console_told R.Reach W.Write console.new out.new)) }
 {
     let core = ReadingCore::of_plan(alloc, plan, patience)?;
     let words = plan.words();

@@ -1,11 +1,12 @@
 -- How the report of a probe comes to be.
-use Rattle.std.proofs.Common.{◌≡◌, ℕ, ◌^◌, ◌<◌, List, [], ◌++◌, Option, Result, Ok, Err, IfOk, OnOk, inr, ap, sym, subst, ◌∙◌}
-use Rattle.std.specs.Io.KnownBytes.{Appends}
+use Rattle.std.proofs.Common.{◌≡◌, ℕ, ◌^◌, ◌<◌, List, [], ◌++◌, Option, Result, Ok, Err, IfOk, OnOk, inl, inr, ap, sym, subst, ◌∙◌}
+use Rattle.std.specs.Io.KnownBytes.{Appends, Keeps}
 use Rattle.std.proofs.KnownBytes.{Keeps-refl}
 use Rattle.byte_io.specs.Output.{WritesAllBut, WritesPrefix}
 use Rattle.load_devices.specs.Told.{Gains}
 use Rattle.load_devices.specs.declared.item.Item.{Item}
-use Rattle.stream_line.specs.Dialling.{Call, LineRequest, asked_once}
+use Rattle.load_devices.specs.declared.line.Line.{Ghosts as Line}
+use Rattle.stream_line.specs.Dialling.{asked_once}
 use Rattle.probe_report.specs.declared.findings.Findings.{Findings}
 use Rattle.probe_report.specs.declared.pace.Pace.{Pace}
 use Rattle.probe_report.specs.declared.probe_end.ProbeEnd.{ProbeEnd}
@@ -18,8 +19,9 @@ use Rattle.machine_probe.specs.declared.probe_options.ProbeOptions.{ProbeOptions
 use Rattle.machine_probe.specs.Follow.{IsBrokenOff, IsProbe}
 use Rattle.machine_probe.specs.Noted.{AreNotesSince}
 use Rattle.console_reach.specs.Console.{ConsoleTold}
-use Rattle.machine_probe.specs.Probe.{IsCutShort, IsReport, IsReportFrom, IsReportOver, IsReported, IsReportedOver}
-use Rattle.machine_probe.specs.ProbeFault.{IsBrokenOffFrom, IsProbeFault, IsUnreported}
+use Rattle.console_reach.specs.Reached.{line_told}
+use Rattle.machine_probe.specs.Probe.{IsCutShort, IsReport, IsReportOver, IsReported, IsReportedOver}
+use Rattle.machine_probe.specs.ProbeFault.{WayTold, way_of, IsProbeFault, IsUnreported, IsWanting, IsWantOfMemory}
 use Rattle.machine_probe.specs.declared.probe_fault.ProbeFault.{ProbeFault}
 use Rattle.machine_probe.specs.declared.probe_fault.ProbeFault.TheVariants.{Connect, Memory}
 use Rattle.machine_probe.specs.Runs.{OnLine}
@@ -47,51 +49,54 @@ report_is options line line' f notes pace before text end address long fresh run
 }
 
 -- the same of a line that was noted, where the report could be put
-pub report_from : {L E : Type 0} (told : L → Option (List Item)) (options : ProbeOptions) (line opened line' : L) (first : Option (List Item)) (f : Findings) (notes : Noted) (pace : Pace) (before text : List ℕ) (r : Result ProbeEnd E) →
-    IsAddress options.address → options.patience < 2 ^ 32 → IsAsTold (told line) [] → opened ≡ line → told line ≡ first → OnLine (IsProbe options f) (told opened) (told line') → AreNotesSince first (told line') notes →
-    before ≡ [] → OnOk r (text ≡ before ++ probe_text f notes pace) → IfOk r (λ end. end ≡ probe_end f notes.prompt) → IfOk r (IsReportFrom told options line text)
-report_from {L} {E} told options line opened line' first f notes pace before text (Err e) address long fresh same opening runs are empty put is = tt
-report_from {L} {E} told options line opened line' first f notes pace before text (Ok end) address long fresh same opening runs are empty put is = (
-  line',
-  report_is options (told line) (told line') f notes pace before text end address long fresh
-      (subst (λ (l : L). OnLine (IsProbe options f) (told l) (told line')) same runs)
-      (subst (λ (o : Option (List Item)). AreNotesSince o (told line') notes) (sym opening) are) empty put is,
-)
+pub report_from : {E : Type 0} (options : ProbeOptions) (line line' first : Option (List Item)) (f : Findings) (notes : Noted) (pace : Pace) (before text : List ℕ) (r : Result ProbeEnd E) →
+    IsAddress options.address → options.patience < 2 ^ 32 → IsAsTold line [] → line ≡ first → OnLine (IsProbe options f) line line' → AreNotesSince first line' notes →
+    before ≡ [] → OnOk r (text ≡ before ++ probe_text f notes pace) → IfOk r (λ end. end ≡ probe_end f notes.prompt) → IfOk r (IsReport options line line' text)
+report_from {E} options line line' first f notes pace before text (Err e) address long fresh opening runs are empty put is = tt
+report_from {E} options line line' first f notes pace before text (Ok end) address long fresh opening runs are empty put is =
+    report_is options line line' f notes pace before text end address long fresh runs
+    (subst (λ (o : Option (List Item)). AreNotesSince o line' notes) (sym opening) are) empty put is
 
 -- ---- what is written of it
 
-pub over_of : {L : Type 0} (told : L → Option (List Item)) (options : ProbeOptions) (call call' : Call) (asked asked' : Option (List LineRequest)) (out out' : Option (List ℕ)) (text written : List ℕ) (end : ProbeEnd) →
-    Gains asked asked' (asked_once call) → IsReportOver told options text end → written ≡ text → Appends out out' written →
-    IsReportedOver told options (record { asked = asked; call = call; out = out }) (record { asked = asked'; call = call'; out = out' }) end
-over_of {L} told options call call' asked asked' out out' text written end asks (line, line', report) is appended =
-    (line, line', record { asked = asks; text = text; report = report; reported = subst (Appends out out') is appended })
+pub over_of : {L : Type 0} (tell : Line L) (options : ProbeOptions) (before after : ConsoleTold) (text written : List ℕ) (end : ProbeEnd) →
+    Gains before.asked after.asked (asked_once before.call) → IsReportOver tell options before.lines after.lines text end → written ≡ text → Appends before.out after.out written →
+    IsReportedOver tell options before after end
+over_of {L} tell options before after text written end asks (line, last, given, report) is appended =
+    (line, last, given, record { asked = asks; text = text; report = report; reported = subst (Appends before.out after.out) is appended })
 
-pub some_of : {L : Type 0} (told : L → Option (List Item)) (options : ProbeOptions) (before after : ConsoleTold) (end : ProbeEnd) → IsReportedOver told options before after end → IsReported options before after end
-some_of {L} told options before after end (line, line', reported) = (told line, told line', reported)
+pub some_of : {L : Type 0} (tell : Line L) (options : ProbeOptions) (before after : ConsoleTold) (end : ProbeEnd) → IsReportedOver tell options before after end → IsReported options before after end
+some_of {L} tell options before after end (line, last, given, reported) = (tell.told line, line_told tell last, given, reported)
 
-pub cut_of : {L : Type 0} (told : L → Option (List Item)) (options : ProbeOptions) (call call' : Call) (asked asked' : Option (List LineRequest)) (out out' : Option (List ℕ)) (text written : List ℕ) (end : ProbeEnd) →
-    Gains asked asked' (asked_once call) → IsReportOver told options text end → written ≡ text → WritesPrefix out out' written →
-    IsCutShort options (record { asked = asked; call = call; out = out }) (record { asked = asked'; call = call'; out = out' })
-cut_of {L} told options call call' asked asked' out out' text written end asks (line, line', report) is (left, cut) = (
-  told line,
-  told line',
-  record { asked = asks; text = text; end = end; report = report; missing = left; reported = subst (λ (t : List ℕ). WritesAllBut out out' t left) is cut },
+pub cut_of : {L : Type 0} (tell : Line L) (options : ProbeOptions) (before after : ConsoleTold) (text written : List ℕ) (end : ProbeEnd) →
+    Gains before.asked after.asked (asked_once before.call) → IsReportOver tell options before.lines after.lines text end → written ≡ text → WritesPrefix before.out after.out written →
+    IsCutShort options before after
+cut_of {L} tell options before after text written end asks (line, last, given, report) is (left, cut) = (
+  tell.told line,
+  line_told tell last,
+  given,
+  record { asked = asks; text = text; end = end; report = report; missing = left; reported = subst (λ (t : List ℕ). WritesAllBut before.out after.out t left) is cut },
 )
 
+-- ---- what fails before there is a report
+
+some_wanting : {L : Type 0} (tell : Line L) (options : ProbeOptions) (before after : WayTold) → IsWanting tell options before after → IsWantOfMemory options before after
+some_wanting {L} tell options before after (inl unasked) = inl unasked
+some_wanting {L} tell options before after (inr (line, last, broken)) = inr (tell.told line, line_told tell last, broken)
+
 -- a fault that came before there was a report
-pub unreported_is : (options : ProbeOptions) (call call' : Call) (asked asked' : Option (List LineRequest)) (out : Option (List ℕ)) (fault : ProbeFault) → IsUnreported call asked asked' fault →
-    IsProbeFault options (record { asked = asked; call = call; out = out }) (record { asked = asked'; call = call'; out = out }) fault
-unreported_is options call call' asked asked' out Connect is = (is, Keeps-refl out)
-unreported_is options call call' asked asked' out Memory is = (is, Keeps-refl out)
-unreported_is options call call' asked asked' out other is = absurd is
+pub unreported_is : {L : Type 0} (tell : Line L) (options : ProbeOptions) (before after : ConsoleTold) (fault : ProbeFault) → after.out ≡ before.out → IsUnreported tell options (way_of before) (way_of after) fault →
+    IsProbeFault options before after fault
+unreported_is {L} tell options before after Connect same (asked, lines) = (asked, lines, subst (Keeps before.out) (sym same) (Keeps-refl before.out))
+unreported_is {L} tell options before after Memory same is = (some_wanting tell options (way_of before) (way_of after) is, subst (Keeps before.out) (sym same) (Keeps-refl before.out))
+unreported_is {L} tell options before after other same is = absurd is
 
--- ---- where memory is wanting
+-- where memory is wanting
+pub wanting_is : {L : Type 0} (tell : Line L) (options : ProbeOptions) (before after : WayTold) (fault : ProbeFault) → IsUnreported tell options before after fault → fault ≡ Memory → IsWanting tell options before after
+wanting_is {L} tell options before after Memory is same = is
+wanting_is {L} tell options before after Connect is same = absurd (cc same)
+wanting_is {L} tell options before after other is same = absurd is
 
--- a probe over a line that was noted was broken off
-pub broken_off_from : {L : Type 0} (told : L → Option (List Item)) (options : ProbeOptions) (line opened line' : L) → opened ≡ line →
-    OnLine (IsBrokenOff options) (told opened) (told line') → IsBrokenOffFrom told options line
-broken_off_from {L} told options line opened line' same runs = (line', subst (λ (l : L). OnLine (IsBrokenOff options) (told l) (told line')) same runs)
-
--- also where all of its runs were made
+-- a probe that made all of its runs was broken off where its report has no room
 pub broken_off_behind : (options : ProbeOptions) (f : Findings) (line line' : Option (List Item)) → OnLine (IsProbe options f) line line' → OnLine (IsBrokenOff options) line line'
 broken_off_behind options f line line' runs = record { parts = runs.parts; are = inr (inr (f, runs.are)); on_line = runs.on_line }

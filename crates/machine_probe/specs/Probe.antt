@@ -1,11 +1,13 @@
 -- What `probe` does (this project's own).
-use Rattle.std.specs.Prelude.{◌≡◌, ℕ, List, [], Option}
+use Rattle.std.specs.Prelude.{◌≡◌, ℕ, List, [], ◌∷◌, Option}
 use Rattle.std.specs.Io.KnownBytes.{Appends}
 use Rattle.byte_io.specs.Output.{WritesAllBut}
 use Rattle.load_devices.specs.declared.item.Item.{Item}
 use Rattle.load_devices.specs.Told.{Gains}
+use Rattle.load_devices.specs.declared.line.Line.{Ghosts as Line}
 use Rattle.stream_line.specs.Dialling.{asked_once}
 use Rattle.console_reach.specs.Console.{ConsoleTold}
+use Rattle.console_reach.specs.Reached.{LineTold, line_told}
 use Rattle.reading_law.specs.Rows.{in_a_row}
 use Rattle.probe_report.specs.declared.findings.Findings.{Findings}
 use Rattle.probe_report.specs.declared.pace.Pace.{Pace}
@@ -56,22 +58,23 @@ pub record IsCutShortOn (options : ProbeOptions) (line line' : Option (List Item
   pub missing : List ℕ
   pub reported : WritesAllBut before.out after.out text missing
 
--- over some line
+-- over a line on which nothing more was said until it was given back
 abbrev pub IsReported : ProbeOptions → ConsoleTold → ConsoleTold → ProbeEnd → Type 0
-IsReported options before after end = (line : Option (List Item)) × (line' : Option (List Item)) × IsReportedOn options line line' before after end
+IsReported options before after end =
+    (line : Option (List Item)) × (last : LineTold) × Gains before.lines after.lines (last ∷ []) × IsReportedOn options line last.said before after end
 
--- over some line, with a report that may be cut short
+-- the same, with a report that may be cut short
 abbrev pub IsCutShort : ProbeOptions → ConsoleTold → ConsoleTold → Type 0
-IsCutShort options before after = (line : Option (List Item)) × (line' : Option (List Item)) × IsCutShortOn options line line' before after
+IsCutShort options before after =
+    (line : Option (List Item)) × (last : LineTold) × Gains before.lines after.lines (last ∷ []) × IsCutShortOn options line last.said before after
 
 -- over a line of this type, which tells what was said on it
-abbrev pub IsReportedOver : {L : Type 0} → (L → Option (List Item)) → ProbeOptions → ConsoleTold → ConsoleTold → ProbeEnd → Type 0
-IsReportedOver {L} told options before after end = (line : L) × (line' : L) × IsReportedOn options (told line) (told line') before after end
+abbrev pub IsReportedOver : {L : Type 0} → Line L → ProbeOptions → ConsoleTold → ConsoleTold → ProbeEnd → Type 0
+IsReportedOver {L} tell options before after end =
+    (line : L) × (last : L) × Gains before.lines after.lines (line_told tell last ∷ [])
+    × IsReportedOn options (tell.told line) (tell.told last) before after end
 
--- the same of the report alone
-abbrev pub IsReportOver : {L : Type 0} → (L → Option (List Item)) → ProbeOptions → List ℕ → ProbeEnd → Type 0
-IsReportOver {L} told options text end = (line : L) × (line' : L) × IsReport options (told line) (told line') text end
-
--- the same of a line that is known before
-abbrev pub IsReportFrom : {L : Type 0} → (L → Option (List Item)) → ProbeOptions → L → List ℕ → ProbeEnd → Type 0
-IsReportFrom {L} told options line text end = (line' : L) × IsReport options (told line) (told line') text end
+-- the same of the report alone, between these lines that were given back and those
+abbrev pub IsReportOver : {L : Type 0} → Line L → ProbeOptions → Option (List LineTold) → Option (List LineTold) → List ℕ → ProbeEnd → Type 0
+IsReportOver {L} tell options lines lines' text end =
+    (line : L) × (last : L) × Gains lines lines' (line_told tell last ∷ []) × IsReport options (tell.told line) (tell.told last) text end

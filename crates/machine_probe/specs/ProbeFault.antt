@@ -1,8 +1,9 @@
 -- How a probe comes to nothing, and what was done before (this project's own).
-use Rattle.std.specs.Prelude.{◌≡◌, ◌⊎◌, List, [], Option}
+use Rattle.std.specs.Prelude.{◌≡◌, ◌⊎◌, List, [], ◌∷◌, Option}
 use Rattle.std.specs.Io.KnownBytes.{Keeps}
 use Rattle.load_devices.specs.Told.{Gains}
 use Rattle.load_devices.specs.declared.item.Item.{Item}
+use Rattle.load_devices.specs.declared.line.Line.{Ghosts as Line}
 use Rattle.stream_line.specs.Dialling.{Call, LineRequest, IsAskedInVain, asked_once}
 use Rattle.tape_values.specs.Told.{IsAsTold}
 use Rattle.machine_probe.specs.declared.probe_fault.ProbeFault.{ProbeFault}
@@ -10,34 +11,56 @@ use Rattle.machine_probe.specs.declared.probe_fault.ProbeFault.TheVariants.{Conn
 use Rattle.machine_probe.specs.declared.probe_options.ProbeOptions.{ProbeOptions}
 use Rattle.machine_probe.specs.Follow.{IsBrokenOff}
 use Rattle.console_reach.specs.Console.{ConsoleTold}
+use Rattle.console_reach.specs.Reached.{LineTold, line_told}
+use Rattle.console_reach.specs.declared.reach.Reach.{Ghosts as Reach}
 use Rattle.machine_probe.specs.Probe.{IsCutShort}
 use Rattle.machine_probe.specs.Runs.{OnLine}
 
--- nothing was asked, or for the console, once
-abbrev pub AsksAtMostOnce : Call → Option (List LineRequest) → Option (List LineRequest) → Type 0
-AsksAtMostOnce call asked asked' = (asked' ≡ asked) ⊎ Gains asked asked' (asked_once call)
+-- what a way to a console tells: what was asked for a line, where that one leads, and what the lines tell that were given back
+pub record WayTold : Type 0 where
+  pub asked : Option (List LineRequest)
+  pub call : Call
+  pub lines : Option (List LineTold)
+
+-- what this one tells
+abbrev pub way_told : {R L : Type 0} → Reach R L → R → WayTold
+way_told tell console = record { asked = tell.asked console; call = tell.call console; lines = tell.lines console }
+
+-- the same of a console and an output
+abbrev pub way_of : ConsoleTold → WayTold
+way_of console = record { asked = console.asked; call = console.call; lines = console.lines }
+
+-- no console was asked for, and there was no line
+pub record IsUnasked (before after : WayTold) : Type 0 where
+  pub not_asked : after.asked ≡ before.asked
+  pub no_line : after.lines ≡ before.lines
+
+-- a probe was broken off over a line on which nothing had been said before; then it was given back, and tells this
+pub record IsBrokenOffOn (options : ProbeOptions) (line : Option (List Item)) (last : LineTold) (before after : WayTold) : Type 0 where
+  pub asked : Gains before.asked after.asked (asked_once before.call)
+  pub fresh : IsAsTold line []
+  pub runs : OnLine (IsBrokenOff options) line last.said
+  pub given_back : Gains before.lines after.lines (last ∷ [])
+
+-- where memory was wanting: before the console was asked for, or once it was reached
+abbrev pub IsWantOfMemory : ProbeOptions → WayTold → WayTold → Type 0
+IsWantOfMemory options before after =
+    IsUnasked before after ⊎ ((line : Option (List Item)) × (last : LineTold) × IsBrokenOffOn options line last before after)
+
+-- the same over a line of this type, which tells what was said on it
+abbrev pub IsWanting : {L : Type 0} → Line L → ProbeOptions → WayTold → WayTold → Type 0
+IsWanting {L} tell options before after =
+    IsUnasked before after ⊎ ((line : L) × (last : L) × IsBrokenOffOn options (tell.told line) (line_told tell last) before after)
 
 -- a console that can't be reached and want of memory before anything is written, a report that can't be written whole last
 abbrev pub IsProbeFault : ProbeOptions → ConsoleTold → ConsoleTold → ProbeFault → Type 0
-IsProbeFault options before after Connect = IsAskedInVain before.call before.asked after.asked × Keeps before.out after.out
+IsProbeFault options before after Connect =
+    IsAskedInVain before.call before.asked after.asked × (after.lines ≡ before.lines) × Keeps before.out after.out
 IsProbeFault options before after WriteOutput = IsCutShort options before after
-IsProbeFault options before after Memory = AsksAtMostOnce before.call before.asked after.asked × Keeps before.out after.out
+IsProbeFault options before after Memory = IsWantOfMemory options (way_of before) (way_of after) × Keeps before.out after.out
 
 -- what makes it come to nothing before there is a report
-abbrev pub IsUnreported : Call → Option (List LineRequest) → Option (List LineRequest) → ProbeFault → Type 0
-IsUnreported call asked asked' Connect = IsAskedInVain call asked asked'
-IsUnreported call asked asked' Memory = AsksAtMostOnce call asked asked'
-IsUnreported call asked asked' other = ⊥
-
--- a probe over this line was broken off
-abbrev pub IsBrokenOffFrom : {L : Type 0} → (L → Option (List Item)) → ProbeOptions → L → Type 0
-IsBrokenOffFrom {L} told options line = (line' : L) × OnLine (IsBrokenOff options) (told line) (told line')
-
--- a probe was broken off over a line on which nothing had been said
-abbrev pub IsBrokenOffOver : {L : Type 0} → (L → Option (List Item)) → ProbeOptions → Type 0
-IsBrokenOffOver {L} told options = (line : L) × IsAsTold (told line) [] × IsBrokenOffFrom told options line
-
--- where memory was wanting: before the console was asked for, or once it was reached
-abbrev pub IsWanting : {L : Type 0} → (L → Option (List Item)) → ProbeOptions → Call → Option (List LineRequest) → Option (List LineRequest) → Type 0
-IsWanting {L} told options call asked asked' =
-    (asked' ≡ asked) ⊎ (Gains asked asked' (asked_once call) × IsBrokenOffOver told options)
+abbrev pub IsUnreported : {L : Type 0} → Line L → ProbeOptions → WayTold → WayTold → ProbeFault → Type 0
+IsUnreported tell options before after Connect = IsAskedInVain before.call before.asked after.asked × (after.lines ≡ before.lines)
+IsUnreported tell options before after Memory = IsWanting tell options before after
+IsUnreported tell options before after other = ⊥

@@ -64,6 +64,20 @@ impl<'a, L: Line, C: Clock, E: Opening> NotedLine<'a, L, C, E> {
         }
     }
 
+    /// The line in it.
+    pub(crate) fn into_line(self) -> L
+        ensures { result ≡ self.entry }
+    {
+        let NotedLine {
+            line,
+            clock: _,
+            notes: _,
+            stopwatch: _,
+            of: _,
+        } = self;
+        line
+    }
+
     /// What is noted of all that was said on the line.
     pub(crate) fn notes(&self) -> &Notes
         ensures { AreNotesSince E.told (L.told self.now) result.now }

@@ -6,9 +6,11 @@ ghost use Rattle.tape_values.specs.Told.{IsAsTold};
 ghost use Rattle.reading_core.specs.Addresses.{IsAddress};
 ghost use Rattle.probe_report.specs.ProbeText.{longest_report};
 ghost use Rattle.console_reach.specs.Console.{console_told};
-ghost use Rattle.machine_probe.specs.Probe.{IsReportFrom, IsReportOver, IsReported, IsReportedOver};
-ghost use Rattle.machine_probe.specs.ProbeFault.{IsBrokenOffFrom, IsProbeFault, IsUnreported, IsWanting};
+ghost use Rattle.machine_probe.specs.Follow.{IsBrokenOff};
+ghost use Rattle.machine_probe.specs.Probe.{IsReport, IsReportOver, IsReported, IsReportedOver};
+ghost use Rattle.machine_probe.specs.ProbeFault.{way_told, IsProbeFault, IsUnreported, IsWanting};
 ghost use Rattle.machine_probe.specs.Rooms.{AreLookers};
+ghost use Rattle.machine_probe.specs.Runs.{OnLine};
 
 use crate::noted_line::{NotedLine, Opening};
 use crate::probe_fault::ProbeFault;
@@ -44,17 +46,17 @@ pub fn probe<R: Reach, W: Write, C: Clock>(
 ) -> Result<ProbeEnd, ProbeFault>
     requires { IsAddress options.address }
     ensures reported { IfOk result (IsReported options
-        (console_told R.asked R.call W.contents console.old out.old)
-        (console_told R.asked R.call W.contents console.new out.new)) }
-    ensures over_line { IfOk result (IsReportedOver R.Line.told options
-        (console_told R.asked R.call W.contents console.old out.old)
-        (console_told R.asked R.call W.contents console.new out.new)) }
+        (console_told R.Reach W.Write console.old out.old)
+        (console_told R.Reach W.Write console.new out.new)) }
+    ensures over_line { IfOk result (IsReportedOver R.Line.Line options
+        (console_told R.Reach W.Write console.old out.old)
+        (console_told R.Reach W.Write console.new out.new)) }
     ensures call { R.call console.new ≡ R.call console.old }
     ensures fault { IfErr result (IsProbeFault options
-        (console_told R.asked R.call W.contents console.old out.old)
-        (console_told R.asked R.call W.contents console.new out.new)) }
-    ensures wanting { IfErr result (λ fault. fault ≡ ProbeFault.Memory → IsWanting R.Line.told options
-        (R.call console.old) (R.asked console.old) (R.asked console.new)) }
+        (console_told R.Reach W.Write console.old out.old)
+        (console_told R.Reach W.Write console.new out.new)) }
+    ensures wanting { IfErr result (λ fault. fault ≡ ProbeFault.Memory →
+        IsWanting R.Line.Line options (way_told R.Reach console.old) (way_told R.Reach console.new)) }
 {
     let mut report = Vec::with_capacity(alloc, LONGEST_REPORT)?;
     let end = gather(alloc, options, console, clock, &mut report)?;
@@ -74,38 +76,63 @@ fn gather<R: Reach, C: Clock>(
     requires address { IsAddress options.address }
     requires empty { report.old.items ≡ [] }
     requires room { longest_report ≤ vec_capacity report.old }
-    ensures report { IfOk result (IsReportOver R.Line.told options report.new.items) }
+    ensures report { IfOk result (IsReportOver R.Line.Line options (R.lines console.old) (R.lines console.new) report.new.items) }
     ensures asked { OnOk result (Gains (R.asked console.old) (R.asked console.new) (asked_once (R.call console.old))) }
     ensures call { R.call console.new ≡ R.call console.old }
-    ensures fault { IfErr result (IsUnreported (R.call console.old) (R.asked console.old) (R.asked console.new)) }
-    ensures wanting { IfErr result (λ fault. fault ≡ ProbeFault.Memory → IsWanting R.Line.told options
-        (R.call console.old) (R.asked console.old) (R.asked console.new)) }
+    ensures fault { IfErr result (IsUnreported R.Line.Line options (way_told R.Reach console.old) (way_told R.Reach console.new)) }
 {
     let lookers = Lookers::new(alloc, options)?;
     let line = console.reach()?;
-    let end = report_noted::<R::Line, C, Brand>(alloc, lookers, options, line, clock, report)?;
-    Ok(end)
+    let (outcome, line) =
+        report_noted::<R::Line, C, Brand>(alloc, lookers, options, line, clock, report);
+    console.let_go(line);
+    match outcome {
+        Ok(end) => Ok(end),
+        Err(_) => Err(ProbeFault::Memory),
+    }
 }
 
-// Makes the runs of a probe over a fresh line, and puts their report into an empty text. `E` names what the line told at first.
-fn report_noted<L: Line + Drop, C: Clock, E: Opening>(
+// Makes the runs of a probe over a fresh line, which comes back, and puts their report into an empty text. `E` names what the
+// line told at first.
+fn report_noted<L: Line, C: Clock, E: Opening>(
     alloc: Global,
     lookers: Lookers,
     options: ProbeOptions,
     line: L,
     clock: &C,
     report: &mut Vec<u8>,
-) -> Result<ProbeEnd, AllocError>
+) -> (Result<ProbeEnd, AllocError>, L)
     requires address { IsAddress options.address }
     requires lookers { AreLookers options lookers }
     requires opening { L.told line ≡ E.told }
     requires fresh { IsAsTold (L.told line) [] }
     requires empty { report.old.items ≡ [] }
     requires room { longest_report ≤ vec_capacity report.old }
-    ensures report { IfOk result (IsReportFrom L.told options line report.new.items) }
-    ensures wanting { OnErr result (IsBrokenOffFrom L.told options line) }
+    ensures report { IfOk result.0 (IsReport options (L.told line) (L.told result.1) report.new.items) }
+    ensures wanting { OnErr result.0 (OnLine (IsBrokenOff options) (L.told line) (L.told result.1)) }
 {
-    let mut line: NotedLine<'_, L, C, E> = NotedLine::new(line, clock);
-    let findings = make_runs(alloc, lookers, options, &mut line)?;
+    let mut noted: NotedLine<'_, L, C, E> = NotedLine::new(line, clock);
+    let outcome = report_runs(alloc, lookers, options, &mut noted, report);
+    (outcome, noted.into_line())
+}
+
+// Makes the runs of a probe over a line that notes them, and puts their report into an empty text.
+fn report_runs<L: Line, C: Clock, E: Opening>(
+    alloc: Global,
+    lookers: Lookers,
+    options: ProbeOptions,
+    line: &mut NotedLine<'_, L, C, E>,
+    report: &mut Vec<u8>,
+) -> Result<ProbeEnd, AllocError>
+    requires address { IsAddress options.address }
+    requires lookers { AreLookers options lookers }
+    requires opening { L.told line.old ≡ E.told }
+    requires fresh { IsAsTold (L.told line.old) [] }
+    requires empty { report.old.items ≡ [] }
+    requires room { longest_report ≤ vec_capacity report.old }
+    ensures report { IfOk result (IsReport options (L.told line.old) (L.told line.new) report.new.items) }
+    ensures wanting { OnErr result (OnLine (IsBrokenOff options) (L.told line.old) (L.told line.new)) }
+{
+    let findings = make_runs(alloc, lookers, options, line)?;
     put_report(report, &findings, line.notes(), line.pace())
 }

@@ -110,6 +110,8 @@ impl<'a> Surroundings for Frail<'a> {
     }
 
     fn end_record(&mut self, _keeper: FileKeep<SharedOutput<'a>>) {}
+
+    fn let_go(&mut self, _line: MemoryLine) {}
 }
 
 /// A machine that holds this at 001000.

@@ -1,8 +1,9 @@
 //! What a person can ask of `ldaodt`, as values.
 //!
-//! A `Request` names a command, its files and its options. Those at a real machine are a `Load`, a `Look`, a
-//! `Save` and a `Probe`; a `Console` is a simulated one. A value that can't be meant can't be had where a type can
-//! say so: an `AddressRange` is two addresses of words in their order, and a probe's address is one of memory.
+//! A `Request` names a command, its files and its options: it is a `TapeRequest`, which does nothing but print, or a
+//! `MachineRequest`, as a `Load`, a `Look`, a `Save` or a `Probe`. A `Console` is a simulated one. A value that can't
+//! be meant can't be had where a type can say so: an `AddressRange` is two addresses of words in their order, and a
+//! probe's address is one of memory.
 //!
 //! `command_line` makes them of words; `tape_requests` and `requests` do what they ask. The crates of a
 //! load and of a look take the parts that they have to know, so it stands below these, too.
@@ -16,4 +17,4 @@ mod request;
 pub use machine::{Load, Look, Probe, Save};
 pub use options::LoadOptions;
 pub use range::AddressRange;
-pub use request::{Console, Rehearsal, Request, Stage};
+pub use request::{Console, MachineRequest, Rehearsal, Request, Stage, TapeRequest};

@@ -8,6 +8,31 @@ use tape_image::Start;
 /// is standard input.
 #[derive(Drop)]
 pub enum Request<'a> {
+    /// What is about no machine: it does nothing but print.
+    Tape(TapeRequest<'a>),
+
+    /// What is done at a real machine.
+    Machine(MachineRequest<'a>),
+}
+
+impl Request<'_> {
+    ghost use Rattle.std.specs.Prelude.{◌≡◌};
+    ghost use Rattle.request_values.specs.Request.{only_prints};
+
+    /// Whether it does nothing but print: it is about no machine.
+    pub fn only_prints(&self) -> bool
+        ensures { result ≡ only_prints self.now }
+    {
+        match self {
+            Request::Tape(_) => true,
+            Request::Machine(_) => false,
+        }
+    }
+}
+
+/// What is asked that is about no machine.
+#[derive(Drop)]
+pub enum TapeRequest<'a> {
     /// Check the tape on standard input: there were no words.
     CheckInput,
 
@@ -22,37 +47,22 @@ pub enum Request<'a> {
 
     /// Type standard input into a simulated console.
     Type(Console),
+}
 
-    /// Load tapes, as one, into a real machine.
+/// What is asked of a real machine.
+#[derive(Drop)]
+pub enum MachineRequest<'a> {
+    /// Load tapes, as one.
     Load(Vec<&'a str>, Load<'a>),
 
-    /// Look whether a real machine holds what tapes, as one, say.
+    /// Look whether the machine holds what tapes, as one, say.
     Verify(Vec<&'a str>, Look<'a>),
 
-    /// Save words of a real machine as a tape, in a file which is not there yet.
+    /// Save words of the machine as a tape, in a file which is not there yet.
     Save(Save<'a>),
 
     /// Find out what stands at the other end of a line, and whether it may be trusted.
     Probe(Probe<'a>),
-}
-
-impl Request<'_> {
-    ghost use Rattle.std.specs.Prelude.{◌≡◌};
-    ghost use Rattle.request_values.specs.Request.{only_prints};
-
-    /// Whether it does nothing but print: it is about no machine.
-    pub fn only_prints(&self) -> bool
-        ensures { result ≡ only_prints self.now }
-    {
-        match self {
-            Request::CheckInput
-            | Request::Check(_)
-            | Request::Dialogue(..)
-            | Request::Rehearse(_)
-            | Request::Type(_) => true,
-            Request::Load(..) | Request::Verify(..) | Request::Save(_) | Request::Probe(_) => false,
-        }
-    }
 }
 
 /// A simulated console: how many words its machine has, and how it answers.

@@ -1,4 +1,3 @@
 mod Loaded
-mod Printed
 mod Saved
 mod Whatever

@@ -1,7 +1,8 @@
 -- What becomes of a load, by what is said of its disk.
-use Rattle.std.proofs.Common.{◌≡◌, ◌∙◌, ℕ, List, Option, Some, None, Ok, inl, inr, ap, subst, ⊎_elim}
+use Rattle.std.proofs.Common.{◌≡◌, ◌∙◌, ℕ, List, Option, Some, None, Ok, inl, inr, ap, subst, option_map, ⊎_elim}
 use Rattle.std.specs.Prelude.{⊤}
 use Rattle.console_reach.specs.Console.{ConsoleTold}
+use Rattle.console_reach.specs.Reached.{LineTold}
 use Rattle.load_devices.specs.Told.{Gains, HasAsked}
 use Rattle.machine_load.proofs.OnDisk.{closed_ok}
 use Rattle.machine_load.specs.Called.{asked_by}
@@ -16,35 +17,29 @@ use Rattle.request_values.specs.declared.machine.Load.{Load}
 use Rattle.input_files.specs.Inputs.{Known}
 use Rattle.requests.specs.Loading.{IsPlanFailure, IsPlanLoaded, SaidOfDisk}
 
--- whether there was a line
-abbrev pub some_line : {L : Type 0} → Option L → Option ⊤
-some_line (Some line) = Some tt
-some_line None = None
+-- what is asked for a line is asked for one that tells
+pub asked_by_told : {L M : Type 0} (tell : L → M) (call : Call) (line : Option L) (a b : Option (List LineRequest)) → Gains a b (asked_by call line) → Gains a b (asked_by call (option_map tell line))
+asked_by_told tell call (Some line) a b h = h
+asked_by_told tell call None a b h = h
 
-pub asked_by_some : {L : Type 0} (call : Call) (line : Option L) (a b : Option (List LineRequest)) → Gains a b (asked_by call line) → Gains a b (asked_by call (some_line line))
-asked_by_some call (Some line) a b h = h
-asked_by_some call None a b h = h
-
-pub disk_by_some : {L : Type 0} (line : Option L) (on_disk : SaidOfDisk) → on_disk (disk_asked_by line) → on_disk (disk_asked_by (some_line line))
-disk_by_some (Some line) on_disk h = h
-disk_by_some None on_disk h = h
+pub disk_by_told : {L M : Type 0} (tell : L → M) (line : Option L) (on_disk : SaidOfDisk) → on_disk (disk_asked_by line) → on_disk (disk_asked_by (option_map tell line))
+disk_by_told tell (Some line) on_disk h = h
+disk_by_told tell None on_disk h = h
 
 -- where the console's line leads is known from before a load
-module _ (plan : PlanValue) (load : Load) (P Q : SaidOfDisk) (before : ConsoleTold) (asked : Option (List LineRequest)) (out : Known) (call call' : Call)
+module _ (plan : PlanValue) (load : Load) (P Q : SaidOfDisk) (before : ConsoleTold) (asked : Option (List LineRequest)) (lines : Option (List LineTold)) (out : Known) (call call' : Call)
     (f : (holds : RecordDisk → FileKnown → List DiskStep → Type 0) → P holds → Q holds) where
   abbrev after : Call → ConsoleTold
-  after leads = record { asked = asked; call = leads; out = out }
+  after leads = record { asked = asked; call = leads; lines = lines; out = out }
 
   pub loaded_as : (status : Status) → IsPlanLoaded plan load P before (after call) status → IsPlanLoaded plan load Q before (after call') status
   loaded_as status h = record {
-    stop = h.stop;
-    marked = h.marked;
+    ending = h.ending;
     between = h.between;
     reported = h.reported;
     ended = h.ended;
-    line = h.line;
     asked = h.asked;
-    disk = f (disk_asked_by h.line) h.disk;
+    disk = f (disk_asked_by h.ending.line) h.disk;
   }
 
   pub failed_as : (failure : Failure) → IsPlanFailure plan load P before (after call) failure → IsPlanFailure plan load Q before (after call') failure
@@ -60,14 +55,12 @@ module _ (plan : PlanValue) (load : Load) (P Q : SaidOfDisk) (before : ConsoleTo
         disk = f (disk_asked_before h.fault) h.disk;
       }))
       (λ h. inr (record {
-        stop = h.stop;
-        marked = h.marked;
+        ending = h.ending;
         between = h.between;
         reported = h.reported;
         is_so = h.is_so;
-        line = h.line;
         asked = h.asked;
-        disk = f (disk_asked_by h.line) h.disk;
+        disk = f (disk_asked_by h.ending.line) h.disk;
       }))
 
 -- a disk of which this is known

@@ -7,7 +7,8 @@ use Rattle.input_files.specs.Intake.{Intake, intake}
 use Rattle.input_files.specs.Opening.{Name}
 use Rattle.input_files.proofs.Whatever.{tapes_whatever, unopened_whatever, with_error}
 use Rattle.request_values.specs.declared.request.Request.{Request}
-use Rattle.request_values.specs.declared.request.Request.TheVariants.{CheckInput, Check, Dialogue, Rehearse, «Type» as TypeKeys, Load, Verify, Save, Probe}
+use Rattle.request_values.specs.declared.request.Request.TheVariants.{Tape, Machine}
+use Rattle.request_values.specs.declared.request.MachineRequest.TheVariants.{Load, Verify, Save, Probe}
 use Rattle.requests.specs.Attempt.{IsFailed}
 use Rattle.requests.specs.Asked.{SystemAsked}
 use Rattle.requests.specs.Moment.{Moment, moment, intake_at}
@@ -22,16 +23,12 @@ module _ (before : Moment) (asked : SystemAsked) (held : Held) (err : StandardEr
       (λ t. inr (tapes_whatever names (intake_at before) asked.inputs held err _ t.0, t.1))
 
   pub failed_whatever : (request : Request) → IsFailed request before (moment asked held) failure → IsFailed request before (moment asked (with_error held err)) failure
-  failed_whatever (Load names load) is =
+  failed_whatever (Machine (Load names load)) is =
       ⊎_elim (λ n. inl (n.0, unplanned names.items n.1))
       (λ b. inr (record { plan = b.plan; planned = tapes_whatever names.items (intake_at before) asked.inputs held err _ b.planned; failed = b.failed; not_elsewhere = b.not_elsewhere })) is
-  failed_whatever (Verify names look) is =
+  failed_whatever (Machine (Verify names look)) is =
       ⊎_elim (λ n. inl (n.0, unplanned names.items n.1))
       (λ b. inr (record { plan = b.plan; planned = tapes_whatever names.items (intake_at before) asked.inputs held err _ b.planned; failed = b.failed; alone = b.alone })) is
-  failed_whatever (Save save) is = record { failed = is.failed; not_elsewhere = is.not_elsewhere; no_file = is.no_file; nothing_read = is.nothing_read }
-  failed_whatever (Probe request) is = record { failed = is.failed; alone = is.alone; no_file = is.no_file; nothing_read = is.nothing_read }
-  failed_whatever CheckInput is = (unprinted_whatever (intake_at before) asked.inputs held err failure CheckInput is.0, is.1)
-  failed_whatever (Check names) is = (unprinted_whatever (intake_at before) asked.inputs held err failure (Check names) is.0, is.1)
-  failed_whatever (Dialogue names stage) is = (unprinted_whatever (intake_at before) asked.inputs held err failure (Dialogue names stage) is.0, is.1)
-  failed_whatever (Rehearse rehearsal) is = (unprinted_whatever (intake_at before) asked.inputs held err failure (Rehearse rehearsal) is.0, is.1)
-  failed_whatever (TypeKeys console) is = (unprinted_whatever (intake_at before) asked.inputs held err failure (TypeKeys console) is.0, is.1)
+  failed_whatever (Machine (Save save)) is = record { failed = is.failed; not_elsewhere = is.not_elsewhere; no_file = is.no_file; nothing_read = is.nothing_read }
+  failed_whatever (Machine (Probe request)) is = record { failed = is.failed; alone = is.alone; no_file = is.no_file; nothing_read = is.nothing_read }
+  failed_whatever (Tape request) is = (unprinted_whatever (intake_at before) asked.inputs held err failure request is.0, is.1)

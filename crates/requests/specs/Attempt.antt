@@ -11,7 +11,8 @@ use Rattle.requests.specs.Saving.{AreWordsSaved, AreWordsUnsaved}
 use Rattle.requests.specs.Moment.{Moment, intake_at}
 use Rattle.request_values.specs.declared.request.Request.{Request}
 use Rattle.request_values.specs.Request.{only_prints}
-use Rattle.request_values.specs.declared.request.Request.TheVariants.{Load, Verify, Save, Probe}
+use Rattle.request_values.specs.declared.request.Request.TheVariants.{Tape, Machine}
+use Rattle.request_values.specs.declared.request.MachineRequest.TheVariants.{Load, Verify, Save, Probe}
 use Rattle.tape_requests.specs.Printing.{IsPrinted, IsUnprinted}
 
 -- nothing was asked of disk and consoles
@@ -20,19 +21,19 @@ AsksNobody before after = after.asked.outside ≡ before.asked.outside
 
 -- a request was done, and the program ends so
 abbrev pub IsDone : Request → Moment → Moment → Status → Type 0
-IsDone (Load names load) before after status = AreLoaded names.items load before after status
-IsDone (Verify names look) before after status = AreVerified names.items look before after status
-IsDone (Save save) before after status = AreWordsSaved save before after status
-IsDone (Probe request) before after status = IsConsoleProbed request before after status
-IsDone printing before after status = IsPrinted printing (intake_at before) (intake_at after) status × AsksNobody before after
+IsDone (Machine (Load names load)) before after status = AreLoaded names.items load before after status
+IsDone (Machine (Verify names look)) before after status = AreVerified names.items look before after status
+IsDone (Machine (Save save)) before after status = AreWordsSaved save before after status
+IsDone (Machine (Probe request)) before after status = IsConsoleProbed request before after status
+IsDone (Tape request) before after status = IsPrinted request (intake_at before) (intake_at after) status × AsksNobody before after
 
 -- a request failed
 abbrev pub IsFailed : Request → Moment → Moment → Failure → Type 0
-IsFailed (Load names load) before after failure = AreUnloaded names.items load before after failure
-IsFailed (Verify names look) before after failure = AreUnverified names.items look before after failure
-IsFailed (Save save) before after failure = AreWordsUnsaved save before after failure
-IsFailed (Probe request) before after failure = IsConsoleUnprobed request before after failure
-IsFailed printing before after failure = IsUnprinted printing (intake_at before) (intake_at after) failure × AsksNobody before after
+IsFailed (Machine (Load names load)) before after failure = AreUnloaded names.items load before after failure
+IsFailed (Machine (Verify names look)) before after failure = AreUnverified names.items look before after failure
+IsFailed (Machine (Save save)) before after failure = AreWordsUnsaved save before after failure
+IsFailed (Machine (Probe request)) before after failure = IsConsoleUnprobed request before after failure
+IsFailed (Tape request) before after failure = IsUnprinted request (intake_at before) (intake_at after) failure × AsksNobody before after
 
 -- it was done, with this status, and standard error has nothing of it
 pub record IsDoneQuietly (request : Request) (before after : Moment) (status : Status) : Type 0 where

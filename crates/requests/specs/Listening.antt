@@ -1,9 +1,12 @@
 -- What is heard of a machine once a load is over.
-use Rattle.std.specs.Prelude.{◌≡◌, ℕ, ◌+◌, ◌*◌, ◌<◌, ◌≤◌, ◌==◌, if◌then◌else◌, List, Option, Some, None}
+use Rattle.std.specs.Prelude.{◌≡◌, ℕ, ◌+◌, ◌*◌, ◌<◌, ◌≤◌, ◌==◌, if◌then◌else◌, List, [], ◌∷◌, Option, Some, None, IsSome}
 use Rattle.host_core.specs.declared.phase.End.{End}
 use Rattle.host_core.specs.declared.phase.End.TheVariants as end
 use Rattle.load_devices.specs.declared.fault.LineFault.{LineFault}
-use Rattle.load_devices.specs.declared.item.Item.{Item}
+use Rattle.load_devices.specs.Told.{Gains}
+use Rattle.console_reach.specs.Reached.{LineTold}
+use Rattle.endings.specs.declared.failure.Failure.{Failure}
+use Rattle.endings.specs.declared.failure.Failure.TheVariants.{CannotWrite}
 use Rattle.load_engine.specs.declared.stop.Stop.{Stop}
 use Rattle.load_engine.specs.declared.stop.Stop.TheVariants.{Ended}
 use Rattle.console_reach.specs.Listening.{Copying, IsListening, IsCopiedInPart}
@@ -25,31 +28,43 @@ abbrev pub quiet_time : ℕ → ℕ
 quiet_time quiet = if quiet == 0 then 1 else quiet
 
 -- what was heard of this line until so many seconds were silent, or until it was over, was written, and nothing was sent
-pub record IsHeardOutOf (fault : Option LineFault) (seconds quiet : ℕ) (before after : Copying) : Type 0 where
+pub record IsHeardOut (fault : Option LineFault) (seconds quiet : ℕ) (before after : Copying) : Type 0 where
   pub silences : ℕ
   pub enough : 1000 * seconds ≤ silences * quiet
   pub no_more : silences * quiet < 1000 * seconds + quiet
   pub listened : IsListening silences fault before after
 
--- the same of a line
-pub record IsHeardOut (seconds quiet : ℕ) (out out' : Known) : Type 0 where
-  pub fault : Option LineFault
-  pub said : Option (List Item)
-  pub said' : Option (List Item)
-  pub heard : IsHeardOutOf fault seconds quiet (record { said = said; out = out }) (record { said = said'; out = out' })
+-- what there was to listen to was heard out; where nobody listens nothing was said
+abbrev pub IsListenedTo : Option LineFault → Option ℕ → ℕ → Copying → Copying → Type 0
+IsListenedTo fault None quiet before after = after ≡ before
+IsListenedTo fault (Some seconds) quiet before after = IsHeardOut fault seconds quiet before after
 
--- a character that was heard could not be written
-pub record IsHeardInPart (out out' : Known) : Type 0 where
-  pub said : Option (List Item)
-  pub said' : Option (List Item)
-  pub cut : IsCopiedInPart (record { said = said; out = out }) (record { said = said'; out = out' })
+-- somebody listened, and what was heard could not be written
+pub record IsListeningCut (seconds : Option ℕ) (before after : Copying) (failure : Failure) : Type 0 where
+  pub asked : IsSome seconds
+  pub cut : IsCopiedInPart before after
+  pub is_output : failure ≡ CannotWrite
 
--- what there was to listen to was heard out
-abbrev pub IsListenedTo : Option ℕ → ℕ → Known → Known → Type 0
-IsListenedTo None quiet out out' = out' ≡ out
-IsListenedTo (Some seconds) quiet out out' = IsHeardOut seconds quiet out out'
+-- what the lines tell that were given back, and what the output holds
+pub record LinesAndOut : Type 0 where
+  pub lines : Option (List LineTold)
+  pub out : Known
 
--- and this is the line, of which nothing was heard where nobody listens
-abbrev pub IsThisListenedTo : Option LineFault → Option ℕ → ℕ → Copying → Copying → Type 0
-IsThisListenedTo fault None quiet before after = after ≡ before
-IsThisListenedTo fault (Some seconds) quiet before after = IsHeardOutOf fault seconds quiet before after
+-- what a line tells, and what the output holds that it is copied to
+abbrev pub copied_to : LineTold → Known → Copying
+copied_to line out = record { said = line.said; out = out }
+
+-- a line, where there is one, was listened to so long, and then given back
+abbrev pub IsLastHeard : Option ℕ → ℕ → Option LineTold → LinesAndOut → LinesAndOut → Type 0
+IsLastHeard seconds quiet None before after = after ≡ before
+IsLastHeard seconds quiet (Some line) before after =
+    (last : LineTold) × Gains before.lines after.lines (last ∷ [])
+    × IsListenedTo last.fault seconds quiet (copied_to line before.out) (copied_to last after.out)
+
+-- it was listened to and given back, and what was heard could not be written
+pub record IsLastCut (seconds : Option ℕ) (line : Option LineTold) (before after : LinesAndOut) (failure : Failure) : Type 0 where
+  pub first : LineTold
+  pub has_line : line ≡ Some first
+  pub last : LineTold
+  pub given_back : Gains before.lines after.lines (last ∷ [])
+  pub cut : IsListeningCut seconds (copied_to first before.out) (copied_to last after.out) failure

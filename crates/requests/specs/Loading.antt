@@ -1,18 +1,19 @@
 -- What becomes of a request to load a real machine.
-use Rattle.std.specs.Prelude.{◌≡◌, ◌⊎◌, ⊤, ℕ, Bool, List, Option, Some, None, IsSome, Result, IfOk, IfErr, codes}
+use Rattle.std.specs.Prelude.{◌≡◌, ◌⊎◌, ℕ, List, Option, Some, None, Result, IfOk, IfErr, codes}
+use Rattle.std.specs.declared.io.Write.{Ghosts as Write}
 use Rattle.console_reach.specs.Console.{ConsoleTold}
 use Rattle.tape_image.specs.Plan.{PlanValue, starting}
-use Rattle.load_engine.specs.declared.stop.Stop.{Stop}
 use Rattle.load_devices.specs.Told.{Gains, HasAsked}
 use Rattle.machine_load.specs.Called.{asked_by, IsAskedBefore}
-use Rattle.machine_load.specs.Load.{Around, IsReported}
+use Rattle.machine_load.specs.declared.surroundings.Surroundings.{Ghosts as Surroundings}
+use Rattle.machine_load.specs.GivenBack.{IsGivenBack}
+use Rattle.machine_load.specs.Load.{Around, Ending, IsReported}
 use Rattle.machine_load.specs.LoadFault.{IsLoadFault}
 use Rattle.machine_load.specs.RecordDisk.{FileKnown, IsClosedAfter, RecordDisk, disk_asked_by, disk_asked_before}
 use Rattle.machine_load.specs.declared.fault.LoadFault.{LoadFault}
 use Rattle.request_values.specs.declared.options.LoadOptions.{LoadOptions}
 use Rattle.record_file.specs.DiskStep.{DiskStep}
 use Rattle.endings.specs.declared.failure.Failure.{Failure}
-use Rattle.endings.specs.declared.failure.Failure.TheVariants.{CannotWrite}
 use Rattle.endings.specs.declared.status.Status.{Status}
 use Rattle.request_values.specs.declared.machine.Load.{Load as LoadRequest}
 use Rattle.input_files.specs.Opening.{Name}
@@ -22,34 +23,39 @@ use Rattle.input_files.specs.Inputs.{Known}
 use Rattle.requests.specs.Planning.{IsPlanned, IsUnplanned}
 use Rattle.requests.specs.Asked.{OutsideAsked, NotElsewhere}
 use Rattle.requests.specs.Moment.{Moment, intake_at}
-use Rattle.requests.specs.Listening.{IsListenedTo, IsHeardInPart, seconds_of, quiet_time}
+use Rattle.requests.specs.Listening.{IsLastCut, IsLastHeard, LinesAndOut, seconds_of, quiet_time}
 
 -- what faults call the record: its file's name, where it has one
 abbrev pub record_name : Option Name → List ℕ
 record_name None = codes "the record in memory"
 record_name (Some name) = name.now
 
--- a load of this plan, gone about so, was reported, and stopped so
-pub record IsPlanReported (plan : PlanValue) (options : LoadOptions) (out out' : Known) (stop : Stop) (marked : Bool) : Type 0 where
+-- what surroundings and an output tell
+abbrev pub console_around : {S L K W : Type 0} → Surroundings S L K → Write W → S → W → ConsoleTold
+console_around tell write around out =
+    record { asked = tell.asked around; call = tell.call around; lines = tell.lines around; out = write.contents out }
+
+-- of these the lines that were given back, and the output
+abbrev pub lines_and_out : ConsoleTold → LinesAndOut
+lines_and_out console = record { lines = console.lines; out = console.out }
+
+-- a load of this plan, gone about so, was reported, and ended so
+pub record IsPlanReported (plan : PlanValue) (options : LoadOptions) (before after : LinesAndOut) (ending : Ending) : Type 0 where
   pub around : Around
   pub around' : Around
-  pub reported : IsReported plan options (record { around = around; out = out }) (record { around = around'; out = out' }) stop marked
+  pub reported : IsReported plan options
+      (record { around = around; lines = before.lines; out = before.out }) (record { around = around'; lines = after.lines; out = after.out }) ending
 
--- what comes behind the report of a load that stopped so: what there was to listen to, and then the end
-pub record IsEnded (load : LoadRequest) (stop : Stop) (out out' : Known) (status : Status) : Type 0 where
-  pub listened : IsListenedTo (seconds_of load.listen stop) (quiet_time load.quiet_ms) out out'
-  pub status_is : IsStopStatus stop status
+-- what comes behind the report of a load that ended so: what there was to listen to, and then the end
+pub record IsEnded (load : LoadRequest) (ending : Ending) (before after : LinesAndOut) (status : Status) : Type 0 where
+  pub listened : IsLastHeard (seconds_of load.listen ending.stop) (quiet_time load.quiet_ms) ending.line before after
+  pub status_is : IsStopStatus ending.stop status
 
--- there was something to listen to, and it could not be written
-pub record IsListeningCut (load : LoadRequest) (stop : Stop) (out out' : Known) (failure : Failure) : Type 0 where
-  pub asked : IsSome (seconds_of load.listen stop)
-  pub cut : IsHeardInPart out out'
-  pub is_output : failure ≡ CannotWrite
-
--- what fails behind the report of a load that stopped so: its line or its record's keeper had, or the listening is cut
-abbrev pub IsEndFailure : LoadRequest → Stop → Bool → Known → Known → Failure → Type 0
-IsEndFailure load stop marked out out' failure =
-    (IsStopFailure stop marked (record_name load.record) failure × (out' ≡ out)) ⊎ IsListeningCut load stop out out' failure
+-- what fails behind it: its line or its record's keeper had, and nobody listens; or the listening is cut
+abbrev pub IsEndFailure : LoadRequest → Ending → LinesAndOut → LinesAndOut → Failure → Type 0
+IsEndFailure load ending before after failure =
+    (IsStopFailure ending.stop ending.marked (record_name load.record) failure × IsGivenBack before.lines after.lines ending.line × (after.out ≡ before.out))
+    ⊎ IsLastCut (seconds_of load.listen ending.stop) ending.line before after failure
 
 -- what is told of the console that a load is meant for, of the disk and of an output
 abbrev pub told_for : LoadRequest → OutsideAsked → Known → Told
@@ -67,32 +73,29 @@ AsksDisk (Some name) asked asked' holds = HasAsked asked asked' (IsClosedAfter h
 -- a load of this plan was done. It had a line, for which its console was asked for once and its record begun once; or it had none, and its
 -- record was read alone
 pub record IsPlanLoaded (plan : PlanValue) (load : LoadRequest) (on_disk : SaidOfDisk) (before after : ConsoleTold) (status : Status) : Type 0 where
-  pub stop : Stop
-  pub marked : Bool
-  pub between : Known
-  pub reported : IsPlanReported plan load.options before.out between stop marked
-  pub ended : IsEnded load stop between after.out status
-  pub line : Option ⊤
-  pub asked : Gains before.asked after.asked (asked_by before.call line)
-  pub disk : on_disk (disk_asked_by line)
+  pub ending : Ending
+  pub between : LinesAndOut
+  pub reported : IsPlanReported plan load.options (lines_and_out before) between ending
+  pub ended : IsEnded load ending between (lines_and_out after) status
+  pub asked : Gains before.asked after.asked (asked_by before.call ending.line)
+  pub disk : on_disk (disk_asked_by ending.line)
 
 -- a load of this plan was reported, and failed all the same
 pub record IsLoadBroken (plan : PlanValue) (load : LoadRequest) (on_disk : SaidOfDisk) (before after : ConsoleTold) (failure : Failure) : Type 0 where
-  pub stop : Stop
-  pub marked : Bool
-  pub between : Known
-  pub reported : IsPlanReported plan load.options before.out between stop marked
-  pub is_so : IsEndFailure load stop marked between after.out failure
-  pub line : Option ⊤
-  pub asked : Gains before.asked after.asked (asked_by before.call line)
-  pub disk : on_disk (disk_asked_by line)
+  pub ending : Ending
+  pub between : LinesAndOut
+  pub reported : IsPlanReported plan load.options (lines_and_out before) between ending
+  pub is_so : IsEndFailure load ending between (lines_and_out after) failure
+  pub asked : Gains before.asked after.asked (asked_by before.call ending.line)
+  pub disk : on_disk (disk_asked_by ending.line)
 
 -- a load of this plan came to nothing
 pub record IsLoadCutShort (plan : PlanValue) (load : LoadRequest) (on_disk : SaidOfDisk) (before after : ConsoleTold) (failure : Failure) : Type 0 where
   pub fault : LoadFault
   pub around : Around
   pub around' : Around
-  pub is_so : IsLoadFault plan load.options (record { around = around; out = before.out }) (record { around = around'; out = after.out }) fault
+  pub is_so : IsLoadFault plan load.options
+      (record { around = around; lines = before.lines; out = before.out }) (record { around = around'; lines = after.lines; out = after.out }) fault
   pub is_called : IsLoadFailureOf fault load.line.now (record_name load.record) failure
   pub asked : IsAskedBefore before.call before.asked after.asked fault
   pub disk : on_disk (disk_asked_before fault)

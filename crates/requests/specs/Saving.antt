@@ -26,7 +26,7 @@ options_of save = record { range = save.range; start = save.start; patience = sa
 
 -- what a save is told of its console and of the output; its shelf tells nothing
 abbrev pub save_told_of : ConsoleTold → SaveTold
-save_told_of console = record { steps = None; asked = console.asked; call = console.call; out = console.out }
+save_told_of console = record { steps = None; asked = console.asked; call = console.call; lines = console.lines; out = console.out }
 
 -- a disk was asked for this, for a tape of this name, and then for what it takes to let the file beside go
 pub record IsLetGoAfter (name : Name) (asked : Option (List DiskStep)) (holds : ShelfDisk → ShelfDisk → List DiskStep → Type 0) (steps : List DiskStep)

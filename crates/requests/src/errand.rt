@@ -27,8 +27,8 @@ pub(crate) trait Errand<'a> {
         out: &mut W,
     ) -> (C, D, Result<Status, Failure<'a>>)
         ensures { is_over self
-            (told (C.call console) (C.asked console) (D.asked disk) (W.contents out.old))
-            (told (C.call console) (C.asked result.0) (D.asked result.1) (W.contents out.new))
+            (told (C.call console) (C.asked console) (C.lines console) (D.asked disk) (W.contents out.old))
+            (told (C.call console) (C.asked result.0) (C.lines result.0) (D.asked result.1) (W.contents out.new))
             result.2 };
 }
 

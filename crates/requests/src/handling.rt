@@ -13,7 +13,7 @@ use crate::verifying::verify_tapes;
 use endings::{Failure, FaultOutput, Output, Status, Streams, tell_unless_unheard};
 use input_files::InputFiles;
 use record_file::Disk;
-use request_values::Request;
+use request_values::{MachineRequest, Request};
 use serial_line::DeviceOpening;
 use std::alloc::Global;
 use std::io::{Print, Read};
@@ -93,18 +93,22 @@ fn perform<
     ensures quiet { streams.new.err ≡ streams.old.err }
 {
     match request {
-        Request::Load(names, load) => load_tapes(system, alloc, names, *load, streams, terminal),
-        Request::Verify(names, look) => {
+        Request::Tape(request) => {
+            let outcome = print_answer(&mut system.inputs, alloc, request, streams);
+            (system, outcome)
+        }
+        Request::Machine(MachineRequest::Load(names, load)) => {
+            load_tapes(system, alloc, names, *load, streams, terminal)
+        }
+        Request::Machine(MachineRequest::Verify(names, look)) => {
             verify_tapes(system, alloc, names, *look, streams, terminal)
         }
-        Request::Save(save) => save_words(system, alloc, *save, &mut streams.out, terminal),
-        Request::Probe(probe) => {
+        Request::Machine(MachineRequest::Save(save)) => {
+            save_words(system, alloc, *save, &mut streams.out, terminal)
+        }
+        Request::Machine(MachineRequest::Probe(probe)) => {
             say_probing(terminal);
             probe_console(system, alloc, *probe, &mut streams.out)
-        }
-        printing => {
-            let outcome = print_answer(&mut system.inputs, alloc, printing, streams);
-            (system, outcome)
         }
     }
 }

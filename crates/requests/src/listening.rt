@@ -1,9 +1,7 @@
 //! Listening to a machine behind a load.
-ghost use Rattle.std.specs.Prelude.{◌≡◌, ◌⊎◌, ◌<◌, OnOk, IfErr, IsSome};
-ghost use Rattle.console_reach.specs.Listening.{copying};
-ghost use Rattle.machine_load.specs.Load.{IsNeverBegun};
-ghost use Rattle.requests.specs.Listening.{quiet_time, seconds_of, IsHeardInPart, IsHeardOut, IsHeardOutOf, IsListenedTo, IsThisListenedTo};
-ghost use Rattle.requests.specs.Loading.{IsListeningCut};
+ghost use Rattle.std.specs.Prelude.{◌≡◌, ◌<◌, OnOk, IfErr};
+ghost use Rattle.console_reach.specs.Listening.{copying, IsCopiedInPart};
+ghost use Rattle.requests.specs.Listening.{quiet_time, seconds_of, IsHeardOut, IsListenedTo, IsListeningCut};
 
 use console_reach::{listen, silences_within};
 use endings::Failure;
@@ -14,46 +12,21 @@ use request_values::Load;
 use std::io::Write;
 
 /// Listens behind a load that stopped so, where that is asked for and the program was started or may have
-/// been; a load that was over before it began has no line. `CannotWrite` where what is heard can't be
-/// written.
-pub(crate) fn listen_behind<L: Line + Drop, W: Write>(
-    load: Load<'_>,
-    stop: Stop,
-    line: Option<L>,
-    out: &mut W,
-) -> Result<(), Failure<'static>>
-    requires { IsSome line ⊎ IsNeverBegun stop }
-    ensures ok { OnOk result (IsListenedTo
-        (seconds_of load.entry.listen stop)
-        (quiet_time load.entry.quiet_ms)
-        (W.contents out.old)
-        (W.contents out.new)) }
-    ensures err { IfErr result (IsListeningCut load.entry stop (W.contents out.old) (W.contents out.new)) }
-{
-    match line {
-        Some(mut line) => listen_to(load, stop, &mut line, out),
-        None => Ok(()),
-    }
-}
-
-// Listens to a line, where somebody does behind a load that stopped so.
-fn listen_to<L: Line, W: Write>(
+/// been. Nothing is sent. `CannotWrite` where what is heard can't be written.
+pub(crate) fn listen_behind<L: Line, W: Write>(
     load: Load<'_>,
     stop: Stop,
     line: &mut L,
     out: &mut W,
 ) -> Result<(), Failure<'static>>
-    ensures line { OnOk result (IsThisListenedTo (L.last_fault line.new)
+    ensures heard { OnOk result (IsListenedTo (L.last_fault line.new)
         (seconds_of load.entry.listen stop)
         (quiet_time load.entry.quiet_ms)
         (copying L.told W.contents line.old out.old)
         (copying L.told W.contents line.new out.new)) }
-    ensures ok { OnOk result (IsListenedTo
-        (seconds_of load.entry.listen stop)
-        (quiet_time load.entry.quiet_ms)
-        (W.contents out.old)
-        (W.contents out.new)) }
-    ensures err { IfErr result (IsListeningCut load.entry stop (W.contents out.old) (W.contents out.new)) }
+    ensures cut { IfErr result (IsListeningCut (seconds_of load.entry.listen stop)
+        (copying L.told W.contents line.old out.old)
+        (copying L.told W.contents line.new out.new)) }
 {
     match seconds_of(load.listen, stop) {
         Some(seconds) => listen_for(seconds, load.quiet_ms, line, out),
@@ -78,13 +51,14 @@ fn listen_for<L: Line, W: Write>(
     line: &mut L,
     out: &mut W,
 ) -> Result<(), Failure<'static>>
-    ensures line { OnOk result (IsHeardOutOf (L.last_fault line.new)
+    ensures heard { OnOk result (IsHeardOut (L.last_fault line.new)
         seconds
         (quiet_time quiet_ms)
         (copying L.told W.contents line.old out.old)
         (copying L.told W.contents line.new out.new)) }
-    ensures ok { OnOk result (IsHeardOut seconds (quiet_time quiet_ms) (W.contents out.old) (W.contents out.new)) }
-    ensures cut { IfErr result (λ failure. IsHeardInPart (W.contents out.old) (W.contents out.new) × (failure ≡ Failure.CannotWrite)) }
+    ensures cut { IfErr result (λ failure. IsCopiedInPart
+        (copying L.told W.contents line.old out.old)
+        (copying L.told W.contents line.new out.new) × (failure ≡ Failure.CannotWrite)) }
 {
     let silences = silences_within(seconds, quiet_time(quiet_ms));
     match listen(line, out, silences) {

@@ -1,10 +1,12 @@
 //! Loading a real machine.
-ghost use Rattle.std.specs.Prelude.{◌≡◌, ◌⊎◌, IfOk, IfErr, IsSome};
+ghost use Rattle.std.specs.Prelude.{◌≡◌, ◌⊎◌, IfOk, IfErr};
 ghost use Rattle.std.specs.Mem.{FitsInMemory};
-ghost use Rattle.console_reach.specs.Console.{console_told};
-ghost use Rattle.machine_load.specs.Load.{IsNeverBegun};
+ghost use Rattle.console_reach.specs.Listening.{copying};
 ghost use Rattle.machine_load.specs.RecordDisk.{DiskAsked};
-ghost use Rattle.requests.specs.Loading.{record_name, AreLoaded, AreUnloaded, IsLoadOver};
+ghost use Rattle.machine_load.specs.Scene.{ending};
+ghost use Rattle.requests.specs.Ending.{IsStopFailure, IsStopStatus};
+ghost use Rattle.requests.specs.Listening.{quiet_time, seconds_of, IsListenedTo, IsListeningCut};
+ghost use Rattle.requests.specs.Loading.{console_around, lines_and_out, record_name, AreLoaded, AreUnloaded, IsLoadOver};
 ghost use Rattle.requests.specs.Loading.{IsEnded, IsEndFailure, IsPlanLoaded, IsPlanFailure};
 ghost use Rattle.requests.specs.Moment.{moment};
 
@@ -18,6 +20,7 @@ use console_reach::Reach;
 use endings::{Failure, FaultOutput, Output, Status, Streams};
 use input_files::InputFiles;
 use load_devices::Line;
+use load_engine::Stop;
 use machine_load::{Around, InMemory, Outcome, Surroundings, load};
 use record_file::{Disk, RecordFile};
 use request_values::Load;
@@ -129,11 +132,11 @@ fn load_with<'a, K: Clock, T: Print, S: Surroundings, W: Write>(
     out: &mut W,
 ) -> Result<Status, Failure<'a>>
     ensures ok { IfOk result (IsPlanLoaded plan request.entry (DiskAsked (S.disk around.old) (S.disk around.new))
-        (console_told S.asked S.call W.contents around.old out.old)
-        (console_told S.asked S.call W.contents around.new out.new)) }
+        (console_around S.Surroundings W.Write around.old out.old)
+        (console_around S.Surroundings W.Write around.new out.new)) }
     ensures err { IfErr result (IsPlanFailure plan request.entry (DiskAsked (S.disk around.old) (S.disk around.new))
-        (console_told S.asked S.call W.contents around.old out.old)
-        (console_told S.asked S.call W.contents around.new out.new)) }
+        (console_around S.Surroundings W.Write around.old out.old)
+        (console_around S.Surroundings W.Write around.new out.new)) }
 {
     let words = plan.words().len() as u32;
     match load(
@@ -146,23 +149,58 @@ fn load_with<'a, K: Clock, T: Print, S: Surroundings, W: Write>(
     ) {
         Ok(outcome) => {
             host.advise(request, words, &outcome);
-            end(request, outcome, out)
+            end(request, outcome, around, out)
         }
         Err(fault) => Err(load_failure(fault, request.line, record_name(request.record))),
     }
 }
 
-// What comes behind the report of a load: listening, where it is asked for, and then the status.
-fn end<'a, L: Line + Drop, W: Write>(
+// What comes behind the report of a load: listening, where it is asked for, the line given back, and then the status.
+fn end<'a, S: Surroundings, W: Write>(
     load: Load<'a>,
-    outcome: Outcome<L>,
+    outcome: Outcome<S::Line>,
+    around: &mut S,
     out: &mut W,
 ) -> Result<Status, Failure<'a>>
-    requires { IsSome outcome.line ⊎ IsNeverBegun outcome.stop }
-    ensures ok { IfOk result (IsEnded load.entry outcome.stop (W.contents out.old) (W.contents out.new)) }
-    ensures err { IfErr result (IsEndFailure load.entry outcome.stop outcome.marked (W.contents out.old) (W.contents out.new)) }
+    ensures ok { IfOk result (IsEnded load.entry (ending S.Line.Line outcome)
+        (lines_and_out (console_around S.Surroundings W.Write around.old out.old))
+        (lines_and_out (console_around S.Surroundings W.Write around.new out.new))) }
+    ensures err { IfErr result (IsEndFailure load.entry (ending S.Line.Line outcome)
+        (lines_and_out (console_around S.Surroundings W.Write around.old out.old))
+        (lines_and_out (console_around S.Surroundings W.Write around.new out.new))) }
+    ensures asked { S.asked around.new ≡ S.asked around.old }
+    ensures disk { S.disk around.new ≡ S.disk around.old }
 {
     let Outcome { stop, marked, line } = outcome;
+    match line {
+        Some(mut line) => {
+            let ended = end_over(load, stop, marked, &mut line, out);
+            around.let_go(line);
+            ended
+        }
+        None => after_load(stop, marked, record_name(load.record)),
+    }
+}
+
+// What comes behind the report of a load that stopped so, and had this line.
+fn end_over<'a, L: Line, W: Write>(
+    load: Load<'a>,
+    stop: Stop,
+    marked: bool,
+    line: &mut L,
+    out: &mut W,
+) -> Result<Status, Failure<'a>>
+    ensures ok { IfOk result (λ status. IsStopStatus stop status × IsListenedTo (L.last_fault line.new)
+        (seconds_of load.entry.listen stop)
+        (quiet_time load.entry.quiet_ms)
+        (copying L.told W.contents line.old out.old)
+        (copying L.told W.contents line.new out.new)) }
+    ensures err { IfErr result (λ failure.
+        (IsStopFailure stop marked (record_name load.entry.record) failure × (line.new ≡ line.old) × (out.new ≡ out.old))
+        ⊎ IsListeningCut (seconds_of load.entry.listen stop)
+        (copying L.told W.contents line.old out.old)
+        (copying L.told W.contents line.new out.new) failure) }
+{
     let status = after_load(stop, marked, record_name(load.record))?;
     listen_behind(load, stop, line, out)?;
     Ok(status)

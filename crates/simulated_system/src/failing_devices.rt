@@ -144,7 +144,7 @@ impl Output for BrokenOutput {
 
 // As standard error it tells all, so that the clauses of what is said there are no empty ones.
 impl FaultOutput for BrokenOutput {
-    ghost failures = { λ output. Some output.refused };
+    ghost said = { λ output. record { text = Some output.written.items; failures = Some output.refused } };
 
     fn put(&mut self, text: &[u8]) -> io::Result<usize> {
         let taken = self.write(text);

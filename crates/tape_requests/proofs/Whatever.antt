@@ -6,12 +6,12 @@ use Rattle.endings.specs.Held.{Held}
 use Rattle.input_files.specs.Intake.{Intake, intake}
 use Rattle.input_files.specs.Opening.{InputStep}
 use Rattle.input_files.proofs.Whatever.{tapes_whatever, unopened_whatever, with_error}
-use Rattle.request_values.specs.declared.request.Request.{Request}
-use Rattle.request_values.specs.declared.request.Request.TheVariants.{CheckInput, Check, Dialogue, Rehearse, «Type» as TypeKeys, Load, Verify, Save, Probe}
+use Rattle.request_values.specs.declared.request.TapeRequest.{TapeRequest}
+use Rattle.request_values.specs.declared.request.TapeRequest.TheVariants.{CheckInput, Check, Dialogue, Rehearse, «Type» as TypeKeys}
 use Rattle.tape_requests.specs.Printing.{IsUnprinted}
 
 module _ (before : Intake) (opened : Option (List InputStep)) (held : Held) (err : StandardError) (failure : Failure) where
-  pub unprinted_whatever : (request : Request) → IsUnprinted request before (intake opened held) failure
+  pub unprinted_whatever : (request : TapeRequest) → IsUnprinted request before (intake opened held) failure
       → IsUnprinted request before (intake opened (with_error held err)) failure
   unprinted_whatever CheckInput is = is
   unprinted_whatever (Check names) is =
@@ -25,7 +25,3 @@ module _ (before : Intake) (opened : Option (List InputStep)) (held : Held) (err
         (λ more. inr (⊎_elim (λ amiss. inl amiss) (λ cut. inr (cut.0, record { last = cut.1.last; count = cut.1.count; typed = cut.1.typed })) more)) is.0,
     is.1,
   )
-  unprinted_whatever (Load names load) is = absurd is
-  unprinted_whatever (Verify names look) is = absurd is
-  unprinted_whatever (Save save) is = absurd is
-  unprinted_whatever (Probe probe) is = absurd is

@@ -1,7 +1,6 @@
 //! Doing a request that is about no machine.
-ghost use Rattle.std.specs.Prelude.{◌≡◌, IfOk, IfErr, true};
+ghost use Rattle.std.specs.Prelude.{◌≡◌, IfOk, IfErr};
 ghost use Rattle.std.specs.Mem.{FitsInMemory};
-ghost use Rattle.request_values.specs.Request.{only_prints};
 ghost use Rattle.input_files.specs.Intake.{intake};
 ghost use Rattle.tape_requests.specs.Printing.{IsPrinted, IsUnprinted};
 
@@ -11,7 +10,7 @@ use crate::showing::show_dialogue;
 use crate::typing::type_input;
 use endings::{Failure, FaultOutput, Output, Status, Streams};
 use input_files::InputFiles;
-use request_values::Request;
+use request_values::TapeRequest;
 use std::alloc::Global;
 use std::io::Read;
 
@@ -23,26 +22,24 @@ use std::io::Read;
 /// `ScriptRefused` a script's. `TooLarge` is a simulated machine of more than 28,672 words. `CannotWrite` is an
 /// answer that could not be written whole. `NoMemory` comes only where a growth was refused.
 ///
-/// What is asked of the caller is that the request is none at a machine, and that a value of the input's type fits
-/// into memory, as each type of a program does.
+/// What is asked of the caller is only that a value of the input's type fits into memory, as each type of a
+/// program does.
 pub fn print_answer<'a, F: InputFiles, R: Read, W: Output, E: FaultOutput>(
     inputs: &mut F,
     alloc: Global,
-    request: &Request<'a>,
+    request: &TapeRequest<'a>,
     streams: &mut Streams<R, W, E>,
 ) -> Result<Status, Failure<'a>>
-    requires fits { FitsInMemory R.row }
-    requires prints { only_prints request.now ≡ true }
+    requires { FitsInMemory R.row }
     ensures ok { IfOk result (IsPrinted request.now (intake (F.opened inputs.old) streams.old) (intake (F.opened inputs.new) streams.new)) }
     ensures err { IfErr result (IsUnprinted request.now (intake (F.opened inputs.old) streams.old) (intake (F.opened inputs.new) streams.new)) }
     ensures quiet { streams.new.err ≡ streams.old.err }
 {
     match request {
-        Request::CheckInput => check_input(alloc, streams),
-        Request::Check(names) => check_tapes(inputs, alloc, names, streams),
-        Request::Dialogue(names, stage) => show_dialogue(inputs, alloc, names, *stage, streams),
-        Request::Rehearse(rehearsal) => rehearse(inputs, alloc, rehearsal, streams),
-        Request::Type(console) => type_input(alloc, *console, streams),
-        _ => unreachable!(),
+        TapeRequest::CheckInput => check_input(alloc, streams),
+        TapeRequest::Check(names) => check_tapes(inputs, alloc, names, streams),
+        TapeRequest::Dialogue(names, stage) => show_dialogue(inputs, alloc, names, *stage, streams),
+        TapeRequest::Rehearse(rehearsal) => rehearse(inputs, alloc, rehearsal, streams),
+        TapeRequest::Type(console) => type_input(alloc, *console, streams),
     }
 }

@@ -2,7 +2,7 @@ use Rattle.std.proofs.Common.{◌≡◌, ◌++◌, [], ◌∙◌, ℕ, List, cod
 use Rattle.std.proofs.lemmas.Result.{on_err_weaker}
 use Rattle.endings.specs.declared.failure.Failure.{Failure}
 use Rattle.endings.specs.Failure.{failure_words, failure_name, failure_end, fault_line}
-use Rattle.endings.specs.FaultOutput.{StandardError, standard_error}
+use Rattle.endings.specs.FaultOutput.{StandardError}
 use Rattle.endings.proofs.Lines.{IsSaidBut, on_any_err, none_said, piece_said, piece_cut, line_pieces}
 use Rattle.endings.proofs.telling.write_line.Goals as goal
 
@@ -14,7 +14,7 @@ unsaid a f words is =
 
 pub returns-in_err-say-clause-err : goal.returns-in_err-say-clause-err
 returns-in_err-say-clause-err g c =
-    let at = standard_error g.E.Write.contents g.E.FaultOutput.failures in
+    let at = g.E.FaultOutput.said in
     on_any_err c.from_residual.result _
     (piece_cut _ _ _ (fault_line c.args.failure) c.deref.result.now (failure_name c.args.failure ++ failure_end c.args.failure)
     (unsaid (at c.args.err.now) c.args.failure c.deref.result.now (c.deref.ensures.0 ∙ c.line_words.ensures.words))
@@ -22,7 +22,7 @@ returns-in_err-say-clause-err g c =
 
 pub returns-in_err-write_shown_name-clause-err : goal.returns-in_err-write_shown_name-clause-err
 returns-in_err-write_shown_name-clause-err g c =
-    let at = standard_error g.E.Write.contents g.E.FaultOutput.failures in
+    let at = g.E.FaultOutput.said in
     on_any_err c.from_residual-in_err-write_shown_name.result _
     (piece_cut _ _ _ (fault_line c.args.failure) (failure_name c.args.failure) (failure_end c.args.failure)
     (piece_said _ _ _ (fault_line c.args.failure) c.deref.result.now (failure_name c.args.failure ++ failure_end c.args.failure)
@@ -32,7 +32,7 @@ returns-in_err-write_shown_name-clause-err g c =
 
 pub returns-clause-err : goal.returns-clause-err
 returns-clause-err g c =
-    let at = standard_error g.E.Write.contents g.E.FaultOutput.failures in
+    let at = g.E.FaultOutput.said in
     on_err_weaker c.say-2.result
     (λ cut. piece_cut _ _ _ (fault_line c.args.failure) (failure_end c.args.failure) []
     (subst (IsSaidBut _ _ (fault_line c.args.failure)) (sym (append-nil (failure_end c.args.failure)))

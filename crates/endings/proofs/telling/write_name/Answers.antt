@@ -1,7 +1,7 @@
 use Rattle.std.proofs.Common.{sym, subst, ◌∙◌}
 use Rattle.std.specs.Str.Iter.{chars_rest}
 use Rattle.std.proofs.lemmas.Str.{IsUtf8-past_char}
-use Rattle.endings.specs.FaultOutput.{IsSaidInPart, IsSaidWhole, standard_error}
+use Rattle.endings.specs.FaultOutput.{IsSaidInPart, IsSaidWhole}
 use Rattle.endings.proofs.Lines.{IsSaidBut, on_any_err, piece_said, piece_cut, all_said}
 use Rattle.endings.proofs.Names.{shown_text, shown_text-char, shown_text-none, shown_name-some}
 use Rattle.endings.proofs.telling.write_name.Goals as goal
@@ -10,7 +10,7 @@ pub loop-character-preserved : goal.loop-character-preserved
 loop-character-preserved g c =
     let step = c.in-Some.ensures.steps.0 in
     let utf8 = c.loop-character.invariant.text in
-    let at = standard_error g.E.Write.contents g.E.FaultOutput.failures in record {
+    let at = g.E.FaultOutput.said in record {
       text = IsUtf8-past_char (chars_rest c.loop-character.character-iterator) (chars_rest c.next.new.self) c.in-Some.character utf8 step;
       so_far = piece_said _ _ _ _ _ _
           (subst (IsSaidBut (at c.args.err.now) (at c.loop-character.err) (shown_text c.args.name.now))
@@ -24,7 +24,7 @@ pub returns-in_err-say-clause-err : goal.returns-in_err-say-clause-err
 returns-in_err-say-clause-err g c =
     let step = c.in-Some.ensures.steps.0 in
     let utf8 = c.loop-character.invariant.text in
-    let at = standard_error g.E.Write.contents g.E.FaultOutput.failures in
+    let at = g.E.FaultOutput.said in
     on_any_err c.from_residual.result _
     (subst (IsSaidInPart (at c.args.err.now) (at c.say-in-loop-character.new.err))
     (sym (shown_name-some c.args.name.now c.is_empty.result c.is_empty.ensures c.if-is_empty.false))
@@ -37,7 +37,7 @@ returns-in_err-say-clause-err g c =
 
 pub returns-clause-ok : goal.returns-clause-ok
 returns-clause-ok g c =
-    let at = standard_error g.E.Write.contents g.E.FaultOutput.failures in
+    let at = g.E.FaultOutput.said in
     subst (IsSaidWhole (at c.args.err.now) (at c.loop-character.err))
     (sym (shown_name-some c.args.name.now c.is_empty.result c.is_empty.ensures c.if-is_empty.false))
     (all_said _ _ _

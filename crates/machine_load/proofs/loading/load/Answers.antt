@@ -1,155 +1,109 @@
-use Rattle.std.proofs.Common.{sym, subst, option_map}
-use Rattle.machine_load.specs.declared.fault.LoadFault.TheVariants.{WriteOutput}
-use Rattle.machine_load.specs.Driving.{finish_of, keeper_tells, line_told}
-use Rattle.machine_load.specs.Load.{around_of, setting, IsReported}
+use Rattle.std.proofs.Common.{◌≡◌, ◌∙◌, sym, subst, inl, option_map, rules}
+use Rattle.console_reach.specs.Reached.{line_told}
+use Rattle.machine_load.specs.Driving.{IsLoadReported, IsLoadUntold}
+use Rattle.machine_load.specs.GivenBack.{GivesNothingSaid, IsGivenBack}
+use Rattle.machine_load.specs.Load.{finish_of}
 use Rattle.machine_load.specs.LoadFault.{IsLoadFault}
+use Rattle.machine_load.specs.Scene.{Scene, IsNotLoaded, around_of, ending, keeper_of, scene}
 use Rattle.machine_load.proofs.Begun.{line_or_never, line_or_over, never_begun}
-use Rattle.machine_load.proofs.Driving.{is_life, load_reported, load_untold, undriven_told, unopened_told}
-use Rattle.machine_load.proofs.Faults.{of_opening, of_driving, of_report, error_is, no_value}
+use Rattle.machine_load.proofs.Driving.{asked_untold, cut_short_of, load_reported, load_untold, reported_of, undriven_told, unopened_told}
+use Rattle.machine_load.proofs.Faults.{of_opening, of_driving, error_is, no_value, not_loaded}
 use Rattle.machine_load.proofs.OnDisk.{lived_on, not_lived_on, untold_on}
 use Rattle.machine_load.specs.RecordDisk.{DiskAsked, disk_asked_by, disk_asked_before}
 use Rattle.machine_load.proofs.loading.load.Goals as goal
 
-pub returns-in_err-core-clause-reported : goal.returns-in_err-core-clause-reported
-returns-in_err-core-clause-reported g c = no_value c.from_residual.result _ _ c.from_residual.ensures.1
+pub returns-in_err-core-clause-ok : goal.returns-in_err-core-clause-ok
+returns-in_err-core-clause-ok g c = no_value c.from_residual.result _ _ c.from_residual.ensures.1
 
-pub returns-in_err-core-clause-fault : goal.returns-in_err-core-clause-fault
-returns-in_err-core-clause-fault g c =
-    error_is c.from_residual.result c.in_err-core.field-0.0
+pub returns-in_err-core-clause-err : goal.returns-in_err-core-clause-err
+returns-in_err-core-clause-err g c =
+    not_loaded c.from_residual.result _ _ _ _ _
+    (error_is c.from_residual.result c.in_err-core.field-0.0
     (IsLoadFault c.args.plan c.args.options
-    (setting g.S.Surroundings.steps g.S.Surroundings.record_text g.W.Write.contents c.args.around.now c.args.out.now)
-    (setting g.S.Surroundings.steps g.S.Surroundings.record_text g.W.Write.contents c.first_core.new.around c.args.out.now))
+    ((scene g.S.Surroundings g.W.Write c.args.around.now c.args.out.now).setting)
+    ((scene g.S.Surroundings g.W.Write c.first_core.new.around c.args.out.now).setting))
     c.from_residual.ensures.1
-    (of_opening _ _ _ _ _ c.in_err-core.field-0.0 c.in_err-core.ensures.fault c.first_core.ensures.same)
+    (of_opening _ _ _ _ _ _ _ c.in_err-core.field-0.0 c.in_err-core.ensures.fault c.first_core.ensures.same (inl c.first_core.ensures.lines)))
+    (error_is c.from_residual.result c.in_err-core.field-0.0 _ c.from_residual.ensures.1
+    (unopened_told c.args.plan
+    (around_of g.S.Surroundings c.args.around.now)
+    (around_of g.S.Surroundings c.first_core.new.around)
+    c.in_err-core.field-0.0 c.in_err-core.ensures.fault))
+    (search rules)
+    (search rules)
 
-pub returns-in_err-lived-clause-reported : goal.returns-in_err-lived-clause-reported
-returns-in_err-lived-clause-reported g c = no_value c.from_residual-in_err-lived.result _ _ c.from_residual-in_err-lived.ensures.1
+pub returns-in_err-lived-clause-ok : goal.returns-in_err-lived-clause-ok
+returns-in_err-lived-clause-ok g c = no_value c.from_residual-in_err-lived.result _ _ c.from_residual-in_err-lived.ensures.1
 
-pub returns-in_err-lived-clause-fault : goal.returns-in_err-lived-clause-fault
-returns-in_err-lived-clause-fault g c =
-    error_is c.from_residual-in_err-lived.result c.in_err-lived.field-0.0
+pub returns-in_err-lived-clause-err : goal.returns-in_err-lived-clause-err
+returns-in_err-lived-clause-err g c =
+    not_loaded c.from_residual-in_err-lived.result _ _ _ _ _
+    (error_is c.from_residual-in_err-lived.result c.in_err-lived.field-0.0
     (IsLoadFault c.args.plan c.args.options
-    (setting g.S.Surroundings.steps g.S.Surroundings.record_text g.W.Write.contents c.args.around.now c.args.out.now)
-    (setting g.S.Surroundings.steps g.S.Surroundings.record_text g.W.Write.contents c.live.new.around c.args.out.now))
+    ((scene g.S.Surroundings g.W.Write c.args.around.now c.args.out.now).setting)
+    ((scene g.S.Surroundings g.W.Write c.live.new.around c.args.out.now).setting))
     c.from_residual-in_err-lived.ensures.1
-    (of_driving _ _ _ _ (around_of g.S.Surroundings.steps g.S.Surroundings.record_text c.first_core.new.around) _ _ c.in_err-lived.field-0.0 c.in_ok-core.ensures.step c.first_core.ensures.same c.in_err-lived.ensures.fault)
+    (of_driving _ _ _ _ (around_of g.S.Surroundings c.first_core.new.around) _ _ _ _ c.in_err-lived.field-0.0 c.in_ok-core.ensures.step c.first_core.ensures.same
+    (subst (λ lines. GivesNothingSaid lines (g.S.Surroundings.lines c.live.new.around)) c.first_core.ensures.lines c.in_err-lived.ensures.lines_in_vain)
+    c.in_err-lived.ensures.fault))
+    (error_is c.from_residual-in_err-lived.result c.in_err-lived.field-0.0 _ c.from_residual-in_err-lived.ensures.1
+    (undriven_told c.in_ok-core.writable
+    (around_of g.S.Surroundings c.first_core.new.around)
+    (around_of g.S.Surroundings c.live.new.around)
+    c.in_err-lived.field-0.0 c.in_err-lived.ensures.fault))
+    (search rules)
+    (error_is c.from_residual-in_err-lived.result c.in_err-lived.field-0.0
+    (λ fault. DiskAsked (g.S.Surroundings.disk c.args.around.now) (g.S.Surroundings.disk c.live.new.around) (disk_asked_before fault))
+    c.from_residual-in_err-lived.ensures.1
+    (not_lived_on _ (g.S.Surroundings.disk c.first_core.new.around) _ c.in_err-lived.field-0.0 c.in_ok-core.ensures.disk c.in_err-lived.ensures.disk_in_vain))
 
-pub returns-in_err-report_life-clause-reported : goal.returns-in_err-report_life-clause-reported
-returns-in_err-report_life-clause-reported g c = no_value c.from_residual-in_err-report_life.result _ _ c.from_residual-in_err-report_life.ensures.1
-
-pub returns-in_err-report_life-clause-fault : goal.returns-in_err-report_life-clause-fault
-returns-in_err-report_life-clause-fault g c =
-    error_is c.from_residual-in_err-report_life.result WriteOutput
-    (IsLoadFault c.args.plan c.args.options
-    (setting g.S.Surroundings.steps g.S.Surroundings.record_text g.W.Write.contents c.args.around.now c.args.out.now)
-    (setting g.S.Surroundings.steps g.S.Surroundings.record_text g.W.Write.contents c.live.new.around c.report_life.new.out))
-    c.from_residual-in_err-report_life.ensures.1
-    (of_report _ _
-    (setting g.S.Surroundings.steps g.S.Surroundings.record_text g.W.Write.contents c.args.around.now c.args.out.now)
-    (setting g.S.Surroundings.steps g.S.Surroundings.record_text g.W.Write.contents c.live.new.around c.report_life.new.out)
-    c.in_ok-lived.lived.core c.in_ok-lived.lived.stop (record {
-      first = c.in_ok-core.core;
-      writable = c.in_ok-core.writable;
-      between = around_of g.S.Surroundings.steps g.S.Surroundings.record_text c.first_core.new.around;
-      read_first = c.in_ok-core.ensures.step;
-      record_read = c.first_core.ensures.same;
-      opened = c.in_ok-core.ensures.opened;
-      life = is_life _ _ _ _ _ (finish_of c.in_ok-lived.lived.core c.in_ok-lived.lived.stop _) c.in_ok-lived.ensures.lived;
-    }) c.in_err-report_life.ensures.err)
-
-pub returns-clause-reported : goal.returns-clause-reported
-returns-clause-reported g c =
-    subst (λ stop. IsReported c.args.plan c.args.options
-    (setting g.S.Surroundings.steps g.S.Surroundings.record_text g.W.Write.contents c.args.around.now c.args.out.now)
-    (setting g.S.Surroundings.steps g.S.Surroundings.record_text g.W.Write.contents c.live.new.around c.report_life.new.out)
-    stop c.outcome.result.marked)
-    (sym c.outcome.ensures.stop) (record {
-      last = c.in_ok-lived.lived.core;
-      load = record {
-        first = c.in_ok-core.core;
-        writable = c.in_ok-core.writable;
-        between = around_of g.S.Surroundings.steps g.S.Surroundings.record_text c.first_core.new.around;
-        read_first = c.in_ok-core.ensures.step;
-        record_read = c.first_core.ensures.same;
-        opened = c.in_ok-core.ensures.opened;
-        life = is_life _ _ _ _ _ (finish_of c.in_ok-lived.lived.core c.in_ok-lived.lived.stop _) c.in_ok-lived.ensures.lived;
-      };
-      marked_is = c.outcome.ensures.marked;
-      reported = c.in_ok-report_life.ensures.ok;
+pub returns-in-Err-clause-err : goal.returns-in-Err-clause-err
+returns-in-Err-clause-err g c =
+    let keeper = keeper_of g.S.Surroundings g.S.Keeper.Keep in
+    let before = scene g.S.Surroundings g.W.Write c.args.around.now c.args.out.now in
+    let after = scene g.S.Surroundings g.W.Write c.give_back.new.around c.report_life.new.out in
+    let line = option_map (line_told g.S.Line.Line) c.in_ok-lived.lived.line in
+    let untold : IsLoadUntold keeper c.args.plan c.args.options before.setting after.setting =
+    rw (sym c.give_back.ensures.steps, sym c.give_back.ensures.text) at
+    (load_untold keeper c.args.plan c.args.options before.setting
+    (record { around = around_of g.S.Surroundings c.live.new.around; lines = g.S.Surroundings.lines c.give_back.new.around; out = g.W.Write.contents c.report_life.new.out })
+    (around_of g.S.Surroundings c.first_core.new.around)
+    c.in_ok-core.core c.in_ok-core.writable
+    (finish_of c.in_ok-lived.lived.core c.in_ok-lived.lived.stop line)
+    c.in_ok-core.ensures.step c.first_core.ensures.same c.in_ok-core.ensures.opened c.in_ok-lived.ensures.lived c.in-Err.ensures.err
+    (subst (λ lines. IsGivenBack lines (g.S.Surroundings.lines c.give_back.new.around) line) (c.in_ok-lived.ensures.lines ∙ c.first_core.ensures.lines) c.give_back.ensures.lines)) in
+    subst (IsNotLoaded keeper c.args.plan c.args.options before after) (sym c.from.ensures) (record {
+      fault = cut_short_of keeper c.args.plan c.args.options before.setting after.setting untold;
+      untold = λ _. untold;
+      asked = rw (c.first_core.ensures.asked, c.first_core.ensures.call, sym c.give_back.ensures.asked) at
+          (asked_untold (g.S.Surroundings.call c.first_core.new.around) c.in_ok-lived.lived.line (g.S.Surroundings.asked c.first_core.new.around) (g.S.Surroundings.asked c.live.new.around) c.in_ok-lived.ensures.asked);
+      disk = rw (sym c.give_back.ensures.disk) at
+          (untold_on _ (g.S.Surroundings.disk c.first_core.new.around) _ c.in_ok-lived.lived.line c.in_ok-core.ensures.disk c.in_ok-lived.ensures.disk);
     })
 
-pub returns-clause-fault : goal.returns-clause-fault
-returns-clause-fault g c = tt
-
-pub returns-clause-lived : goal.returns-clause-lived
-returns-clause-lived g c =
+pub returns-in-Ok-clause-ok : goal.returns-in-Ok-clause-ok
+returns-in-Ok-clause-ok g c =
+    let keeper = keeper_of g.S.Surroundings g.S.Keeper.Keep in
+    let before = scene g.S.Surroundings g.W.Write c.args.around.now c.args.out.now in
+    let after = scene g.S.Surroundings g.W.Write c.live.new.around c.report_life.new.out in
+    let lived : IsLoadReported keeper c.args.plan c.args.options before.setting after.setting (ending g.S.Line.Line c.outcome.result) =
     rw (sym c.outcome.ensures.stop, sym c.outcome.ensures.marked, sym c.outcome.ensures.line) at
-    (load_reported
-    (keeper_tells g.S.Keeper.Keep.told g.S.Keeper.Keep.fault_count g.S.Keeper.Keep.last_fault g.S.Keeper.Keep.keeps g.S.Keeper.Keep.fails g.S.Surroundings.begins g.S.Surroundings.kept_text)
-    (line_told g.S.Line.Line.told g.S.Line.Line.fault_count g.S.Line.Line.last_fault)
-    c.args.plan c.args.options
-    (setting g.S.Surroundings.steps g.S.Surroundings.record_text g.W.Write.contents c.args.around.now c.args.out.now)
-    (setting g.S.Surroundings.steps g.S.Surroundings.record_text g.W.Write.contents c.live.new.around c.report_life.new.out)
-    (around_of g.S.Surroundings.steps g.S.Surroundings.record_text c.first_core.new.around)
+    (load_reported keeper (line_told g.S.Line.Line) c.args.plan c.args.options before.setting after.setting
+    (around_of g.S.Surroundings c.first_core.new.around)
     c.in_ok-core.core c.in_ok-lived.lived.core c.in_ok-core.writable c.in_ok-lived.lived.stop c.in_ok-lived.lived.line
-    c.in_ok-core.ensures.step c.first_core.ensures.same c.in_ok-core.ensures.opened c.in_ok-lived.ensures.lived c.in_ok-report_life.ensures.ok)
-
-pub returns-in_err-core-clause-untold : goal.returns-in_err-core-clause-untold
-returns-in_err-core-clause-untold g c =
-    error_is c.from_residual.result c.in_err-core.field-0.0 _ c.from_residual.ensures.1
-    (unopened_told c.args.plan
-    (around_of g.S.Surroundings.steps g.S.Surroundings.record_text c.args.around.now)
-    (around_of g.S.Surroundings.steps g.S.Surroundings.record_text c.first_core.new.around)
-    c.in_err-core.field-0.0 c.in_err-core.ensures.fault)
-
-pub returns-in_err-lived-clause-untold : goal.returns-in_err-lived-clause-untold
-returns-in_err-lived-clause-untold g c =
-    error_is c.from_residual-in_err-lived.result c.in_err-lived.field-0.0 _ c.from_residual-in_err-lived.ensures.1
-    (undriven_told c.in_ok-core.writable
-    (around_of g.S.Surroundings.steps g.S.Surroundings.record_text c.first_core.new.around)
-    (around_of g.S.Surroundings.steps g.S.Surroundings.record_text c.live.new.around)
-    c.in_err-lived.field-0.0 c.in_err-lived.ensures.fault)
-
-pub returns-in_err-report_life-clause-untold : goal.returns-in_err-report_life-clause-untold
-returns-in_err-report_life-clause-untold g c =
-    error_is c.from_residual-in_err-report_life.result WriteOutput _ c.from_residual-in_err-report_life.ensures.1
-    (λ _. load_untold
-    (keeper_tells g.S.Keeper.Keep.told g.S.Keeper.Keep.fault_count g.S.Keeper.Keep.last_fault g.S.Keeper.Keep.keeps g.S.Keeper.Keep.fails g.S.Surroundings.begins g.S.Surroundings.kept_text)
-    c.args.plan c.args.options
-    (setting g.S.Surroundings.steps g.S.Surroundings.record_text g.W.Write.contents c.args.around.now c.args.out.now)
-    (setting g.S.Surroundings.steps g.S.Surroundings.record_text g.W.Write.contents c.live.new.around c.report_life.new.out)
-    (around_of g.S.Surroundings.steps g.S.Surroundings.record_text c.first_core.new.around)
-    c.in_ok-core.core c.in_ok-core.writable
-    (finish_of c.in_ok-lived.lived.core c.in_ok-lived.lived.stop (option_map (line_told g.S.Line.Line.told g.S.Line.Line.fault_count g.S.Line.Line.last_fault) c.in_ok-lived.lived.line))
-    c.in_ok-core.ensures.step c.first_core.ensures.same c.in_ok-core.ensures.opened c.in_ok-lived.ensures.lived c.in_err-report_life.ensures.err)
-
-pub returns-clause-line : goal.returns-clause-line
-returns-clause-line g c = rw (sym c.outcome.ensures.stop, sym c.outcome.ensures.line) at
-    (line_or_never c.in_ok-lived.lived.line (never_begun _ _ _ _ _ _ c.in_ok-core.ensures.opened)
-    (line_or_over
-    (keeper_tells g.S.Keeper.Keep.told g.S.Keeper.Keep.fault_count g.S.Keeper.Keep.last_fault g.S.Keeper.Keep.keeps g.S.Keeper.Keep.fails g.S.Surroundings.begins g.S.Surroundings.kept_text)
-    (line_told g.S.Line.Line.told g.S.Line.Line.fault_count g.S.Line.Line.last_fault)
-    c.in_ok-core.writable c.in_ok-core.core c.in_ok-lived.lived.core
-    (around_of g.S.Surroundings.steps g.S.Surroundings.record_text c.first_core.new.around)
-    (around_of g.S.Surroundings.steps g.S.Surroundings.record_text c.live.new.around)
-    c.in_ok-lived.lived.stop c.in_ok-lived.lived.line c.in_ok-lived.ensures.lived))
-
-pub returns-in_err-lived-clause-disk_in_vain : goal.returns-in_err-lived-clause-disk_in_vain
-returns-in_err-lived-clause-disk_in_vain g c =
-    error_is c.from_residual-in_err-lived.result c.in_err-lived.field-0.0
-    (λ fault. DiskAsked (g.S.Surroundings.disk c.args.around.now) (g.S.Surroundings.disk c.live.new.around) (disk_asked_before fault))
-    c.from_residual-in_err-lived.ensures.1
-    (not_lived_on _ (g.S.Surroundings.disk c.first_core.new.around) _ c.in_err-lived.field-0.0 c.in_ok-core.ensures.disk c.in_err-lived.ensures.disk_in_vain)
-
-pub returns-in_err-report_life-clause-disk_in_vain : goal.returns-in_err-report_life-clause-disk_in_vain
-returns-in_err-report_life-clause-disk_in_vain g c =
-    error_is c.from_residual-in_err-report_life.result WriteOutput
-    (λ fault. DiskAsked (g.S.Surroundings.disk c.args.around.now) (g.S.Surroundings.disk c.live.new.around) (disk_asked_before fault))
-    c.from_residual-in_err-report_life.ensures.1
-    (untold_on _ (g.S.Surroundings.disk c.first_core.new.around) _ c.in_ok-lived.lived.line c.in_ok-core.ensures.disk c.in_ok-lived.ensures.disk)
-
-pub returns-clause-disk : goal.returns-clause-disk
-returns-clause-disk g c =
-    subst (λ line. DiskAsked (g.S.Surroundings.disk c.args.around.now) (g.S.Surroundings.disk c.live.new.around) (disk_asked_by line))
-    (sym c.outcome.ensures.line)
-    (lived_on _ (g.S.Surroundings.disk c.first_core.new.around) _ c.in_ok-lived.lived.line c.in_ok-core.ensures.disk c.in_ok-lived.ensures.disk)
+    c.in_ok-core.ensures.step c.first_core.ensures.same c.in_ok-core.ensures.opened c.in_ok-lived.ensures.lived c.in-Ok.ensures.ok) in
+    record {
+      reported = reported_of keeper c.args.plan c.args.options before.setting after.setting (ending g.S.Line.Line c.outcome.result) (c.in_ok-lived.ensures.lines ∙ c.first_core.ensures.lines) lived;
+      lived = lived;
+      line = rw (sym c.outcome.ensures.stop, sym c.outcome.ensures.line) at
+          (line_or_never c.in_ok-lived.lived.line (never_begun _ _ _ _ _ _ c.in_ok-core.ensures.opened)
+          (line_or_over keeper (line_told g.S.Line.Line)
+          c.in_ok-core.writable c.in_ok-core.core c.in_ok-lived.lived.core
+          (around_of g.S.Surroundings c.first_core.new.around)
+          (around_of g.S.Surroundings c.live.new.around)
+          c.in_ok-lived.lived.stop c.in_ok-lived.lived.line c.in_ok-lived.ensures.lived));
+      asked = search rules;
+      disk = subst (λ line. DiskAsked (g.S.Surroundings.disk c.args.around.now) (g.S.Surroundings.disk c.live.new.around) (disk_asked_by line))
+          (sym c.outcome.ensures.line)
+          (lived_on _ (g.S.Surroundings.disk c.first_core.new.around) _ c.in_ok-lived.lived.line c.in_ok-core.ensures.disk c.in_ok-lived.ensures.disk);
+    }

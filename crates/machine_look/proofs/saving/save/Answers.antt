@@ -29,8 +29,8 @@ returns-in_err-core-clause-reported g c = no_value c.from_residual.result _ _ c.
 pub returns-in_err-core-clause-fault : goal.returns-in_err-core-clause-fault
 returns-in_err-core-clause-fault g c =
     error_is c.from_residual.result Memory
-    (IsSaveFault c.args.options (save_told g.S.Shelf.steps g.R.Reach.asked g.R.Reach.call g.W.Write.contents c.args.shelf.now c.args.console.now c.args.out.now) (save_told g.S.Shelf.steps g.R.Reach.asked g.R.Reach.call g.W.Write.contents c.args.shelf.now c.args.console.now c.args.out.now))
-    c.from_residual.ensures.1 (inl (record { nothing_put = inl (gains_none (g.S.Shelf.steps c.args.shelf.now)); not_asked = refl }), Keeps-refl (g.W.Write.contents c.args.out.now))
+    (IsSaveFault c.args.options (save_told g.S.Shelf g.R.Reach g.W.Write c.args.shelf.now c.args.console.now c.args.out.now) (save_told g.S.Shelf g.R.Reach g.W.Write c.args.shelf.now c.args.console.now c.args.out.now))
+    c.from_residual.ensures.1 (inl (record { nothing_put = inl (gains_none (g.S.Shelf.steps c.args.shelf.now)); not_asked = refl; no_line = refl }), Keeps-refl (g.W.Write.contents c.args.out.now))
 
 pub returns-in_err-reserve-clause-reported : goal.returns-in_err-reserve-clause-reported
 returns-in_err-reserve-clause-reported g c = no_value c.from_residual-in_err-reserve.result _ _ c.from_residual-in_err-reserve.ensures.1
@@ -38,8 +38,8 @@ returns-in_err-reserve-clause-reported g c = no_value c.from_residual-in_err-res
 pub returns-in_err-reserve-clause-fault : goal.returns-in_err-reserve-clause-fault
 returns-in_err-reserve-clause-fault g c =
     error_is c.from_residual-in_err-reserve.result (fault_of_shelf c.in_err-reserve.field-0.0)
-    (IsSaveFault c.args.options (save_told g.S.Shelf.steps g.R.Reach.asked g.R.Reach.call g.W.Write.contents c.args.shelf.now c.args.console.now c.args.out.now) (save_told g.S.Shelf.steps g.R.Reach.asked g.R.Reach.call g.W.Write.contents c.reserve.new.self c.args.console.now c.args.out.now))
-    c.from_residual-in_err-reserve.ensures.1 (not_reserved c.args.options (save_told g.S.Shelf.steps g.R.Reach.asked g.R.Reach.call g.W.Write.contents c.args.shelf.now c.args.console.now c.args.out.now) (save_told g.S.Shelf.steps g.R.Reach.asked g.R.Reach.call g.W.Write.contents c.reserve.new.self c.args.console.now c.args.out.now) c.in_err-reserve.field-0.0 c.in_err-reserve.ensures.step refl (Keeps-refl (g.W.Write.contents c.args.out.now)))
+    (IsSaveFault c.args.options (save_told g.S.Shelf g.R.Reach g.W.Write c.args.shelf.now c.args.console.now c.args.out.now) (save_told g.S.Shelf g.R.Reach g.W.Write c.reserve.new.self c.args.console.now c.args.out.now))
+    c.from_residual-in_err-reserve.ensures.1 (not_reserved c.args.options (save_told g.S.Shelf g.R.Reach g.W.Write c.args.shelf.now c.args.console.now c.args.out.now) (save_told g.S.Shelf g.R.Reach g.W.Write c.reserve.new.self c.args.console.now c.args.out.now) c.in_err-reserve.field-0.0 c.in_err-reserve.ensures.step refl refl (Keeps-refl (g.W.Write.contents c.args.out.now)))
 
 pub returns-in_err-core-2-clause-reported : goal.returns-in_err-core-2-clause-reported
 returns-in_err-core-2-clause-reported g c = no_value c.from_residual-in_err-core-2.result _ _ c.from_residual-in_err-core-2.ensures.1
@@ -48,10 +48,10 @@ pub returns-in_err-core-2-clause-fault : goal.returns-in_err-core-2-clause-fault
 returns-in_err-core-2-clause-fault g c =
     let fails = c.in_err-core-2.ensures.fault in
     error_is c.from_residual-in_err-core-2.result c.in_err-core-2.field-0.0
-    (IsSaveFault c.args.options (save_told g.S.Shelf.steps g.R.Reach.asked g.R.Reach.call g.W.Write.contents c.args.shelf.now c.args.console.now c.args.out.now) (save_told g.S.Shelf.steps g.R.Reach.asked g.R.Reach.call g.W.Write.contents c.reserve.new.self c.look_over.new.console c.args.out.now))
+    (IsSaveFault c.args.options (save_told g.S.Shelf g.R.Reach g.W.Write c.args.shelf.now c.args.console.now c.args.out.now) (save_told g.S.Shelf g.R.Reach g.W.Write c.reserve.new.self c.look_over.new.console c.args.out.now))
     c.from_residual-in_err-core-2.ensures.1
-    (subst (IsSaveFault c.args.options (save_told g.S.Shelf.steps g.R.Reach.asked g.R.Reach.call g.W.Write.contents c.args.shelf.now c.args.console.now c.args.out.now) (save_told g.S.Shelf.steps g.R.Reach.asked g.R.Reach.call g.W.Write.contents c.reserve.new.self c.look_over.new.console c.args.out.now)) (sym fails.0)
-    (c.in_ok-reserve.ensures.step, c.in_err-core-2.ensures.asked_in_vain, Keeps-refl (g.W.Write.contents c.args.out.now)))
+    (subst (IsSaveFault c.args.options (save_told g.S.Shelf g.R.Reach g.W.Write c.args.shelf.now c.args.console.now c.args.out.now) (save_told g.S.Shelf g.R.Reach g.W.Write c.reserve.new.self c.look_over.new.console c.args.out.now)) (sym fails.0)
+    (c.in_ok-reserve.ensures.step, c.in_err-core-2.ensures.asked_in_vain, c.in_err-core-2.ensures.no_line, Keeps-refl (g.W.Write.contents c.args.out.now)))
 
 pub returns-in_err-keep-clause-reported : goal.returns-in_err-keep-clause-reported
 returns-in_err-keep-clause-reported g c = no_value c.from_residual-in_err-keep.result _ _ c.from_residual-in_err-keep.ensures.1
@@ -63,24 +63,24 @@ pub returns-in_err-keep-clause-fault : goal.returns-in_err-keep-clause-fault
 returns-in_err-keep-clause-fault g c =
     let range = c.from-from.ensures.in_order in
     let begins = first_is c.args.options.range.from c.args.options.range.to c.from-from.result c.to-to.result c.args.options.patience c.in_ok-core.core c.from-from.ensures.value c.to-to.ensures.value c.in_ok-core.ensures.begun in
-    let read = read_of c.args.options (save_told g.S.Shelf.steps g.R.Reach.asked g.R.Reach.call g.W.Write.contents c.args.shelf.now c.args.console.now c.args.out.now) (save_told g.S.Shelf.steps g.R.Reach.asked g.R.Reach.call g.W.Write.contents c.keep.new.shelf c.look_over.new.console c.args.out.now) c.in_ok-core.core c.in_ok-core-2.core c.in_ok-core-2.stop range c.keep.ensures.fits begins c.in_ok-core-2.ensures.look c.in_ok-core-2.ensures.asked in
+    let read = read_of c.args.options (save_told g.S.Shelf g.R.Reach g.W.Write c.args.shelf.now c.args.console.now c.args.out.now) (save_told g.S.Shelf g.R.Reach g.W.Write c.keep.new.shelf c.look_over.new.console c.args.out.now) c.in_ok-core.core c.in_ok-core-2.core c.in_ok-core-2.stop range c.keep.ensures.fits begins c.in_ok-core-2.ensures.look c.in_ok-core-2.ensures.asked in
     let fails = subst (λ a. IsKeepFault (saved_tape a c.in_ok-core-2.core.values c.args.options.start) (g.S.Shelf.steps c.reserve.new.self) (g.S.Shelf.steps c.keep.new.shelf) c.in_err-keep.field-0.0) c.from-from.ensures.value
     (subst (λ (numbers : List ℕ). IsKeepFault (saved_tape c.from-from.result numbers c.args.options.start) (g.S.Shelf.steps c.reserve.new.self) (g.S.Shelf.steps c.keep.new.shelf) c.in_err-keep.field-0.0) c.values.ensures.value c.in_err-keep.ensures.fault) in
     error_is c.from_residual-in_err-keep.result c.in_err-keep.field-0.0
-    (IsSaveFault c.args.options (save_told g.S.Shelf.steps g.R.Reach.asked g.R.Reach.call g.W.Write.contents c.args.shelf.now c.args.console.now c.args.out.now) (save_told g.S.Shelf.steps g.R.Reach.asked g.R.Reach.call g.W.Write.contents c.keep.new.shelf c.look_over.new.console c.args.out.now))
+    (IsSaveFault c.args.options (save_told g.S.Shelf g.R.Reach g.W.Write c.args.shelf.now c.args.console.now c.args.out.now) (save_told g.S.Shelf g.R.Reach g.W.Write c.keep.new.shelf c.look_over.new.console c.args.out.now))
     c.from_residual-in_err-keep.ensures.1
-    (not_kept c.args.options (save_told g.S.Shelf.steps g.R.Reach.asked g.R.Reach.call g.W.Write.contents c.args.shelf.now c.args.console.now c.args.out.now) (save_told g.S.Shelf.steps g.R.Reach.asked g.R.Reach.call g.W.Write.contents c.keep.new.shelf c.look_over.new.console c.args.out.now) (g.S.Shelf.steps c.reserve.new.self) c.in_err-keep.field-0.0 c.in_ok-reserve.ensures.step read fails (Keeps-refl (g.W.Write.contents c.args.out.now)))
+    (not_kept c.args.options (save_told g.S.Shelf g.R.Reach g.W.Write c.args.shelf.now c.args.console.now c.args.out.now) (save_told g.S.Shelf g.R.Reach g.W.Write c.keep.new.shelf c.look_over.new.console c.args.out.now) (g.S.Shelf.steps c.reserve.new.self) c.in_err-keep.field-0.0 c.in_ok-reserve.ensures.step read fails (Keeps-refl (g.W.Write.contents c.args.out.now)))
 
 pub returns-in_err-write_and_flush-clause-fault : goal.returns-in_err-write_and_flush-clause-fault
 returns-in_err-write_and_flush-clause-fault g c =
     let range = c.from-from.ensures.in_order in
     let begins = first_is c.args.options.range.from c.args.options.range.to c.from-from.result c.to-to.result c.args.options.patience c.in_ok-core.core c.from-from.ensures.value c.to-to.ensures.value c.in_ok-core.ensures.begun in
-    let read = read_of c.args.options (save_told g.S.Shelf.steps g.R.Reach.asked g.R.Reach.call g.W.Write.contents c.args.shelf.now c.args.console.now c.args.out.now) (save_told g.S.Shelf.steps g.R.Reach.asked g.R.Reach.call g.W.Write.contents c.keep.new.shelf c.look_over.new.console c.write_and_flush.new.out) c.in_ok-core.core c.in_ok-core-2.core c.in_ok-core-2.stop range c.keep.ensures.fits begins c.in_ok-core-2.ensures.look c.in_ok-core-2.ensures.asked in
+    let read = read_of c.args.options (save_told g.S.Shelf g.R.Reach g.W.Write c.args.shelf.now c.args.console.now c.args.out.now) (save_told g.S.Shelf g.R.Reach g.W.Write c.keep.new.shelf c.look_over.new.console c.write_and_flush.new.out) c.in_ok-core.core c.in_ok-core-2.core c.in_ok-core-2.stop range c.keep.ensures.fits begins c.in_ok-core-2.ensures.look c.in_ok-core-2.ensures.asked in
     let kept = subst (λ a. Gains (g.S.Shelf.steps c.reserve.new.self) (g.S.Shelf.steps c.keep.new.shelf) (puts a c.in_ok-core-2.core.values c.args.options.start)) c.from-from.ensures.value
     (subst (λ (numbers : List ℕ). Gains (g.S.Shelf.steps c.reserve.new.self) (g.S.Shelf.steps c.keep.new.shelf) (puts c.from-from.result numbers c.args.options.start)) c.values.ensures.value c.in_ok-keep.ensures.ok) in
     let text = c.deref.ensures.0 ∙ c.save_report.ensures in
     error_is c.from_residual-in_err-write_and_flush.result WriteOutput
-    (IsSaveFault c.args.options (save_told g.S.Shelf.steps g.R.Reach.asked g.R.Reach.call g.W.Write.contents c.args.shelf.now c.args.console.now c.args.out.now) (save_told g.S.Shelf.steps g.R.Reach.asked g.R.Reach.call g.W.Write.contents c.keep.new.shelf c.look_over.new.console c.write_and_flush.new.out))
+    (IsSaveFault c.args.options (save_told g.S.Shelf g.R.Reach g.W.Write c.args.shelf.now c.args.console.now c.args.out.now) (save_told g.S.Shelf g.R.Reach g.W.Write c.keep.new.shelf c.look_over.new.console c.write_and_flush.new.out))
     c.from_residual-in_err-write_and_flush.ensures.1 (record {
       saved = record { read = read; is_put = gains_join (g.S.Shelf.steps c.args.shelf.now) (g.S.Shelf.steps c.reserve.new.self) (g.S.Shelf.steps c.keep.new.shelf) (Reserve ∷ []) _ c.in_ok-reserve.ensures.step kept };
       missing = c.in_err-write_and_flush.ensures.err.0;
@@ -104,7 +104,7 @@ pub returns-clause-reported : goal.returns-clause-reported
 returns-clause-reported g c =
     let range = c.from-from.ensures.in_order in
     let begins = first_is c.args.options.range.from c.args.options.range.to c.from-from.result c.to-to.result c.args.options.patience c.in_ok-core.core c.from-from.ensures.value c.to-to.ensures.value c.in_ok-core.ensures.begun in
-    let read = read_of c.args.options (save_told g.S.Shelf.steps g.R.Reach.asked g.R.Reach.call g.W.Write.contents c.args.shelf.now c.args.console.now c.args.out.now) (save_told g.S.Shelf.steps g.R.Reach.asked g.R.Reach.call g.W.Write.contents c.keep.new.shelf c.look_over.new.console c.write_and_flush.new.out) c.in_ok-core.core c.in_ok-core-2.core c.in_ok-core-2.stop range c.keep.ensures.fits begins c.in_ok-core-2.ensures.look c.in_ok-core-2.ensures.asked in
+    let read = read_of c.args.options (save_told g.S.Shelf g.R.Reach g.W.Write c.args.shelf.now c.args.console.now c.args.out.now) (save_told g.S.Shelf g.R.Reach g.W.Write c.keep.new.shelf c.look_over.new.console c.write_and_flush.new.out) c.in_ok-core.core c.in_ok-core-2.core c.in_ok-core-2.stop range c.keep.ensures.fits begins c.in_ok-core-2.ensures.look c.in_ok-core-2.ensures.asked in
     let kept = subst (λ a. Gains (g.S.Shelf.steps c.reserve.new.self) (g.S.Shelf.steps c.keep.new.shelf) (puts a c.in_ok-core-2.core.values c.args.options.start)) c.from-from.ensures.value
     (subst (λ (numbers : List ℕ). Gains (g.S.Shelf.steps c.reserve.new.self) (g.S.Shelf.steps c.keep.new.shelf) (puts c.from-from.result numbers c.args.options.start)) c.values.ensures.value c.in_ok-keep.ensures.ok) in
     let text = c.deref.ensures.0 ∙ c.save_report.ensures in

@@ -1,8 +1,13 @@
-use Rattle.std.proofs.Common.{◌≡◌, inl, inr, refl}
+use Rattle.std.proofs.Common.{◌≡◌, IfOk, OnErr, [], ◌∷◌, inl, inr, refl, sym, subst}
+use Rattle.console_reach.specs.Reached.{line_told}
+use Rattle.load_devices.specs.Told.{Gains}
+use Rattle.stream_line.specs.Dialling.{asked_once}
 use Rattle.stream_line.proofs.Asked.{in_vain}
-use Rattle.machine_probe.specs.declared.probe_fault.ProbeFault.{ProbeFault}
 use Rattle.machine_probe.specs.declared.probe_fault.ProbeFault.TheVariants.{Connect, Memory}
-use Rattle.machine_probe.specs.ProbeFault.{IsUnreported, IsWanting}
+use Rattle.machine_probe.specs.Follow.{IsBrokenOff}
+use Rattle.machine_probe.specs.Probe.{IsReport}
+use Rattle.machine_probe.specs.ProbeFault.{IsUnreported, way_told}
+use Rattle.machine_probe.specs.Runs.{OnLine}
 use Rattle.machine_probe.proofs.Faults.{error_is, no_ok, no_value}
 use Rattle.machine_probe.proofs.probing.gather.Goals as goal
 
@@ -13,7 +18,9 @@ pub returns-in_err-lookers-clause-asked : goal.returns-in_err-lookers-clause-ask
 returns-in_err-lookers-clause-asked g c = no_ok c.from_residual.result _ _ c.from_residual.ensures.1
 
 pub returns-in_err-lookers-clause-fault : goal.returns-in_err-lookers-clause-fault
-returns-in_err-lookers-clause-fault g c = error_is c.from_residual.result Memory (IsUnreported (g.R.Reach.call c.args.console.now) (g.R.Reach.asked c.args.console.now) (g.R.Reach.asked c.args.console.now)) c.from_residual.ensures.1 (inl refl)
+returns-in_err-lookers-clause-fault g c =
+    let told = way_told g.R.Reach c.args.console.now in
+    error_is c.from_residual.result Memory (IsUnreported g.R.Line.Line c.args.options told told) c.from_residual.ensures.1 (inl (record { not_asked = refl; no_line = refl }))
 
 pub returns-in_err-line-clause-report : goal.returns-in_err-line-clause-report
 returns-in_err-line-clause-report g c = no_value c.from_residual-in_err-line.result _ _ c.from_residual-in_err-line.ensures.1
@@ -22,34 +29,27 @@ pub returns-in_err-line-clause-asked : goal.returns-in_err-line-clause-asked
 returns-in_err-line-clause-asked g c = no_ok c.from_residual-in_err-line.result _ _ c.from_residual-in_err-line.ensures.1
 
 pub returns-in_err-line-clause-fault : goal.returns-in_err-line-clause-fault
-returns-in_err-line-clause-fault g c = error_is c.from_residual-in_err-line.result Connect (IsUnreported (g.R.Reach.call c.args.console.now) (g.R.Reach.asked c.args.console.now) (g.R.Reach.asked c.reach.new.self)) c.from_residual-in_err-line.ensures.1 (in_vain _ _ _ c.in_err-line.field-0.0 c.in_err-line.ensures.asked)
+returns-in_err-line-clause-fault g c =
+    error_is c.from_residual-in_err-line.result Connect (IsUnreported g.R.Line.Line c.args.options (way_told g.R.Reach c.args.console.now) (way_told g.R.Reach c.reach.new.self))
+    c.from_residual-in_err-line.ensures.1 (in_vain _ _ _ c.in_err-line.field-0.0 c.in_err-line.ensures.asked, c.in_err-line.ensures.lines)
 
-pub returns-in_err-end-clause-report : goal.returns-in_err-end-clause-report
-returns-in_err-end-clause-report g c = no_value c.from_residual-in_err-end.result _ _ c.from_residual-in_err-end.ensures.1
+pub returns-in-Ok-clause-report : goal.returns-in-Ok-clause-report
+returns-in-Ok-clause-report g c =
+    let told = g.R.Line.Line.told in
+    let last = c.report_noted-outcome.result.1 in (
+      c.in_ok-line.line,
+      last,
+      subst (λ lines. Gains lines (g.R.Reach.lines c.let_go.new.self) (line_told g.R.Line.Line last ∷ [])) c.in_ok-line.ensures.lines c.let_go.ensures.lines,
+      subst (λ outcome. IfOk outcome (IsReport c.args.options (told c.in_ok-line.line) (told last) c.report_noted-outcome.new.report.items)) c.in-Ok.is c.report_noted-outcome.ensures.report,
+    )
 
-pub returns-in_err-end-clause-asked : goal.returns-in_err-end-clause-asked
-returns-in_err-end-clause-asked g c = no_ok c.from_residual-in_err-end.result _ _ c.from_residual-in_err-end.ensures.1
-
-pub returns-in_err-end-clause-fault : goal.returns-in_err-end-clause-fault
-returns-in_err-end-clause-fault g c = error_is c.from_residual-in_err-end.result Memory (IsUnreported (g.R.Reach.call c.args.console.now) (g.R.Reach.asked c.args.console.now) (g.R.Reach.asked c.reach.new.self)) c.from_residual-in_err-end.ensures.1 (inr c.in_ok-line.ensures.asked)
-
-pub returns-clause-report : goal.returns-clause-report
-returns-clause-report g c = (c.in_ok-line.line, c.in_ok-end.ensures.report.0, c.in_ok-end.ensures.report.1)
-
-pub returns-in_err-lookers-clause-wanting : goal.returns-in_err-lookers-clause-wanting
-returns-in_err-lookers-clause-wanting g c =
-    error_is c.from_residual.result Memory
-    (λ (fault : ProbeFault). fault ≡ Memory → IsWanting g.R.Line.Line.told c.args.options (g.R.Reach.call c.args.console.now) (g.R.Reach.asked c.args.console.now) (g.R.Reach.asked c.args.console.now))
-    c.from_residual.ensures.1 (λ _. inl refl)
-
-pub returns-in_err-line-clause-wanting : goal.returns-in_err-line-clause-wanting
-returns-in_err-line-clause-wanting g c =
-    error_is c.from_residual-in_err-line.result Connect
-    (λ (fault : ProbeFault). fault ≡ Memory → IsWanting g.R.Line.Line.told c.args.options (g.R.Reach.call c.args.console.now) (g.R.Reach.asked c.args.console.now) (g.R.Reach.asked c.reach.new.self))
-    c.from_residual-in_err-line.ensures.1 (λ is. absurd (cc is))
-
-pub returns-in_err-end-clause-wanting : goal.returns-in_err-end-clause-wanting
-returns-in_err-end-clause-wanting g c =
-    error_is c.from_residual-in_err-end.result Memory
-    (λ (fault : ProbeFault). fault ≡ Memory → IsWanting g.R.Line.Line.told c.args.options (g.R.Reach.call c.args.console.now) (g.R.Reach.asked c.args.console.now) (g.R.Reach.asked c.reach.new.self))
-    c.from_residual-in_err-end.ensures.1 (λ _. inr (c.in_ok-line.ensures.asked, (c.in_ok-line.line, c.in_ok-line.ensures.fresh.nothing_said, c.in_err-end.ensures.wanting)))
+pub returns-in-Err-clause-fault : goal.returns-in-Err-clause-fault
+returns-in-Err-clause-fault g c =
+    let told = g.R.Line.Line.told in
+    let last = c.report_noted-outcome.result.1 in
+    inr (c.in_ok-line.line, last, record {
+      asked = subst (λ asked. Gains (g.R.Reach.asked c.args.console.now) asked (asked_once (g.R.Reach.call c.args.console.now))) (sym c.let_go.ensures.asked) c.in_ok-line.ensures.asked;
+      fresh = c.in_ok-line.ensures.fresh.nothing_said;
+      runs = subst (λ outcome. OnErr outcome (OnLine (IsBrokenOff c.args.options) (told c.in_ok-line.line) (told last))) c.in-Err.is c.report_noted-outcome.ensures.wanting;
+      given_back = subst (λ lines. Gains lines (g.R.Reach.lines c.let_go.new.self) (line_told g.R.Line.Line last ∷ [])) c.in_ok-line.ensures.lines c.let_go.ensures.lines;
+    })

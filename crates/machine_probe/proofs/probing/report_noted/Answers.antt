@@ -1,19 +1,18 @@
-use Rattle.std.proofs.Common.{arith}
-use Rattle.machine_probe.proofs.Faults.{on_error}
-use Rattle.machine_probe.proofs.Reports.{broken_off_behind, broken_off_from, report_from}
+use Rattle.std.proofs.Common.{IfOk, OnErr, sym, subst}
+use Rattle.machine_probe.specs.Follow.{IsBrokenOff}
+use Rattle.machine_probe.specs.Probe.{IsReport}
+use Rattle.machine_probe.specs.Runs.{OnLine}
 use Rattle.machine_probe.proofs.probing.report_noted.Goals as goal
 
 pub returns-clause-report : goal.returns-clause-report
 returns-clause-report g c =
-    report_from g.L.Line.told c.args.options c.args.line c.new-line.result c.make_runs.new.line g.E.Opening.told c.in_ok-findings.findings c.notes.result.now c.pace.result c.args.report.now.items c.put_report.new.text.items c.put_report.result
-    c.requires.address (omega arith) c.requires.fresh c.new-line.ensures c.requires.opening c.in_ok-findings.ensures.made c.notes.ensures c.requires.empty c.put_report.ensures.text c.put_report.ensures.end
+    let outcome = c.report_runs-outcome.result in
+    let text = c.report_runs-outcome.new.report.items in
+    subst (λ last. IfOk outcome (IsReport c.args.options (g.L.Line.told c.args.line) (g.L.Line.told last) text)) (sym c.into_line.ensures)
+    (subst (λ first. IfOk outcome (IsReport c.args.options (g.L.Line.told first) (g.L.Line.told c.report_runs-outcome.new.line) text)) c.new-noted.ensures c.report_runs-outcome.ensures.report)
 
 pub returns-clause-wanting : goal.returns-clause-wanting
 returns-clause-wanting g c =
-    on_error c.put_report.result _ (broken_off_from g.L.Line.told c.args.options c.args.line c.new-line.result c.make_runs.new.line c.new-line.ensures
-    (broken_off_behind c.args.options c.in_ok-findings.findings (g.L.Line.told c.new-line.result) (g.L.Line.told c.make_runs.new.line) c.in_ok-findings.ensures.made))
-
-pub returns-in_err-findings-clause-wanting : goal.returns-in_err-findings-clause-wanting
-returns-in_err-findings-clause-wanting g c =
-    on_error c.from_residual.result _
-    (broken_off_from g.L.Line.told c.args.options c.args.line c.new-line.result c.make_runs.new.line c.new-line.ensures c.in_err-findings.ensures.wanting)
+    let outcome = c.report_runs-outcome.result in
+    subst (λ last. OnErr outcome (OnLine (IsBrokenOff c.args.options) (g.L.Line.told c.args.line) (g.L.Line.told last))) (sym c.into_line.ensures)
+    (subst (λ first. OnErr outcome (OnLine (IsBrokenOff c.args.options) (g.L.Line.told first) (g.L.Line.told c.report_runs-outcome.new.line))) c.new-noted.ensures c.report_runs-outcome.ensures.wanting)

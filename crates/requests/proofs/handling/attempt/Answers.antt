@@ -1,6 +1,6 @@
 use Rattle.std.proofs.Common.{◌∙◌, IfErr, inr, ap, subst}
 use Rattle.endings.specs.Failure.{is_unheard, IsToldUnless}
-use Rattle.endings.specs.FaultOutput.{StandardError, standard_error}
+use Rattle.endings.specs.FaultOutput.{StandardError}
 use Rattle.endings.specs.Held.{Held}
 use Rattle.requests.specs.Moment.{Moment, moment}
 use Rattle.requests.specs.Attempt.{IsFailed}
@@ -11,8 +11,8 @@ pub returns-in-Err : goal.returns-in-Err
 returns-in-Err g c =
     let out = c.streams.inside.out in
     let unread = g.W.Output.unread out in
-    let err = standard_error g.E.Write.contents g.E.FaultOutput.failures c.streams.inside.err in
-    let err' = standard_error g.E.Write.contents g.E.FaultOutput.failures c.tell_unless_unheard.new.err in
+    let err = g.E.FaultOutput.said c.streams.inside.err in
+    let err' = g.E.FaultOutput.said c.tell_unless_unheard.new.err in
     let held : Held = record { input = g.R.Read.remaining c.streams.inside.input; out = g.W.Write.contents out; unread = unread; err = err } in
     let before : Moment = moment c.args.system c.args.streams.now in
     let asked = c.perform-system.result.0 in

@@ -19,15 +19,16 @@ returns-in-Some g c =
     let disk = g.D.Disk.asked c.args.disk in
     let disk' = g.D.Disk.asked c.close.result in
     let asked' = g.C.Reach.asked c.load_with-outcome.new.around.console in
+    let lines' = g.C.Reach.lines c.load_with-outcome.new.around.console in
     let out' = g.W.Write.contents c.load_with-outcome.new.out in
-    let before : ConsoleTold = record { asked = g.C.Reach.asked c.args.console; call = call; out = g.W.Write.contents c.args.out.now } in
-    let after : ConsoleTold = record { asked = asked'; call = call; out = out' } in
+    let before : ConsoleTold = record { asked = g.C.Reach.asked c.args.console; call = call; lines = g.C.Reach.lines c.args.console; out = g.W.Write.contents c.args.out.now } in
+    let after : ConsoleTold = record { asked = asked'; call = call; lines = lines'; out = out' } in
     let closed = closed_new b a disk disk' c.in-Some.name.now (ap g.D.Disk.asked c.new-records.ensures.disk) c.new-records.ensures.name c.new-records.ensures.held c.close.ensures.asked in
     record {
       ok = subst (λ file. IfOk c.load_with-outcome.result (IsPlanLoaded plan load (AsksDisk file disk disk') before after)) (sym c.in-Some.is)
-          (IfOk-weaker c.load_with-outcome.result _ _ (loaded_as plan load _ _ before asked' out' _ call closed) c.load_with-outcome.ensures.ok);
+          (IfOk-weaker c.load_with-outcome.result _ _ (loaded_as plan load _ _ before asked' lines' out' _ call closed) c.load_with-outcome.ensures.ok);
       err = subst (λ file. IfErr c.load_with-outcome.result (IsPlanFailure plan load (AsksDisk file disk disk') before after)) (sym c.in-Some.is)
-          (IfErr-weaker c.load_with-outcome.result _ _ (failed_as plan load _ _ before asked' out' _ call closed) c.load_with-outcome.ensures.err);
+          (IfErr-weaker c.load_with-outcome.result _ _ (failed_as plan load _ _ before asked' lines' out' _ call closed) c.load_with-outcome.ensures.err);
     }
 
 pub returns-in-None : goal.returns-in-None
@@ -38,12 +39,13 @@ returns-in-None g c =
     let disk = g.D.Disk.asked c.args.disk in
     let outcome = c.load_with-outcome-in-None.result in
     let asked' = g.C.Reach.asked c.load_with-outcome-in-None.new.around.console in
+    let lines' = g.C.Reach.lines c.load_with-outcome-in-None.new.around.console in
     let out' = g.W.Write.contents c.load_with-outcome-in-None.new.out in
-    let before : ConsoleTold = record { asked = g.C.Reach.asked c.args.console; call = call; out = g.W.Write.contents c.args.out.now } in
-    let after : ConsoleTold = record { asked = asked'; call = call; out = out' } in
+    let before : ConsoleTold = record { asked = g.C.Reach.asked c.args.console; call = call; lines = g.C.Reach.lines c.args.console; out = g.W.Write.contents c.args.out.now } in
+    let after : ConsoleTold = record { asked = asked'; call = call; lines = lines'; out = out' } in
     record {
       ok = subst (λ file. IfOk outcome (IsPlanLoaded plan load (AsksDisk file disk disk) before after)) (sym c.in-None.is)
-          (IfOk-weaker outcome _ _ (loaded_as plan load _ _ before asked' out' _ call (λ holds h. refl)) c.load_with-outcome-in-None.ensures.ok);
+          (IfOk-weaker outcome _ _ (loaded_as plan load _ _ before asked' lines' out' _ call (λ holds h. refl)) c.load_with-outcome-in-None.ensures.ok);
       err = subst (λ file. IfErr outcome (IsPlanFailure plan load (AsksDisk file disk disk) before after)) (sym c.in-None.is)
-          (IfErr-weaker outcome _ _ (failed_as plan load _ _ before asked' out' _ call (λ holds h. refl)) c.load_with-outcome-in-None.ensures.err);
+          (IfErr-weaker outcome _ _ (failed_as plan load _ _ before asked' lines' out' _ call (λ holds h. refl)) c.load_with-outcome-in-None.ensures.err);
     }

@@ -20,8 +20,8 @@ returns-in-Ok g c =
     let on_disk = let_go_new save.file b a asked asked' (ap g.D.Disk.asked c.new-shelf.ensures.disk) c.new-shelf.ensures.name
     (ap (option_map (room_of g.D.File.Write.contents)) c.new-shelf.ensures.room) c.close-disk.ensures.asked in
     let disk = on_disk (IsSavedOn (options_of save)) c.in-Ok.ensures.disk in
-    let before : Told = told (g.C.Reach.call c.args.console) (g.C.Reach.asked c.args.console) asked (g.W.Write.contents c.args.out.now) in
-    let after : Call → Told = λ call. told call (g.C.Reach.asked c.save-saved.new.console) asked' (g.W.Write.contents c.save-saved.new.out) in
+    let before : Told = told (g.C.Reach.call c.args.console) (g.C.Reach.asked c.args.console) (g.C.Reach.lines c.args.console) asked (g.W.Write.contents c.args.out.now) in
+    let after : Call → Told = λ call. told call (g.C.Reach.asked c.save-saved.new.console) (g.C.Reach.lines c.save-saved.new.console) asked' (g.W.Write.contents c.save-saved.new.out) in
     let reported = subst (λ call. IsSavedAndReported (options_of save) (save_told_of before.console) (save_told_of (after call).console) c.in-Ok.end) c.save-saved.ensures.call c.in-Ok.ensures.reported in
     record {
       ok = over_ok c.after_save.result save before (after (g.C.Reach.call c.args.console)) c.in-Ok.end c.after_save.ensures reported disk;
@@ -37,8 +37,8 @@ returns-in-Err g c =
     let a : ShelfDisk = record { asked = g.D.Disk.asked c.save-saved.new.shelf.disk; name = c.save-saved.new.shelf.name.now; room = option_map (room_of g.D.File.Write.contents) c.save-saved.new.shelf.beside } in
     let on_disk = let_go_new save.file b a asked asked' (ap g.D.Disk.asked c.new-shelf.ensures.disk) c.new-shelf.ensures.name
     (ap (option_map (room_of g.D.File.Write.contents)) c.new-shelf.ensures.room) c.close-disk.ensures.asked in
-    let before : Told = told (g.C.Reach.call c.args.console) (g.C.Reach.asked c.args.console) asked (g.W.Write.contents c.args.out.now) in
-    let after : Call → Told = λ call. told call (g.C.Reach.asked c.save-saved.new.console) asked' (g.W.Write.contents c.save-saved.new.out) in
+    let before : Told = told (g.C.Reach.call c.args.console) (g.C.Reach.asked c.args.console) (g.C.Reach.lines c.args.console) asked (g.W.Write.contents c.args.out.now) in
+    let after : Call → Told = λ call. told call (g.C.Reach.asked c.save-saved.new.console) (g.C.Reach.lines c.save-saved.new.console) asked' (g.W.Write.contents c.save-saved.new.out) in
     record {
       ok = tt;
       err = inl (record {

@@ -1,0 +1,74 @@
+-- A load as those tell of it with whom it is done: the surroundings and the output, the line and the keeper.
+use Rattle.std.specs.Prelude.{◌≡◌, ◌⊎◌, List, Option, IsSome, option_map}
+use Rattle.std.specs.declared.io.Write.{Ghosts as Write}
+use Rattle.load_devices.specs.declared.keep.Keep.{Ghosts as Keep}
+use Rattle.load_devices.specs.declared.line.Line.{Ghosts as Line}
+use Rattle.load_devices.specs.Told.{Gains}
+use Rattle.console_reach.specs.Reached.{line_told}
+use Rattle.machine_load.specs.declared.fault.LoadFault.{LoadFault}
+use Rattle.machine_load.specs.declared.fault.LoadFault.TheVariants.{WriteOutput}
+use Rattle.machine_load.specs.declared.outcome.Outcome.{Outcome}
+use Rattle.machine_load.specs.declared.surroundings.Surroundings.{Ghosts as Surroundings}
+use Rattle.machine_load.specs.Called.{asked_by, IsAskedBefore}
+use Rattle.machine_load.specs.Driving.{KeeperTells, IsLoadReported, IsLoadUntold}
+use Rattle.machine_load.specs.LoadFault.{IsLoadFault}
+use Rattle.machine_load.specs.RecordDisk.{RecordDisk, DiskAsked, disk_asked_by, disk_asked_before}
+use Rattle.request_values.specs.declared.options.LoadOptions.{LoadOptions}
+use Rattle.stream_line.specs.Dialling.{LineRequest, Call}
+use Rattle.tape_image.specs.Plan.{PlanValue}
+use Rattle.machine_load.specs.Load.{Around, Ending, Setting, IsNeverBegun, IsReported}
+
+-- what surroundings tell
+abbrev pub around_of : {S L K : Type 0} → Surroundings S L K → S → Around
+around_of tell around = record { steps = tell.steps around; record_text = tell.record_text around }
+
+-- what is known of a load at a moment: what was asked of its surroundings, its record, the lines that were given back and its output, what
+-- was asked for lines and of the disk, and whom a connection leads to
+pub record Scene : Type 0 where
+  pub setting : Setting
+  pub asked : Option (List LineRequest)
+  pub call : Call
+  pub disk : Option RecordDisk
+
+-- what surroundings and an output tell
+abbrev pub scene : {S L K W : Type 0} → Surroundings S L K → Write W → S → W → Scene
+scene tell write around out = record {
+  setting = record { around = around_of tell around; lines = tell.lines around; out = write.contents out };
+  asked = tell.asked around;
+  call = tell.call around;
+  disk = tell.disk around;
+}
+
+-- what the keepers tell that surroundings begin
+abbrev pub keeper_of : {S L K : Type 0} → Surroundings S L K → Keep K → KeeperTells K
+keeper_of around tell = record {
+  kept = tell.told;
+  failures = tell.fault_count;
+  fault = tell.last_fault;
+  keeps = tell.keeps;
+  fails = tell.fails;
+  begins = around.begins;
+  text = around.kept_text;
+}
+
+-- what a load gives back, and what its line tells then
+abbrev pub ending : {L : Type 0} → Line L → Outcome L → Ending
+ending tell outcome = record { stop = outcome.stop; marked = outcome.marked; line = option_map (line_told tell) outcome.line }
+
+-- a load was reported, and gives its line back to whoever would listen
+pub record IsLoaded {L K : Type 0} (keeper : KeeperTells K) (tell : Line L) (plan : PlanValue) (options : LoadOptions) (before after : Scene)
+    (outcome : Outcome L) : Type 0 where
+  pub reported : IsReported plan options before.setting after.setting (ending tell outcome)
+  -- the report is of the core that the engine gave back, over the line that was reached and the keeper that was begun
+  pub lived : IsLoadReported keeper plan options before.setting after.setting (ending tell outcome)
+  pub line : IsSome outcome.line ⊎ IsNeverBegun outcome.stop
+  pub asked : Gains before.asked after.asked (asked_by before.call outcome.line)
+  pub disk : DiskAsked before.disk after.disk (disk_asked_by outcome.line)
+
+-- or it came to nothing
+pub record IsNotLoaded {K : Type 0} (keeper : KeeperTells K) (plan : PlanValue) (options : LoadOptions) (before after : Scene) (why : LoadFault) : Type 0 where
+  pub fault : IsLoadFault plan options before.setting after.setting why
+  -- a life whose report could not be written was lived all the same
+  pub untold : why ≡ WriteOutput → IsLoadUntold keeper plan options before.setting after.setting
+  pub asked : IsAskedBefore before.call before.asked after.asked why
+  pub disk : DiskAsked before.disk after.disk (disk_asked_before why)

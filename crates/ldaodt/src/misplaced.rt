@@ -43,7 +43,10 @@ fn line_of<'a>(request: &Request<'a>) -> Option<(&'a str, Place)> {
         Request::Machine(MachineRequest::Load(_, load)) => Some((load.line, Place::LineOfLoad)),
         Request::Machine(MachineRequest::Verify(_, look)) => Some((look.line, Place::LineOfVerify)),
         Request::Machine(MachineRequest::Save(save)) => Some((save.look.line, Place::LineOfSave)),
-        Request::Machine(MachineRequest::Probe(probe)) => Some((probe.look.line, Place::LineOfProbe)),
+        Request::Machine(MachineRequest::Probe(probe)) => Some((
+            probe.look.line,
+            Place::LineOfProbe,
+        )),
         Request::Tape(_) => None,
     }
 }

@@ -83,8 +83,9 @@ fn gather<R: Reach, C: Clock>(
 {
     let lookers = Lookers::new(alloc, options)?;
     let line = console.reach()?;
-    let (outcome, line) =
-        report_noted::<R::Line, C, Brand>(alloc, lookers, options, line, clock, report);
+    let (outcome, line) = report_noted::<R::Line, C, Brand>(
+        alloc, lookers, options, line, clock, report,
+    );
     console.let_go(line);
     match outcome {
         Ok(end) => Ok(end),

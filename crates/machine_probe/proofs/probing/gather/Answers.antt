@@ -47,9 +47,13 @@ pub returns-in-Err-clause-fault : goal.returns-in-Err-clause-fault
 returns-in-Err-clause-fault g c =
     let told = g.R.Line.Line.told in
     let last = c.report_noted-outcome.result.1 in
-    inr (c.in_ok-line.line, last, record {
-      asked = subst (λ asked. Gains (g.R.Reach.asked c.args.console.now) asked (asked_once (g.R.Reach.call c.args.console.now))) (sym c.let_go.ensures.asked) c.in_ok-line.ensures.asked;
-      fresh = c.in_ok-line.ensures.fresh.nothing_said;
-      runs = subst (λ outcome. OnErr outcome (OnLine (IsBrokenOff c.args.options) (told c.in_ok-line.line) (told last))) c.in-Err.is c.report_noted-outcome.ensures.wanting;
-      given_back = subst (λ lines. Gains lines (g.R.Reach.lines c.let_go.new.self) (line_told g.R.Line.Line last ∷ [])) c.in_ok-line.ensures.lines c.let_go.ensures.lines;
-    })
+    inr (
+      c.in_ok-line.line,
+      last,
+      record {
+        asked = subst (λ asked. Gains (g.R.Reach.asked c.args.console.now) asked (asked_once (g.R.Reach.call c.args.console.now))) (sym c.let_go.ensures.asked) c.in_ok-line.ensures.asked;
+        fresh = c.in_ok-line.ensures.fresh.nothing_said;
+        runs = subst (λ outcome. OnErr outcome (OnLine (IsBrokenOff c.args.options) (told c.in_ok-line.line) (told last))) c.in-Err.is c.report_noted-outcome.ensures.wanting;
+        given_back = subst (λ lines. Gains lines (g.R.Reach.lines c.let_go.new.self) (line_told g.R.Line.Line last ∷ [])) c.in_ok-line.ensures.lines c.let_go.ensures.lines;
+      },
+    )

@@ -1,5 +1,5 @@
 use Rattle.std.proofs.lemmas.Result.{IfOk-weaker}
 use Rattle.load_tests.proofs.bench.load_once.Goals as goal
 
-pub returns-clause-lived : goal.returns-clause-lived
-returns-clause-lived g c = IfOk-weaker c.load.result _ _ (λ outcome loaded. loaded.lived) c.load.ensures.ok
+pub returns : goal.returns
+returns c = record { lived = IfOk-weaker c.load.result _ _ (λ outcome loaded. loaded.lived) c.load.ensures.ok }

@@ -6,4 +6,4 @@ mod Growing
 mod Loads
 mod Backs
 mod Chains
-mod Planning
+pub mod Planning

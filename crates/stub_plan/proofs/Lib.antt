@@ -4,4 +4,4 @@ mod Fronts
 mod Parts
 mod Soundings
 mod Stubs
-mod Together
+pub mod Together

@@ -1,0 +1,5 @@
+mod Bounds
+mod Joins
+mod Layouts
+mod Parts
+mod Stops

@@ -1,0 +1,281 @@
+-- One stub's part of a load.
+use Rattle.std.proofs.Common.{◌≡◌, ℕ, ◌+◌, ◌-◌, ◌^◌, ◌<◌, ◌≤◌, Bool, true, false, List, [], ◌∷◌, ◌++◌, length, Option, Some, None, inl, inr, refl, arith, ap, sym, subst, ◌∙◌, append_assoc, append-nil}
+use Rattle.std.specs.Prelude.{◌==◌, if◌then◌else◌, Result, Ok, Err, OnOk}
+use Rattle.std.proofs.lemmas.Bool.{eqb-true, eq-eqb, cases_eq}
+use Rattle.tape_image.specs.Memory.{most_words}
+use Rattle.tape_image.specs.Plan.{PlanValue}
+use Rattle.host_core.specs.declared.heard.Heard.{Heard}
+use Rattle.host_core.specs.declared.phase.End.{End}
+use Rattle.host_core.specs.declared.phase.End.TheVariants.{Loaded, Started, Uncertain, MaybeStarted, GaveUp, NoWord, WontHold}
+use Rattle.host_core.specs.declared.phase.Phase.{Phase}
+use Rattle.host_core.specs.declared.phase.Phase.TheVariants.{Settle, Sync, Address, Slash, Before, Value, Deposit, Return, Start, Go, Ended as PhaseEnded}
+use Rattle.host_core.specs.Core.{Core, begun, ended}
+use Rattle.host_core.specs.Laws.{led}
+use Rattle.load_devices.specs.declared.item.Item.{Item}
+use Rattle.load_devices.specs.declared.item.Kept.{Kept}
+use Rattle.load_devices.specs.Dialogue.{dialogue}
+use Rattle.load_devices.specs.Turns.{most_turns}
+use Rattle.load_devices.proofs.Told.{gains_join, gains_none}
+use Rattle.load_engine.specs.declared.stop.Stop.{Stop as LoadStop}
+use Rattle.load_engine.specs.declared.stop.Stop.TheVariants.{Ended as LoadEnded, LineFailed as LoadLineFailed, KeepFailed as LoadKeepFailed, TurnsOver as LoadTurnsOver}
+use Rattle.load_engine.specs.Session.{IsSaid as IsLoadSaid, Session, TellsEnd}
+use Rattle.exchange_core.specs.declared.chunk.Chunk.{Chunk}
+use Rattle.exchange_core.specs.declared.exchange.Exchange.{Exchange}
+use Rattle.exchange_core.specs.Chunk.{AreChunks, words_behind}
+use Rattle.exchange_core.specs.Exchange.{IsExchange, begun as exchange_begun, led as exchange_led}
+use Rattle.exchange_core.proofs.Chunks.{behind_grows}
+use Rattle.exchange_law.specs.Law.{dialogue as exchange_dialogue, said_all}
+use Rattle.exchange_law.proofs.Passing.{led_from}
+use Rattle.exchange_law.proofs.Words.{words_within}
+use Rattle.exchange_engine.specs.declared.stop.Stop.{Stop as ExchangeStop}
+use Rattle.exchange_engine.specs.declared.stop.Stop.TheVariants.{Ended, LineFailed, KeepFailed, TurnsOver}
+use Rattle.exchange_engine.specs.Exchanged.{Exchanged, IsSaid}
+use Rattle.stub_station.specs.Start.{program as stub_program}
+use Rattle.fast_lives.specs.StubParts.{IsStubFor, StubPart, bringer, is_started, starts, verified_after, exchange_said}
+use Rattle.fast_lives.proofs.Planning.{planned_stubs}
+use Rattle.stub_engine.specs.declared.stop.Stop.{Stop}
+use Rattle.stub_engine.specs.declared.stop.Stop.TheVariants.{TooFewWords, NoRoom, InVain, NotStarted, Memory, TurnsOver as StubsTurnsOver, LineFailed as StubsLineFailed, KeepFailed as StubsKeepFailed}
+use Rattle.stub_engine.specs.declared.tally.Tally.{Tally}
+use Rattle.stub_engine.specs.Parts.{AreBroughtIn, IsWorth, TellsEnd as EndsSo, failure_of, why_ended, why_left, why_unstarted}
+use Rattle.stub_engine.specs.Planning.{IsPlannedFor, IsUnplanned}
+use Rattle.stub_engine.specs.Tallies.{IsOneMore, with_counts, with_words}
+use Rattle.stub_engine.proofs.Stops.{is_some}
+
+same_if : {A : Type 0} (test : Bool) (a : A) → (if test then a else a) ≡ a
+same_if {A} true a = refl
+same_if {A} false a = refl
+
+-- no stub at all
+pub none_brought : (tape : PlanValue) (patience : ℕ) (stop : Option Stop) (tally : Tally) (line : Option (List Item)) → EndsSo stop [] → AreBroughtIn tape patience stop tally tally line line
+none_brought tape patience stop tally line ends = record {
+  parts = [];
+  stubs = tt;
+  worth = tt;
+  followed = tt;
+  all_start = λ none. tt;
+  ends = ends;
+  said = [];
+  unsent = [];
+  items = refl;
+  all_sent = λ whole. refl;
+  on_line = gains_none line;
+  verified = refl;
+  sent = omega arith;
+  spent = omega arith;
+  in_vain = refl;
+}
+
+pub unplanned_ends : (stop : Stop) → IsUnplanned stop → EndsSo (Some stop) []
+unplanned_ends TooFewWords u = tt
+unplanned_ends NoRoom u = tt
+unplanned_ends Memory u = tt
+unplanned_ends InVain u = absurd u
+unplanned_ends (NotStarted end) u = absurd u
+unplanned_ends StubsTurnsOver u = absurd u
+unplanned_ends (StubsLineFailed fault) u = absurd u
+unplanned_ends (StubsKeepFailed fault) u = absurd u
+
+for_stub : (tape : PlanValue) (from : ℕ) (stub : PlanValue) (chunks : List Chunk) → IsPlannedFor tape from stub chunks → IsStubFor stub_program tape from stub chunks
+for_stub tape from stub chunks p = planned_stubs tape from p.window chunks p.stretches stub p.planned
+
+is_worth : (tape : PlanValue) (from n : ℕ) (part : StubPart) → IsPlannedFor tape from part.stub part.chunks → n < 3 → IsWorth part.patience from n part
+is_worth tape from n part p few = record { patient = refl; few = few; words = (let all = p.planned.chunks_are.all in let worth = p.worth in omega (arith, all, worth)) }
+
+-- ---- what was said, up to what was not sent
+
+-- a front of what was to be said, and all of it where no device failed
+record IsFront (failure : Option ExchangeStop) (all said : List Item) : Type 0 where
+  pub unsent : List ℕ
+  pub is : all ≡ said ++ said_all unsent
+  pub whole : failure ≡ None → unsent ≡ []
+
+full : (failure : Option ExchangeStop) (all said : List Item) → said ≡ all → IsFront failure all said
+full failure all said s = record { unsent = []; is = sym s ∙ sym (append-nil said); whole = λ none. refl }
+
+brought_front : (stop : LoadStop) (left : ℕ) (all said : List Item) → IsLoadSaid (Some stop) left all said → IsFront (failure_of (why_unstarted stop)) all said
+brought_front (LoadEnded end) left all said s = full (failure_of (why_ended end)) all said s
+brought_front LoadTurnsOver left all said s = full None all said s.0
+brought_front (LoadLineFailed fault) left all said (inl deaf) = full (Some (LineFailed fault)) all said deaf.0
+brought_front (LoadLineFailed fault) left all said (inr less) = record { unsent = less.0 ∷ []; is = less.1; whole = λ none. absurd (is_some _ none) }
+brought_front (LoadKeepFailed fault) left all said s = record { unsent = s.0 ∷ []; is = s.1; whole = λ none. absurd (is_some _ none) }
+
+exchange_front : (stop : ExchangeStop) (left : ℕ) (all said : List Item) → IsSaid (Some stop) left all said → IsFront (failure_of (why_left stop)) all said
+exchange_front (Ended end) left all said s = full None all said s
+exchange_front TurnsOver left all said s = full None all said s.0
+exchange_front (LineFailed fault) left all said (inl deaf) = full (Some (LineFailed fault)) all said deaf.0
+exchange_front (LineFailed fault) left all said (inr less) = record { unsent = less.0; is = less.1; whole = λ none. absurd (is_some _ none) }
+exchange_front (KeepFailed fault) left all said s = record { unsent = s.0.0; is = s.0.1; whole = λ none. absurd (is_some _ none) }
+
+-- ---- a stub that did not start
+
+ends_so : (stop : LoadStop) (part : StubPart) → TellsEnd stop (led (bringer part) part.brought) → EndsSo (why_unstarted stop) (part ∷ [])
+ends_so (LoadEnded Started) part tells = tt
+ends_so (LoadEnded Loaded) part tells = record { before = []; last = part; parts_are = refl; end_is = tells }
+ends_so (LoadEnded Uncertain) part tells = record { before = []; last = part; parts_are = refl; end_is = tells }
+ends_so (LoadEnded MaybeStarted) part tells = record { before = []; last = part; parts_are = refl; end_is = tells }
+ends_so (LoadEnded GaveUp) part tells = record { before = []; last = part; parts_are = refl; end_is = tells }
+ends_so (LoadEnded (NoWord address)) part tells = record { before = []; last = part; parts_are = refl; end_is = tells }
+ends_so (LoadEnded (WontHold address)) part tells = record { before = []; last = part; parts_are = refl; end_is = tells }
+ends_so (LoadLineFailed fault) part tells = tt
+ends_so (LoadKeepFailed fault) part tells = tt
+ends_so LoadTurnsOver part tells = tt
+
+left_ends : (left : ExchangeStop) (parts : List StubPart) → EndsSo (why_left left) parts
+left_ends (Ended end) parts = tt
+left_ends (LineFailed fault) parts = tt
+left_ends (KeepFailed fault) parts = tt
+left_ends TurnsOver parts = tt
+
+only_started : (stop : LoadStop) → why_unstarted stop ≡ None → stop ≡ LoadEnded Started
+only_started (LoadEnded Started) follows = refl
+only_started (LoadEnded Loaded) follows = absurd (is_some _ follows)
+only_started (LoadEnded Uncertain) follows = absurd (is_some _ follows)
+only_started (LoadEnded MaybeStarted) follows = absurd (is_some _ follows)
+only_started (LoadEnded GaveUp) follows = absurd (is_some _ follows)
+only_started (LoadEnded (NoWord address)) follows = absurd (is_some _ follows)
+only_started (LoadEnded (WontHold address)) follows = absurd (is_some _ follows)
+only_started (LoadLineFailed fault) follows = absurd (is_some _ follows)
+only_started (LoadKeepFailed fault) follows = absurd (is_some _ follows)
+only_started LoadTurnsOver follows = absurd (is_some _ follows)
+
+-- an end is the phase's
+is_end : (phase : Phase) (end : End) → ended phase ≡ Some end → phase ≡ PhaseEnded end
+is_end (PhaseEnded end) other e = let same : end ≡ other = cc e in ap PhaseEnded same
+is_end Settle other e = absurd (cc e)
+is_end (Sync place) other e = absurd (cc e)
+is_end (Address visit place) other e = absurd (cc e)
+is_end (Slash visit) other e = absurd (cc e)
+is_end (Before visit) other e = absurd (cc e)
+is_end (Value visit value place) other e = absurd (cc e)
+is_end (Deposit value place) other e = absurd (cc e)
+is_end (Return why place) other e = absurd (cc e)
+is_end (Start place) other e = absurd (cc e)
+is_end Go other e = absurd (cc e)
+
+seen : (stop : LoadStop) (core : Core) → why_unstarted stop ≡ None → TellsEnd stop core → is_started core.phase ≡ true
+seen stop core follows tells =
+    let end : ended core.phase ≡ Some Started = subst (λ stop. TellsEnd stop core) (only_started stop follows) tells in
+    ap is_started (is_end core.phase Started end)
+
+sum_of : (old a b z : ℕ) → a ≡ b → z ≡ 0 → old + a ≡ old + (b + z + 0)
+sum_of old a b z e none = omega (arith, e, none)
+
+pub unstarted : (tape : PlanValue) (patience : ℕ) (stop : LoadStop) (old : Tally) (stub : PlanValue) (chunks : List Chunk) (core : Core) (line line' : Option (List Item)) (keep keep' : Option (List Kept)) → IsPlannedFor tape old.verified stub chunks → patience < 2 ^ 32 → old.in_vain < 3 → TellsEnd stop core →
+    Session most_turns (Some stop) (begun stub 0 false patience) core line line' keep keep' → AreBroughtIn tape patience (why_unstarted stop) old (with_words (with_counts old core.sent core.spent) old.verified) line line'
+unstarted tape patience stop old stub chunks core line line' keep keep' planned patient few tells s =
+    let part : StubPart = record { stub = stub; chunks = chunks; patience = patience; brought = s.heard; exchanged = [] } in
+    let front = brought_front stop (most_turns - length s.heard) (dialogue (begun stub 0 false patience) s.heard) s.said s.items in
+    let after : verified_after tape old.verified part ≡ old.verified = same_if (starts part) old.verified in
+    let silent : exchange_said tape old.verified part ≡ [] = same_if (starts part) [] in record {
+      parts = part ∷ [];
+      stubs = (for_stub tape old.verified stub chunks planned, patient, tt);
+      worth = (is_worth tape old.verified old.in_vain part planned few, tt);
+      followed = (inl refl, tt);
+      all_start = λ none. (ap (λ (c : Core). is_started c.phase) (sym s.core) ∙ seen stop core none tells, tt);
+      ends = ends_so stop part (subst (TellsEnd stop) s.core tells);
+      said = s.said;
+      unsent = front.unsent;
+      items = ap (λ rest. dialogue (begun stub 0 false patience) s.heard ++ (rest ++ [])) silent ∙ (append-nil (dialogue (begun stub 0 false patience) s.heard) ∙ front.is);
+      all_sent = front.whole;
+      on_line = s.on_line;
+      verified = sym after;
+      sent = sum_of old.sent core.sent (led (begun stub 0 false patience) s.heard).sent _ (ap (λ (c : Core). c.sent) s.core) (same_if (starts part) 0);
+      spent = ap (λ n. old.spent + n) (ap (λ (c : Core). c.spent) s.core ∙ (let none : (n : ℕ) → n ≡ n + 0 = λ n. omega arith in none (led (begun stub 0 false patience) s.heard).spent));
+      in_vain = ap (λ n. if n == old.verified then old.in_vain + 1 else 0) (sym after);
+    }
+
+-- ---- a stub that started
+
+pub exchanged : (tape : PlanValue) (patience : ℕ) (stop : LoadStop) (left : ExchangeStop) (old : Tally) (stub : PlanValue) (chunks : List Chunk) (core : Core) (state : Exchange) (line line' line'' : Option (List Item)) (keep keep' : Option (List Kept)) →
+    IsPlannedFor tape old.verified stub chunks → patience < 2 ^ 32 → old.in_vain < 3 → why_unstarted stop ≡ None → TellsEnd stop core → Session most_turns (Some stop) (begun stub 0 false patience) core line line' keep keep' →
+    Exchanged tape chunks most_turns (Some left) (exchange_begun old.verified) state line' line'' →
+    AreBroughtIn tape patience (why_left left) old (with_words (with_counts (with_counts old core.sent core.spent) state.sent 0) state.verified) line line''
+exchanged tape patience stop left old stub chunks core state line line' line'' keep keep' planned patient few follows tells s x =
+    let part : StubPart = record { stub = stub; chunks = chunks; patience = patience; brought = s.heard; exchanged = x.heard } in
+    let first : Core = led (begun stub 0 false patience) s.heard in
+    let now : Exchange = exchange_led tape.image chunks (exchange_begun old.verified) x.heard in
+    let talk : List Item = dialogue (begun stub 0 false patience) s.heard in
+    let more : List Item = exchange_dialogue tape.image chunks (exchange_begun old.verified) x.heard in
+    let started : starts part ≡ true = ap (λ (c : Core). is_started c.phase) (sym s.core) ∙ seen stop core follows tells in
+    let before = brought_front stop (most_turns - length s.heard) talk s.said s.items in
+    let all : talk ≡ s.said = before.is ∙ (ap (λ keys. s.said ++ said_all keys) (before.whole (ap failure_of follows)) ∙ append-nil s.said) in
+    let front = exchange_front left (most_turns - length x.heard) more x.said x.items in
+    let after : state.verified ≡ verified_after tape old.verified part = ap (λ (e : Exchange). e.verified) x.exchange ∙ ap (λ test. if test then now.verified else old.verified) (sym started) in
+    let spoken : exchange_said tape old.verified part ≡ more = ap (λ test. if test then more else []) started in
+    let keys : state.sent ≡ (if starts part then now.sent else 0) = ap (λ (e : Exchange). e.sent) x.exchange ∙ ap (λ test. if test then now.sent else 0) (sym started) in record {
+      parts = part ∷ [];
+      stubs = (for_stub tape old.verified stub chunks planned, patient, tt);
+      worth = (is_worth tape old.verified old.in_vain part planned few, tt);
+      followed = (inl refl, tt);
+      all_start = λ none. (started, tt);
+      ends = left_ends left (part ∷ []);
+      said = s.said ++ x.said;
+      unsent = front.unsent;
+      items = ap (λ rest. talk ++ (rest ++ [])) spoken
+          ∙ (ap (λ rest. talk ++ rest) (append-nil more ∙ front.is)
+          ∙ (ap (λ list. list ++ (x.said ++ said_all front.unsent)) all ∙ sym (append_assoc s.said x.said (said_all front.unsent))));
+      all_sent = front.whole;
+      on_line = gains_join line line' line'' s.said x.said s.on_line x.on_line;
+      verified = after;
+      sent = sums old.sent core.sent first.sent state.sent (if starts part then now.sent else 0) (ap (λ (c : Core). c.sent) s.core) keys;
+      spent = counts old.spent core.spent first.spent (ap (λ (c : Core). c.spent) s.core);
+      in_vain = ap (λ n. if n == old.verified then old.in_vain + 1 else 0) after;
+    }
+  where
+    sums : (old a b c d : ℕ) → a ≡ b → c ≡ d → old + a + c ≡ old + (b + d + 0)
+    sums old a b c d e f = omega (arith, e, f)
+
+    counts : (old a b : ℕ) → a ≡ b → old + a + 0 ≡ old + (b + 0)
+    counts old a b e = omega (arith, e)
+
+-- ---- the tally
+
+pub tally_unstarted : (old b r : Tally) (core : Core) (sent spent : ℕ) → sent ≡ core.sent → spent ≡ core.spent → b ≡ with_counts old sent spent → r ≡ with_words b old.verified → r ≡ with_words (with_counts old core.sent core.spent) old.verified
+tally_unstarted old b r core sent spent s p counts words =
+    words ∙ ap (λ tally. with_words tally old.verified) (counts ∙ (ap (λ n. with_counts old n spent) s ∙ ap (λ n. with_counts old core.sent n) p))
+
+pub tally_exchanged : (old b d r : Tally) (core : Core) (state : Exchange) (sent spent keys : ℕ) → sent ≡ core.sent → spent ≡ core.spent → keys ≡ state.sent → b ≡ with_counts old sent spent → d ≡ with_counts b keys 0 → r ≡ with_words d state.verified →
+    r ≡ with_words (with_counts (with_counts old core.sent core.spent) state.sent 0) state.verified
+tally_exchanged old b d r core state sent spent keys s p k counts more words =
+    words
+    ∙ ap (λ tally. with_words tally state.verified)
+    (more ∙ (ap (λ n. with_counts b n 0) k ∙ ap (λ tally. with_counts tally state.sent 0) (counts ∙ (ap (λ n. with_counts old n spent) s ∙ ap (λ n. with_counts old core.sent n) p))))
+
+-- ---- how far an exchange comes
+
+pub record Comes (tape : PlanValue) (v : ℕ) (state : Exchange) : Type 0 where
+  pub more : v ≤ state.verified
+  pub within : state.verified ≤ length tape.words
+  pub few : state.verified ≤ most_words
+
+pub comes : (tape : PlanValue) (v : ℕ) (stub : PlanValue) (chunks : List Chunk) (stop : Option ExchangeStop) (state : Exchange) (line line' : Option (List Item)) → IsPlannedFor tape v stub chunks → Exchanged tape chunks most_turns stop (exchange_begun v) state line line' → IsExchange chunks state → Comes tape v state
+comes tape v stub chunks stop state line line' p x k =
+    let are : AreChunks tape v chunks = p.planned.chunks_are.are in
+    let from : state.from ≡ v = ap (λ (e : Exchange). e.from) x.exchange ∙ led_from tape.image chunks x.heard (exchange_begun v) in
+    let words : state.verified ≡ words_behind v chunks state.done = k.words ∙ ap (λ n. words_behind n chunks state.done) from in
+    let low = behind_grows tape v chunks are state.done k.within in
+    let high = words_within tape v chunks are state.done k.within in
+    let few = are.sound.few in record { more = omega (arith, words, low); within = omega (arith, words, high); few = omega (arith, words, high, few) }
+
+pub one_more : (old b : Tally) (v : ℕ) → b.verified ≡ old.verified → b.in_vain ≡ old.in_vain → old.verified ≤ v → IsOneMore old (with_words b v)
+one_more old b v same vain le = by (v == b.verified) refl
+  where
+    differs : (v == b.verified) ≡ false → v ≡ b.verified → ⊥
+    differs e is = absurd (cc (sym (eq-eqb v b.verified is) ∙ e))
+
+    less : (a b : ℕ) → a ≤ b → (b ≡ a → ⊥) → a < b
+    less a b le not = elim (cases_eq b a) [ inl same ↦ absurd (not same) | inr above ↦ omega (arith, above, le) ]
+
+    by : (test : Bool) → (v == b.verified) ≡ test → IsOneMore old (record { verified = v; sent = b.sent; spent = b.spent; in_vain = if test then b.in_vain + 1 else 0 })
+    by true e = inl (eqb-true v b.verified e ∙ same, ap (λ n. n + 1) vain)
+    by false e = inr (less old.verified v le (λ is. differs e (is ∙ sym same)), refl)
+
+-- the same of chunks that are borrowed
+pub exchange_comes : (tape : PlanValue) (v : ℕ) (stub : PlanValue) (chunks lent : List Chunk) (stop : Option ExchangeStop) (state : Exchange) (line line' : Option (List Item)) → IsPlannedFor tape v stub chunks → lent ≡ chunks → Exchanged tape lent most_turns stop (exchange_begun v) state line line' → IsExchange lent state →
+    Comes tape v state
+exchange_comes tape v stub chunks lent stop state line line' p same x k =
+    comes tape v stub lent stop state line line' (subst (λ (list : List Chunk). IsPlannedFor tape v stub list) (sym same) p) x k
+
+pub on_ok : {T E : Type 0} (answer : Result T E) (P : Type 0) → P → OnOk answer P
+on_ok {T} {E} (Ok value) P p = p
+on_ok {T} {E} (Err fault) P p = tt

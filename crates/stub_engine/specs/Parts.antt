@@ -1,0 +1,133 @@
+-- The stubs' parts of a load, as an engine does them one after another.
+use Rattle.std.specs.Prelude.{◌≡◌, ℕ, ◌+◌, ◌<◌, ◌≤◌, ◌⊎◌, ◌==◌, true, if◌then◌else◌, List, [], ◌∷◌, ◌++◌, length, Option, Some, None, ⊤}
+use Rattle.tape_image.specs.Plan.{PlanValue}
+use Rattle.host_core.specs.declared.phase.End.{End}
+use Rattle.host_core.specs.declared.phase.End.TheVariants.{Started}
+use Rattle.host_core.specs.Core.{ended}
+use Rattle.host_core.specs.Laws.{led}
+use Rattle.load_devices.specs.declared.item.Item.{Item}
+use Rattle.load_devices.specs.Told.{Gains}
+use Rattle.load_engine.specs.declared.stop.Stop.{Stop as LoadStop}
+use Rattle.load_engine.specs.declared.stop.Stop.TheVariants.{Ended as LoadEnded, LineFailed as LoadLineFailed}
+use Rattle.load_engine.specs.declared.stop.Stop.TheVariants.{KeepFailed as LoadKeepFailed, TurnsOver as LoadTurnsOver}
+use Rattle.exchange_core.specs.Chunk.{words_behind}
+use Rattle.exchange_core.specs.Exchange.{begun as exchange_begun, led as exchange_led}
+use Rattle.exchange_law.specs.Law.{said_all}
+use Rattle.exchange_engine.specs.declared.stop.Stop.{Stop as ExchangeStop}
+use Rattle.exchange_engine.specs.declared.stop.Stop.TheVariants.{Ended as ExchangeEnded, LineFailed as ExchangeLineFailed}
+use Rattle.exchange_engine.specs.declared.stop.Stop.TheVariants.{KeepFailed as ExchangeKeepFailed, TurnsOver as ExchangeTurnsOver}
+use Rattle.stub_station.specs.Start.{program as stub_program}
+use Rattle.fast_lives.specs.StubParts.{AreStubParts, StubPart, bringer, starts, stubs_said, verified_after, verified_by}
+use Rattle.stub_engine.specs.declared.stop.Stop.{Stop}
+use Rattle.stub_engine.specs.declared.stop.Stop.TheVariants.{InVain, NotStarted, TurnsOver, LineFailed, KeepFailed}
+use Rattle.stub_engine.specs.declared.tally.Tally.{Tally}
+use Rattle.stub_engine.specs.Planning.{least_gain}
+
+-- so many stubs in a row that verify nothing are enough
+abbrev pub most_in_vain : ℕ
+most_in_vain = 3
+
+-- how many stubs in a row verified nothing, behind one more
+abbrev pub in_vain_after : PlanValue → ℕ → ℕ → StubPart → ℕ
+in_vain_after tape v n part = if verified_after tape v part == v then n + 1 else 0
+
+abbrev pub in_vain_by : PlanValue → ℕ → ℕ → List StubPart → ℕ
+in_vain_by tape v n [] = n
+in_vain_by tape v n (part ∷ more) = in_vain_by tape (verified_after tape v part) (in_vain_after tape v n part) more
+
+-- a stub is brought in only by a host of this patience, where fewer than three in a row before it verified nothing, and where it may gain 256 words
+pub record IsWorth (patience v n : ℕ) (part : StubPart) : Type 0 where
+  pub patient : part.patience ≡ patience
+  pub few : n < most_in_vain
+  pub words : v + least_gain ≤ words_behind v part.chunks (length part.chunks)
+
+abbrev pub AreWorth : ℕ → PlanValue → ℕ → ℕ → List StubPart → Type 0
+AreWorth patience tape v n [] = ⊤
+AreWorth patience tape v n (part ∷ more) = IsWorth patience v n part × AreWorth patience tape (verified_after tape v part) (in_vain_after tape v n part) more
+
+-- each of these stubs was seen to start
+abbrev pub AllStart : List StubPart → Type 0
+AllStart [] = ⊤
+AllStart (part ∷ more) = (starts part ≡ true) × AllStart more
+
+-- none follows one that was not seen to start
+abbrev pub AreFollowed : List StubPart → Type 0
+AreFollowed [] = ⊤
+AreFollowed (part ∷ more) = ((more ≡ []) ⊎ (starts part ≡ true)) × AreFollowed more
+
+-- the host that brought in the last one came to this end
+pub record EndsWith (parts : List StubPart) (end : End) : Type 0 where
+  pub before : List StubPart
+  pub last : StubPart
+  pub parts_are : parts ≡ before ++ last ∷ []
+  pub end_is : ended (led (bringer last) last.brought).phase ≡ Some end
+
+-- a stop that names an end names that one
+abbrev pub TellsEnd : Option Stop → List StubPart → Type 0
+TellsEnd (Some (NotStarted end)) parts = EndsWith parts end
+TellsEnd _ parts = ⊤
+
+-- the characters that were sent in a part
+abbrev pub sent_in : PlanValue → ℕ → StubPart → ℕ
+sent_in tape v part =
+    (led (bringer part) part.brought).sent + (if starts part then (exchange_led tape.image part.chunks (exchange_begun v) part.exchanged).sent else 0)
+
+-- in all of them
+abbrev pub sent_by : PlanValue → ℕ → List StubPart → ℕ
+sent_by tape v [] = 0
+sent_by tape v (part ∷ more) = sent_in tape v part + sent_by tape (verified_after tape v part) more
+
+-- the mishaps of the hosts that brought in the stubs
+abbrev pub spent_by : List StubPart → ℕ
+spent_by [] = 0
+spent_by (part ∷ more) = (led (bringer part) part.brought).spent + spent_by more
+
+-- why no stub is brought in behind a host that stopped so, which was to bring one in: where it saw the stub start the exchange follows
+abbrev pub why_ended : End → Option Stop
+why_ended Started = None
+why_ended end = Some (NotStarted end)
+
+abbrev pub why_unstarted : LoadStop → Option Stop
+why_unstarted (LoadEnded end) = why_ended end
+why_unstarted (LoadLineFailed fault) = Some (LineFailed fault)
+why_unstarted (LoadKeepFailed fault) = Some (KeepFailed fault)
+why_unstarted LoadTurnsOver = Some TurnsOver
+
+-- why no stub is brought in behind an exchange that stopped so: where it ended another may follow
+abbrev pub why_left : ExchangeStop → Option Stop
+why_left (ExchangeEnded end) = None
+why_left (ExchangeLineFailed fault) = Some (LineFailed fault)
+why_left (ExchangeKeepFailed fault) = Some (KeepFailed fault)
+why_left ExchangeTurnsOver = Some TurnsOver
+
+-- the failure of a device that a stop names, as an exchange names it
+abbrev pub failure_of : Option Stop → Option ExchangeStop
+failure_of (Some (LineFailed fault)) = Some (ExchangeLineFailed fault)
+failure_of (Some (KeepFailed fault)) = Some (ExchangeKeepFailed fault)
+failure_of _ = None
+
+-- stubs were brought in one after another, from one tally to another, and stopped so (None: another may follow). These are stubs' parts of a load
+pub record AreBroughtIn (tape : PlanValue) (patience : ℕ) (stop : Option Stop) (old new : Tally) (line line' : Option (List Item)) : Type 0 where
+  pub parts : List StubPart
+  pub stubs : AreStubParts stub_program tape old.verified parts
+  pub worth : AreWorth patience tape old.verified old.in_vain parts
+  -- none behind one that did not start
+  pub followed : AreFollowed parts
+  pub all_start : stop ≡ None → AllStart parts
+  pub ends : TellsEnd stop parts
+  -- what they say was said on the line, and all of it where no device failed
+  pub said : List Item
+  pub unsent : List ℕ
+  pub items : stubs_said tape old.verified parts ≡ said ++ said_all unsent
+  pub all_sent : failure_of stop ≡ None → unsent ≡ []
+  pub on_line : Gains line line' said
+  -- how far they came
+  pub verified : new.verified ≡ verified_by tape old.verified parts
+  pub sent : new.sent ≡ old.sent + sent_by tape old.verified parts
+  pub spent : new.spent ≡ old.spent + spent_by parts
+  pub in_vain : new.in_vain ≡ in_vain_by tape old.verified old.in_vain parts
+
+-- three in a row in vain is said only where it is so
+abbrev pub TellsInVain : Stop → Tally → Type 0
+TellsInVain InVain tally = tally.in_vain ≡ most_in_vain
+TellsInVain _ tally = ⊤

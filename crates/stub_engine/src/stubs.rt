@@ -1,0 +1,137 @@
+//! The stubs of a load.
+ghost use Rattle.std.specs.Prelude.{◌≡◌, ◌+◌, ◌<◌, ◌≤◌, ◌^◌, ◌⊎◌, length, None, Some, IfErr, OnOk};
+ghost use Rattle.tape_image.specs.Memory.{most_words};
+ghost use Rattle.load_devices.specs.Failures.{fault_of};
+ghost use Rattle.exchange_engine.specs.Failing.{Counts, NamesFault};
+ghost use Rattle.exchange_engine.specs.Keeping.{KeptBy, ToldBy, words_kept};
+ghost use Rattle.stub_engine.specs.Parts.{AreBroughtIn, TellsInVain, failure_of, most_in_vain, why_left, why_unstarted};
+ghost use Rattle.stub_engine.specs.Tallies.{IsOneMore, begun};
+
+use crate::bringing::bring;
+use crate::planning::{PlannedStub, planned_stub};
+use crate::stop::Stop;
+use crate::tally::Tally;
+use exchange_engine::{Stop as ExchangeStop, exchange};
+use host_core::End;
+use load_devices::{Keep, Line, MOST_TURNS, Onlooker};
+use load_engine::Stop as LoadStop;
+use std::alloc::Global;
+use tape_image::Plan;
+
+// So many stubs in a row that verify nothing are enough.
+const MOST_IN_VAIN: u32 = 3;
+
+/// Brings in stub after stub behind the plan's first `verified` words, and exchanges with each, until a
+/// stop. How far that came is in the tally.
+///
+/// A stub is planned for the words that are not verified; a host of so much patience types and starts it,
+/// of which nothing is kept and nobody is told; and in the exchange with it the words that become verified
+/// are kept, and the onlooker is told of each step. The first failure of a device stops it all, and
+/// so does a stub that did not start.
+pub fn bring_in<L: Line, K: Keep, O: Onlooker>(
+    alloc: Global,
+    plan: &Plan,
+    verified: u32,
+    patience: u32,
+    line: &mut L,
+    keep: &mut K,
+    onlooker: &O,
+) -> (Tally, Stop)
+    requires within { verified ≤ length plan.now.words }
+    ensures parts { AreBroughtIn plan.now patience (Some result.1) (begun verified) result.0 (L.told line.old) (L.told line.new) }
+    ensures counted { Counts (failure_of (Some result.1)) (L.fault_count line.old) (L.fault_count line.new) (K.fault_count keep.old) (K.fault_count keep.new) }
+    ensures fault { NamesFault (failure_of (Some result.1)) (L.last_fault line.new) (K.last_fault keep.new) }
+    ensures told { ToldBy (failure_of (Some result.1)) (K.told keep.old) (K.told keep.new) (words_kept plan.now.words verified result.0.verified) }
+    ensures kept_by { KeptBy K.keeps K.fails (failure_of (Some result.1)) keep.old (words_kept plan.now.words verified result.0.verified) keep.new }
+    ensures grows { verified ≤ result.0.verified }
+    ensures within { result.0.verified ≤ length plan.now.words }
+    ensures in_vain { TellsInVain result.1 result.0 }
+{
+    let mut tally = Tally::begun(verified);
+    while tally.in_vain < MOST_IN_VAIN {
+        if let Err(stop) = part(alloc, plan, patience, &mut tally, line, keep, onlooker) {
+            return (tally, stop);
+        }
+    }
+    (tally, Stop::InVain)
+}
+
+// One stub's part: it is planned, brought in, and exchanged with.
+fn part<L: Line, K: Keep, O: Onlooker>(
+    alloc: Global,
+    plan: &Plan,
+    patience: u32,
+    tally: &mut Tally,
+    line: &mut L,
+    keep: &mut K,
+    onlooker: &O,
+) -> Result<(), Stop>
+    requires within { tally.old.verified ≤ length plan.now.words }
+    requires worth { tally.old.in_vain < most_in_vain }
+    requires sent_fits { tally.old.sent ≤ 2 ^ 60 }
+    requires spent_fits { tally.old.spent ≤ 2 ^ 60 }
+    ensures part { AreBroughtIn plan.now patience (fault_of result) tally.old tally.new (L.told line.old) (L.told line.new) }
+    ensures counted { Counts (failure_of (fault_of result)) (L.fault_count line.old) (L.fault_count line.new) (K.fault_count keep.old) (K.fault_count keep.new) }
+    ensures fault { NamesFault (failure_of (fault_of result)) (L.last_fault line.new) (K.last_fault keep.new) }
+    ensures told { ToldBy (failure_of (fault_of result)) (K.told keep.old) (K.told keep.new)
+        (words_kept plan.now.words tally.old.verified tally.new.verified) }
+    ensures kept_by { KeptBy K.keeps K.fails (failure_of (fault_of result)) keep.old
+        (words_kept plan.now.words tally.old.verified tally.new.verified) keep.new }
+    ensures grows { tally.old.verified ≤ tally.new.verified }
+    ensures within { tally.new.verified ≤ length plan.now.words }
+    ensures sent_grows { tally.new.sent ≤ tally.old.sent + 2 ^ 37 }
+    ensures spent_grows { tally.new.spent ≤ tally.old.spent + 2 ^ 32 }
+    ensures few { OnOk result (tally.new.verified ≤ most_words) }
+    ensures in_vain { OnOk result (IsOneMore tally.old tally.new) }
+    ensures stop { IfErr result (λ stop. TellsInVain stop tally.new) }
+{
+    let planned = match planned_stub(alloc, plan, tally.verified) {
+        Ok(planned) => planned,
+        Err(stop) => return Err(stop),
+    };
+    let PlannedStub { plan: stub, chunks } = planned;
+    let (core, stop) = bring(stub, patience, line);
+    let brought = tally.with_counts(core.sent_count(), core.spent());
+    if let Some(stop) = why_unstarted(stop) {
+        *tally = brought.with_words(tally.verified);
+        return Err(stop);
+    }
+    let (state, stop) = exchange(
+        plan,
+        &chunks,
+        tally.verified,
+        line,
+        keep,
+        MOST_TURNS,
+        onlooker,
+    );
+    *tally = brought
+        .with_counts(u64::from(state.sent), 0)
+        .with_words(state.verified);
+    left_by(stop)
+}
+
+// Why no exchange follows where the host that was to bring in a stub stopped so.
+fn why_unstarted(stop: LoadStop) -> Option<Stop>
+    ensures { result ≡ why_unstarted stop }
+{
+    match stop {
+        LoadStop::Ended(End::Started) => None,
+        LoadStop::Ended(end) => Some(Stop::NotStarted(end)),
+        LoadStop::LineFailed(fault) => Some(Stop::LineFailed(fault)),
+        LoadStop::KeepFailed(fault) => Some(Stop::KeepFailed(fault)),
+        LoadStop::TurnsOver => Some(Stop::TurnsOver),
+    }
+}
+
+// Whether another stub may follow where an exchange stopped so, or why none does.
+fn left_by(stop: ExchangeStop) -> Result<(), Stop>
+    ensures { fault_of result ≡ why_left stop }
+{
+    match stop {
+        ExchangeStop::Ended(_) => Ok(()),
+        ExchangeStop::LineFailed(fault) => Err(Stop::LineFailed(fault)),
+        ExchangeStop::KeepFailed(fault) => Err(Stop::KeepFailed(fault)),
+        ExchangeStop::TurnsOver => Err(Stop::TurnsOver),
+    }
+}

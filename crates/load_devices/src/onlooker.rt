@@ -26,6 +26,9 @@ pub trait Onlooker {
     /// The host has taken a step, and nothing came of it yet.
     fn sees(&self, sight: Sight);
 
+    /// A stub is about to be typed. Of the host that types it nothing is told.
+    fn stub_begins(&self);
+
     /// It is over.
     fn ends(&self);
 }
@@ -38,6 +41,8 @@ impl Onlooker for Unwatched {
     fn begins(&self, _done: u32, _words: u32) {}
 
     fn sees(&self, _sight: Sight) {}
+
+    fn stub_begins(&self) {}
 
     fn ends(&self) {}
 }
@@ -53,6 +58,12 @@ impl<O: Onlooker> Onlooker for Option<O> {
     fn sees(&self, sight: Sight) {
         if let Some(onlooker) = self {
             onlooker.sees(sight);
+        }
+    }
+
+    fn stub_begins(&self) {
+        if let Some(onlooker) = self {
+            onlooker.stub_begins();
         }
     }
 

@@ -140,6 +140,8 @@ impl<C: Clock, E: Print> Onlooker for ProgressLine<'_, C, E> {
         }
     }
 
+    fn stub_begins(&self) {}
+
     fn ends(&self) {
         self.say(CLEARED);
     }

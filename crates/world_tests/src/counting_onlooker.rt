@@ -38,5 +38,7 @@ impl Onlooker for Watch {
         self.last.set(Some(sight));
     }
 
+    fn stub_begins(&self) {}
+
     fn ends(&self) {}
 }

@@ -3,8 +3,7 @@
 //! `take_tapes` answers the tapes that begin some inputs and takes their bytes alone, or the first
 //! refusal or failed read, by its number.
 //!
-//! The crates of the commands stand on this one (`tape_check`, `console_typing`, `rehearsals`,
-//! `tape_requests`, `requests`).
+//! Used by `input_files`, `tape_commands` and `requests`.
 #![tactic(auto)]
 
 mod fault;

@@ -1,7 +1,7 @@
 //! How typing at a console ends where keys or answers fail once, and would then go on.
 
 use command_io::CommandFault;
-use console_typing::type_to;
+use tape_commands::type_to;
 use odt_machine::{Mode, Odt, PLAIN_STYLE};
 use simulated_system::{BrokenInput, BrokenOutput};
 use std::alloc::Global;

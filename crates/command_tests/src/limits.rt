@@ -8,7 +8,7 @@ use simulated_system::{ONE_WORD, WRONG_SUM};
 use std::alloc::{AllocError, Global};
 use std::test::Fail;
 use std::{fs, io};
-use tape_check::check_to;
+use tape_commands::check_to;
 use tape_image::Start;
 
 #[test]

@@ -4,7 +4,7 @@
 //! the system tells what it opened (`InputFiles`), the contracts say just this, and that nothing else was
 //! opened. There may be more files than descriptors: then what is open is read ahead and closed (`Source`),
 //! which its reader can't tell, and the file is tried once more. `is_input` says whether names mean standard input.
-//! Used by `tape_requests` and `requests`, which share the relations over what inputs held.
+//! Used by `tape_commands` and `requests`, which share the relations over what inputs held.
 #![tactic(auto)]
 
 mod names;

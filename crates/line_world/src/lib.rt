@@ -5,7 +5,7 @@
 //! `apply`, `run` and `run_clean` carry the promise of the whole project: whatever happens, a word
 //! counted as verified is in memory, bytes that the tape does not name are as they were, and `G` goes
 //! out once at most, over the whole image. Behind it stands the invariant of `specs/Invariant.antt`.
-//! The commands `dialogue` and `rehearse` (crate `rehearsals`) use it, and the engine's contract
+//! The commands `dialogue` and `rehearse` (crate `tape_commands`) use it, and the engine's contract
 //! rests on it.
 #![tactic(auto)]
 

@@ -7,7 +7,7 @@
 //! one meaning, by its form alone; setup lines stand before all others, and all but `put` at most
 //! once. `docs/SCRIPTS.md` is the page for those who write scripts.
 //!
-//! `rehearsals` plays them.
+//! `tape_commands` plays them.
 #![tactic(auto)]
 
 mod line;

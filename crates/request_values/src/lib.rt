@@ -5,7 +5,7 @@
 //! be meant can't be had where a type can say so: an `AddressRange` is two addresses of words in their order, and a
 //! probe's address is one of memory.
 //!
-//! `command_line` makes them of words; `tape_requests` and `requests` do what they ask. The crates of a
+//! `command_line` makes them of words; `tape_commands` and `requests` do what they ask. The crates of a
 //! load and of a look take the parts that they have to know, so it stands below these, too.
 #![tactic(auto)]
 

@@ -13,7 +13,7 @@ use Rattle.requests.specs.Attempt.{IsFailed}
 use Rattle.requests.specs.Asked.{SystemAsked}
 use Rattle.requests.specs.Moment.{Moment, moment, intake_at}
 use Rattle.requests.specs.Planning.{IsUnplanned}
-use Rattle.tape_requests.proofs.Whatever.{unprinted_whatever}
+use Rattle.tape_commands.proofs.Whatever.{unprinted_whatever}
 
 module _ (before : Moment) (asked : SystemAsked) (held : Held) (err : StandardError) (failure : Failure) where
   unplanned : (names : List Name) → IsUnplanned names (intake_at before) (intake asked.inputs held) failure

@@ -13,7 +13,7 @@ use Rattle.request_values.specs.declared.request.Request.{Request}
 use Rattle.request_values.specs.Request.{only_prints}
 use Rattle.request_values.specs.declared.request.Request.TheVariants.{Tape, Machine}
 use Rattle.request_values.specs.declared.request.MachineRequest.TheVariants.{Load, Verify, Save, Probe}
-use Rattle.tape_requests.specs.Printing.{IsPrinted, IsUnprinted}
+use Rattle.tape_commands.specs.Printing.{IsPrinted, IsUnprinted}
 
 -- nothing was asked of disk and consoles
 abbrev pub AsksNobody : Moment → Moment → Type 0

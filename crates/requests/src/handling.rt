@@ -19,7 +19,7 @@ use std::alloc::Global;
 use std::io::{Print, Read};
 use std::time::Clock;
 use stream_line::Dialling;
-use tape_requests::print_answer;
+use tape_commands::print_answer;
 
 /// Does a request in a system, which comes back, and answers the exit status, or tells why not, with the
 /// status that says so.

@@ -5,7 +5,7 @@
 //! contract says what is written, and, part by part where the system tells, what was asked of it: the files that
 //! are named, the console that is named and no other, of the disk what the record or the saved tape takes.
 //!
-//! What becomes of a request at a real machine stands here, of any other in `tape_requests`; which status and which
+//! What becomes of a request at a real machine stands here, of any other in `tape_commands`; which status and which
 //! line a failure has in `endings`. The program `ldaodt` has the request from `command_line`, which makes it of words.
 #![tactic(auto)]
 

@@ -6,7 +6,7 @@
 //!
 //! The contract: the words are those of the image, for each even address with a byte at it or after it, and
 //! merging them into any memory, in any order, lays the image over that memory and changes no other byte.
-//! `host_core` types the words, `line_world` shows that they are safe, and `tape_check` lists them.
+//! `host_core` types the words, `line_world` shows that they are safe, and `tape_commands` lists them.
 #![tactic(auto)]
 
 mod page;

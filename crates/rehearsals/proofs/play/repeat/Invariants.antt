@@ -1,6 +1,0 @@
--- The times so far were possible, and the rest of them leads to the world after all.
-use Rattle.rehearsals.proofs.Plays.{IsRepeating}
-use Rattle.rehearsals.proofs.play.repeat.Given as goal
-
-abbrev pub invariant-loop-done : goal.invariant-loop-done
-invariant-loop-done l = IsRepeating l.initial.world l.world l.event l.times l._done

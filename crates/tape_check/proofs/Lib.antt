@@ -1,3 +1,0 @@
-mod TapeSize
-mod Canonical
-mod Texts

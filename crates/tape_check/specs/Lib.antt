@@ -1,2 +1,0 @@
-pub mod CheckText
-pub mod CheckFault

@@ -1,0 +1,14 @@
+mod TapeSize
+mod Canonical
+mod Texts
+mod TypedKeys
+mod Plays
+mod Openings
+mod Rehearsals
+mod KeyTexts
+mod CleanRuns
+mod Dialogues
+mod Reports
+pub mod Kept
+mod OneInput
+pub mod Whatever

@@ -1,0 +1,27 @@
+-- The failure of a request that is about no machine says nothing of standard error.
+use Rattle.std.proofs.Common.{List, Option, inl, inr, ⊎_elim}
+use Rattle.endings.specs.declared.failure.Failure.{Failure}
+use Rattle.endings.specs.FaultOutput.{StandardError}
+use Rattle.endings.specs.Held.{Held}
+use Rattle.input_files.specs.Intake.{Intake, intake}
+use Rattle.input_files.specs.Opening.{InputStep}
+use Rattle.input_files.proofs.Whatever.{tapes_whatever, unopened_whatever, with_error}
+use Rattle.request_values.specs.declared.request.TapeRequest.{TapeRequest}
+use Rattle.request_values.specs.declared.request.TapeRequest.TheVariants.{CheckInput, Check, Dialogue, Rehearse, «Type» as TypeKeys}
+use Rattle.tape_commands.specs.Printing.{IsUnprinted}
+
+module _ (before : Intake) (opened : Option (List InputStep)) (held : Held) (err : StandardError) (failure : Failure) where
+  pub unprinted_whatever : (request : TapeRequest) → IsUnprinted request before (intake opened held) failure
+      → IsUnprinted request before (intake opened (with_error held err)) failure
+  unprinted_whatever CheckInput is = is
+  unprinted_whatever (Check names) is =
+      ⊎_elim (λ u. inl (unopened_whatever _ before opened held err failure u)) (λ t. inr (tapes_whatever names.items before opened held err _ t)) is
+  unprinted_whatever (Dialogue names stage) is =
+      ⊎_elim (λ u. inl (unopened_whatever _ before opened held err failure u)) (λ t. inr (tapes_whatever names.items before opened held err _ t)) is
+  unprinted_whatever (Rehearse rehearsal) is =
+      ⊎_elim (λ u. inl (unopened_whatever _ before opened held err failure u)) (λ b. inr (record { opened = b.opened; failed = b.failed })) is
+  unprinted_whatever (TypeKeys console) is = (
+    ⊎_elim (λ u. inl (record { why = u.why; nothing_read = u.nothing_read; nothing_written = u.nothing_written }))
+        (λ more. inr (⊎_elim (λ amiss. inl amiss) (λ cut. inr (cut.0, record { last = cut.1.last; count = cut.1.count; typed = cut.1.typed })) more)) is.0,
+    is.1,
+  )

@@ -1,0 +1,80 @@
+-- A dialogue: a load into a zeroed machine on a line that loses nothing, and what is printed of it.
+use Rattle.std.specs.Prelude.{ℕ, ◌≡◌, ◌<◌, ◌⊎◌, false, List, [], ◌++◌, replicate, Option, ⊤}
+use Rattle.std.specs.Io.KnownBytes.{Appends, Keeps}
+use Rattle.tape_values.specs.Tape.{TapeValue}
+use Rattle.tape_image.specs.declared.start.Start.{Start}
+use Rattle.tape_image.specs.Plan.{plan_of_all, starting}
+use Rattle.odt_machine.specs.declared.style.Style.{Style}
+use Rattle.odt_machine.specs.Machine.{largest_words}
+use Rattle.host_core.specs.declared.phase.End.{End}
+use Rattle.host_core.specs.Core.{begun, plain_patience}
+use Rattle.line_world.specs.Scene.{Scene}
+use Rattle.line_world.specs.Opening.{opened}
+use Rattle.line_world.specs.Runs.{RunsTo}
+use Rattle.command_io.specs.declared.fault.CommandFault.{CommandFault}
+use Rattle.command_io.specs.declared.fault.CommandFault.TheVariants as fault
+use Rattle.tape_commands.specs.KeyLines.{answered_keys, key_text}
+use Rattle.tape_commands.specs.Rehearsal.{machine_of}
+use Rattle.tape_commands.specs.Report.{report}
+use Rattle.byte_io.specs.Output.{WritesProperPrefix}
+use Rattle.command_io.specs.Tapes.{TapeText, AreTaken, AreAllTaken, AreTapesFault, tapes_of}
+
+-- how many mishaps the host survives in a dialogue: as many as in a rehearsal whose script names no patience
+abbrev pub dialogue_patience : ℕ
+dialogue_patience = plain_patience
+
+-- the world of a dialogue at its opening: a zeroed machine, and a host that has done nothing yet
+abbrev pub dialogue_opening : List TapeValue → ℕ → Style → Start → Scene
+dialogue_opening tapes words style start =
+    opened (machine_of style (replicate words 0)) (begun (starting (plan_of_all tapes) start) 0 false dialogue_patience) []
+
+-- on a line that loses nothing one world leads to another, which has this end, and the lines of all keys on the way were written
+pub record Talks (w w' : Scene) (end : End) (out out' : Option (List ℕ)) : Type 0 where
+  pub run : RunsTo w w' end
+  pub told : Appends out out' (key_text (answered_keys w run.events))
+
+-- tapes were taken of the inputs, their load on a line that loses nothing comes to this end, and the text is the lines of all keys
+-- on the way and then the report of the last world
+pub record IsDialogueText (inputs inputs' : List (Option (List ℕ))) (words : ℕ) (style : Style) (start : Start) (end : End) (text : List ℕ) : Type 0 where
+  pub texts : List TapeText
+  pub taken : AreTaken inputs inputs' texts
+  pub last : Scene
+  pub run : RunsTo (dialogue_opening (tapes_of texts) words style start) last end
+  pub told : text ≡ key_text (answered_keys (dialogue_opening (tapes_of texts) words style start) run.events) ++ report last
+
+-- the dialogue came to this end, and its text was written, and nothing else
+pub record IsDialogue (inputs inputs' : List (Option (List ℕ))) (out out' : Option (List ℕ)) (words : ℕ) (style : Style) (start : Start)
+    (end : End) : Type 0 where
+  pub text : List ℕ
+  pub is_text : IsDialogueText inputs inputs' words style start end text
+  pub written : Appends out out' text
+
+-- a proper prefix of the dialogue's text was written, and nothing else
+pub record IsDialogueInPart (inputs inputs' : List (Option (List ℕ))) (out out' : Option (List ℕ)) (words : ℕ) (style : Style) (start : Start) : Type 0 where
+  pub end : End
+  pub text : List ℕ
+  pub is_text : IsDialogueText inputs inputs' words style start end text
+  pub written : WritesProperPrefix out out' text
+
+-- how a dialogue fails: a refusal or a failed read of a tape's input, by its number; or, where tapes were taken, a machine of more than 28,672 words; all
+-- before anything is written. A failed write leaves a proper prefix of the text written, and so does want of memory, where anything is written by then
+abbrev pub IsDialogueFault : List (Option (List ℕ)) → List (Option (List ℕ)) → Option (List ℕ) → Option (List ℕ) → ℕ → Style → Start → CommandFault → Type 0
+IsDialogueFault inputs inputs' out out' words style start (fault.Tape number refusal) =
+    AreTapesFault inputs inputs' (fault.Tape number refusal) × Keeps out out'
+IsDialogueFault inputs inputs' out out' words style start (fault.ReadTape number) = AreTapesFault inputs inputs' (fault.ReadTape number) × Keeps out out'
+IsDialogueFault inputs inputs' out out' words style start fault.TooLarge = AreAllTaken inputs inputs' × (largest_words < words) × Keeps out out'
+IsDialogueFault inputs inputs' out out' words style start fault.Write = IsDialogueInPart inputs inputs' out out' words style start
+IsDialogueFault inputs inputs' out out' words style start fault.Memory = Keeps out out' ⊎ IsDialogueInPart inputs inputs' out out' words style start
+IsDialogueFault inputs inputs' out out' words style start other = ⊥
+
+-- a conversation stops: a failed write or want of memory
+abbrev pub IsTalkFault : CommandFault → Type 0
+IsTalkFault fault.Write = ⊤
+IsTalkFault fault.Memory = ⊤
+IsTalkFault other = ⊥
+
+-- a report was not written: a proper prefix of it was, or for want of memory nothing
+abbrev pub IsReportFault : Option (List ℕ) → Option (List ℕ) → List ℕ → CommandFault → Type 0
+IsReportFault out out' text fault.Write = WritesProperPrefix out out' text
+IsReportFault out out' text fault.Memory = out' ≡ out
+IsReportFault out out' text other = ⊥

@@ -1,0 +1,14 @@
+pub mod CheckText
+pub mod CheckFault
+pub mod TypedKeys
+pub mod Played
+pub mod Rehearsal
+pub mod KeyLines
+pub mod Dialogue
+pub mod Report
+pub mod Checking
+pub mod Output
+pub mod Printing
+pub mod Rehearsing
+pub mod Showing
+pub mod Typing

@@ -1,0 +1,108 @@
+//! The command `dialogue`: a load into a simulated machine, shown as it goes.
+ghost use Rattle.std.specs.Prelude.{◌≡◌, ◌<◌, ◌++◌, List, map, OnOk, OnErr, IfOk, IfErr};
+ghost use Rattle.std.specs.Io.KnownBytes.{Appends};
+ghost use Rattle.byte_io.specs.Output.{WritesPrefix};
+ghost use Rattle.command_io.specs.Tapes.{TakeAtMost};
+ghost use Rattle.host_core.specs.Core.{ended};
+ghost use Rattle.line_world.specs.declared.event.Event.{Event};
+ghost use Rattle.line_world.specs.World.{happens, first_event, work_left, IsCleanRun};
+ghost use Rattle.tape_commands.specs.Report.{report};
+ghost use Rattle.tape_commands.specs.Dialogue.{IsDialogue, IsDialogueFault, IsReportFault, Talks, IsTalkFault};
+ghost use Rattle.tape_commands.specs.KeyLines.{Answered, Gathers, Notes, answered_in, answered_keys, key_text};
+
+use crate::exchange::Exchange;
+use crate::opening::{open_world, zeroed};
+use crate::report::put_report;
+use byte_io::write_whole;
+use command_io::{CommandFault, take_tapes};
+use host_core::{End, PLAIN_PATIENCE};
+use line_world::World;
+use odt_machine::Style;
+use std::alloc::Global;
+use std::io::{Read, Write};
+use tape_image::{Plan, Start};
+
+/// Loads tapes, one from each input, as one into a zeroed machine on a line that loses nothing, and
+/// prints what is typed and answered as it goes, and at the end the report. The program begins where
+/// `start` says. Answers how the load ended.
+///
+/// `Tape` is the refusal of an input, `ReadTape` a failed read, by the input's number from 1, and
+/// `TooLarge` a machine of more than 28,672 words: these come in this order, before the first byte of
+/// output. `Write` is a failed write. `Memory` comes only where a growth was refused, perhaps after
+/// some of the text was written.
+pub fn dialogue_to<R: Read, W: Write>(
+    alloc: Global,
+    tapes: &mut [R],
+    words: u16,
+    style: Style,
+    start: Start,
+    out: &mut W,
+) -> Result<End, CommandFault>
+    ensures ok { IfOk result (IsDialogue (map R.remaining tapes.old) (map R.remaining tapes.new) (W.contents out.old) (W.contents out.new) words style start) }
+    ensures err { IfErr result (IsDialogueFault (map R.remaining tapes.old) (map R.remaining tapes.new)
+        (W.contents out.old) (W.contents out.new) words style start) }
+    ensures at_most { TakeAtMost (map R.remaining tapes.old) (map R.remaining tapes.new) }
+{
+    let taken = take_tapes(alloc, tapes)?;
+    let odt = zeroed(alloc, words, style)?;
+    let plan = Plan::of_all(alloc, &taken.tapes)?;
+    let mut world = open_world(plan.starting(start), odt, PLAIN_PATIENCE, &[]);
+    let end = talk(alloc, &mut world, out)?;
+    write_report(alloc, &world, out)?;
+    Ok(end)
+}
+
+// The report of a world, gathered and then written whole.
+fn write_report<W: Write>(alloc: Global, world: &World, out: &mut W) -> Result<(), CommandFault>
+    ensures ok { OnOk result (Appends (W.contents out.old) (W.contents out.new) (report world.now)) }
+    ensures err { IfErr result (IsReportFault (W.contents out.old) (W.contents out.new) (report world.now)) }
+{
+    let mut text = Vec::new(alloc);
+    put_report(&mut text, world)?;
+    write_whole(out, &text)?;
+    Ok(())
+}
+
+// A clean line up to the first end, each exchange written when it is over.
+fn talk<W: Write>(alloc: Global, world: &mut World, out: &mut W) -> Result<End, CommandFault>
+    ensures ok { IfOk result (λ end. Talks world.old world.new end (W.contents out.old) (W.contents out.new)) }
+    ensures front { OnErr result ((events : List Event) → IsCleanRun world.old events →
+        WritesPrefix (W.contents out.old) (W.contents out.new) (key_text (answered_keys world.old events))) }
+    ensures err { IfErr result IsTalkFault }
+{
+    let mut exchange = Exchange::new(alloc);
+    loop {
+        if let Some(end) = world.core().end() {
+            exchange.finish(out)?;
+            return Ok(end);
+        }
+        turn(world, &mut exchange, out)?;
+    }
+}
+
+// The next event of a clean line. Where the machine takes a key, the key and its answer are noted.
+fn turn<W: Write>(
+    world: &mut World,
+    exchange: &mut Exchange,
+    out: &mut W,
+) -> Result<(), CommandFault>
+    ensures world { world.new ≡ happens world.old (first_event world.old) }
+    ensures ok { OnOk result ((gathered : List Answered) → Gathers gathered exchange.old →
+        Notes gathered (answered_in world.old (first_event world.old)) exchange.new (W.contents out.old) (W.contents out.new)) }
+    ensures work { ended world.old.core.phase ≡ None → work_left world.new < work_left world.old }
+    ensures front { OnErr result ((gathered : List Answered) → Gathers gathered exchange.old → (more : List Answered) →
+        WritesPrefix (W.contents out.old) (W.contents out.new) (key_text (gathered ++ (answered_in world.old (first_event world.old) ++ more)))) }
+    ensures err { IfErr result IsTalkFault }
+{
+    let event = world.next_event();
+    let key = world.down().first().copied();
+    let waiting = world.up().len();
+    world.apply(event);
+    let Some(key) = key else {
+        return Ok(());
+    };
+    match world.up().get(waiting..) {
+        Some(answer) => exchange.note(key, answer, out),
+        None => Ok(()),
+    }
+}

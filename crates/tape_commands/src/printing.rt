@@ -1,0 +1,45 @@
+//! Doing a request that is about no machine.
+ghost use Rattle.std.specs.Prelude.{◌≡◌, IfOk, IfErr};
+ghost use Rattle.std.specs.Mem.{FitsInMemory};
+ghost use Rattle.input_files.specs.Intake.{intake};
+ghost use Rattle.tape_commands.specs.Printing.{IsPrinted, IsUnprinted};
+
+use crate::checking::{check_input, check_tapes};
+use crate::rehearsing::rehearse;
+use crate::showing::show_dialogue;
+use crate::typing::type_input;
+use endings::{Failure, FaultOutput, Output, Status, Streams};
+use input_files::InputFiles;
+use request_values::TapeRequest;
+use std::alloc::Global;
+use std::io::Read;
+
+/// Does a request that is about no machine, with these files, and answers the exit status.
+///
+/// The answer goes to standard output, which is flushed. All files are opened before any is read.
+///
+/// `CannotRead` names a file that can't be opened or read, `TapeRefused` and `OneTapeRefused` are a tape's fault,
+/// `ScriptRefused` a script's. `TooLarge` is a simulated machine of more than 28,672 words. `CannotWrite` is an
+/// answer that could not be written whole. `NoMemory` comes only where a growth was refused.
+///
+/// What is asked of the caller is only that a value of the input's type fits into memory, as each type of a
+/// program does.
+pub fn print_answer<'a, F: InputFiles, R: Read, W: Output, E: FaultOutput>(
+    inputs: &mut F,
+    alloc: Global,
+    request: &TapeRequest<'a>,
+    streams: &mut Streams<R, W, E>,
+) -> Result<Status, Failure<'a>>
+    requires { FitsInMemory R.row }
+    ensures ok { IfOk result (IsPrinted request.now (intake (F.opened inputs.old) streams.old) (intake (F.opened inputs.new) streams.new)) }
+    ensures err { IfErr result (IsUnprinted request.now (intake (F.opened inputs.old) streams.old) (intake (F.opened inputs.new) streams.new)) }
+    ensures quiet { streams.new.err ≡ streams.old.err }
+{
+    match request {
+        TapeRequest::CheckInput => check_input(alloc, streams),
+        TapeRequest::Check(names) => check_tapes(inputs, alloc, names, streams),
+        TapeRequest::Dialogue(names, stage) => show_dialogue(inputs, alloc, names, *stage, streams),
+        TapeRequest::Rehearse(rehearsal) => rehearse(inputs, alloc, rehearsal, streams),
+        TapeRequest::Type(console) => type_input(alloc, *console, streams),
+    }
+}

@@ -1,3 +1,0 @@
-pub mod Kept
-mod OneInput
-pub mod Whatever

@@ -8,6 +8,7 @@ use Rattle.byte_io.specs.Input.{TakesAtMost}
 use Rattle.command_io.specs.TapeFile.{IsRefusedInput}
 use Rattle.command_io.specs.declared.fault.CommandFault.{CommandFault}
 use Rattle.command_io.specs.declared.fault.CommandFault.TheVariants.{Tape, ReadTape, Memory}
+use Rattle.command_io.specs.declared.tapes.Tapes.{Tapes}
 
 -- a tape, and the bytes that it was read from
 pub record TapeText : Type 0 where
@@ -62,3 +63,13 @@ AreTapesFault inputs inputs' (Tape number fault) = (input : Option (List ℕ)) �
 AreTapesFault inputs inputs' (ReadTape number) = (input : Option (List ℕ)) × StopsAt inputs inputs' number input
 AreTapesFault inputs inputs' Memory = ⊤
 AreTapesFault inputs inputs' other = ⊥
+
+-- this is so of whatever inputs these tapes were taken of
+abbrev pub OfTaken : Tapes → (List (Option (List ℕ)) → List (Option (List ℕ)) → Type 0) → Type 0
+OfTaken taken P = (inputs inputs' : List (Option (List ℕ))) → AreTapes inputs inputs' taken.tapes.items taken.lengths.items → P inputs inputs'
+
+-- a fault that blames no tape: it comes once they are taken
+abbrev pub BlamesNoTape : CommandFault → Type 0
+BlamesNoTape (Tape number fault) = ⊥
+BlamesNoTape (ReadTape number) = ⊥
+BlamesNoTape other = ⊤

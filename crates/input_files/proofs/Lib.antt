@@ -1,4 +1,5 @@
 pub mod Errors
+pub mod Taken
 pub mod Tapes
 pub mod Tried
 pub mod Whatever

@@ -2,3 +2,4 @@ pub mod Inputs
 pub mod Intake
 pub mod Opening
 pub mod Source
+pub mod Taking

@@ -1,18 +1,20 @@
-//! Files that are opened to be read, by their names and in an order.
+//! Tapes taken by the names of their files.
 //!
-//! All that a request names are opened before any is read, and the first that can't be opened is named: where
-//! the system tells what it opened (`InputFiles`), the contracts say just this, and that nothing else was
-//! opened. There may be more files than descriptors: then what is open is read ahead and closed (`Source`),
-//! which its reader can't tell, and the file is tried once more. `is_input` says whether names mean standard input.
-//! Used by `tape_commands` and `requests`, which share the relations over what inputs held.
+//! All that a request names are opened before any is read, and the first that can't be opened is named: where the
+//! system tells what it opened (`InputFiles`), the contracts say just this, and that nothing else was opened. `take`
+//! answers the tapes of standard input, where `-` is their only name, else those in the files; `take_with_script` those
+//! of a rehearsal. There may be more files than descriptors: then what is open is read ahead and closed (`Source`),
+//! which its reader can't tell, and the file is tried once more. Used by `tape_commands` and `requests`.
 #![tactic(auto)]
 
 mod names;
 mod opening;
 mod source;
 mod system;
+mod taking;
 
 pub use names::is_input;
-pub use opening::{open, open_all, open_with_script};
+pub use opening::open_all;
 pub use source::Source;
 pub use system::InputFiles;
+pub use taking::{take, take_input, take_with_script};

@@ -20,7 +20,7 @@ const PROCESS_HAS_TOO_MANY: i32 = 24;
 /// Opens a file. It is read ahead, which nobody sees: no one else reads what this program has opened.
 ///
 /// `CannotRead` names it where it can't be opened; `NoMemory` comes only where a growth was refused.
-pub fn open<'a, F: InputFiles>(
+pub(crate) fn open<'a, F: InputFiles>(
     rt: &mut F,
     alloc: Global,
     name: &'a str,
@@ -45,7 +45,7 @@ pub fn open_all<'a, F: InputFiles>(
 }
 
 /// Opens files of tapes and, behind the first of them, that of a script; this is answered apart.
-pub fn open_with_script<'a, F: InputFiles>(
+pub(crate) fn open_with_script<'a, F: InputFiles>(
     rt: &mut F,
     alloc: Global,
     tape: &'a str,

@@ -10,5 +10,5 @@ mod CleanRuns
 mod Dialogues
 mod Reports
 pub mod Kept
-mod OneInput
+mod Untaken
 pub mod Whatever

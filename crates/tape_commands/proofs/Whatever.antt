@@ -19,7 +19,7 @@ module _ (before : Intake) (opened : Option (List InputStep)) (held : Held) (err
   unprinted_whatever (Dialogue names stage) is =
       ⊎_elim (λ u. inl (unopened_whatever _ before opened held err failure u)) (λ t. inr (tapes_whatever names.items before opened held err _ t)) is
   unprinted_whatever (Rehearse rehearsal) is =
-      ⊎_elim (λ u. inl (unopened_whatever _ before opened held err failure u)) (λ b. inr (record { opened = b.opened; failed = b.failed })) is
+      ⊎_elim (λ u. inl (unopened_whatever _ before opened held err failure u)) (λ b. inr (record { opened = b.opened; is_so = b.is_so })) is
   unprinted_whatever (TypeKeys console) is = (
     ⊎_elim (λ u. inl (record { why = u.why; nothing_read = u.nothing_read; nothing_written = u.nothing_written }))
         (λ more. inr (⊎_elim (λ amiss. inl amiss) (λ cut. inr (cut.0, record { last = cut.1.last; count = cut.1.count; typed = cut.1.typed })) more)) is.0,

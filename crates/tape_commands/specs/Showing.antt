@@ -5,9 +5,8 @@ use Rattle.tape_commands.specs.Dialogue.{IsDialogue, IsDialogueFault}
 use Rattle.endings.specs.declared.failure.Failure.{Failure}
 use Rattle.endings.specs.declared.status.Status.{Status}
 use Rattle.endings.specs.Status.{end_status}
-use Rattle.endings.specs.Held.{Held}
 use Rattle.input_files.specs.Opening.{Name}
-use Rattle.input_files.specs.Inputs.{Known, Inputs, OfTapes, files_of, FailsUnopened, only_input}
+use Rattle.input_files.specs.Inputs.{Known, Inputs, OfTapes, files_of, FailsUnopened}
 use Rattle.input_files.specs.Intake.{Intake}
 use Rattle.request_values.specs.declared.request.Stage.{Stage}
 use Rattle.tape_commands.specs.Output.{FailsOver}
@@ -22,14 +21,6 @@ abbrev pub IsShowingFailure : Stage → Inputs → Known → Known → Failure �
 IsShowingFailure stage inputs out out' failure =
     FailsOver inputs (IsDialogueFault inputs.held inputs.rests out out' stage.console.words stage.console.style stage.start)
     ((status : Status) × IsShownTo stage inputs out out' status) failure
-
--- the load of the tape on standard input was shown
-abbrev pub IsInputShown : Stage → Held → Held → Status → Type 0
-IsInputShown stage before after status = IsShownTo stage (only_input before.input after.input) before.out after.out status
-
--- it was not
-abbrev pub IsInputUnshown : Stage → Held → Held → Failure → Type 0
-IsInputUnshown stage before after failure = IsShowingFailure stage (only_input before.input after.input) before.out after.out failure
 
 -- the load of the tapes of these names was shown
 abbrev pub AreShown : List Name → Stage → Intake → Intake → Status → Type 0

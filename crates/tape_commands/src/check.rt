@@ -1,22 +1,22 @@
 //! The command `check`: what tapes hold.
-ghost use Rattle.std.specs.Prelude.{◌≡◌, ◌≤◌, ◌++◌, ℕ, List, length, map, [], ◌∷◌, OnOk, IfOk, IfErr};
-ghost use Rattle.std.specs.List.{flat_map};
-ghost use Rattle.octal.specs.Octal.{octal_text};
-ghost use Rattle.tape_values.specs.Tape.{IsTape, tape_limit};
-ghost use Rattle.tape_image.specs.Plan.{plan_of_all};
-ghost use Rattle.tape_image.specs.Word.{word_fields};
-ghost use Rattle.command_io.specs.Tapes.{TapeText, TakeAtMost};
-ghost use Rattle.byte_io.specs.Text.{line};
-ghost use Rattle.tape_commands.specs.CheckText.{data_count, blocks_text, start_text, canonical_text};
-ghost use Rattle.tape_commands.specs.CheckText.{tape_text, words_text, check_text as text_of_check, AreTexts, IsChecked};
+ghost use Rattle.std.specs.Prelude.{◌≡◌, length, map, OnOk, IfOk, IfErr};
+ghost use Rattle.command_io.specs.Tapes.{BlamesNoTape, OfTaken, TakeAtMost};
+ghost use Rattle.tape_commands.specs.CheckText.{IsChecked};
 ghost use Rattle.tape_commands.specs.CheckFault.{IsCheckFault};
+ghost use Rattle.std.specs.Mem.{FitsInMemory};
+ghost use Rattle.input_files.specs.Intake.{intake};
+ghost use Rattle.input_files.specs.Taking.{OfTakenInputs};
+ghost use Rattle.tape_commands.specs.Checking.{AreChecked, AreUnchecked, IsCheckedTo, IsCheckFailure, IsInputChecked, IsInputUnchecked};
 
-use byte_io::{put_decimal, put_octal, write_whole};
+use crate::check_text::check_text;
+use crate::output::flushed;
+use byte_io::write_whole;
 use command_io::{CommandFault, Tapes, take_tapes};
-use std::alloc::{AllocError, Global};
+use endings::{Failure, FaultOutput, Output, STANDARD_INPUT, Status, Streams};
+use input_files::{InputFiles, take, take_input};
+use std::alloc::Global;
 use std::io::{Read, Write};
-use tape_image::{Plan, Word};
-use tape_values::{Block, Tape};
+use tape_image::Plan;
 
 /// Checks tapes, one from each input, and prints of each its blocks, its start and whether it is
 /// canonical, and then the words of the image that they make together.
@@ -35,106 +35,69 @@ pub fn check_to<R: Read, W: Write>(
     ensures at_most { TakeAtMost (map R.remaining tapes.old) (map R.remaining tapes.new) }
 {
     let taken = take_tapes(alloc, tapes)?;
+    write_check(alloc, &taken, out)
+}
+
+/// Prints of tapes that were taken what `check_to` prints. `Write` is a failed write, `Memory` a growth that was
+/// refused, before anything is written.
+pub(crate) fn write_check<W: Write>(
+    alloc: Global,
+    taken: &Tapes,
+    out: &mut W,
+) -> Result<(), CommandFault>
+    requires { length taken.now.lengths.items ≡ length taken.now.tapes.items }
+    ensures ok { OnOk result (OfTaken taken.now (λ inputs inputs'. IsChecked inputs inputs' (W.contents out.old) (W.contents out.new))) }
+    ensures err { IfErr result (λ fault. OfTaken taken.now (λ inputs inputs'. IsCheckFault inputs inputs' (W.contents out.old) (W.contents out.new) fault)) }
+    ensures blames { IfErr result BlamesNoTape }
+{
     let plan = Plan::of_all(alloc, &taken.tapes)?;
-    let report = check_text(alloc, &taken, &plan)?;
+    let report = check_text(alloc, taken, &plan)?;
     write_whole(out, &report)?;
     Ok(())
 }
 
-// What is printed of tapes, which make this plan together.
-fn check_text(alloc: Global, taken: &Tapes, plan: &Plan) -> Result<Vec<u8>, AllocError>
-    requires lengths { length taken.now.lengths.items ≡ length taken.now.tapes.items }
-    requires plan { plan.now ≡ plan_of_all taken.now.tapes.items }
-    ensures { IfOk result (λ report. (texts : List TapeText) → AreTexts taken.now.tapes.items taken.now.lengths.items texts →
-        report.items ≡ text_of_check texts) }
+/// Checks tapes: standard input's, where `-` is their only name, else those in the files.
+pub(crate) fn check_tapes<'a, F: InputFiles, R: Read, W: Output, E: FaultOutput>(
+    inputs: &mut F,
+    alloc: Global,
+    names: &[&'a str],
+    streams: &mut Streams<R, W, E>,
+) -> Result<Status, Failure<'a>>
+    requires { FitsInMemory R.row }
+    ensures ok { IfOk result (AreChecked names.now (intake (F.opened inputs.old) streams.old) (intake (F.opened inputs.new) streams.new)) }
+    ensures err { IfErr result (AreUnchecked names.now (intake (F.opened inputs.old) streams.old) (intake (F.opened inputs.new) streams.new)) }
+    ensures quiet { streams.new.err ≡ streams.old.err }
 {
-    let mut report = Vec::new(alloc);
-    for place in 0..taken.tapes.len() {
-        put_tape(&mut report, &taken.tapes[place], taken.lengths[place])?;
+    let taken = take(inputs, alloc, names, streams)?;
+    print_check(alloc, &taken, &mut streams.out)
+}
+
+/// Checks the tape on standard input.
+pub(crate) fn check_input<R: Read, W: Output, E: FaultOutput>(
+    alloc: Global,
+    streams: &mut Streams<R, W, E>,
+) -> Result<Status, Failure<'static>>
+    requires { FitsInMemory R.row }
+    ensures ok { IfOk result (IsInputChecked streams.old streams.new) }
+    ensures err { IfErr result (IsInputUnchecked streams.old streams.new) }
+    ensures quiet { streams.new.err ≡ streams.old.err }
+{
+    let taken = take_input(alloc, &mut streams.input)?;
+    print_check(alloc, &taken, &mut streams.out)
+}
+
+// Prints what tapes hold that were taken.
+fn print_check<W: Write>(
+    alloc: Global,
+    taken: &Tapes,
+    out: &mut W,
+) -> Result<Status, Failure<'static>>
+    requires { length taken.now.lengths.items ≡ length taken.now.tapes.items }
+    ensures ok { IfOk result (λ status. OfTakenInputs taken.now (λ inputs. IsCheckedTo inputs (W.contents out.old) (W.contents out.new) status)) }
+    ensures err { IfErr result (λ failure. OfTakenInputs taken.now (λ inputs. IsCheckFailure inputs (W.contents out.old) (W.contents out.new) failure)) }
+{
+    match write_check(alloc, taken, out) {
+        Ok(()) => flushed(out, Status::Done),
+        Err(fault) => Err(Failure::of(fault, &[], STANDARD_INPUT)),
     }
-    put_words(&mut report, plan.words())?;
-    Ok(report)
-}
-
-// The lines of one tape, which was read from so many bytes: they are its plain text where nothing stands
-// between its blocks.
-fn put_tape(report: &mut Vec<u8>, tape: &Tape, size: u32) -> Result<(), AllocError>
-    ensures { OnOk result ((text : List ℕ) → IsTape text tape.now.blocks tape.now.start → size ≡ length text →
-        report.new.items ≡ report.old.items ++ tape_text (record { text = text; tape = tape.now })) }
-{
-    put_counts(report, tape, size)?;
-    put_start(report, tape.start())?;
-    put_canonical(report, size as usize == tape.written_length())
-}
-
-fn put_counts(report: &mut Vec<u8>, tape: &Tape, size: u32) -> Result<(), AllocError>
-    ensures { OnOk result (report.new.items ≡ report.old.items ++ line (blocks_text tape.now size)) }
-{
-    let blocks = tape.blocks();
-    report.extend_from_slice(b"blocks ")?;
-    put_decimal(report, blocks.len())?;
-    report.extend_from_slice(b" data ")?;
-    put_decimal(report, data_count(blocks))?;
-    report.extend_from_slice(b" read ")?;
-    put_decimal(report, size as usize)?;
-    report.extend_from_slice(b"\n")
-}
-
-fn data_count(blocks: &[Block]) -> usize
-    requires { data_count blocks.now ≤ tape_limit }
-    ensures { result ≡ data_count blocks.now }
-{
-    blocks.iter().map(|block| block.bytes.len()).sum()
-}
-
-fn put_start(report: &mut Vec<u8>, start: u16) -> Result<(), AllocError>
-    ensures { OnOk result (report.new.items ≡ report.old.items ++ line (start_text start)) }
-{
-    if start % 2 != 0 {
-        report.extend_from_slice(b"no ")?;
-    }
-    report.extend_from_slice(b"start ")?;
-    put_octal(report, start)?;
-    report.extend_from_slice(b"\n")
-}
-
-fn put_canonical(report: &mut Vec<u8>, is_canonical: bool) -> Result<(), AllocError>
-    ensures { OnOk result (report.new.items ≡ report.old.items ++ line (canonical_text is_canonical)) }
-{
-    report.extend_from_slice(b"canonical ")?;
-    report.extend_from_slice(if is_canonical { b"yes\n" } else { b"no\n" })
-}
-
-fn put_words(report: &mut Vec<u8>, words: &[Word]) -> Result<(), AllocError>
-    ensures { OnOk result (report.new.items ≡ report.old.items ++ words_text words.now) }
-{
-    report.extend_from_slice(b"words ")?;
-    put_decimal(report, words.len())?;
-    report.extend_from_slice(b"\n")?;
-    put_word_lines(report, words)
-}
-
-fn put_word_lines(report: &mut Vec<u8>, words: &[Word]) -> Result<(), AllocError>
-    ensures { OnOk result (report.new.items ≡ report.old.items ++ flat_map (λ w. line (word_fields w)) words.now) }
-{
-    for word in words {
-        put_word(report, *word)?;
-    }
-    Ok(())
-}
-
-fn put_word(report: &mut Vec<u8>, word: Word) -> Result<(), AllocError>
-    ensures { OnOk result (report.new.items ≡ report.old.items ++ line (word_fields word)) }
-{
-    put_field(report, word.address(), b' ')?;
-    put_field(report, word.mask(), b' ')?;
-    put_field(report, word.value(), b'\n')
-}
-
-fn put_field(report: &mut Vec<u8>, word: u16, end: u8) -> Result<(), AllocError>
-    ensures { OnOk result (report.new.items ≡ report.old.items ++ octal_text word ++ end ∷ []) }
-{
-    put_octal(report, word)?;
-    report.push(end)?;
-    Ok(())
 }

@@ -2,22 +2,30 @@
 ghost use Rattle.std.specs.Prelude.{◌≡◌, ◌<◌, ◌++◌, List, map, OnOk, OnErr, IfOk, IfErr};
 ghost use Rattle.std.specs.Io.KnownBytes.{Appends};
 ghost use Rattle.byte_io.specs.Output.{WritesPrefix};
-ghost use Rattle.command_io.specs.Tapes.{TakeAtMost};
+ghost use Rattle.command_io.specs.Tapes.{BlamesNoTape, OfTaken, TakeAtMost};
 ghost use Rattle.host_core.specs.Core.{ended};
 ghost use Rattle.line_world.specs.declared.event.Event.{Event};
 ghost use Rattle.line_world.specs.World.{happens, first_event, work_left, IsCleanRun};
 ghost use Rattle.tape_commands.specs.Report.{report};
 ghost use Rattle.tape_commands.specs.Dialogue.{IsDialogue, IsDialogueFault, IsReportFault, Talks, IsTalkFault};
 ghost use Rattle.tape_commands.specs.KeyLines.{Answered, Gathers, Notes, answered_in, answered_keys, key_text};
+ghost use Rattle.std.specs.Mem.{FitsInMemory};
+ghost use Rattle.input_files.specs.Intake.{intake};
+ghost use Rattle.input_files.specs.Taking.{OfTakenInputs};
+ghost use Rattle.tape_commands.specs.Showing.{AreShown, AreUnshown, IsShowingFailure, IsShownTo};
 
 use crate::exchange::Exchange;
-use crate::opening::{open_world, zeroed};
+use crate::output::flushed;
 use crate::report::put_report;
+use crate::worlds::{open_world, zeroed};
 use byte_io::write_whole;
-use command_io::{CommandFault, take_tapes};
+use command_io::{CommandFault, Tapes, take_tapes};
+use endings::{Failure, FaultOutput, Output, STANDARD_INPUT, Status, Streams};
 use host_core::{End, PLAIN_PATIENCE};
+use input_files::{InputFiles, take};
 use line_world::World;
 use odt_machine::Style;
+use request_values::Stage;
 use std::alloc::Global;
 use std::io::{Read, Write};
 use tape_image::{Plan, Start};
@@ -44,6 +52,24 @@ pub fn dialogue_to<R: Read, W: Write>(
     ensures at_most { TakeAtMost (map R.remaining tapes.old) (map R.remaining tapes.new) }
 {
     let taken = take_tapes(alloc, tapes)?;
+    write_dialogue(alloc, &taken, words, style, start, out)
+}
+
+/// Loads tapes that were taken, and prints what `dialogue_to` prints, with its faults but for those of a tape.
+pub(crate) fn write_dialogue<W: Write>(
+    alloc: Global,
+    taken: &Tapes,
+    words: u16,
+    style: Style,
+    start: Start,
+    out: &mut W,
+) -> Result<End, CommandFault>
+    ensures ok { IfOk result (λ end. OfTaken taken.now (λ inputs inputs'. IsDialogue inputs inputs' (W.contents out.old) (W.contents out.new)
+        words style start end)) }
+    ensures err { IfErr result (λ fault. OfTaken taken.now (λ inputs inputs'. IsDialogueFault inputs inputs' (W.contents out.old) (W.contents out.new)
+        words style start fault)) }
+    ensures blames { IfErr result BlamesNoTape }
+{
     let odt = zeroed(alloc, words, style)?;
     let plan = Plan::of_all(alloc, &taken.tapes)?;
     let mut world = open_world(plan.starting(start), odt, PLAIN_PATIENCE, &[]);
@@ -104,5 +130,41 @@ fn turn<W: Write>(
     match world.up().get(waiting..) {
         Some(answer) => exchange.note(key, answer, out),
         None => Ok(()),
+    }
+}
+
+/// Shows the load of tapes on a stage: of standard input's tape, where `-` is their only name, else of
+/// those in the files.
+pub(crate) fn show_dialogue<'a, F: InputFiles, R: Read, W: Output, E: FaultOutput>(
+    inputs: &mut F,
+    alloc: Global,
+    names: &[&'a str],
+    stage: Stage,
+    streams: &mut Streams<R, W, E>,
+) -> Result<Status, Failure<'a>>
+    requires { FitsInMemory R.row }
+    ensures ok { IfOk result (AreShown names.now stage (intake (F.opened inputs.old) streams.old) (intake (F.opened inputs.new) streams.new)) }
+    ensures err { IfErr result (AreUnshown names.now stage (intake (F.opened inputs.old) streams.old) (intake (F.opened inputs.new) streams.new)) }
+    ensures quiet { streams.new.err ≡ streams.old.err }
+{
+    let taken = take(inputs, alloc, names, streams)?;
+    show(alloc, &taken, stage, &mut streams.out)
+}
+
+// Shows the load of tapes that were taken.
+fn show<W: Write>(
+    alloc: Global,
+    taken: &Tapes,
+    stage: Stage,
+    out: &mut W,
+) -> Result<Status, Failure<'static>>
+    ensures ok { IfOk result (λ status. OfTakenInputs taken.now (λ inputs. IsShownTo stage inputs (W.contents out.old) (W.contents out.new) status)) }
+    ensures err { IfErr result (λ failure. OfTakenInputs taken.now (λ inputs.
+        IsShowingFailure stage inputs (W.contents out.old) (W.contents out.new) failure)) }
+{
+    let Stage { console, start } = stage;
+    match write_dialogue(alloc, taken, console.words, console.style, start, out) {
+        Ok(end) => flushed(out, Status::of_end(end)),
+        Err(fault) => Err(Failure::of(fault, &[], STANDARD_INPUT)),
     }
 }

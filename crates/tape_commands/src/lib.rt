@@ -4,25 +4,21 @@
 //! `check_to`, `dialogue_to`, `rehearse_to` and `type_to` are these commands over readers and a writer: what each
 //! writes is exactly the text that its contract names, and every refusal comes before the first byte of it. Worlds are
 //! moved by the calls of `line_world::World` alone. `print_answer` does a request: it opens the files that are named, in
-//! their order, reads nothing of standard input where no tape means it, and answers the exit status or the `Failure`
+//! their order, reads standard input only where a tape or the keys are it, and answers the exit status or the `Failure`
 //! that names what was at fault; it says nothing on standard error. Used by `requests`.
 #![tactic(auto)]
 
 mod check;
-mod checking;
+mod check_text;
 mod dialogue;
 mod exchange;
-mod names;
-mod opening;
 mod output;
 mod play;
 mod printing;
-mod rehearsing;
 mod rehearse;
 mod report;
-mod showing;
 mod type_keys;
-mod typing;
+mod worlds;
 
 pub use check::check_to;
 pub use dialogue::dialogue_to;

@@ -4,10 +4,10 @@ ghost use Rattle.std.specs.Mem.{FitsInMemory};
 ghost use Rattle.input_files.specs.Intake.{intake};
 ghost use Rattle.tape_commands.specs.Printing.{IsPrinted, IsUnprinted};
 
-use crate::checking::{check_input, check_tapes};
-use crate::rehearsing::rehearse;
-use crate::showing::show_dialogue;
-use crate::typing::type_input;
+use crate::check::{check_input, check_tapes};
+use crate::dialogue::show_dialogue;
+use crate::rehearse::rehearse;
+use crate::type_keys::type_input;
 use endings::{Failure, FaultOutput, Output, Status, Streams};
 use input_files::InputFiles;
 use request_values::TapeRequest;

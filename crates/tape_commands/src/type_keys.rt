@@ -3,11 +3,16 @@ ghost use Rattle.std.specs.Prelude.{◌≡◌, ◌≤◌, length, OnOk, OnErr, I
 ghost use Rattle.std.specs.Io.KnownBytes.{Appends};
 ghost use Rattle.byte_io.specs.Output.{WritesProperPrefix};
 ghost use Rattle.tape_commands.specs.TypedKeys.{typed_key as key_of_character, after_typing, answers_of, IsTypedToEnd, IsTypeFault};
+ghost use Rattle.tape_commands.specs.Typing.{IsTypedThrough, IsTypingFailure};
 
+use crate::output::flushed;
 use arrayvec::ArrayVec;
 use byte_io::{WriteFault, write_whole};
 use command_io::CommandFault;
-use odt_machine::{CARRIAGE_RETURN, LINE_FEED, Odt};
+use endings::{Failure, FaultOutput, Output, STANDARD_INPUT, Status, Streams};
+use odt_machine::{CARRIAGE_RETURN, LINE_FEED, Odt, OdtError};
+use request_values::Console;
+use std::alloc::Global;
 use std::io::{Read, Write};
 
 // The most keys that are typed. What stands behind them stays unread.
@@ -80,5 +85,27 @@ fn typed_key(character: u8) -> u8
         CARRIAGE_RETURN
     } else {
         character
+    }
+}
+
+/// Types standard input into a simulated console.
+pub(crate) fn type_input<R: Read, W: Output, E: FaultOutput>(
+    alloc: Global,
+    console: Console,
+    streams: &mut Streams<R, W, E>,
+) -> Result<Status, Failure<'static>>
+    ensures ok { IfOk result (λ status. IsTypedThrough console streams.old streams.new
+        × (status ≡ Status.Done)) }
+    ensures err { IfErr result (IsTypingFailure console streams.old streams.new) }
+    ensures quiet { streams.new.err ≡ streams.old.err }
+{
+    let mut odt = match Odt::new(alloc, console.words, console.style) {
+        Ok(odt) => odt,
+        Err(OdtError::TooLarge) => return Err(Failure::TooLarge),
+        Err(OdtError::Memory) => return Err(Failure::NoMemory),
+    };
+    match type_to(&mut odt, &mut streams.input, &mut streams.out) {
+        Ok(_) => flushed(&mut streams.out, Status::Done),
+        Err(fault) => Err(Failure::of(fault, &[], STANDARD_INPUT)),
     }
 }

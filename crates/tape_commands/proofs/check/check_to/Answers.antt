@@ -1,30 +1,8 @@
-use Rattle.std.proofs.Common.{map, ◌∙◌, subst}
-use Rattle.std.specs.Io.KnownBytes.{Appends}
-use Rattle.byte_io.specs.Output.{WritesProperPrefix}
-use Rattle.command_io.specs.declared.fault.CommandFault.TheVariants.{Write}
-use Rattle.command_io.proofs.Faults.{fault_is}
-use Rattle.tape_commands.specs.CheckFault.{IsCheckFault}
-use Rattle.tape_commands.proofs.Texts.{are_texts}
+use Rattle.std.proofs.lemmas.Result.{IfErr-weaker, on_ok_weaker}
 use Rattle.tape_commands.proofs.check.check_to.Goals as goal
 
-pub returns-in_err-write_whole-clause-err : goal.returns-in_err-write_whole-clause-err
-returns-in_err-write_whole-clause-err g c =
-    let are = c.in_ok-taken.ensures.ok in
-    fault_is c.from_residual-in_err-write_whole.result Write
-    (IsCheckFault (map g.R.Read.remaining c.args.tapes.now) (map g.R.Read.remaining c.take_tapes.new.inputs) (g.W.Write.contents c.args.out.now) (g.W.Write.contents c.write_whole.new.out))
-    c.from_residual-in_err-write_whole.ensures.1 (record {
-      texts = are.texts;
-      taken = are.taken;
-      written = subst (WritesProperPrefix (g.W.Write.contents c.args.out.now) (g.W.Write.contents c.write_whole.new.out))
-          (c.deref-2.ensures.value ∙ c.in_ok-report.ensures are.texts (are_texts _ _ _ _ are)) c.in_err-write_whole.ensures.err;
-    })
-
 pub returns-clause-ok : goal.returns-clause-ok
-returns-clause-ok g c =
-    let are = c.in_ok-taken.ensures.ok in
-    record {
-      texts = are.texts;
-      taken = are.taken;
-      written = subst (Appends (g.W.Write.contents c.args.out.now) (g.W.Write.contents c.write_whole.new.out))
-          (c.deref-2.ensures.value ∙ c.in_ok-report.ensures are.texts (are_texts _ _ _ _ are)) c.in_ok-write_whole.ensures.ok;
-    }
+returns-clause-ok g c = on_ok_weaker c.write_check.result (λ of. of _ _ c.in_ok-taken.ensures.ok) c.write_check.ensures.ok
+
+pub returns-clause-err : goal.returns-clause-err
+returns-clause-err g c = IfErr-weaker c.write_check.result _ _ (λ fault of. of _ _ c.in_ok-taken.ensures.ok) c.write_check.ensures.err

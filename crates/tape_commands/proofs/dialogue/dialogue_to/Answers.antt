@@ -1,10 +1,9 @@
-use Rattle.std.proofs.Common.{refl, map, inl, ap, ◌∙◌}
-use Rattle.tape_image.specs.Plan.{starting}
-use Rattle.command_io.specs.declared.fault.CommandFault.TheVariants.{Memory}
+use Rattle.std.proofs.Common.{map}
 use Rattle.std.proofs.KnownBytes.{Keeps-refl}
-use Rattle.tape_commands.specs.Dialogue.{IsDialogueFault}
+use Rattle.std.proofs.lemmas.Result.{IfErr-weaker, IfOk-weaker}
 use Rattle.command_io.proofs.Faults.{fault_is}
-use Rattle.tape_commands.proofs.Dialogues.{opens_dialogue, tapes_fault, machine_fault, stopped_in_talk, report_failed, dialogue_made}
+use Rattle.tape_commands.specs.Dialogue.{IsDialogueFault}
+use Rattle.tape_commands.proofs.Dialogues.{tapes_fault}
 use Rattle.tape_commands.proofs.dialogue.dialogue_to.Goals as goal
 
 pub returns-in_err-taken-clause-err : goal.returns-in_err-taken-clause-err
@@ -13,39 +12,8 @@ returns-in_err-taken-clause-err g c =
     (IsDialogueFault (map g.R.Read.remaining c.args.tapes.now) (map g.R.Read.remaining c.take_tapes.new.inputs) (g.W.Write.contents c.args.out.now) (g.W.Write.contents c.args.out.now) c.args.words c.args.style c.args.start)
     c.from_residual.ensures.1 (tapes_fault _ _ _ _ _ _ _ (Keeps-refl (g.W.Write.contents c.args.out.now)) c.in_err-taken.ensures.err)
 
-pub returns-in_err-odt-clause-err : goal.returns-in_err-odt-clause-err
-returns-in_err-odt-clause-err g c =
-    fault_is c.from_residual-in_err-odt.result c.in_err-odt.field-0.0
-    (IsDialogueFault (map g.R.Read.remaining c.args.tapes.now) (map g.R.Read.remaining c.take_tapes.new.inputs) (g.W.Write.contents c.args.out.now) (g.W.Write.contents c.args.out.now) c.args.words c.args.style c.args.start)
-    c.from_residual-in_err-odt.ensures.1 (machine_fault _ _ _ _ _ _ _ (c.in_ok-taken.ensures.ok.texts, c.in_ok-taken.ensures.ok.taken) (Keeps-refl (g.W.Write.contents c.args.out.now)) c.in_err-odt.ensures.err)
-
-pub returns-in_err-plan-clause-err : goal.returns-in_err-plan-clause-err
-returns-in_err-plan-clause-err g c = fault_is c.from_residual-in_err-plan.result Memory
-    (IsDialogueFault (map g.R.Read.remaining c.args.tapes.now) (map g.R.Read.remaining c.take_tapes.new.inputs) (g.W.Write.contents c.args.out.now) (g.W.Write.contents c.args.out.now) c.args.words c.args.style c.args.start)
-    c.from_residual-in_err-plan.ensures.1 (inl (Keeps-refl (g.W.Write.contents c.args.out.now)))
-
-pub returns-in_err-end-clause-err : goal.returns-in_err-end-clause-err
-returns-in_err-end-clause-err g c =
-    fault_is c.from_residual-in_err-end.result c.in_err-end.field-0.0
-    (IsDialogueFault (map g.R.Read.remaining c.args.tapes.now) (map g.R.Read.remaining c.take_tapes.new.inputs) (g.W.Write.contents c.args.out.now) (g.W.Write.contents c.talk.new.out) c.args.words c.args.style c.args.start)
-    c.from_residual-in_err-end.ensures.1
-    (stopped_in_talk (map g.R.Read.remaining c.args.tapes.now) (map g.R.Read.remaining c.take_tapes.new.inputs) c.args.words c.args.style c.args.start c.in_ok-taken.taken.tapes.items c.in_ok-taken.taken.lengths.items c.in_ok-taken.ensures.ok c.open_world-world.result
-    (opens_dialogue c.args.words c.args.style c.args.start c.in_ok-taken.taken.tapes.items c.deref.result.now _ _ c.in_ok-odt.odt c.open_world-world.result _ c.deref.ensures.value c.in_ok-taken.ensures.ok.tapes_are (c.starting.ensures.value ∙ ap (λ p. starting p c.args.start) c.in_ok-plan.ensures.plan) c.in_ok-odt.ensures.ok refl c.open_world-world.ensures.world)
-    c.in_ok-odt.odt (g.W.Write.contents c.args.out.now) (g.W.Write.contents c.talk.new.out) _ c.in_ok-odt.ensures.ok c.in_ok-odt.ensures.machine c.open_world-world.ensures.host c.in_err-end.ensures.err c.in_err-end.ensures.front)
-
-pub returns-in_err-write_report-clause-err : goal.returns-in_err-write_report-clause-err
-returns-in_err-write_report-clause-err g c =
-    fault_is c.from_residual-in_err-write_report.result c.in_err-write_report.field-0.0
-    (IsDialogueFault (map g.R.Read.remaining c.args.tapes.now) (map g.R.Read.remaining c.take_tapes.new.inputs) (g.W.Write.contents c.args.out.now) (g.W.Write.contents c.write_report.new.out) c.args.words c.args.style c.args.start)
-    c.from_residual-in_err-write_report.ensures.1
-    (report_failed (map g.R.Read.remaining c.args.tapes.now) (map g.R.Read.remaining c.take_tapes.new.inputs) c.args.words c.args.style c.args.start c.in_ok-taken.taken.tapes.items c.in_ok-taken.taken.lengths.items c.in_ok-taken.ensures.ok c.open_world-world.result
-    (opens_dialogue c.args.words c.args.style c.args.start c.in_ok-taken.taken.tapes.items c.deref.result.now _ _ c.in_ok-odt.odt c.open_world-world.result _ c.deref.ensures.value c.in_ok-taken.ensures.ok.tapes_are (c.starting.ensures.value ∙ ap (λ p. starting p c.args.start) c.in_ok-plan.ensures.plan) c.in_ok-odt.ensures.ok refl c.open_world-world.ensures.world)
-    c.talk.new.world c.in_ok-end.end (g.W.Write.contents c.args.out.now) (g.W.Write.contents c.talk.new.out) (g.W.Write.contents c.write_report.new.out) _
-    c.in_ok-end.ensures.ok c.in_err-write_report.ensures.err)
-
 pub returns-clause-ok : goal.returns-clause-ok
-returns-clause-ok g c =
-    dialogue_made (map g.R.Read.remaining c.args.tapes.now) (map g.R.Read.remaining c.take_tapes.new.inputs) c.args.words c.args.style c.args.start c.in_ok-taken.taken.tapes.items c.in_ok-taken.taken.lengths.items c.in_ok-taken.ensures.ok c.open_world-world.result
-    (opens_dialogue c.args.words c.args.style c.args.start c.in_ok-taken.taken.tapes.items c.deref.result.now _ _ c.in_ok-odt.odt c.open_world-world.result _ c.deref.ensures.value c.in_ok-taken.ensures.ok.tapes_are (c.starting.ensures.value ∙ ap (λ p. starting p c.args.start) c.in_ok-plan.ensures.plan) c.in_ok-odt.ensures.ok refl c.open_world-world.ensures.world)
-    c.talk.new.world c.in_ok-end.end (g.W.Write.contents c.args.out.now) (g.W.Write.contents c.talk.new.out) (g.W.Write.contents c.write_report.new.out)
-    c.in_ok-end.ensures.ok c.in_ok-write_report.ensures.ok
+returns-clause-ok g c = IfOk-weaker c.write_dialogue.result _ _ (λ end of. of _ _ c.in_ok-taken.ensures.ok) c.write_dialogue.ensures.ok
+
+pub returns-clause-err : goal.returns-clause-err
+returns-clause-err g c = IfErr-weaker c.write_dialogue.result _ _ (λ fault of. of _ _ c.in_ok-taken.ensures.ok) c.write_dialogue.ensures.err

@@ -14,7 +14,6 @@ mod system;
 mod taking;
 
 pub use names::is_input;
-pub use opening::open_all;
 pub use source::Source;
 pub use system::InputFiles;
 pub use taking::{take, take_input, take_with_script};

@@ -31,7 +31,7 @@ pub(crate) fn open<'a, F: InputFiles>(
 }
 
 /// Opens files of tapes in the order of their names. `CannotRead` has the first that can't be opened.
-pub fn open_all<'a, F: InputFiles>(
+pub(crate) fn open_all<'a, F: InputFiles>(
     rt: &mut F,
     alloc: Global,
     names: &[&'a str],

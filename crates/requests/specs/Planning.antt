@@ -1,21 +1,18 @@
 -- The plan of the tapes that a request names.
-use Rattle.std.specs.Prelude.{◌≡◌, ◌⊎◌, List, codes}
+use Rattle.std.specs.Prelude.{◌≡◌, ◌⊎◌, List}
 use Rattle.tape_image.specs.Plan.{PlanValue, plan_of_all}
-use Rattle.command_io.specs.Tapes.{TapeText, AreTaken, AreTapesFault, tapes_of}
+use Rattle.command_io.specs.Tapes.{TapeText, AreTaken, tapes_of}
 use Rattle.endings.specs.declared.failure.Failure.{Failure}
-use Rattle.input_files.specs.Inputs.{Inputs, OfTapes, FailsUnopened, HasFault, files_of}
+use Rattle.input_files.specs.Inputs.{Inputs, OfTapes, FailsUnopened, files_of}
 use Rattle.input_files.specs.Intake.{Intake}
 use Rattle.input_files.specs.Opening.{Name}
+use Rattle.input_files.specs.Taking.{FailsToTake}
 
 -- tapes were taken of the inputs, and this is the plan of all of them
 pub record IsPlanOf (inputs : Inputs) (plan : PlanValue) : Type 0 where
   pub texts : List TapeText
   pub taken : AreTaken inputs.held inputs.rests texts
   pub plan_is : plan ≡ plan_of_all (tapes_of texts)
-
--- no plan comes of the inputs: one is refused or can't be read, or want of memory
-abbrev pub FailsToPlan : Inputs → Failure → Type 0
-FailsToPlan inputs failure = HasFault (AreTapesFault inputs.held inputs.rests) inputs.names (codes "standard input") failure
 
 -- this is the plan of the tapes of these names
 abbrev pub IsPlanned : List Name → Intake → Intake → PlanValue → Type 0
@@ -25,4 +22,4 @@ IsPlanned names before after plan = OfTapes names before after (λ inputs. IsPla
 abbrev pub IsUnplanned : List Name → Intake → Intake → Failure → Type 0
 IsUnplanned names before after failure =
     FailsUnopened (files_of names) before after failure
-    ⊎ (OfTapes names before after (λ inputs. FailsToPlan inputs failure) × (after.held.out ≡ before.held.out))
+    ⊎ (OfTapes names before after (λ inputs. FailsToTake inputs failure) × (after.held.out ≡ before.held.out))

@@ -1,29 +1,29 @@
-use Rattle.std.proofs.Common.{◌∙◌, inl, inr, refl, sym, ⊎_elim}
-use Rattle.std.proofs.lemmas.Result.{IfErr-weaker, IfOk-weaker}
-use Rattle.input_files.proofs.Tapes.{of_input, of_named, unopened_named}
+use Rattle.std.proofs.Common.{◌∙◌, inl, inr, ap, refl, ⊎_elim}
+use Rattle.command_io.specs.declared.fault.CommandFault.TheVariants.{Memory}
+use Rattle.tape_image.specs.Plan.{plan_of_all}
+use Rattle.input_files.specs.Taking.{AreTakenOf, FailsToTake}
+use Rattle.input_files.proofs.Errors.{error_is}
+use Rattle.input_files.proofs.Taken.{tapes_more}
+use Rattle.endings.specs.declared.failure.Failure.TheVariants.{NoMemory}
+use Rattle.requests.specs.Planning.{IsPlanOf}
 use Rattle.requests.proofs.planning.plan_tapes.Goals as goal
 
-pub returns-then-is_input-clause-ok : goal.returns-then-is_input-clause-ok
-returns-then-is_input-clause-ok g c =
-    rw (← c.streams.view_is) (IfOk-weaker c.plan_input.result _ _
-    (λ value h. of_input (g.F.InputFiles.opened c.args.inputs.now) c.args.names.now _ _ _ (sym c.is_input.ensures ∙ c.if-is_input.true) h)
-    c.plan_input.ensures.ok)
+pub returns-in-Ok-clause-ok : goal.returns-in-Ok-clause-ok
+returns-in-Ok-clause-ok g c =
+    tapes_more c.args.names.now _ _ _ (AreTakenOf c.in_ok-taken.taken) (λ inputs. IsPlanOf inputs c.in-Ok.plan)
+    (λ inputs are. record { texts = are.texts; taken = are.taken; plan_is = c.in-Ok.ensures.plan ∙ ap plan_of_all (c.deref.ensures.value ∙ are.tapes_are) })
+    refl refl c.in_ok-taken.ensures.ok
 
-pub returns-then-is_input-clause-err : goal.returns-then-is_input-clause-err
-returns-then-is_input-clause-err g c =
-    rw (← c.streams.view_is) (IfErr-weaker c.plan_input.result _ _
-    (λ failure h. inr ((of_input (g.F.InputFiles.opened c.args.inputs.now) c.args.names.now _ _ _ (sym c.is_input.ensures ∙ c.if-is_input.true) h), refl))
-    c.plan_input.ensures.err)
+pub returns-clause-err : goal.returns-clause-err
+returns-clause-err g c =
+    inr (
+      tapes_more c.args.names.now _ _ _ (AreTakenOf c.in_ok-taken.taken) (λ inputs. FailsToTake inputs NoMemory)
+          (λ inputs are. record { fault = Memory; is_so = tt; is_called = refl })
+          refl refl c.in_ok-taken.ensures.ok,
+      c.take.ensures.same_out,
+    )
 
-pub returns-else-is_input-clause-ok : goal.returns-else-is_input-clause-ok
-returns-else-is_input-clause-ok g c =
-    IfOk-weaker c.plan_files.result _ _
-    (λ value h. of_named c.args.names.now _ _ _ (sym c.is_input.ensures ∙ c.if-is_input.false) h.0 h.1 refl)
-    c.plan_files.ensures.ok
-
-pub returns-else-is_input-clause-err : goal.returns-else-is_input-clause-err
-returns-else-is_input-clause-err g c =
-    let is = sym c.is_input.ensures ∙ c.if-is_input.false in
-    IfErr-weaker c.plan_files.result _ _
-    (λ failure h. ⊎_elim (λ u. inl (unopened_named c.args.names.now _ _ failure is u refl refl)) (λ o. inr (of_named c.args.names.now _ _ _ is o.0 o.1 refl, refl)) h)
-    c.plan_files.ensures.err
+pub returns-in_err-taken-clause-err : goal.returns-in_err-taken-clause-err
+returns-in_err-taken-clause-err g c =
+    error_is c.from_residual.result c.in_err-taken.field-0.0 _ c.from_residual.ensures.1
+    (⊎_elim (λ unopened. inl unopened) (λ untaken. inr (untaken, c.take.ensures.same_out)) c.in_err-taken.ensures.err)

@@ -1,187 +1,25 @@
 //! The command line: which words ask for what.
 //!
-//! `parse` makes of the words after the program's name a `Request`, or says why they ask for nothing: help was
-//! asked for, or they are refused, by the text that is to be shown. Without any words the input is to be checked,
-//! and only then; in the contracts below it each request is what the command's arguments and options say, with the
-//! plain value where one is not given. Which words there are stands in `command_words`. `explain` shows what was
-//! asked for or says what is wrong with the words; `words_of` has the words that the process was started with.
+//! `known_words` tells the parser of all commands, arguments and options, and what help says of them. `parse` makes of
+//! the words after the program's name a `Request`, as its contract says, or says why they ask for nothing: help was
+//! asked for, or they are refused, by the text that is to be shown. `explain` shows that; `words_of` has the words
+//! that the process was started with. No other crate stands over `clap`. Used by `ldaodt`.
 #![tactic(auto)]
 
-ghost use Rattle.std.specs.Prelude.{◌≡◌, ◌≢◌, [], IfOk};
-ghost use Rattle.clap.specs.Matches.{found_of};
-ghost use Rattle.command_line.specs.Options.{SaysLoad, IsLookOf, IsMachineRequestOf, IsTapeRequestOf};
-
 mod addresses;
+mod arguments;
+mod commands;
 mod explaining;
+mod names;
 mod no_request;
+mod parsing;
 mod process_words;
 mod refusals;
 mod shown_words;
+mod texts;
 mod values;
 
-use addresses::{probed_of, range_of, saved_start_of, start_of};
-use clap::ArgMatches;
-use command_words::known_words;
-use command_words::names::{FILE, LISTEN, PATIENCE, QUIET, RECHECK, RECORD, SCRIPT, TAPE};
 pub use explaining::explain;
-use host_core::PLAIN_PATIENCE;
 pub use no_request::NoRequest;
+pub use parsing::parse;
 pub use process_words::words_of;
-use request_values::{
-    Load, LoadOptions, Look, MachineRequest, Probe, Rehearsal, Request, Save, Stage, TapeRequest,
-};
-use shown_words::{have_control, shown_words};
-use std::alloc::Global;
-use values::{console_of, further_tapes_of, line_of, number_given, number_of, tapes_of, text_of};
-
-// How many milliseconds of silence mean that nothing more is coming, where nothing else is said.
-const PLAIN_QUIET: u16 = 2000;
-
-/// Reads the words after the program's name. Without any the tape on standard input is to be checked.
-pub fn parse<'a>(alloc: Global, words: &'a [String]) -> Result<Request<'a>, NoRequest>
-    ensures none { words.now ≡ [] → result ≡ Ok (Request.Tape TapeRequest.CheckInput) }
-    ensures some { IfOk result (λ request. request ≡ Request.Tape TapeRequest.CheckInput → words.now ≡ []) }
-{
-    let Some(first) = words.first() else {
-        return Ok(Request::Tape(TapeRequest::CheckInput));
-    };
-    match read(alloc, first, words) {
-        Err(NoRequest::Refused(text)) => Err(shown_refusal(alloc, words, text)),
-        answer => answer,
-    }
-}
-
-// The refusal of words that are refused by this text, with their control characters shown: words as they
-// are shown are refused as they are.
-fn shown_refusal(alloc: Global, words: &[String], text: String) -> NoRequest {
-    if !have_control(words) {
-        return NoRequest::Refused(text);
-    }
-    match shown_words(alloc, words) {
-        Ok(shown) => refusal_of(alloc, &shown).unwrap_or(NoRequest::Refused(text)),
-        Err(_) => NoRequest::NoMemory,
-    }
-}
-
-// Why words ask for nothing that could be done, where they do.
-fn refusal_of(alloc: Global, words: &[String]) -> Option<NoRequest> {
-    read(alloc, words.first()?, words).err()
-}
-
-// What words ask for, of which this is the first.
-fn read<'a>(alloc: Global, first: &str, words: &'a [String]) -> Result<Request<'a>, NoRequest>
-    ensures { IfOk result (λ request. request ≢ Request.Tape TapeRequest.CheckInput) }
-{
-    match known_words(alloc)?.try_get_matches_from(words) {
-        Ok(matches) => request_of(alloc, &matches),
-        Err(error) => Err(NoRequest::of(alloc, first, &error)),
-    }
-}
-
-// What the parsed words ask for, where there were any.
-fn request_of<'a>(alloc: Global, matches: &ArgMatches<'a>) -> Result<Request<'a>, NoRequest>
-    ensures { IfOk result (λ request. request ≢ Request.Tape TapeRequest.CheckInput) }
-{
-    match matches.subcommand() {
-        Some(("load", found)) => Ok(Request::Machine(loading_of(alloc, found)?)),
-        Some(("verify", found)) => Ok(Request::Machine(verifying_of(alloc, found)?)),
-        Some(("save", found)) => Ok(Request::Machine(saving_of(alloc, found)?)),
-        Some(("probe", found)) => Ok(Request::Machine(probing_of(alloc, found)?)),
-        Some(("check", found)) => Ok(Request::Tape(TapeRequest::Check(tapes_of(alloc, found)?))),
-        Some(("dialogue", found)) => Ok(Request::Tape(dialogue_of(alloc, found)?)),
-        Some(("rehearse", found)) => Ok(Request::Tape(rehearsal_of(alloc, found)?)),
-        Some(("type", found)) => Ok(Request::Tape(TapeRequest::Type(console_of(found)?))),
-        _ => Err(NoRequest::Meaningless),
-    }
-}
-
-// The load of tapes into a machine.
-fn loading_of<'a>(alloc: Global, found: &ArgMatches<'a>) -> Result<MachineRequest<'a>, NoRequest>
-    ensures { IfOk result (IsMachineRequestOf (found_of found.now)) }
-{
-    let load = load_of(alloc, found)?;
-    Ok(MachineRequest::Load(tapes_of(alloc, found)?, load))
-}
-
-// A load, but for its tapes.
-fn load_of<'a>(alloc: Global, found: &ArgMatches<'a>) -> Result<Load<'a>, NoRequest>
-    ensures { IfOk result (SaysLoad (found_of found.now)) }
-{
-    Ok(Load {
-        line: line_of(alloc, found)?,
-        record: found.get_str(RECORD),
-        options: LoadOptions {
-            patience: u32::from(number_of(found, PATIENCE, PLAIN_PATIENCE as u16)?),
-            recheck: found.get_flag(RECHECK),
-        },
-        start: start_of(alloc, found)?,
-        listen: number_given(found, LISTEN)?,
-        quiet_ms: u32::from(number_of(found, QUIET, PLAIN_QUIET)?),
-    })
-}
-
-// The look whether a machine holds what tapes say.
-fn verifying_of<'a>(alloc: Global, found: &ArgMatches<'a>) -> Result<MachineRequest<'a>, NoRequest>
-    ensures { IfOk result (IsMachineRequestOf (found_of found.now)) }
-{
-    let look = look_of(alloc, found)?;
-    Ok(MachineRequest::Verify(tapes_of(alloc, found)?, look))
-}
-
-// The save of words of a machine.
-fn saving_of<'a>(alloc: Global, found: &ArgMatches<'a>) -> Result<MachineRequest<'a>, NoRequest>
-    ensures { IfOk result (IsMachineRequestOf (found_of found.now)) }
-{
-    let file = text_of(found, FILE)?;
-    let look = look_of(alloc, found)?;
-    let range = range_of(alloc, found)?;
-    let start = saved_start_of(alloc, found)?;
-    Ok(MachineRequest::Save(Save {
-        file,
-        range,
-        start,
-        look,
-    }))
-}
-
-// The probe of a machine's console.
-fn probing_of<'a>(alloc: Global, found: &ArgMatches<'a>) -> Result<MachineRequest<'a>, NoRequest>
-    ensures { IfOk result (IsMachineRequestOf (found_of found.now)) }
-{
-    let look = look_of(alloc, found)?;
-    let address = probed_of(alloc, found)?;
-    Ok(MachineRequest::Probe(Probe { address, look }))
-}
-
-// A look at a machine.
-fn look_of<'a>(alloc: Global, found: &ArgMatches<'a>) -> Result<Look<'a>, NoRequest>
-    ensures { IfOk result (IsLookOf (found_of found.now)) }
-{
-    Ok(Look {
-        line: line_of(alloc, found)?,
-        patience: u32::from(number_of(found, PATIENCE, PLAIN_PATIENCE as u16)?),
-        quiet_ms: u32::from(number_of(found, QUIET, PLAIN_QUIET)?),
-    })
-}
-
-// The dialogue of tapes with a console.
-fn dialogue_of<'a>(alloc: Global, found: &ArgMatches<'a>) -> Result<TapeRequest<'a>, NoRequest>
-    ensures value { IfOk result (IsTapeRequestOf (found_of found.now)) }
-    ensures some { IfOk result (λ request. request ≢ TapeRequest.CheckInput) }
-{
-    let console = console_of(found)?;
-    let start = start_of(alloc, found)?;
-    let stage = Stage { console, start };
-    Ok(TapeRequest::Dialogue(tapes_of(alloc, found)?, stage))
-}
-
-// The rehearsal of a tape, its script and further tapes.
-fn rehearsal_of<'a>(alloc: Global, found: &ArgMatches<'a>) -> Result<TapeRequest<'a>, NoRequest>
-    ensures value { IfOk result (IsTapeRequestOf (found_of found.now)) }
-    ensures some { IfOk result (λ request. request ≢ TapeRequest.CheckInput) }
-{
-    let tape = text_of(found, TAPE)?;
-    let script = text_of(found, SCRIPT)?;
-    let more = further_tapes_of(alloc, found)?;
-    Ok(TapeRequest::Rehearse(Rehearsal { tape, script, more }))
-}

@@ -6,9 +6,9 @@ use Rattle.tape_image.specs.Memory.{top_of}
 use Rattle.odt_machine.specs.Machine.{Machine, word_at}
 use Rattle.load_devices.specs.declared.item.Item.{Item}
 use Rattle.honest_line.specs.Honest.{IsHonest}
-use Rattle.memory_end.specs.declared.search.Search.{Search}
-use Rattle.memory_end.specs.declared.search.Search.TheVariants as search
-use Rattle.memory_end.specs.Ending.{IsTrueEnd}
+use Rattle.machine_probe.specs.declared.search.Search.{Search}
+use Rattle.machine_probe.specs.declared.search.Search.TheVariants as search
+use Rattle.machine_probe.specs.MemoryEnd.{IsTrueEnd}
 use Rattle.reading_law.specs.Rows.{AreHonest}
 use Rattle.probe_report.specs.declared.findings.Attempt.{Attempt}
 use Rattle.probe_report.specs.declared.findings.Extent.{Extent}

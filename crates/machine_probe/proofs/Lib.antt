@@ -1,3 +1,6 @@
+pub mod Founds
+pub mod LastWords
+mod Searching
 mod Believed
 mod Faults
 mod Joins

@@ -10,12 +10,12 @@ use Rattle.load_engine.specs.declared.stop.Stop.{Stop as LoadStop}
 use Rattle.load_engine.specs.declared.stop.Stop.TheVariants as load
 use Rattle.load_engine.specs.Session.{IsSaid as IsSaidOfLoad}
 use Rattle.honest_line.specs.Honest.{IsHonest}
-use Rattle.memory_end.specs.declared.pieces.Pieces.{Pieces}
-use Rattle.memory_end.specs.declared.search.Search.{Search}
-use Rattle.memory_end.specs.Passes.{ArePieces, IsPass, SearchGoesOn, Searches, found, last_words, three_passes}
+use Rattle.machine_probe.specs.declared.pieces.Pieces.{Pieces}
+use Rattle.machine_probe.specs.declared.search.Search.{Search}
+use Rattle.machine_probe.specs.Passes.{ArePieces, IsPass, SearchGoesOn, Searches, found, last_words, three_passes}
 use Rattle.reading_law.specs.Rows.{AreHonest, in_a_row}
-use Rattle.memory_end.proofs.Founds.{IsOver, passed_within}
-use Rattle.memory_end.proofs.LastWords.{last_asked}
+use Rattle.machine_probe.proofs.Founds.{IsOver, passed_within}
+use Rattle.machine_probe.proofs.LastWords.{last_asked}
 use Rattle.probe_report.specs.declared.findings.Attempt.{Attempt}
 use Rattle.probe_report.specs.declared.findings.Extent.{Extent}
 use Rattle.probe_report.specs.declared.findings.Findings.{Findings}

@@ -1,7 +1,7 @@
 -- What the runs of a probe come to, by how their engines stopped.
 use Rattle.std.specs.Prelude.{ℕ, nat_lt, List, [], ◌∷◌, Option, Some, None}
-use Rattle.memory_end.specs.declared.search.Search.{Search}
-use Rattle.memory_end.specs.declared.search.Search.TheVariants as search
+use Rattle.machine_probe.specs.declared.search.Search.{Search}
+use Rattle.machine_probe.specs.declared.search.Search.TheVariants as search
 use Rattle.probe_report.specs.declared.findings.Attempt.{Attempt}
 use Rattle.probe_report.specs.declared.findings.Extent.{Extent}
 use Rattle.probe_report.specs.declared.findings.Extent.TheVariants as extent

@@ -1,3 +1,6 @@
+pub mod MemoryEnd
+pub mod Passes
+pub mod Steps
 pub mod Belief
 pub mod Came
 pub mod Follow

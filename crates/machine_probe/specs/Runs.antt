@@ -2,9 +2,9 @@
 use Rattle.std.specs.Prelude.{◌≡◌, ℕ, List, [], ◌∷◌, Option, Some}
 use Rattle.load_devices.specs.declared.item.Item.{Item}
 use Rattle.load_devices.specs.Told.{Gains}
-use Rattle.memory_end.specs.declared.search.Search.{Search}
-use Rattle.memory_end.specs.Ending.{IsFound}
-use Rattle.memory_end.specs.Passes.{Searches, three_passes}
+use Rattle.machine_probe.specs.declared.search.Search.{Search}
+use Rattle.machine_probe.specs.MemoryEnd.{IsFound}
+use Rattle.machine_probe.specs.Passes.{Searches, three_passes}
 use Rattle.reading_law.specs.Rows.{in_a_row}
 use Rattle.probe_report.specs.declared.findings.Attempt.{Attempt}
 use Rattle.probe_report.specs.declared.findings.Extent.{Extent}

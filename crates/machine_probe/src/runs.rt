@@ -11,10 +11,11 @@ ghost use Rattle.machine_probe.specs.PuttingBack.{PutsBack};
 ghost use Rattle.machine_probe.specs.Rooms.{AreLookers, HasDeposit};
 ghost use Rattle.machine_probe.specs.Runs.{LooksAt, IsSearch, IsTrialOf, OnLine, One};
 
+use crate::memory_end::find_end;
 use crate::probe_options::ProbeOptions;
 use crate::putting_back::{Deposit, put_back};
+use crate::search::Search;
 use load_devices::{Line, Unwatched};
-use memory_end::{Search, find_end};
 use probe_report::{Attempt, Extent, Findings, Sighting, TrialEnd, Verdict, judge};
 use reading_core::{End, ReadingCore};
 use reading_engine::{Stop, inquire};

@@ -4,7 +4,7 @@
 //! the step answered. Its contract says that nothing else is said, whatever the line and the peer,
 //! and that over an honest line what was read is true and memory is what it was. A line in memory is
 //! honest: `inquire_in_memory` says the same with no premise on the line. Used by `machine_look`,
-//! `memory_end` and `machine_probe`.
+//! `machine_probe`.
 #![tactic(auto)]
 
 mod inquiring;

@@ -4,7 +4,7 @@
 use crate::assertion::check_that;
 use honest_line::{Loss, MemoryLine};
 use load_devices::Item;
-use memory_end::{Search, find_end};
+use machine_probe::{Search, find_end};
 use odt_machine::{Odt, PLAIN_STYLE};
 use reading_core::End;
 use reading_engine::Stop;

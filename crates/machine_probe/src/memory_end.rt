@@ -1,8 +1,8 @@
 ghost use Rattle.std.specs.Prelude.{◌≡◌, IfOk, OnErr};
 ghost use Rattle.load_devices.specs.Told.{SaysNothing};
-ghost use Rattle.memory_end.specs.Ending.{FindsEnd, stop_of};
-ghost use Rattle.memory_end.specs.Passes.{ArePieces, IsRoom};
-ghost use Rattle.memory_end.specs.Steps.{Stepped, LiesWithin, passed, stop_in};
+ghost use Rattle.machine_probe.specs.MemoryEnd.{FindsEnd, stop_of};
+ghost use Rattle.machine_probe.specs.Passes.{ArePieces, IsRoom};
+ghost use Rattle.machine_probe.specs.Steps.{Stepped, LiesWithin, passed, stop_in};
 ghost use Rattle.load_devices.specs.Failures.{CountsFault, IsLastFault};
 ghost use Rattle.reading_engine.specs.Failing.{line_fault};
 

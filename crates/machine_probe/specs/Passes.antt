@@ -7,10 +7,10 @@ use Rattle.reading_core.specs.Reader.{Reader, begun}
 use Rattle.reading_engine.specs.declared.stop.Stop.{Stop}
 use Rattle.reading_engine.specs.declared.stop.Stop.TheVariants.{Ended}
 use Rattle.reading_engine.specs.Inquired.{Inquired, TellsEnd}
-use Rattle.memory_end.specs.declared.pieces.Pieces.{Pieces}
-use Rattle.memory_end.specs.declared.room.Room.{Room}
-use Rattle.memory_end.specs.declared.search.Search.{Search}
-use Rattle.memory_end.specs.declared.search.Search.TheVariants.{Ends, Stopped}
+use Rattle.machine_probe.specs.declared.pieces.Pieces.{Pieces}
+use Rattle.machine_probe.specs.declared.room.Room.{Room}
+use Rattle.machine_probe.specs.declared.search.Search.{Search}
+use Rattle.machine_probe.specs.declared.search.Search.TheVariants.{Ends, Stopped}
 
 -- the last word of each of n pieces of so many bytes, one piece after another from an address on
 unfoldable pub last_words : (from bytes n : ℕ) → List ℕ

@@ -1,5 +1,5 @@
-use Rattle.memory_end.proofs.Searching.{ends_first, ends_second, ends_there, ends_third}
-use Rattle.memory_end.proofs.finding.find_end.Goals as goal
+use Rattle.machine_probe.proofs.Searching.{ends_first, ends_second, ends_there, ends_third}
+use Rattle.machine_probe.proofs.memory_end.find_end.Goals as goal
 
 pub returns-in-Over-clause-found : goal.returns-in-Over-clause-found
 returns-in-Over-clause-found g c = ends_first _ _ _ _ _ c.in-Over.ensures.pass

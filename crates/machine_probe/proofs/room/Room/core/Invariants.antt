@@ -1,7 +1,7 @@
 -- The addresses so far are the last words of the pieces before this one.
 use Rattle.std.proofs.Common.{◌≡◌, ◌≤◌, vec_capacity}
-use Rattle.memory_end.specs.Passes.{last_words}
-use Rattle.memory_end.proofs.room.Room.core.Given as goal
+use Rattle.machine_probe.specs.Passes.{last_words}
+use Rattle.machine_probe.proofs.room.Room.core.Given as goal
 
 abbrev pub invariant-loop-number : goal.invariant-loop-number
 invariant-loop-number l = record {

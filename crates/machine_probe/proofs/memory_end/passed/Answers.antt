@@ -1,5 +1,5 @@
 use Rattle.std.proofs.Common.{rules}
-use Rattle.memory_end.proofs.finding.passed.Goals as goal
+use Rattle.machine_probe.proofs.memory_end.passed.Goals as goal
 
 pub returns-in_default : goal.returns-in_default
 returns-in_default c = search rules

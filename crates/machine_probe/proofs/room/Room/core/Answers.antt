@@ -1,8 +1,8 @@
 use Rattle.std.proofs.Common.{◌∙◌, ◌++◌, ◌∷◌, ℕ, List, [], length, ◌+◌, ◌*◌, ◌-◌, ◌≡◌, ap, arith, subst, sym}
 use Rattle.reading_core.specs.Addresses.{AreAddresses}
-use Rattle.memory_end.specs.Passes.{last_words}
-use Rattle.memory_end.proofs.LastWords.{none_last, one_more_last, length_last, last_asked, pushed}
-use Rattle.memory_end.proofs.room.Room.core.Goals as goal
+use Rattle.machine_probe.specs.Passes.{last_words}
+use Rattle.machine_probe.proofs.LastWords.{none_last, one_more_last, length_last, last_asked, pushed}
+use Rattle.machine_probe.proofs.room.Room.core.Goals as goal
 
 pub loop-number-init : goal.loop-number-init
 loop-number-init c = record { so_far = c.requires.room.no_address ∙ sym (none_last c.args.from c.args.pieces.bytes); room = c.requires.room.addresses }

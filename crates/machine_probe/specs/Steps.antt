@@ -7,12 +7,12 @@ use Rattle.reading_core.specs.Invariant.{IsReader}
 use Rattle.reading_core.specs.Reader.{Reader, begun}
 use Rattle.reading_engine.specs.declared.stop.Stop.{Stop}
 use Rattle.reading_engine.specs.declared.stop.Stop.TheVariants.{Ended}
-use Rattle.memory_end.specs.declared.finding.Outcome.{Outcome}
-use Rattle.memory_end.specs.declared.finding.Outcome.TheVariants.{Lacking, Over}
-use Rattle.memory_end.specs.declared.pieces.Pieces.{Pieces}
-use Rattle.memory_end.specs.declared.search.Search.TheVariants.{Ends, Stopped}
-use Rattle.memory_end.specs.Ending.{stop_of}
-use Rattle.memory_end.specs.Passes.{IsPass, found, last_words}
+use Rattle.machine_probe.specs.declared.memory_end.Outcome.{Outcome}
+use Rattle.machine_probe.specs.declared.memory_end.Outcome.TheVariants.{Lacking, Over}
+use Rattle.machine_probe.specs.declared.pieces.Pieces.{Pieces}
+use Rattle.machine_probe.specs.declared.search.Search.TheVariants.{Ends, Stopped}
+use Rattle.machine_probe.specs.MemoryEnd.{stop_of}
+use Rattle.machine_probe.specs.Passes.{IsPass, found, last_words}
 
 -- what a pass that stopped so and found memory up to an address comes to
 abbrev pub passed : Stop → ℕ → Outcome

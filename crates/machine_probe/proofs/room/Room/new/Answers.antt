@@ -1,5 +1,5 @@
 use Rattle.std.proofs.Common.{rules}
-use Rattle.memory_end.proofs.room.Room.new.Goals as goal
+use Rattle.machine_probe.proofs.room.Room.new.Goals as goal
 
 pub returns : goal.returns
 returns c = search rules

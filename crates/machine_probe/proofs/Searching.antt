@@ -19,15 +19,15 @@ use Rattle.reading_engine.specs.declared.stop.Stop.{Stop}
 use Rattle.reading_engine.specs.declared.stop.Stop.TheVariants.{Ended, LineFailed, TurnsOver}
 use Rattle.reading_engine.specs.Belief.{IsBelievableAt}
 use Rattle.reading_engine.proofs.Beliefs.{inquired_believable}
-use Rattle.memory_end.specs.declared.finding.Outcome.TheVariants.{Lacking, Over}
-use Rattle.memory_end.specs.declared.pieces.Pieces.{Pieces}
-use Rattle.memory_end.specs.declared.search.Search.{Search}
-use Rattle.memory_end.specs.declared.search.Search.TheVariants.{Ends, Stopped}
-use Rattle.memory_end.specs.Ending.{IsTrueEnd, FindsEnd}
-use Rattle.memory_end.specs.Passes.{ArePieces, IsPass, SearchGoesOn, Searches, found, last_words, three_passes}
+use Rattle.machine_probe.specs.declared.memory_end.Outcome.TheVariants.{Lacking, Over}
+use Rattle.machine_probe.specs.declared.pieces.Pieces.{Pieces}
+use Rattle.machine_probe.specs.declared.search.Search.{Search}
+use Rattle.machine_probe.specs.declared.search.Search.TheVariants.{Ends, Stopped}
+use Rattle.machine_probe.specs.MemoryEnd.{IsTrueEnd, FindsEnd}
+use Rattle.machine_probe.specs.Passes.{ArePieces, IsPass, SearchGoesOn, Searches, found, last_words, three_passes}
 use Rattle.reading_law.specs.Rows.{AreHonest, in_a_row}
-use Rattle.memory_end.specs.Steps.{LiesWithin, Stepped, passed}
-use Rattle.memory_end.proofs.Founds.{IsOver, all_read, lacking, paid_at, reached}
+use Rattle.machine_probe.specs.Steps.{LiesWithin, Stepped, passed}
+use Rattle.machine_probe.proofs.Founds.{IsOver, all_read, lacking, paid_at, reached}
 
 -- ---- one pass
 

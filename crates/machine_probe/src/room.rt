@@ -1,5 +1,5 @@
 ghost use Rattle.std.specs.Prelude.{◌≡◌, ◌+◌, ◌*◌, [], IfOk};
-ghost use Rattle.memory_end.specs.Passes.{IsRoom, ArePieces, last_words};
+ghost use Rattle.machine_probe.specs.Passes.{IsRoom, ArePieces, last_words};
 ghost use Rattle.reading_core.specs.Reader.{begun};
 ghost use Rattle.reading_core.specs.Invariant.{IsReader};
 

@@ -7,9 +7,9 @@ use Rattle.load_devices.specs.Told.{Gains}
 use Rattle.reading_core.specs.declared.phase.End.TheVariants.{GaveUp}
 use Rattle.reading_engine.specs.declared.stop.Stop.{Stop}
 use Rattle.reading_engine.specs.declared.stop.Stop.TheVariants.{Ended}
-use Rattle.memory_end.specs.declared.search.Search.{Search}
-use Rattle.memory_end.specs.declared.search.Search.TheVariants.{Ends, Stopped}
-use Rattle.memory_end.specs.Passes.{Searches, three_passes}
+use Rattle.machine_probe.specs.declared.search.Search.{Search}
+use Rattle.machine_probe.specs.declared.search.Search.TheVariants.{Ends, Stopped}
+use Rattle.machine_probe.specs.Passes.{Searches, three_passes}
 use Rattle.reading_law.specs.Belief.{IsReadyMachine}
 use Rattle.reading_law.specs.Rows.{AreHonest, in_a_row}
 

@@ -2,8 +2,8 @@
 use Rattle.std.proofs.Common.{◌≡◌, ℕ, zero, suc, ◌+◌, ◌-◌, ◌*◌, ◌%◌, ◌<◌, ◌≤◌, [], ◌∷◌, ◌++◌, length, get_or, refl, arith, ap, subst, sym, ◌∙◌, mul-suc, mul-zero, mul-le-mul_left, mul-le-mul_right}
 use Rattle.std.specs.Prelude.{Result, Ok, Err, IsOk, is_ok, if◌then◌else◌}
 use Rattle.reading_core.specs.Addresses.{AreAddresses}
-use Rattle.memory_end.specs.declared.pieces.Pieces.{Pieces}
-use Rattle.memory_end.specs.Passes.{ArePieces, last_words}
+use Rattle.machine_probe.specs.declared.pieces.Pieces.{Pieces}
+use Rattle.machine_probe.specs.Passes.{ArePieces, last_words}
 
 -- ---- one after another
 

@@ -1,7 +1,7 @@
 use Rattle.std.proofs.Common.{◌∙◌, arith, ap, rules}
 use Rattle.reading_core.specs.Reader.{Reader}
-use Rattle.memory_end.proofs.Founds.{found_below, passed_within}
-use Rattle.memory_end.proofs.finding.pass.Goals as goal
+use Rattle.machine_probe.proofs.Founds.{found_below, passed_within}
+use Rattle.machine_probe.proofs.memory_end.pass.Goals as goal
 
 pub overflow_add-found : goal.overflow_add-found
 overflow_add-found g c =

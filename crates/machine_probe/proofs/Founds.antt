@@ -13,10 +13,10 @@ use Rattle.reading_law.specs.Law.{HasCause, EndIsPaid, HoldsRead}
 use Rattle.reading_engine.specs.declared.stop.Stop.{Stop}
 use Rattle.reading_engine.specs.declared.stop.Stop.TheVariants.{Ended, LineFailed, TurnsOver}
 use Rattle.reading_engine.specs.Inquired.{TellsEnd}
-use Rattle.memory_end.specs.declared.pieces.Pieces.{Pieces}
-use Rattle.memory_end.specs.Passes.{ArePieces, last_words, found}
-use Rattle.memory_end.specs.Steps.{LiesWithin, passed}
-use Rattle.memory_end.proofs.LastWords.{even_times, last_at, length_last, next_end}
+use Rattle.machine_probe.specs.declared.pieces.Pieces.{Pieces}
+use Rattle.machine_probe.specs.Passes.{ArePieces, last_words, found}
+use Rattle.machine_probe.specs.Steps.{LiesWithin, passed}
+use Rattle.machine_probe.proofs.LastWords.{even_times, last_at, length_last, next_end}
 
 -- ---- ends
 

@@ -19,7 +19,7 @@ use Rattle.reading_engine.specs.declared.stop.Stop.{Stop}
 use Rattle.reading_engine.specs.declared.stop.Stop.TheVariants.{Ended, LineFailed, TurnsOver}
 use Rattle.reading_engine.specs.Belief.{IsBelievableAt}
 use Rattle.reading_engine.proofs.Beliefs.{inquired_believable}
-use Rattle.machine_probe.specs.declared.memory_end.Outcome.TheVariants.{Lacking, Over}
+use Rattle.machine_probe.specs.declared.memory_end.PassEnd.TheVariants.{Lacking, Over}
 use Rattle.machine_probe.specs.declared.pieces.Pieces.{Pieces}
 use Rattle.machine_probe.specs.declared.search.Search.{Search}
 use Rattle.machine_probe.specs.declared.search.Search.TheVariants.{Ends, Stopped}

@@ -22,7 +22,7 @@ struct Limits {
 }
 
 // What a pass comes to.
-enum Outcome {
+enum PassEnd {
     // The piece that begins here is the first that lacks its last word.
     Lacking(u16),
 
@@ -53,21 +53,21 @@ pub fn find_end<L: Line>(
     let small = Room::new(alloc, SMALL)?;
     let words = Room::new(alloc, WORDS)?;
     let from = match pass(large, 0, LARGE, limits, line) {
-        Outcome::Lacking(from) => from,
-        Outcome::Over(search) => return Ok(search),
+        PassEnd::Lacking(from) => from,
+        PassEnd::Over(search) => return Ok(search),
     };
     let from = match pass(small, from, SMALL, limits, line) {
-        Outcome::Lacking(from) => from,
-        Outcome::Over(search) => return Ok(search),
+        PassEnd::Lacking(from) => from,
+        PassEnd::Over(search) => return Ok(search),
     };
     match pass(words, from, WORDS, limits, line) {
-        Outcome::Lacking(top) => Ok(Search::Ends(top)),
-        Outcome::Over(search) => Ok(search),
+        PassEnd::Lacking(top) => Ok(Search::Ends(top)),
+        PassEnd::Over(search) => Ok(search),
     }
 }
 
 // A pass over the pieces that stand from an address on.
-fn pass<L: Line>(room: Room, from: u16, pieces: Pieces, limits: Limits, line: &mut L) -> Outcome
+fn pass<L: Line>(room: Room, from: u16, pieces: Pieces, limits: Limits, line: &mut L) -> PassEnd
     requires room { IsRoom pieces room }
     requires pieces { ArePieces from pieces }
     ensures pass { Stepped limits.turns limits.patience from pieces result (L.told line.old) (L.told line.new) }
@@ -82,12 +82,12 @@ fn pass<L: Line>(room: Room, from: u16, pieces: Pieces, limits: Limits, line: &m
 }
 
 // What a pass comes to that stopped so and found memory up to an address.
-fn passed(stop: Stop, found: u16) -> Outcome
+fn passed(stop: Stop, found: u16) -> PassEnd
     ensures { result ≡ passed stop found }
 {
     match stop {
-        Stop::Ended(End::NoWord(_)) => Outcome::Lacking(found),
-        Stop::Ended(End::Complete) => Outcome::Over(Search::Ends(found)),
-        _ => Outcome::Over(Search::Stopped(stop)),
+        Stop::Ended(End::NoWord(_)) => PassEnd::Lacking(found),
+        Stop::Ended(End::Complete) => PassEnd::Over(Search::Ends(found)),
+        _ => PassEnd::Over(Search::Stopped(stop)),
     }
 }

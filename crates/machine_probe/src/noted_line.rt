@@ -11,7 +11,7 @@ use std::marker::{Brand, Model, PhantomData};
 use std::time::Clock;
 
 /// A name for what a line told at first, which only proofs read.
-pub(crate) trait Opening {
+pub(crate) trait FirstTold {
     ghost use Rattle.std.specs.Prelude.{List, Option};
     ghost use Rattle.load_devices.specs.declared.item.Item.{Item};
 
@@ -19,7 +19,7 @@ pub(crate) trait Opening {
     ghost told: { Option (List Item) };
 }
 
-impl Opening for Brand {
+impl FirstTold for Brand {
     ghost use Rattle.std.specs.Prelude.{None};
 
     ghost told = { None };
@@ -30,7 +30,7 @@ impl Opening for Brand {
 /// What a borrower promises of every line says nothing of the notes of this one. This type's own calls
 /// keep them true of all that was said, so that they may be read whoever said it.
 #[derive(Drop)]
-pub(crate) struct NotedLine<'a, L: Line, C: Clock, E: Opening> {
+pub(crate) struct NotedLine<'a, L: Line, C: Clock, E: FirstTold> {
     line: L,
     clock: &'a C,
     notes: Notes,
@@ -38,7 +38,7 @@ pub(crate) struct NotedLine<'a, L: Line, C: Clock, E: Opening> {
     of: PhantomData<E>,
 }
 
-impl<'a, L: Line, C: Clock, E: Opening> Model for NotedLine<'a, L, C, E> {
+impl<'a, L: Line, C: Clock, E: FirstTold> Model for NotedLine<'a, L, C, E> {
     ghost use Rattle.machine_probe.specs.Noted.{AreNotesSince};
 
     ghost Value = { L };
@@ -48,7 +48,7 @@ impl<'a, L: Line, C: Clock, E: Opening> Model for NotedLine<'a, L, C, E> {
     ghost invariant = { λ n. AreNotesSince E.told (L.told n.line) n.notes };
 }
 
-impl<'a, L: Line, C: Clock, E: Opening> NotedLine<'a, L, C, E> {
+impl<'a, L: Line, C: Clock, E: FirstTold> NotedLine<'a, L, C, E> {
     /// A line on which nothing was said, of which nothing is noted yet, and the clock that times it.
     pub(crate) fn new(line: L, clock: &'a C) -> NotedLine<'a, L, C, E>
         requires opening { L.told line ≡ E.told }
@@ -91,7 +91,7 @@ impl<'a, L: Line, C: Clock, E: Opening> NotedLine<'a, L, C, E> {
     }
 }
 
-impl<L: Line, C: Clock, E: Opening> Line for NotedLine<'_, L, C, E> {
+impl<L: Line, C: Clock, E: FirstTold> Line for NotedLine<'_, L, C, E> {
     ghost told = { λ noted. L.told noted };
 
     ghost fault_count = { λ noted. L.fault_count noted };

@@ -12,7 +12,7 @@ ghost use Rattle.machine_probe.specs.ProbeFault.{way_told, IsProbeFault, IsUnrep
 ghost use Rattle.machine_probe.specs.Rooms.{AreLookers};
 ghost use Rattle.machine_probe.specs.Runs.{OnLine};
 
-use crate::noted_line::{NotedLine, Opening};
+use crate::noted_line::{FirstTold, NotedLine};
 use crate::probe_fault::ProbeFault;
 use crate::probe_options::ProbeOptions;
 use crate::runs::{Lookers, make_runs};
@@ -95,7 +95,7 @@ fn gather<R: Reach, C: Clock>(
 
 // Makes the runs of a probe over a fresh line, which comes back, and puts their report into an empty text. `E` names what the
 // line told at first.
-fn report_noted<L: Line, C: Clock, E: Opening>(
+fn report_noted<L: Line, C: Clock, E: FirstTold>(
     alloc: Global,
     lookers: Lookers,
     options: ProbeOptions,
@@ -118,7 +118,7 @@ fn report_noted<L: Line, C: Clock, E: Opening>(
 }
 
 // Makes the runs of a probe over a line that notes them, and puts their report into an empty text.
-fn report_runs<L: Line, C: Clock, E: Opening>(
+fn report_runs<L: Line, C: Clock, E: FirstTold>(
     alloc: Global,
     lookers: Lookers,
     options: ProbeOptions,

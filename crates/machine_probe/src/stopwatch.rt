@@ -29,7 +29,7 @@ pub(crate) struct Stopwatch {
     key_time: u64,
 
     // The look under way, where one is timed.
-    look: Option<Look>,
+    look: Option<TimedLook>,
 }
 
 impl Stopwatch {
@@ -48,7 +48,7 @@ impl Stopwatch {
     pub(crate) fn with_key(self, key: u8, time: Option<u64>) -> Stopwatch {
         let look = match (self.look, time) {
             (Some(look), Some(time)) => look.with_key(time),
-            (None, Some(time)) if is_digit(key) => Some(Look::begun(time)),
+            (None, Some(time)) if is_digit(key) => Some(TimedLook::begun(time)),
             _ => None,
         };
         Stopwatch { look, ..self }
@@ -68,7 +68,7 @@ impl Stopwatch {
     }
 
     // This character was heard, and the look that is timed became this one.
-    fn with_answer(self, look: Option<Look>, c: u8, time: u64) -> Stopwatch {
+    fn with_answer(self, look: Option<TimedLook>, c: u8, time: u64) -> Stopwatch {
         match look {
             Some(look) if c == PROMPT => self.with_look(look, time),
             _ => Stopwatch { look, ..self },
@@ -76,7 +76,7 @@ impl Stopwatch {
     }
 
     // The look came to the prompt at this time.
-    fn with_look(self, look: Look, time: u64) -> Stopwatch {
+    fn with_look(self, look: TimedLook, time: u64) -> Stopwatch {
         match time.checked_sub(look.begun) {
             Some(taken) if look.keys == KEYS => Stopwatch {
                 looks: self.looks.saturating_add(1),
@@ -103,7 +103,7 @@ impl Stopwatch {
 
 // A look that is timed.
 #[derive(Clone, Copy)]
-struct Look {
+struct TimedLook {
     begun: u64,
     keys: u64,
 
@@ -114,10 +114,10 @@ struct Look {
     waiting: Option<u64>,
 }
 
-impl Look {
+impl TimedLook {
     // A look whose first key was sent at this time.
-    fn begun(time: u64) -> Look {
-        Look {
+    fn begun(time: u64) -> TimedLook {
+        TimedLook {
             begun: time,
             keys: 1,
             key_time: 0,
@@ -126,9 +126,9 @@ impl Look {
     }
 
     // The next key was sent; none where the one before it was not answered.
-    fn with_key(self, time: u64) -> Option<Look> {
+    fn with_key(self, time: u64) -> Option<TimedLook> {
         match self.waiting {
-            None => Some(Look {
+            None => Some(TimedLook {
                 keys: self.keys.saturating_add(1),
                 waiting: Some(time),
                 ..self
@@ -138,12 +138,12 @@ impl Look {
     }
 
     // A character was heard, the first behind a key or a further one; none where the clock went back.
-    fn answered(self, time: u64) -> Option<Look> {
+    fn answered(self, time: u64) -> Option<TimedLook> {
         let Some(sent) = self.waiting else {
             return Some(self);
         };
         let waited = time.checked_sub(sent)?;
-        Some(Look {
+        Some(TimedLook {
             key_time: self.key_time.saturating_add(waited),
             waiting: None,
             ..self

@@ -5,7 +5,7 @@ use Rattle.machine_probe.proofs.probing.report_runs.Goals as goal
 
 pub returns-clause-report : goal.returns-clause-report
 returns-clause-report g c =
-    report_from c.args.options (g.L.Line.told c.args.line.now) (g.L.Line.told c.make_runs.new.line) g.E.Opening.told c.in_ok-findings.findings c.notes.result.now c.pace.result c.args.report.now.items c.put_report.new.text.items c.put_report.result
+    report_from c.args.options (g.L.Line.told c.args.line.now) (g.L.Line.told c.make_runs.new.line) g.E.FirstTold.told c.in_ok-findings.findings c.notes.result.now c.pace.result c.args.report.now.items c.put_report.new.text.items c.put_report.result
     c.requires.address (omega arith) c.requires.fresh c.requires.opening c.in_ok-findings.ensures.made c.notes.ensures c.requires.empty c.put_report.ensures.text c.put_report.ensures.end
 
 pub returns-clause-wanting : goal.returns-clause-wanting

@@ -2,13 +2,12 @@
 
 use command_io::CommandFault;
 use odt_machine::{LARGEST_WORDS, PLAIN_STYLE};
-use tape_commands::{dialogue_to, rehearse_to};
 use simulated_system::{
     BrokenInput, BrokenOutput, NOWHERE, ONE_WORD, ONE_WORD_DIALOGUE, ONE_WORD_TEXT,
 };
 use std::alloc::Global;
 use std::slice;
-use tape_commands::check_to;
+use tape_commands::{check_to, dialogue_to, rehearse_to};
 use tape_image::Start;
 
 // A script in which characters of an earlier session wait, and look like echoes.

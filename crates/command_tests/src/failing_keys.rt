@@ -1,11 +1,11 @@
 //! How typing at a console ends where keys or answers fail once, and would then go on.
 
 use command_io::CommandFault;
-use tape_commands::type_to;
 use odt_machine::{Mode, Odt, PLAIN_STYLE};
 use simulated_system::{BrokenInput, BrokenOutput};
 use std::alloc::Global;
 use std::io::{Read, Write};
+use tape_commands::type_to;
 
 // A deposit at 001000, a look at it, and an illegal key.
 const KEYS: &[u8] = b"001000/011064\n001000/\n9";

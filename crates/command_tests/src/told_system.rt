@@ -16,7 +16,7 @@ use request_values::{
 };
 use requests::{Outside, System, attempt};
 use serial_line::{Device, DeviceOpening, Devices};
-use simulated_system::{AMPLE, Console, DEVICE, ONE_WORD, QUIET_MS, System as Simulated};
+use simulated_system::{AMPLE, Console, DEVICE, ONE_WORD, QUIET_MS, System as Simulated, ToldDisk};
 use std::alloc::{AllocError, Global};
 use std::fs::File;
 use std::process::Abort;
@@ -25,7 +25,6 @@ use std::time::Clock;
 use std::{fs, io};
 use stream_line::Dialling;
 use tape_image::Start;
-use told_disk::ToldDisk;
 
 /// Files that are opened to be read, and by which names they were, or were not.
 #[derive(Drop)]

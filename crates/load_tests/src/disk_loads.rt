@@ -3,7 +3,7 @@ ghost use Rattle.std.specs.Prelude.{IfErr, IfOk, option_map};
 ghost use Rattle.machine_load.specs.RecordDisk.{IsClosedAfter, disk_asked_by, disk_asked_before};
 ghost use Rattle.load_devices.specs.Told.{HasAsked};
 ghost use Rattle.record_file.specs.Taking.{kind_of};
-ghost use Rattle.told_disk.specs.ToldSteps.{steps_of};
+ghost use Rattle.simulated_system.specs.ToldSteps.{steps_of};
 
 use crate::memory_reach::MemoryReach;
 use honest_line::MemoryLine;
@@ -11,10 +11,10 @@ use load_devices::Unwatched;
 use machine_load::{Around, LoadFault, Outcome, load};
 use record_file::RecordFile;
 use request_values::LoadOptions;
+use simulated_system::ToldDisk;
 use std::alloc::Global;
 use std::io::Write;
 use tape_image::Plan;
-use told_disk::ToldDisk;
 
 /// Loads a plan into a machine in memory, and closes its record. What `load` and `close` promise of the disk
 /// on which the record is, is so of this one, which tells.

@@ -3,14 +3,14 @@ ghost use Rattle.std.specs.Prelude.{IfErr, OnOk, option_map};
 ghost use Rattle.machine_look.specs.Beside.{room_of};
 ghost use Rattle.machine_look.specs.SaveDisk.{save_disk_asked_before, IsSavedOn};
 ghost use Rattle.load_devices.specs.Told.{HasAsked};
-ghost use Rattle.told_disk.specs.ToldSteps.{steps_of, written_to};
+ghost use Rattle.simulated_system.specs.ToldSteps.{steps_of, written_to};
 
 use crate::memory_reach::MemoryReach;
 use load_devices::Unwatched;
 use machine_look::{LookFault, NewFile, SaveEnd, SaveOptions, save};
+use simulated_system::ToldDisk;
 use std::alloc::Global;
 use std::io::Write;
-use told_disk::ToldDisk;
 
 /// Saves words of a machine in memory. What `save` promises of the disk on which its tape goes, is so of this
 /// one, which tells.

@@ -7,10 +7,10 @@ use crate::memory_reach::MemoryReach;
 use load_record::RecordError;
 use machine_load::{Around, LoadFault};
 use record_file::RecordFile;
+use simulated_system::{FailingSteps, ToldDisk};
 use std::io::{ErrorKind, Write};
 use std::test::Fail;
 use std::{fs, io};
-use told_disk::{Failing, ToldDisk};
 
 // One with the smallest tape's word, and with its mark; and one of another tape.
 const GOING_ON: &str = "LDAODT 2\n001000 011064";
@@ -85,7 +85,7 @@ impl Write for FullOutput {
 #[derive(Clone, Copy)]
 struct Setting {
     machine: bool,
-    failing: Failing,
+    failing: FailingSteps,
 }
 
 const AMPLE: Setting = Setting {

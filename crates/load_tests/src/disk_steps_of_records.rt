@@ -1,6 +1,7 @@
 //! What a disk is asked to read a record and to begin it anew, for each kind of file that docs/RECORD.md names.
 
 use record_file::{RecordFault, RecordFile};
+use simulated_system::{FailingSteps, ToldDisk};
 use std::alloc::Global;
 use std::fs::File;
 use std::io::ErrorKind;
@@ -9,7 +10,6 @@ use std::test::Fail;
 use std::{fs, io};
 use tape_blocks::read_tape;
 use tape_image::Plan;
-use told_disk::{Failing, ToldDisk};
 
 // The smallest tape with a word: 011064 at 001000, where it starts.
 const ONE_WORD: [u8; 16] = [
@@ -47,7 +47,7 @@ enum Outcome {
 const UNBEGUN: Outcome = Outcome::Unbegun(RecordFault::Write);
 
 // All is done that is asked.
-const NO_FAULT: Failing = &[];
+const NO_FAULT: FailingSteps = &[];
 
 // Reads a record and begins it anew with its word, where it may be written.
 fn taken(alloc: Global, record: &mut RecordFile<'_, ToldDisk<'_>>, plan: &Plan) -> Outcome {
@@ -62,7 +62,7 @@ fn taken(alloc: Global, record: &mut RecordFile<'_, ToldDisk<'_>>, plan: &Plan) 
 }
 
 // What comes of a record, and what its disk was asked until it is closed; None where there was no memory.
-fn course(rt: &HostRuntime, name: &str, failing: Failing) -> Option<(Outcome, String)> {
+fn course(rt: &HostRuntime, name: &str, failing: FailingSteps) -> Option<(Outcome, String)> {
     let alloc = rt.alloc();
     let (tape, _) = read_tape(alloc, &ONE_WORD).ok()?;
     let plan = Plan::of(alloc, &tape).ok()?;
@@ -75,7 +75,7 @@ fn course(rt: &HostRuntime, name: &str, failing: Failing) -> Option<(Outcome, St
 // Whether this comes of a record, and just this was asked.
 fn is_course(
     rt: &HostRuntime,
-    (name, failing): (&str, Failing),
+    (name, failing): (&str, FailingSteps),
     wanted: Outcome,
     lines: &str,
 ) -> bool {
@@ -180,7 +180,7 @@ fn one_that_is_not_there_is_made(rt: HostRuntime) {
     assert!(rt; is_course(&rt, (RECORD, NO_FAULT), Outcome::Begun, MADE));
     assert!(rt; holds(&rt, RECORD, Some(BEGUN)) && holds(&rt, BESIDE, None));
     clear(&rt);
-    let full: Failing = &[(6, ErrorKind::StorageFull)];
+    let full: FailingSteps = &[(6, ErrorKind::StorageFull)];
     assert!(rt; is_course(&rt, (RECORD, full), UNBEGUN, MADE_IN_VAIN));
     assert!(rt; holds(&rt, RECORD, None) && holds(&rt, BESIDE, None));
 }
@@ -237,7 +237,7 @@ fn a_file_with_another_name_is_written_over(rt: HostRuntime) -> Result<(), Fail>
         assert!(rt; holds(&rt, OTHER, Some(text)));
     }
     put_link(&rt, CURRENT)?;
-    let gone: Failing = &[(5, ErrorKind::NotFound)];
+    let gone: FailingSteps = &[(5, ErrorKind::NotFound)];
     assert!(rt; is_course(&rt, (RECORD, gone), UNBEGUN, GONE), "gone");
     assert!(rt; holds(&rt, OTHER, Some(CURRENT)));
     clear(&rt);
@@ -303,9 +303,9 @@ const UNREADABLE: &str = "+ look d.record\n\
 #[test]
 fn a_protected_record_is_only_read(rt: HostRuntime) -> Result<(), Fail> {
     put(&rt, CURRENT)?;
-    let protected: Failing = &[(1, ErrorKind::PermissionDenied)];
+    let protected: FailingSteps = &[(1, ErrorKind::PermissionDenied)];
     assert!(rt; is_course(&rt, (RECORD, protected), Outcome::Protected, PROTECTED));
-    let closed: Failing = &[
+    let closed: FailingSteps = &[
         (1, ErrorKind::PermissionDenied),
         (2, ErrorKind::PermissionDenied),
     ];
@@ -375,7 +375,7 @@ const AGAIN: &str = "+ look d.record\n\
 fn a_record_that_was_moved_away_is_opened_again(rt: HostRuntime) -> Result<(), Fail> {
     put(&rt, CURRENT)?;
     let lines = format!(in rt.alloc(); "{AGAIN}{REPLACED}")?;
-    let moved: Failing = &[(3, ErrorKind::NotFound)];
+    let moved: FailingSteps = &[(3, ErrorKind::NotFound)];
     assert!(rt; is_course(&rt, (RECORD, moved), Outcome::Begun, lines.as_str()));
     clear(&rt);
     Ok(())
@@ -422,7 +422,7 @@ fn a_new_record_that_is_left_goes(rt: HostRuntime) -> Result<(), Fail> {
     assert!(rt; is_course(&rt, (RECORD, NO_FAULT), Outcome::Begun, LEFT));
     assert!(rt; holds(&rt, RECORD, Some(BEGUN)) && holds(&rt, BESIDE, None));
     put(&rt, CURRENT)?;
-    let fixed: Failing = &[(9, ErrorKind::PermissionDenied)];
+    let fixed: FailingSteps = &[(9, ErrorKind::PermissionDenied)];
     assert!(rt; is_course(&rt, (RECORD, fixed), Outcome::Begun, NOT_RENAMED));
     assert!(rt; holds(&rt, RECORD, Some(BEGUN)) && holds(&rt, BESIDE, None));
     clear(&rt);

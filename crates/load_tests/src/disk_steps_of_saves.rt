@@ -5,10 +5,10 @@ use crate::loads_in_a_row::new_machine;
 use crate::memory_reach::MemoryReach;
 use machine_look::{LookFault, NewFile, SaveEnd, SaveOptions};
 use request_values::AddressRange;
+use simulated_system::{FailingSteps, ToldDisk};
 use std::alloc::Global;
 use std::fs;
 use std::io::ErrorKind;
-use told_disk::{Failing, ToldDisk};
 
 // The file of a save, and the one beside it.
 const SAVED: &str = "d.lda";
@@ -82,7 +82,7 @@ const UNKNOWN: &str = "+ sync ?\n\
 
 // What a file system answers that gives no second names: one says so, another that it is not permitted, and some
 // have other words for it.
-const UNLINKED: [Failing; 3] = [
+const UNLINKED: [FailingSteps; 3] = [
     &[(6, ErrorKind::Unsupported)],
     &[(6, ErrorKind::PermissionDenied)],
     &[(6, ErrorKind::Other)],
@@ -111,7 +111,7 @@ const NO_FOLDER: &str = "- look at name d.folder/d.lda\n\
 #[derive(Clone, Copy)]
 struct Setting {
     machine: bool,
-    failing: Failing,
+    failing: FailingSteps,
 }
 
 const AMPLE: Setting = Setting {
@@ -120,7 +120,7 @@ const AMPLE: Setting = Setting {
 };
 
 // The disk refuses this.
-fn refusing(failing: Failing) -> Setting {
+fn refusing(failing: FailingSteps) -> Setting {
     Setting {
         machine: true,
         failing,

@@ -1,15 +1,10 @@
-//! Tests of a load and of its record, in memory or on a disk that tells what it was asked, and of a save on
-//! such a disk.
+//! Tests of loads, of their record, of saves and of trials.
 //!
-//! A `Bench` tells what the record is, what its keepers write, what of that is on the disk (`DiskText`)
-//! and what is said on its lines. So it is the witness that what `load` promises of its devices can be met,
-//! and that the law of `machine_load` on loads in a row speaks of something; `load_on_disk` is one for what
-//! it promises of the disk of a record, and `save_on_disk` for what `save` promises of that of its tape. The
-//! tests stop a load at each call of its line and load again; they read records and begin them anew, alone
-//! and within a load, and save words, and compare what the disk was asked with what docs/RECORD.md and
-//! docs/DECISIONS.md say of each file.
-//!
-//! They stand in a crate of their own, since a crate with tests is proved twice.
+//! A `Bench` tells what the record is, what its keepers write and what is said on its lines: it is the witness that
+//! what `load` promises of its devices can be met, and that the laws of loads in a row speak of something;
+//! `load_on_disk` and `save_on_disk` are those of what is promised of a disk. Loads are stopped at each call of their
+//! line and begun again, and what the disk was asked is compared with docs/RECORD.md and docs/DECISIONS.md. A trial is
+//! tried to the end over a console that forgets digits, also where the line loses characters.
 #![tactic(auto)]
 
 #[cfg(test)]
@@ -30,3 +25,7 @@ mod disk_text;
 mod loads_in_a_row;
 #[cfg(test)]
 mod memory_reach;
+#[cfg(test)]
+mod probe_reports;
+#[cfg(test)]
+mod trials;

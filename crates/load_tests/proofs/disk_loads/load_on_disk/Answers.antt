@@ -3,7 +3,7 @@ use Rattle.std.proofs.lemmas.Result.{IfOk-weaker, IfErr-weaker}
 use Rattle.machine_load.proofs.OnDisk.{closed_ok, closed_err}
 use Rattle.machine_load.specs.RecordDisk.{disk_asked_by, disk_asked_before}
 use Rattle.record_file.specs.Taking.{kind_of}
-use Rattle.told_disk.specs.ToldSteps.{steps_of}
+use Rattle.simulated_system.specs.ToldSteps.{steps_of}
 use Rattle.load_tests.proofs.disk_loads.load_on_disk.Goals as goal
 
 pub returns-clause-disk : goal.returns-clause-disk

@@ -3,14 +3,14 @@ use Rattle.std.specs.Prelude.{ℕ, List, map, Option, Some, Vec, option_map}
 use Rattle.std.specs.String.{string_bytes}
 use Rattle.record_file.specs.DiskStep.{DiskStep, DiskRequest}
 use Rattle.record_file.specs.DiskStep as disk
-use Rattle.told_disk.specs.declared.file.ToldFile.{ToldFile}
-use Rattle.told_disk.specs.declared.step.Request.{Request}
-use Rattle.told_disk.specs.declared.step.Request.TheVariants.{Look, LookAtName, FindSoleFile, FindFile, Resolve}
-use Rattle.told_disk.specs.declared.step.Request.TheVariants.{Open, Hold, Link, Rename, Remove, SyncFolder, Cut, SyncFile}
-use Rattle.told_disk.specs.declared.step.Step.{Step}
-use Rattle.told_disk.specs.declared.step.Step.TheVariants.{Did, Failed, LedTo}
+use Rattle.simulated_system.specs.declared.told_file.ToldFile.{ToldFile}
+use Rattle.simulated_system.specs.declared.told_step.ToldRequest.{ToldRequest}
+use Rattle.simulated_system.specs.declared.told_step.ToldRequest.TheVariants.{Look, LookAtName, FindSoleFile, FindFile, Resolve}
+use Rattle.simulated_system.specs.declared.told_step.ToldRequest.TheVariants.{Open, Hold, Link, Rename, Remove, SyncFolder, Cut, SyncFile}
+use Rattle.simulated_system.specs.declared.told_step.ToldStep.{ToldStep}
+use Rattle.simulated_system.specs.declared.told_step.ToldStep.TheVariants.{Did, Failed, LedTo}
 
-abbrev pub request_of : Request → DiskRequest
+abbrev pub request_of : ToldRequest → DiskRequest
 request_of (Look name) = disk.Look (string_bytes name)
 request_of (LookAtName name) = disk.LookAtName (string_bytes name)
 request_of (FindSoleFile name) = disk.FindSoleFile (string_bytes name)
@@ -25,13 +25,13 @@ request_of (SyncFolder name) = disk.SyncFolder (string_bytes name)
 request_of (Cut text) = disk.Cut (Some text.items)
 request_of (SyncFile text) = disk.SyncFile (Some text.items)
 
-abbrev pub step_of : Step → DiskStep
+abbrev pub step_of : ToldStep → DiskStep
 step_of (Did request) = disk.Did (request_of request)
 step_of (Failed request) = disk.Failed (request_of request)
 step_of (LedTo name target) = disk.LedTo (string_bytes name) (string_bytes target)
 
 -- the whole list, where there is one
-abbrev pub steps_of : {A : Type 0} → Option (Vec Step A) → Option (List DiskStep)
+abbrev pub steps_of : {A : Type 0} → Option (Vec ToldStep A) → Option (List DiskStep)
 steps_of asked = option_map (λ steps. map step_of steps.items) asked
 
 -- what was written to a file

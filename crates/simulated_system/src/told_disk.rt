@@ -3,10 +3,10 @@ ghost use Rattle.std.specs.Prelude.{◌≡◌, ◌∷◌, [], None, IfOk, MatchR
 ghost use Rattle.std.specs.String.{string_bytes};
 ghost use Rattle.load_devices.specs.Told.{Tells};
 ghost use Rattle.record_file.specs.DiskStep.{step_by};
-ghost use Rattle.told_disk.specs.ToldSteps.{request_of, step_of, steps_of};
+ghost use Rattle.simulated_system.specs.ToldSteps.{request_of, step_of, steps_of};
 
-use crate::file::ToldFile;
-use crate::step::{Request, Step};
+use crate::told_file::ToldFile;
+use crate::told_step::{ToldRequest, ToldStep};
 use record_file::{Access, Disk};
 use std::alloc::{AllocError, Global};
 use std::fs::Metadata;
@@ -15,7 +15,7 @@ use std::io::ErrorKind;
 use std::path::PathBuf;
 
 /// Which of the things that are asked fail, by their numbers from 0, and how; the disk is not asked for these.
-pub type Failing = &'static [(usize, ErrorKind)];
+pub type FailingSteps = &'static [(usize, ErrorKind)];
 
 /// The disk of the system, with a list of what was asked of it: as long as there is memory for that, since
 /// a list that lacks a step would be wrong.
@@ -23,16 +23,16 @@ pub type Failing = &'static [(usize, ErrorKind)];
 pub struct ToldDisk<'a> {
     alloc: Global,
     disk: &'a HostRuntime,
-    failing: Failing,
+    failing: FailingSteps,
 
     /// How many things were asked.
     count: usize,
-    asked: Option<Vec<Step>>,
+    asked: Option<Vec<ToldStep>>,
 }
 
 impl<'a> ToldDisk<'a> {
     /// A disk of which nothing was asked yet.
-    pub fn new(disk: &'a HostRuntime, failing: Failing) -> ToldDisk<'a> {
+    pub fn new(disk: &'a HostRuntime, failing: FailingSteps) -> ToldDisk<'a> {
         let alloc = disk.alloc();
         ToldDisk {
             alloc,
@@ -44,7 +44,7 @@ impl<'a> ToldDisk<'a> {
     }
 
     /// What was asked so far, in its order; None where there was no memory to keep it.
-    pub fn asked(&self) -> Option<&[Step]> {
+    pub fn asked(&self) -> Option<&[ToldStep]> {
         match &self.asked {
             Some(asked) => Some(asked),
             None => None,
@@ -83,20 +83,20 @@ impl<'a> ToldDisk<'a> {
     }
 
     // Puts what was asked behind the list, with whether it was done.
-    fn tell(&mut self, request: Result<Request, AllocError>, done: bool)
+    fn tell(&mut self, request: Result<ToldRequest, AllocError>, done: bool)
         ensures asked { MatchResult request
             (λ request. Tells (steps_of self.old.asked) (steps_of self.new.asked) (step_by (request_of request) done ∷ []))
             (λ _. self.new.asked ≡ None) }
     {
         match request {
-            Ok(request) if done => self.add(Step::Did(request)),
-            Ok(request) => self.add(Step::Failed(request)),
+            Ok(request) if done => self.add(ToldStep::Did(request)),
+            Ok(request) => self.add(ToldStep::Failed(request)),
             Err(_) => self.asked = None,
         }
     }
 
     // Puts a step behind the list.
-    fn add(&mut self, step: Step)
+    fn add(&mut self, step: ToldStep)
         ensures asked { Tells (steps_of self.old.asked) (steps_of self.new.asked) (step_of step ∷ []) }
     {
         if let Some(mut asked) = self.asked.take() {
@@ -134,7 +134,7 @@ impl Disk for ToldDisk<'_> {
             Ok(()) => self.disk.look(name),
             Err(error) => Err(error),
         };
-        self.tell(self.copy(name).map(Request::Look), found.is_ok());
+        self.tell(self.copy(name).map(ToldRequest::Look), found.is_ok());
         found
     }
 
@@ -143,20 +143,23 @@ impl Disk for ToldDisk<'_> {
             Ok(()) => self.disk.look_at_name(name),
             Err(error) => Err(error),
         };
-        self.tell(self.copy(name).map(Request::LookAtName), found.is_ok());
+        self.tell(self.copy(name).map(ToldRequest::LookAtName), found.is_ok());
         found
     }
 
     fn is_sole_file(&mut self, name: &str) -> bool {
         let is_sole = self.count().is_ok() && self.disk.is_sole_file(name);
-        self.tell(self.copy(name).map(Request::FindSoleFile), is_sole);
+        self.tell(self.copy(name).map(ToldRequest::FindSoleFile), is_sole);
         is_sole
     }
 
     fn has_name(&mut self, name: &str, file: &ToldFile) -> bool {
         let has_name = self.count().is_ok() && self.disk.has_name(name, &file.file);
         match (self.copy(name), Vec::from_slice(self.alloc, &file.written)) {
-            (Ok(name), Ok(written)) => self.tell(Ok(Request::FindFile(name, written)), has_name),
+            (Ok(name), Ok(written)) => self.tell(
+                Ok(ToldRequest::FindFile(name, written)),
+                has_name,
+            ),
             _ => self.asked = None,
         }
         has_name
@@ -169,10 +172,10 @@ impl Disk for ToldDisk<'_> {
         };
         match &target {
             Ok(path) => match (self.copy(name), self.copy(path.as_str())) {
-                (Ok(name), Ok(path)) => self.add(Step::LedTo(name, path)),
+                (Ok(name), Ok(path)) => self.add(ToldStep::LedTo(name, path)),
                 _ => self.asked = None,
             },
-            Err(_) => self.tell(self.copy(name).map(Request::Resolve), false),
+            Err(_) => self.tell(self.copy(name).map(ToldRequest::Resolve), false),
         }
         target
     }
@@ -180,7 +183,7 @@ impl Disk for ToldDisk<'_> {
     fn open(&mut self, access: Access, name: &str) -> io::Result<ToldFile> {
         let opened = self.opened(access, name);
         match self.copy(name) {
-            Ok(name) => self.tell(Ok(Request::Open(access, name)), opened.is_ok()),
+            Ok(name) => self.tell(Ok(ToldRequest::Open(access, name)), opened.is_ok()),
             Err(_) => self.asked = None,
         }
         opened
@@ -188,7 +191,7 @@ impl Disk for ToldDisk<'_> {
 
     fn hold(&mut self, file: &ToldFile) -> bool {
         let is_held = self.count().is_ok() && self.disk.hold(&file.file);
-        self.tell(self.copy(&file.name).map(Request::Hold), is_held);
+        self.tell(self.copy(&file.name).map(ToldRequest::Hold), is_held);
         is_held
     }
 
@@ -198,7 +201,7 @@ impl Disk for ToldDisk<'_> {
             Err(error) => Err(error),
         };
         match (self.copy(from), self.copy(to)) {
-            (Ok(from), Ok(to)) => self.tell(Ok(Request::Link(from, to)), linked.is_ok()),
+            (Ok(from), Ok(to)) => self.tell(Ok(ToldRequest::Link(from, to)), linked.is_ok()),
             _ => self.asked = None,
         }
         linked
@@ -210,7 +213,7 @@ impl Disk for ToldDisk<'_> {
             Err(error) => Err(error),
         };
         match (self.copy(from), self.copy(to)) {
-            (Ok(from), Ok(to)) => self.tell(Ok(Request::Rename(from, to)), renamed.is_ok()),
+            (Ok(from), Ok(to)) => self.tell(Ok(ToldRequest::Rename(from, to)), renamed.is_ok()),
             _ => self.asked = None,
         }
         renamed
@@ -221,7 +224,7 @@ impl Disk for ToldDisk<'_> {
             Ok(()) => self.disk.remove(name),
             Err(error) => Err(error),
         };
-        self.tell(self.copy(name).map(Request::Remove), removed.is_ok());
+        self.tell(self.copy(name).map(ToldRequest::Remove), removed.is_ok());
         removed
     }
 
@@ -231,7 +234,7 @@ impl Disk for ToldDisk<'_> {
             Err(error) => Err(error),
         };
         self.tell(
-            self.copy(&folder.name).map(Request::SyncFolder),
+            self.copy(&folder.name).map(ToldRequest::SyncFolder),
             synced.is_ok(),
         );
         synced
@@ -243,7 +246,7 @@ impl Disk for ToldDisk<'_> {
             Err(error) => Err(error),
         };
         match Vec::from_slice(self.alloc, &file.written) {
-            Ok(written) => self.tell(Ok(Request::Cut(written)), cut.is_ok()),
+            Ok(written) => self.tell(Ok(ToldRequest::Cut(written)), cut.is_ok()),
             Err(_) => self.asked = None,
         }
         cut
@@ -255,7 +258,7 @@ impl Disk for ToldDisk<'_> {
             Err(error) => Err(error),
         };
         let written = Vec::from_slice(self.alloc, &file.written);
-        self.tell(written.map(Request::SyncFile), synced.is_ok());
+        self.tell(written.map(ToldRequest::SyncFile), synced.is_ok());
         synced
     }
 }

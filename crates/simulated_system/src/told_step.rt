@@ -6,7 +6,7 @@ use std::fmt::{Formatter, Write};
 
 /// What a disk is asked, with copies of the names, and of what was written of a file.
 #[derive(Drop)]
-pub enum Request {
+pub enum ToldRequest {
     /// What a name leads to.
     Look(String),
 
@@ -49,12 +49,12 @@ pub enum Request {
 
 /// What came of it.
 #[derive(Drop)]
-pub enum Step {
+pub enum ToldStep {
     /// It was done.
-    Did(Request),
+    Did(ToldRequest),
 
     /// It was not, or it is not so.
-    Failed(Request),
+    Failed(ToldRequest),
 
     /// A name led to another.
     LedTo(String, String),
@@ -78,33 +78,33 @@ fn shown(text: &[u8]) -> &str {
     }
 }
 
-impl fmt::Display for Request {
+impl fmt::Display for ToldRequest {
     fn fmt<W: Write>(&self, f: &mut Formatter<W>) -> fmt::Result {
         match self {
-            Request::Look(name) => write!(f, "look {name}"),
-            Request::LookAtName(name) => write!(f, "look at name {name}"),
-            Request::FindSoleFile(name) => write!(f, "sole {name}"),
-            Request::FindFile(name, text) => write!(f, "find {name} {}", shown(text)),
-            Request::Resolve(name) => write!(f, "resolve {name}"),
-            Request::Open(access, name) => write!(f, "open {} {name}", access_name(*access)),
-            Request::Hold(name) => write!(f, "hold {name}"),
-            Request::Link(from, to) => write!(f, "link {from} {to}"),
-            Request::Rename(from, to) => write!(f, "rename {from} {to}"),
-            Request::Remove(name) => write!(f, "remove {name}"),
-            Request::SyncFolder(name) => write!(f, "sync folder {name}"),
-            Request::Cut(text) => write!(f, "cut {}", shown(text)),
-            Request::SyncFile(text) => write!(f, "sync {}", shown(text)),
+            ToldRequest::Look(name) => write!(f, "look {name}"),
+            ToldRequest::LookAtName(name) => write!(f, "look at name {name}"),
+            ToldRequest::FindSoleFile(name) => write!(f, "sole {name}"),
+            ToldRequest::FindFile(name, text) => write!(f, "find {name} {}", shown(text)),
+            ToldRequest::Resolve(name) => write!(f, "resolve {name}"),
+            ToldRequest::Open(access, name) => write!(f, "open {} {name}", access_name(*access)),
+            ToldRequest::Hold(name) => write!(f, "hold {name}"),
+            ToldRequest::Link(from, to) => write!(f, "link {from} {to}"),
+            ToldRequest::Rename(from, to) => write!(f, "rename {from} {to}"),
+            ToldRequest::Remove(name) => write!(f, "remove {name}"),
+            ToldRequest::SyncFolder(name) => write!(f, "sync folder {name}"),
+            ToldRequest::Cut(text) => write!(f, "cut {}", shown(text)),
+            ToldRequest::SyncFile(text) => write!(f, "sync {}", shown(text)),
         }
     }
 }
 
 /// As it is shown: `+` before what was done, `-` before what failed.
-impl fmt::Display for Step {
+impl fmt::Display for ToldStep {
     fn fmt<W: Write>(&self, f: &mut Formatter<W>) -> fmt::Result {
         match self {
-            Step::Did(request) => write!(f, "+ {request}"),
-            Step::Failed(request) => write!(f, "- {request}"),
-            Step::LedTo(name, target) => write!(f, "+ resolve {name} {target}"),
+            ToldStep::Did(request) => write!(f, "+ {request}"),
+            ToldStep::Failed(request) => write!(f, "- {request}"),
+            ToldStep::LedTo(name, target) => write!(f, "+ resolve {name} {target}"),
         }
     }
 }

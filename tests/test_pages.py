@@ -282,7 +282,8 @@ class Crates(Case):
         self.is_so((ran.returncode, ran.stderr), (2, "promises: crates.txt has no nothing\n"))
 
     def test_no_page_names_a_crate_that_is_gone(self):
-        gone = {"load_command", "socket_line", "load_reports"} - set(self.crates)
+        gone = {"load_command", "socket_line", "load_reports", "tape_check", "console_typing", "rehearsals", "tape_requests", "command_words",
+                "memory_end", "told_disk", "trial_tests"} - set(self.crates)
         for name in ("README.md", "CONTRIBUTING.md", *(os.path.relpath(it, TOP) for it in glob.glob(f"{TOP}/docs/*"))):
             for it in gone:
                 self.assertNotIn(f"`{it}`", text_at(name), name)

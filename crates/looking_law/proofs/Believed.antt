@@ -35,7 +35,7 @@ begin_mirrored r machine waiting is may few =
 
 -- ---- the run
 
-run_mirrored : (memory : List ℕ) (w next : Inquiry) (typing : List ℕ) → IsMirrored memory w → Leads w typing next → IsMirrored memory next
+pub run_mirrored : (memory : List ℕ) (w next : Inquiry) (typing : List ℕ) → IsMirrored memory w → Leads w typing next → IsMirrored memory next
 run_mirrored memory w next typing k run = subst (IsMirrored memory) run.world (mirrored_events memory w run.events k)
 
 run_true : (memory : List ℕ) (w next : Inquiry) (typing : List ℕ) → IsMirrored memory w → Leads w typing next → IsTrueReading memory next.reader next.machine.memory typing next.lost
@@ -55,7 +55,7 @@ keys_of_said : (key : Option ℕ) (items : List Item) → keys_of (said key ++ i
 keys_of_said None items = refl
 keys_of_said (Some key) items = refl
 
-keys_of-dialogue : (things : List Heard) (r : Reader) → keys_of (dialogue r things) ≡ replay r things
+pub keys_of-dialogue : (things : List Heard) (r : Reader) → keys_of (dialogue r things) ≡ replay r things
 keys_of-dialogue [] r = refl
 keys_of-dialogue (what ∷ things) r =
     keys_of_said (ask r what).key (dialogue (ask r what).next things) ∙ ap (λ more. option_to_list (ask r what).key ++ more) (keys_of-dialogue things (ask r what).next)
@@ -91,7 +91,7 @@ dialogue_mirrored r things machine waiting end is may few passes =
     run_mirrored machine.memory (over r (resting machine waiting 0)) (over (led r things) end) (replay r things) (begin_mirrored r machine waiting is may few)
     (dialogue_leads things r (resting machine waiting 0) end passes)
 
-stopped_with : (mode : Mode) → RunsWith false mode → is_running mode ≡ false
+pub stopped_with : (mode : Mode) → RunsWith false mode → is_running mode ≡ false
 stopped_with Prompt runs = refl
 stopped_with (Number v n) runs = refl
 stopped_with (Opened a) runs = refl

@@ -93,7 +93,7 @@ waiting r x down up none empty = rw (none, empty) refl
 waiting_types : (r : Reader) (x : Wire) (down up : List ℕ) → down ≡ [] → up ≡ [] → typed_timeout (over r x) down up ≡ option_to_list (ask r Silence).key
 waiting_types r x down up none empty = rw (none, empty) refl
 
-gives_lead : (r : Reader) (what : Heard) (x y : Wire) → Gives x what y →
+pub gives_lead : (r : Reader) (what : Heard) (x y : Wire) → Gives x what y →
     Leads (over r x) (option_to_list (ask r what).key) (over (ask r what).next (sent y (option_to_list (ask r what).key)))
 gives_lead r (Got c) x y (rest, is, now) =
     leads_one (over r x) Hear _ _ (hearing r x c rest x.up is ∙ ap (λ z. over (ask r (Got c)).next (sent z (option_to_list (ask r (Got c)).key))) (sym now)) (hearing_types r x c rest x.up is)

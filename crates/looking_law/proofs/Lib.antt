@@ -4,12 +4,13 @@ pub mod Believed
 pub mod Events
 mod Harmless
 pub mod Keys
-mod Loading
+pub mod Loading
 mod Looks
 pub mod Mirrors
+pub mod Never
 pub mod Parts
 pub mod Runs
-mod Saying
+pub mod Saying
 pub mod Splits
 mod Tidy
 pub mod Told

@@ -14,6 +14,7 @@ use Rattle.reading_core.specs.declared.phase.Phase.TheVariants.{Settle, Sync, Ad
 use Rattle.reading_core.specs.declared.phase.End.TheVariants.{Complete, GaveUp}
 use Rattle.reading_core.specs.declared.turn.Turn.{Turn}
 use Rattle.reading_core.specs.declared.turn.Turn.TheVariants.{Listen, Key, Read, Next, Stop, Stray, Timeout}
+use Rattle.reading_core.specs.Laws.{replay}
 use Rattle.reading_core.specs.Reader.{Reader, address_under_way, restarted}
 use Rattle.reading_core.specs.ReadingTable.{ask, taken, turn_of, hears, waits, sends, listens, sync_hears, address_hears, first_digit_hears, before_hears, value_hears, close_hears}
 use Rattle.reading_core.proofs.Turns.{either}
@@ -198,3 +199,9 @@ event_looks slash w (Restart kept) a = λ more rest. rest slash (begun_agrees sl
 pub events_look : (slash : Bool) (w : Inquiry) (events : List Event) → Agrees slash w.reader.phase → OnlyLook slash (typed w events)
 events_look slash w [] a = tt
 events_look slash w (event ∷ events) a = event_looks slash w event a (typed (happens w event) events) (λ s agrees. events_look s (happens w event) events agrees)
+
+-- the same of the keys that answer any list of heard things
+pub replay_looks : (slash : Bool) (r : Reader) (things : List Heard) → Agrees slash r.phase → OnlyLook slash (replay r things)
+replay_looks slash r [] a = tt
+replay_looks slash r (what ∷ things) a =
+    looks_then slash (ask r what).key (ask r what).next.phase (replay (ask r what).next things) (ask_looks slash r what a) (λ s agrees. replay_looks s (ask r what).next things agrees)

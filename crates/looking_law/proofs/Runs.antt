@@ -57,7 +57,7 @@ borne_out memory lost more le (Try address old patience heard) only = only
 
 -- ---- one run
 
-may_begin : (addresses : List ℕ) (patience : ℕ) (machine : Machine) → IsReadyMachine machine → MayLook (begun addresses [] patience) machine
+pub may_begin : (addresses : List ℕ) (patience : ℕ) (machine : Machine) → IsReadyMachine machine → MayLook (begun addresses [] patience) machine
 may_begin addresses patience machine ready = record {
   begun = refl;
   console = ready.console;

@@ -17,7 +17,7 @@ use Rattle.looking_law.proofs.Answers.{answer_short}
 
 -- ---- where the first list ends
 
-passes_split : (items more : List Item) (x y : Wire) → Passes x (items ++ more) y → (z : Wire) × Passes x items z × Passes z more y
+pub passes_split : (items more : List Item) (x y : Wire) → Passes x (items ++ more) y → (z : Wire) × Passes x items z × Passes z more y
 passes_split [] more x y passes = (x, none_moves x, passes)
 passes_split (Sent key ∷ items) more x y passes = passes_split items more (sent x (key ∷ [])) y passes
 passes_split (Came what ∷ items) more x y (w, v, before, gives, passes) =
@@ -110,6 +110,25 @@ down_rests (c ∷ down) more x y is one few begins passes = key_rests more x y c
 rests : (more : List Item) (x y : Wire) → IsTidy x → BeginsByListening more → Passes x more y → Rests x more y
 rests more x y tidy begins passes = down_rests x.down more x y refl tidy.one_way tidy.few begins passes
 
+-- before anything is heard a key that was still under way was taken or lost
+pub record HasRested (x : Wire) (more : List Item) (y : Wire) : Type 0 where
+  pub rest : Wire
+  pub moves : MovesOn x rest
+  pub none_down : rest.down ≡ []
+  pub few : length rest.up ≤ 32
+  pub passes : Passes rest more y
+
+down_heard : (down : List ℕ) (what : Heard) (more : List Item) (x z v y : Wire) (n : ℕ) → x.down ≡ down → OneWay down x.up → length x.up ≤ 32 → MovesTimes n x z → Gives z what v → Passes v more y → HasRested x (Came what ∷ more) y
+down_heard [] what more x z v y n is one few moves gives passes = record { rest = x; moves = none_moves x; none_down = is; few = few; passes = (z, v, (n, moves), gives, passes) }
+down_heard (c ∷ down) what more x z v y zero is one few same gives passes =
+    absurd (nothing_heard what x v c (is ∙ ap (λ keys. c ∷ keys) one.0) one.1 (subst (λ w. Gives w what v) same gives))
+down_heard (c ∷ down) what more x z v y (suc n) is one few (w, move, rest) gives passes =
+    let gone = key_goes x w c (is ∙ ap (λ keys. c ∷ keys) one.0) one.1 move in
+    record { rest = w; moves = one_first x w w move (none_moves w); none_down = gone.0; few = gone.1; passes = (z, v, (n, rest), gives, passes) }
+
+pub heard_rests : (what : Heard) (more : List Item) (x y : Wire) → IsTidy x → Passes x (Came what ∷ more) y → HasRested x (Came what ∷ more) y
+heard_rests what more x y tidy (z, v, before, gives, passes) = down_heard x.down what more x z v y before.0 refl tidy.one_way tidy.few before.1 gives passes
+
 -- ---- losses that were there before are counted apart
 
 -- what became of a line is one on which so many fewer were lost
@@ -137,7 +156,7 @@ gives_fewer : (k : ℕ) (what : Heard) (x y : Wire) → Gives (later k x) what y
 gives_fewer k (Got c) x y (rest, is, now) = (heard x rest, now, (rest, is, refl))
 gives_fewer k Quiet x y (none, empty, now) = (x, now, (none, empty, refl))
 
-passes_fewer : (k : ℕ) (items : List Item) (x y : Wire) → Passes (later k x) items y → Fewer k y (Passes x items)
+pub passes_fewer : (k : ℕ) (items : List Item) (x y : Wire) → Passes (later k x) items y → Fewer k y (Passes x items)
 passes_fewer k [] x y moves = times_fewer k moves.0 x y moves.1
 passes_fewer k (Sent key ∷ items) x y passes = passes_fewer k items (sent x (key ∷ [])) y passes
 passes_fewer k (Came what ∷ items) x y (w, v, before, gives, passes) =
@@ -148,7 +167,7 @@ passes_fewer k (Came what ∷ items) x y (w, v, before, gives, passes) =
 
 -- ---- the law
 
-nothing_lost : (k : ℕ) → k ≡ k + 0
+pub nothing_lost : (k : ℕ) → k ≡ k + 0
 nothing_lost k = omega arith
 
 pub lines_split : HonestLinesSplit

@@ -21,7 +21,7 @@ use Rattle.looking_law.specs.Trying.{IsToldOf, trial_dialogue}
 use Rattle.looking_law.specs.Splitting.{BeginsByListening, EndsTidily, IsTidy, ReadingsEndTidily}
 
 -- the dialogue passes wherever what was told of it does
-told_passes : (all told : List Item) (x y : Wire) → IsToldOf all told → Passes x told y → (keys : List ℕ) × Passes x all (sent y keys)
+pub told_passes : (all told : List Item) (x y : Wire) → IsToldOf all told → Passes x told y → (keys : List ℕ) × Passes x all (sent y keys)
 told_passes all told x y (inl whole) passes =
     ([], subst (λ items. Passes x items (sent y [])) whole (subst (λ down. Passes x told (record y { down = down })) (sym (append-nil y.down)) passes))
 told_passes all told x y (inr (key, lacks)) passes =
@@ -38,7 +38,7 @@ none_before : (down keys : List ℕ) → down ++ keys ≡ [] → down ≡ []
 none_before [] keys none = refl
 none_before (c ∷ down) keys none = absurd (cc none)
 
-way_before : (down keys up : List ℕ) → OneWay (down ++ keys) up → OneWay down up
+pub way_before : (down keys up : List ℕ) → OneWay (down ++ keys) up → OneWay down up
 way_before [] keys up one = tt
 way_before (c ∷ down) keys up one = (none_before down keys one.0, one.1)
 

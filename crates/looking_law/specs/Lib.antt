@@ -3,6 +3,7 @@ pub mod Belief
 pub mod Harmless
 pub mod Inquiry
 pub mod Parts
+pub mod RecordLook
 pub mod Rows
 pub mod Runs
 pub mod Splitting

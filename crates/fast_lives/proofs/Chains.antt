@@ -15,6 +15,7 @@ use Rattle.host_core.proofs.Frame.{silent}
 use Rattle.host_core.proofs.Lives.{led_kept, led_plan}
 use Rattle.host_core.proofs.Starts.{starts_only_whole}
 use Rattle.host_core.proofs.Turns.{begun_kept}
+use Rattle.honest_line.specs.Starts.{RunsByGo}
 use Rattle.line_world.specs.Promises.{EndsAtGo}
 use Rattle.line_world.specs.Safe.{FirstStand}
 use Rattle.line_world.proofs.Starts.{ends_join}
@@ -59,7 +60,7 @@ use Rattle.fast_lives.proofs.Storing.{fewer_stand}
 
 -- ---- what the lives so far leave, which sent these keys
 
-record Stood (program : Program) (tape : PlanValue) (before keys : List ℕ) (now : LinkAndRecord) : Type 0 where
+pub record Stood (program : Program) (tape : PlanValue) (before keys : List ℕ) (now : LinkAndRecord) : Type 0 where
   pub progress : Progress
   pub says : Says tape now.text (Ok progress)
   pub stand : FirstStand tape.words progress.verified now.link.station.machine.memory
@@ -74,7 +75,7 @@ not_both : (b : Bool) → b ≡ true → b ≡ false → ⊥
 not_both b e f = cc
 
 -- one more life
-record Went (program : Program) (tape : PlanValue) (before keys : List ℕ) (life : FastLife) (new : LinkAndRecord) : Type 0 where
+pub record Went (program : Program) (tape : PlanValue) (before keys : List ℕ) (life : FastLife) (new : LinkAndRecord) : Type 0 where
   pub stood : Stood program tape before (keys ++ keys_of life.rest) new
   pub paid : IsPaid (last_core tape life) new.link.station.machine.memory (length life.unsent + new.link.lost + 1)
 
@@ -430,7 +431,7 @@ went_unmarked program tape before keys between life new is s l =
 same_life : (life : FastLife) (going : Bool) → life.progress.going ≡ going → life ≡ marked_as life going
 same_life life going e = ap (marked_as life) e
 
-went : (program : Program) (tape : PlanValue) (before keys : List ℕ) (between : LinkAndRecord) (life : FastLife) (new : LinkAndRecord) → IsPlan tape → Stood program tape before keys between → IsFastLife program tape between life new →
+pub went : (program : Program) (tape : PlanValue) (before keys : List ℕ) (between : LinkAndRecord) (life : FastLife) (new : LinkAndRecord) → IsPlan tape → Stood program tape before keys between → IsFastLife program tape between life new →
     Went program tape before keys life new
 went program tape before keys between life new is s l = by life.progress.going refl
   where
@@ -450,7 +451,7 @@ latest : (program : Program) (tape : PlanValue) (before : List ℕ) (lives : Lis
 latest program tape before [] old new is s lived = tt
 latest program tape before (life ∷ earlier) old new is s lived = (went program tape before (typed earlier) lived.0 life new is (stood program tape before earlier old lived.0 is s lived.1) lived.2).paid
 
-opens : (program : Program) (tape : PlanValue) (old : LinkAndRecord) → MayOpenAt tape old → Stood program tape old.link.station.machine.memory [] old
+pub opens : (program : Program) (tape : PlanValue) (old : LinkAndRecord) → MayOpenAt tape old → Stood program tape old.link.station.machine.memory [] old
 opens program tape old may = record {
   progress = may.progress;
   says = may.says;
@@ -471,6 +472,17 @@ opens program tape old may = record {
 still : (R : ℕ → Type 0) (mode : Mode) (stub : Option Stub) → MayFill R mode stub → stub ≡ None → is_running mode ≡ true → ⊥
 still R mode stub may none runs = not_both (is_running mode) runs (subst (MayFill R mode) none may)
 
+-- a program that is no stub was started by `G`
+pub started : (program : Program) (tape : PlanValue) (before keys : List ℕ) (new : LinkAndRecord) → Stood program tape before keys new → new.link.station.stub ≡ None → RunsByGo new.link.station.machine keys
+started program tape before keys new s none runs = by s.progress.going refl
+  where
+    by : (test : Bool) → s.progress.going ≡ test → Contains keys go
+    by false e = absurd (still (IsLater tape s.progress.verified) new.link.station.machine.mode new.link.station.stub (s.next e).line.stub none runs)
+    by true e = elim (s.rested e) [
+      | inl u ↦ absurd (still (IsLater tape (length tape.words)) new.link.station.machine.mode new.link.station.stub u.stub none runs)
+      | inr (has, idle) ↦ has
+    ]
+
 any_lives : (program : Program) (tape : PlanValue) (old new : LinkAndRecord) (lives : List FastLife) → IsPlan tape → MayOpenAt tape old → FastLived program tape old lives new →
     AreFastTrusted program tape old.link.station.machine.memory lives new
 any_lives program tape old new lives is may lived =
@@ -484,16 +496,9 @@ any_lives program tape old new lives is may lived =
       marked = s.marked;
       loaded = λ set. loaded_by tape old.link.station.machine.memory new.link.station.machine.memory is s.kept (s.all set);
       unsettled = λ unset. (s.next unset).line;
-      by_go = λ none runs. by s none runs s.progress.going refl;
+      by_go = started program tape old.link.station.machine.memory (typed lives) new s;
       latest = latest program tape old.link.station.machine.memory lives old new is first lived;
     }
-  where
-    by : (s : Stood program tape old.link.station.machine.memory (typed lives) new) → new.link.station.stub ≡ None → is_running new.link.station.machine.mode ≡ true → (test : Bool) → s.progress.going ≡ test → Contains (typed lives) go
-    by s none runs false e = absurd (still (IsLater tape s.progress.verified) new.link.station.machine.mode new.link.station.stub (s.next e).line.stub none runs)
-    by s none runs true e = elim (s.rested e) [
-      | inl u ↦ absurd (still (IsLater tape (length tape.words)) new.link.station.machine.mode new.link.station.stub u.stub none runs)
-      | inr (has, idle) ↦ has
-    ]
 
 pub fast_lives_are_trusted : FastLivesAreTrusted
 fast_lives_are_trusted tape old new lives is may lived = any_lives stub_program tape old new lives is may lived

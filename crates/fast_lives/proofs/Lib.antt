@@ -6,4 +6,6 @@ mod Growing
 mod Loads
 mod Backs
 mod Chains
+mod Looking
+mod First
 pub mod Planning

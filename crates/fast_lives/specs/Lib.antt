@@ -3,3 +3,4 @@ pub mod StubParts
 pub mod FastLoads
 pub mod FastLives
 pub mod Planned
+pub mod LooksFirst

@@ -1,5 +1,6 @@
 ghost use Rattle.fast_lives.specs.FastLives.{FastLivesAreTrusted};
 ghost use Rattle.fast_lives.specs.FastLoads.{FastLoadsAreTrusted};
+ghost use Rattle.fast_lives.specs.LooksFirst.{FastLivesMayLookFirst};
 ghost use Rattle.fast_lives.specs.Planned.{PlannedStubsAreStubs};
 
 /// A load that brings in stubs may be trusted as every load, wherever it stops, and leaves a line at
@@ -22,4 +23,11 @@ pub fn fast_lives_are_trusted()
 /// its contract is the law.
 pub fn planned_stubs_are_stubs()
     ensures { PlannedStubsAreStubs }
+{}
+
+/// Loads in a row may be trusted, with stubs or without, also where each looks first at words that its
+/// record has, whatever a stub is in the middle of then. This function does nothing: its contract is
+/// the law.
+pub fn fast_lives_may_look_first()
+    ensures { FastLivesMayLookFirst }
 {}

@@ -8,4 +8,7 @@
 
 mod law;
 
-pub use law::{fast_lives_are_trusted, fast_loads_are_trusted, planned_stubs_are_stubs};
+pub use law::{
+    fast_lives_are_trusted, fast_lives_may_look_first, fast_loads_are_trusted,
+    planned_stubs_are_stubs,
+};

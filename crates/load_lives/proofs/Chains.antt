@@ -147,7 +147,7 @@ taken_back first things items (Some key) x y k unset set starts never is passes 
 -- ---- between two lives
 
 -- what the lives so far leave, which sent these keys, for the lives after them
-record Stood (plan : PlanValue) (before : List ℕ) (keys : List ℕ) (now : WireAndRecord) : Type 0 where
+pub record Stood (plan : PlanValue) (before : List ℕ) (keys : List ℕ) (now : WireAndRecord) : Type 0 where
   pub progress : Progress
   pub says : Says plan now.text (Ok progress)
   pub rests : Rests plan progress now.wire
@@ -168,7 +168,7 @@ keys_end keys items unsent replayed is one more none =
     front (x ∷ xs) ys e = absurd (cc)
 
 -- what one more life leaves, and what it may be trusted with
-record Went (plan : PlanValue) (before : List ℕ) (keys : List ℕ) (life : Life) (new : WireAndRecord) : Type 0 where
+pub record Went (plan : PlanValue) (before : List ℕ) (keys : List ℕ) (life : Life) (new : WireAndRecord) : Type 0 where
   pub stood : Stood plan before (keys ++ keys_of life.items) new
   pub trusted : IsTrusted before (last_core plan life) new.wire.machine.memory (keys ++ keys_of life.items) (length (option_to_list life.unsent) + new.wire.lost)
 
@@ -222,7 +222,7 @@ can_be_read : (plan : PlanValue) (verified : ℕ) (going : Bool) (patience : ℕ
 can_be_read plan verified true patience things unset host starts = absurd (cc)
 can_be_read plan verified false patience things unset host starts = readable plan verified patience things host starts
 
-went : (plan : PlanValue) (before keys : List ℕ) (between : WireAndRecord) (life : Life) (new : WireAndRecord) → IsPlan plan → Stood plan before keys between → IsLife plan between life new → Went plan before keys life new
+pub went : (plan : PlanValue) (before keys : List ℕ) (between : WireAndRecord) (life : Life) (new : WireAndRecord) → IsPlan plan → Stood plan before keys between → IsLife plan between life new → Went plan before keys life new
 went plan before keys between life new fits s l =
     let first : Core = first_core plan life in
     let last : Core = last_core plan life in
@@ -270,7 +270,7 @@ went plan before keys between life new fits s l =
 
 -- ---- all lives
 
-opens : (plan : PlanValue) (old : WireAndRecord) → IsPlan plan → MayOpen plan old → Stood plan old.wire.machine.memory [] old
+pub opens : (plan : PlanValue) (old : WireAndRecord) → IsPlan plan → MayOpen plan old → Stood plan old.wire.machine.memory [] old
 opens plan old fits may =
     let sound : IsSound plan may.progress = says_sound plan old.text may.progress may.says in
     let host : IsHost (begun plan may.progress.verified false 0) = begun_kept plan may.progress.verified false 0 fits sound.within (omega arith) (λ set. absurd (cc)) in

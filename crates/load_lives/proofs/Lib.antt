@@ -1,8 +1,8 @@
-mod Renewals
+pub mod Renewals
 mod Running
 pub mod LastTurns
 pub mod Records
-mod Starting
+pub mod Starting
 pub mod Chains
 pub mod Stopping
 pub mod Keepers

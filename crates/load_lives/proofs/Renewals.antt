@@ -36,7 +36,7 @@ pub record Rests (plan : PlanValue) (progress : Progress) (left : Wire) : Type 0
   pub key : Lawful (record { machine = left.machine; plan = plan; going = progress.going }) left.down
 
 -- a key under way in a world is lawful
-old_key : (m : Machine) (core : Core) (down up : List ℕ) (lost : ℕ) → IsKept (scene m core down up lost) → Lawful (ground (scene m core down up lost)) down
+pub old_key : (m : Machine) (core : Core) (down up : List ℕ) (lost : ℕ) → IsKept (scene m core down up lost) → Lawful (ground (scene m core down up lost)) down
 old_key m core [] up lost k = tt
 old_key m core (c ∷ down) up lost k = lawful m core c down up lost k
 

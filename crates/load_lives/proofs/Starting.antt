@@ -19,7 +19,7 @@ at_rest left waiting keys (inl runs) = inl (inl runs)
 at_rest left waiting keys (inr has) = inr has
 
 -- what may run on the line that a life found, with the life's keys, was left so, or `G` is one of the keys
-reopened_run : (left found : Wire) (keys : List ℕ) → Reopens left found → MayRun (sent found keys) → MayRun left ⊎ Contains keys go
+pub reopened_run : (left found : Wire) (keys : List ℕ) → Reopens left found → MayRun (sent found keys) → MayRun left ⊎ Contains keys go
 reopened_run left found keys (inl same) may = behind_keys left keys (subst (λ (x : Wire). MayRun (sent x keys)) same may)
 reopened_run left found keys (inr (waiting, few, new)) may = at_rest left waiting keys (subst (λ (x : Wire). MayRun (sent x keys)) new may)
 

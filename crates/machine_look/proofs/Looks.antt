@@ -13,7 +13,7 @@ use Rattle.reading_core.specs.Bound.{reading_bound}
 use Rattle.reading_core.specs.Invariant.{Basis, PhaseFits, IsReader}
 use Rattle.reading_core.specs.Reader.{Reader, ended}
 use Rattle.reading_core.proofs.Turns.{within_bound}
-use Rattle.reading_law.specs.Belief.{IsTrue, MayLook}
+use Rattle.looking_law.specs.Belief.{IsTrueReading, MayLook}
 use Rattle.reading_engine.specs.declared.stop.Stop.{Stop}
 use Rattle.reading_engine.specs.declared.stop.Stop.TheVariants.{Ended, LineFailed, TurnsOver}
 use Rattle.reading_engine.specs.Belief.{IsBelievableAt}
@@ -72,7 +72,7 @@ no_look reader end lines reads is =
 
 -- over an honest line what was read is true, with the losses or one more
 pub is_true : (stop : Stop) (first last : Reader) (items : List Item) (machine now : Machine) (lost : ℕ) → IsBelievableAt stop first last items → MayLook first machine → IsHonest machine items lost now
-    → (more : ℕ) × IsTrue machine.memory last now.memory (keys_of items) (lost + more)
+    → (more : ℕ) × IsTrueReading machine.memory last now.memory (keys_of items) (lost + more)
 is_true (Ended end) first last items machine now lost believed may honest = (0, believed machine now lost may honest)
 is_true TurnsOver first last items machine now lost believed may honest = (0, believed machine now lost may honest)
 is_true (LineFailed fault) first last items machine now lost believed may honest = (1, believed.0 machine now lost may honest)

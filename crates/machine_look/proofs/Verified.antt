@@ -11,7 +11,7 @@ use Rattle.line_world.specs.Safe.{FirstStand}
 use Rattle.reading_core.specs.declared.phase.End.TheVariants.{Complete, GaveUp as HostGaveUp, NoWord as HostFoundNoWord}
 use Rattle.reading_core.specs.Addresses.{addresses_of}
 use Rattle.reading_core.specs.Reader.{Reader, begun, ended}
-use Rattle.reading_law.specs.Belief.{IsTrue}
+use Rattle.looking_law.specs.Belief.{IsTrueReading}
 use Rattle.console_reach.specs.Reached.{LineTold}
 use Rattle.reading_engine.specs.Inquired.{TellsEnd}
 use Rattle.reading_engine.specs.declared.stop.Stop.{Stop}
@@ -41,7 +41,7 @@ address_is words addresses i are low = ap (λ list. get_or list i 0) are ∙ get
 
 -- where memory holds what was read, and no number that was read differs from its word, every word stands
 stand_where_read : (words : List WordValue) (last : Reader) (before now : List ℕ) (keys : List ℕ) (lost : ℕ) → last.addresses ≡ addresses_of words → length last.values ≡ length words → length (differences words last.values) ≡ 0
-    → IsTrue before last now keys lost → FirstStand words (length words) now
+    → IsTrueReading before last now keys lost → FirstStand words (length words) now
 stand_where_read words last before now keys lost are all none heard = record {
   lies = λ i low. subst (λ a. is_word now a ≡ true) (address_is words last.addresses i are low) (heard.read.lies i (omega arith));
   stands = λ i low.

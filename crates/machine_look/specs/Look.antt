@@ -14,7 +14,7 @@ use Rattle.reading_core.specs.Bound.{reading_bound}
 use Rattle.reading_core.specs.Invariant.{IsReader}
 use Rattle.reading_core.specs.Reader.{Reader, ended}
 use Rattle.reading_core.specs.declared.phase.End.{End}
-use Rattle.reading_law.specs.Belief.{MayLook}
+use Rattle.looking_law.specs.Belief.{MayLook}
 use Rattle.reading_engine.specs.Belief.{IsBelievableAt}
 use Rattle.reading_engine.specs.Inquired.{Inquired, TellsEnd}
 use Rattle.reading_engine.specs.declared.stop.Stop.{Stop}

@@ -9,7 +9,7 @@ use Rattle.honest_line.specs.Honest.{IsHonest}
 use Rattle.machine_probe.specs.declared.search.Search.{Search}
 use Rattle.machine_probe.specs.declared.search.Search.TheVariants as search
 use Rattle.machine_probe.specs.MemoryEnd.{IsTrueEnd}
-use Rattle.reading_law.specs.Rows.{AreHonest}
+use Rattle.looking_law.specs.Rows.{AreHonest}
 use Rattle.probe_report.specs.declared.findings.Attempt.{Attempt}
 use Rattle.probe_report.specs.declared.findings.Extent.{Extent}
 use Rattle.probe_report.specs.declared.findings.Extent.TheVariants as extent
@@ -24,18 +24,18 @@ use Rattle.reading_core.specs.Addresses.{AreAddresses, IsAddress}
 use Rattle.reading_core.specs.Laws.{led}
 use Rattle.reading_core.specs.Reader.{Reader}
 use Rattle.reading_core.proofs.Lives.{led_addresses}
-use Rattle.reading_law.specs.Belief.{IsReadyMachine}
+use Rattle.looking_law.specs.Belief.{IsReadyMachine}
 use Rattle.reading_engine.specs.declared.stop.Stop.{Stop as LookStop}
 use Rattle.reading_engine.specs.declared.stop.Stop.TheVariants.{Ended, LineFailed, TurnsOver}
 use Rattle.reading_engine.specs.Inquired.{IsSaid}
 use Rattle.trial_engine.specs.declared.stop.Stop.{Stop as TrialStop}
 use Rattle.trial_engine.specs.declared.stop.Stop.TheVariants as stopped
 use Rattle.trial_engine.specs.Attempted.{IsSaid as IsSaidOfTrial}
-use Rattle.trial_law.specs.Again.{looker}
-use Rattle.trial_law.specs.Runs.{Look, Run, Try, dialogue_of}
-use Rattle.trial_law.specs.Trying.{IsToldOf}
-use Rattle.trial_law.proofs.Runs.{IsHarmless, run_harmless}
-use Rattle.trial_law.proofs.Told.{told_honest}
+use Rattle.looking_law.specs.Again.{looker}
+use Rattle.looking_law.specs.Runs.{Look, Run, Try, dialogue_of}
+use Rattle.looking_law.specs.Trying.{IsToldOf}
+use Rattle.looking_law.proofs.Runs.{IsHarmless, run_harmless}
+use Rattle.looking_law.proofs.Told.{told_honest}
 use Rattle.machine_probe.specs.declared.probe_options.ProbeOptions.{ProbeOptions}
 use Rattle.machine_probe.specs.Belief.{AreBelievable}
 use Rattle.machine_probe.specs.Came.{extent_of, first_of, sighting_of}

@@ -9,7 +9,7 @@ use Rattle.reading_core.specs.declared.phase.Phase.{Phase}
 use Rattle.reading_core.specs.declared.phase.Phase.TheVariants.{Settle, Sync, Address, Slash, Before, Value, Close, Ended as Over}
 use Rattle.reading_core.specs.Invariant.{Basis, EndFits, PhaseFits, IsReader, basis_of}
 use Rattle.reading_core.specs.Reader.{Reader, address_nr, ended}
-use Rattle.reading_law.specs.Law.{HasCause, EndIsPaid, HoldsRead}
+use Rattle.looking_law.specs.Harmless.{HasCause, EndIsPaid, HoldsRead}
 use Rattle.reading_engine.specs.declared.stop.Stop.{Stop}
 use Rattle.reading_engine.specs.declared.stop.Stop.TheVariants.{Ended, LineFailed, TurnsOver}
 use Rattle.reading_engine.specs.Inquired.{TellsEnd}

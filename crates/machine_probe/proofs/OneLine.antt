@@ -13,7 +13,7 @@ use Rattle.honest_line.specs.Honest.{IsHonest}
 use Rattle.machine_probe.specs.declared.pieces.Pieces.{Pieces}
 use Rattle.machine_probe.specs.declared.search.Search.{Search}
 use Rattle.machine_probe.specs.Passes.{ArePieces, IsPass, SearchGoesOn, Searches, found, last_words, three_passes}
-use Rattle.reading_law.specs.Rows.{AreHonest, in_a_row}
+use Rattle.looking_law.specs.Rows.{AreHonest, in_a_row}
 use Rattle.machine_probe.proofs.Founds.{IsOver, passed_within}
 use Rattle.machine_probe.proofs.LastWords.{last_asked}
 use Rattle.probe_report.specs.declared.findings.Attempt.{Attempt}
@@ -29,16 +29,16 @@ use Rattle.reading_core.specs.Invariant.{IsReader}
 use Rattle.reading_core.specs.Reader.{Reader, begun}
 use Rattle.reading_core.proofs.Lives.{led_addresses, led_kept}
 use Rattle.reading_core.proofs.Turns.{fresh_kept}
-use Rattle.reading_law.specs.Belief.{IsReadyMachine}
+use Rattle.looking_law.specs.Belief.{IsReadyMachine}
 use Rattle.reading_engine.specs.declared.stop.Stop.{Stop as LookStop}
 use Rattle.reading_engine.specs.declared.stop.Stop.TheVariants.{Ended, LineFailed, TurnsOver}
-use Rattle.trial_law.specs.Rows.{LeavesReady}
-use Rattle.trial_law.specs.Runs.{Look, Run, Try, dialogue_of}
-use Rattle.trial_law.specs.Splitting.{BeginsByListening, PartsAt}
-use Rattle.trial_law.specs.Trying.{IsToldOf}
-use Rattle.trial_law.proofs.Rows.{leave_ready}
-use Rattle.trial_law.proofs.Splits.{lines_split}
-use Rattle.trial_law.proofs.Told.{both_begin, told_begins}
+use Rattle.looking_law.specs.Parts.{LeavesReady}
+use Rattle.looking_law.specs.Runs.{Look, Run, Try, dialogue_of}
+use Rattle.looking_law.specs.Splitting.{BeginsByListening, PartsAt}
+use Rattle.looking_law.specs.Trying.{IsToldOf}
+use Rattle.looking_law.proofs.Parts.{leave_ready}
+use Rattle.looking_law.proofs.Splits.{lines_split}
+use Rattle.looking_law.proofs.Told.{both_begin, told_begins}
 use Rattle.machine_probe.specs.declared.probe_options.ProbeOptions.{ProbeOptions}
 use Rattle.machine_probe.specs.Belief.{AreBelievableOver}
 use Rattle.machine_probe.specs.Follow.{IsProbe, Made, forgets, goes_on, is_number, number_in, stores}

@@ -16,7 +16,7 @@ use Rattle.load_devices.specs.declared.item.Kept.{Kept}
 use Rattle.load_devices.specs.Dialogue.{dialogue}
 use Rattle.honest_line.specs.Trust.{IsTrusted, IsTrustworthy, MayBegin}
 use Rattle.honest_line.proofs.Trusted.{trustworthy}
-use Rattle.reading_law.specs.Belief.{IsReadyMachine}
+use Rattle.looking_law.specs.Belief.{IsReadyMachine}
 use Rattle.load_engine.specs.declared.stop.Stop.{Stop}
 use Rattle.load_engine.specs.declared.stop.Stop.TheVariants.{Ended, LineFailed, KeepFailed, TurnsOver}
 use Rattle.load_engine.specs.Session.{Session, TellsEnd}

@@ -12,9 +12,9 @@ use Rattle.reading_core.specs.declared.phase.End.TheVariants.{Complete, GaveUp, 
 use Rattle.reading_core.specs.Invariant.{IsReader}
 use Rattle.reading_core.specs.Reader.{Reader, begun}
 use Rattle.reading_core.proofs.Lives.{led_addresses, led_kept, led_patience}
-use Rattle.reading_law.specs.Belief.{IsReadyMachine, IsTrue, MayLook, dialogue}
-use Rattle.reading_law.specs.Law.{HoldsRead}
-use Rattle.reading_law.proofs.Believed.{leave_ready}
+use Rattle.looking_law.specs.Belief.{IsReadyMachine, IsTrueReading, MayLook, dialogue}
+use Rattle.looking_law.specs.Harmless.{HoldsRead}
+use Rattle.looking_law.proofs.Believed.{leave_ready}
 use Rattle.reading_engine.specs.declared.stop.Stop.{Stop}
 use Rattle.reading_engine.specs.declared.stop.Stop.TheVariants.{Ended, LineFailed, TurnsOver}
 use Rattle.reading_engine.specs.Belief.{IsBelievableAt}
@@ -25,7 +25,7 @@ use Rattle.machine_probe.specs.declared.search.Search.{Search}
 use Rattle.machine_probe.specs.declared.search.Search.TheVariants.{Ends, Stopped}
 use Rattle.machine_probe.specs.MemoryEnd.{IsTrueEnd, FindsEnd}
 use Rattle.machine_probe.specs.Passes.{ArePieces, IsPass, SearchGoesOn, Searches, found, last_words, three_passes}
-use Rattle.reading_law.specs.Rows.{AreHonest, in_a_row}
+use Rattle.looking_law.specs.Rows.{AreHonest, in_a_row}
 use Rattle.machine_probe.specs.Steps.{LiesWithin, Stepped, passed}
 use Rattle.machine_probe.proofs.Founds.{IsOver, all_read, lacking, paid_at, reached}
 
@@ -59,7 +59,7 @@ believed turns patience from pieces stop last said reads pass =
 
 -- a pass over an honest line that told an end
 true_at : (turns patience from : ℕ) (pieces : Pieces) (end : End) (last : Reader) (said : List Item) (machine now : Machine) (lost : ℕ) → IsReader (first patience from pieces) → IsPass turns patience from pieces (Ended end) last said →
-    IsReadyMachine machine → IsHonest machine said lost now → IsTrue machine.memory last now.memory (keys_of said) (lost + 0)
+    IsReadyMachine machine → IsHonest machine said lost now → IsTrueReading machine.memory last now.memory (keys_of said) (lost + 0)
 true_at turns patience from pieces end last said machine now lost reads pass ready honest =
     believed turns patience from pieces (Ended end) last said reads pass machine now lost (may_look (last_words from pieces.bytes pieces.count) patience machine ready) honest
 

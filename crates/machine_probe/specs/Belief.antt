@@ -4,11 +4,11 @@ use Rattle.tape_image.specs.Memory.{top_of}
 use Rattle.odt_machine.specs.Machine.{Machine, word_at}
 use Rattle.load_devices.specs.declared.item.Item.{Item}
 use Rattle.honest_line.specs.Honest.{IsHonest}
-use Rattle.reading_law.specs.Rows.{AreHonest, in_a_row}
+use Rattle.looking_law.specs.Rows.{AreHonest, in_a_row}
 use Rattle.probe_report.specs.declared.findings.Extent.TheVariants.{Top}
 use Rattle.probe_report.specs.declared.findings.Findings.{Findings}
 use Rattle.probe_report.specs.declared.findings.Sighting.TheVariants.{Number}
-use Rattle.reading_law.specs.Belief.{IsReadyMachine}
+use Rattle.looking_law.specs.Belief.{IsReadyMachine}
 
 -- memory is what it was; what a look read is what it holds, so that nothing is put back; and it ends where the search found its end
 pub record IsRight (f : Findings) (before now : List ℕ) : Type 0 where

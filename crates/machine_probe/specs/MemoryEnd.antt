@@ -10,8 +10,8 @@ use Rattle.reading_engine.specs.declared.stop.Stop.TheVariants.{Ended}
 use Rattle.machine_probe.specs.declared.search.Search.{Search}
 use Rattle.machine_probe.specs.declared.search.Search.TheVariants.{Ends, Stopped}
 use Rattle.machine_probe.specs.Passes.{Searches, three_passes}
-use Rattle.reading_law.specs.Belief.{IsReadyMachine}
-use Rattle.reading_law.specs.Rows.{AreHonest, in_a_row}
+use Rattle.looking_law.specs.Belief.{IsReadyMachine}
+use Rattle.looking_law.specs.Rows.{AreHonest, in_a_row}
 
 -- the stop that ended the search, if one did
 abbrev pub stop_of : Search → Option Stop

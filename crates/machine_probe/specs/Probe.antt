@@ -8,7 +8,7 @@ use Rattle.load_devices.specs.declared.line.Line.{Ghosts as Line}
 use Rattle.stream_line.specs.Dialling.{asked_once}
 use Rattle.console_reach.specs.Console.{ConsoleTold}
 use Rattle.console_reach.specs.Reached.{LineTold, line_told}
-use Rattle.reading_law.specs.Rows.{in_a_row}
+use Rattle.looking_law.specs.Rows.{in_a_row}
 use Rattle.probe_report.specs.declared.findings.Findings.{Findings}
 use Rattle.probe_report.specs.declared.pace.Pace.{Pace}
 use Rattle.probe_report.specs.declared.probe_end.ProbeEnd.{ProbeEnd}

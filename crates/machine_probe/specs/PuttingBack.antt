@@ -9,7 +9,7 @@ use Rattle.host_core.specs.Host.{IsHost}
 use Rattle.load_devices.specs.declared.item.Item.{Item}
 use Rattle.load_devices.specs.declared.item.Kept.{Kept}
 use Rattle.honest_line.specs.Honest.{IsHonest}
-use Rattle.reading_law.specs.Belief.{IsReadyMachine}
+use Rattle.looking_law.specs.Belief.{IsReadyMachine}
 use Rattle.load_engine.specs.declared.stop.Stop.{Stop}
 use Rattle.load_engine.specs.declared.stop.Stop.TheVariants.{Ended}
 use Rattle.load_engine.specs.Session.{Session, TellsEnd}

@@ -5,7 +5,7 @@ use Rattle.load_devices.specs.Told.{Gains}
 use Rattle.machine_probe.specs.declared.search.Search.{Search}
 use Rattle.machine_probe.specs.MemoryEnd.{IsFound}
 use Rattle.machine_probe.specs.Passes.{Searches, three_passes}
-use Rattle.reading_law.specs.Rows.{in_a_row}
+use Rattle.looking_law.specs.Rows.{in_a_row}
 use Rattle.probe_report.specs.declared.findings.Attempt.{Attempt}
 use Rattle.probe_report.specs.declared.findings.Extent.{Extent}
 use Rattle.probe_report.specs.declared.findings.Sighting.{Sighting}
@@ -16,7 +16,7 @@ use Rattle.trial_core.specs.declared.trial.Trial.{Trial}
 use Rattle.trial_core.specs.Trial.{begun_trial}
 use Rattle.trial_engine.specs.declared.stop.Stop.{Stop as TrialStop}
 use Rattle.trial_engine.specs.Attempted.{Attempted, TellsEnd as TellsEndOfTrial}
-use Rattle.trial_law.specs.Again.{looker}
+use Rattle.looking_law.specs.Again.{looker}
 use Rattle.machine_probe.specs.declared.probe_options.ProbeOptions.{ProbeOptions}
 use Rattle.machine_probe.specs.Came.{attempt_of, extent_of, first_of, sighting_of}
 use Rattle.machine_probe.specs.Turns.{turns_of}

@@ -6,7 +6,7 @@
 //! send. No phase of it can type a digit into an open word, and none types `G`.
 //!
 //! The contract of `step` is the table of the phases. A life sends at most the reading bound,
-//! whatever it hears, and `restart` keeps what was read. `reading_law` shows what this means for a
+//! whatever it hears, and `restart` keeps what was read. `looking_law` shows what this means for a
 //! machine, `reading_engine` lends the core to a line.
 #![tactic(auto)]
 

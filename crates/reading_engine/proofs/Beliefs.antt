@@ -13,9 +13,9 @@ use Rattle.reading_core.specs.Invariant.{IsReader}
 use Rattle.reading_core.specs.Laws.{led}
 use Rattle.reading_core.specs.Reader.{Reader}
 use Rattle.reading_core.specs.ReadingTable.{ask}
-use Rattle.reading_law.specs.Belief.{dialogue, IsBelievable}
-use Rattle.reading_law.specs.Law.{EndIsPaid, HasCause}
-use Rattle.reading_law.proofs.Believed.{honest_are_true, unsaid_are_true}
+use Rattle.looking_law.specs.Belief.{dialogue, IsBelievable}
+use Rattle.looking_law.specs.Harmless.{EndIsPaid, HasCause}
+use Rattle.looking_law.proofs.Believed.{honest_are_true, unsaid_are_true}
 use Rattle.reading_engine.specs.declared.stop.Stop.{Stop}
 use Rattle.reading_engine.specs.declared.stop.Stop.TheVariants.{Ended, LineFailed, TurnsOver}
 use Rattle.reading_engine.specs.Belief.{IsBelievableAt, IsBelievableOver}

@@ -4,7 +4,7 @@ use Rattle.load_devices.specs.declared.item.Item.{Item}
 use Rattle.load_devices.specs.Dialogue.{heard_of}
 use Rattle.load_engine.specs.Session.{HasGained}
 use Rattle.reading_core.specs.Reader.{Reader}
-use Rattle.reading_law.specs.Belief.{dialogue, IsBelievable}
+use Rattle.looking_law.specs.Belief.{dialogue, IsBelievable}
 use Rattle.reading_engine.specs.declared.stop.Stop.{Stop}
 use Rattle.reading_engine.specs.declared.stop.Stop.TheVariants.{Ended, LineFailed, TurnsOver}
 

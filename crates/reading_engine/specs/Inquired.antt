@@ -8,7 +8,7 @@ use Rattle.load_devices.specs.Dialogue.{LacksKey}
 use Rattle.reading_core.specs.Laws.{led}
 use Rattle.reading_core.specs.Reader.{Reader, ended}
 use Rattle.reading_core.specs.ReadingTable.{ask}
-use Rattle.reading_law.specs.Belief.{dialogue}
+use Rattle.looking_law.specs.Belief.{dialogue}
 use Rattle.reading_engine.specs.declared.stop.Stop.{Stop}
 use Rattle.reading_engine.specs.declared.stop.Stop.TheVariants.{Ended, LineFailed, TurnsOver}
 

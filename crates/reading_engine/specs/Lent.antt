@@ -6,7 +6,7 @@ use Rattle.load_devices.specs.Dialogue.{keys_of}
 use Rattle.honest_line.specs.LineTable.{LineValue}
 use Rattle.honest_line.specs.Lent.{Passed}
 use Rattle.reading_core.specs.Reader.{Reader}
-use Rattle.reading_law.specs.Belief.{MayLook, IsTrue}
+use Rattle.looking_law.specs.Belief.{MayLook, IsTrueReading}
 use Rattle.reading_engine.specs.declared.stop.Stop.{Stop}
 use Rattle.reading_engine.specs.declared.stop.Stop.TheVariants.{LineFailed}
 
@@ -20,4 +20,4 @@ unpaid stop = 0
 abbrev pub ReadsTrue : Stop → Reader → Reader → LineValue → LineValue → Type 0
 ReadsTrue stop old new line line' =
     (said : List Item) (lost : ℕ) → Passed line line' said lost → MayLook old line.machine → length line.waiting ≤ most_waiting →
-    IsTrue line.machine.memory new line'.machine.memory (keys_of said) (lost + unpaid stop)
+    IsTrueReading line.machine.memory new line'.machine.memory (keys_of said) (lost + unpaid stop)

@@ -114,7 +114,7 @@ MirroredOn program x lost y = (lost' : ℕ) × MovesOn' (wire_at x lost) (wire_a
 sums : (a b c k l n : ℕ) → l + a ≡ k + b → n + b ≡ l + c → n + a ≡ k + c
 sums a b c k l n first second = omega (arith, first, second)
 
-times_mirrored : (program : Program) (core : Core) (n : ℕ) (x y : Link) (lost : ℕ) → IsKept (over core (wire_at x lost)) → IsJustAMachine program x → MovesTimes program n x y → MirroredOn program x lost y
+pub times_mirrored : (program : Program) (core : Core) (n : ℕ) (x y : Link) (lost : ℕ) → IsKept (over core (wire_at x lost)) → IsJustAMachine program x → MovesTimes program n x y → MirroredOn program x lost y
 times_mirrored program core zero x y lost k just same = subst (MirroredOn program x lost) (sym same) (lost, none_moves (wire_at x lost), just, refl)
 times_mirrored program core (suc n) x y lost k just (z, move, rest) =
     let one = move_mirrored program core x z lost k just move in
@@ -123,11 +123,11 @@ times_mirrored program core (suc n) x y lost k just (z, move, rest) =
 
 -- ---- a thing heard, and the key behind it
 
-gives_mirrored : (what : Heard) (x v : Link) (lost : ℕ) → Gives x what v → Gives' (wire_at x lost) what (wire_at v lost)
+pub gives_mirrored : (what : Heard) (x v : Link) (lost : ℕ) → Gives x what v → Gives' (wire_at x lost) what (wire_at v lost)
 gives_mirrored (Got c) x v lost (rest, is, now) = (rest, is, ap (λ z. wire_at z lost) now)
 gives_mirrored Silence x v lost (none, empty, now) = (none, empty, ap (λ z. wire_at z lost) now)
 
-gives_just : (program : Program) (what : Heard) (x v : Link) → Gives x what v → IsJustAMachine program x → IsJustAMachine program v
+pub gives_just : (program : Program) (what : Heard) (x v : Link) → Gives x what v → IsJustAMachine program x → IsJustAMachine program v
 gives_just program (Got c) x v (rest, is, now) just = subst (IsJustAMachine program) (sym now) (record { stub = just.stub; quiet = just.quiet })
 gives_just program Silence x v (none, empty, now) just = subst (IsJustAMachine program) (sym now) just
 

@@ -56,14 +56,14 @@ use Rattle.recovery_law.proofs.Unsettled.{IsOver, Settling, lost_grows, over_mov
 -- ---- where such a host may stand
 
 -- the stub runs, and `Z` is under way to it or was lost; so many mishaps are paid
-record Sounding (mishaps : ℕ) (x : Link) : Type 0 where
+pub record Sounding (mishaps : ℕ) (x : Link) : Type 0 where
   pub stub : Stub
   pub runs : x.station.stub ≡ Some stub
   pub silent : x.up ≡ []
   pub down : ((x.down ≡ []) × (mishaps + 1 ≤ x.lost)) ⊎ ((x.down ≡ 90 ∷ []) × (mishaps ≤ x.lost))
 
 -- the stub has halted, and what ODT printed then is under way
-record Stopped (mishaps : ℕ) (x : Link) : Type 0 where
+pub record Stopped (mishaps : ℕ) (x : Link) : Type 0 where
   pub none : x.station.stub ≡ None
   pub prompt : x.station.machine.mode ≡ Prompt
   pub none_down : x.down ≡ []
@@ -71,11 +71,11 @@ record Stopped (mishaps : ℕ) (x : Link) : Type 0 where
   pub paid : mishaps ≤ x.lost
 
 -- mishaps are paid by losses; where no stub runs any more, but for one
-abbrev Owes : ℕ → Link → Type 0
+abbrev pub Owes : ℕ → Link → Type 0
 Owes mishaps x = (mishaps ≤ x.lost) ⊎ (IsOver x × (mishaps ≤ x.lost + 1))
 
 -- `paid` were lost before the host began
-abbrev Waits : Phase → (patience paid spent used : ℕ) → Link → Type 0
+abbrev pub Waits : Phase → (patience paid spent used : ℕ) → Link → Type 0
 Waits Settle patience paid spent used x = (spent ≤ used) × Owes (spent + paid) x
 Waits (Sync place) patience paid spent used x = (place ≡ 0) × (spent + 1 ≤ used) × (Sounding (spent + paid) x ⊎ Stopped (spent + paid) x)
 Waits (Ended GaveUp) patience paid spent used x = (spent + paid ≤ x.lost + 1) × (patience + paid < x.lost + 1)
@@ -83,11 +83,11 @@ Waits (Ended Loaded) patience paid spent used x = spent + paid ≤ x.lost + 1
 Waits phase patience paid spent used x = ⊥
 
 -- what is known of plan and memory all the while
-record Region (R : ℕ → Type 0) (before : List ℕ) (plan : PlanValue) (verified : ℕ) : Type 0 where
+pub record Region (R : ℕ → Type 0) (before : List ℕ) (plan : PlanValue) (verified : ℕ) : Type 0 where
   pub others : (i : ℕ) → i < verified → (b : ℕ) → gives (word_nr plan.words i) b ≡ true → R b → ⊥
   pub first : FirstStand plan.words verified before
 
-record Waiting (program : Program) (R : ℕ → Type 0) (before : List ℕ) (paid : ℕ) (core : Core) (x : Link) : Type 0 where
+pub record Waiting (program : Program) (R : ℕ → Type 0) (before : List ℕ) (paid : ℕ) (core : Core) (x : Link) : Type 0 where
   pub host : IsHost core
   pub unmarked : core.going ≡ false
   pub region : Region R before core.plan core.verified
@@ -95,7 +95,7 @@ record Waiting (program : Program) (R : ℕ → Type 0) (before : List ℕ) (pai
   pub stands : Waits core.phase core.patience paid core.spent core.sent x
 
 -- a machine answers
-record Settled (program : Program) (R : ℕ → Type 0) (before : List ℕ) (paid : ℕ) (core : Core) (x : Link) : Type 0 where
+pub record Settled (program : Program) (R : ℕ → Type 0) (before : List ℕ) (paid : ℕ) (core : Core) (x : Link) : Type 0 where
   pub sync : core.phase ≡ Sync 0
   pub unmarked : core.going ≡ false
   pub still : RunsWith false x.station.machine.mode
@@ -189,7 +189,7 @@ waiting_move program R before paid core x y w move = record {
   stands = phase_move program R core.phase core.patience paid core.spent core.sent x y w.settling.line.stub move w.stands;
 }
 
-waiting_times : (program : Program) (R : ℕ → Type 0) (before : List ℕ) (paid : ℕ) (core : Core) (n : ℕ) (x y : Link) → Waiting program R before paid core x → MovesTimes program n x y → Waiting program R before paid core y
+pub waiting_times : (program : Program) (R : ℕ → Type 0) (before : List ℕ) (paid : ℕ) (core : Core) (n : ℕ) (x y : Link) → Waiting program R before paid core x → MovesTimes program n x y → Waiting program R before paid core y
 waiting_times program R before paid core zero x y w same = subst (Waiting program R before paid core) (sym same) w
 waiting_times program R before paid core (suc n) x y w (z, move, rest) = waiting_times program R before paid core n z y (waiting_move program R before paid core x z w move) rest
 
@@ -246,7 +246,7 @@ settles program R before paid core x host unmarked region s few owed none stoppe
 -- ---- a thing heard
 
 -- behind it the host still waits, or a machine answers
-abbrev Next' : Program → (ℕ → Type 0) → List ℕ → ℕ → Move → Link → Type 0
+abbrev pub Next' : Program → (ℕ → Type 0) → List ℕ → ℕ → Move → Link → Type 0
 Next' program R before paid m v = Waiting program R before paid m.next (sent v (option_to_list m.key)) ⊎ Settled program R before paid m.next (sent v (option_to_list m.key))
 
 -- the host goes on listening
@@ -420,7 +420,7 @@ quiet program R before paid core (Return why place) x w none silent = absurd w.s
 quiet program R before paid core (Start place) x w none silent = absurd w.stands
 quiet program R before paid core Go x w none silent = absurd w.stands
 
-heard_waiting : (program : Program) (R : ℕ → Type 0) (before : List ℕ) (paid : ℕ) (core : Core) (what : Heard) (x v : Link) → Waiting program R before paid core x → Gives x what v → Next' program R before paid (move core what) v
+pub heard_waiting : (program : Program) (R : ℕ → Type 0) (before : List ℕ) (paid : ℕ) (core : Core) (what : Heard) (x v : Link) → Waiting program R before paid core x → Gives x what v → Next' program R before paid (move core what) v
 heard_waiting program R before paid core (Got c) x v w (rest, first, now) = subst (Next' program R before paid (move core (Got c))) (sym now) (got program R before paid core core.phase x w c rest first)
 heard_waiting program R before paid core Silence x v w (none, silent, now) = subst (Next' program R before paid (move core Silence)) (sym now) (quiet program R before paid core core.phase x w none silent)
 
@@ -666,7 +666,7 @@ begins_waiting plan k patience x = by (k == length plan.words && is_none plan.st
     by true = omega arith
     by false = (omega arith, inl (omega arith))
 
-waiting_at_first : (program : Program) (R : ℕ → Type 0) (plan : PlanValue) (k patience : ℕ) (x : Link) → IsHost (begun plan k false patience) → Region R x.station.machine.memory plan k → IsUnsettled program R x →
+pub waiting_at_first : (program : Program) (R : ℕ → Type 0) (plan : PlanValue) (k patience : ℕ) (x : Link) → IsHost (begun plan k false patience) → Region R x.station.machine.memory plan k → IsUnsettled program R x →
     Waiting program R x.station.machine.memory x.lost (begun plan k false patience) x
 waiting_at_first program R plan k patience x host region line = record {
   host = host;

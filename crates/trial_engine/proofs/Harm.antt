@@ -5,9 +5,9 @@ use Rattle.load_devices.specs.declared.item.Item.{Item}
 use Rattle.load_engine.proofs.Sessions.{gained_is}
 use Rattle.trial_core.specs.declared.trial.Trial.{Trial}
 use Rattle.trial_core.specs.Trial.{IsTrial}
-use Rattle.trial_law.specs.Trying.{IsToldOf, trial_dialogue}
-use Rattle.trial_law.proofs.Keys.{store_nothing}
-use Rattle.trial_law.proofs.Trials.{only_try}
+use Rattle.looking_law.specs.Trying.{IsToldOf, trial_dialogue}
+use Rattle.looking_law.proofs.Keys.{store_nothing}
+use Rattle.looking_law.proofs.Trials.{only_try}
 use Rattle.trial_engine.specs.declared.stop.Stop.{Stop}
 use Rattle.trial_engine.specs.declared.stop.Stop.TheVariants.{Ended, LineFailed, TurnsOver}
 use Rattle.trial_engine.specs.Attempted.{Attempted, IsSaid}

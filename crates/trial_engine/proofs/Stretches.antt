@@ -12,7 +12,7 @@ use Rattle.trial_core.specs.declared.trial.Trial.{Trial}
 use Rattle.trial_core.specs.Laws.{led}
 use Rattle.trial_core.specs.Trial.{ended}
 use Rattle.trial_core.specs.TrialTable.{ask}
-use Rattle.trial_law.specs.Trying.{trial_dialogue}
+use Rattle.looking_law.specs.Trying.{trial_dialogue}
 use Rattle.trial_engine.specs.declared.stop.Stop.{Stop}
 use Rattle.trial_engine.specs.declared.stop.Stop.TheVariants.{Ended, LineFailed, TurnsOver}
 use Rattle.trial_engine.specs.Attempted.{GoesOn, IsSaid, Attempted, failure_of}

@@ -4,9 +4,9 @@ use Rattle.odt_machine.specs.Machine.{Machine}
 use Rattle.load_devices.specs.declared.item.Item.{Item}
 use Rattle.load_devices.specs.Dialogue.{heard_of}
 use Rattle.load_engine.specs.Session.{HasGained}
-use Rattle.trial_law.specs.Honest.{IsHonest}
+use Rattle.looking_law.specs.Honest.{IsHonest}
 use Rattle.trial_core.specs.declared.trial.Trial.{Trial}
-use Rattle.trial_law.specs.Trying.{IsLeftAlone, trial_dialogue}
+use Rattle.looking_law.specs.Trying.{IsLeftAlone, trial_dialogue}
 
 -- wherever this list is honest, whatever was lost, memory is what it was and nothing was started
 abbrev pub IsHarmless : List Item → Type 0

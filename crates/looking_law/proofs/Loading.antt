@@ -1,0 +1,214 @@
+-- Step by step a reading host does what a loading host does whose plan says what memory holds already.
+use Rattle.std.proofs.Common.{◌≡◌, ℕ, zero, suc, ◌+◌, ◌≤◌, Bool, true, false, ◌==◌, nat_lt, ◌||◌, ◌&&◌, if◌then◌else◌, List, [], ◌∷◌, length, take, get_or, refl, ap, sym, ◌∙◌, length-take}
+use Rattle.std.proofs.lemmas.Bool.{eq-eqb}
+use Rattle.std.proofs.lemmas.List.{length_push}
+use borrow.Author.Tests.{ltb-true, ltb-false, eqb-true}
+use Rattle.octal.specs.Octal.{digit_of, is_digit}
+use Rattle.tape_image.specs.Word.{WordValue, merged}
+use Rattle.host_core.specs.declared.heard.Heard.{Heard}
+use Rattle.host_core.specs.declared.heard.Heard.TheVariants.{Got, Quiet}
+use Rattle.host_core.specs.declared.phase.Phase.{Phase as LoadPhase}
+use Rattle.host_core.specs.declared.phase.Phase.TheVariants.{Settle as LoadSettle, Sync as LoadSync, Address as LoadAddress, Slash as LoadSlash, Before as LoadBefore, Value as LoadValue, Return, Ended as LoadEnded}
+use Rattle.host_core.specs.declared.phase.Visit.TheVariants.{Look}
+use Rattle.host_core.specs.declared.phase.Reason.TheVariants.{Close as Closes}
+use Rattle.host_core.specs.declared.phase.End.{End as LoadEnd}
+use Rattle.host_core.specs.declared.phase.End.TheVariants.{Loaded, GaveUp as LoadGaveUp, NoWord as LoadNoWord}
+use Rattle.host_core.specs.declared.turn.Turn.{Turn as LoadTurn}
+use Rattle.host_core.specs.declared.turn.Turn.TheVariants.{Listen as LoadListen, Key as LoadKey, Verified, Next as LoadNext, Stop as LoadStop, Stray as LoadStray, Timeout as LoadTimeout}
+use Rattle.host_core.specs.Core.{Core, word_nr, word_under_way, begun as load_begun, restarted as load_restarted}
+use Rattle.host_core.specs.PhaseTable.{Move, move, sends as load_sends, listens as load_listens, taken as load_taken, turn_of as load_turn_of, hears as load_hears, waits as load_waits, read as load_read, differs, next_word as load_next_word, sync_hears as load_sync_hears, address_hears as load_address_hears, first_digit_hears as load_first_digit_hears, before_hears as load_before_hears, value_hears as load_value_hears, return_hears as load_return_hears}
+use Rattle.reading_core.specs.declared.phase.Phase.{Phase}
+use Rattle.reading_core.specs.declared.phase.Phase.TheVariants.{Settle, Sync, Address, Slash, Before, Value, Close, Ended}
+use Rattle.reading_core.specs.declared.phase.End.{End}
+use Rattle.reading_core.specs.declared.phase.End.TheVariants.{Complete, GaveUp, NoWord}
+use Rattle.reading_core.specs.declared.turn.Turn.{Turn}
+use Rattle.reading_core.specs.declared.turn.Turn.TheVariants.{Listen, Key, Read, Next, Stop, Stray, Timeout}
+use Rattle.reading_core.specs.Reader.{Reader, address_under_way, begun, restarted}
+use Rattle.reading_core.specs.ReadingTable.{Asked, ask, taken, turn_of, hears, waits, next_word, sends, listens, sync_hears, address_hears, first_digit_hears, before_hears, value_hears, close_hears}
+use Rattle.looking_law.proofs.Saying.{plan_for, words_for, nr_for, length_for}
+
+-- ---- the same of the loading host
+
+abbrev end_for : End → LoadEnd
+end_for Complete = Loaded
+end_for GaveUp = LoadGaveUp
+end_for (NoWord a) = LoadNoWord a
+
+abbrev pub phase_for : Phase → LoadPhase
+phase_for Settle = LoadSettle
+phase_for (Sync place) = LoadSync place
+phase_for (Address place) = LoadAddress Look place
+phase_for Slash = LoadSlash Look
+phase_for Before = LoadBefore Look
+phase_for (Value value place) = LoadValue Look value place
+phase_for (Close place) = Return Closes place
+phase_for (Ended end) = LoadEnded (end_for end)
+
+abbrev turn_for : Turn → LoadTurn
+turn_for (Listen phase) = LoadListen (phase_for phase)
+turn_for (Key key phase) = LoadKey key (phase_for phase)
+turn_for (Read value) = Verified
+turn_for Next = LoadNext
+turn_for (Stop end) = LoadStop (end_for end)
+turn_for Stray = LoadStray
+turn_for Timeout = LoadTimeout
+
+-- the loading host over the plan of what this memory holds at the reader's addresses
+abbrev pub core_for : List ℕ → Reader → Core
+core_for memory r = record {
+  plan = plan_for memory r.addresses;
+  verified = length r.values;
+  going = false;
+  patience = r.patience;
+  spent = r.spent;
+  sent = r.sent;
+  phase = phase_for r.phase;
+}
+
+abbrev move_for : List ℕ → Asked → Move
+move_for memory a = record { next = core_for memory a.next; key = a.key }
+
+-- ---- a turn
+
+same_if : (memory : List ℕ) (test other : Bool) (a b : Move) (x y : Asked) → test ≡ other → (other ≡ true → a ≡ move_for memory x) → b ≡ move_for memory y → (if test then a else b) ≡ move_for memory (if other then x else y)
+same_if memory test true a b x y same holds fails = ap (λ v. if v then a else b) same ∙ holds refl
+same_if memory test false a b x y same holds fails = ap (λ v. if v then a else b) same ∙ fails
+
+next_for : (memory : List ℕ) (r : Reader) → load_next_word (core_for memory r) ≡ move_for memory (next_word r)
+next_for memory r =
+    same_if memory (nat_lt (length r.values) (length (words_for memory r.addresses))) (nat_lt (length r.values) (length r.addresses))
+    (load_sends (core_for memory r) (digit_of (word_under_way (core_for memory r)).address 1) (LoadAddress Look 1)) (load_listens (core_for memory r) (LoadEnded Loaded))
+    (sends r (digit_of (address_under_way r) 1) (Address 1)) (listens r (Ended Complete)) (ap (nat_lt (length r.values)) (length_for memory r.addresses))
+    (λ more. ap (λ (w : WordValue). load_sends (core_for memory r) (digit_of w.address 1) (LoadAddress Look 1)) (nr_for memory r.addresses (length r.values) (ltb-true _ _ more))) refl
+
+-- a count of numbers, one more
+counted : Core → ℕ → Move
+counted core n = load_sends (record core { verified = n }) 13 (Return Closes 0)
+
+taken_for : (memory : List ℕ) (r : Reader) (turn : Turn) → load_taken (core_for memory r) (turn_for turn) ≡ move_for memory (taken r turn)
+unfolding counted
+taken_for memory r (Listen phase) = refl
+taken_for memory r (Key key phase) = refl
+taken_for memory r (Read value) = ap (counted (core_for memory r)) (sym (length_push r.values value))
+taken_for memory r Next = next_for memory r
+taken_for memory r (Stop end) = refl
+taken_for memory r Stray =
+    same_if memory (nat_lt r.spent r.patience) (nat_lt r.spent r.patience) (load_taken (record (core_for memory r) { spent = r.spent + 1 }) (LoadListen LoadSettle)) (load_listens (core_for memory r) (LoadEnded LoadGaveUp))
+    (listens (record r { spent = r.spent + 1 }) Settle) (listens r (Ended GaveUp)) refl (λ _. refl) refl
+taken_for memory r Timeout =
+    same_if memory (nat_lt r.spent r.patience) (nat_lt r.spent r.patience) (load_sends (record (core_for memory r) { spent = r.spent + 1 }) 90 (LoadSync 0)) (load_listens (core_for memory r) (LoadEnded LoadGaveUp))
+    (sends (record r { spent = r.spent + 1 }) 90 (Sync 0)) (listens r (Ended GaveUp)) refl (λ _. refl) refl
+
+-- ---- a row
+
+row : (test : Bool) (a b : LoadTurn) (x y : Turn) → (test ≡ true → a ≡ turn_for x) → (test ≡ false → b ≡ turn_for y) → (if test then a else b) ≡ turn_for (if test then x else y)
+row true a b x y holds fails = holds refl
+row false a b x y holds fails = fails refl
+
+sync_for : (place c : ℕ) → load_sync_hears place c ≡ turn_for (sync_hears place c)
+sync_for place c =
+    row (place == 0) _ _ _ _ (λ _. row (c == 90) _ _ _ _ (λ _. refl) (λ _. row (c == 63) _ _ _ _ (λ _. refl) (λ _. refl)))
+    (λ _. row (place == 1) _ _ _ _ (λ _. row (c == 63) _ _ _ _ (λ _. refl) (λ _. refl))
+    (λ _. row (place == 2) _ _ _ _ (λ _. row (c == 13) _ _ _ _ (λ _. refl) (λ _. refl))
+    (λ _. row (place == 3) _ _ _ _ (λ _. row (c == 13) _ _ _ _ (λ _. refl) (λ _. row (c == 10) _ _ _ _ (λ _. refl) (λ _. refl)))
+    (λ _. row (place == 4) _ _ _ _ (λ _. row (c == 10) _ _ _ _ (λ _. refl) (λ _. refl))
+    (λ _. row (c == 64) _ _ _ _ (λ _. refl) (λ _. refl))))))
+
+address_for : (address place c : ℕ) → load_address_hears address Look place c ≡ turn_for (address_hears address place c)
+address_for address place c = row (c == digit_of address place) _ _ _ _ (λ _. row (nat_lt place 6) _ _ _ _ (λ _. refl) (λ _. refl)) (λ _. refl)
+
+first_digit_for : (c : ℕ) → load_first_digit_hears Look c ≡ turn_for (first_digit_hears c)
+first_digit_for c = row (c == 48 || c == 49) _ _ _ _ (λ _. refl) (λ _. refl)
+
+before_for : (address c : ℕ) → load_before_hears address Look c ≡ turn_for (before_hears address c)
+before_for address c = row (c == 32) _ _ _ _ (λ _. refl) (λ _. row (c == 63) _ _ _ _ (λ _. refl) (λ _. first_digit_for c))
+
+read_for : (word : WordValue) (value : ℕ) → merged word value ≡ value → load_read word Look value ≡ Verified
+read_for word value same = ap (λ test. if test then Verified else differs word Look value) (eq-eqb (merged word value) value same)
+
+value_for : (word : WordValue) (value place c : ℕ) → (6 ≤ place → c ≡ 32 → merged word value ≡ value) → load_value_hears word Look value place c ≡ turn_for (value_hears value place c)
+value_for word value place c same =
+    row (place == 0) _ _ _ _ (λ _. first_digit_for c)
+    (λ _. row (nat_lt place 6) _ _ _ _ (λ _. row (is_digit c) _ _ _ _ (λ _. refl) (λ _. refl))
+    (λ all. row (c == 32) _ _ _ _ (λ blank. read_for word value (same (ltb-false _ _ all) (eqb-true _ _ blank))) (λ _. refl)))
+
+close_for : (place c : ℕ) → load_return_hears Closes place c ≡ turn_for (close_hears place c)
+close_for place c =
+    row (place == 0) _ _ _ _ (λ _. row (c == 13) _ _ _ _ (λ _. refl) (λ _. refl))
+    (λ _. row (place == 1) _ _ _ _ (λ _. row (c == 13) _ _ _ _ (λ _. refl) (λ _. row (c == 10) _ _ _ _ (λ _. refl) (λ _. refl)))
+    (λ _. row (place == 2) _ _ _ _ (λ _. row (c == 10) _ _ _ _ (λ _. refl) (λ _. refl))
+    (λ _. row (c == 64) _ _ _ _ (λ _. refl) (λ _. refl))))
+
+-- a number that is about to be read is what the word holds
+abbrev pub ReadsWord : Phase → ℕ → WordValue → Type 0
+ReadsWord (Value value place) c word = 6 ≤ place → c ≡ 32 → merged word value ≡ value
+ReadsWord phase c word = Unit {0}
+
+hears_for : (word : WordValue) (start : ℕ) (phase : Phase) (c : ℕ) → ReadsWord phase c word → load_hears word start (phase_for phase) c ≡ turn_for (hears word.address phase c)
+hears_for word start Settle c right = refl
+hears_for word start (Sync place) c right = sync_for place c
+hears_for word start (Address place) c right = address_for word.address place c
+hears_for word start Slash c right = row (c == 47) _ _ _ _ (λ _. refl) (λ _. refl)
+hears_for word start Before c right = before_for word.address c
+hears_for word start (Value value place) c right = value_for word value place c right
+hears_for word start (Close place) c right = close_for place c
+hears_for word start (Ended end) c right = refl
+
+waits_for : (phase : Phase) → load_waits (phase_for phase) ≡ turn_for (waits phase)
+waits_for Settle = refl
+waits_for (Sync place) = refl
+waits_for (Address place) = refl
+waits_for Slash = refl
+waits_for Before = refl
+waits_for (Value value place) = refl
+waits_for (Close place) = refl
+waits_for (Ended end) = refl
+
+-- ---- a step
+
+-- past the last address there is none in either
+under_way_for : (memory addresses : List ℕ) (k : ℕ) → (word_nr (words_for memory addresses) k).address ≡ get_or addresses k 0
+under_way_for memory [] k = refl
+under_way_for memory (a ∷ addresses) zero = refl
+under_way_for memory (a ∷ addresses) (suc k) = under_way_for memory addresses k
+
+-- what is heard is right: a number that it completes is what memory holds there
+abbrev pub HearsRight : List ℕ → Reader → Heard → Type 0
+HearsRight memory r (Got c) = ReadsWord r.phase c (word_nr (words_for memory r.addresses) (length r.values))
+HearsRight memory r Quiet = Unit {0}
+
+turn_is : (memory : List ℕ) (r : Reader) (heard : Heard) → HearsRight memory r heard → load_turn_of (core_for memory r) heard ≡ turn_for (turn_of r heard)
+turn_is memory r (Got c) right =
+    hears_for (word_nr (words_for memory r.addresses) (length r.values)) 0 r.phase c right
+    ∙ ap (λ address. turn_for (hears address r.phase c)) (under_way_for memory r.addresses (length r.values))
+turn_is memory r Quiet right = waits_for r.phase
+
+pub move_is : (memory : List ℕ) (r : Reader) (heard : Heard) → HearsRight memory r heard → move (core_for memory r) heard ≡ move_for memory (ask r heard)
+move_is memory r heard right = ap (load_taken (core_for memory r)) (turn_is memory r heard right) ∙ taken_for memory r (turn_of r heard)
+
+-- ---- the beginning of a life
+
+and_true : (b : Bool) → (b && true) ≡ b
+and_true true = refl
+and_true false = refl
+
+done_for : (test : Bool) → (if test then LoadEnded Loaded else LoadSettle) ≡ phase_for (if test then Ended Complete else Settle)
+done_for true = refl
+done_for false = refl
+
+begun_phase : (memory addresses : List ℕ) (n : ℕ) → (if n == length (words_for memory addresses) && true then LoadEnded Loaded else LoadSettle) ≡ phase_for (if n == length addresses then Ended Complete else Settle)
+begun_phase memory addresses n =
+    ap (λ test. if test then LoadEnded Loaded else LoadSettle) (and_true (n == length (words_for memory addresses)) ∙ ap (λ all. n == all) (length_for memory addresses))
+    ∙ done_for (n == length addresses)
+
+at_phase : Core → LoadPhase → Core
+at_phase core phase = record core { phase = phase }
+
+pub begun_for : (memory addresses values : List ℕ) (patience : ℕ) → load_begun (plan_for memory addresses) (length values) false patience ≡ core_for memory (begun addresses values patience)
+unfolding at_phase
+begun_for memory addresses values patience =
+    ap (at_phase (load_begun (plan_for memory addresses) (length values) false patience)) (begun_phase memory addresses (length values))
+
+pub restarted_for : (memory : List ℕ) (r : Reader) (kept : ℕ) → load_restarted (core_for memory r) kept ≡ core_for memory (restarted r kept)
+restarted_for memory r kept =
+    ap (λ n. load_begun (plan_for memory r.addresses) n false r.patience) (sym (length-take kept r.values)) ∙ begun_for memory r.addresses (take kept r.values) r.patience

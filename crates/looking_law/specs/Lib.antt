@@ -1,0 +1,11 @@
+pub mod Again
+pub mod Belief
+pub mod Harmless
+pub mod Inquiry
+pub mod Parts
+pub mod RecordLook
+pub mod Rows
+pub mod Runs
+pub mod Splitting
+pub mod Trying
+pub use Rattle.honest_line.specs.Honest

@@ -1,0 +1,22 @@
+-- A look at words that a record has.
+use Rattle.std.specs.Prelude.{◌≡◌, ℕ, ◌^◌, ◌<◌, false, All, List, []}
+use Rattle.tape_image.specs.Plan.{PlanValue}
+use Rattle.host_core.specs.declared.heard.Heard.{Heard}
+use Rattle.host_core.specs.declared.progress.Progress.{Progress}
+use Rattle.host_core.specs.Core.{word_nr}
+use Rattle.load_devices.specs.declared.item.Item.{Item}
+use Rattle.reading_core.specs.Addresses.{AreAddresses}
+use Rattle.reading_core.specs.Reader.{begun}
+use Rattle.looking_law.specs.Belief.{dialogue}
+use Rattle.looking_law.specs.Trying.{IsToldOf}
+
+-- what was said by a host that looked at some of the words that a record says to be verified, without a mark: all of it, or all but its last key
+pub record HasLooked (plan : PlanValue) (recorded : Progress) (looks : List Item) : Type 0 where
+  pub unmarked : recorded.going ≡ false
+  pub addresses : List ℕ
+  pub asked : AreAddresses addresses
+  pub of_record : All (λ a. (i : ℕ) × (i < recorded.verified) × (a ≡ (word_nr plan.words i).address)) addresses
+  pub patience : ℕ
+  pub patient : patience < 2 ^ 32
+  pub heard : List Heard
+  pub told : IsToldOf (dialogue (begun addresses [] patience) heard) looks

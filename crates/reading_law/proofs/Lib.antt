@@ -1,7 +1,0 @@
-pub mod Believed
-mod Harmless
-mod Loading
-mod Looks
-pub mod Mirrors
-pub mod Runs
-mod Saying

@@ -1,5 +1,0 @@
-use Rattle.reading_law.proofs.Believed.{unsaid_are_true}
-use Rattle.reading_law.proofs.law.unsaid_readings_are_true.Goals as goal
-
-pub returns : goal.returns
-returns c = unsaid_are_true

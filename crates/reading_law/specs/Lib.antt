@@ -1,4 +1,0 @@
-pub mod Belief
-pub mod Inquiry
-pub mod Law
-pub mod Rows

@@ -1,0 +1,4 @@
+pub mod First
+pub mod OfRecord
+pub mod Seen
+pub mod Spread

@@ -1,0 +1,93 @@
+-- What looks at samples found is so in memory, where what was said is honest.
+use Rattle.std.proofs.Common.{◌≡◌, ℕ, ◌+◌, ◌<◌, true, List, [], length, get_or, Option, Some, arith, ap, sym, subst, ◌∙◌}
+use Rattle.std.proofs.lemmas.List.{get_or-map, length-map}
+use Rattle.tape_image.specs.Word.{WordValue, Stands}
+use Rattle.odt_machine.specs.Machine.{Machine, is_word, word_at}
+use Rattle.host_core.specs.Core.{no_word, word_nr}
+use Rattle.load_devices.specs.declared.item.Item.{Item}
+use Rattle.load_devices.specs.Dialogue.{keys_of}
+use Rattle.reading_core.specs.declared.phase.End.TheVariants.{Complete}
+use Rattle.reading_core.specs.declared.phase.Phase.{Phase}
+use Rattle.reading_core.specs.declared.phase.Phase.TheVariants.{Settle, Sync, Address, Slash, Before, Value, Close, Ended as Over}
+use Rattle.reading_core.specs.declared.phase.End.TheVariants.{GaveUp, NoWord}
+use Rattle.reading_core.specs.Addresses.{addresses_of}
+use Rattle.reading_core.specs.Invariant.{Basis, IsReader, PhaseFits}
+use Rattle.reading_core.specs.Reader.{Reader, begun, ended}
+use Rattle.looking_law.specs.Belief.{IsTrueReading, MayLook}
+use Rattle.looking_law.proofs.Runs.{may_begin}
+use Rattle.reading_engine.specs.Belief.{IsBelievableAt, IsBelievableOver}
+use Rattle.reading_engine.specs.Honest.{IsHonest}
+use Rattle.reading_engine.specs.Inquired.{TellsEnd}
+use Rattle.reading_engine.specs.declared.stop.Stop.{Stop}
+use Rattle.reading_engine.specs.declared.stop.Stop.TheVariants.{Ended, LineFailed, TurnsOver}
+use Rattle.sample_looks.specs.declared.finding.Finding.{Finding}
+use Rattle.sample_looks.specs.declared.finding.Finding.TheVariants.{AllStand, Stale, Unfinished}
+use Rattle.sample_looks.specs.Finding.{IsFound, IsSoIn}
+use Rattle.sample_looks.specs.Looked.{IsSoOver}
+
+-- over an honest line what was read is true, with the losses or one more
+is_true : (stop : Stop) (first last : Reader) (items : List Item) (machine now : Machine) (lost : ℕ) → IsBelievableAt stop first last items → MayLook first machine → IsHonest machine items lost now
+    → (more : ℕ) × IsTrueReading machine.memory last now.memory (keys_of items) (lost + more)
+is_true (Ended end) first last items machine now lost believed may honest = (0, believed machine now lost may honest)
+is_true TurnsOver first last items machine now lost believed may honest = (0, believed machine now lost may honest)
+is_true (LineFailed fault) first last items machine now lost believed may honest = (1, believed.0 machine now lost may honest)
+
+-- a reader that came to its end has as many numbers as addresses
+all_in : (phase : Phase) (b : Basis) → PhaseFits phase b → ended phase ≡ Some Complete → length b.values ≡ length b.addresses
+all_in (Over Complete) b fits is = fits
+all_in (Over GaveUp) b fits is = absurd (cc is)
+all_in (Over (NoWord a)) b fits is = absurd (cc is)
+all_in Settle b fits is = absurd (cc is)
+all_in (Sync place) b fits is = absurd (cc is)
+all_in (Address place) b fits is = absurd (cc is)
+all_in Slash b fits is = absurd (cc is)
+all_in Before b fits is = absurd (cc is)
+all_in (Value value place) b fits is = absurd (cc is)
+all_in (Close place) b fits is = absurd (cc is)
+
+pub count_is : (samples : List WordValue) (last : Reader) → last.addresses ≡ addresses_of samples → length last.addresses ≡ length samples
+count_is samples last are = ap length are ∙ length-map samples (λ (w : WordValue). w.address)
+
+address_is : (samples : List WordValue) (last : Reader) (i : ℕ) → last.addresses ≡ addresses_of samples → i < length samples → get_or last.addresses i 0 ≡ (word_nr samples i).address
+address_is samples last i are low = ap (λ list. get_or list i 0) are ∙ get_or-map (λ (w : WordValue). w.address) samples i no_word 0 low
+
+-- a word that was read lies in memory, and the number is what memory holds there
+record IsRead (now : List ℕ) (samples : List WordValue) (last : Reader) (i : ℕ) : Type 0 where
+  pub lies : is_word now (word_nr samples i).address ≡ true
+  pub holds : get_or last.values i 0 ≡ word_at now (word_nr samples i).address
+
+was_read : (samples : List WordValue) (last : Reader) (before now keys : List ℕ) (lost i : ℕ) → IsReader last → last.addresses ≡ addresses_of samples → IsTrueReading before last now keys lost → i < length last.values → IsRead now samples last i
+was_read samples last before now keys lost i kept are heard low =
+    let inside : i < length samples = subst (λ n. i < n) (count_is samples last are) (omega (arith, low, kept.within)) in
+    let here = address_is samples last i are inside in
+    record { lies = subst (λ a. is_word now a ≡ true) here (heard.read.lies i low); holds = heard.read.holds i low ∙ ap (word_at now) here }
+
+so_in : (samples : List WordValue) (last : Reader) (stop : Stop) (finding : Finding) (before now keys : List ℕ) (lost : ℕ) → IsReader last → last.addresses ≡ addresses_of samples → TellsEnd stop last →
+    IsFound samples last.values stop finding → IsTrueReading before last now keys lost → IsSoIn now samples finding
+so_in samples last stop AllStand before now keys lost kept are tells found heard =
+    let all : length last.values ≡ length samples = all_in last.phase _ kept.fits (subst (λ s. TellsEnd s last) found.0 tells) ∙ count_is samples last are in
+    record {
+      lies = λ i low. (was_read samples last before now keys lost i kept are heard (subst (λ n. i < n) (sym all) low)).lies;
+      stands = λ i low.
+          let below : i < length last.values = subst (λ n. i < n) (sym all) low in
+          subst (Stands (word_nr samples i)) (was_read samples last before now keys lost i kept are heard below).holds (found.1 i below);
+    }
+so_in samples last stop (Stale address) before now keys lost kept are tells (i, low, earlier, differs, is) heard =
+    let read = was_read samples last before now keys lost i kept are heard low in (
+      i,
+      subst (λ n. i < n) (count_is samples last are) (omega (arith, low, kept.within)),
+      is,
+      subst (λ a. is_word now a ≡ true) (sym is) read.lies,
+      λ stands. differs (subst (Stands (word_nr samples i)) (sym (read.holds ∙ ap (word_at now) (sym is))) stands),
+    )
+so_in samples last stop Unfinished before now keys lost kept are tells found heard = tt
+
+pub so_over : (samples : List WordValue) (first last : Reader) (stop : Stop) (finding : Finding) (line line' : Option (List Item)) → first ≡ begun (addresses_of samples) [] first.patience → IsReader last →
+    last.addresses ≡ first.addresses → TellsEnd stop last → IsFound samples last.values stop finding → IsBelievableOver stop first last line line' → IsSoOver samples finding line line'
+so_over samples first last stop finding line line' is kept same tells found believed said gained machine now lost ready honest =
+    let may : MayLook first machine = subst (λ r. MayLook r machine) (sym is) (may_begin (addresses_of samples) first.patience machine ready) in
+    let heard = is_true stop first last said machine now lost (believed said gained) may honest in
+    record {
+      memory = heard.1.same;
+      so = so_in samples last stop finding machine.memory now.memory (keys_of said) (lost + heard.0) kept (same ∙ ap (λ (r : Reader). r.addresses) is) tells found heard.1;
+    }

@@ -1,0 +1,21 @@
+-- What looks at samples say of a machine.
+use Rattle.std.specs.Prelude.{◌≡◌, ℕ, List, Option}
+use Rattle.tape_image.specs.Word.{WordValue}
+use Rattle.odt_machine.specs.Machine.{Machine}
+use Rattle.load_devices.specs.declared.item.Item.{Item}
+use Rattle.load_engine.specs.Session.{HasGained}
+use Rattle.looking_law.specs.Belief.{IsReadyMachine}
+use Rattle.reading_engine.specs.Honest.{IsHonest}
+use Rattle.sample_looks.specs.declared.finding.Finding.{Finding}
+use Rattle.sample_looks.specs.Finding.{IsSoIn}
+
+-- memory is what it was, and what was found is so in it
+pub record IsSeen (samples : List WordValue) (finding : Finding) (before now : Machine) : Type 0 where
+  pub memory : now.memory ≡ before.memory
+  pub so : IsSoIn now.memory samples finding
+
+-- so it is of every machine that runs no program, where the list that was said is honest
+abbrev pub IsSoOver : List WordValue → Finding → Option (List Item) → Option (List Item) → Type 0
+IsSoOver samples finding line line' =
+    (said : List Item) → HasGained line line' said →
+    (machine now : Machine) (lost : ℕ) → IsReadyMachine machine → IsHonest machine said lost now → IsSeen samples finding machine now

@@ -1,0 +1,76 @@
+//! Looking at samples, over a line that is given.
+ghost use Rattle.std.specs.Prelude.{◌≡◌, ◌≤◌, [], Some, length, IfOk};
+ghost use Rattle.load_devices.specs.Failures.{CountsFault, IsLastFault};
+ghost use Rattle.load_devices.specs.Turns.{most_turns};
+ghost use Rattle.reading_core.specs.Addresses.{AreAddresses, addresses_of};
+ghost use Rattle.reading_core.specs.Bound.{reading_bound};
+ghost use Rattle.reading_core.specs.Invariant.{IsReader};
+ghost use Rattle.reading_core.specs.Reader.{begun};
+ghost use Rattle.reading_engine.specs.Failing.{line_fault};
+ghost use Rattle.reading_engine.specs.Inquired.{Inquired, TellsEnd};
+ghost use Rattle.sample_looks.specs.Finding.{IsFound};
+ghost use Rattle.sample_looks.specs.Looked.{IsSoOver};
+
+use crate::finding::{Finding, found};
+use load_devices::{Line, MOST_TURNS, Onlooker};
+use reading_core::ReadingCore;
+use reading_engine::{Stop, inquire};
+use std::alloc::{AllocError, Global};
+use tape_image::Word;
+
+/// What looks at samples came to.
+#[derive(Drop)]
+pub struct Looked {
+    /// The host that looked, as it was in the end: what it read, sent and spent.
+    pub reader: ReadingCore,
+
+    /// Why the reading stopped.
+    pub stop: Stop,
+
+    /// What it found.
+    pub finding: Finding,
+}
+
+/// A host that is to look at these words, and survives `patience` mishaps. The one error is want of
+/// memory; `look_at_samples` takes none.
+pub fn reader_of(alloc: Global, samples: &[Word], patience: u32) -> Result<ReadingCore, AllocError>
+    requires { AreAddresses (addresses_of samples.now) }
+    ensures begun { IfOk result (λ reader. reader ≡ begun (addresses_of samples.now) [] patience) }
+    ensures kept { IfOk result IsReader }
+{
+    let mut addresses = Vec::with_capacity(alloc, samples.len())?;
+    for sample in samples {
+        addresses.push(sample.address())?;
+    }
+    let room = Vec::with_capacity(alloc, samples.len())?;
+    Ok(ReadingCore::in_room(addresses, room, patience))
+}
+
+/// Looks at words of a plan, over a line, for at most 10,000,000 turns, changes none, and says whether
+/// they stand. Of a half word only the tape's byte counts. Where a word that was read does not stand,
+/// that is found, however the reading stopped. An onlooker is told of each step.
+pub fn look_at_samples<L: Line, O: Onlooker>(
+    reader: ReadingCore,
+    samples: &[Word],
+    line: &mut L,
+    onlooker: &O,
+) -> Looked
+    requires { reader ≡ begun (addresses_of samples.now) [] reader.patience }
+    ensures turns { Inquired most_turns (Some result.stop) reader result.reader (L.told line.old) (L.told line.new) }
+    ensures end { TellsEnd result.stop result.reader }
+    ensures found { IsFound samples.now result.reader.values result.stop result.finding }
+    ensures honest { IsSoOver samples.now result.finding (L.told line.old) (L.told line.new) }
+    ensures counted { CountsFault (line_fault (Some result.stop)) (L.fault_count line.old) (L.fault_count line.new) }
+    ensures fault { IsLastFault (line_fault (Some result.stop)) (L.last_fault line.new) }
+    ensures same_patience { result.reader.patience ≡ reader.patience }
+    ensures bound { result.reader.sent ≤ reading_bound (length samples.now) reader.patience }
+    ensures kept { IsReader result.reader }
+{
+    let (reader, stop) = inquire(reader, line, MOST_TURNS, onlooker);
+    let finding = found(samples, reader.values(), stop);
+    Looked {
+        reader,
+        stop,
+        finding,
+    }
+}

@@ -374,11 +374,10 @@ class Orders(Calls):
 
         def before(call):
             if call.name in ("fchmod", *WRITES) and call.file() == "a.record.ldaodt-new":
-                told.append((call.name, call.arguments[1]) if call.name == "fchmod" else call.name)
+                told.append(stat.S_IMODE(call.arguments[1]) if call.name == "fchmod" else "written")
 
         self.ends(self.load(self.console_at(Console()), before), 0, STOOD)
-        self.is_so((told[0][0], stat.S_IMODE(told[0][1])), ("fchmod", 0o600))
-        self.is_so([it for it in told[1:] if it not in WRITES], [])
+        self.is_so((told[0], set(told[1:])), (0o600, {"written"}))
 
     def test_the_console_is_reached_once(self):
         """A device is opened once, since some adapters reset the machine where it is closed; a port is dialled once, also where

@@ -96,7 +96,7 @@ class FullImage(Case):
 
 
 # How many words the plans of `Sizes` have.
-SIZES = (1, 8191, 8192, 20000, WORDS)
+SIZES = (1, 1000, 8191, 8192, 20000, WORDS)
 
 # How many of them no record has.
 LEFT = 20
@@ -138,10 +138,27 @@ class Sizes(Case):
             keys = 8 * min(words, LEFT)
             rows.append((dict(IMAGE[:words]), f"load {words}.lda LINE --record {words}.record", started(keys, words), [0]))
         rows.append((dict(IMAGE[:8192]), "load 8192.lda LINE --record made.record", started(8 * 8192, 8192), [0]))
+        files = {words: os.stat(self.path(f"{words}.record")).st_ino for words in SIZES}
         self.all_end(sorted(rows, key=lambda row: -len(row[0])))
         for words in SIZES:
             self.is_so(bytes_of(self.path(f"{words}.record")).decode(), record_of(IMAGE[:words], 2) + "\nG\n")
+            # the old record was replaced by a new file, which stood beside it
+            self.assertNotEqual(os.stat(self.path(f"{words}.record")).st_ino, files[words])
         self.is_so(bytes_of(self.path("made.record")), bytes_of(self.path("8192.record")))
+
+    def test_records_behind_a_link(self):
+        """They are written in place, and what stands behind the words that count is cut off."""
+        rows = []
+        for words in SIZES:
+            self.put(f"{words}.other", (record_of(IMAGE[:words][:-LEFT], 2) + "0" * 3000).encode())
+            os.symlink(f"{words}.other", self.path(f"{words}.link"))
+            report = f"sent {8 * min(words, LEFT) + 8} spent 0 verified {words} of {words}\nend Started\n"
+            rows.append((dict(IMAGE[:words]), f"load {words}.lda LINE --record {words}.link", Answer(0, report, ""), [0]))
+        files = {words: os.stat(self.path(f"{words}.other")).st_ino for words in SIZES}
+        self.all_end(rows)
+        for words in SIZES:
+            self.is_so(bytes_of(self.path(f"{words}.other")).decode(), record_of(IMAGE[:words], 2) + "\nG\n")
+            self.is_so(os.stat(self.path(f"{words}.other")).st_ino, files[words])
 
     def test_looks(self):
         """All words differ from memory, which is zero; all of it is saved."""

@@ -12,7 +12,7 @@ import unittest
 from concurrent.futures import ThreadPoolExecutor
 
 from cases import Case, Console, DeafConsole, LateConsole
-from outside import NO_OUTPUT, Answer, bytes_of
+from outside import NO_OUTPUT, Answer, bytes_of, tape_of
 
 # Records of first.lda: whole, as it is written today and as it was written once, and without the mark.
 MARKED = "LDAODT 2\n001000 011064\nG\n"
@@ -116,6 +116,20 @@ class Endings(Loads):
         self.holds({"a.record": "LDAODT 2\n001000 031421\nH 001002 000377 000104\nG\n"})
         self.was_typed(peer, "Z001002/\r001000G", connections=2)
         self.is_so(peer.machine.word(0o1002), 0o125504)
+
+    def test_a_word_of_which_the_tape_has_one_byte(self):
+        """The low one or the high one, first, within and last among words of which it has both."""
+        full, halves = (0, b"\1\2"), (((0, b"\1"), "000377 000001"), ((1, b"\2"), "177400 001000"))
+        for half, line in halves:
+            for place, record in enumerate((f"H 001000 {line}\n001002 001001 001001\n", f"001000 001001\nH 001002 {line}\n001004 001001\n",
+                                            f"001000 001001 001001\nH 001004 {line}\n")):
+                pieces = [half if number == place else full for number in range(3)]
+                self.put("odd.lda", tape_of([(0o1000 + 2 * number + offset, text) for number, (offset, text) in enumerate(pieces)], 0o1000))
+                with self.subTest(line, place=place):
+                    given = self.recorded(self.console_at(Console()), "odd.lda")
+                    self.ends(given, 0, "sent 74 spent 0 verified 3 of 3\nend Started\n")
+                    self.is_so(bytes_of(self.path("a.record")).decode(), f"LDAODT 2\n{record}G\n")
+                os.remove(self.path("a.record"))
 
     def test_nobody_listens(self):
         """The port is taken, so that nobody else can have it, and not listened at."""

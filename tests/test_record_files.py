@@ -216,6 +216,96 @@ class Protected(Files):
         os.chmod(self.path("shut"), 0o755)
 
 
+class OutOfReach(Files):
+    """Records that a rename would not reach: they are written in place, and only where no byte becomes another one."""
+
+    ROW = b"\1\0\2\0\3\0"
+
+    # the words of ROW are 1, 2 and 3; of these records none begins with the text that a load of it writes, nor is its beginning
+    OTHERS = (b"LDAODT 2\n001000 000001\n001002 000002\n", b"LDAODT 2\n001000 000001\n001002 000002 000003\n",
+              b"LDAODT 2\n001000 000001 000002\n001004 000003", b"LDAODT 1\n001000 177777 000001\n001002 177777 000002\n",
+              b"LDAODT 1\n001000 177777 000001", b"LDAODT 1\n", b"LDAODT 1")
+
+    def setUp(self):
+        super().setUp()
+        self.put("row.lda", tape_of(((0o1000, self.ROW),), 0o1000))
+        self.peer.machine = Console(memory={0o1000: 1, 0o1002: 2, 0o1004: 3})
+
+    def by_a_link(self, text):
+        self.put("b.record", text)
+        os.symlink("b.record", self.path("a.record"))
+
+    def by_a_second_name(self, text):
+        self.put("b.record", text)
+        os.link(self.path("b.record"), self.path("a.record"))
+
+    def refuses(self, text, more=""):
+        """Asserts that a load makes no connection, and that the record is byte for byte what it was."""
+        before = os.lstat(self.path("b.record"))
+        self.ends(self.load("a.record", tape="row.lda", more=more), 4, "", "ldaodt: cannot write a.record\n")
+        self.is_untouched("b.record", before)
+        self.is_so(bytes_of(self.path("b.record")), text)
+        self.was_nothing_typed(connections=0)
+        self.is_so([it for it in os.listdir(self.room) if "ldaodt-new" in it], [])
+
+    def test_a_text_that_is_not_written_over(self):
+        """It is refused before there is a connection. By one name it is replaced."""
+        for put in (self.by_a_link, self.by_a_second_name):
+            for text in self.OTHERS:
+                with self.subTest(put.__name__, text=text):
+                    put(text)
+                    self.refuses(text)
+                    os.remove(self.path("a.record"))
+        self.put("a.record", self.OTHERS[0])
+        self.ends(self.load("a.record", tape="row.lda"), 0, "sent 16 spent 0 verified 3 of 3\nend Started\n")
+        self.is_so(bytes_of(self.path("a.record")), b"LDAODT 2\n001000 000001 000002 000003\nG\n")
+
+    def test_where_only_trying_shows_it(self):
+        """No file can be made beside it: it is refused behind the connection, and before any key."""
+        os.mkdir(self.path("a.record.ldaodt-new"))
+        for number, text in enumerate(self.OTHERS, 1):
+            with self.subTest(text=text):
+                self.put("a.record", text)
+                before = os.lstat(self.path("a.record"))
+                self.ends(self.load("a.record", tape="row.lda"), 4, "", "ldaodt: cannot write a.record\n")
+                self.is_untouched("a.record", before)
+                self.is_so(bytes_of(self.path("a.record")), text)
+                self.was_nothing_typed(connections=number)
+
+    def test_with_recheck(self):
+        """No word is taken: what is written then is the header, which every record of version 2 begins with."""
+        self.by_a_link(self.OTHERS[3])
+        self.refuses(self.OTHERS[3], more="--recheck")
+        self.put("b.record", self.OTHERS[0])
+        self.ends(self.load("a.record", tape="row.lda", more="--recheck"), 0, "sent 32 spent 0 verified 3 of 3\nend Started\n")
+        self.is_so(bytes_of(self.path("b.record")), b"LDAODT 2\n001000 000001 000002 000003\nG\n")
+
+    def test_a_text_that_is_written_over(self):
+        """Of what stands there and of what is written, one is a front of the other."""
+        for put in (self.by_a_link, self.by_a_second_name):
+            for text, sent in ((b"", 32), (b"LDAODT", 32), (b"LDAODT 2\n", 32), (b"LDAODT 2\n001000 0000", 32), (b"LDAODT 2\n001000 000001", 24),
+                               (b"LDAODT 2\n001000 000001 0000", 24), (b"LDAODT 2\n001000 000001 000002\n", 16), (b"LDAODT 2\n001000 000001 000002 000003\n", 8)):
+                with self.subTest(put.__name__, text=text):
+                    put(text)
+                    before = os.lstat(self.path("b.record"))
+                    self.peer.machine = Console(memory={0o1000: 1, 0o1002: 2, 0o1004: 3})
+                    self.ends(self.load("a.record", tape="row.lda"), 0, f"sent {sent} spent 0 verified 3 of 3\nend Started\n")
+                    self.is_so(bytes_of(self.path("b.record")), b"LDAODT 2\n001000 000001 000002 000003\nG\n")
+                    self.is_so(os.lstat(self.path("b.record")).st_ino, before.st_ino)
+                    os.remove(self.path("a.record"))
+
+    def test_a_life_that_is_over(self):
+        """Nothing has to be written, and it says so as ever."""
+        text = b"LDAODT 1\n001000 177777 000001\n001002 177777 000002\n001004 177777 000003\nG\n"
+        for put in (self.by_a_link, self.by_a_second_name):
+            put(text)
+            before = os.lstat(self.path("b.record"))
+            self.ends(self.load("a.record", tape="row.lda"), 6, "sent 0 spent 0 verified 3 of 3\nend MaybeStarted\n")
+            self.is_untouched("b.record", before)
+            self.was_nothing_typed(connections=0)
+            os.remove(self.path("a.record"))
+
+
 class Made(Files):
     """What a load makes, and takes away where it came to nothing."""
 
@@ -288,20 +378,6 @@ class Made(Files):
         self.holds({"a.record": MARKED, "b.record": MARKED})
         self.is_so(os.stat(self.path("a.record")).st_ino, os.stat(self.path("b.record")).st_ino)
         self.ends(self.load("b.record"), 6, "sent 0 spent 0 verified 1 of 1\nend MaybeStarted\n")
-
-    def test_a_text_that_is_not_written_over(self):
-        """The words of the old record are in shorter runs, so that from its second line on it is another text: with a second
-        name it stays as it is, and by one name it is replaced."""
-        self.put("row.lda", tape_of(((0o1000, b"\1\0\2\0"),), 0o1000))
-        self.put("a.record", b"LDAODT 2\n001000 000001\n001002 000002\n")
-        os.link(self.path("a.record"), self.path("b.record"))
-        before = os.lstat(self.path("a.record"))
-        self.ends(self.load("a.record", tape="row.lda"), 4, "", "ldaodt: cannot write a.record\n")
-        self.is_untouched("a.record", before)
-        self.was_nothing_typed(connections=1)
-        os.remove(self.path("b.record"))
-        self.ends(self.load("a.record", tape="row.lda"), 0, "sent 8 spent 0 verified 2 of 2\nend Started\n")
-        self.is_so(bytes_of(self.path("a.record")), b"LDAODT 2\n001000 000001 000002\nG\n")
 
     def test_what_a_dead_load_left(self):
         """It is replaced, whatever stands in it, also where that is longer than the new record."""

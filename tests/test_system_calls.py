@@ -17,6 +17,9 @@ NO_RECORD = "ldaodt: cannot write a.record\n"
 
 WRITES, SYNCS, RENAMES = ("write", "sendto"), ("fsync", "fdatasync"), ("rename", "renameat", "renameat2")
 
+# A record that is replaced, and one behind a link, each with the names of the files that it is written to.
+WAYS = (("a.record", ("a.record", "a.record.ldaodt-new")), ("a.link", ("b.record",)))
+
 # The time limit of a socket's reads and that its keys wait for nothing, as a call's level and option; and how a device is made
 # to answer at once, as a call and what it is asked for.
 TIME_LIMITS, NO_DELAY = ((1, 20), (1, 66)), (6, 1)
@@ -119,27 +122,36 @@ class Between(Calls):
         self.is_so(line.machine.typed, "")
         os.remove(self.path("a.record"))
 
-    def led_elsewhere(self, name, behind):
-        """Behind a call of this name, another name leads to a file with the same number in another file system."""
+    def led_elsewhere(self, name, behind, place):
+        """Behind a call of this name, another name leads to a file of which what is told differs in the byte at a place."""
         told = []
 
         def before(call):
             told.append(call.name)
-            return call.finds_another_system() if behind in told and call.looked_at() == name else None
+            return call.finds_another_file(place) if behind in told and call.looked_at() == name else None
         return before
 
-    def test_a_record_that_is_led_to_another_file_system(self):
-        """Each file system numbers its files by itself. It is another file, so that the load begins no record."""
-        line = self.console_at(Console())
-        self.put("a.record", VERIFIED.encode())
-        self.ends(self.load(line, self.led_elsewhere("a.record", "connect")), 4, "", NO_RECORD)
-        self.is_so((bytes_of(self.path("a.record")).decode(), line.machine.typed), (VERIFIED, ""))
+    # each byte of a file's number, and of its file system's
+    PLACES = (*range(traced.INODE, traced.INODE + 8), *range(traced.DEVICE, traced.DEVICE + 8))
 
-    def test_a_tape_in_whose_place_a_file_of_another_file_system_stands(self):
+    def test_a_record_that_is_led_to_another_file(self):
+        """Each file system numbers its files by itself. It is another file, so that the load begins no record."""
+        for place in self.PLACES:
+            with self.subTest(place):
+                line = self.console_at(Console())
+                self.put("a.record", VERIFIED.encode())
+                self.ends(self.load(line, self.led_elsewhere("a.record", "connect", place)), 4, "", NO_RECORD)
+                self.is_so((bytes_of(self.path("a.record")).decode(), line.machine.typed), (VERIFIED, ""))
+
+    def test_a_tape_in_whose_place_another_file_stands(self):
         """What a save has written comes to no name then, and that file is not taken away."""
-        given = self.ask(self.console_at(Console()), "save a.lda LINE 1000 1000", self.led_elsewhere("a.lda.ldaodt-new", "fsync"))
-        self.ends(given, 4, "", "ldaodt: cannot write a.lda\n")
-        self.is_so(sorted(os.listdir(self.room)), ["a.lda.ldaodt-new", "first.lda"])
+        for place in self.PLACES:
+            with self.subTest(place):
+                before = self.led_elsewhere("a.lda.ldaodt-new", "fsync", place)
+                given = self.ask(self.console_at(Console()), "save a.lda LINE 1000 1000", before)
+                self.ends(given, 4, "", "ldaodt: cannot write a.lda\n")
+                self.is_so(sorted(os.listdir(self.room)), ["a.lda.ldaodt-new", "first.lda"])
+                os.remove(self.path("a.lda.ldaodt-new"))
 
     def test_a_link_in_the_place_of_a_tape_that_was_written(self):
         """It leads to the tape, and would itself come to the tape's name."""
@@ -296,11 +308,11 @@ class Steps(Calls):
 
     def test_a_record_of_which_a_byte_would_be_another_one(self):
         """It is as good as any. Written over it would say a third word, up to the cut: it stays as it is, and nothing is typed."""
-        text = "LDAODT 2\n001000 011064\n001002 000000\n"
-        for before in (lambda call: None, lambda call: call.fails(errno.EIO) if call.name == "ftruncate" else None):
-            given, line = self.load_over(text, before)
-            self.ends(given, 4, "", NO_RECORD)
-            self.is_so((bytes_of(self.path("b.record")).decode(), line.machine.typed), (text, ""))
+        text, calls = "LDAODT 2\n001000 011064\n001002 000000\n", []
+        given, line = self.load_over(text, lambda call: calls.append(call.name))
+        self.ends(given, 4, "", NO_RECORD)
+        self.is_so((bytes_of(self.path("b.record")).decode(), line.machine.typed, line.connections), (text, "", 0))
+        self.is_so([it for it in calls if it in ("connect", "ftruncate", *SYNCS, *RENAMES)], [])
 
 
 class Orders(Calls):
@@ -308,26 +320,64 @@ class Orders(Calls):
 
     def test_what_is_kept_is_on_the_disk_before_the_next_key(self):
         """The header, each word, and the mark, which is there before `G`; and the new record's name."""
-        for record, names in (("a.record", ("a.record", "a.record.ldaodt-new")), ("a.link", ("b.record",))):
+        for record, names in WAYS:
             self.put("b.record", b"")
             os.path.lexists(self.path("a.link")) or os.symlink("b.record", self.path("a.link"))
-            unsynced, early, folder = set(), [], os.path.basename(self.room)
-
-            def before(call):
-                if call.name in WRITES and call.file().startswith("socket:"):
-                    early.extend(unsynced)
-                elif call.name in WRITES and call.file() in names:
-                    unsynced.add("record")
-                elif call.name in SYNCS and call.file() in names:
-                    unsynced.discard("record")
-                elif call.name in RENAMES:
-                    unsynced.add("name")
-                elif call.name in SYNCS and call.file() == folder:
-                    unsynced.discard("name")
-
+            before, early, unsynced = self.is_synced(names)
             line = self.console_at(Console())
             self.ends(self.load(line, before, f"--record {record}"), 0, STARTED)
             self.is_so((early, unsynced), ([], set()))
+
+    def is_synced(self, names):
+        """What to do before each call to find what is not yet on the disk, of files of these names, where a key goes out, and at
+        the end."""
+        unsynced, early, folder = set(), [], os.path.basename(self.room)
+
+        def before(call):
+            if call.name in WRITES and call.file().startswith("socket:"):
+                early.extend(unsynced)
+            elif call.name in WRITES and call.file() in names:
+                unsynced.add("record")
+            elif call.name in SYNCS and call.file() in names:
+                unsynced.discard("record")
+            elif call.name in RENAMES:
+                unsynced.add("name")
+            elif call.name in SYNCS and call.file() == folder:
+                unsynced.discard("name")
+        return before, early, unsynced
+
+    def test_so_it_is_far_behind_in_a_record(self):
+        """Of words behind so many others. Two are left, and stand."""
+        words = [(address, 0o177777 - address) for address in range(0o1000, 0o60000, 2)]
+        for count in (80, 1200, len(words)):
+            texts = [f"{address:06o}" + "".join(f" {value:06o}" for _, value in words[first:first + 16][:count - 2 - first])
+                     for first, (address, _) in list(enumerate(words[:count - 2]))[::16]]
+            blocks = [(words[first][0], b"".join(value.to_bytes(2, "little") for _, value in words[first:min(first + 28, count)]))
+                      for first in range(0, count, 28)]
+            self.put("long.lda", tape_of(blocks, 0o1000))
+            for record, names in WAYS:
+                self.put("a.record", ("LDAODT 2\n" + "\n".join(texts)).encode())
+                self.put("b.record", bytes_of(self.path("a.record")))
+                os.path.lexists(self.path("a.link")) or os.symlink("b.record", self.path("a.link"))
+                before, early, unsynced = self.is_synced(names)
+                line = self.console_at(Console(memory=dict(words)))
+                with self.subTest(record, count=count):
+                    given = self.ask(line, f"load long.lda LINE --record {record}", before)
+                    self.ends(given, 0, f"sent 24 spent 0 verified {count} of {count}\nend Started\n")
+                    self.is_so((early, unsynced), ([], set()))
+
+    def test_permissions_come_before_what_is_written(self):
+        """Nobody whom the old record was kept from may read the new one, not for a moment."""
+        self.put("a.record", VERIFIED.encode())
+        os.chmod(self.path("a.record"), 0o600)
+        told = []
+
+        def before(call):
+            if call.name in ("fchmod", *WRITES) and call.file() == "a.record.ldaodt-new":
+                told.append(stat.S_IMODE(call.arguments[1]) if call.name == "fchmod" else "written")
+
+        self.ends(self.load(self.console_at(Console()), before), 0, STOOD)
+        self.is_so((told[0], set(told[1:])), (0o600, {"written"}))
 
     def test_the_console_is_reached_once(self):
         """A device is opened once, since some adapters reset the machine where it is closed; a port is dialled once, also where

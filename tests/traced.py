@@ -11,13 +11,13 @@ import outside
 
 # The calls that tests know by name, by their numbers.
 NAMES = {1: "write", 2: "open", 8: "lseek", 16: "ioctl", 42: "connect", 44: "sendto", 54: "setsockopt", 72: "fcntl", 73: "flock", 74: "fsync",
-         75: "fdatasync", 77: "ftruncate", 82: "rename", 257: "openat", 264: "renameat", 316: "renameat2", 332: "statx"}
+         75: "fdatasync", 77: "ftruncate", 82: "rename", 91: "fchmod", 257: "openat", 264: "renameat", 316: "renameat2", 332: "statx"}
 
 # Where the system keeps a process's registers: a call's number, its answer, and its first arguments.
 NUMBER, ANSWER, ARGUMENTS = 8 * 15, 8 * 10, (8 * 14, 8 * 13, 8 * 12)
 
-# Where in what a look tells of a file the lower half of its file system's number stands.
-DEVICE = 140
+# Where in what a look tells of a file its number stands, of eight bytes, and its file system's number, of two times four.
+INODE, DEVICE = 32, 136
 
 TRACED, POKE, TO_NEXT_CALL, OPTIONS, CALL = 0, 6, 24, 0x4200, 0x420E
 TELL_CALLS, ENDS_WITH_US = 1, 0x100000
@@ -67,15 +67,14 @@ class Call:
         ptrace(POKE, self.process, NUMBER, -1)
         return -error
 
-    def finds_another_system(self):
-        """A look at a name finds a file with the same number in another file system."""
+    def finds_another_file(self, place):
+        """A look at a name finds a file of which the byte at a place, as told of it, is another one."""
         def after():
             with open(f"/proc/{self.process}/mem", "r+b", buffering=0) as memory:
-                place = self.arguments[4] + DEVICE
-                memory.seek(place)
-                device = memory.read(1)[0]
-                memory.seek(place)
-                memory.write(bytes([device ^ 1]))
+                memory.seek(self.arguments[4] + place)
+                byte = memory.read(1)[0]
+                memory.seek(self.arguments[4] + place)
+                memory.write(bytes([byte ^ 1]))
         return after
 
 

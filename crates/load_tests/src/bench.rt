@@ -14,7 +14,7 @@ use load_devices::{LineFault, Unwatched};
 use load_record::FileKeep;
 use machine_load::{LoadFault, Outcome, Surroundings, load};
 use odt_machine::Odt;
-use record_file::{OldRecord, RecordFault};
+use record_file::{OldRecord, RecordFault, Writable};
 use request_values::LoadOptions;
 use std::alloc::Global;
 use tape_image::Plan;
@@ -73,7 +73,7 @@ impl Surroundings for Bench {
         let text = Vec::from_slice(alloc, self.keeper.writer().text())?;
         Ok(OldRecord {
             text,
-            writable: true,
+            writable: Writable::Anew,
         })
     }
 

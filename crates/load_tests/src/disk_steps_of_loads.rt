@@ -9,6 +9,7 @@ use machine_load::{Around, LoadFault};
 use record_file::RecordFile;
 use simulated_system::{FailingSteps, ToldDisk};
 use std::io::{ErrorKind, Write};
+use std::os::unix::fs::symlink;
 use std::test::Fail;
 use std::{fs, io};
 
@@ -19,16 +20,45 @@ const STARTED: &str = "LDAODT 2\n001000 011064\nG\n";
 
 const FOREIGN: &str = "LDAODT 2\n002000 011064\n";
 
+// The first, with its LF; and both in version 1, of which a byte is another one.
+const STANDING: &str = "LDAODT 2\n001000 011064\n";
+
+const OLD: &str = "LDAODT 1\n001000 177777 011064\n";
+
+const OLD_STARTED: &str = "LDAODT 1\n001000 177777 011064\nG\n";
+
+// What a record may lead to.
+const OTHER: &str = "d.other";
+
 // What is to be on the disk's list before there is a line: of a record that is there, and of one that is not.
 const READ: &str = "+ look d.record\n\
     + open to write d.record\n\
     + hold d.record\n\
-    + look d.record\n";
+    + look d.record\n\
+    + sole d.record\n";
 
 const MADE: &str = "- look d.record\n\
     + open new d.record\n\
     + hold d.record\n\
-    + look d.record\n";
+    + look d.record\n\
+    + sole d.record\n";
+
+// Of one behind a link, which a rename does not reach; and what is to follow then, once there is a line, with the word and without.
+const LINKED: &str = "+ look d.record\n\
+    + open to write d.record\n\
+    + hold d.record\n\
+    + look d.record\n\
+    - sole d.record\n";
+
+const WRITTEN_OVER: &str = "- sole d.record\n\
+    + look d.record\n\
+    + cut LDAODT 2\n001000 011064\n\
+    + sync LDAODT 2\n001000 011064\n";
+
+const BEGUN_OVER: &str = "- sole d.record\n\
+    + look d.record\n\
+    + cut LDAODT 2\n\n\
+    + sync LDAODT 2\n\n";
 
 // The one that was made goes again, where nothing was written to it.
 const UNMADE: &str = "+ look d.record\n\
@@ -189,6 +219,44 @@ fn without_a_line_it_is_only_read(rt: HostRuntime) -> Result<(), Fail> {
     Ok(put(&rt, None)?)
 }
 
+// Puts a link to a record there.
+fn put_link(rt: &HostRuntime, text: &str) -> io::Result<()> {
+    put(rt, None)?;
+    let _ = fs::remove_file(rt, OTHER);
+    fs::write(rt, OTHER, text)?;
+    symlink(rt, OTHER, RECORD)
+}
+
+#[test]
+fn one_that_a_rename_does_not_reach_is_begun_only_in_place(rt: HostRuntime) -> Result<(), Fail> {
+    for (text, then) in [
+        ("", BEGUN_OVER),
+        ("LDA", BEGUN_OVER),
+        (GOING_ON, WRITTEN_OVER),
+        (STANDING, WRITTEN_OVER),
+    ] {
+        put_link(&rt, text)?;
+        assert!(rt; is_loaded(&rt, AMPLE, None, (LINKED, then)), "{text}");
+        assert!(rt;
+            fs::read(&rt, OTHER)?.as_slice() == STARTED.as_bytes(),
+            "{text}"
+        );
+    }
+    for text in [OLD, "LDAODT 1\n"] {
+        put_link(&rt, text)?;
+        let refused = Some(LoadFault::WriteRecord);
+        assert!(rt; is_loaded(&rt, AMPLE, refused, (LINKED, "")), "{text}");
+        assert!(rt;
+            fs::read(&rt, OTHER)?.as_slice() == text.as_bytes(),
+            "{text}"
+        );
+    }
+    put_link(&rt, OLD_STARTED)?;
+    assert!(rt; is_loaded(&rt, AMPLE, None, (LINKED, "")), "over at once");
+    fs::remove_file(&rt, OTHER)?;
+    Ok(put(&rt, None)?)
+}
+
 #[test]
 fn one_that_is_not_read_is_not_begun(rt: HostRuntime) -> Result<(), Fail> {
     put(&rt, Some(GOING_ON))?;
@@ -217,7 +285,7 @@ fn what_fails_behind_it_is_not_tried_again(rt: HostRuntime) -> Result<(), Fail> 
     put(&rt, Some(GOING_ON))?;
     let unsynced = Setting {
         machine: true,
-        failing: &[(10, ErrorKind::Other)],
+        failing: &[(11, ErrorKind::Other)],
     };
     assert!(rt;
         is_loaded(

@@ -1,6 +1,6 @@
 //! What a disk is asked to read a record and to begin it anew, for each kind of file that docs/RECORD.md names.
 
-use record_file::{RecordFault, RecordFile};
+use record_file::{RecordFault, RecordFile, Writable};
 use simulated_system::{FailingSteps, ToldDisk};
 use std::alloc::Global;
 use std::fs::File;
@@ -53,7 +53,7 @@ const NO_FAULT: FailingSteps = &[];
 fn taken(alloc: Global, record: &mut RecordFile<'_, ToldDisk<'_>>, plan: &Plan) -> Outcome {
     match record.read(alloc) {
         Err(fault) => Outcome::Unread(fault),
-        Ok(old) if !old.writable => Outcome::Protected,
+        Ok(old) if old.writable == Writable::No => Outcome::Protected,
         Ok(_) => match record.begin(alloc, plan, 1) {
             Ok(_) => Outcome::Begun,
             Err(fault) => Outcome::Unbegun(fault),
@@ -119,12 +119,14 @@ fn put_link(rt: &HostRuntime, text: &str) -> io::Result<()> {
     symlink(rt, OTHER, RECORD)
 }
 
-// A plain file is held, and looked at again, before it is read; the new record is made beside it and held, and takes its place where the
-// name still leads to it; and then that is brought to the disk.
+// A plain file is held, and looked at again, before it is read, and it is found out whether a rename would reach it, then and once more
+// before one is tried; the new record is made beside it and held, and takes its place where the name still leads to it; and then that is
+// brought to the disk.
 const REPLACED: &str = "+ look d.record\n\
     + open to write d.record\n\
     + hold d.record\n\
     + look d.record\n\
+    + sole d.record\n\
     + sole d.record\n\
     + open to read .\n\
     + open new d.record.ldaodt-new\n\
@@ -156,6 +158,7 @@ const MADE: &str = "- look d.record\n\
     + hold d.record\n\
     + look d.record\n\
     + sole d.record\n\
+    + sole d.record\n\
     + open to read .\n\
     + open new d.record.ldaodt-new\n\
     + hold d.record.ldaodt-new\n\
@@ -169,6 +172,7 @@ const MADE_IN_VAIN: &str = "- look d.record\n\
     + hold d.record\n\
     + look d.record\n\
     + sole d.record\n\
+    + sole d.record\n\
     + open to read .\n\
     - open new d.record.ldaodt-new\n\
     + look d.record\n\
@@ -180,7 +184,7 @@ fn one_that_is_not_there_is_made(rt: HostRuntime) {
     assert!(rt; is_course(&rt, (RECORD, NO_FAULT), Outcome::Begun, MADE));
     assert!(rt; holds(&rt, RECORD, Some(BEGUN)) && holds(&rt, BESIDE, None));
     clear(&rt);
-    let full: FailingSteps = &[(6, ErrorKind::StorageFull)];
+    let full: FailingSteps = &[(7, ErrorKind::StorageFull)];
     assert!(rt; is_course(&rt, (RECORD, full), UNBEGUN, MADE_IN_VAIN));
     assert!(rt; holds(&rt, RECORD, None) && holds(&rt, BESIDE, None));
 }
@@ -190,6 +194,7 @@ const WRITTEN_OVER: &str = "+ look d.record\n\
     + open to write d.record\n\
     + hold d.record\n\
     + look d.record\n\
+    - sole d.record\n\
     - sole d.record\n\
     + look d.record\n\
     + cut LDAODT 2\n001000 011064\n\
@@ -203,6 +208,7 @@ const NOT_WRITTEN_OVER: &str = "+ look d.record\n\
     + open to write d.record\n\
     + hold d.record\n\
     + look d.record\n\
+    - sole d.record\n\
     - sole d.record\n";
 
 // Nor is one whose name leads to it no more: what is written there would be lost.
@@ -237,7 +243,7 @@ fn a_file_with_another_name_is_written_over(rt: HostRuntime) -> Result<(), Fail>
         assert!(rt; holds(&rt, OTHER, Some(text)));
     }
     put_link(&rt, CURRENT)?;
-    let gone: FailingSteps = &[(5, ErrorKind::NotFound)];
+    let gone: FailingSteps = &[(6, ErrorKind::NotFound)];
     assert!(rt; is_course(&rt, (RECORD, gone), UNBEGUN, GONE), "gone");
     assert!(rt; holds(&rt, OTHER, Some(CURRENT)));
     clear(&rt);
@@ -254,6 +260,7 @@ fn made_behind_link(alloc: Global, folder: &str) -> Option<String> {
         + open or make d.record\n\
         + hold d.record\n\
         + look d.record\n\
+        - sole d.record\n\
         - sole d.record\n\
         + resolve d.record {folder}/d.other\n\
         + open to read {folder}\n\
@@ -387,6 +394,7 @@ const LEFT: &str = "+ look d.record\n\
     + hold d.record\n\
     + look d.record\n\
     + sole d.record\n\
+    + sole d.record\n\
     + open to read .\n\
     - open new d.record.ldaodt-new\n\
     + look at name d.record.ldaodt-new\n\
@@ -405,6 +413,7 @@ const NOT_RENAMED: &str = "+ look d.record\n\
     + hold d.record\n\
     + look d.record\n\
     + sole d.record\n\
+    + sole d.record\n\
     + open to read .\n\
     + open new d.record.ldaodt-new\n\
     + hold d.record.ldaodt-new\n\
@@ -422,7 +431,7 @@ fn a_new_record_that_is_left_goes(rt: HostRuntime) -> Result<(), Fail> {
     assert!(rt; is_course(&rt, (RECORD, NO_FAULT), Outcome::Begun, LEFT));
     assert!(rt; holds(&rt, RECORD, Some(BEGUN)) && holds(&rt, BESIDE, None));
     put(&rt, CURRENT)?;
-    let fixed: FailingSteps = &[(9, ErrorKind::PermissionDenied)];
+    let fixed: FailingSteps = &[(10, ErrorKind::PermissionDenied)];
     assert!(rt; is_course(&rt, (RECORD, fixed), Outcome::Begun, NOT_RENAMED));
     assert!(rt; holds(&rt, RECORD, Some(BEGUN)) && holds(&rt, BESIDE, None));
     clear(&rt);

@@ -1,5 +1,5 @@
 -- Loads by their lives.
-use Rattle.std.proofs.Common.{◌≡◌, ◌⊎◌, Bool, List, [], ◌∷◌, Option, Some, None, option_map, refl, subst, inl, inr}
+use Rattle.std.proofs.Common.{◌≡◌, ◌⊎◌, Bool, List, [], Option, Some, None, option_map, refl, subst, inl, inr}
 use Rattle.std.specs.Io.KnownBytes.{Appends}
 use Rattle.tape_image.specs.Plan.{PlanValue}
 use Rattle.byte_io.specs.Output.{WritesPrefix}
@@ -11,10 +11,9 @@ use Rattle.stream_line.specs.Dialling.{Call, LineRequest, asked_once}
 use Rattle.machine_load.specs.Called.{asked_by}
 use Rattle.machine_load.specs.Driving.{KeeperTells, IsLived, IsLoadLived, IsLoadReported, IsLoadUntold}
 use Rattle.machine_load.specs.GivenBack.{IsGivenBack}
-use Rattle.machine_load.specs.Load.{Around, Ending, Finish, Setting, Asks, KeepsRecord, IsCutShort, IsLoad, IsLoadLife, IsOpening, IsReported, ending_of, finish_of}
+use Rattle.machine_load.specs.Load.{Around, Ending, Finish, Setting, IsCutShort, IsLoad, IsLoadLife, IsOpened, IsReported, ending_of, finish_of}
 use Rattle.machine_load.specs.LoadFault.{IsOpeningFault, IsDrivingFault}
 use Rattle.machine_load.specs.LoadReport.{load_report}
-use Rattle.machine_load.specs.Step.{reading}
 use Rattle.machine_load.specs.declared.fault.LoadFault.{LoadFault}
 use Rattle.machine_load.specs.declared.fault.LoadFault.TheVariants.{WriteOutput}
 use Rattle.request_values.specs.declared.options.LoadOptions.{LoadOptions}
@@ -51,8 +50,6 @@ is_load tells plan options before after finish load = record {
   first = load.first;
   writable = load.writable;
   between = load.between;
-  read_first = load.read_first;
-  record_read = load.record_read;
   opened = load.opened;
   life = is_life tells load.writable load.first load.between after finish load.life;
 }
@@ -80,25 +77,25 @@ cut_short_of tells plan options before after load = record {
 
 -- a load that was reported
 pub load_reported : {K L : Type 0} (tells : KeeperTells K) (told_of : L → LineTold) (plan : PlanValue) (options : LoadOptions) (before after : Setting) (between : Around) (first last : Core)
-    (writable : Bool) (stop : Stop) (line : Option L) → Asks before.around between (reading writable ∷ []) → KeepsRecord before.around between → IsOpening before.around.record_text plan options first
+    (writable : Bool) (stop : Stop) (line : Option L) → IsOpened plan options before.around between first writable
     → IsLived tells writable first between after.around (finish_of last stop (option_map told_of line)) → Appends before.out after.out (load_report last stop)
     → IsLoadReported tells plan options before after (ending_of stop last.going (option_map told_of line))
-load_reported tells told_of plan options before after between first last writable stop line read same opened lived reported = record {
+load_reported tells told_of plan options before after between first last writable stop line opened lived reported = record {
   last = last;
-  lived = record { first = first; writable = writable; between = between; read_first = read; record_read = same; opened = opened; life = lived };
+  lived = record { first = first; writable = writable; between = between; opened = opened; life = lived };
   marked_is = refl;
   reported = reported;
 }
 
 -- a load whose report failed
 pub load_untold : {K : Type 0} (tells : KeeperTells K) (plan : PlanValue) (options : LoadOptions) (before after : Setting) (between : Around) (first : Core) (writable : Bool) (finish : Finish)
-    → Asks before.around between (reading writable ∷ []) → KeepsRecord before.around between → IsOpening before.around.record_text plan options first
-    → IsLived tells writable first between after.around finish → WritesPrefix before.out after.out (load_report finish.last finish.stop)
+    → IsOpened plan options before.around between first writable → IsLived tells writable first between after.around finish
+    → WritesPrefix before.out after.out (load_report finish.last finish.stop)
     → IsGivenBack before.lines after.lines finish.line → IsLoadUntold tells plan options before after
-load_untold tells plan options before after between first writable finish read same opened lived fails given = record {
+load_untold tells plan options before after between first writable finish opened lived fails given = record {
   finish = finish;
   given_back = given;
-  lived = record { first = first; writable = writable; between = between; read_first = read; record_read = same; opened = opened; life = lived };
+  lived = record { first = first; writable = writable; between = between; opened = opened; life = lived };
   missing = fails.0;
   reported = fails.1;
 }

@@ -3,15 +3,16 @@ use Rattle.std.proofs.Common.{◌≡◌, ℕ, Bool, true, false, List, Option, R
 use Rattle.std.proofs.KnownBytes.{Keeps-refl, Keeps-trans}
 use Rattle.tape_image.specs.Plan.{PlanValue}
 use Rattle.console_reach.specs.Reached.{LineTold}
-use Rattle.machine_load.specs.Step.{reading, Connected, begin_step}
-use Rattle.machine_load.proofs.Steps.{gains_more, gains_nothing}
+use Rattle.machine_load.specs.Step.{Step, Connected, begin_step}
+use Rattle.machine_load.proofs.Steps.{gains_more}
 use Rattle.machine_load.specs.GivenBack.{GivesNothingSaid}
-use Rattle.machine_load.specs.Load.{Around, Asks, KeepsRecord}
+use Rattle.host_core.specs.Core.{Core}
+use Rattle.machine_load.specs.Load.{Around, Asks, IsOpened, KeepsRecord}
 use Rattle.machine_load.specs.Called.{IsAskedBefore}
 use Rattle.machine_load.specs.Driving.{KeeperTells, IsLoadUntold}
 use Rattle.machine_load.specs.RecordDisk.{DiskAsked, disk_asked_before}
 use Rattle.machine_load.specs.Scene.{Scene, IsNotLoaded}
-use Rattle.machine_load.specs.LoadFault.{IsLoadFault, IsOpeningFault, IsDrivingFault, fault_of_record}
+use Rattle.machine_load.specs.LoadFault.{IsLoadFault, IsOpeningFault, IsDrivingFault, StopsOpened, fault_of_record}
 use Rattle.record_file.specs.RecordFault.{IsUnbegun}
 use Rattle.request_values.specs.declared.options.LoadOptions.{LoadOptions}
 use Rattle.record_file.specs.declared.record_fault.RecordFault.{RecordFault}
@@ -29,48 +30,41 @@ of_opening plan options before after lines lines' out RecordInUse fails same uns
     record { steps_are = fails; record_same = same; nothing_said = unsaid; nothing_reported = Keeps-refl out }
 of_opening plan options before after lines lines' out (Record why) fails same unsaid =
     ((fails.0.0, record { steps_are = fails.0.1; record_same = same; nothing_said = unsaid; nothing_reported = Keeps-refl out }), fails.1)
-of_opening plan options before after lines lines' out Memory fails same unsaid =
-    inl (record { steps_are = fails; record_same = same; nothing_said = unsaid; nothing_reported = Keeps-refl out })
+of_opening plan options before after lines lines' out Memory (inl unread) same unsaid =
+    inl (inl (record { steps_are = unread; record_same = same; nothing_said = unsaid; nothing_reported = Keeps-refl out }))
+of_opening plan options before after lines lines' out Memory (inr unlike) same unsaid =
+    inl (inr (record { steps_are = unlike; record_same = same; nothing_said = unsaid; nothing_reported = Keeps-refl out }))
 of_opening plan options before after lines lines' out other fails same unsaid = absurd fails
 
--- an opened life over a record that may be written comes to nothing, before anything is reported
-of_busy : (plan : PlanValue) (options : LoadOptions) (before between after : Around) (lines lines' : Option (List LineTold)) (out : Option (List ℕ)) (fault : LoadFault)
-    → Asks before between (reading true ∷ []) → KeepsRecord before between → GivesNothingSaid lines lines' → IsDrivingFault true between after fault
-    → IsLoadFault plan options (record { around = before; lines = lines; out = out }) (record { around = after; lines = lines'; out = out }) fault
-of_busy plan options before between after lines lines' out Connect read same unsaid fails = record {
-  steps_are = gains_more _ _ _ _ _ read fails.1;
-  record_same = Keeps-trans _ _ _ same fails.2;
-  nothing_said = unsaid;
-  nothing_reported = Keeps-refl out;
-}
-of_busy plan options before between after lines lines' out WriteRecord read same unsaid (inl protected) = absurd (cc (protected.0))
-of_busy plan options before between after lines lines' out WriteRecord read same unsaid (inr unbegun) =
-    inr (record { steps_are = gains_more _ _ _ _ _ read unbegun.1; nothing_said = unsaid; nothing_reported = Keeps-refl out })
-of_busy plan options before between after lines lines' out Memory read same unsaid fails =
-    inr (record { steps_are = gains_more _ _ _ _ _ read fails.1; nothing_said = unsaid; nothing_reported = Keeps-refl out })
-of_busy plan options before between after lines lines' out other read same unsaid fails = absurd fails
+-- an opened life comes to nothing, before anything is reported
+module _ (plan : PlanValue) (options : LoadOptions) (before between after : Around) (lines lines' : Option (List LineTold)) (out : Option (List ℕ)) (first : Core) (unsaid : GivesNothingSaid lines lines') where
+  stops : (may_begin : Bool) (done : List Step) → IsOpened plan options before between first may_begin → Asks between after done
+      → StopsOpened plan options (record { around = before; lines = lines; out = out }) (record { around = after; lines = lines'; out = out }) may_begin done
+  stops may_begin done opened asks =
+      record { first = first; between = between; opened = opened; steps_are = asks; nothing_said = unsaid; nothing_reported = Keeps-refl out }
 
--- an opened life over a protected record comes to nothing
-of_protected : (plan : PlanValue) (options : LoadOptions) (before between after : Around) (lines lines' : Option (List LineTold)) (out : Option (List ℕ)) (fault : LoadFault)
-    → Asks before between (reading false ∷ []) → KeepsRecord before between → GivesNothingSaid lines lines' → IsDrivingFault false between after fault
-    → IsLoadFault plan options (record { around = before; lines = lines; out = out }) (record { around = after; lines = lines'; out = out }) fault
-of_protected plan options before between after lines lines' out WriteRecord read same unsaid (inl protected) = inl (record {
-  steps_are = gains_nothing _ _ _ _ read protected.1.nothing_asked;
-  record_same = Keeps-trans _ _ _ same protected.1.record_same;
-  nothing_said = unsaid;
-  nothing_reported = Keeps-refl out;
-})
-of_protected plan options before between after lines lines' out WriteRecord read same unsaid (inr unbegun) = absurd (cc (unbegun.0))
-of_protected plan options before between after lines lines' out Connect read same unsaid fails = absurd (cc (fails.0))
-of_protected plan options before between after lines lines' out Memory read same unsaid fails = absurd (cc (fails.0))
-of_protected plan options before between after lines lines' out other read same unsaid fails = absurd fails
+  -- one whose record may be begun
+  of_busy : (fault : LoadFault) → IsOpened plan options before between first true → IsDrivingFault true between after fault
+      → IsLoadFault plan options (record { around = before; lines = lines; out = out }) (record { around = after; lines = lines'; out = out }) fault
+  of_busy Connect opened fails = (stops true _ opened fails.1, Keeps-trans _ _ _ opened.record_read fails.2)
+  of_busy WriteRecord opened (inl unlike) = absurd (cc (unlike.0))
+  of_busy WriteRecord opened (inr unbegun) = inr (stops true _ opened unbegun.1)
+  of_busy Memory opened fails = inr (stops true _ opened fails.1)
+  of_busy other opened fails = absurd fails
 
--- an opened life that comes to nothing, before anything is reported
-pub of_driving : (plan : PlanValue) (options : LoadOptions) (writable : Bool) (before between after : Around) (lines lines' : Option (List LineTold)) (out : Option (List ℕ)) (fault : LoadFault)
-    → Asks before between (reading writable ∷ []) → KeepsRecord before between → GivesNothingSaid lines lines' → IsDrivingFault writable between after fault
-    → IsLoadFault plan options (record { around = before; lines = lines; out = out }) (record { around = after; lines = lines'; out = out }) fault
-of_driving plan options true before between after lines lines' out fault read same unsaid fails = of_busy plan options before between after lines lines' out fault read same unsaid fails
-of_driving plan options false before between after lines lines' out fault read same unsaid fails = of_protected plan options before between after lines lines' out fault read same unsaid fails
+  -- one whose record may not be begun
+  of_idle : (fault : LoadFault) → IsOpened plan options before between first false → IsDrivingFault false between after fault
+      → IsLoadFault plan options (record { around = before; lines = lines; out = out }) (record { around = after; lines = lines'; out = out }) fault
+  of_idle WriteRecord opened (inl unlike) = inl (stops false _ opened unlike.1.nothing_asked, Keeps-trans _ _ _ opened.record_read unlike.1.record_same)
+  of_idle WriteRecord opened (inr unbegun) = absurd (cc (unbegun.0))
+  of_idle Connect opened fails = absurd (cc (fails.0))
+  of_idle Memory opened fails = absurd (cc (fails.0))
+  of_idle other opened fails = absurd fails
+
+  pub of_driving : (may_begin : Bool) (fault : LoadFault) → IsOpened plan options before between first may_begin → IsDrivingFault may_begin between after fault
+      → IsLoadFault plan options (record { around = before; lines = lines; out = out }) (record { around = after; lines = lines'; out = out }) fault
+  of_driving true fault opened fails = of_busy fault opened fails
+  of_driving false fault opened fails = of_idle fault opened fails
 
 -- a record that is not begun, once there is a connection
 pub not_begun : (before between after : Around) (why : RecordFault) → IsUnbegun why

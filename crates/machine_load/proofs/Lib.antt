@@ -3,4 +3,5 @@ mod Driving
 mod Faults
 mod Lives
 pub mod OnDisk
+mod Opened
 mod Steps

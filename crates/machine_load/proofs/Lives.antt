@@ -112,11 +112,11 @@ module _ (plan : PlanValue) (progress : Progress) (patience : ℕ) (told : Optio
 
 pub loads_are_lives : LoadsAreLives
 loads_are_lives plan options before after finish load items old new fits long was is out passes =
-    subst (λ (core : Core). (life : IsLived of_file load.writable core load.between after finish) → GoesOut life items → Lives plan finish.last items old new) (sym load.opened.core_is)
-    (lived plan progress options.patience before.record_text load.between after finish items old new fits long goes was load.record_read is passes) load.life out
+    subst (λ (core : Core). (life : IsLived of_file load.writable core load.between after finish) → GoesOut life items → Lives plan finish.last items old new) (sym load.opened.opening.core_is)
+    (lived plan progress options.patience before.record_text load.between after finish items old new fits long goes was load.opened.record_read is passes) load.life out
   where
     said : Progress
-    said = load.opened.said
+    said = load.opened.opening.said
 
     progress : Progress
     progress = record { verified = words_taken options.recheck said; going = said.going }
@@ -124,7 +124,7 @@ loads_are_lives plan options before after finish load items old new fits long wa
     goes : GoesOnFrom plan old.text progress
     goes = record {
       recorded = said;
-      says = subst (λ text. Says plan text (Ok said)) (told_text before.record_text load.opened.opened.text old.text load.opened.opened.is_record was) load.opened.opened.says;
+      says = subst (λ text. Says plan text (Ok said)) (told_text before.record_text load.opened.opening.opened.text old.text load.opened.opening.opened.is_record was) load.opened.opening.opened.says;
       fewer = fewer (options.recheck && not said.going) said.verified;
       same_mark = refl;
     }

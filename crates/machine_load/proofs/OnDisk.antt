@@ -23,7 +23,7 @@ asked_as P Q (Some disk) (Some disk') f h = (h.0, (h.1.0, h.1.1, f disk disk'.kn
 -- ---- a record in a file
 
 pub read_answered : (before after : RecordDisk) (result : Result OldRecord RecordFault) → after.name ≡ before.name
-    → IfOk result (λ old. HasAsked before.asked after.asked (IsRead before.name old.text.items before.known after.known))
+    → IfOk result (λ old. HasAsked before.asked after.asked (IsRead before.name old.text.items old.writable before.known after.known))
     → IfErr result (λ _. HasAsked before.asked after.asked (IsNotRead before.name)) → OnErr result (after.known ≡ before.known)
     → IsReadAnswered (Some before) (Some after) result
 read_answered before after (Ok old) name asked failed kept = (name, asked)
@@ -49,7 +49,13 @@ begin_answered before after (Err fault) text name asked failed remains none = (n
 -- ---- reading
 
 pub opened_on : (a b : Option RecordDisk) (old : OldRecord) → IsReadAnswered a b (Ok old) → DiskAsked a b IsOnlyRead
-opened_on a b old h = asked_as (λ disk known'. IsRead disk.name old.text.items disk.known known') IsOnlyRead a b (λ disk known' steps r. record { text = old.text.items; read = r }) h
+opened_on a b old h =
+    asked_as (λ disk known'. IsRead disk.name old.text.items old.writable disk.known known') IsOnlyRead a b
+    (λ disk known' steps r. record { text = old.text.items; writable = old.writable; read = r }) h
+
+-- it was read, and there was no room to compare it
+pub unlike_on : (a b : Option RecordDisk) (old : OldRecord) → IsReadAnswered a b (Ok old) → DiskAsked a b (disk_asked_before Memory)
+unlike_on a b old h = asked_as IsOnlyRead (disk_asked_before Memory) a b (λ disk known' steps x. inr (inl x)) (opened_on a b old h)
 
 -- ---- and then beginning
 
@@ -96,7 +102,7 @@ pub not_lived_on : (a b c : Option RecordDisk) (fault : LoadFault) → DiskAsked
 not_lived_on a b c Connect o h = only_read_on a b c o h
 not_lived_on a b c WriteRecord o (inl same) = asked_as IsOnlyRead (disk_asked_before WriteRecord) a c (λ disk known' steps x. inl x) (only_read_on a b c o same)
 not_lived_on a b c WriteRecord o (inr h) = not_begun_then WriteRecord a b c (λ disk known' steps x. inr x) o h
-not_lived_on a b c Memory o h = not_begun_then Memory a b c (λ disk known' steps x. inr x) o h
+not_lived_on a b c Memory o h = not_begun_then Memory a b c (λ disk known' steps x. inr (inr x)) o h
 not_lived_on a b c other o h = absurd h
 
 -- ---- and its record closed

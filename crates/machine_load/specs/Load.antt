@@ -1,5 +1,5 @@
 -- A load: what a record says, what was done on the line, and what was reported.
-use Rattle.std.specs.Prelude.{◌≡◌, ◌⊎◌, ℕ, ◌≤◌, Bool, true, false, ◌&&◌, not, if◌then◌else◌, List, [], ◌∷◌, length, Option, Some, None, Ok}
+use Rattle.std.specs.Prelude.{◌≡◌, ◌⊎◌, ◌↔◌, ℕ, ◌≤◌, Bool, IsTrue, true, false, ◌&&◌, not, if◌then◌else◌, List, [], ◌∷◌, length, Option, Some, None, Ok}
 use Rattle.std.specs.Io.KnownBytes.{Appends, Keeps}
 use Rattle.tape_values.specs.Told.{IsAsTold}
 use Rattle.tape_image.specs.Plan.{PlanValue}
@@ -24,8 +24,9 @@ use Rattle.byte_io.specs.Output.{WritesAllBut}
 use Rattle.console_reach.specs.Reached.{IsUnused, LineTold}
 use Rattle.machine_load.specs.GivenBack.{IsGivenBack}
 use Rattle.machine_load.specs.LoadReport.{load_report}
-use Rattle.record_file.specs.OldRecord.{HoldsNoRecord}
-use Rattle.machine_load.specs.Step.{Step, reading, Connected, RecordBegun, RecordGivenBack}
+use Rattle.record_file.specs.OldRecord.{HoldsNoRecord, MayBecome}
+use Rattle.record_file.specs.declared.old_record.Writable.{Writable}
+use Rattle.machine_load.specs.Step.{Step, RecordRead, Connected, RecordBegun, RecordGivenBack}
 use Rattle.request_values.specs.declared.options.LoadOptions.{LoadOptions}
 
 -- what the surroundings of a load tell: what was asked of them, with what was answered, and what the record is
@@ -68,6 +69,14 @@ pub record IsOpening (record_told : Option (List ℕ)) (plan : PlanValue) (optio
   pub said : Progress
   pub opened : SaysProgress record_told plan said
   pub core_is : core ≡ begun plan (words_taken options.recheck said) said.going options.patience
+
+-- the record was read, and a life begins with this core; and it is known whether its own record may be begun over what was read
+pub record IsOpened (plan : PlanValue) (options : LoadOptions) (before between : Around) (first : Core) (may_begin : Bool) : Type 0 where
+  pub how : Writable
+  pub read_first : Asks before between (RecordRead how ∷ [])
+  pub record_read : KeepsRecord before between
+  pub opening : IsOpening before.record_text plan options first
+  pub is_known : IsTrue may_begin ↔ MayBecome how opening.opened.text (record_text Second plan first.verified false)
 
 -- an engine that had the most turns led the one core to the other, over a line on which nothing had been said, and stopped so; then the line
 -- tells this
@@ -121,7 +130,7 @@ pub record IsIdleLife (first : Core) (before after : Around) (finish : Finish) :
   pub idle : IsIdle first finish.last finish.stop before after
   pub no_line : finish.line ≡ None
 
--- the life goes on, over a record that may be written: a connection is made, then the record is begun anew, the engine drives the life over
+-- the life goes on, where its record may be begun: a connection is made, then the record is begun anew, the engine drives the life over
 -- the line, and in the end the record's keeper is given back
 pub record IsBusyLife (writable : Bool) (first : Core) (before after : Around) (finish : Finish) : Type 0 where
   pub may_write : writable ≡ true
@@ -135,14 +144,13 @@ pub record IsBusyLife (writable : Bool) (first : Core) (before after : Around) (
 abbrev pub IsLoadLife : Bool → Core → Around → Around → Finish → Type 0
 IsLoadLife writable first before after finish = IsIdleLife first before after finish ⊎ IsBusyLife writable first before after finish
 
--- a load: first the record is read, which says whether it may be written and with which core the life begins; then the life, from there on
+-- a load: first the record is read, which says with which core the life begins, and whether that one's record may be begun over it; then the
+-- life, from there on
 pub record IsLoadOf (plan : PlanValue) (options : LoadOptions) (before : Around) (IsLifeFrom : Bool → Core → Around → Type 0) : Type 0 where
   pub first : Core
   pub writable : Bool
   pub between : Around
-  pub read_first : Asks before between (reading writable ∷ [])
-  pub record_read : KeepsRecord before between
-  pub opened : IsOpening before.record_text plan options first
+  pub opened : IsOpened plan options before between first writable
   pub life : IsLifeFrom writable first between
 
 -- a load that ended so

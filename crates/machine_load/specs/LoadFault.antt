@@ -7,9 +7,12 @@ use Rattle.load_record.specs.declared.reader.RecordError.{RecordError}
 use Rattle.load_record.specs.Reading.{Says}
 use Rattle.load_record.specs.declared.reader.RecordError.TheVariants.{NotARecord}
 use Rattle.machine_load.specs.GivenBack.{GivesNothingSaid}
-use Rattle.machine_load.specs.Load.{Around, Setting, Asks, AsksNothing, KeepsRecord, IsCutShort}
+use Rattle.host_core.specs.Core.{Core}
+use Rattle.machine_load.specs.Load.{Around, Setting, Asks, AsksNothing, KeepsRecord, IsCutShort, IsOpened}
 use Rattle.record_file.specs.OldRecord.{HoldsNoRecord}
-use Rattle.machine_load.specs.Step.{Step, reading, ReadProtected, Connected, InUse, NotRead, NotConnected, NotBegun, OutOfMemory}
+use Rattle.record_file.specs.declared.old_record.Writable.{Writable}
+use Rattle.record_file.specs.declared.old_record.Writable.TheVariants.{InPlace}
+use Rattle.machine_load.specs.Step.{Step, RecordRead, Connected, InUse, NotRead, NotConnected, NotBegun, OutOfMemory}
 use Rattle.request_values.specs.declared.options.LoadOptions.{LoadOptions}
 use Rattle.machine_load.specs.declared.fault.LoadFault.{LoadFault}
 use Rattle.machine_load.specs.declared.fault.LoadFault.TheVariants.{ReadRecord, RecordInUse, Record, Connect, WriteRecord, WriteOutput, Memory}
@@ -29,16 +32,17 @@ fault_of_record record_fault.InUse = RecordInUse
 fault_of_record record_fault.Write = WriteRecord
 fault_of_record record_fault.Memory = Memory
 
--- how a life fails to open: its record can't be read, or is another load's at the time, or is read and refused
+-- how a life fails to open: its record can't be read, or is another load's at the time, or is read and refused; or memory is wanting, also
+-- to compare what was read with the record that would be written over it
 abbrev pub IsOpeningFault : PlanValue → Around → Around → LoadFault → Type 0
 IsOpeningFault plan before after ReadRecord = Asks before after (NotRead ∷ [])
 IsOpeningFault plan before after RecordInUse = Asks before after (InUse ∷ [])
 IsOpeningFault plan before after (Record why) =
-    ((writable : Bool) × Asks before after (reading writable ∷ [])) × IsRefusedRecord before.record_text plan why
-IsOpeningFault plan before after Memory = Asks before after (OutOfMemory ∷ [])
+    ((writable : Writable) × Asks before after (RecordRead writable ∷ [])) × IsRefusedRecord before.record_text plan why
+IsOpeningFault plan before after Memory = Asks before after (OutOfMemory ∷ []) ⊎ Asks before after (RecordRead InPlace ∷ [])
 IsOpeningFault plan before after other = ⊥
 
--- how an opened life comes to no line or no record: one that may not be written fails before there is a connection; and without a
+-- how an opened life comes to no line or no record: one whose record may not be begun fails before there is a connection; and without a
 -- connection the record is as it was
 abbrev pub IsDrivingFault : Bool → Around → Around → LoadFault → Type 0
 IsDrivingFault writable before after Connect = (writable ≡ true) × Asks before after (NotConnected ∷ []) × KeepsRecord before after
@@ -47,9 +51,12 @@ IsDrivingFault writable before after WriteRecord =
 IsDrivingFault writable before after Memory = (writable ≡ true) × Asks before after (Connected ∷ OutOfMemory ∷ [])
 IsDrivingFault writable before after other = ⊥
 
--- so far was gone, with nothing said and nothing reported
-pub record StopsSilently (before after : Setting) (done : List Step) : Type 0 where
-  pub steps_are : Asks before.around after.around done
+-- a life was opened, whose record may be begun or may not, and then so far was gone, with nothing said and nothing reported
+pub record StopsOpened (plan : PlanValue) (options : LoadOptions) (before after : Setting) (may_begin : Bool) (done : List Step) : Type 0 where
+  pub first : Core
+  pub between : Around
+  pub opened : IsOpened plan options before.around between first may_begin
+  pub steps_are : Asks between after.around done
   pub nothing_said : GivesNothingSaid before.lines after.lines
   pub nothing_reported : Keeps before.out after.out
 
@@ -62,21 +69,31 @@ pub record StopsAfter (before after : Setting) (done : List Step) : Type 0 where
 
 -- the record was read, and nothing else came of the load
 abbrev pub StopsAfterReading : Setting → Setting → Type 0
-StopsAfterReading before after = (writable : Bool) × StopsAfter before after (reading writable ∷ [])
+StopsAfterReading before after = (writable : Writable) × StopsAfter before after (RecordRead writable ∷ [])
 
--- where memory may be wanting, with nothing reported: for the record, and for the record begun anew, before the first key
-abbrev pub IsWantOfMemory : Setting → Setting → Type 0
-IsWantOfMemory before after = StopsAfter before after (OutOfMemory ∷ []) ⊎ StopsSilently before after (reading true ∷ Connected ∷ OutOfMemory ∷ [])
+-- where memory may be wanting, with nothing reported: for the record, before there is a connection, and for the record begun anew, before
+-- the first key
+abbrev pub IsWantOfMemory : PlanValue → LoadOptions → Setting → Setting → Type 0
+IsWantOfMemory plan options before after =
+    (StopsAfter before after (OutOfMemory ∷ []) ⊎ StopsAfter before after (RecordRead InPlace ∷ []))
+    ⊎ StopsOpened plan options before after true (Connected ∷ OutOfMemory ∷ [])
 
--- how a load comes to nothing: a record that can't be read, is another load's at the time, is refused or is protected comes before the
+-- a record that can't be written: before there is a connection, where it may not be begun, and then it is as it was; or, where all that
+-- could be known before said that it may, before the first key
+abbrev pub IsUnwritable : PlanValue → LoadOptions → Setting → Setting → Type 0
+IsUnwritable plan options before after =
+    (StopsOpened plan options before after false [] × KeepsRecord before.around after.around)
+    ⊎ StopsOpened plan options before after true (Connected ∷ NotBegun ∷ [])
+
+-- how a load comes to nothing: a record that can't be read, is another load's at the time, is refused or may not be begun comes before the
 -- connection, a connection that can't be made before the record is touched, a record that can't be written before the first key, a report
 -- that can't be written last
 abbrev pub IsLoadFault : PlanValue → LoadOptions → Setting → Setting → LoadFault → Type 0
 IsLoadFault plan options before after ReadRecord = StopsAfter before after (NotRead ∷ [])
 IsLoadFault plan options before after RecordInUse = StopsAfter before after (InUse ∷ [])
 IsLoadFault plan options before after (Record why) = StopsAfterReading before after × IsRefusedRecord before.around.record_text plan why
-IsLoadFault plan options before after Connect = StopsAfter before after (reading true ∷ NotConnected ∷ [])
-IsLoadFault plan options before after WriteRecord =
-    StopsAfter before after (ReadProtected ∷ []) ⊎ StopsSilently before after (reading true ∷ Connected ∷ NotBegun ∷ [])
+IsLoadFault plan options before after Connect =
+    StopsOpened plan options before after true (NotConnected ∷ []) × KeepsRecord before.around after.around
+IsLoadFault plan options before after WriteRecord = IsUnwritable plan options before after
 IsLoadFault plan options before after WriteOutput = IsCutShort plan options before after
-IsLoadFault plan options before after Memory = IsWantOfMemory before after
+IsLoadFault plan options before after Memory = IsWantOfMemory plan options before after

@@ -7,6 +7,7 @@ use Rattle.record_file.specs.DiskStep.{DiskStep}
 use Rattle.record_file.specs.Reading.{IsRead, IsNotRead}
 use Rattle.record_file.specs.declared.made.Made.{Made}
 use Rattle.record_file.specs.declared.old_record.OldRecord.{OldRecord}
+use Rattle.record_file.specs.declared.old_record.Writable.{Writable}
 use Rattle.record_file.specs.declared.record_fault.RecordFault.{RecordFault}
 use Rattle.machine_load.specs.declared.fault.LoadFault.{LoadFault}
 use Rattle.machine_load.specs.declared.fault.LoadFault.TheVariants.{ReadRecord, RecordInUse, Record, Connect, WriteRecord, WriteOutput, Memory}
@@ -36,7 +37,7 @@ IsNotReadOn disk known' steps = IsNotRead disk.name steps × (known' ≡ disk.kn
 
 -- what was asked by what came of a reading
 abbrev pub IsReadAnswered : Option RecordDisk → Option RecordDisk → Result OldRecord RecordFault → Type 0
-IsReadAnswered before after (Ok old) = DiskAsked before after (λ disk known'. IsRead disk.name old.text.items disk.known known')
+IsReadAnswered before after (Ok old) = DiskAsked before after (λ disk known'. IsRead disk.name old.text.items old.writable disk.known known')
 IsReadAnswered before after (Err fault) = DiskAsked before after IsNotReadOn
 
 -- a record of whose file this is known was begun anew: so only one that is held; and it remains, also once it is closed
@@ -67,7 +68,8 @@ IsBeginAnswered before after (Err fault) = DiskAsked before after IsNotBegunOn
 -- the record was read, and nothing else, and from there on this is known of its file
 pub record IsOnlyRead (disk : RecordDisk) (known' : FileKnown) (steps : List DiskStep) : Type 0 where
   pub text : List ℕ
-  pub read : IsRead disk.name text disk.known known' steps
+  pub writable : Writable
+  pub read : IsRead disk.name text writable disk.known known' steps
 
 -- it was read, and then this was asked of what is known of its file
 pub record IsReadFirst (P : List ℕ → FileKnown → FileKnown → List DiskStep → Type 0) (disk : RecordDisk) (known' : FileKnown) (steps : List DiskStep)
@@ -100,7 +102,7 @@ disk_asked_before (Record why) disk known' steps = IsOnlyRead disk known' steps
 disk_asked_before Connect disk known' steps = IsOnlyRead disk known' steps
 disk_asked_before WriteRecord disk known' steps = IsOnlyRead disk known' steps ⊎ IsReadNotBegun disk known' steps
 disk_asked_before WriteOutput disk known' steps = IsOnlyRead disk known' steps ⊎ IsReadAndBegun disk known' steps
-disk_asked_before Memory disk known' steps = IsNotReadOn disk known' steps ⊎ IsReadNotBegun disk known' steps
+disk_asked_before Memory disk known' steps = IsNotReadOn disk known' steps ⊎ IsOnlyRead disk known' steps ⊎ IsReadNotBegun disk known' steps
 
 -- this was asked, and then the record was closed: what goes is decided by what was known of its file
 pub record IsClosedAfter (P : RecordDisk → FileKnown → List DiskStep → Type 0) (disk : RecordDisk) (steps : List DiskStep) : Type 0 where

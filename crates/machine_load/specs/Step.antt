@@ -1,15 +1,15 @@
 -- What a load asks of its surroundings, and what they answer.
-use Rattle.std.specs.Prelude.{Bool, if◌then◌else◌, Result, Ok, Err}
+use Rattle.std.specs.Prelude.{Result, Ok, Err}
 use Rattle.load_devices.specs.declared.fault.LineFault.{LineFault}
 use Rattle.record_file.specs.declared.old_record.OldRecord.{OldRecord}
+use Rattle.record_file.specs.declared.old_record.Writable.{Writable}
 use Rattle.record_file.specs.declared.record_fault.RecordFault.{RecordFault}
 use Rattle.record_file.specs.declared.record_fault.RecordFault.TheVariants as fault
 
--- the record of earlier lives is read, or a record that is protected, a connection is made, the record is begun anew, and its keeper is
+-- the record of earlier lives is read, which may be begun anew so, a connection is made, the record is begun anew, and its keeper is
 -- given back; or one of these fails, since another load holds the record, or for another reason, or memory is wanting
 pub data Step : Type 0 where
-  RecordRead : Step
-  ReadProtected : Step
+  RecordRead : Writable → Step
   Connected : Step
   RecordBegun : Step
   RecordGivenBack : Step
@@ -18,10 +18,6 @@ pub data Step : Type 0 where
   NotConnected : Step
   NotBegun : Step
   OutOfMemory : Step
-
--- the record was read, and may be written or may not
-abbrev pub reading : Bool → Step
-reading writable = if writable then RecordRead else ReadProtected
 
 -- what a record that failed was asked for in vain
 abbrev pub failing : RecordFault → Step
@@ -32,7 +28,7 @@ failing fault.Memory = OutOfMemory
 
 -- what was answered where the record was asked for
 abbrev pub read_step : Result OldRecord RecordFault → Step
-read_step (Ok old) = reading old.writable
+read_step (Ok old) = RecordRead old.writable
 read_step (Err fault) = failing fault
 
 -- what was answered where a connection was asked for

@@ -18,13 +18,12 @@ ghost use Rattle.stream_line.specs.Dialling.{asked_once};
 ghost use Rattle.console_reach.specs.Reached.{line_told};
 ghost use Rattle.machine_load.specs.Driving.{IsDrivenLife, IsLived};
 ghost use Rattle.machine_load.specs.GivenBack.{GivesNothingSaid, IsGivenBack};
-ghost use Rattle.machine_load.specs.Load.{finish_of, Asks, IsOpening, words_taken};
+ghost use Rattle.machine_load.specs.Load.{finish_of, IsOpened, words_taken};
 ghost use Rattle.machine_load.specs.LoadFault.{IsOpeningFault, IsDrivingFault};
 ghost use Rattle.machine_load.specs.LoadReport.{load_report};
 ghost use Rattle.machine_load.specs.RecordDisk.{DiskAsked, disk_asked_by, disk_asked_before, IsBegunOn, IsOnlyRead, IsLivedOn, IsNotLivedOn};
 ghost use Rattle.machine_load.specs.Scene.{around_of, keeper_of, scene, IsLoaded, IsNotLoaded};
 ghost use Rattle.record_file.specs.OldRecord.{HoldsNoRecord};
-ghost use Rattle.machine_load.specs.Step.{reading};
 
 use crate::fault::LoadFault;
 use crate::outcome::Outcome;
@@ -51,7 +50,8 @@ use tape_image::Plan;
 /// word is to be looked at again, no word counts as verified; a typed start does.
 ///
 /// `ReadRecord`, `RecordInUse`, `Record` and `Connect` come with nothing reported and the record as it
-/// was, `WriteRecord` before the first key, and before the connection where the record is protected.
+/// was, `WriteRecord` before the first key, and before the connection, with the record as it was, where it
+/// is protected, or would have to be written in place and a byte of it would become another one.
 /// `WriteOutput` is a report that could not be written whole. `Memory` comes only where a growth was
 /// refused, for the record: before the first key, with nothing reported. From the first key on a load
 /// takes no memory.
@@ -120,16 +120,15 @@ impl<L> Lived<L> {
     }
 }
 
-// The life that begins with what the record says, and whether the record may be written.
+// The life that begins with what the record says, and whether its own record may be begun over that one.
 fn first_core<S: Surroundings>(
     alloc: Global,
     plan: Plan,
     options: LoadOptions,
     around: &mut S,
 ) -> Result<(HostCore, bool), LoadFault>
-    ensures opened { IfOk result (λ opened. IsOpening (S.record_text around.old) plan options opened.0) }
-    ensures step { IfOk result (λ opened. Asks (around_of S.Surroundings around.old) (around_of S.Surroundings around.new)
-        (reading opened.1 ∷ [])) }
+    ensures opened { IfOk result (λ opened. IsOpened plan options (around_of S.Surroundings around.old) (around_of S.Surroundings around.new)
+        opened.0 opened.1) }
     ensures fault { IfErr result (IsOpeningFault plan (around_of S.Surroundings around.old) (around_of S.Surroundings around.new)) }
     ensures same { Keeps (S.record_text around.old) (S.record_text around.new) }
     ensures asked { S.asked around.new ≡ S.asked around.old }
@@ -142,7 +141,8 @@ fn first_core<S: Surroundings>(
     let said = what_is_said(&record.text, &plan)?;
     let progress = taken(said, options.recheck);
     let core = HostCore::new(plan, progress, options.patience).unwrap();
-    Ok((core, record.writable))
+    let may_begin = record.may_become(alloc, core.plan(), core.progress().verified)?;
+    Ok((core, may_begin))
 }
 
 // What a record's text says of a plan's load. A file that was never a record is none.

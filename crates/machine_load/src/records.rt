@@ -7,7 +7,7 @@ ghost use Rattle.record_file.specs.Taking.{kind_of};
 ghost use Rattle.tape_image.specs.Plan.{PlanValue};
 
 use load_devices::{Keep, MemoryKeep};
-use record_file::{Disk, DiskRecord, OldRecord, RecordFault, RecordFile};
+use record_file::{Disk, DiskRecord, OldRecord, RecordFault, RecordFile, Writable};
 use std::alloc::Global;
 use tape_image::Plan;
 
@@ -70,7 +70,7 @@ impl Records for InMemory {
     fn read(&mut self, alloc: Global) -> Result<OldRecord, RecordFault> {
         Ok(OldRecord {
             text: Vec::new(alloc),
-            writable: true,
+            writable: Writable::Anew,
         })
     }
 

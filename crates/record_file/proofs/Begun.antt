@@ -1,5 +1,5 @@
 -- The two ways to begin a record, one behind the other, and what the file is let go by.
-use Rattle.std.proofs.Common.{◌≡◌, ℕ, List, [], ◌++◌, Bool, Option, Some, None, Result, Ok, Err, refl, ap, subst, sym}
+use Rattle.std.proofs.Common.{◌≡◌, ℕ, List, [], ◌++◌, Bool, Option, Some, None, Result, Ok, Err, refl, ap, subst, sym, ◌∷◌, ◌∙◌}
 use Rattle.std.specs.Prelude.{MatchOption, option_map}
 use Rattle.std.specs.Result.{IfOk, IfErr}
 use Rattle.load_devices.proofs.Told.{tells_join, tells_none}
@@ -8,11 +8,13 @@ use Rattle.record_file.specs.Closing.{IsRecordClosed}
 use Rattle.load_devices.specs.Told.{HasAsked}
 use Rattle.record_file.specs.DiskStep.{DiskStep}
 use Rattle.record_file.specs.Holding.{IsHolding}
-use Rattle.record_file.specs.Reading.{kind_after, IsRead, Held, Absent, IsNotRead, LetGo}
+use Rattle.record_file.specs.Reading.{kind_after, IsRead, Held, Absent, IsNotRead, IsWayFound, LetGo}
 use Rattle.record_file.specs.Taking.{kind_of}
 use Rattle.record_file.specs.declared.held_file.HeldFile.{HeldFile}
 use Rattle.record_file.specs.declared.made.Made.{Made}
 use Rattle.record_file.specs.declared.made.Made.TheVariants.{Before}
+use Rattle.record_file.specs.declared.old_record.Writable.{Writable}
+use Rattle.record_file.specs.declared.old_record.Writable.TheVariants.{No}
 use Rattle.record_file.specs.declared.record_fault.RecordFault.{RecordFault}
 
 -- what is known of a file that is held, where one is
@@ -59,14 +61,24 @@ pub none_known : {T : Type 0} (P : Made × Bool → Type 0) (Q : Type 0) (before
 none_known P Q before is q = subst (λ b. MatchOption (option_map kind_of b) Q P) is q
 
 pub read_none : {T : Type 0} (name text : List ℕ) (a b : Option (List DiskStep)) (found before : Option (HeldFile T)) → found ≡ None → text ≡ []
-    → HasAsked a b (IsHolding name (option_map kind_of found)) → HasAsked a b (IsRead name text (option_map kind_of before) (option_map kind_of before))
-read_none name text a b found before is empty h = (h.0, h.1, Absent h.0 (subst (λ f. IsHolding name (option_map kind_of f) h.0) is h.2) empty)
+    → HasAsked a b (IsHolding name (option_map kind_of found)) → HasAsked a b (IsRead name text No (option_map kind_of before) (option_map kind_of before))
+read_none name text a b found before is empty h = (h.0, h.1, Absent h.0 (subst (λ f. IsHolding name (option_map kind_of f) h.0) is h.2) empty refl)
 
-pub read_some : {T : Type 0} (name text : List ℕ) (a b : Option (List DiskStep)) (found before : Option (HeldFile T)) (held after : HeldFile T) → found ≡ Some held
-    → kind_of after ≡ kind_after text (kind_of held) → HasAsked a b (IsHolding name (option_map kind_of found))
-    → HasAsked a b (IsRead name text (option_map kind_of before) (Some (kind_of after)))
-read_some name text a b found before held after is kind h =
-    (h.0, h.1, subst (λ k. IsRead name text (option_map kind_of before) (Some k) h.0) (sym kind) (Held (kind_of held) h.0 (subst (λ f. IsHolding name (option_map kind_of f) h.0) is h.2)))
+-- reading changes no device into a file
+same_device : (text : List ℕ) (kind : Made × Bool) → (kind_after text kind).1 ≡ kind.1
+same_device [] kind = refl
+same_device (byte ∷ text) kind = refl
+
+pub read_some : {T : Type 0} (name text : List ℕ) (writable : Writable) (a b c : Option (List DiskStep)) (found before : Option (HeldFile T)) (held after : HeldFile T)
+    → found ≡ Some held → kind_of after ≡ kind_after text (kind_of held) → HasAsked a b (IsHolding name (option_map kind_of found))
+    → HasAsked b c (IsWayFound name after.device writable) → HasAsked a c (IsRead name text writable (option_map kind_of before) (Some (kind_of after)))
+read_some name text writable a b c found before held after is kind h w = (
+  h.0 ++ w.0,
+  tells_join a b c h.0 w.0 h.1 w.1,
+  subst (λ k. IsRead name text writable (option_map kind_of before) (Some k) (h.0 ++ w.0)) (sym kind)
+      (Held (kind_of held) h.0 w.0 (subst (λ f. IsHolding name (option_map kind_of f) h.0) is h.2)
+      (subst (λ device. IsWayFound name device writable w.0) (ap (λ k. k.1) kind ∙ same_device text (kind_of held)) w.2)),
+)
 
 pub unread : {T : Type 0} (name : List ℕ) (a b c : Option (List DiskStep)) (found : Option (HeldFile T)) (held after : HeldFile T) → found ≡ Some held
     → kind_of after ≡ kind_of held → HasAsked a b (IsHolding name (option_map kind_of found)) → HasAsked b c (IsLetGo name after.made) → HasAsked a c (IsNotRead name)

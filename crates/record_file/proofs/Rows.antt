@@ -15,6 +15,8 @@ use Rattle.record_file.specs.declared.held_file.Opening.{Opening}
 use Rattle.record_file.specs.declared.held_file.Try.{Try}
 use Rattle.record_file.specs.declared.held_file.Try.TheVariants as try
 use Rattle.record_file.specs.declared.record_fault.RecordFault.{RecordFault}
+use Rattle.record_file.specs.Reading.{IsWayFound, Device as WayOfDevice, Reached, OutOfReach}
+use Rattle.record_file.specs.declared.old_record.Writable.TheVariants.{InPlace, Anew}
 use Rattle.record_file.specs.declared.made.Made.{Made}
 use Rattle.record_file.specs.declared.made.Made.TheVariants.{Before, Here, BehindLink}
 
@@ -140,6 +142,17 @@ pub tried_err : {T : Type 0} (name : List ℕ) (made : Made) (a b c : Option (Li
     → HasAsked a b (IsOpened name (Some made)) → IfErr result (λ _. HasAsked b c (IsHeld name None)) → IfErr result (λ _. HasAsked a c (IsTry name None))
 tried_err name made a b c (Err fault) o h = (o.0 ++ h.0, tells_join a b c o.0 h.0 o.1 h.1, NotHeld made o.0 h.0 o.2 h.2)
 tried_err name made a b c (Ok outcome) o h = tt
+
+-- ---- how it may be begun anew
+
+pub device_found : (name : List ℕ) (device : Bool) → device ≡ true → IsWayFound name device Anew []
+device_found name device is = subst (λ d. IsWayFound name d Anew []) (sym is) WayOfDevice
+
+pub reached : (name : List ℕ) (device : Bool) → device ≡ false → IsWayFound name device Anew (Did (FindSoleFile name) ∷ [])
+reached name device is = subst (λ d. IsWayFound name d Anew (Did (FindSoleFile name) ∷ [])) (sym is) Reached
+
+pub out_of_reach : (name : List ℕ) (device : Bool) → device ≡ false → IsWayFound name device InPlace (Failed (FindSoleFile name) ∷ [])
+out_of_reach name device is = subst (λ d. IsWayFound name d InPlace (Failed (FindSoleFile name) ∷ [])) (sym is) OutOfReach
 
 -- ---- where the file was made
 

@@ -1,20 +1,31 @@
 -- What is asked of a system of files to read the old record.
-use Rattle.std.specs.Prelude.{◌≡◌, ℕ, List, [], ◌∷◌, ◌++◌, Bool, Option, Some}
+use Rattle.std.specs.Prelude.{◌≡◌, ℕ, List, [], ◌∷◌, ◌++◌, Bool, true, false, Option, Some}
 use Rattle.record_file.specs.Beginning.{IsLetGo}
-use Rattle.record_file.specs.DiskStep.{DiskStep}
+use Rattle.record_file.specs.DiskStep.{DiskStep, FindSoleFile, Did, Failed}
 use Rattle.record_file.specs.Holding.{IsHeldAtLast, IsNotHeld}
 use Rattle.record_file.specs.declared.made.Made.{Made}
 use Rattle.record_file.specs.declared.made.Made.TheVariants.{Before}
+use Rattle.record_file.specs.declared.old_record.Writable.{Writable}
+use Rattle.record_file.specs.declared.old_record.Writable.TheVariants.{No, InPlace, Anew}
 
 -- a file that this load made, and in which something stands nevertheless, counts as one that was there
 abbrev pub kind_after : List ℕ → Made × Bool → Made × Bool
 kind_after [] kind = kind
 kind_after (byte ∷ text) kind = (Before, kind.1)
 
--- the file is held and read, and from there on this is known of it; or there is none, and what was known stays so
-pub data IsRead (name text : List ℕ) (known : Option (Made × Bool)) : Option (Made × Bool) → List DiskStep → Type 0 where
-  Held : (kind : Made × Bool) (steps : List DiskStep) → IsHeldAtLast name kind steps → IsRead name text known (Some (kind_after text kind)) steps
-  Absent : (steps : List DiskStep) → IsNotHeld name steps → text ≡ [] → IsRead name text known known steps
+-- how a file that is held, a device or none, may be begun anew: not where it may not be written; a device without more; and of any other it
+-- is found out whether a rename would reach it
+pub data IsWayFound (name : List ℕ) : Bool → Writable → List DiskStep → Type 0 where
+  Protected : (device : Bool) → IsWayFound name device No []
+  Device : IsWayFound name true Anew []
+  Reached : IsWayFound name false Anew (Did (FindSoleFile name) ∷ [])
+  OutOfReach : IsWayFound name false InPlace (Failed (FindSoleFile name) ∷ [])
+
+-- the file is held and read, it may be begun anew so, and from there on this is known of it; or there is none, and what was known stays so
+pub data IsRead (name text : List ℕ) (writable : Writable) (known : Option (Made × Bool)) : Option (Made × Bool) → List DiskStep → Type 0 where
+  Held : (kind : Made × Bool) (steps finding : List DiskStep) → IsHeldAtLast name kind steps → IsWayFound name kind.1 writable finding
+      → IsRead name text writable known (Some (kind_after text kind)) (steps ++ finding)
+  Absent : (steps : List DiskStep) → IsNotHeld name steps → text ≡ [] → writable ≡ No → IsRead name text writable known known steps
 
 -- it is not held, or is held and let go
 pub data IsNotRead (name : List ℕ) : List DiskStep → Type 0 where

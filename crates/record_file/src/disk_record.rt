@@ -17,6 +17,7 @@ use crate::beside::{BESIDE, folder_of, make_new};
 use crate::disk::{Access, Disk};
 use crate::durable::DurableWriter;
 use crate::held_file::{HeldFile, is_named, let_go};
+use crate::in_place::begun_in_memory;
 use crate::made::Made;
 use crate::record_fault::RecordFault;
 use load_devices::KeepFault;
@@ -182,10 +183,7 @@ fn rewind<T: Read + Seek + OpenFile + Drop>(
     ensures kind { kind_of held.new ≡ kind_of held.old }
     ensures fault { IfErr result IsUnbegun }
 {
-    let mut keeper = FileKeep::new(Vec::new(alloc));
-    if keeper.begin(plan, verified).is_err() {
-        return Err(RecordFault::Memory);
-    }
+    let keeper = begun_in_memory(alloc, plan, verified)?;
     if held.rewind_for(keeper.writer()) {
         Ok(())
     } else {

@@ -7,12 +7,13 @@ ghost use Rattle.record_file.specs.DiskStep.{IsNameSeen, IsLookAtName, Failed, O
 ghost use Rattle.record_file.specs.Holding.{IsFound, IsMade, IsOpened, hold_steps, IsHeld, IsTry, IsHolding, IsNotHeld};
 ghost use Rattle.record_file.specs.Taking.{made_of, IsOpenedAs, kind_of, tried, device_of, IsMadeSo};
 ghost use Rattle.record_file.specs.InPlace.{ChangesNoByte, HasRead};
-ghost use Rattle.record_file.specs.Reading.{kind_after};
+ghost use Rattle.record_file.specs.Reading.{IsWayFound, kind_after};
 ghost use Rattle.record_file.specs.RecordFault.{IsUnread};
 
 use crate::disk::{Access, Disk};
 use crate::in_place::changes_no_byte;
 use crate::made::Made;
+use crate::old_record::Writable;
 use crate::record_fault::RecordFault;
 use byte_io::read_up_to;
 use load_record::RECORD_LIMIT;
@@ -76,7 +77,7 @@ pub(crate) struct HeldFile<T: Drop> {
     pub(crate) made: Made,
 
     /// Whether it may be written.
-    pub(crate) writable: bool,
+    writable: bool,
 }
 
 /// What came of one try to hold a record's file.
@@ -216,6 +217,24 @@ pub(crate) fn is_named<D: Disk>(disk: &mut D, name: &str, held: &HeldFile<D::Fil
     match disk.look(name) {
         Ok(metadata) => FileId::of(&metadata) == held.id,
         Err(_) => false,
+    }
+}
+
+/// How a record may be begun anew over a file that is held. A rename does not reach what a link leads to, and
+/// leaves the old record under another name; a device is written where it is, whatever was read of it.
+pub(crate) fn way_over<D: Disk>(disk: &mut D, name: &str, held: &HeldFile<D::File>) -> Writable
+    ensures asked { HasAsked (D.asked disk.old) (D.asked disk.new) (IsWayFound name.now held.now.device result) }
+{
+    if !held.writable {
+        return Writable::No;
+    }
+    if held.device {
+        return Writable::Anew;
+    }
+    if disk.is_sole_file(name) {
+        Writable::Anew
+    } else {
+        Writable::InPlace
     }
 }
 

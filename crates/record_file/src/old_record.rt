@@ -1,10 +1,28 @@
 //! What the record's file held before a load.
-ghost use Rattle.std.specs.Prelude.{◌↔◌, Contains, IsTrue};
+ghost use Rattle.std.specs.Prelude.{◌≡◌, ◌↔◌, Contains, IfOk, IsTrue, OnErr, false};
 ghost use Rattle.byte_io.specs.Text.{line_end};
-ghost use Rattle.record_file.specs.OldRecord.{BeginsHeader, HoldsNoRecord};
+ghost use Rattle.load_record.specs.RecordText.{record_text};
+ghost use Rattle.load_record.specs.declared.version.Version.TheVariants.{Second};
+ghost use Rattle.record_file.specs.OldRecord.{BeginsHeader, HoldsNoRecord, MayBecome};
 
-use crate::in_place::is_front;
+use crate::in_place::{begun_in_memory, changes_no_byte, is_front};
 use load_record::Version;
+use std::alloc::{AllocError, Global};
+use tape_image::Plan;
+
+/// How a record may be begun anew over the one that was read.
+#[derive(Clone, Copy, Debug, PartialEq, Eq)]
+pub enum Writable {
+    /// Not at all: its file may not be written, or is not there and can't be made.
+    No,
+
+    /// Only where no byte of it becomes another one: it is behind a link, or has a second name, so that a
+    /// rename would not reach it.
+    InPlace,
+
+    /// Whatever stands in it: a rename reaches it, or it is a device.
+    Anew,
+}
 
 /// The record of earlier lives.
 #[derive(Drop)]
@@ -12,8 +30,28 @@ pub struct OldRecord {
     /// Its bytes: none where there is no file.
     pub text: Vec<u8>,
 
-    /// Whether the file may be written.
-    pub writable: bool,
+    /// How it may be begun anew.
+    pub writable: Writable,
+}
+
+impl OldRecord {
+    /// Whether the record of a plan's first verified words may be begun over this one.
+    ///
+    /// Where that is written in place, the two are compared; `AllocError` comes where there is no room for
+    /// the new one then.
+    pub fn may_become(&self, alloc: Global, plan: &Plan, verified: u32) -> Result<bool, AllocError>
+        ensures means { IfOk result (λ may. IsTrue may ↔ MayBecome self.now.writable self.now.text.items (record_text Second plan.now verified false)) }
+        ensures room { OnErr result (self.now.writable ≡ Writable.InPlace) }
+    {
+        match self.writable {
+            Writable::No => Ok(false),
+            Writable::InPlace => {
+                let keeper = begun_in_memory(alloc, plan, verified)?;
+                Ok(changes_no_byte(keeper.writer(), &self.text))
+            }
+            Writable::Anew => Ok(true),
+        }
+    }
 }
 
 /// Whether a text holds something that no load wrote, although it has no line that could be refused:

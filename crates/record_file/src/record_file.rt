@@ -1,5 +1,5 @@
 //! The record's file over a whole load.
-ghost use Rattle.std.specs.Prelude.{◌≡◌, None, false, IfErr, IfOk, IsSome, IsTrue, OnErr, OnOk, MatchOption, option_map};
+ghost use Rattle.std.specs.Prelude.{◌≡◌, None, false, IfErr, IfOk, IsSome, OnErr, OnOk, MatchOption, option_map};
 ghost use Rattle.record_file.specs.Beginning.{IsBegun, IsNotBegun};
 ghost use Rattle.record_file.specs.Closing.{IsRecordClosed, Remains};
 ghost use Rattle.record_file.specs.DiskRecord.{HasBegun};
@@ -7,14 +7,15 @@ ghost use Rattle.load_devices.specs.Told.{HasAsked};
 ghost use Rattle.record_file.specs.InPlace.{HasRead, MayBeWrittenOver};
 ghost use Rattle.load_record.specs.RecordText.{record_text};
 ghost use Rattle.load_record.specs.declared.version.Version.TheVariants.{Second};
+ghost use Rattle.record_file.specs.OldRecord.{IsWritable};
 ghost use Rattle.record_file.specs.Reading.{IsRead, IsNotRead};
 ghost use Rattle.record_file.specs.RecordFault.{IsUnbegun, IsUnread};
 ghost use Rattle.record_file.specs.Taking.{kind_of};
 
 use crate::disk::Disk;
 use crate::disk_record::{DiskRecord, begin_beside, begin_in_place};
-use crate::held_file::{HeldFile, hold, let_go};
-use crate::old_record::OldRecord;
+use crate::held_file::{HeldFile, hold, let_go, way_over};
+use crate::old_record::{OldRecord, Writable};
 use crate::record_fault::RecordFault;
 use std::alloc::Global;
 use tape_image::Plan;
@@ -43,30 +44,31 @@ impl<'a, D: Disk + Drop> RecordFile<'a, D> {
         }
     }
 
-    /// What the file holds, which is held from there on. One that is not there is made, and is an empty
-    /// record; one that can't be made is an empty record that may not be written.
+    /// What the file holds, which is held from there on, and how it may be begun anew: so what can't be is known
+    /// before anything else is done. One that is not there is made, and is an empty record; one that can't be made
+    /// is an empty record that may not be written.
     ///
     /// `Read` comes where it can't be read, or is neither a plain file nor a character device, `InUse`
     /// where another load holds it, `Memory` where a growth is refused.
     pub fn read(&mut self, alloc: Global) -> Result<OldRecord, RecordFault>
         ensures fault { IfErr result IsUnread }
         ensures name { self.new.name.now ≡ self.old.name.now }
-        ensures writable { IfOk result (λ old. IsTrue old.writable → IsSome self.new.held) }
-        ensures standing { IfOk result (λ old. IsTrue old.writable → MatchOption self.new.held ⊥ (HasRead (λ standing. standing ≡ old.text.items))) }
+        ensures writable { IfOk result (λ old. IsWritable old.writable → IsSome self.new.held) }
+        ensures standing { IfOk result (λ old. IsWritable old.writable → MatchOption self.new.held ⊥ (HasRead (λ standing. standing ≡ old.text.items))) }
         ensures asked { IfOk result (λ old. HasAsked (D.asked self.old.disk) (D.asked self.new.disk)
-            (IsRead self.old.name.now old.text.items (option_map kind_of self.old.held) (option_map kind_of self.new.held))) }
+            (IsRead self.old.name.now old.text.items old.writable (option_map kind_of self.old.held) (option_map kind_of self.new.held))) }
         ensures failed { IfErr result (λ _. HasAsked (D.asked self.old.disk) (D.asked self.new.disk) (IsNotRead self.old.name.now)) }
         ensures kept { OnErr result (option_map kind_of self.new.held ≡ option_map kind_of self.old.held) }
     {
         let Some(mut held) = hold(&mut self.disk, self.name)? else {
             return Ok(OldRecord {
                 text: Vec::new(alloc),
-                writable: false,
+                writable: Writable::No,
             });
         };
         match held.read(alloc) {
             Ok(text) => {
-                let writable = held.writable;
+                let writable = way_over(&mut self.disk, self.name, &held);
                 self.held = Some(held);
                 Ok(OldRecord { text, writable })
             }

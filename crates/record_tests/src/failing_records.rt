@@ -23,7 +23,7 @@ fn frail_with<'a>(
     let odt = machine(alloc, word)?;
     Some(Frail {
         input,
-        writable: true,
+        writable: Writable::Anew,
         refusal: None,
         alloc,
         odt: Some(odt),

@@ -7,7 +7,7 @@ use load_engine::Stop;
 use load_record::{FileKeep, LastingWrite, RECORD_LIMIT};
 use machine_load::{LoadFault, Surroundings, load};
 use odt_machine::{LARGEST_WORDS, Odt, PLAIN_STYLE};
-use record_file::{OldRecord, RecordFault};
+use record_file::{OldRecord, RecordFault, Writable};
 use request_values::LoadOptions;
 use simulated_system::{BrokenInput, BrokenOutput, plan_of_one_word};
 use std::alloc::Global;
@@ -53,8 +53,8 @@ impl LastingWrite for SharedOutput<'_> {
 pub(crate) struct Frail<'a> {
     pub(crate) input: BrokenInput<'a>,
 
-    /// Whether the record's file may be written.
-    pub(crate) writable: bool,
+    /// How the record may be begun anew.
+    pub(crate) writable: Writable,
 
     /// Why the record is not even tried, where that is so.
     pub(crate) refusal: Option<RecordFault>,

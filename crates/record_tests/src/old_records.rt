@@ -6,7 +6,7 @@ use host_core::End;
 use load_engine::Stop;
 use load_record::RecordError;
 use machine_load::LoadFault;
-use record_file::RecordFault;
+use record_file::{RecordFault, Writable};
 use simulated_system::{BrokenInput, BrokenOutput, NOWHERE, ONE_WORD};
 use std::alloc::Global;
 use std::cell::RefCell;
@@ -36,7 +36,7 @@ const NO_RECORD: Ending = Err(LoadFault::Record(RecordError::NotARecord));
 #[derive(Clone, Copy)]
 struct Found {
     record: &'static [u8],
-    writable: bool,
+    writable: Writable,
     refusal: Option<RecordFault>,
 
     /// The word at 001000.
@@ -49,7 +49,7 @@ struct Found {
 // A record that may be written, and a machine with nothing at 001000.
 const EMPTY: Found = Found {
     record: b"",
-    writable: true,
+    writable: Writable::Anew,
     refusal: None,
     word: 0,
     fail_at: None,
@@ -72,6 +72,23 @@ const STANDS: Found = Found {
 const MARKED: Found = Found {
     record: RECORD,
     ..EMPTY
+};
+
+// The same, where it can only be written in place; and one of version 1, of which a byte would become another one.
+const MARKED_IN_PLACE: Found = Found {
+    writable: Writable::InPlace,
+    ..MARKED
+};
+
+const OLD_IN_PLACE: Found = Found {
+    writable: Writable::InPlace,
+    ..STANDS
+};
+
+// One that begins with what is written over it.
+const CURRENT_IN_PLACE: Found = Found {
+    record: b"LDAODT 2\n001000 011064\n",
+    ..OLD_IN_PLACE
 };
 
 // A load that found something, and then what its record holds, what was reported, how it ended, and
@@ -135,12 +152,24 @@ const NOTHING_TYPED: &str = "sent 0 spent 0 verified 1 of 1\nend MaybeStarted\n"
 type Row = (Found, bool, Ending, &'static str);
 
 // Records that are left as they are, with no connection.
-const LEFT_ALONE: [Row; 13] = [
+const LEFT_ALONE: [Row; 17] = [
     (MARKED, false, MAYBE_STARTED, NOTHING_TYPED),
     (MARKED, true, MAYBE_STARTED, NOTHING_TYPED),
+    (MARKED_IN_PLACE, false, MAYBE_STARTED, NOTHING_TYPED),
     (
         Found {
-            writable: false,
+            record: b"LDAODT 1\n001000 177777 011064\nG\n",
+            ..MARKED_IN_PLACE
+        },
+        false,
+        MAYBE_STARTED,
+        NOTHING_TYPED,
+    ),
+    (OLD_IN_PLACE, false, PROTECTED, ""),
+    (OLD_IN_PLACE, true, PROTECTED, ""),
+    (
+        Found {
+            writable: Writable::No,
             ..MARKED
         },
         false,
@@ -149,7 +178,7 @@ const LEFT_ALONE: [Row; 13] = [
     ),
     (
         Found {
-            writable: false,
+            writable: Writable::No,
             ..MARKED
         },
         true,
@@ -158,7 +187,7 @@ const LEFT_ALONE: [Row; 13] = [
     ),
     (
         Found {
-            writable: false,
+            writable: Writable::No,
             ..EMPTY
         },
         false,
@@ -167,7 +196,7 @@ const LEFT_ALONE: [Row; 13] = [
     ),
     (
         Found {
-            writable: false,
+            writable: Writable::No,
             ..STANDS
         },
         false,
@@ -176,7 +205,7 @@ const LEFT_ALONE: [Row; 13] = [
     ),
     (
         Found {
-            writable: false,
+            writable: Writable::No,
             ..STANDS
         },
         true,
@@ -231,7 +260,7 @@ const LEFT_ALONE: [Row; 13] = [
     (
         Found {
             record: b"x",
-            writable: false,
+            writable: Writable::No,
             ..EMPTY
         },
         true,
@@ -259,7 +288,7 @@ const TYPED: &str = "sent 30 spent 0 verified 1 of 1\nend Started\n";
 
 // Loads that go on to the start. Where the word counts as verified, only the start is typed; where it is
 // looked at and stands, 8 keys more.
-const STARTS: [Row; 6] = [
+const STARTS: [Row; 9] = [
     (EMPTY, false, STARTED, TYPED),
     (EMPTY, true, STARTED, TYPED),
     (
@@ -280,6 +309,28 @@ const STARTS: [Row; 6] = [
         true,
         STARTED,
         "sent 16 spent 0 verified 1 of 1\nend Started\n",
+    ),
+    (
+        CURRENT_IN_PLACE,
+        false,
+        STARTED,
+        "sent 8 spent 0 verified 1 of 1\nend Started\n",
+    ),
+    (
+        CURRENT_IN_PLACE,
+        true,
+        STARTED,
+        "sent 16 spent 0 verified 1 of 1\nend Started\n",
+    ),
+    (
+        Found {
+            record: b"LDAODT",
+            writable: Writable::InPlace,
+            ..EMPTY
+        },
+        false,
+        STARTED,
+        TYPED,
     ),
 ];
 

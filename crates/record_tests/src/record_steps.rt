@@ -1,6 +1,6 @@
 //! Records over a system that notes what is asked of it: what stands there, which steps fail, and what comes of it.
 
-use record_file::{RecordFault, RecordFile};
+use record_file::{RecordFault, RecordFile, Writable};
 use simulated_system::{AMPLE, Failing, Notes, Step, System, opened, plan_of_one_word, remove};
 use std::alloc::Global;
 use std::fs::File;
@@ -141,7 +141,7 @@ fn course_of(
 ) -> Course {
     match record.read(alloc) {
         Err(fault) => Course::Unread(fault),
-        Ok(old) if !old.writable => Course::Protected,
+        Ok(old) if old.writable == Writable::No => Course::Protected,
         Ok(_) if task == Task::LetGo => Course::LetGo,
         Ok(_) => match record.begin(alloc, plan, 1) {
             Ok(_) => Course::Begun,

@@ -1,10 +1,10 @@
-use Rattle.std.proofs.Common.{◌≡◌, ◌∙◌, sym, subst, inl, option_map, rules}
+use Rattle.std.proofs.Common.{◌∙◌, sym, subst, inl, option_map, rules}
 use Rattle.console_reach.specs.Reached.{line_told}
 use Rattle.machine_load.specs.Driving.{IsLoadReported, IsLoadUntold}
 use Rattle.machine_load.specs.GivenBack.{GivesNothingSaid, IsGivenBack}
 use Rattle.machine_load.specs.Load.{finish_of}
 use Rattle.machine_load.specs.LoadFault.{IsLoadFault}
-use Rattle.machine_load.specs.Scene.{Scene, IsNotLoaded, around_of, ending, keeper_of, scene}
+use Rattle.machine_load.specs.Scene.{IsNotLoaded, around_of, ending, keeper_of, scene}
 use Rattle.machine_load.proofs.Begun.{line_or_never, line_or_over, never_begun}
 use Rattle.machine_load.proofs.Driving.{asked_untold, cut_short_of, load_reported, load_untold, reported_of, undriven_told, unopened_told}
 use Rattle.machine_load.proofs.Faults.{of_opening, of_driving, error_is, no_value, not_loaded}
@@ -43,9 +43,9 @@ returns-in_err-lived-clause-err g c =
     ((scene g.S.Surroundings g.W.Write c.args.around.now c.args.out.now).setting)
     ((scene g.S.Surroundings g.W.Write c.live.new.around c.args.out.now).setting))
     c.from_residual-in_err-lived.ensures.1
-    (of_driving _ _ _ _ (around_of g.S.Surroundings c.first_core.new.around) _ _ _ _ c.in_err-lived.field-0.0 c.in_ok-core.ensures.step c.first_core.ensures.same
+    (of_driving _ _ _ (around_of g.S.Surroundings c.first_core.new.around) _ _ _ _ _
     (subst (λ lines. GivesNothingSaid lines (g.S.Surroundings.lines c.live.new.around)) c.first_core.ensures.lines c.in_err-lived.ensures.lines_in_vain)
-    c.in_err-lived.ensures.fault))
+    _ c.in_err-lived.field-0.0 c.in_ok-core.ensures.opened c.in_err-lived.ensures.fault))
     (error_is c.from_residual-in_err-lived.result c.in_err-lived.field-0.0 _ c.from_residual-in_err-lived.ensures.1
     (undriven_told c.in_ok-core.writable
     (around_of g.S.Surroundings c.first_core.new.around)
@@ -70,7 +70,7 @@ returns-in-Err-clause-err g c =
     (around_of g.S.Surroundings c.first_core.new.around)
     c.in_ok-core.core c.in_ok-core.writable
     (finish_of c.in_ok-lived.lived.core c.in_ok-lived.lived.stop line)
-    c.in_ok-core.ensures.step c.first_core.ensures.same c.in_ok-core.ensures.opened c.in_ok-lived.ensures.lived c.in-Err.ensures.err
+    c.in_ok-core.ensures.opened c.in_ok-lived.ensures.lived c.in-Err.ensures.err
     (subst (λ lines. IsGivenBack lines (g.S.Surroundings.lines c.give_back.new.around) line) (c.in_ok-lived.ensures.lines ∙ c.first_core.ensures.lines) c.give_back.ensures.lines)) in
     subst (IsNotLoaded keeper c.args.plan c.args.options before after) (sym c.from.ensures) (record {
       fault = cut_short_of keeper c.args.plan c.args.options before.setting after.setting untold;
@@ -91,12 +91,12 @@ returns-in-Ok-clause-ok g c =
     (load_reported keeper (line_told g.S.Line.Line) c.args.plan c.args.options before.setting after.setting
     (around_of g.S.Surroundings c.first_core.new.around)
     c.in_ok-core.core c.in_ok-lived.lived.core c.in_ok-core.writable c.in_ok-lived.lived.stop c.in_ok-lived.lived.line
-    c.in_ok-core.ensures.step c.first_core.ensures.same c.in_ok-core.ensures.opened c.in_ok-lived.ensures.lived c.in-Ok.ensures.ok) in
+    c.in_ok-core.ensures.opened c.in_ok-lived.ensures.lived c.in-Ok.ensures.ok) in
     record {
       reported = reported_of keeper c.args.plan c.args.options before.setting after.setting (ending g.S.Line.Line c.outcome.result) (c.in_ok-lived.ensures.lines ∙ c.first_core.ensures.lines) lived;
       lived = lived;
       line = rw (sym c.outcome.ensures.stop, sym c.outcome.ensures.line) at
-          (line_or_never c.in_ok-lived.lived.line (never_begun _ _ _ _ _ _ c.in_ok-core.ensures.opened)
+          (line_or_never c.in_ok-lived.lived.line (never_begun _ _ _ _ _ _ c.in_ok-core.ensures.opened.opening)
           (line_or_over keeper (line_told g.S.Line.Line)
           c.in_ok-core.writable c.in_ok-core.core c.in_ok-lived.lived.core
           (around_of g.S.Surroundings c.first_core.new.around)

@@ -10,7 +10,7 @@ pub returns-in_default-clause-asked : goal.returns-in_default-clause-asked
 returns-in_default-clause-asked g c = read_none _ _ _ _ c.in_ok-held.field-0 c.args.self.now.held c.in_default.is c.new.ensures.items c.in_ok-held.ensures.asked
 
 pub returns-in-Ok-clause-asked : goal.returns-in-Ok-clause-asked
-returns-in-Ok-clause-asked g c = read_some _ _ _ _ c.in_ok-held.field-0 c.args.self.now.held c.in-Some.held c.read.new.self c.in-Some.is c.in-Ok.ensures.kind c.in_ok-held.ensures.asked
+returns-in-Ok-clause-asked g c = read_some _ _ _ _ _ _ c.in_ok-held.field-0 c.args.self.now.held c.in-Some.held c.read.new.self c.in-Some.is c.in-Ok.ensures.kind c.in_ok-held.ensures.asked c.way_over-writable.ensures.asked
 
 pub returns-in-Err-clause-failed : goal.returns-in-Err-clause-failed
 returns-in-Err-clause-failed g c = unread _ _ _ _ c.in_ok-held.field-0 c.in-Some.held c.read.new.self c.in-Some.is c.in-Err.ensures.same c.in_ok-held.ensures.asked c.let_go.ensures.asked

@@ -6,7 +6,7 @@
 PREFIX ?= /usr/local
 export PREFIX DESTDIR
 
-.PHONY: all ldaodt test check edits demo bench hostile install uninstall dist
+.PHONY: all ldaodt test check edits demo bench hostile install uninstall dist deb
 
 all: ldaodt
 
@@ -51,3 +51,7 @@ uninstall:
 # The program for somebody who has no toolchain: one tar.gz with its manual page, documents and examples.
 dist: ldaodt
 	@tools/lay-out dist
+
+# The same as a Debian package, where dpkg-deb is.
+deb: ldaodt
+	@tools/lay-out deb

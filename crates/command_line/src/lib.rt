@@ -22,7 +22,7 @@ mod values;
 use addresses::{probed_of, range_of, saved_start_of, start_of};
 use clap::ArgMatches;
 use command_words::known_words;
-use command_words::names::{FILE, LISTEN, PATIENCE, QUIET, RECHECK, RECORD, SCRIPT, TAPE};
+use command_words::names::{FAST, FILE, LISTEN, PATIENCE, QUIET, RECHECK, RECORD, SCRIPT, TAPE};
 pub use explaining::explain;
 use host_core::PLAIN_PATIENCE;
 pub use no_request::NoRequest;
@@ -113,6 +113,7 @@ fn load_of<'a>(alloc: Global, found: &ArgMatches<'a>) -> Result<Load<'a>, NoRequ
         options: LoadOptions {
             patience: u32::from(number_of(found, PATIENCE, PLAIN_PATIENCE as u16)?),
             recheck: found.get_flag(RECHECK),
+            fast: found.get_flag(FAST),
         },
         start: start_of(alloc, found)?,
         listen: number_given(found, LISTEN)?,

@@ -366,6 +366,7 @@ fn the_text_says_words_mishaps_and_time(rt: HostRuntime) {
             done,
             words,
             is_listening,
+            is_stub: false,
             mishaps,
             seconds_left,
         };

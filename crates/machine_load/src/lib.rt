@@ -11,11 +11,13 @@
 
 mod around;
 mod fault;
+mod first_life;
 mod law;
 mod loading;
 mod outcome;
 mod records;
 mod report;
+mod stubs;
 mod surroundings;
 
 pub use around::Around;
@@ -24,4 +26,5 @@ pub use law::loads_are_lives;
 pub use loading::load;
 pub use outcome::Outcome;
 pub use records::{InMemory, Records};
+pub use stub_engine::Stop as StubStop;
 pub use surroundings::Surroundings;

@@ -27,8 +27,10 @@ ghost use Rattle.record_file.specs.OldRecord.{HoldsNoRecord};
 ghost use Rattle.machine_load.specs.Step.{reading};
 
 use crate::fault::LoadFault;
+use crate::first_life::FirstLife;
 use crate::outcome::Outcome;
 use crate::report::load_report;
+use crate::stubs::{Stubs, bring_stubs, hindrance};
 use crate::surroundings::Surroundings;
 use byte_io::{WriteFault, write_and_flush};
 use host_core::{HostCore, Progress};
@@ -68,17 +70,12 @@ pub fn load<S: Surroundings, W: Write, O: Onlooker>(
     ensures err { IfErr result (IsNotLoaded (keeper_of S.Surroundings S.Keeper.Keep) plan options
         (scene S.Surroundings W.Write around.old out.old) (scene S.Surroundings W.Write around.new out.new)) }
 {
-    let (core, writable) = first_core(alloc, plan, options, around)?;
-    let lived = live(alloc, core, writable, around, onlooker)?;
-    match report_life(&lived.core, lived.stop, out) {
+    let (first, writable) = first_core(alloc, plan, options, around)?;
+    let lived = live(alloc, first, options.fast, writable, around, onlooker)?;
+    match report_life(&lived, out) {
         Ok(()) => Ok(lived.outcome()),
         Err(fault) => {
-            let Lived {
-                core: _,
-                stop: _,
-                line,
-            } = lived;
-            give_back(around, line);
+            give_back(around, lived.line);
             Err(LoadFault::from(fault))
         }
     }
@@ -97,11 +94,12 @@ fn give_back<S: Surroundings>(around: &mut S, line: Option<S::Line>)
     }
 }
 
-// A life that is over, and the line that it had.
+// A life that is over: its host, how it stopped, its stubs where it brought some in, and the line that it had.
 #[derive(Drop)]
 struct Lived<L> {
     core: HostCore,
     stop: Stop,
+    stubs: Option<Stubs>,
     line: Option<L>,
 }
 
@@ -111,10 +109,16 @@ impl<L> Lived<L> {
         ensures marked { result.marked ≡ self.core.going }
         ensures line { result.line ≡ self.line }
     {
-        let Lived { core, stop, line } = self;
+        let Lived {
+            core,
+            stop,
+            stubs,
+            line,
+        } = self;
         Outcome {
             stop,
             marked: core.progress().going,
+            stubs: stubs.map(|stubs| stubs.stop),
             line,
         }
     }
@@ -126,7 +130,7 @@ fn first_core<S: Surroundings>(
     plan: Plan,
     options: LoadOptions,
     around: &mut S,
-) -> Result<(HostCore, bool), LoadFault>
+) -> Result<(FirstLife, bool), LoadFault>
     ensures opened { IfOk result (λ opened. IsOpening (S.record_text around.old) plan options opened.0) }
     ensures step { IfOk result (λ opened. Asks (around_of S.Surroundings around.old) (around_of S.Surroundings around.new)
         (reading opened.1 ∷ [])) }
@@ -141,8 +145,8 @@ fn first_core<S: Surroundings>(
     let record = around.read_record(alloc)?;
     let said = what_is_said(&record.text, &plan)?;
     let progress = taken(said, options.recheck);
-    let core = HostCore::new(plan, progress, options.patience).unwrap();
-    Ok((core, record.writable))
+    let first = FirstLife::new(plan, progress, options.patience);
+    Ok((first, record.writable))
 }
 
 // What a record's text says of a plan's load. A file that was never a record is none.
@@ -174,113 +178,89 @@ fn taken(said: Progress, recheck: bool) -> Progress
     }
 }
 
-// The life, once it has opened. One that goes on wants a record that may be written.
+// The life, once it has opened. One that goes on wants a record that may be written, and a connection.
 fn live<S: Surroundings, O: Onlooker>(
     alloc: Global,
-    core: HostCore,
+    first: FirstLife,
+    fast: bool,
     writable: bool,
     around: &mut S,
     onlooker: &O,
 ) -> Result<Lived<S::Line>, LoadFault>
-    ensures lived { IfOk result (λ lived. IsLived (keeper_of S.Surroundings S.Keeper.Keep) writable core
-        (around_of S.Surroundings around.old) (around_of S.Surroundings around.new)
-        (finish_of lived.core lived.stop (option_map (line_told S.Line.Line) lived.line))) }
-    ensures fault { IfErr result (IsDrivingFault writable (around_of S.Surroundings around.old) (around_of S.Surroundings around.new)) }
-    ensures asked { IfOk result (λ lived. Gains (S.asked around.old) (S.asked around.new) (asked_by (S.call around.old) lived.line)) }
-    ensures asked_in_vain { IfErr result (IsAskedBefore (S.call around.old) (S.asked around.old) (S.asked around.new)) }
-    ensures lines { OnOk result (S.lines around.new ≡ S.lines around.old) }
-    ensures lines_in_vain { OnErr result (GivesNothingSaid (S.lines around.old) (S.lines around.new)) }
-    ensures disk { IfOk result (λ lived. IsLivedOn (S.disk around.old) (S.disk around.new) lived.line) }
-    ensures disk_in_vain { IfErr result (IsNotLivedOn (S.disk around.old) (S.disk around.new)) }
 {
-    match core.end() {
-        Some(end) => Ok(Lived {
-            core,
+    if let Some(end) = first.end() {
+        return Ok(Lived {
+            core: first.host(),
             stop: Stop::Ended(end),
+            stubs: None,
             line: None,
-        }),
-        None if writable => {
-            let Driven { core, stop, line } = drive_over(alloc, core, around, onlooker)?;
-            Ok(Lived {
-                core,
-                stop,
-                line: Some(line),
-            })
-        }
-        None => Err(LoadFault::WriteRecord),
+        });
     }
-}
-
-// A life that the engine drove, and its line.
-struct Driven<L> {
-    core: HostCore,
-    stop: Stop,
-    line: L,
-}
-
-// A life that goes on, over a new connection.
-fn drive_over<S: Surroundings, O: Onlooker>(
-    alloc: Global,
-    core: HostCore,
-    around: &mut S,
-    onlooker: &O,
-) -> Result<Driven<S::Line>, LoadFault>
-    requires goes_on { ended core.phase ≡ None }
-    ensures driven { IfOk result (λ driven. IsDrivenLife (keeper_of S.Surroundings S.Keeper.Keep) true core
-        (around_of S.Surroundings around.old) (around_of S.Surroundings around.new)
-        (finish_of driven.core driven.stop (Some (line_told S.Line.Line driven.line)))) }
-    ensures fault { IfErr result (IsDrivingFault true (around_of S.Surroundings around.old) (around_of S.Surroundings around.new)) }
-    ensures asked { IfOk result (λ driven. Gains (S.asked around.old) (S.asked around.new) (asked_once (S.call around.old))) }
-    ensures asked_in_vain { IfErr result (IsAskedBefore (S.call around.old) (S.asked around.old) (S.asked around.new)) }
-    ensures lines { OnOk result (S.lines around.new ≡ S.lines around.old) }
-    ensures lines_in_vain { OnErr result (GivesNothingSaid (S.lines around.old) (S.lines around.new)) }
-    ensures disk { OnOk result (DiskAsked (S.disk around.old) (S.disk around.new) IsBegunOn) }
-    ensures disk_in_vain { IfErr result (IsNotLivedOn (S.disk around.old) (S.disk around.new)) }
-{
+    if !writable {
+        return Err(LoadFault::WriteRecord);
+    }
     let line = around.connect()?;
-    let verified = core.progress().verified;
-    let keeper = match around.begin_record(alloc, core.plan(), verified) {
+    let keeper = match around.begin_record(alloc, first.plan(), first.verified()) {
         Ok(keeper) => keeper,
         Err(fault) => {
             around.let_go(line);
             return Err(LoadFault::from(fault));
         }
     };
-    let (driven, keeper) = drive_watched(core, line, keeper, onlooker);
+    let (lived, keeper) = live_over(alloc, first, fast, line, keeper, onlooker);
     around.end_record(keeper);
-    Ok(driven)
+    Ok(lived)
 }
 
-// Drives a life that an onlooker is told of. Line and keeper come back.
-fn drive_watched<L: Line, K: Keep + Drop, O: Onlooker>(
-    core: HostCore,
+// A life over its line and its keeper, which both come back: the stubs, where they are asked for, and then
+// its host.
+fn live_over<L: Line, K: Keep + Drop, O: Onlooker>(
+    alloc: Global,
+    first: FirstLife,
+    fast: bool,
     mut line: L,
     mut keeper: K,
     onlooker: &O,
-) -> (Driven<L>, K)
-    ensures turns { Session most_turns (Some result.0.stop) core result.0.core
-        (L.told line) (L.told result.0.line) (K.told keeper) (K.told result.1) }
-    ensures end { TellsEnd result.0.stop result.0.core }
-    ensures counted { Counts (Some result.0.stop)
-        (L.fault_count line) (L.fault_count result.0.line) (K.fault_count keeper) (K.fault_count result.1) }
-    ensures fault { NamesFault (Some result.0.stop) (L.last_fault result.0.line) (K.last_fault result.1) }
-    ensures kept_by { KeptBy K.keeps K.fails (Some result.0.stop) keeper (news_between core result.0.core) result.1 }
-    ensures mark_first { KeepsMarkFirst (L.told line) (L.told result.0.line) (K.told keeper) (K.told result.1) }
-    ensures honest { IsBelievableOver result.0.stop core result.0.core (L.told line) (L.told result.0.line) }
-    ensures start { TellsStartOver core result.0.core (L.told line) (L.told result.0.line) }
-    ensures bound { result.0.core.sent ≤ character_bound (length result.0.core.plan.words) result.0.core.patience }
+) -> (Lived<L>, K)
 {
-    let words = core.plan().words().len() as u32;
-    onlooker.begins(core.progress().verified, words);
-    let (core, stop) = drive(core, &mut line, &mut keeper, MOST_TURNS, onlooker);
+    let words = first.plan().words().len() as u32;
+    onlooker.begins(first.verified(), words);
+    let stubs = bring_stubs(alloc, &first, fast, &mut line, &mut keeper, onlooker);
+    let (core, stop) = drive_behind(first, stubs, &mut line, &mut keeper, onlooker);
     onlooker.ends();
-    (Driven { core, stop, line }, keeper)
+    let lived = Lived {
+        core,
+        stop,
+        stubs,
+        line: Some(line),
+    };
+    (lived, keeper)
+}
+
+// Drives the life's host behind its stubs, where none of these stopped the load.
+fn drive_behind<L: Line, K: Keep, O: Onlooker>(
+    first: FirstLife,
+    stubs: Option<Stubs>,
+    line: &mut L,
+    keeper: &mut K,
+    onlooker: &O,
+) -> (HostCore, Stop)
+{
+    let verified = match stubs {
+        Some(stubs) => stubs.tally.verified,
+        None => first.verified(),
+    };
+    let core = first.host_behind(verified);
+    match hindrance(stubs) {
+        Some(stop) => (core, stop),
+        None => drive(core, line, keeper, MOST_TURNS, onlooker),
+    }
 }
 
 // Reports a life.
-fn report_life<W: Write>(core: &HostCore, stop: Stop, out: &mut W) -> Result<(), WriteFault>
-    ensures ok { OnOk result (Appends (W.contents out.old) (W.contents out.new) (load_report core.now stop)) }
-    ensures err { OnErr result (WritesPrefix (W.contents out.old) (W.contents out.new) (load_report core.now stop)) }
+fn report_life<L, W: Write>(lived: &Lived<L>, out: &mut W) -> Result<(), WriteFault>
+    ensures ok { OnOk result (Appends (W.contents out.old) (W.contents out.new) (load_report (counting lived.now.core lived.now.stubs) lived.now.stop)) }
+    ensures err { OnErr result (WritesPrefix (W.contents out.old) (W.contents out.new) (load_report (counting lived.now.core lived.now.stubs) lived.now.stop)) }
 {
-    write_and_flush(out, &load_report(core, stop))
+    write_and_flush(out, &load_report(&lived.core, lived.stubs, lived.stop))
 }

@@ -8,6 +8,7 @@ ghost use Rattle.machine_load.specs.LoadReport.{load_counts_text, load_report, s
 use arrayvec::ArrayVec;
 use byte_io::{push_bytes, push_decimal, push_octal};
 use host_core::{End, HostCore};
+use crate::stubs::Stubs;
 use load_engine::Stop;
 
 // Room for the longest report: its words, four numbers of 20 digits, the longest word for an end and an address.
@@ -16,25 +17,29 @@ const REPORT_ROOM: usize = 131;
 // A report, in room of its own: a load that is over needs no memory to say so.
 type Report = ArrayVec<u8, REPORT_ROOM>;
 
-/// The report of a load: the counts of the host's life, and how the load stopped.
-pub(crate) fn load_report(core: &HostCore, stop: Stop) -> Report
-    ensures { result.items ≡ load_report core.now stop }
+/// The report of a load: the counts of all its parts, and how it stopped.
+pub(crate) fn load_report(core: &HostCore, stubs: Option<Stubs>, stop: Stop) -> Report
+    ensures { result.items ≡ load_report (counting core.now stubs) stop }
 {
     let mut text = Report::new();
-    push_counts(&mut text, core);
+    push_counts(&mut text, core, stubs);
     push_stop(&mut text, stop);
     text
 }
 
-fn push_counts(text: &mut Report, core: &HostCore)
+fn push_counts(text: &mut Report, core: &HostCore, stubs: Option<Stubs>)
     requires { text.old.items ≡ [] }
-    ensures items { text.new.items ≡ line (load_counts_text core.now) }
+    ensures items { text.new.items ≡ line (load_counts_text (counting core.now stubs)) }
     ensures length { array_vec_len text.new ≤ 107 }
 {
+    let (sent, spent) = match stubs {
+        Some(stubs) => (stubs.tally.sent, stubs.tally.spent),
+        None => (0, 0),
+    };
     push_bytes(text, b"sent ");
-    push_decimal(text, core.sent_count());
+    push_decimal(text, core.sent_count() + sent);
     push_bytes(text, b" spent ");
-    push_decimal(text, core.spent().into());
+    push_decimal(text, u64::from(core.spent()) + spent);
     push_bytes(text, b" verified ");
     push_decimal(text, core.progress().verified.into());
     push_bytes(text, b" of ");

@@ -90,6 +90,7 @@ fn part<L: Line, K: Keep, O: Onlooker>(
         Err(stop) => return Err(stop),
     };
     let PlannedStub { plan: stub, chunks } = planned;
+    onlooker.stub_begins();
     let (core, stop) = bring(stub, patience, line);
     let brought = tally.with_counts(core.sent_count(), core.spent());
     if let Some(stop) = why_unstarted(stop) {

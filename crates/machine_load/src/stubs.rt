@@ -1,0 +1,57 @@
+//! The stubs of a load.
+ghost use Rattle.std.specs.Prelude.{◌≡◌, ◌≤◌, None, Some, length};
+ghost use Rattle.host_core.specs.Core.{ended};
+
+use crate::first_life::FirstLife;
+use load_devices::{Keep, Line, Onlooker};
+use load_engine::Stop;
+use std::alloc::Global;
+use stub_engine::{Stop as StubStop, Tally, bring_in};
+
+/// How far the stubs of a load came, and why no more were brought in.
+#[derive(Clone, Copy)]
+pub(crate) struct Stubs {
+    /// How far they came.
+    pub(crate) tally: Tally,
+
+    /// Why no more were brought in.
+    pub(crate) stop: StubStop,
+}
+
+/// Brings in the stubs of a life, where they are asked for.
+pub(crate) fn bring_stubs<L: Line, K: Keep, O: Onlooker>(
+    alloc: Global,
+    first: &FirstLife,
+    fast: bool,
+    line: &mut L,
+    keeper: &mut K,
+    onlooker: &O,
+) -> Option<Stubs> {
+    if !fast {
+        return None;
+    }
+    let (tally, stop) = bring_in(
+        alloc,
+        first.plan(),
+        first.verified(),
+        first.patience(),
+        line,
+        keeper,
+        onlooker,
+    );
+    Some(Stubs { tally, stop })
+}
+
+/// Why a load stops with its stubs, where no host may follow them: a device failed, or turns were over.
+pub(crate) fn hindrance(stubs: Option<Stubs>) -> Option<Stop> {
+    match stubs?.stop {
+        StubStop::LineFailed(fault) => Some(Stop::LineFailed(fault)),
+        StubStop::KeepFailed(fault) => Some(Stop::KeepFailed(fault)),
+        StubStop::TurnsOver => Some(Stop::TurnsOver),
+        StubStop::TooFewWords
+        | StubStop::NoRoom
+        | StubStop::InVain
+        | StubStop::NotStarted(_)
+        | StubStop::Memory => None,
+    }
+}

@@ -4,7 +4,6 @@ use Rattle.std.specs.Io.KnownBytes.{Appends}
 use Rattle.tape_image.specs.Plan.{PlanValue}
 use Rattle.byte_io.specs.Output.{WritesPrefix}
 use Rattle.host_core.specs.Core.{Core}
-use Rattle.load_engine.specs.declared.stop.Stop.{Stop}
 use Rattle.console_reach.specs.Reached.{LineTold}
 use Rattle.load_devices.specs.Told.{Gains}
 use Rattle.stream_line.specs.Dialling.{Call, LineRequest, asked_once}
@@ -13,35 +12,29 @@ use Rattle.machine_load.specs.Driving.{KeeperTells, IsLived, IsLoadLived, IsLoad
 use Rattle.machine_load.specs.GivenBack.{IsGivenBack}
 use Rattle.machine_load.specs.Load.{Around, Ending, Finish, Setting, Asks, KeepsRecord, IsCutShort, IsLoad, IsLoadLife, IsOpening, IsReported, ending_of, finish_of}
 use Rattle.machine_load.specs.LoadFault.{IsOpeningFault, IsDrivingFault}
-use Rattle.machine_load.specs.LoadReport.{load_report}
+use Rattle.machine_load.specs.LoadReport.{course_report}
+use Rattle.machine_load.specs.Parts.{Course, course, devices}
 use Rattle.machine_load.specs.Step.{reading}
 use Rattle.machine_load.specs.declared.fault.LoadFault.{LoadFault}
 use Rattle.machine_load.specs.declared.fault.LoadFault.TheVariants.{WriteOutput}
 use Rattle.request_values.specs.declared.options.LoadOptions.{LoadOptions}
 
 -- a life over its line and its keeper is one over its line
-pub is_life : {K : Type 0} (tells : KeeperTells K) (writable : Bool) (first : Core) (before after : Around) (finish : Finish)
-    → IsLived tells writable first before after finish → IsLoadLife writable first before after finish
-is_life tells writable first before after finish (inl idle) = inl idle
-is_life tells writable first before after finish (inr life) = inr (record {
+pub is_life : {K : Type 0} (tells : KeeperTells K) (fast writable : Bool) (first : Core) (before after : Around) (finish : Finish)
+    → IsLived tells fast writable first before after finish → IsLoadLife fast writable first before after finish
+is_life tells fast writable first before after finish (inl idle) = inl idle
+is_life tells fast writable first before after finish (inr life) = inr (record {
   may_write = life.may_write;
-  goes_on = life.driven.goes_on;
+  goes_on = life.goes_on;
+  stubs_asked = life.stubs_asked;
   line' = life.line';
   has_line = life.has_line;
-  driven = record {
-    line = life.driven.line;
-    fresh = life.driven.fresh;
-    keeper = tells.kept life.driven.keeper;
-    keeper' = tells.kept life.keeper';
-    session = life.driven.session;
-    end = life.driven.end;
-    counted = life.driven.counted.0;
-    named = life.driven.named.0;
-    mark_first = life.driven.mark_first;
-    honest = life.driven.honest;
-    start = life.driven.start;
-    bound = life.driven.bound;
-  };
+  line = life.line;
+  fresh = life.fresh;
+  kept = tells.calls.kept life.keeper;
+  kept' = tells.calls.kept life.keeper';
+  between = devices life.parts.between (tells.calls.kept life.parts.keeping);
+  parts = life.parts.parts;
   asked = life.asked;
 })
 
@@ -54,15 +47,16 @@ is_load tells plan options before after finish load = record {
   read_first = load.read_first;
   record_read = load.record_read;
   opened = load.opened;
-  life = is_life tells load.writable load.first load.between after finish load.life;
+  life = is_life tells options.fast load.writable load.first load.between after finish load.life;
 }
 
 -- what is said of a load with its keeper is so of its line
 pub reported_of : {K : Type 0} (tells : KeeperTells K) (plan : PlanValue) (options : LoadOptions) (before after : Setting) (ending : Ending)
     → after.lines ≡ before.lines → IsLoadReported tells plan options before after ending → IsReported plan options before after ending
 reported_of tells plan options before after ending kept load = record {
+  stubs = load.stubs;
   last = load.last;
-  load = is_load tells plan options before.around after.around (finish_of load.last ending.stop ending.line) load.lived;
+  load = is_load tells plan options before.around after.around (finish_of (course load.stubs load.last ending.stop) ending.line) load.lived;
   marked_is = load.marked_is;
   reported = load.reported;
   line_kept = kept;
@@ -79,12 +73,13 @@ cut_short_of tells plan options before after load = record {
 }
 
 -- a load that was reported
-pub load_reported : {K L : Type 0} (tells : KeeperTells K) (told_of : L → LineTold) (plan : PlanValue) (options : LoadOptions) (before after : Setting) (between : Around) (first last : Core)
-    (writable : Bool) (stop : Stop) (line : Option L) → Asks before.around between (reading writable ∷ []) → KeepsRecord before.around between → IsOpening before.around.record_text plan options first
-    → IsLived tells writable first between after.around (finish_of last stop (option_map told_of line)) → Appends before.out after.out (load_report last stop)
-    → IsLoadReported tells plan options before after (ending_of stop last.going (option_map told_of line))
-load_reported tells told_of plan options before after between first last writable stop line read same opened lived reported = record {
-  last = last;
+pub load_reported : {K L : Type 0} (tells : KeeperTells K) (told_of : L → LineTold) (plan : PlanValue) (options : LoadOptions) (before after : Setting) (between : Around) (first : Core)
+    (writable : Bool) (way : Course) (line : Option L) → Asks before.around between (reading writable ∷ []) → KeepsRecord before.around between → IsOpening before.around.record_text plan options first
+    → IsLived tells options.fast writable first between after.around (finish_of way (option_map told_of line)) → Appends before.out after.out (course_report way)
+    → IsLoadReported tells plan options before after (ending_of way.stop way.core.going (option_map told_of line))
+load_reported tells told_of plan options before after between first writable way line read same opened lived reported = record {
+  stubs = way.stubs;
+  last = way.core;
   lived = record { first = first; writable = writable; between = between; read_first = read; record_read = same; opened = opened; life = lived };
   marked_is = refl;
   reported = reported;
@@ -93,7 +88,7 @@ load_reported tells told_of plan options before after between first last writabl
 -- a load whose report failed
 pub load_untold : {K : Type 0} (tells : KeeperTells K) (plan : PlanValue) (options : LoadOptions) (before after : Setting) (between : Around) (first : Core) (writable : Bool) (finish : Finish)
     → Asks before.around between (reading writable ∷ []) → KeepsRecord before.around between → IsOpening before.around.record_text plan options first
-    → IsLived tells writable first between after.around finish → WritesPrefix before.out after.out (load_report finish.last finish.stop)
+    → IsLived tells options.fast writable first between after.around finish → WritesPrefix before.out after.out (course_report finish.course)
     → IsGivenBack before.lines after.lines finish.line → IsLoadUntold tells plan options before after
 load_untold tells plan options before after between first writable finish read same opened lived fails given = record {
   finish = finish;

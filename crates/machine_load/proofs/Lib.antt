@@ -1,6 +1,8 @@
 mod Begun
 mod Driving
 mod Faults
+mod Fronts
 mod Lives
 pub mod OnDisk
+mod Renewed
 mod Steps

@@ -1,8 +1,10 @@
 //! A life as it begins.
-ghost use Rattle.std.specs.Prelude.{◌≡◌, ◌≤◌, false, length, None};
+ghost use Rattle.std.specs.Prelude.{◌≡◌, ◌≤◌, false, length, None, IfSome};
 ghost use Rattle.host_core.specs.Core.{begun, ended};
 ghost use Rattle.host_core.specs.Opening.{refusal_of};
+ghost use Rattle.machine_load.specs.Stubs.{host_behind};
 
+use crate::stubs::Stubs;
 use host_core::{End, HostCore, Progress};
 use std::marker::Model;
 use tape_image::Plan;
@@ -82,7 +84,7 @@ impl FirstLife {
         }
     }
 
-    /// Its host.
+    /// Its host, as one that nothing came before.
     pub(crate) fn host(self) -> HostCore
         ensures { result ≡ self }
     {
@@ -94,10 +96,20 @@ impl FirstLife {
         HostCore::new(plan, progress, patience).unwrap()
     }
 
-    /// Its host, where so many words were verified meanwhile.
-    pub(crate) fn host_behind(self, verified: u32) -> HostCore
-        requires goes_on { ended self.phase ≡ None }
-        requires within { verified ≤ length self.plan.words }
+    /// Its host behind its stubs, where it brings some in.
+    pub(crate) fn host_behind(self, stubs: Option<Stubs>) -> HostCore
+        requires within { IfSome stubs (λ stubs. stubs.tally.verified ≤ length self.plan.words) }
+        ensures { result ≡ host_behind self stubs }
+    {
+        match stubs {
+            Some(stubs) => self.host_from(stubs.tally.verified),
+            None => self.host(),
+        }
+    }
+
+    // Its host, where so many words were verified meanwhile.
+    fn host_from(self, verified: u32) -> HostCore
+        requires { verified ≤ length self.plan.words }
         ensures { result ≡ begun self.plan verified false self.patience }
     {
         let FirstLife { plan, patience, .. } = self;

@@ -1,28 +1,21 @@
 //! The load itself.
-ghost use Rattle.std.specs.Prelude.{◌≡◌, ◌≤◌, ◌⊎◌, true, length, [], ◌∷◌, None, Some, Ok, Err, IfOk, IfErr, IsSome, OnErr, OnOk, option_map};
+ghost use Rattle.std.specs.Prelude.{◌≡◌, ◌≤◌, ◌⊎◌, length, [], ◌∷◌, None, Ok, Err, IfOk, IfErr, IfSome, OnErr, OnOk, is_some, option_map};
 ghost use Rattle.std.specs.Io.KnownBytes.{Appends, Keeps};
-ghost use Rattle.host_core.specs.Bound.{character_bound};
-ghost use Rattle.host_core.specs.Core.{ended};
-ghost use Rattle.load_devices.specs.Dialogue.{news_between};
-ghost use Rattle.load_engine.specs.Belief.{IsBelievableOver, TellsStartOver};
-ghost use Rattle.load_engine.specs.Failing.{Counts, NamesFault};
-ghost use Rattle.load_engine.specs.Keeping.{KeptBy};
-ghost use Rattle.load_engine.specs.Session.{KeepsMarkFirst, Session, TellsEnd};
 ghost use Rattle.host_core.specs.Opening.{refusal_of};
 ghost use Rattle.load_record.specs.Reading.{Says};
 ghost use Rattle.load_devices.specs.Told.{Gains};
-ghost use Rattle.load_devices.specs.Turns.{most_turns};
 ghost use Rattle.byte_io.specs.Output.{WritesPrefix};
 ghost use Rattle.machine_load.specs.Called.{asked_by, IsAskedBefore};
-ghost use Rattle.stream_line.specs.Dialling.{asked_once};
 ghost use Rattle.console_reach.specs.Reached.{line_told};
-ghost use Rattle.machine_load.specs.Driving.{IsDrivenLife, IsLived};
+ghost use Rattle.machine_load.specs.Driving.{IsLived};
 ghost use Rattle.machine_load.specs.GivenBack.{GivesNothingSaid, IsGivenBack};
 ghost use Rattle.machine_load.specs.Load.{finish_of, Asks, IsOpening, words_taken};
 ghost use Rattle.machine_load.specs.LoadFault.{IsOpeningFault, IsDrivingFault};
 ghost use Rattle.machine_load.specs.LoadReport.{load_report};
-ghost use Rattle.machine_load.specs.RecordDisk.{DiskAsked, disk_asked_by, disk_asked_before, IsBegunOn, IsOnlyRead, IsLivedOn, IsNotLivedOn};
+ghost use Rattle.machine_load.specs.Parts.{IsDrivenWhere, IsKeptWhere, calls_of, course, devices_of};
+ghost use Rattle.machine_load.specs.RecordDisk.{DiskAsked, disk_asked_before, IsOnlyRead, IsLivedOn, IsNotLivedOn};
 ghost use Rattle.machine_load.specs.Scene.{around_of, keeper_of, scene, IsLoaded, IsNotLoaded};
+ghost use Rattle.machine_load.specs.Stubs.{AreFew, counting, hindrance, host_behind};
 ghost use Rattle.record_file.specs.OldRecord.{HoldsNoRecord};
 ghost use Rattle.machine_load.specs.Step.{reading};
 
@@ -47,16 +40,21 @@ use tape_image::Plan;
 ///
 /// The record of earlier lives is read first, and held from there on. A life that it ends at once, as
 /// one whose start was typed before, is reported with no connection, and its record stays as it is.
-/// Else a connection is made, the record is written anew with the words that count as verified, and
-/// the engine drives for 10,000,000 turns at most. The report is of the core that the engine gives
-/// back, and so is the line, without which only a life ends that was over before it began. Where each
-/// word is to be looked at again, no word counts as verified; a typed start does.
+/// Else a connection is made, and the record is written anew with the words that count as verified.
+/// Where each word is to be looked at again, no word counts as verified; a typed start does.
+///
+/// Then, where the load is to be fast, stubs take words, as `bring_in` of the crate `stub_engine` has it.
+/// Where a device fails with them, or turns are over, the load stops so; for every other reason it goes on
+/// behind the words that they verified, with its host: that has the whole patience, and is driven for
+/// 10,000,000 turns at most. The report is of the host that the engine gives back, with the characters and
+/// the mishaps of the stubs, too. The line comes back, without which only a life ends that was over before
+/// it began.
 ///
 /// `ReadRecord`, `RecordInUse`, `Record` and `Connect` come with nothing reported and the record as it
 /// was, `WriteRecord` before the first key, and before the connection where the record is protected.
 /// `WriteOutput` is a report that could not be written whole. `Memory` comes only where a growth was
 /// refused, for the record: before the first key, with nothing reported. From the first key on a load
-/// takes no memory.
+/// takes no memory but for stubs, and want of that ends these alone.
 pub fn load<S: Surroundings, W: Write, O: Onlooker>(
     alloc: Global,
     plan: Plan,
@@ -72,7 +70,7 @@ pub fn load<S: Surroundings, W: Write, O: Onlooker>(
 {
     let (first, writable) = first_core(alloc, plan, options, around)?;
     let lived = live(alloc, first, options.fast, writable, around, onlooker)?;
-    match report_life(&lived, out) {
+    match report_life(&lived.core, lived.stubs, lived.stop, out) {
         Ok(()) => Ok(lived.outcome()),
         Err(fault) => {
             give_back(around, lived.line);
@@ -107,6 +105,7 @@ impl<L> Lived<L> {
     fn outcome(self) -> Outcome<L>
         ensures stop { result.stop ≡ self.stop }
         ensures marked { result.marked ≡ self.core.going }
+        ensures stubs { result.stubs ≡ self.stubs }
         ensures line { result.line ≡ self.line }
     {
         let Lived {
@@ -118,7 +117,7 @@ impl<L> Lived<L> {
         Outcome {
             stop,
             marked: core.progress().going,
-            stubs: stubs.map(|stubs| stubs.stop),
+            stubs,
             line,
         }
     }
@@ -178,7 +177,8 @@ fn taken(said: Progress, recheck: bool) -> Progress
     }
 }
 
-// The life, once it has opened. One that goes on wants a record that may be written, and a connection.
+// The life, once it has opened. One that goes on wants a record that may be written, and a connection; then its
+// stubs, where they are asked for, and its host have the line and the keeper. An onlooker is told of it.
 fn live<S: Surroundings, O: Onlooker>(
     alloc: Global,
     first: FirstLife,
@@ -187,6 +187,17 @@ fn live<S: Surroundings, O: Onlooker>(
     around: &mut S,
     onlooker: &O,
 ) -> Result<Lived<S::Line>, LoadFault>
+    ensures lived { IfOk result (λ lived. IsLived (keeper_of S.Surroundings S.Keeper.Keep) fast writable first
+        (around_of S.Surroundings around.old) (around_of S.Surroundings around.new)
+        (finish_of (course lived.stubs lived.core lived.stop) (option_map (line_told S.Line.Line) lived.line))) }
+    ensures few { IfOk result (λ lived. IfSome lived.stubs AreFew) }
+    ensures fault { IfErr result (IsDrivingFault writable (around_of S.Surroundings around.old) (around_of S.Surroundings around.new)) }
+    ensures asked { IfOk result (λ lived. Gains (S.asked around.old) (S.asked around.new) (asked_by (S.call around.old) lived.line)) }
+    ensures asked_in_vain { IfErr result (IsAskedBefore (S.call around.old) (S.asked around.old) (S.asked around.new)) }
+    ensures lines { OnOk result (S.lines around.new ≡ S.lines around.old) }
+    ensures lines_in_vain { OnErr result (GivesNothingSaid (S.lines around.old) (S.lines around.new)) }
+    ensures disk { IfOk result (λ lived. IsLivedOn (S.disk around.old) (S.disk around.new) lived.line) }
+    ensures disk_in_vain { IfErr result (IsNotLivedOn (S.disk around.old) (S.disk around.new)) }
 {
     if let Some(end) = first.end() {
         return Ok(Lived {
@@ -199,42 +210,26 @@ fn live<S: Surroundings, O: Onlooker>(
     if !writable {
         return Err(LoadFault::WriteRecord);
     }
-    let line = around.connect()?;
-    let keeper = match around.begin_record(alloc, first.plan(), first.verified()) {
+    let mut line = around.connect()?;
+    let mut keeper = match around.begin_record(alloc, first.plan(), first.verified()) {
         Ok(keeper) => keeper,
         Err(fault) => {
             around.let_go(line);
             return Err(LoadFault::from(fault));
         }
     };
-    let (lived, keeper) = live_over(alloc, first, fast, line, keeper, onlooker);
-    around.end_record(keeper);
-    Ok(lived)
-}
-
-// A life over its line and its keeper, which both come back: the stubs, where they are asked for, and then
-// its host.
-fn live_over<L: Line, K: Keep + Drop, O: Onlooker>(
-    alloc: Global,
-    first: FirstLife,
-    fast: bool,
-    mut line: L,
-    mut keeper: K,
-    onlooker: &O,
-) -> (Lived<L>, K)
-{
-    let words = first.plan().words().len() as u32;
-    onlooker.begins(first.verified(), words);
+    onlooker.begins(first.verified(), first.plan().words().len() as u32);
     let stubs = bring_stubs(alloc, &first, fast, &mut line, &mut keeper, onlooker);
     let (core, stop) = drive_behind(first, stubs, &mut line, &mut keeper, onlooker);
     onlooker.ends();
-    let lived = Lived {
+    around.end_record(keeper);
+    let line = Some(line);
+    Ok(Lived {
         core,
         stop,
         stubs,
-        line: Some(line),
-    };
-    (lived, keeper)
+        line,
+    })
 }
 
 // Drives the life's host behind its stubs, where none of these stopped the load.
@@ -245,12 +240,12 @@ fn drive_behind<L: Line, K: Keep, O: Onlooker>(
     keeper: &mut K,
     onlooker: &O,
 ) -> (HostCore, Stop)
+    requires within { IfSome stubs (λ stubs. stubs.tally.verified ≤ length first.plan.words) }
+    ensures host { IsDrivenWhere (hindrance stubs) (host_behind first stubs) result.0 result.1
+        (devices_of L.Line K.Keep line.old keeper.old) (devices_of L.Line K.Keep line.new keeper.new) }
+    ensures kept { IsKeptWhere (calls_of K.Keep) (hindrance stubs) (host_behind first stubs) result.0 result.1 keeper.old keeper.new }
 {
-    let verified = match stubs {
-        Some(stubs) => stubs.tally.verified,
-        None => first.verified(),
-    };
-    let core = first.host_behind(verified);
+    let core = first.host_behind(stubs);
     match hindrance(stubs) {
         Some(stop) => (core, stop),
         None => drive(core, line, keeper, MOST_TURNS, onlooker),
@@ -258,9 +253,10 @@ fn drive_behind<L: Line, K: Keep, O: Onlooker>(
 }
 
 // Reports a life.
-fn report_life<L, W: Write>(lived: &Lived<L>, out: &mut W) -> Result<(), WriteFault>
-    ensures ok { OnOk result (Appends (W.contents out.old) (W.contents out.new) (load_report (counting lived.now.core lived.now.stubs) lived.now.stop)) }
-    ensures err { OnErr result (WritesPrefix (W.contents out.old) (W.contents out.new) (load_report (counting lived.now.core lived.now.stubs) lived.now.stop)) }
+fn report_life<W: Write>(core: &HostCore, stubs: Option<Stubs>, stop: Stop, out: &mut W) -> Result<(), WriteFault>
+    requires { IfSome stubs AreFew }
+    ensures ok { OnOk result (Appends (W.contents out.old) (W.contents out.new) (load_report (counting core.now stubs) stop)) }
+    ensures err { OnErr result (WritesPrefix (W.contents out.old) (W.contents out.new) (load_report (counting core.now stubs) stop)) }
 {
-    write_and_flush(out, &load_report(&lived.core, lived.stubs, lived.stop))
+    write_and_flush(out, &load_report(core, stubs, stop))
 }

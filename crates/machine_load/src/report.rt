@@ -1,9 +1,10 @@
 //! The report of a load.
-ghost use Rattle.std.specs.Prelude.{◌≡◌, ◌+◌, ◌≤◌, ◌++◌, [], codes};
+ghost use Rattle.std.specs.Prelude.{◌≡◌, ◌+◌, ◌≤◌, ◌++◌, [], codes, IfSome};
 ghost use Rattle.arrayvec.specs.ArrayVec.{array_vec_len};
 ghost use Rattle.host_core.specs.End.{end_name};
 ghost use Rattle.byte_io.specs.Text.{line};
 ghost use Rattle.machine_load.specs.LoadReport.{load_counts_text, load_report, stop_name};
+ghost use Rattle.machine_load.specs.Stubs.{AreFew, counting};
 
 use arrayvec::ArrayVec;
 use byte_io::{push_bytes, push_decimal, push_octal};
@@ -19,6 +20,7 @@ type Report = ArrayVec<u8, REPORT_ROOM>;
 
 /// The report of a load: the counts of all its parts, and how it stopped.
 pub(crate) fn load_report(core: &HostCore, stubs: Option<Stubs>, stop: Stop) -> Report
+    requires few { IfSome stubs AreFew }
     ensures { result.items ≡ load_report (counting core.now stubs) stop }
 {
     let mut text = Report::new();
@@ -28,23 +30,43 @@ pub(crate) fn load_report(core: &HostCore, stubs: Option<Stubs>, stop: Stop) -> 
 }
 
 fn push_counts(text: &mut Report, core: &HostCore, stubs: Option<Stubs>)
-    requires { text.old.items ≡ [] }
+    requires empty { text.old.items ≡ [] }
+    requires few { IfSome stubs AreFew }
     ensures items { text.new.items ≡ line (load_counts_text (counting core.now stubs)) }
     ensures length { array_vec_len text.new ≤ 107 }
 {
-    let (sent, spent) = match stubs {
-        Some(stubs) => (stubs.tally.sent, stubs.tally.spent),
-        None => (0, 0),
-    };
     push_bytes(text, b"sent ");
-    push_decimal(text, core.sent_count() + sent);
+    push_decimal(text, sent_in_all(core, stubs));
     push_bytes(text, b" spent ");
-    push_decimal(text, u64::from(core.spent()) + spent);
+    push_decimal(text, spent_in_all(core, stubs));
     push_bytes(text, b" verified ");
     push_decimal(text, core.progress().verified.into());
     push_bytes(text, b" of ");
     push_decimal(text, core.plan().words().len() as u64);
     push_bytes(text, b"\n");
+}
+
+// The characters that were sent, with those of the stubs.
+fn sent_in_all(core: &HostCore, stubs: Option<Stubs>) -> u64
+    requires { IfSome stubs AreFew }
+    ensures { result ≡ (counting core.now stubs).sent }
+{
+    match stubs {
+        Some(stubs) => core.sent_count() + stubs.tally.sent,
+        None => core.sent_count(),
+    }
+}
+
+// The mishaps that were met, with those of the stubs' hosts.
+fn spent_in_all(core: &HostCore, stubs: Option<Stubs>) -> u64
+    requires { IfSome stubs AreFew }
+    ensures { result ≡ (counting core.now stubs).spent }
+{
+    let spent = u64::from(core.spent());
+    match stubs {
+        Some(stubs) => spent + stubs.tally.spent,
+        None => spent,
+    }
 }
 
 fn push_stop(text: &mut Report, stop: Stop)

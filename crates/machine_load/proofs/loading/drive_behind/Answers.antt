@@ -1,0 +1,14 @@
+use Rattle.std.proofs.Common.{sym, subst, refl, ◌∙◌}
+use Rattle.machine_load.specs.Parts.{IsDrivenWhere, IsKeptWhere, calls_of, devices_of}
+use Rattle.machine_load.specs.Stubs.{host_behind}
+use Rattle.machine_load.proofs.loading.drive_behind.Goals as goal
+
+pub returns-in-Some-clause-host : goal.returns-in-Some-clause-host
+returns-in-Some-clause-host g c =
+    let here = devices_of g.L.Line g.K.Keep c.args.line.now c.args.keeper.now in
+    subst (λ hindered. IsDrivenWhere hindered (host_behind c.args.first c.args.stubs) c.host_behind-core.result c.in-Some.stop here here) (sym c.in-Some.is ∙ c.hindrance.ensures)
+    (record { core = c.host_behind-core.ensures; stop_is = refl; devices_same = refl })
+
+pub returns-in-Some-clause-kept : goal.returns-in-Some-clause-kept
+returns-in-Some-clause-kept g c =
+    subst (λ hindered. IsKeptWhere (calls_of g.K.Keep) hindered (host_behind c.args.first c.args.stubs) c.host_behind-core.result c.in-Some.stop c.args.keeper.now c.args.keeper.now) (sym c.in-Some.is ∙ c.hindrance.ensures) refl

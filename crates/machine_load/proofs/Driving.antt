@@ -1,5 +1,5 @@
 -- Loads by their lives.
-use Rattle.std.proofs.Common.{◌≡◌, ◌⊎◌, Bool, List, [], ◌∷◌, Option, Some, None, option_map, refl, subst, inl, inr}
+use Rattle.std.proofs.Common.{◌≡◌, ◌⊎◌, Bool, List, [], ◌∷◌, Option, Some, None, option_map, refl, sym, subst, inl, inr}
 use Rattle.std.specs.Io.KnownBytes.{Appends}
 use Rattle.tape_image.specs.Plan.{PlanValue}
 use Rattle.byte_io.specs.Output.{WritesPrefix}
@@ -10,9 +10,10 @@ use Rattle.stream_line.specs.Dialling.{Call, LineRequest, asked_once}
 use Rattle.machine_load.specs.Called.{asked_by}
 use Rattle.machine_load.specs.Driving.{KeeperTells, IsLived, IsLoadLived, IsLoadReported, IsLoadUntold}
 use Rattle.machine_load.specs.GivenBack.{IsGivenBack}
-use Rattle.machine_load.specs.Load.{Around, Ending, Finish, Setting, Asks, KeepsRecord, IsCutShort, IsLoad, IsLoadLife, IsOpening, IsReported, ending_of, finish_of}
+use Rattle.machine_load.specs.Load.{Around, Ending, Finish, Setting, Asks, KeepsRecord, IsCutShort, IsLoad, IsLoadLife, IsOpening, IsReported, finish_of}
 use Rattle.machine_load.specs.LoadFault.{IsOpeningFault, IsDrivingFault}
-use Rattle.machine_load.specs.LoadReport.{course_report}
+use Rattle.machine_load.specs.LoadReport.{course_report, load_report}
+use Rattle.machine_load.specs.Stubs.{counting}
 use Rattle.machine_load.specs.Parts.{Course, course, devices}
 use Rattle.machine_load.specs.Step.{reading}
 use Rattle.machine_load.specs.declared.fault.LoadFault.{LoadFault}
@@ -72,18 +73,21 @@ cut_short_of tells plan options before after load = record {
   reported = load.reported;
 }
 
--- a load that was reported
-pub load_reported : {K L : Type 0} (tells : KeeperTells K) (told_of : L → LineTold) (plan : PlanValue) (options : LoadOptions) (before after : Setting) (between : Around) (first : Core)
-    (writable : Bool) (way : Course) (line : Option L) → Asks before.around between (reading writable ∷ []) → KeepsRecord before.around between → IsOpening before.around.record_text plan options first
-    → IsLived tells options.fast writable first between after.around (finish_of way (option_map told_of line)) → Appends before.out after.out (course_report way)
-    → IsLoadReported tells plan options before after (ending_of way.stop way.core.going (option_map told_of line))
-load_reported tells told_of plan options before after between first writable way line read same opened lived reported = record {
-  stubs = way.stubs;
-  last = way.core;
-  lived = record { first = first; writable = writable; between = between; read_first = read; record_read = same; opened = opened; life = lived };
-  marked_is = refl;
-  reported = reported;
-}
+-- a load that was reported, and gives this back
+pub loaded_as : {K : Type 0} (tells : KeeperTells K) (plan : PlanValue) (options : LoadOptions) (before after : Setting) (way : Course) (line : Option LineTold) (ending : Ending)
+    → ending.stop ≡ way.stop → ending.marked ≡ way.core.going → ending.line ≡ line → IsLoadLived tells plan options before.around after.around (finish_of way line) → Appends before.out after.out (course_report way)
+    → (load : IsLoadReported tells plan options before after ending) × (load.stubs ≡ way.stubs)
+loaded_as tells plan options before after way line ending stop marked is lived reported = (
+  record {
+    stubs = way.stubs;
+    last = way.core;
+    lived = subst (λ l. IsLoadLived tells plan options before.around after.around (finish_of (course way.stubs way.core ending.stop) l)) (sym is)
+        (subst (λ s. IsLoadLived tells plan options before.around after.around (finish_of (course way.stubs way.core s) line)) (sym stop) lived);
+    marked_is = marked;
+    reported = subst (λ s. Appends before.out after.out (load_report (counting way.core way.stubs) s)) (sym stop) reported;
+  },
+  refl,
+)
 
 -- a load whose report failed
 pub load_untold : {K : Type 0} (tells : KeeperTells K) (plan : PlanValue) (options : LoadOptions) (before after : Setting) (between : Around) (first : Core) (writable : Bool) (finish : Finish)

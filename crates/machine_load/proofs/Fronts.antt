@@ -36,7 +36,7 @@ keys_cut (key ∷ keys) (item ∷ front) more e =
     let rest = keys_cut keys front more (cc e) in (rest.0, ap (λ i. i ∷ said_all keys) same ∙ ap (λ l. item ∷ l) rest.1)
 
 -- what a stopped exchange says
-StopsSo : Image → List Chunk → Exchange → List Item → Type 0
+abbrev StopsSo : Image → List Chunk → Exchange → List Item → Type 0
 StopsSo image chunks e front = (fewer : List Heard) × (unsent : List ℕ) × (exchange_dialogue image chunks e fewer ≡ front ++ said_all unsent)
 
 exchange_cut : (image : Image) (chunks : List Chunk) (e : Exchange) (things : List Heard) (front rest : List Item) → exchange_dialogue image chunks e things ≡ front ++ rest → StopsSo image chunks e front
@@ -68,9 +68,9 @@ where_cut true image chunks e things front rest is = exchange_cut image chunks e
 where_cut false image chunks e things [] rest is = ([], [], refl)
 where_cut false image chunks e things (item ∷ front) rest is = absurd (cc is)
 
-none_exchanged : (begins : Bool) → (if begins then [] else []) ≡ ([] : List Item)
-none_exchanged true = refl
-none_exchanged false = refl
+none_exchanged : (begins : Bool) (items : List Item) → items ≡ [] → (if begins then items else []) ≡ []
+none_exchanged true items none = none
+none_exchanged false items none = refl
 
 key_said : (key : Option ℕ) → said key ≡ said_all (option_to_list key)
 key_said None = refl
@@ -111,7 +111,7 @@ stub_fronts program tape v (part ∷ more) front rest are is =
           less ∷ [],
           option_to_list unsent,
           (are.0, are.1, tt),
-          ap (λ l. dialogue (bringer part) fewer ++ (l ++ [])) (none_exchanged (starts less)) ∙ (append-nil (dialogue (bringer part) fewer) ∙ (said_is ∙ ap (λ l. front ++ l) (key_said unsent))),
+          ap (λ l. dialogue (bringer part) fewer ++ (l ++ [])) (none_exchanged (starts less) [] refl) ∙ (append-nil (dialogue (bringer part) fewer) ∙ (said_is ∙ ap (λ l. front ++ l) (key_said unsent))),
         )
 
     exchanged : (within : List Item) → front ≡ talk ++ within

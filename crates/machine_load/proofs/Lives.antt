@@ -38,7 +38,7 @@ use Rattle.fast_lives.specs.FastLives.{FastLife, IsFastLife, LinkAndRecord, Pass
 use Rattle.fast_lives.specs.StubParts.{AreStubParts, StubPart, stubs_said, verified_by}
 use Rattle.machine_load.specs.declared.stubs.Stubs.{Stubs}
 use Rattle.machine_load.specs.Driving.{IsDrivenLife, IsLived}
-use Rattle.machine_load.specs.Lives.{GoesOut, HostGoesOut, StubsGoOut, LoadsAreFastLives, LoadsAreLives, of_file}
+use Rattle.machine_load.specs.Lives.{GoesOut, HostGoesOut, PartsGoOut, StubsGoOut, LoadsAreFastLives, LoadsAreLives, of_file}
 use Rattle.machine_load.specs.Load.{Around, Finish, IsIdleLife, words_taken}
 use Rattle.machine_load.specs.Parts.{AreBrought, AreKept, Devices, IsDrivenWhere, IsKeptWhere, devices}
 use Rattle.machine_load.specs.Stubs.{hindrance, hindrance_of, host_behind}
@@ -105,7 +105,7 @@ unhindered stub.Memory e = refl
 
 -- a life that goes on without the mark behind so many words, over a record that was read
 module _ (plan : PlanValue) (v patience : ℕ) (front rest : List Item) (old new : LinkAndRecord) (fits : IsPlan plan) (long : patience < 2 ^ 32) (goes : GoesOnFrom plan old.text (record { verified = v; going = false })) (passes : PassesAt stub_program old.link (front ++ rest) new.link) where
-  first : Core
+  abbrev first : Core
   first = begun plan v false patience
 
   left_of : (core : Core) (keep : Keeper) → HoldsFront plan core rest keep → keep.text ≡ Some new.text → IsLeft plan (record { verified = v; going = false }) core rest old.text new.text
@@ -174,7 +174,7 @@ module _ (plan : PlanValue) (v patience : ℕ) (front rest : List Item) (old new
   behind_stubs : (stubs : Stubs) (hindered : Option Stop) (core : Core) (stop : Stop) (before between after : Devices) (keeper keeping keeper' : Keeper) → hindrance_of stubs.stop ≡ hindered → HoldsRecord keeper plan v
       → (brought : AreBrought first (Some stubs) before between) → (host : IsDrivenWhere hindered (host_behind first (Some stubs)) core stop between after)
       → AreKept of_file.calls first (Some stubs) keeper keeping → IsKeptWhere of_file.calls hindered (host_behind first (Some stubs)) core stop keeping keeper'
-      → StubsGoOut brought front → HostGoesOut host rest → keeper'.text ≡ Some new.text → FastLives plan core front rest old new
+      → StubsGoOut first (Some stubs) before between brought front → HostGoesOut hindered (host_behind first (Some stubs)) core stop between after host rest → keeper'.text ≡ Some new.text → FastLives plan core front rest old new
   behind_stubs stubs None core stop before between after keeper keeping keeper' free holds brought host kept host_kept (sent, later, unsent_is, front_is) out is =
       behind brought.brought.parts stubs.tally.verified core stop between.line.said after.line.said between.kept after.kept keeper' brought.brought.verified brought.brought.stubs all_said host.session out
       (host_holds plan stubs.tally.verified patience stop core between.line.said after.line.said between.kept after.kept keeping keeper' rest fits long brought.within held host.session out host_kept.kept_by) is
@@ -193,7 +193,7 @@ module _ (plan : PlanValue) (v patience : ℕ) (front rest : List Item) (old new
           brought.brought.items ∙ (ap (λ keys. brought.brought.said ++ said_all keys) (nothing ∙ sym none_sent) ∙ sym front_is)
 
       held : HoldsRecord keeping plan stubs.tally.verified
-      held = stubs_held plan v stubs.tally.verified keeper keeping holds brought.grows brought.within (subst (λ failure. StubsKeptBy HasKept HasCutShort failure keeper _ keeping) none_failed kept.kept_by)
+      held = stubs_held plan v stubs.tally.verified keeper keeping holds brought.grows brought.within (subst (λ failure. StubsKeptBy HasKept HasCutShort failure keeper (words_kept plan.words v stubs.tally.verified) keeping) none_failed kept.kept_by)
   behind_stubs stubs (Some hindered) core stop before between after keeper keeping keeper' is_hindered holds brought host kept host_kept (sent, later, unsent_is, front_is) out is =
       subst (λ (c : Core). FastLives plan c front rest old new) (sym host.core)
       (within brought.brought.parts stubs.tally.verified later keeping brought.brought.verified brought.brought.stubs said_is out
@@ -217,7 +217,7 @@ module _ (plan : PlanValue) (v patience : ℕ) (front rest : List Item) (old new
   parts_lived : (stubs : Option Stubs) (core : Core) (stop : Stop) (before between after : Devices) (keeper keeping keeper' : Keeper) → HoldsRecord keeper plan v
       → (brought : AreBrought first stubs before between) → (host : IsDrivenWhere (hindrance stubs) (host_behind first stubs) core stop between after)
       → AreKept of_file.calls first stubs keeper keeping → IsKeptWhere of_file.calls (hindrance stubs) (host_behind first stubs) core stop keeping keeper'
-      → StubsGoOut brought front → HostGoesOut host rest → keeper'.text ≡ Some new.text → FastLives plan core front rest old new
+      → StubsGoOut first stubs before between brought front → HostGoesOut (hindrance stubs) (host_behind first stubs) core stop between after host rest → keeper'.text ≡ Some new.text → FastLives plan core front rest old new
   parts_lived None core stop before between after keeper keeping keeper' holds brought host kept host_kept none out is =
       behind [] v core stop between.line.said after.line.said between.kept after.kept keeper' refl tt (sym none) host.session out
       (host_holds plan v patience stop core between.line.said after.line.said between.kept after.kept keeping keeper' rest fits long fewer_than_all (subst (λ (k : Keeper). HoldsRecord k plan v) (sym kept) holds) host.session out host_kept.kept_by) is
@@ -250,16 +250,16 @@ module _ (plan : PlanValue) (v patience : ℕ) (told : Option (List ℕ)) (betwe
 
   -- one that is driven
   driven_fast : {fast writable : Bool} (going : Bool) → GoesOnFrom plan old.text (record { verified = v; going = going }) → (life : IsDrivenLife of_file fast writable (begun plan v going patience) between after finish)
-      → StubsGoOut life.parts.parts.stubs front → HostGoesOut life.parts.parts.host rest → FastLives plan finish.course.core front rest old new
-  driven_fast true goes life went out = absurd (cc life.goes_on)
-  driven_fast false goes life went out =
-      parts_lived plan v patience front rest old new fits long goes passes finish.course.stubs finish.course.core finish.course.stop _ _ _ life.keeper life.parts.keeping life.keeper' life.begun_so
-      life.parts.parts.stubs life.parts.parts.host life.parts.stubs_kept life.parts.host_kept went out (sym life.left ∙ is)
+      → PartsGoOut life.parts.parts front rest → FastLives plan finish.course.core front rest old new
+  driven_fast true goes life out = absurd (cc life.goes_on)
+  driven_fast false goes life out =
+      parts_lived plan v patience front rest old new fits long goes passes finish.course.stubs finish.course.core finish.course.stop (devices life.line (of_file.calls.kept life.keeper)) (devices life.parts.between (of_file.calls.kept life.parts.keeping)) (devices life.line' (of_file.calls.kept life.keeper')) life.keeper life.parts.keeping life.keeper' life.begun_so
+      life.parts.parts.stubs life.parts.parts.host life.parts.stubs_kept life.parts.host_kept out.0 out.1 (sym life.left ∙ is)
 
   fast_lived : {fast writable : Bool} (going : Bool) → GoesOnFrom plan old.text (record { verified = v; going = going }) → (life : IsLived of_file fast writable (begun plan v going patience) between after finish) → GoesOut life front rest
       → FastLives plan finish.course.core front rest old new
   fast_lived going goes (inl idle) (no_front, no_rest) = idle_fast going goes idle no_front no_rest
-  fast_lived going goes (inr life) (went, out) = driven_fast going goes life went out
+  fast_lived going goes (inr life) out = driven_fast going goes life out
 
 pub loads_are_fast_lives : LoadsAreFastLives
 loads_are_fast_lives plan options before after finish load front rest old new fits long was is out passes =
@@ -305,7 +305,7 @@ module _ (plan : PlanValue) (v patience : ℕ) (told : Option (List ℕ)) (betwe
 
   -- its host alone
   host_life : (core : Core) (stop : Stop) (before behind : Devices) (keeper keeper' : Keeper) → GoesOnFrom plan old.text (record { verified = v; going = false }) → HoldsRecord keeper plan v
-      → (host : IsDrivenWhere None (begun plan v false patience) core stop before behind) → IsKeptWhere of_file.calls None (begun plan v false patience) core stop keeper keeper' → HostGoesOut host items → keeper'.text ≡ Some new.text
+      → (host : IsDrivenWhere None (begun plan v false patience) core stop before behind) → IsKeptWhere of_file.calls None (begun plan v false patience) core stop keeper keeper' → HostGoesOut None (begun plan v false patience) core stop before behind host items → keeper'.text ≡ Some new.text
       → Lives plan core items old new
   host_life core stop before behind keeper keeper' goes holds host kept out held =
       let sound = says_sound plan old.text goes.recorded goes.says in
@@ -322,22 +322,22 @@ module _ (plan : PlanValue) (v patience : ℕ) (told : Option (List ℕ)) (betwe
   parts_alone : (stubs : Option Stubs) (core : Core) (stop : Stop) (before middle behind : Devices) (keeper keeping keeper' : Keeper) → is_some stubs ≡ false → GoesOnFrom plan old.text (record { verified = v; going = false }) → HoldsRecord keeper plan v
       → (brought : AreBrought (begun plan v false patience) stubs before middle) → (host : IsDrivenWhere (hindrance stubs) (host_behind (begun plan v false patience) stubs) core stop middle behind)
       → AreKept of_file.calls (begun plan v false patience) stubs keeper keeping → IsKeptWhere of_file.calls (hindrance stubs) (host_behind (begun plan v false patience) stubs) core stop keeping keeper'
-      → HostGoesOut host items → keeper'.text ≡ Some new.text → Lives plan core items old new
+      → HostGoesOut (hindrance stubs) (host_behind (begun plan v false patience) stubs) core stop middle behind host items → keeper'.text ≡ Some new.text → Lives plan core items old new
   parts_alone None core stop before middle behind keeper keeping keeper' none goes holds brought host kept host_kept out held =
       host_life core stop middle behind keeping keeper' goes (subst (λ (k : Keeper). HoldsRecord k plan v) (sym kept) holds) host host_kept out held
   parts_alone (Some stubs) core stop before middle behind keeper keeping keeper' none goes holds brought host kept host_kept out held = absurd (cc none)
 
   driven_life : {writable : Bool} (going : Bool) → GoesOnFrom plan old.text (record { verified = v; going = going }) → (life : IsDrivenLife of_file false writable (begun plan v going patience) between after finish)
-      → HostGoesOut life.parts.parts.host items → Lives plan finish.course.core items old new
+      → PartsGoOut life.parts.parts [] items → Lives plan finish.course.core items old new
   driven_life true goes life out = absurd (cc life.goes_on)
   driven_life false goes life out =
-      parts_alone finish.course.stubs finish.course.core finish.course.stop _ _ _ life.keeper life.parts.keeping life.keeper' life.stubs_asked goes life.begun_so life.parts.parts.stubs life.parts.parts.host life.parts.stubs_kept life.parts.host_kept
-      out (sym life.left ∙ is)
+      parts_alone finish.course.stubs finish.course.core finish.course.stop (devices life.line (of_file.calls.kept life.keeper)) (devices life.parts.between (of_file.calls.kept life.parts.keeping)) (devices life.line' (of_file.calls.kept life.keeper')) life.keeper life.parts.keeping life.keeper' life.stubs_asked goes life.begun_so life.parts.parts.stubs life.parts.parts.host life.parts.stubs_kept life.parts.host_kept
+      out.1 (sym life.left ∙ is)
 
   lived : {writable : Bool} (going : Bool) → GoesOnFrom plan old.text (record { verified = v; going = going }) → (life : IsLived of_file false writable (begun plan v going patience) between after finish) → GoesOut life [] items
       → Lives plan finish.course.core items old new
   lived going goes (inl idle) (none, out) = idle_life going goes idle out
-  lived going goes (inr life) (none, out) = driven_life going goes life out
+  lived going goes (inr life) out = driven_life going goes life out
 
 pub loads_are_lives : LoadsAreLives
 loads_are_lives plan options before after finish load items old new plain fits long was is out passes =

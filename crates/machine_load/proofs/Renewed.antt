@@ -1,5 +1,5 @@
 -- What a keeper that has begun a record holds behind the parts of a life: a front of the record of what is verified, whatever the record was before.
-use Rattle.std.proofs.Common.{◌≡◌, ℕ, zero, suc, ◌+◌, ◌-◌, ◌^◌, ◌≤◌, ◌<◌, Bool, true, false, List, [], ◌∷◌, ◌++◌, length, take, drop, map, Option, Some, None, Ok, inl, inr, refl, arith, ap, sym, subst, ◌∙◌, append-nil, append_assoc}
+use Rattle.std.proofs.Common.{◌≡◌, ◌⊎◌, ℕ, zero, suc, ◌+◌, ◌-◌, ◌^◌, ◌≤◌, ◌<◌, Bool, true, false, List, [], ◌∷◌, ◌++◌, length, take, drop, map, Option, Some, None, Ok, inl, inr, refl, arith, ap, sym, subst, ◌∙◌, append-nil, append_assoc}
 use Rattle.std.specs.Prelude.{Contains}
 use Rattle.std.specs.List.{slice_get}
 use Rattle.std.proofs.Math.Seq.{drop-drop}
@@ -138,7 +138,7 @@ last_of (w ∷ words) (item ∷ kept) last e =
     }
 
 module _ (plan : PlanValue) (v w : ℕ) (keep keep' : Keeper) (holds : HoldsRecord keep plan v) (grows : v ≤ w) (within : w ≤ length plan.words) where
-  words : List WordValue
+  abbrev words : List WordValue
   words = take (w - v) (drop v plan.words)
 
   count : length words ≡ w - v
@@ -169,6 +169,7 @@ module _ (plan : PlanValue) (v w : ℕ) (keep keep' : Keeper) (holds : HoldsReco
       k : ℕ
       k = v + length l.front
 
+      cut : HasCutShort next (Word l.word) keep'
       cut = subst (λ item. HasCutShort next item keep') l.last_is failed
 
       all : drop v plan.words ≡ l.front ++ l.word ∷ rest

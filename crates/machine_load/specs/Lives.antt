@@ -15,7 +15,8 @@ use Rattle.fast_lives.specs.FastLives.{FastLife, IsFastLife, LinkAndRecord, Pass
 use Rattle.machine_load.specs.declared.stubs.Stubs.{Stubs}
 use Rattle.machine_load.specs.Driving.{KeeperTells, IsLived, IsLoadLived}
 use Rattle.machine_load.specs.Load.{Around, Finish}
-use Rattle.machine_load.specs.Parts.{AreBrought, Devices, IsDrivenWhere}
+use Rattle.machine_load.specs.Parts.{AreBrought, AreParts, Course, Devices, IsDrivenWhere}
+use Rattle.machine_load.specs.Stubs.{hindrance, host_behind}
 use Rattle.request_values.specs.declared.options.LoadOptions.{LoadOptions}
 
 -- what the keeper of a record's file tells, where its writer tells what it holds, and where it held nothing before
@@ -33,24 +34,31 @@ of_file = record {
 }
 
 -- what went out of what the stubs said: what the line tells, and perhaps some of the keys that a call failed to send
-abbrev pub StubsGoOut : {first : Core} {stubs : Option Stubs} {before after : Devices} → AreBrought first stubs before after → List Item → Type 0
-StubsGoOut {first} {None} {before} {after} same items = items ≡ []
-StubsGoOut {first} {Some stubs} {before} {after} by items =
+abbrev pub StubsGoOut : (first : Core) (stubs : Option Stubs) (before after : Devices) → AreBrought first stubs before after → List Item → Type 0
+StubsGoOut first None before after same items = items ≡ []
+StubsGoOut first (Some stubs) before after by items =
     (sent rest : List ℕ) × (by.brought.unsent ≡ sent ++ rest) × (items ≡ by.brought.said ++ said_all sent)
 
 -- what went out of the host's dialogue with the console: what the line tells, or all of the dialogue, where the call that failed sent its key
 -- after all; and nothing, where the host was hindered
-abbrev pub HostGoesOut : {hindered : Option Stop} {old new : Core} {stop : Stop} {before after : Devices} → IsDrivenWhere hindered old new stop before after
+abbrev pub HostGoesOut : (hindered : Option Stop) (old new : Core) (stop : Stop) (before after : Devices) → IsDrivenWhere hindered old new stop before after
     → List Item → Type 0
-HostGoesOut {None} {old} {new} {stop} {before} {after} driven items = WentOutAt stop (dialogue old driven.session.heard) driven.session.said items
-HostGoesOut {Some hindered} {old} {new} {stop} {before} {after} idle items = items ≡ []
+HostGoesOut None old new stop before after driven items = WentOutAt stop (dialogue old driven.session.heard) driven.session.said items
+HostGoesOut (Some hindered) old new stop before after idle items = items ≡ []
+
+-- what went out of both
+abbrev pub PartsGoOut : {first : Core} {course : Course} {before between after : Devices} → AreParts first course before between after → List Item → List Item
+    → Type 0
+PartsGoOut {first} {course} {before} {between} {after} parts front rest =
+    StubsGoOut first course.stubs before between parts.stubs front
+    × HostGoesOut (hindrance course.stubs) (host_behind first course.stubs) course.core course.stop between after parts.host rest
 
 -- what was said of a life: by its stubs, and then by its host; nothing, where it was over at once
 abbrev pub GoesOut : {fast writable : Bool} {first : Core} {before after : Around} {finish : Finish} → IsLived of_file fast writable first before after finish
     → List Item → List Item → Type 0
 GoesOut {fast} {writable} {first} {before} {after} {finish} (inl idle) front rest = (front ≡ []) × (rest ≡ [])
 GoesOut {fast} {writable} {first} {before} {after} {finish} (inr life) front rest =
-    StubsGoOut life.parts.parts.stubs front × HostGoesOut life.parts.parts.host rest
+    PartsGoOut life.parts.parts front rest
 
 -- a load whose keeper writes the record's file, with stubs or without, is a life at a station, from the line and the record that it found to those
 -- that it left

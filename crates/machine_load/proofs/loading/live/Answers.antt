@@ -2,6 +2,7 @@ use Rattle.std.proofs.Common.{refl, rules, sym, subst, ◌∙◌, inl, inr, [], 
 use Rattle.load_devices.specs.Told.{Gains}
 use Rattle.console_reach.specs.Reached.{line_told}
 use Rattle.machine_load.specs.Scene.{around_of}
+use Rattle.machine_load.specs.LoadFault.{IsDrivingFault}
 use Rattle.machine_load.proofs.Faults.{not_begun}
 use Rattle.machine_load.proofs.Steps.{gains_more}
 use Rattle.machine_load.proofs.loading.live.Goals as goal
@@ -26,11 +27,12 @@ returns-in_err-line-clause-disk_in_vain g c = search rules
 
 pub returns-in-Err-clause-fault : goal.returns-in-Err-clause-fault
 returns-in-Err-clause-fault g c =
-    rw (sym c.let_go.ensures.steps, sym c.let_go.ensures.text, sym c.from.ensures) at
+    subst (λ writable. IsDrivingFault writable (around_of g.S.Surroundings c.args.around.now) (around_of g.S.Surroundings c.let_go.new.self) c.from.result) (sym c.if-not-writable.false)
+    (rw (sym c.let_go.ensures.steps, sym c.let_go.ensures.text, sym c.from.ensures) at
     (not_begun
     (around_of g.S.Surroundings c.args.around.now)
     (around_of g.S.Surroundings c.connect.new.self)
-    (around_of g.S.Surroundings c.begin_record.new.self) c.in-Err.fault c.in-Err.ensures.fault c.in_ok-line.ensures.step c.in-Err.ensures.step)
+    (around_of g.S.Surroundings c.begin_record.new.self) c.in-Err.fault c.in-Err.ensures.fault c.in_ok-line.ensures.step c.in-Err.ensures.step))
 
 pub returns-in-Err-clause-lines_in_vain : goal.returns-in-Err-clause-lines_in_vain
 returns-in-Err-clause-lines_in_vain g c =
@@ -43,8 +45,8 @@ returns-in-Err-clause-lines_in_vain g c =
 
 pub returns-clause-lived : goal.returns-clause-lived
 returns-clause-lived g c = inr (record {
-  may_write = ?;
-  goes_on = ?;
+  may_write = c.if-not-writable.false;
+  goes_on = sym c.end.ensures ∙ c.in_default.is;
   stubs_asked = c.bring_stubs-stubs.ensures.asked;
   asked = gains_more _ _ _ _ _ (gains_more _ _ _ _ _ c.in_ok-line.ensures.step c.in-Ok.ensures.step) c.end_record.ensures.step;
   line' = _;

@@ -1,13 +1,13 @@
-use Rattle.std.proofs.Common.{◌≡◌, ◌∙◌, sym, subst, inl, option_map, rules}
+use Rattle.std.proofs.Common.{◌≡◌, ◌∙◌, ap, sym, subst, inl, option_map, rules}
 use Rattle.console_reach.specs.Reached.{line_told}
-use Rattle.machine_load.specs.Driving.{IsLoadReported, IsLoadUntold}
+use Rattle.machine_load.specs.Driving.{IsLoadLived, IsLoadUntold}
 use Rattle.machine_load.specs.GivenBack.{GivesNothingSaid, IsGivenBack}
 use Rattle.machine_load.specs.Load.{finish_of}
 use Rattle.machine_load.specs.LoadFault.{IsLoadFault}
 use Rattle.machine_load.specs.Parts.{course}
 use Rattle.machine_load.specs.Scene.{Scene, IsNotLoaded, around_of, ending, keeper_of, scene}
 use Rattle.machine_load.proofs.Begun.{line_or_never, line_or_over, never_begun}
-use Rattle.machine_load.proofs.Driving.{asked_untold, cut_short_of, load_reported, load_untold, reported_of, undriven_told, unopened_told}
+use Rattle.machine_load.proofs.Driving.{asked_untold, cut_short_of, load_untold, loaded_as, reported_of, undriven_told, unopened_told}
 use Rattle.machine_load.proofs.Faults.{of_opening, of_driving, error_is, no_value, not_loaded}
 use Rattle.machine_load.proofs.OnDisk.{lived_on, not_lived_on, untold_on}
 use Rattle.machine_load.specs.RecordDisk.{DiskAsked, disk_asked_by, disk_asked_before}
@@ -89,23 +89,21 @@ returns-in-Ok-clause-ok g c =
     let before = scene g.S.Surroundings g.W.Write c.args.around.now c.args.out.now in
     let after = scene g.S.Surroundings g.W.Write c.live.new.around c.report_life.new.out in
     let way = course c.in_ok-lived.lived.stubs c.in_ok-lived.lived.core c.in_ok-lived.lived.stop in
-    let load =
-    load_reported keeper (line_told g.S.Line.Line) c.args.plan c.args.options before.setting after.setting
-    (around_of g.S.Surroundings c.first_core.new.around)
-    c.in_ok-first.first c.in_ok-first.writable way c.in_ok-lived.lived.line
-    c.in_ok-first.ensures.step c.first_core.ensures.same c.in_ok-first.ensures.opened c.in_ok-lived.ensures.lived c.in-Ok.ensures.ok in
-    let lived : IsLoadReported keeper c.args.plan c.args.options before.setting after.setting (ending g.S.Line.Line c.outcome.result) =
-    record {
-      stubs = way.stubs;
-      last = way.core;
-      lived = rw (sym c.outcome.ensures.stop, sym c.outcome.ensures.line) at load.lived;
-      marked_is = c.outcome.ensures.marked;
-      reported = rw (sym c.outcome.ensures.stop) at load.reported;
+    let line = option_map (line_told g.S.Line.Line) c.in_ok-lived.lived.line in
+    let lived : IsLoadLived keeper c.args.plan c.args.options before.setting.around after.setting.around (finish_of way line) = record {
+      first = c.in_ok-first.first;
+      writable = c.in_ok-first.writable;
+      between = around_of g.S.Surroundings c.first_core.new.around;
+      read_first = c.in_ok-first.ensures.step;
+      record_read = c.first_core.ensures.same;
+      opened = c.in_ok-first.ensures.opened;
+      life = c.in_ok-lived.ensures.lived;
     } in
+    let load = loaded_as keeper c.args.plan c.args.options before.setting after.setting way line (ending g.S.Line.Line c.outcome.result) c.outcome.ensures.stop c.outcome.ensures.marked (ap (option_map (line_told g.S.Line.Line)) c.outcome.ensures.line) lived c.in-Ok.ensures.ok in
     record {
-      reported = reported_of keeper c.args.plan c.args.options before.setting after.setting (ending g.S.Line.Line c.outcome.result) (c.in_ok-lived.ensures.lines ∙ c.first_core.ensures.lines) lived;
-      lived = lived;
-      stubs = c.outcome.ensures.stubs;
+      reported = reported_of keeper c.args.plan c.args.options before.setting after.setting (ending g.S.Line.Line c.outcome.result) (c.in_ok-lived.ensures.lines ∙ c.first_core.ensures.lines) load.0;
+      lived = load.0;
+      stubs = c.outcome.ensures.stubs ∙ sym load.1;
       line = rw (sym c.outcome.ensures.stop, sym c.outcome.ensures.line) at
           (line_or_never c.in_ok-lived.lived.line (never_begun _ _ _ _ _ _ c.in_ok-first.ensures.opened)
           (line_or_over keeper (line_told g.S.Line.Line) c.args.options.fast

@@ -88,6 +88,7 @@ pub record SaysLoad (found : Found) (load : Load) : Type 0 where
   pub line : first_value found (codes "LINE") ≡ Some load.line.now
   pub record_file : option_map (λ name. name.now) load.«record» ≡ first_value found (codes "record")
   pub recheck : IsFlag found (codes "recheck") load.options.recheck
+  pub fast : IsFlag found (codes "fast") load.options.fast
   pub patience : IsNumberOf found (codes "patience") plain_patience load.options.patience
   pub quiet : IsNumberOf found (codes "quiet") plain_quiet load.quiet_ms
   pub listen : IsNumberGiven found (codes "listen") load.listen

@@ -34,6 +34,9 @@ enum Form {
     // An option with a number that may be 0 to this one.
     Digit(&'static str, u8),
 
+    // An option without a value.
+    Flag,
+
     // An option without a value, which needs that of this name.
     FlagBeside(&'static str),
 
@@ -58,6 +61,7 @@ impl Argument {
                 let parser = value_parser!(u8).range(0..=i64::from(most));
                 Ok(arg.long(self.name).value_name(value).value_parser(parser))
             }
+            Form::Flag => Ok(flag(arg, self.name)),
             Form::FlagBeside(other) => flag(arg, self.name).requires_arg(other),
             Form::FlagWithout(other) => flag(arg, self.name).conflicts_with(other),
         }
@@ -139,6 +143,14 @@ pub(crate) const RECHECK: Argument = Argument {
     name: names::RECHECK,
     form: Form::FlagBeside(names::RECORD),
     help: "Look at every word again: of the record only a typed\nstart counts",
+};
+
+pub(crate) const FAST: Argument = Argument {
+    name: names::FAST,
+    form: Form::Flag,
+    help: "\
+Type in a small program first that takes the words as
+bytes: some 8 times as quick, from 300 words on",
 };
 
 pub(crate) const START: Argument = Argument {

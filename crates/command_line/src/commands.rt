@@ -1,7 +1,7 @@
 //! The commands, and how the parser is told of them.
 
 use crate::arguments::{
-    ADDRESS, Argument, FILE, FROM, LINE, LISTEN, MORE, NO_START, PATIENCE, QUIET, RECHECK, RECORD,
+    ADDRESS, Argument, FAST, FILE, FROM, LINE, LISTEN, MORE, NO_START, PATIENCE, QUIET, RECHECK, RECORD,
     SAVED_START, SCRIPT, START, STYLE, TAPE, TO, WORDS,
 };
 use crate::texts;
@@ -125,8 +125,8 @@ impl CommandName {
     }
 }
 
-static LOAD: [Argument; 10] = [
-    TAPE, LINE, MORE, RECORD, RECHECK, START, NO_START, LISTEN, PATIENCE, QUIET,
+static LOAD: [Argument; 11] = [
+    TAPE, LINE, MORE, RECORD, RECHECK, FAST, START, NO_START, LISTEN, PATIENCE, QUIET,
 ];
 
 static VERIFY: [Argument; 5] = [TAPE, LINE, MORE, PATIENCE, QUIET];

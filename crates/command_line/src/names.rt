@@ -33,6 +33,9 @@ pub const RECORD: &str = "record";
 /// Whether each word is looked at again.
 pub const RECHECK: &str = "recheck";
 
+/// Whether a stub takes the words.
+pub const FAST: &str = "fast";
+
 /// Where the program is started, or a saved tape says that it is.
 pub const START: &str = "start";
 

@@ -5,7 +5,7 @@ ghost use Rattle.command_line.specs.Options.{SaysLoad, IsLookOf, IsMachineReques
 
 use crate::addresses::{probed_of, range_of, saved_start_of, start_of};
 use crate::commands::known_words;
-use crate::names::{FILE, LISTEN, PATIENCE, QUIET, RECHECK, RECORD, SCRIPT, TAPE};
+use crate::names::{FAST, FILE, LISTEN, PATIENCE, QUIET, RECHECK, RECORD, SCRIPT, TAPE};
 use crate::no_request::NoRequest;
 use crate::shown_words::{have_control, shown_words};
 use crate::values::{
@@ -97,6 +97,7 @@ fn load_of<'a>(alloc: Global, found: &ArgMatches<'a>) -> Result<Load<'a>, NoRequ
         options: LoadOptions {
             patience: u32::from(number_of(found, PATIENCE, PLAIN_PATIENCE as u16)?),
             recheck: found.get_flag(RECHECK),
+            fast: found.get_flag(FAST),
         },
         start: start_of(alloc, found)?,
         listen: number_given(found, LISTEN)?,

@@ -71,6 +71,7 @@ pub(crate) fn run<F: Locks + Devices + Net + Clock>(
 const OPTIONS: LoadOptions = LoadOptions {
     patience: 3,
     recheck: false,
+    fast: false,
 };
 
 /// A load of a tape, recorded under this name. The error is that the request itself has no room.

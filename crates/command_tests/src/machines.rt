@@ -27,6 +27,7 @@ const LOAD: Load<'static> = Load {
     options: LoadOptions {
         patience: 0,
         recheck: false,
+        fast: false,
     },
     start: Start::OfTape,
     listen: None,

@@ -28,6 +28,7 @@ const FILES: [(&str, &[u8]); 6] = [
 const OPTIONS: LoadOptions = LoadOptions {
     patience: 8,
     recheck: false,
+    fast: false,
 };
 
 // A load whose start was typed in an earlier life, so that nothing is connected to.

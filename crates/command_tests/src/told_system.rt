@@ -258,6 +258,7 @@ fn request_of(alloc: Global, wanted: Wanted) -> Result<Request<'static>, AllocEr
                 options: LoadOptions {
                     patience: 3,
                     recheck: false,
+                    fast: false,
                 },
                 start: Start::OfTape,
                 listen: None,

@@ -366,11 +366,28 @@ fn the_text_says_words_mishaps_and_time(rt: HostRuntime) {
             done,
             words,
             is_listening,
+            is_stub: false,
             mishaps,
             seconds_left,
         };
         assert!(rt; is_text(rt.alloc(), showing, text), "{text}");
     }
+}
+
+#[test]
+fn a_stub_is_shown_while_it_is_typed_and_then_its_own_pace(rt: HostRuntime) {
+    let clock = SetClock::new(Some(BEGINNING));
+    let terminal = Screen::new(rt.alloc());
+    let line = ProgressLine::new(&clock, &terminal, false);
+    line.begins(0, 1000);
+    line.stub_begins();
+    assert!(rt; terminal.has_shown(2, "0 of 1000 words, 0%, stub"));
+    clock.millis.set(Some(BEGINNING + 60_000));
+    line.sees(noticed(Heard::Quiet, 0));
+    assert!(rt; terminal.has_shown(3, "0 of 1000 words, 0%"));
+    clock.millis.set(Some(BEGINNING + 61_000));
+    line.sees(noticed(Heard::Quiet, 100));
+    assert!(rt; terminal.has_shown(4, "100 of 1000 words, 10%, 0:09 left"));
 }
 
 // The longest line that a load can have, with more words than memory: each thing that a line may say, the most

@@ -3,7 +3,7 @@
 //! `exchange` hears one thing from the line, lets the exchange take its step, has the words kept that
 //! became verified, and only then sends the characters that the step answered. Its contract says that
 //! nothing else is said and nothing else is kept, whatever the line, the keeper and the peer; and that
-//! over the line of a station on which the stub runs the verified words stand. Used by `machine_load`.
+//! over the line of a station on which the stub runs the verified words stand. Used by `stub_engine`.
 #![tactic(auto)]
 
 mod exchanging;

@@ -24,6 +24,11 @@ abbrev pub listening_text : Bool → List ℕ
 listening_text true = codes ", listening"
 listening_text false = []
 
+-- that a stub is typed in
+abbrev pub stub_text : Bool → List ℕ
+stub_text true = codes ", stub"
+stub_text false = []
+
 -- the mishaps, where there were any
 abbrev pub mishaps_text : ℕ → List ℕ
 mishaps_text mishaps =
@@ -40,7 +45,7 @@ left_text (Some seconds) = codes ", " ++ time_text seconds ++ codes " left"
 abbrev pub showing_text : Showing → List ℕ
 showing_text showing =
     decimal showing.done ++ codes " of " ++ decimal showing.words ++ codes " words" ++ part_text showing.done showing.words
-    ++ listening_text showing.is_listening ++ mishaps_text showing.mishaps ++ left_text showing.seconds_left
+    ++ listening_text showing.is_listening ++ stub_text showing.is_stub ++ mishaps_text showing.mishaps ++ left_text showing.seconds_left
 
 -- that it goes on behind words that were done before
 abbrev pub going_on_text : GoingOn → List ℕ

@@ -140,7 +140,12 @@ impl<C: Clock, E: Print> Onlooker for ProgressLine<'_, C, E> {
         }
     }
 
-    fn stub_begins(&self) {}
+    fn stub_begins(&self) {
+        let now = self.now();
+        let tally = self.tally.get().typing_stub().measured_anew(now);
+        self.tally.set(tally);
+        self.put(showing_line(tally.showing(now)), now);
+    }
 
     fn ends(&self) {
         self.say(CLEARED);

@@ -15,6 +15,9 @@ pub struct Showing {
     /// Whether the line has to be silent first, and is listened to until it is.
     pub is_listening: bool,
 
+    /// Whether a stub is typed in.
+    pub is_stub: bool,
+
     /// How many mishaps there were.
     pub mishaps: u32,
 
@@ -31,8 +34,9 @@ impl fmt::Display for Showing {
     fn fmt<W: fmt::Write>(&self, f: &mut fmt::Formatter<W>) -> fmt::Result {
         let (done, words) = (self.done, self.words);
         let (part, listening) = (Part { done, words }, Listening(self.is_listening));
+        let stub = Stub(self.is_stub);
         let (mishaps, left) = (Mishaps(self.mishaps), Left(self.seconds_left));
-        write!(f, "{done} of {words} words{part}{listening}{mishaps}{left}")
+        write!(f, "{done} of {words} words{part}{listening}{stub}{mishaps}{left}")
     }
 }
 
@@ -129,6 +133,21 @@ impl fmt::Display for Listening {
         } else {
             Ok(())
         }
+    }
+}
+
+// That a stub is typed in, where that is so.
+#[derive(Clone, Copy)]
+struct Stub(bool);
+
+impl fmt::Display for Stub {
+    ghost use Rattle.std.specs.Prelude.{Some};
+    ghost use Rattle.load_progress.specs.ProgressText.{stub_text};
+
+    ghost output = { λ stub. Some (stub_text stub.0) };
+
+    fn fmt<W: fmt::Write>(&self, f: &mut fmt::Formatter<W>) -> fmt::Result {
+        if self.0 { f.write_str(", stub") } else { Ok(()) }
     }
 }
 

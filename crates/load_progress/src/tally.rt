@@ -1,6 +1,6 @@
 //! What is known of how far it is.
 ghost use Rattle.std.specs.Prelude.{◌≡◌, ◌≢◌, ◌⊎◌, ◌↔◌, IsTrue};
-ghost use Rattle.load_progress.specs.Tally.{after_sight, beginning, heard_behind, is_listening, measured_anew, showing_of, time_between};
+ghost use Rattle.load_progress.specs.Tally.{after_sight, after_stub, beginning, heard_behind, is_listening, measured_anew, showing_of, time_between, with_way};
 
 use crate::pace::time_left;
 use crate::showing::Showing;
@@ -26,6 +26,19 @@ pub(crate) struct Mark {
     pub(crate) time: Option<u64>,
 }
 
+/// How the words come into memory.
+#[derive(Clone, Copy, Debug, PartialEq, Eq)]
+pub(crate) enum Way {
+    /// A key at a time, by ODT.
+    ByKeys,
+
+    /// Not now: a stub is typed in.
+    StubTyped,
+
+    /// By a stub.
+    ByStub,
+}
+
 /// How far it is.
 #[derive(Clone, Copy)]
 pub(crate) struct Tally {
@@ -37,6 +50,12 @@ pub(crate) struct Tally {
 
     /// How many are done.
     pub(crate) done: u32,
+
+    /// How they come into memory.
+    pub(crate) way: Way,
+
+    /// How many were done when that way was taken.
+    pub(crate) done_before: u32,
 
     /// Whether there was a key.
     pub(crate) has_sent: bool,
@@ -64,6 +83,8 @@ impl Tally {
             words,
             done_at_first: done,
             done,
+            way: Way::ByKeys,
+            done_before: done,
             has_sent: false,
             mishaps: 0,
             heard: 0,
@@ -72,21 +93,43 @@ impl Tally {
         }
     }
 
-    /// What is known once the host has taken a step.
-    pub(crate) fn seeing(self, sight: Sight) -> Tally
-        ensures { result ≡ after_sight self sight }
+    /// What is known once a stub is about to be typed.
+    pub(crate) fn typing_stub(self) -> Tally
+        ensures { result ≡ after_stub self }
     {
+        self.with_way(Way::StubTyped)
+    }
+
+    // With the way that is taken from here on.
+    fn with_way(self, way: Way) -> Tally
+        ensures { result ≡ with_way self way }
+    {
+        if way == self.way {
+            return self;
+        }
         Tally {
-            done: sight.done,
-            has_sent: self.has_sent || sight.key.is_some(),
-            mishaps: sight.spent,
-            heard: heard_behind(self.heard, sight),
+            way,
+            done_before: self.done,
             ..self
         }
     }
 
+    /// What is known once the host has taken a step. Of the keys of a stub's exchange nothing is told.
+    pub(crate) fn seeing(self, sight: Sight) -> Tally
+        ensures { result ≡ after_sight self sight }
+    {
+        let earlier = self.with_way(way_behind(self.way, sight.key));
+        Tally {
+            done: sight.done,
+            has_sent: earlier.has_sent || sight.key.is_some(),
+            mishaps: sight.spent,
+            heard: heard_behind(earlier.heard, sight),
+            ..earlier
+        }
+    }
+
     /// What is known at a time, in milliseconds of the clock. The pace is measured from where the first word
-    /// was begun, and later over the last minute at most, so that a pause is forgotten.
+    /// of its way was begun, and later over the last minute at most, so that a pause is forgotten.
     pub(crate) fn measured_anew(self, now: Option<u64>) -> Tally
         ensures { result ≡ measured_anew self now }
     {
@@ -94,7 +137,7 @@ impl Tally {
             done: self.done,
             time: now,
         };
-        if self.done == self.done_at_first {
+        if self.done == self.done_before {
             return Tally {
                 from: mark,
                 next: mark,
@@ -111,29 +154,30 @@ impl Tally {
         }
     }
 
-    /// Whether the line is listened to until it is silent: no key was sent yet, or more was heard since
-    /// the last one than a console answers to it.
+    /// Whether the line is listened to until it is silent, where words come by keys: no key was sent yet, or
+    /// more was heard since the last one than a console answers to it.
     pub(crate) fn is_listening(self) -> bool
         ensures { result ≡ is_listening self }
     {
-        !self.has_sent || self.heard > MOST_ANSWERED
+        self.way == Way::ByKeys && (!self.has_sent || self.heard > MOST_ANSWERED)
     }
 
     /// Whether it is worth a showing behind an earlier tally: a word more or a mishap more, and all that
-    /// happens while the line is listened to, up to the key that ends that.
+    /// happens while the line is listened to, up to the key that ends that, and another way.
     pub(crate) fn is_news(self, earlier: Tally) -> bool
         ensures { IsTrue result ↔ (IsTrue (is_listening earlier) ⊎ IsTrue (is_listening self) ⊎ (self.done ≢ earlier.done)
-            ⊎ (self.mishaps ≢ earlier.mishaps)) }
+            ⊎ (self.mishaps ≢ earlier.mishaps) ⊎ (self.way ≢ earlier.way)) }
     {
         earlier.is_listening()
             || self.is_listening()
             || self.done != earlier.done
             || self.mishaps != earlier.mishaps
+            || self.way != earlier.way
     }
 
     /// Whether so many words were done that their pace tells of the rest.
     pub(crate) fn has_pace(self) -> bool {
-        self.done.saturating_sub(self.done_at_first) >= TELLING
+        self.done.saturating_sub(self.done_before) >= TELLING
     }
 
     /// What is shown of it at a time, in milliseconds of the clock, where the clock has one.
@@ -146,9 +190,21 @@ impl Tally {
             done: self.done,
             words: self.words,
             is_listening: self.is_listening(),
+            is_stub: self.way == Way::StubTyped,
             mishaps: self.mishaps,
             seconds_left: time_left(elapsed(self.from.time, now), done, left),
         }
+    }
+}
+
+// How words come into memory behind a step with this key: by keys, or by the stub that was typed.
+fn way_behind(way: Way, key: Option<u8>) -> Way
+    ensures { result ≡ way_behind way key }
+{
+    match (way, key) {
+        (_, Some(_)) => Way::ByKeys,
+        (Way::StubTyped, None) => Way::ByStub,
+        (_, None) => way,
     }
 }
 

@@ -28,6 +28,7 @@ const RECORD: &[u8] = b"LDAODT 2\n001000 011064\nG\n";
 pub(crate) const OPTIONS: LoadOptions = LoadOptions {
     patience: 8,
     recheck: false,
+    fast: false,
 };
 
 // A bench, and what came of the loads on it so far.

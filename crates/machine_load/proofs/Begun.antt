@@ -10,6 +10,7 @@ use Rattle.load_engine.specs.declared.stop.Stop.{Stop}
 use Rattle.load_engine.specs.declared.stop.Stop.TheVariants.{Ended}
 use Rattle.console_reach.specs.Reached.{LineTold}
 use Rattle.machine_load.specs.Driving.{KeeperTells, IsLived}
+use Rattle.machine_load.specs.Parts.{Course}
 use Rattle.machine_load.specs.Load.{Around, finish_of, IsOpening, IsOverAtOnce, IsNeverBegun, words_taken}
 use Rattle.request_values.specs.declared.options.LoadOptions.{LoadOptions}
 
@@ -38,8 +39,8 @@ line_or_never line so (inl is) = inl is
 line_or_never line so (inr over) = inr (so over)
 
 -- a life has a line, or it was over at once
-pub line_or_over : {K L : Type 0} (tells : KeeperTells K) (told_of : L → LineTold) (writable : Bool) (first last : Core) (before after : Around) (stop : Stop) (line : Option L)
-    → IsLived tells writable first before after (finish_of last stop (option_map told_of line)) → IsSome line ⊎ IsOverAtOnce first last stop
-line_or_over tells told_of writable first last before after stop line (inl idle) = inr idle.idle.over
-line_or_over tells told_of writable first last before after stop (Some l) (inr life) = inl refl
-line_or_over tells told_of writable first last before after stop None (inr life) = absurd (cc life.has_line)
+pub line_or_over : {K L : Type 0} (tells : KeeperTells K) (told_of : L → LineTold) (fast writable : Bool) (first : Core) (before after : Around) (way : Course) (line : Option L)
+    → IsLived tells fast writable first before after (finish_of way (option_map told_of line)) → IsSome line ⊎ IsOverAtOnce first way.core way.stop
+line_or_over tells told_of fast writable first before after way line (inl idle) = inr idle.idle.over
+line_or_over tells told_of fast writable first before after way (Some l) (inr life) = inl refl
+line_or_over tells told_of fast writable first before after way None (inr life) = absurd (cc life.has_line)

@@ -1,7 +1,9 @@
 mod Begun
 mod Driving
 mod Faults
+mod Fronts
 mod Lives
 pub mod OnDisk
 mod Opened
+mod Renewed
 mod Steps

@@ -7,4 +7,7 @@ pub mod Scene
 pub mod Driving
 pub mod GivenBack
 pub mod Step
+pub mod Fronts
 pub mod Lives
+pub mod Parts
+pub mod Stubs

@@ -1,29 +1,26 @@
 -- A load: what a record says, what was done on the line, and what was reported.
-use Rattle.std.specs.Prelude.{◌≡◌, ◌⊎◌, ◌↔◌, ℕ, ◌≤◌, Bool, IsTrue, true, false, ◌&&◌, not, if◌then◌else◌, List, [], ◌∷◌, length, Option, Some, None, Ok}
+use Rattle.std.specs.Prelude.{◌≡◌, ◌⊎◌, ◌↔◌, ℕ, Bool, IsTrue, true, false, ◌&&◌, not, if◌then◌else◌, List, [], ◌∷◌, Option, Some, None, is_some, Ok}
 use Rattle.std.specs.Io.KnownBytes.{Appends, Keeps}
 use Rattle.tape_values.specs.Told.{IsAsTold}
 use Rattle.tape_image.specs.Plan.{PlanValue}
 use Rattle.host_core.specs.declared.phase.End.{End}
 use Rattle.host_core.specs.declared.phase.End.TheVariants.{Loaded, MaybeStarted}
 use Rattle.host_core.specs.declared.progress.Progress.{Progress}
-use Rattle.host_core.specs.Bound.{character_bound}
 use Rattle.host_core.specs.Core.{Core, begun, ended}
 use Rattle.load_devices.specs.declared.item.Kept.{Kept}
-use Rattle.load_devices.specs.Failures.{CountsFault, IsLastFault}
 use Rattle.load_devices.specs.Told.{Gains}
-use Rattle.load_devices.specs.Turns.{most_turns}
 use Rattle.load_engine.specs.declared.stop.Stop.{Stop}
 use Rattle.load_engine.specs.declared.stop.Stop.TheVariants.{Ended}
-use Rattle.load_engine.specs.Belief.{IsBelievableOver, TellsStartOver}
-use Rattle.load_engine.specs.Failing.{line_fault}
-use Rattle.load_engine.specs.Session.{Session, KeepsMarkFirst, TellsEnd}
 use Rattle.load_record.specs.declared.version.Version.TheVariants.{Second}
 use Rattle.load_record.specs.RecordText.{record_text}
 use Rattle.load_record.specs.Reading.{Says}
 use Rattle.byte_io.specs.Output.{WritesAllBut}
 use Rattle.console_reach.specs.Reached.{IsUnused, LineTold}
 use Rattle.machine_load.specs.GivenBack.{IsGivenBack}
-use Rattle.machine_load.specs.LoadReport.{load_report}
+use Rattle.machine_load.specs.LoadReport.{course_report, load_report}
+use Rattle.machine_load.specs.Parts.{AreParts, Course, Devices, course, devices}
+use Rattle.machine_load.specs.Stubs.{counting}
+use Rattle.machine_load.specs.declared.stubs.Stubs.{Stubs}
 use Rattle.record_file.specs.OldRecord.{HoldsNoRecord, MayBecome}
 use Rattle.record_file.specs.declared.old_record.Writable.{Writable}
 use Rattle.machine_load.specs.Step.{Step, RecordRead, Connected, RecordBegun, RecordGivenBack}
@@ -78,23 +75,6 @@ pub record IsOpened (plan : PlanValue) (options : LoadOptions) (before between :
   pub opening : IsOpening before.record_text plan options first
   pub is_known : IsTrue may_begin ↔ MayBecome how opening.opened.text (record_text Second plan first.verified false)
 
--- an engine that had the most turns led the one core to the other, over a line on which nothing had been said, and stopped so; then the line
--- tells this
-pub record IsDriven (old new : Core) (stop : Stop) (line' : LineTold) : Type 0 where
-  pub line : LineTold
-  pub fresh : IsUnused line.said line.failures line.fault
-  pub keeper : Option (List Kept)
-  pub keeper' : Option (List Kept)
-  pub session : Session most_turns (Some stop) old new line.said line'.said keeper keeper'
-  pub end : TellsEnd stop new
-  pub counted : CountsFault (line_fault (Some stop)) line.failures line'.failures
-  pub named : IsLastFault (line_fault (Some stop)) line'.fault
-  pub mark_first : KeepsMarkFirst line.said line'.said keeper keeper'
-  -- what may be believed where the line was honest
-  pub honest : IsBelievableOver stop old new line.said line'.said
-  pub start : TellsStartOver old new line.said line'.said
-  pub bound : new.sent ≤ character_bound (length new.plan.words) new.patience
-
 -- the life is over before it has begun
 pub record IsOverAtOnce (old new : Core) (stop : Stop) : Type 0 where
   pub end : End
@@ -106,15 +86,14 @@ pub record IsOverAtOnce (old new : Core) (stop : Stop) : Type 0 where
 abbrev pub IsNeverBegun : Stop → Type 0
 IsNeverBegun stop = (stop ≡ Ended Loaded) ⊎ (stop ≡ Ended MaybeStarted)
 
--- how a life ended: the core that it came to, why it stopped, and what its line tells then, where it had one
+-- how a life ended: by which course, and what its line tells then, where it had one
 pub record Finish : Type 0 where
-  pub last : Core
-  pub stop : Stop
+  pub course : Course
   pub line : Option LineTold
 
 -- how it ended
-abbrev pub finish_of : Core → Stop → Option LineTold → Finish
-finish_of last stop line = record { last = last; stop = stop; line = line }
+abbrev pub finish_of : Course → Option LineTold → Finish
+finish_of course line = record { course = course; line = line }
 
 -- a record that was begun anew is that of the plan's first k words, where it is told
 abbrev pub IsTextBegun : Option (List ℕ) → PlanValue → ℕ → Type 0
@@ -125,24 +104,31 @@ pub record IsIdle (old new : Core) (stop : Stop) (before after : Around) : Type 
   pub over : IsOverAtOnce old new stop
   pub left_alone : AsksNothing before after
 
--- a life that was over at once has no line; nobody was asked, and the record is as it was
+-- a life that was over at once has no line and no stubs; nobody was asked, and the record is as it was
 pub record IsIdleLife (first : Core) (before after : Around) (finish : Finish) : Type 0 where
-  pub idle : IsIdle first finish.last finish.stop before after
+  pub idle : IsIdle first finish.course.core finish.course.stop before after
+  pub no_stubs : finish.course.stubs ≡ None
   pub no_line : finish.line ≡ None
 
--- the life goes on, where its record may be begun: a connection is made, then the record is begun anew, the engine drives the life over
--- the line, and in the end the record's keeper is given back
-pub record IsBusyLife (writable : Bool) (first : Core) (before after : Around) (finish : Finish) : Type 0 where
+-- the life goes on, where its record may be begun: a connection is made, then the record is begun anew, stubs, where they are asked for,
+-- and the host have the new line, on which nothing was said, and in the end the record's keeper is given back
+pub record IsBusyLife (fast writable : Bool) (first : Core) (before after : Around) (finish : Finish) : Type 0 where
   pub may_write : writable ≡ true
   pub goes_on : ended first.phase ≡ None
+  pub stubs_asked : is_some finish.course.stubs ≡ fast
   pub line' : LineTold
   pub has_line : finish.line ≡ Some line'
-  pub driven : IsDriven first finish.last finish.stop line'
+  pub line : LineTold
+  pub fresh : IsUnused line.said line.failures line.fault
+  pub kept : Option (List Kept)
+  pub kept' : Option (List Kept)
+  pub between : Devices
+  pub parts : AreParts first finish.course (devices line kept) between (devices line' kept')
   pub asked : Asks before after (Connected ∷ RecordBegun ∷ RecordGivenBack ∷ [])
 
 -- a life, once it has opened, over its line where it has one
-abbrev pub IsLoadLife : Bool → Core → Around → Around → Finish → Type 0
-IsLoadLife writable first before after finish = IsIdleLife first before after finish ⊎ IsBusyLife writable first before after finish
+abbrev pub IsLoadLife : Bool → Bool → Core → Around → Around → Finish → Type 0
+IsLoadLife fast writable first before after finish = IsIdleLife first before after finish ⊎ IsBusyLife fast writable first before after finish
 
 -- a load: first the record is read, which says with which core the life begins, and whether that one's record may be begun over it; then the
 -- life, from there on
@@ -155,7 +141,7 @@ pub record IsLoadOf (plan : PlanValue) (options : LoadOptions) (before : Around)
 
 -- a load that ended so
 abbrev pub IsLoad : PlanValue → LoadOptions → Around → Around → Finish → Type 0
-IsLoad plan options before after finish = IsLoadOf plan options before (λ writable first between. IsLoadLife writable first between after finish)
+IsLoad plan options before after finish = IsLoadOf plan options before (λ writable first between. IsLoadLife options.fast writable first between after finish)
 
 -- what a load gives back that was reported: why it stopped, whether the host had come to the start, and what the line tells, where there is one
 pub record Ending : Type 0 where
@@ -167,12 +153,14 @@ pub record Ending : Type 0 where
 abbrev pub ending_of : Stop → Bool → Option LineTold → Ending
 ending_of stop marked line = record { stop = stop; marked = marked; line = line }
 
--- a load and its report, which is of the core that the life ended with; its line was not given back yet
+-- a load and its report, which is of the host that the life ended with, and counts what its stubs sent and met, too; its line was not given
+-- back yet
 pub record IsReported (plan : PlanValue) (options : LoadOptions) (before after : Setting) (ending : Ending) : Type 0 where
+  pub stubs : Option Stubs
   pub last : Core
-  pub load : IsLoad plan options before.around after.around (finish_of last ending.stop ending.line)
+  pub load : IsLoad plan options before.around after.around (finish_of (course stubs last ending.stop) ending.line)
   pub marked_is : ending.marked ≡ last.going
-  pub reported : Appends before.out after.out (load_report last ending.stop)
+  pub reported : Appends before.out after.out (load_report (counting last stubs) ending.stop)
   pub line_kept : after.lines ≡ before.lines
 
 -- a load whose report may be cut short: its line was given back as its life left it
@@ -181,4 +169,4 @@ pub record IsCutShort (plan : PlanValue) (options : LoadOptions) (before after :
   pub load : IsLoad plan options before.around after.around finish
   pub given_back : IsGivenBack before.lines after.lines finish.line
   pub missing : List ℕ
-  pub reported : WritesAllBut before.out after.out (load_report finish.last finish.stop) missing
+  pub reported : WritesAllBut before.out after.out (course_report finish.course) missing

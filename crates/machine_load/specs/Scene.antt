@@ -12,6 +12,7 @@ use Rattle.machine_load.specs.declared.surroundings.Surroundings.{Ghosts as Surr
 use Rattle.machine_load.specs.Called.{asked_by, IsAskedBefore}
 use Rattle.machine_load.specs.Driving.{KeeperTells, IsLoadReported, IsLoadUntold}
 use Rattle.machine_load.specs.LoadFault.{IsLoadFault}
+use Rattle.machine_load.specs.Parts.{calls_of}
 use Rattle.machine_load.specs.RecordDisk.{RecordDisk, DiskAsked, disk_asked_by, disk_asked_before}
 use Rattle.request_values.specs.declared.options.LoadOptions.{LoadOptions}
 use Rattle.stream_line.specs.Dialling.{LineRequest, Call}
@@ -41,15 +42,7 @@ scene tell write around out = record {
 
 -- what the keepers tell that surroundings begin
 abbrev pub keeper_of : {S L K : Type 0} → Surroundings S L K → Keep K → KeeperTells K
-keeper_of around tell = record {
-  kept = tell.told;
-  failures = tell.fault_count;
-  fault = tell.last_fault;
-  keeps = tell.keeps;
-  fails = tell.fails;
-  begins = around.begins;
-  text = around.kept_text;
-}
+keeper_of around tell = record { calls = calls_of tell; begins = around.begins; text = around.kept_text }
 
 -- what a load gives back, and what its line tells then
 abbrev pub ending : {L : Type 0} → Line L → Outcome L → Ending
@@ -61,6 +54,7 @@ pub record IsLoaded {L K : Type 0} (keeper : KeeperTells K) (tell : Line L) (pla
   pub reported : IsReported plan options before.setting after.setting (ending tell outcome)
   -- the report is of the core that the engine gave back, over the line that was reached and the keeper that was begun
   pub lived : IsLoadReported keeper plan options before.setting after.setting (ending tell outcome)
+  pub stubs : outcome.stubs ≡ lived.stubs
   pub line : IsSome outcome.line ⊎ IsNeverBegun outcome.stop
   pub asked : Gains before.asked after.asked (asked_by before.call outcome.line)
   pub disk : DiskAsked before.disk after.disk (disk_asked_by outcome.line)

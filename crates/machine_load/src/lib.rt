@@ -1,27 +1,33 @@
 //! The command `load`: a plan into a real machine, over a line, with a record that outlives the host.
 //!
 //! `load` asks its `Surroundings` for the record of earlier lives, for a line and for the record of
-//! the life that begins, in this order, and its report is that of the core that the engine gave back:
-//! that is its contract. `Around` joins the two parts of the surroundings of a real machine: a way to its
-//! console (of the crate `console_reach`), and where its record is, in a file (of the crate `record_file`)
-//! or in memory. An `Onlooker` sees how far the load is and decides nothing.
+//! the life that begins, in this order. Over that line stubs take words, where they are asked for (of the
+//! crate `stub_engine`), and behind them the host goes on; its report is of this host, and counts what all of
+//! them sent. That is its contract, and by its laws a load is a life, with stubs or without, wherever it
+//! stops. `Around` joins the two parts of the surroundings of a real machine: a way to its console (of the
+//! crate `console_reach`), and where its record is, in a file (of the crate `record_file`) or in memory. An
+//! `Onlooker` sees how far the load is and decides nothing.
 //!
-//! The crate `requests` calls it, and its tests stand in `record_tests` and `command_tests`.
+//! The crate `requests` calls it, and its tests stand in `load_tests`, `record_tests` and `command_tests`.
 #![tactic(auto)]
 
 mod around;
 mod fault;
+mod first_life;
 mod law;
 mod loading;
 mod outcome;
 mod records;
 mod report;
+mod stubs;
 mod surroundings;
 
 pub use around::Around;
 pub use fault::LoadFault;
-pub use law::loads_are_lives;
+pub use law::{loads_are_fast_lives, loads_are_lives, stub_fronts_are_stopped};
 pub use loading::load;
 pub use outcome::Outcome;
 pub use records::{InMemory, Records};
+pub use stub_engine::Stop as StubStop;
+pub use stubs::Stubs;
 pub use surroundings::Surroundings;

@@ -1,33 +1,28 @@
 //! The load itself.
-ghost use Rattle.std.specs.Prelude.{◌≡◌, ◌≤◌, ◌⊎◌, true, length, [], ◌∷◌, None, Some, Ok, Err, IfOk, IfErr, IsSome, OnErr, OnOk, option_map};
+ghost use Rattle.std.specs.Prelude.{◌≡◌, ◌≤◌, ◌⊎◌, length, [], ◌∷◌, None, Ok, Err, IfOk, IfErr, IfSome, OnErr, OnOk, is_some, option_map};
 ghost use Rattle.std.specs.Io.KnownBytes.{Appends, Keeps};
-ghost use Rattle.host_core.specs.Bound.{character_bound};
-ghost use Rattle.host_core.specs.Core.{ended};
-ghost use Rattle.load_devices.specs.Dialogue.{news_between};
-ghost use Rattle.load_engine.specs.Belief.{IsBelievableOver, TellsStartOver};
-ghost use Rattle.load_engine.specs.Failing.{Counts, NamesFault};
-ghost use Rattle.load_engine.specs.Keeping.{KeptBy};
-ghost use Rattle.load_engine.specs.Session.{KeepsMarkFirst, Session, TellsEnd};
 ghost use Rattle.host_core.specs.Opening.{refusal_of};
 ghost use Rattle.load_record.specs.Reading.{Says};
 ghost use Rattle.load_devices.specs.Told.{Gains};
-ghost use Rattle.load_devices.specs.Turns.{most_turns};
 ghost use Rattle.byte_io.specs.Output.{WritesPrefix};
 ghost use Rattle.machine_load.specs.Called.{asked_by, IsAskedBefore};
-ghost use Rattle.stream_line.specs.Dialling.{asked_once};
 ghost use Rattle.console_reach.specs.Reached.{line_told};
-ghost use Rattle.machine_load.specs.Driving.{IsDrivenLife, IsLived};
+ghost use Rattle.machine_load.specs.Driving.{IsLived};
 ghost use Rattle.machine_load.specs.GivenBack.{GivesNothingSaid, IsGivenBack};
 ghost use Rattle.machine_load.specs.Load.{finish_of, IsOpened, words_taken};
 ghost use Rattle.machine_load.specs.LoadFault.{IsOpeningFault, IsDrivingFault};
 ghost use Rattle.machine_load.specs.LoadReport.{load_report};
-ghost use Rattle.machine_load.specs.RecordDisk.{DiskAsked, disk_asked_by, disk_asked_before, IsBegunOn, IsOnlyRead, IsLivedOn, IsNotLivedOn};
+ghost use Rattle.machine_load.specs.Parts.{IsDrivenWhere, IsKeptWhere, calls_of, course, devices_of};
+ghost use Rattle.machine_load.specs.RecordDisk.{DiskAsked, disk_asked_before, IsOnlyRead, IsLivedOn, IsNotLivedOn};
 ghost use Rattle.machine_load.specs.Scene.{around_of, keeper_of, scene, IsLoaded, IsNotLoaded};
+ghost use Rattle.machine_load.specs.Stubs.{AreFew, counting, hindrance, host_behind};
 ghost use Rattle.record_file.specs.OldRecord.{HoldsNoRecord};
 
 use crate::fault::LoadFault;
+use crate::first_life::FirstLife;
 use crate::outcome::Outcome;
 use crate::report::load_report;
+use crate::stubs::{Stubs, bring_stubs, hindrance};
 use crate::surroundings::Surroundings;
 use byte_io::{WriteFault, write_and_flush};
 use host_core::{HostCore, Progress};
@@ -44,17 +39,22 @@ use tape_image::Plan;
 ///
 /// The record of earlier lives is read first, and held from there on. A life that it ends at once, as
 /// one whose start was typed before, is reported with no connection, and its record stays as it is.
-/// Else a connection is made, the record is written anew with the words that count as verified, and
-/// the engine drives for 10,000,000 turns at most. The report is of the core that the engine gives
-/// back, and so is the line, without which only a life ends that was over before it began. Where each
-/// word is to be looked at again, no word counts as verified; a typed start does.
+/// Else a connection is made, and the record is written anew with the words that count as verified.
+/// Where each word is to be looked at again, no word counts as verified; a typed start does.
+///
+/// Then, where the load is to be fast, stubs take words, as `bring_in` of the crate `stub_engine` has it.
+/// Where a device fails with them, or turns are over, the load stops so; for every other reason it goes on
+/// behind the words that they verified, with its host: that has the whole patience, and is driven for
+/// 10,000,000 turns at most. The report is of the host that the engine gives back, with the characters and
+/// the mishaps of the stubs, too. The line comes back, without which only a life ends that was over before
+/// it began.
 ///
 /// `ReadRecord`, `RecordInUse`, `Record` and `Connect` come with nothing reported and the record as it
 /// was, `WriteRecord` before the first key, and before the connection, with the record as it was, where it
 /// is protected, or would have to be written in place and a byte of it would become another one.
 /// `WriteOutput` is a report that could not be written whole. `Memory` comes only where a growth was
 /// refused, for the record: before the first key, with nothing reported. From the first key on a load
-/// takes no memory.
+/// takes no memory but for stubs, and want of that ends these alone.
 pub fn load<S: Surroundings, W: Write, O: Onlooker>(
     alloc: Global,
     plan: Plan,
@@ -68,17 +68,12 @@ pub fn load<S: Surroundings, W: Write, O: Onlooker>(
     ensures err { IfErr result (IsNotLoaded (keeper_of S.Surroundings S.Keeper.Keep) plan options
         (scene S.Surroundings W.Write around.old out.old) (scene S.Surroundings W.Write around.new out.new)) }
 {
-    let (core, writable) = first_core(alloc, plan, options, around)?;
-    let lived = live(alloc, core, writable, around, onlooker)?;
-    match report_life(&lived.core, lived.stop, out) {
+    let (first, writable) = first_core(alloc, plan, options, around)?;
+    let lived = live(alloc, first, options.fast, writable, around, onlooker)?;
+    match report_life(&lived.core, lived.stubs, lived.stop, out) {
         Ok(()) => Ok(lived.outcome()),
         Err(fault) => {
-            let Lived {
-                core: _,
-                stop: _,
-                line,
-            } = lived;
-            give_back(around, line);
+            give_back(around, lived.line);
             Err(LoadFault::from(fault))
         }
     }
@@ -97,11 +92,12 @@ fn give_back<S: Surroundings>(around: &mut S, line: Option<S::Line>)
     }
 }
 
-// A life that is over, and the line that it had.
+// A life that is over: its host, how it stopped, its stubs where it brought some in, and the line that it had.
 #[derive(Drop)]
 struct Lived<L> {
     core: HostCore,
     stop: Stop,
+    stubs: Option<Stubs>,
     line: Option<L>,
 }
 
@@ -109,12 +105,19 @@ impl<L> Lived<L> {
     fn outcome(self) -> Outcome<L>
         ensures stop { result.stop ≡ self.stop }
         ensures marked { result.marked ≡ self.core.going }
+        ensures stubs { result.stubs ≡ self.stubs }
         ensures line { result.line ≡ self.line }
     {
-        let Lived { core, stop, line } = self;
+        let Lived {
+            core,
+            stop,
+            stubs,
+            line,
+        } = self;
         Outcome {
             stop,
             marked: core.progress().going,
+            stubs,
             line,
         }
     }
@@ -126,7 +129,7 @@ fn first_core<S: Surroundings>(
     plan: Plan,
     options: LoadOptions,
     around: &mut S,
-) -> Result<(HostCore, bool), LoadFault>
+) -> Result<(FirstLife, bool), LoadFault>
     ensures opened { IfOk result (λ opened. IsOpened plan options (around_of S.Surroundings around.old) (around_of S.Surroundings around.new)
         opened.0 opened.1) }
     ensures fault { IfErr result (IsOpeningFault plan (around_of S.Surroundings around.old) (around_of S.Surroundings around.new)) }
@@ -140,9 +143,9 @@ fn first_core<S: Surroundings>(
     let record = around.read_record(alloc)?;
     let said = what_is_said(&record.text, &plan)?;
     let progress = taken(said, options.recheck);
-    let core = HostCore::new(plan, progress, options.patience).unwrap();
-    let may_begin = record.may_become(alloc, core.plan(), core.progress().verified)?;
-    Ok((core, may_begin))
+    let first = FirstLife::new(plan, progress, options.patience);
+    let may_begin = record.may_become(alloc, first.plan(), first.verified())?;
+    Ok((first, may_begin))
 }
 
 // What a record's text says of a plan's load. A file that was never a record is none.
@@ -174,17 +177,20 @@ fn taken(said: Progress, recheck: bool) -> Progress
     }
 }
 
-// The life, once it has opened. One that goes on wants a record that may be written.
+// The life, once it has opened. One that goes on wants a record that may be written, and a connection; then its
+// stubs, where they are asked for, and its host have the line and the keeper. An onlooker is told of it.
 fn live<S: Surroundings, O: Onlooker>(
     alloc: Global,
-    core: HostCore,
+    first: FirstLife,
+    fast: bool,
     writable: bool,
     around: &mut S,
     onlooker: &O,
 ) -> Result<Lived<S::Line>, LoadFault>
-    ensures lived { IfOk result (λ lived. IsLived (keeper_of S.Surroundings S.Keeper.Keep) writable core
+    ensures lived { IfOk result (λ lived. IsLived (keeper_of S.Surroundings S.Keeper.Keep) fast writable first
         (around_of S.Surroundings around.old) (around_of S.Surroundings around.new)
-        (finish_of lived.core lived.stop (option_map (line_told S.Line.Line) lived.line))) }
+        (finish_of (course lived.stubs lived.core lived.stop) (option_map (line_told S.Line.Line) lived.line))) }
+    ensures few { IfOk result (λ lived. IfSome lived.stubs AreFew) }
     ensures fault { IfErr result (IsDrivingFault writable (around_of S.Surroundings around.old) (around_of S.Surroundings around.new)) }
     ensures asked { IfOk result (λ lived. Gains (S.asked around.old) (S.asked around.new) (asked_by (S.call around.old) lived.line)) }
     ensures asked_in_vain { IfErr result (IsAskedBefore (S.call around.old) (S.asked around.old) (S.asked around.new)) }
@@ -193,94 +199,64 @@ fn live<S: Surroundings, O: Onlooker>(
     ensures disk { IfOk result (λ lived. IsLivedOn (S.disk around.old) (S.disk around.new) lived.line) }
     ensures disk_in_vain { IfErr result (IsNotLivedOn (S.disk around.old) (S.disk around.new)) }
 {
-    match core.end() {
-        Some(end) => Ok(Lived {
-            core,
+    if let Some(end) = first.end() {
+        return Ok(Lived {
+            core: first.host(),
             stop: Stop::Ended(end),
+            stubs: None,
             line: None,
-        }),
-        None if writable => {
-            let Driven { core, stop, line } = drive_over(alloc, core, around, onlooker)?;
-            Ok(Lived {
-                core,
-                stop,
-                line: Some(line),
-            })
-        }
-        None => Err(LoadFault::WriteRecord),
+        });
     }
-}
-
-// A life that the engine drove, and its line.
-struct Driven<L> {
-    core: HostCore,
-    stop: Stop,
-    line: L,
-}
-
-// A life that goes on, over a new connection.
-fn drive_over<S: Surroundings, O: Onlooker>(
-    alloc: Global,
-    core: HostCore,
-    around: &mut S,
-    onlooker: &O,
-) -> Result<Driven<S::Line>, LoadFault>
-    requires goes_on { ended core.phase ≡ None }
-    ensures driven { IfOk result (λ driven. IsDrivenLife (keeper_of S.Surroundings S.Keeper.Keep) true core
-        (around_of S.Surroundings around.old) (around_of S.Surroundings around.new)
-        (finish_of driven.core driven.stop (Some (line_told S.Line.Line driven.line)))) }
-    ensures fault { IfErr result (IsDrivingFault true (around_of S.Surroundings around.old) (around_of S.Surroundings around.new)) }
-    ensures asked { IfOk result (λ driven. Gains (S.asked around.old) (S.asked around.new) (asked_once (S.call around.old))) }
-    ensures asked_in_vain { IfErr result (IsAskedBefore (S.call around.old) (S.asked around.old) (S.asked around.new)) }
-    ensures lines { OnOk result (S.lines around.new ≡ S.lines around.old) }
-    ensures lines_in_vain { OnErr result (GivesNothingSaid (S.lines around.old) (S.lines around.new)) }
-    ensures disk { OnOk result (DiskAsked (S.disk around.old) (S.disk around.new) IsBegunOn) }
-    ensures disk_in_vain { IfErr result (IsNotLivedOn (S.disk around.old) (S.disk around.new)) }
-{
-    let line = around.connect()?;
-    let verified = core.progress().verified;
-    let keeper = match around.begin_record(alloc, core.plan(), verified) {
+    if !writable {
+        return Err(LoadFault::WriteRecord);
+    }
+    let mut line = around.connect()?;
+    let mut keeper = match around.begin_record(alloc, first.plan(), first.verified()) {
         Ok(keeper) => keeper,
         Err(fault) => {
             around.let_go(line);
             return Err(LoadFault::from(fault));
         }
     };
-    let (driven, keeper) = drive_watched(core, line, keeper, onlooker);
+    onlooker.begins(first.verified(), first.plan().words().len() as u32);
+    let stubs = bring_stubs(alloc, &first, fast, &mut line, &mut keeper, onlooker);
+    let (core, stop) = drive_behind(first, stubs, &mut line, &mut keeper, onlooker);
+    onlooker.ends();
     around.end_record(keeper);
-    Ok(driven)
+    let line = Some(line);
+    Ok(Lived {
+        core,
+        stop,
+        stubs,
+        line,
+    })
 }
 
-// Drives a life that an onlooker is told of. Line and keeper come back.
-fn drive_watched<L: Line, K: Keep + Drop, O: Onlooker>(
-    core: HostCore,
-    mut line: L,
-    mut keeper: K,
+// Drives the life's host behind its stubs, where none of these stopped the load.
+fn drive_behind<L: Line, K: Keep, O: Onlooker>(
+    first: FirstLife,
+    stubs: Option<Stubs>,
+    line: &mut L,
+    keeper: &mut K,
     onlooker: &O,
-) -> (Driven<L>, K)
-    ensures turns { Session most_turns (Some result.0.stop) core result.0.core
-        (L.told line) (L.told result.0.line) (K.told keeper) (K.told result.1) }
-    ensures end { TellsEnd result.0.stop result.0.core }
-    ensures counted { Counts (Some result.0.stop)
-        (L.fault_count line) (L.fault_count result.0.line) (K.fault_count keeper) (K.fault_count result.1) }
-    ensures fault { NamesFault (Some result.0.stop) (L.last_fault result.0.line) (K.last_fault result.1) }
-    ensures kept_by { KeptBy K.keeps K.fails (Some result.0.stop) keeper (news_between core result.0.core) result.1 }
-    ensures mark_first { KeepsMarkFirst (L.told line) (L.told result.0.line) (K.told keeper) (K.told result.1) }
-    ensures honest { IsBelievableOver result.0.stop core result.0.core (L.told line) (L.told result.0.line) }
-    ensures start { TellsStartOver core result.0.core (L.told line) (L.told result.0.line) }
-    ensures bound { result.0.core.sent ≤ character_bound (length result.0.core.plan.words) result.0.core.patience }
+) -> (HostCore, Stop)
+    requires within { IfSome stubs (λ stubs. stubs.tally.verified ≤ length first.plan.words) }
+    ensures host { IsDrivenWhere (hindrance stubs) (host_behind first stubs) result.0 result.1
+        (devices_of L.Line K.Keep line.old keeper.old) (devices_of L.Line K.Keep line.new keeper.new) }
+    ensures kept { IsKeptWhere (calls_of K.Keep) (hindrance stubs) (host_behind first stubs) result.0 result.1 keeper.old keeper.new }
 {
-    let words = core.plan().words().len() as u32;
-    onlooker.begins(core.progress().verified, words);
-    let (core, stop) = drive(core, &mut line, &mut keeper, MOST_TURNS, onlooker);
-    onlooker.ends();
-    (Driven { core, stop, line }, keeper)
+    let core = first.host_behind(stubs);
+    match hindrance(stubs) {
+        Some(stop) => (core, stop),
+        None => drive(core, line, keeper, MOST_TURNS, onlooker),
+    }
 }
 
 // Reports a life.
-fn report_life<W: Write>(core: &HostCore, stop: Stop, out: &mut W) -> Result<(), WriteFault>
-    ensures ok { OnOk result (Appends (W.contents out.old) (W.contents out.new) (load_report core.now stop)) }
-    ensures err { OnErr result (WritesPrefix (W.contents out.old) (W.contents out.new) (load_report core.now stop)) }
+fn report_life<W: Write>(core: &HostCore, stubs: Option<Stubs>, stop: Stop, out: &mut W) -> Result<(), WriteFault>
+    requires { IfSome stubs AreFew }
+    ensures ok { OnOk result (Appends (W.contents out.old) (W.contents out.new) (load_report (counting core.now stubs) stop)) }
+    ensures err { OnErr result (WritesPrefix (W.contents out.old) (W.contents out.new) (load_report (counting core.now stubs) stop)) }
 {
-    write_and_flush(out, &load_report(core, stop))
+    write_and_flush(out, &load_report(core, stubs, stop))
 }

@@ -1,13 +1,15 @@
 //! The report of a load.
-ghost use Rattle.std.specs.Prelude.{◌≡◌, ◌+◌, ◌≤◌, ◌++◌, [], codes};
+ghost use Rattle.std.specs.Prelude.{◌≡◌, ◌+◌, ◌≤◌, ◌++◌, [], codes, IfSome};
 ghost use Rattle.arrayvec.specs.ArrayVec.{array_vec_len};
 ghost use Rattle.host_core.specs.End.{end_name};
 ghost use Rattle.byte_io.specs.Text.{line};
 ghost use Rattle.machine_load.specs.LoadReport.{load_counts_text, load_report, stop_name};
+ghost use Rattle.machine_load.specs.Stubs.{AreFew, counting};
 
 use arrayvec::ArrayVec;
 use byte_io::{push_bytes, push_decimal, push_octal};
 use host_core::{End, HostCore};
+use crate::stubs::Stubs;
 use load_engine::Stop;
 
 // Room for the longest report: its words, four numbers of 20 digits, the longest word for an end and an address.
@@ -16,30 +18,55 @@ const REPORT_ROOM: usize = 131;
 // A report, in room of its own: a load that is over needs no memory to say so.
 type Report = ArrayVec<u8, REPORT_ROOM>;
 
-/// The report of a load: the counts of the host's life, and how the load stopped.
-pub(crate) fn load_report(core: &HostCore, stop: Stop) -> Report
-    ensures { result.items ≡ load_report core.now stop }
+/// The report of a load: the counts of all its parts, and how it stopped.
+pub(crate) fn load_report(core: &HostCore, stubs: Option<Stubs>, stop: Stop) -> Report
+    requires few { IfSome stubs AreFew }
+    ensures { result.items ≡ load_report (counting core.now stubs) stop }
 {
     let mut text = Report::new();
-    push_counts(&mut text, core);
+    push_counts(&mut text, core, stubs);
     push_stop(&mut text, stop);
     text
 }
 
-fn push_counts(text: &mut Report, core: &HostCore)
-    requires { text.old.items ≡ [] }
-    ensures items { text.new.items ≡ line (load_counts_text core.now) }
+fn push_counts(text: &mut Report, core: &HostCore, stubs: Option<Stubs>)
+    requires empty { text.old.items ≡ [] }
+    requires few { IfSome stubs AreFew }
+    ensures items { text.new.items ≡ line (load_counts_text (counting core.now stubs)) }
     ensures length { array_vec_len text.new ≤ 107 }
 {
     push_bytes(text, b"sent ");
-    push_decimal(text, core.sent_count());
+    push_decimal(text, sent_in_all(core, stubs));
     push_bytes(text, b" spent ");
-    push_decimal(text, core.spent().into());
+    push_decimal(text, spent_in_all(core, stubs));
     push_bytes(text, b" verified ");
     push_decimal(text, core.progress().verified.into());
     push_bytes(text, b" of ");
     push_decimal(text, core.plan().words().len() as u64);
     push_bytes(text, b"\n");
+}
+
+// The characters that were sent, with those of the stubs.
+fn sent_in_all(core: &HostCore, stubs: Option<Stubs>) -> u64
+    requires { IfSome stubs AreFew }
+    ensures { result ≡ (counting core.now stubs).sent }
+{
+    match stubs {
+        Some(stubs) => core.sent_count() + stubs.tally.sent,
+        None => core.sent_count(),
+    }
+}
+
+// The mishaps that were met, with those of the stubs' hosts.
+fn spent_in_all(core: &HostCore, stubs: Option<Stubs>) -> u64
+    requires { IfSome stubs AreFew }
+    ensures { result ≡ (counting core.now stubs).spent }
+{
+    let spent = u64::from(core.spent());
+    match stubs {
+        Some(stubs) => spent + stubs.tally.spent,
+        None => spent,
+    }
 }
 
 fn push_stop(text: &mut Report, stop: Stop)

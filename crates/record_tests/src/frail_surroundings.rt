@@ -139,6 +139,7 @@ pub(crate) fn load_one_word(
     let options = LoadOptions {
         patience: 8,
         recheck,
+        fast: false,
     };
     Some(match load(alloc, plan, options, around, out, &Unwatched) {
         Ok(outcome) => Ok(Stopped {

@@ -6,4 +6,7 @@ pub struct LoadOptions {
 
     /// Whether each word is looked at again, also those that the record says were verified.
     pub recheck: bool,
+
+    /// Whether a stub in the machine takes the words, where one serves.
+    pub fast: bool,
 }

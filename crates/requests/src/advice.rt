@@ -4,14 +4,17 @@ use crate::host::Host;
 use host_core::End;
 use load_devices::Line;
 use load_engine::Stop;
-use machine_load::Outcome;
+use machine_load::{Outcome, StubStop, Stubs};
+use octal::oct6;
 use request_values::Load;
+use std::fmt;
 use std::io::Print;
 use std::time::Clock;
 
 impl<K: Clock, T: Print> Host<'_, K, T> {
     /// Tells behind the report of a load of so many words how many of them are verified by the record alone,
-    /// and what helps where the load did not come to its end.
+    /// why stubs verified none, where they were asked for, and what helps where the load did not come to its
+    /// end.
     pub(crate) fn advise<L: Line>(&self, load: Load<'_>, words: u32, outcome: &Outcome<L>) {
         let Some(progress) = &self.progress else {
             return;
@@ -26,8 +29,40 @@ impl<K: Clock, T: Print> Host<'_, K, T> {
         {
             progress.say(text.as_str());
         }
+        if let Some(Stubs { tally, stop }) = outcome.stubs
+            && tally.verified <= recorded
+            && let Ok(text) = format!(in self.alloc; "--fast did not serve: {}\n", NoStub(stop))
+        {
+            progress.say(text.as_str());
+        }
         if let Some(text) = advice(load, outcome, progress.done()) {
             progress.say(text);
+        }
+    }
+}
+
+// Why no stub took words, as it is told.
+#[derive(Clone, Copy)]
+struct NoStub(StubStop);
+
+impl fmt::Display for NoStub {
+    fn fmt<W: fmt::Write>(&self, f: &mut fmt::Formatter<W>) -> fmt::Result {
+        match self.0 {
+            StubStop::TooFewWords => f.write_str("too few words"),
+            StubStop::NoRoom => f.write_str("no room for the stub in this tape"),
+            StubStop::InVain => f.write_str("three stubs took no word"),
+            StubStop::NotStarted(End::NoWord(address)) => {
+                f.write_str("memory ends at ")?;
+                for digit in oct6(address) {
+                    f.write_char(char::from(digit))?;
+                }
+                Ok(())
+            }
+            StubStop::NotStarted(_) => f.write_str("the stub did not start"),
+            StubStop::LineFailed(_) => f.write_str("the line failed"),
+            StubStop::KeepFailed(_) => f.write_str("the record failed"),
+            StubStop::TurnsOver => f.write_str("the line was never silent"),
+            StubStop::Memory => f.write_str("no memory left"),
         }
     }
 }

@@ -171,7 +171,9 @@ fn end<'a, S: Surroundings, W: Write>(
     ensures asked { S.asked around.new ≡ S.asked around.old }
     ensures disk { S.disk around.new ≡ S.disk around.old }
 {
-    let Outcome { stop, marked, line } = outcome;
+    let Outcome {
+        stop, marked, line, ..
+    } = outcome;
     match line {
         Some(mut line) => {
             let ended = end_over(load, stop, marked, &mut line, out);

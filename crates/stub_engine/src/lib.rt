@@ -3,7 +3,7 @@
 //! `bring_in` plans a stub for the words that are not verified yet, has an ordinary host type it at
 //! its window and start it, and then exchanges with it; and again, while that is worth it. Its contract
 //! says that what it does are the stubs' parts of a load, as the law over loads in a row has them:
-//! what is said, what is kept, and how far it came. Used by no command yet.
+//! what is said, what is kept, and how far it came. Used by `machine_load`.
 #![tactic(auto)]
 
 mod bringing;

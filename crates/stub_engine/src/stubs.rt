@@ -25,7 +25,7 @@ const MOST_IN_VAIN: u32 = 3;
 /// stop. How far that came is in the tally.
 ///
 /// A stub is planned for the words that are not verified; a host of so much patience types and starts it,
-/// of which nothing is kept and nobody is told; and in the exchange with it the words that become verified
+/// of which nothing is kept, and the onlooker is told only that it begins; and in the exchange with it the words that become verified
 /// are kept, and the onlooker is told of each step. The first failure of a device stops it all, and
 /// so does a stub that did not start.
 pub fn bring_in<L: Line, K: Keep, O: Onlooker>(
@@ -46,6 +46,8 @@ pub fn bring_in<L: Line, K: Keep, O: Onlooker>(
     ensures grows { verified ≤ result.0.verified }
     ensures within { result.0.verified ≤ length plan.now.words }
     ensures in_vain { TellsInVain result.1 result.0 }
+    ensures few_sent { result.0.sent ≤ 2 ^ 60 }
+    ensures few_spent { result.0.spent ≤ 2 ^ 60 }
 {
     let mut tally = Tally::begun(verified);
     while tally.in_vain < MOST_IN_VAIN {
@@ -90,6 +92,7 @@ fn part<L: Line, K: Keep, O: Onlooker>(
         Err(stop) => return Err(stop),
     };
     let PlannedStub { plan: stub, chunks } = planned;
+    onlooker.stub_begins();
     let (core, stop) = bring(stub, patience, line);
     let brought = tally.with_counts(core.sent_count(), core.spent());
     if let Some(stop) = why_unstarted(stop) {

@@ -4,7 +4,7 @@
 //! The chunks are the image's bytes of some words, exactly these. The window is the highest behind the
 //! verified words at which enough whole words follow one another. The stub's plan has the stub's words
 //! there, and of the words before it soundings, with the tape's own content: where the host sees the
-//! stub start, memory is there. Used by `machine_load`.
+//! stub start, memory is there. Used by `stub_engine`.
 #![tactic(auto)]
 
 mod chunking;

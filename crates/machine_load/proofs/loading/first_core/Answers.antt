@@ -10,7 +10,7 @@ returns-clause-disk g c = opened_on _ _ c.in_ok-record.record c.in_ok-record.ens
 
 pub returns-clause-opened : goal.returns-clause-opened
 returns-clause-opened g c = opens _ _ _ _ _ _ _ _ _ _ _ _ c.in_ok-record.ensures.step c.read_record.ensures.same c.in_ok-record.ensures.text c.deref.ensures.value
-    c.in_ok-said.ensures.ours c.in_ok-said.ensures.said (search rules) c.plan-2.ensures.value c.progress.ensures.verified c.in_ok-may_begin.ensures.means
+    c.in_ok-said.ensures.ours c.in_ok-said.ensures.said (search rules) c.plan-2.ensures c.verified.ensures.value c.in_ok-may_begin.ensures.means
 
 pub returns-in_err-may_begin-clause-disk_in_vain : goal.returns-in_err-may_begin-clause-disk_in_vain
 returns-in_err-may_begin-clause-disk_in_vain g c =

@@ -1,34 +1,35 @@
-use Rattle.std.proofs.Common.{◌∙◌, sym, subst, inl, option_map, rules}
+use Rattle.std.proofs.Common.{◌≡◌, ◌∙◌, ap, sym, subst, inl, option_map, rules}
 use Rattle.console_reach.specs.Reached.{line_told}
-use Rattle.machine_load.specs.Driving.{IsLoadReported, IsLoadUntold}
+use Rattle.machine_load.specs.Driving.{IsLoadLived, IsLoadUntold}
 use Rattle.machine_load.specs.GivenBack.{GivesNothingSaid, IsGivenBack}
 use Rattle.machine_load.specs.Load.{finish_of}
 use Rattle.machine_load.specs.LoadFault.{IsLoadFault}
-use Rattle.machine_load.specs.Scene.{IsNotLoaded, around_of, ending, keeper_of, scene}
+use Rattle.machine_load.specs.Parts.{course}
+use Rattle.machine_load.specs.Scene.{Scene, IsNotLoaded, around_of, ending, keeper_of, scene}
 use Rattle.machine_load.proofs.Begun.{line_or_never, line_or_over, never_begun}
-use Rattle.machine_load.proofs.Driving.{asked_untold, cut_short_of, load_reported, load_untold, reported_of, undriven_told, unopened_told}
+use Rattle.machine_load.proofs.Driving.{asked_untold, cut_short_of, load_untold, loaded_as, reported_of, undriven_told, unopened_told}
 use Rattle.machine_load.proofs.Faults.{of_opening, of_driving, error_is, no_value, not_loaded}
 use Rattle.machine_load.proofs.OnDisk.{lived_on, not_lived_on, untold_on}
 use Rattle.machine_load.specs.RecordDisk.{DiskAsked, disk_asked_by, disk_asked_before}
 use Rattle.machine_load.proofs.loading.load.Goals as goal
 
-pub returns-in_err-core-clause-ok : goal.returns-in_err-core-clause-ok
-returns-in_err-core-clause-ok g c = no_value c.from_residual.result _ _ c.from_residual.ensures.1
+pub returns-in_err-first-clause-ok : goal.returns-in_err-first-clause-ok
+returns-in_err-first-clause-ok g c = no_value c.from_residual.result _ _ c.from_residual.ensures.1
 
-pub returns-in_err-core-clause-err : goal.returns-in_err-core-clause-err
-returns-in_err-core-clause-err g c =
+pub returns-in_err-first-clause-err : goal.returns-in_err-first-clause-err
+returns-in_err-first-clause-err g c =
     not_loaded c.from_residual.result _ _ _ _ _
-    (error_is c.from_residual.result c.in_err-core.field-0.0
+    (error_is c.from_residual.result c.in_err-first.field-0.0
     (IsLoadFault c.args.plan c.args.options
     ((scene g.S.Surroundings g.W.Write c.args.around.now c.args.out.now).setting)
     ((scene g.S.Surroundings g.W.Write c.first_core.new.around c.args.out.now).setting))
     c.from_residual.ensures.1
-    (of_opening _ _ _ _ _ _ _ c.in_err-core.field-0.0 c.in_err-core.ensures.fault c.first_core.ensures.same (inl c.first_core.ensures.lines)))
-    (error_is c.from_residual.result c.in_err-core.field-0.0 _ c.from_residual.ensures.1
+    (of_opening _ _ _ _ _ _ _ c.in_err-first.field-0.0 c.in_err-first.ensures.fault c.first_core.ensures.same (inl c.first_core.ensures.lines)))
+    (error_is c.from_residual.result c.in_err-first.field-0.0 _ c.from_residual.ensures.1
     (unopened_told c.args.plan
     (around_of g.S.Surroundings c.args.around.now)
     (around_of g.S.Surroundings c.first_core.new.around)
-    c.in_err-core.field-0.0 c.in_err-core.ensures.fault))
+    c.in_err-first.field-0.0 c.in_err-first.ensures.fault))
     (search rules)
     (search rules)
 
@@ -45,9 +46,9 @@ returns-in_err-lived-clause-err g c =
     c.from_residual-in_err-lived.ensures.1
     (of_driving _ _ _ (around_of g.S.Surroundings c.first_core.new.around) _ _ _ _ _
     (subst (λ lines. GivesNothingSaid lines (g.S.Surroundings.lines c.live.new.around)) c.first_core.ensures.lines c.in_err-lived.ensures.lines_in_vain)
-    _ c.in_err-lived.field-0.0 c.in_ok-core.ensures.opened c.in_err-lived.ensures.fault))
+    _ c.in_err-lived.field-0.0 c.in_ok-first.ensures.opened c.in_err-lived.ensures.fault))
     (error_is c.from_residual-in_err-lived.result c.in_err-lived.field-0.0 _ c.from_residual-in_err-lived.ensures.1
-    (undriven_told c.in_ok-core.writable
+    (undriven_told c.in_ok-first.writable
     (around_of g.S.Surroundings c.first_core.new.around)
     (around_of g.S.Surroundings c.live.new.around)
     c.in_err-lived.field-0.0 c.in_err-lived.ensures.fault))
@@ -55,7 +56,7 @@ returns-in_err-lived-clause-err g c =
     (error_is c.from_residual-in_err-lived.result c.in_err-lived.field-0.0
     (λ fault. DiskAsked (g.S.Surroundings.disk c.args.around.now) (g.S.Surroundings.disk c.live.new.around) (disk_asked_before fault))
     c.from_residual-in_err-lived.ensures.1
-    (not_lived_on _ (g.S.Surroundings.disk c.first_core.new.around) _ c.in_err-lived.field-0.0 c.in_ok-core.ensures.disk c.in_err-lived.ensures.disk_in_vain))
+    (not_lived_on _ (g.S.Surroundings.disk c.first_core.new.around) _ c.in_err-lived.field-0.0 c.in_ok-first.ensures.disk c.in_err-lived.ensures.disk_in_vain))
 
 pub returns-in-Err-clause-err : goal.returns-in-Err-clause-err
 returns-in-Err-clause-err g c =
@@ -63,14 +64,15 @@ returns-in-Err-clause-err g c =
     let before = scene g.S.Surroundings g.W.Write c.args.around.now c.args.out.now in
     let after = scene g.S.Surroundings g.W.Write c.give_back.new.around c.report_life.new.out in
     let line = option_map (line_told g.S.Line.Line) c.in_ok-lived.lived.line in
+    let way = course c.in_ok-lived.lived.stubs c.in_ok-lived.lived.core c.in_ok-lived.lived.stop in
     let untold : IsLoadUntold keeper c.args.plan c.args.options before.setting after.setting =
     rw (sym c.give_back.ensures.steps, sym c.give_back.ensures.text) at
     (load_untold keeper c.args.plan c.args.options before.setting
     (record { around = around_of g.S.Surroundings c.live.new.around; lines = g.S.Surroundings.lines c.give_back.new.around; out = g.W.Write.contents c.report_life.new.out })
     (around_of g.S.Surroundings c.first_core.new.around)
-    c.in_ok-core.core c.in_ok-core.writable
-    (finish_of c.in_ok-lived.lived.core c.in_ok-lived.lived.stop line)
-    c.in_ok-core.ensures.opened c.in_ok-lived.ensures.lived c.in-Err.ensures.err
+    c.in_ok-first.first c.in_ok-first.writable
+    (finish_of way line)
+    c.in_ok-first.ensures.opened c.in_ok-lived.ensures.lived c.in-Err.ensures.err
     (subst (λ lines. IsGivenBack lines (g.S.Surroundings.lines c.give_back.new.around) line) (c.in_ok-lived.ensures.lines ∙ c.first_core.ensures.lines) c.give_back.ensures.lines)) in
     subst (IsNotLoaded keeper c.args.plan c.args.options before after) (sym c.from.ensures) (record {
       fault = cut_short_of keeper c.args.plan c.args.options before.setting after.setting untold;
@@ -78,7 +80,7 @@ returns-in-Err-clause-err g c =
       asked = rw (c.first_core.ensures.asked, c.first_core.ensures.call, sym c.give_back.ensures.asked) at
           (asked_untold (g.S.Surroundings.call c.first_core.new.around) c.in_ok-lived.lived.line (g.S.Surroundings.asked c.first_core.new.around) (g.S.Surroundings.asked c.live.new.around) c.in_ok-lived.ensures.asked);
       disk = rw (sym c.give_back.ensures.disk) at
-          (untold_on _ (g.S.Surroundings.disk c.first_core.new.around) _ c.in_ok-lived.lived.line c.in_ok-core.ensures.disk c.in_ok-lived.ensures.disk);
+          (untold_on _ (g.S.Surroundings.disk c.first_core.new.around) _ c.in_ok-lived.lived.line c.in_ok-first.ensures.disk c.in_ok-lived.ensures.disk);
     })
 
 pub returns-in-Ok-clause-ok : goal.returns-in-Ok-clause-ok
@@ -86,24 +88,29 @@ returns-in-Ok-clause-ok g c =
     let keeper = keeper_of g.S.Surroundings g.S.Keeper.Keep in
     let before = scene g.S.Surroundings g.W.Write c.args.around.now c.args.out.now in
     let after = scene g.S.Surroundings g.W.Write c.live.new.around c.report_life.new.out in
-    let lived : IsLoadReported keeper c.args.plan c.args.options before.setting after.setting (ending g.S.Line.Line c.outcome.result) =
-    rw (sym c.outcome.ensures.stop, sym c.outcome.ensures.marked, sym c.outcome.ensures.line) at
-    (load_reported keeper (line_told g.S.Line.Line) c.args.plan c.args.options before.setting after.setting
-    (around_of g.S.Surroundings c.first_core.new.around)
-    c.in_ok-core.core c.in_ok-lived.lived.core c.in_ok-core.writable c.in_ok-lived.lived.stop c.in_ok-lived.lived.line
-    c.in_ok-core.ensures.opened c.in_ok-lived.ensures.lived c.in-Ok.ensures.ok) in
+    let way = course c.in_ok-lived.lived.stubs c.in_ok-lived.lived.core c.in_ok-lived.lived.stop in
+    let line = option_map (line_told g.S.Line.Line) c.in_ok-lived.lived.line in
+    let lived : IsLoadLived keeper c.args.plan c.args.options before.setting.around after.setting.around (finish_of way line) = record {
+      first = c.in_ok-first.first;
+      writable = c.in_ok-first.writable;
+      between = around_of g.S.Surroundings c.first_core.new.around;
+      opened = c.in_ok-first.ensures.opened;
+      life = c.in_ok-lived.ensures.lived;
+    } in
+    let load = loaded_as keeper c.args.plan c.args.options before.setting after.setting way line (ending g.S.Line.Line c.outcome.result) c.outcome.ensures.stop c.outcome.ensures.marked (ap (option_map (line_told g.S.Line.Line)) c.outcome.ensures.line) lived c.in-Ok.ensures.ok in
     record {
-      reported = reported_of keeper c.args.plan c.args.options before.setting after.setting (ending g.S.Line.Line c.outcome.result) (c.in_ok-lived.ensures.lines ∙ c.first_core.ensures.lines) lived;
-      lived = lived;
+      reported = reported_of keeper c.args.plan c.args.options before.setting after.setting (ending g.S.Line.Line c.outcome.result) (c.in_ok-lived.ensures.lines ∙ c.first_core.ensures.lines) load.0;
+      lived = load.0;
+      stubs = c.outcome.ensures.stubs ∙ sym load.1;
       line = rw (sym c.outcome.ensures.stop, sym c.outcome.ensures.line) at
-          (line_or_never c.in_ok-lived.lived.line (never_begun _ _ _ _ _ _ c.in_ok-core.ensures.opened.opening)
-          (line_or_over keeper (line_told g.S.Line.Line)
-          c.in_ok-core.writable c.in_ok-core.core c.in_ok-lived.lived.core
+          (line_or_never c.in_ok-lived.lived.line (never_begun _ _ _ _ _ _ c.in_ok-first.ensures.opened.opening)
+          (line_or_over keeper (line_told g.S.Line.Line) c.args.options.fast
+          c.in_ok-first.writable c.in_ok-first.first
           (around_of g.S.Surroundings c.first_core.new.around)
           (around_of g.S.Surroundings c.live.new.around)
-          c.in_ok-lived.lived.stop c.in_ok-lived.lived.line c.in_ok-lived.ensures.lived));
+          way c.in_ok-lived.lived.line c.in_ok-lived.ensures.lived));
       asked = search rules;
       disk = subst (λ line. DiskAsked (g.S.Surroundings.disk c.args.around.now) (g.S.Surroundings.disk c.live.new.around) (disk_asked_by line))
           (sym c.outcome.ensures.line)
-          (lived_on _ (g.S.Surroundings.disk c.first_core.new.around) _ c.in_ok-lived.lived.line c.in_ok-core.ensures.disk c.in_ok-lived.ensures.disk);
+          (lived_on _ (g.S.Surroundings.disk c.first_core.new.around) _ c.in_ok-lived.lived.line c.in_ok-first.ensures.disk c.in_ok-lived.ensures.disk);
     }

@@ -1,0 +1,32 @@
+use Rattle.std.proofs.Common.{sym, subst, refl, ◌∙◌}
+use Rattle.host_core.specs.Core.{Core}
+use Rattle.machine_load.specs.Parts.{IsDriven, IsDrivenWhere, IsKeptWhere, calls_of, devices_of}
+use Rattle.machine_load.specs.Stubs.{host_behind}
+use Rattle.machine_load.proofs.loading.drive_behind.Goals as goal
+
+pub returns-in-Some-clause-host : goal.returns-in-Some-clause-host
+returns-in-Some-clause-host g c =
+    let here = devices_of g.L.Line g.K.Keep c.args.line.now c.args.keeper.now in
+    subst (λ hindered. IsDrivenWhere hindered (host_behind c.args.first c.args.stubs) c.host_behind-core.result c.in-Some.stop here here) (sym c.in-Some.is ∙ c.hindrance.ensures)
+    (record { core = c.host_behind-core.ensures; stop_is = refl; devices_same = refl })
+
+pub returns-in-Some-clause-kept : goal.returns-in-Some-clause-kept
+returns-in-Some-clause-kept g c =
+    subst (λ hindered. IsKeptWhere (calls_of g.K.Keep) hindered (host_behind c.args.first c.args.stubs) c.host_behind-core.result c.in-Some.stop c.args.keeper.now c.args.keeper.now) (sym c.in-Some.is ∙ c.hindrance.ensures) refl
+
+pub returns-in-None-clause-host : goal.returns-in-None-clause-host
+returns-in-None-clause-host g c =
+    let before = devices_of g.L.Line g.K.Keep c.args.line.now c.args.keeper.now in
+    let after = devices_of g.L.Line g.K.Keep c.drive.new.line c.drive.new.keep in
+    let driven : IsDriven c.host_behind-core.result c.drive.result.0 c.drive.result.1 before after = record {
+      session = c.drive.ensures.turns;
+      end = c.drive.ensures.end;
+      counted = c.drive.ensures.counted.0;
+      named = c.drive.ensures.fault.0;
+      mark_first = c.drive.ensures.mark_first;
+      honest = c.drive.ensures.honest;
+      start = c.drive.ensures.start;
+      bound = c.drive.ensures.bound;
+    } in
+    subst (λ hindered. IsDrivenWhere hindered (host_behind c.args.first c.args.stubs) c.drive.result.0 c.drive.result.1 before after) (sym c.in-None.is ∙ c.hindrance.ensures)
+    (subst (λ (core : Core). IsDriven core c.drive.result.0 c.drive.result.1 before after) c.host_behind-core.ensures driven)

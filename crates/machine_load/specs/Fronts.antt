@@ -1,0 +1,15 @@
+-- Where a load may be killed while its stubs are brought in.
+use Rattle.std.specs.Prelude.{◌≡◌, ℕ, List, ◌++◌}
+use Rattle.tape_image.specs.Plan.{PlanValue}
+use Rattle.load_devices.specs.declared.item.Item.{Item}
+use Rattle.exchange_law.specs.Law.{said_all}
+use Rattle.exchange_law.specs.Station.{Program}
+use Rattle.fast_lives.specs.StubParts.{AreStubParts, StubPart, stubs_said}
+
+-- a load that is killed with its stubs has said a front of what it would have said, and this is what a stopped life says: of its stubs the first, the last
+-- of which heard perhaps less, said all that they decide, or all but the last characters
+abbrev pub StubFrontsAreStopped : Type 0
+StubFrontsAreStopped =
+    (program : Program) (tape : PlanValue) (v : ℕ) (parts : List StubPart) (front rest : List Item) → AreStubParts program tape v parts →
+    stubs_said tape v parts ≡ front ++ rest →
+    (fewer : List StubPart) × (unsent : List ℕ) × AreStubParts program tape v fewer × (stubs_said tape v fewer ≡ front ++ said_all unsent)

@@ -1,0 +1,34 @@
+-- What the stubs of a load leave to its host.
+use Rattle.std.specs.Prelude.{ℕ, ◌+◌, ◌^◌, ◌≤◌, false, Option, Some, None}
+use Rattle.host_core.specs.Core.{Core, begun}
+use Rattle.load_engine.specs.declared.stop.Stop.{Stop}
+use Rattle.load_engine.specs.declared.stop.Stop.TheVariants.{LineFailed, KeepFailed, TurnsOver}
+use Rattle.stub_engine.specs.declared.stop.Stop.{Stop as StubStop}
+use Rattle.stub_engine.specs.declared.stop.Stop.TheVariants as stub
+use Rattle.machine_load.specs.declared.stubs.Stubs.{Stubs}
+
+-- the host behind the stubs of a life, where it brings some in: it begins behind the words that they verified, with a patience of its own
+abbrev pub host_behind : Core → Option Stubs → Core
+host_behind first None = first
+host_behind first (Some stubs) = begun first.plan stubs.tally.verified false first.patience
+
+-- why a load stops with its stubs: a device failed, or turns were over; for another reason its host goes on behind them
+abbrev pub hindrance_of : StubStop → Option Stop
+hindrance_of (stub.LineFailed fault) = Some (LineFailed fault)
+hindrance_of (stub.KeepFailed fault) = Some (KeepFailed fault)
+hindrance_of stub.TurnsOver = Some TurnsOver
+hindrance_of other = None
+
+abbrev pub hindrance : Option Stubs → Option Stop
+hindrance None = None
+hindrance (Some stubs) = hindrance_of stubs.stop
+
+-- a host with the characters and the mishaps of the stubs, too
+abbrev pub counting : Core → Option Stubs → Core
+counting core None = core
+counting core (Some stubs) = record core { sent = core.sent + stubs.tally.sent; spent = core.spent + stubs.tally.spent }
+
+-- so few characters and mishaps that a sum has room for them
+pub record AreFew (stubs : Stubs) : Type 0 where
+  pub sent : stubs.tally.sent ≤ 2 ^ 60
+  pub spent : stubs.tally.spent ≤ 2 ^ 60

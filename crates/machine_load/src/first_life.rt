@@ -1,0 +1,122 @@
+//! A life as it begins.
+ghost use Rattle.std.specs.Prelude.{◌≡◌, ◌≤◌, false, length, None, IfSome};
+ghost use Rattle.host_core.specs.Core.{begun, ended};
+ghost use Rattle.host_core.specs.Opening.{refusal_of};
+ghost use Rattle.machine_load.specs.Stubs.{host_behind};
+
+use crate::stubs::Stubs;
+use host_core::{End, HostCore, Progress};
+use std::marker::Model;
+use tape_image::Plan;
+
+/// A life as its record opens it. Its host is made when it is its turn: before that stubs may have
+/// verified words. Contracts see the host that nothing came before.
+#[derive(Drop)]
+pub(crate) struct FirstLife {
+    plan: Plan,
+    progress: Progress,
+    patience: u32,
+}
+
+impl Model for FirstLife {
+    ghost use Rattle.std.specs.Prelude.{◌≡◌, None};
+    ghost use Rattle.std.specs.Coded.{codes};
+    ghost use Rattle.tape_image.specs.Plan.{plan_code};
+    ghost use Rattle.host_core.specs.Core.{Core, begun};
+    ghost use Rattle.host_core.specs.Opening.{refusal_of};
+
+    ghost Value = { Core };
+
+    ghost coded = { Prim.hlevel (codes, plan_code) };
+
+    ghost view = { λ life. begun life.plan life.progress.verified life.progress.going life.patience };
+
+    ghost invariant = { λ life. refusal_of life.plan life.progress.verified life.progress.going ≡ None };
+}
+
+impl FirstLife {
+    /// A life that begins with a progress, and survives so many mishaps.
+    pub(crate) fn new(plan: Plan, progress: Progress, patience: u32) -> FirstLife
+        requires { refusal_of plan progress.verified progress.going ≡ None }
+        ensures { result ≡ begun plan progress.verified progress.going patience }
+    {
+        FirstLife {
+            plan,
+            progress,
+            patience,
+        }
+    }
+
+    /// What is loaded.
+    pub(crate) fn plan(&self) -> &Plan
+        ensures { result.now ≡ self.now.plan }
+    {
+        &self.plan
+    }
+
+    /// How many words count as verified.
+    pub(crate) fn verified(&self) -> u32
+        ensures value { result ≡ self.now.verified }
+        ensures within { result ≤ length self.now.plan.words }
+    {
+        self.progress.verified
+    }
+
+    /// How many mishaps a host of it survives.
+    pub(crate) fn patience(&self) -> u32
+        ensures { result ≡ self.now.patience }
+    {
+        self.patience
+    }
+
+    /// The end of a life that is over before it begins: the start was typed before, or nothing is left to
+    /// do.
+    pub(crate) fn end(&self) -> Option<End>
+        ensures { result ≡ ended self.now.phase }
+    {
+        let all = self.progress.verified as usize == self.plan.words().len();
+        if self.progress.going {
+            Some(End::MaybeStarted)
+        } else if all && self.plan.start().is_none() {
+            Some(End::Loaded)
+        } else {
+            None
+        }
+    }
+
+    /// Its host, as one that nothing came before.
+    pub(crate) fn host(self) -> HostCore
+        ensures { result ≡ self }
+    {
+        let FirstLife {
+            plan,
+            progress,
+            patience,
+        } = self;
+        HostCore::new(plan, progress, patience).unwrap()
+    }
+
+    /// Its host behind its stubs, where it brings some in.
+    pub(crate) fn host_behind(self, stubs: Option<Stubs>) -> HostCore
+        requires within { IfSome stubs (λ stubs. stubs.tally.verified ≤ length self.plan.words) }
+        ensures { result ≡ host_behind self stubs }
+    {
+        match stubs {
+            Some(stubs) => self.host_from(stubs.tally.verified),
+            None => self.host(),
+        }
+    }
+
+    // Its host, where so many words were verified meanwhile.
+    fn host_from(self, verified: u32) -> HostCore
+        requires { verified ≤ length self.plan.words }
+        ensures { result ≡ begun self.plan verified false self.patience }
+    {
+        let FirstLife { plan, patience, .. } = self;
+        let progress = Progress {
+            verified,
+            going: false,
+        };
+        HostCore::new(plan, progress, patience).unwrap()
+    }
+}

@@ -1,0 +1,67 @@
+//! The stubs of a load.
+ghost use Rattle.std.specs.Prelude.{◌≡◌, ◌≤◌, None, length, is_some, IfSome};
+ghost use Rattle.host_core.specs.Core.{ended};
+ghost use Rattle.machine_load.specs.Parts.{AreBrought, AreKept, calls_of, devices_of};
+ghost use Rattle.machine_load.specs.Stubs.{AreFew, hindrance};
+
+use crate::first_life::FirstLife;
+use load_devices::{Keep, Line, Onlooker};
+use load_engine::Stop;
+use std::alloc::Global;
+use stub_engine::{Stop as StubStop, Tally, bring_in};
+
+/// How far the stubs of a load came, and why no more were brought in.
+#[derive(Clone, Copy, Debug, PartialEq, Eq)]
+pub struct Stubs {
+    /// How far they came.
+    pub tally: Tally,
+
+    /// Why no more were brought in.
+    pub stop: StubStop,
+}
+
+/// Brings in the stubs of a life, where they are asked for.
+pub(crate) fn bring_stubs<L: Line, K: Keep, O: Onlooker>(
+    alloc: Global,
+    first: &FirstLife,
+    fast: bool,
+    line: &mut L,
+    keeper: &mut K,
+    onlooker: &O,
+) -> Option<Stubs>
+    ensures asked { is_some result ≡ fast }
+    ensures brought { AreBrought first.now result (devices_of L.Line K.Keep line.old keeper.old) (devices_of L.Line K.Keep line.new keeper.new) }
+    ensures kept { AreKept (calls_of K.Keep) first.now result keeper.old keeper.new }
+    ensures within { IfSome result (λ stubs. stubs.tally.verified ≤ length first.now.plan.words) }
+    ensures few { IfSome result AreFew }
+{
+    if !fast {
+        return None;
+    }
+    let (tally, stop) = bring_in(
+        alloc,
+        first.plan(),
+        first.verified(),
+        first.patience(),
+        line,
+        keeper,
+        onlooker,
+    );
+    Some(Stubs { tally, stop })
+}
+
+/// Why a load stops with its stubs, where no host may follow them: a device failed, or turns were over.
+pub(crate) fn hindrance(stubs: Option<Stubs>) -> Option<Stop>
+    ensures { result ≡ hindrance stubs }
+{
+    match stubs?.stop {
+        StubStop::LineFailed(fault) => Some(Stop::LineFailed(fault)),
+        StubStop::KeepFailed(fault) => Some(Stop::KeepFailed(fault)),
+        StubStop::TurnsOver => Some(Stop::TurnsOver),
+        StubStop::TooFewWords
+        | StubStop::NoRoom
+        | StubStop::InVain
+        | StubStop::NotStarted(_)
+        | StubStop::Memory => None,
+    }
+}

@@ -1,5 +1,5 @@
 -- Commands whose tapes were not taken, and what was written of others.
-use Rattle.std.proofs.Common.{◌≡◌, ℕ, List, Option, None, inl, sym, subst}
+use Rattle.std.proofs.Common.{◌≡◌, ℕ, List, inl, sym, subst}
 use Rattle.std.proofs.KnownBytes.{Appends-kept, Keeps-refl}
 use Rattle.std.specs.Io.KnownBytes.{Keeps}
 use Rattle.command_io.specs.Tapes.{AreTapesFault}

@@ -1,12 +1,49 @@
-use Rattle.std.proofs.Common.{◌∷◌, ◌∙◌, inl, inr, ap, length}
+use Rattle.std.proofs.Common.{◌≡◌, ◌∷◌, ◌∙◌, List, inl, inr, ap, length, subst}
+use Rattle.endings.specs.declared.failure.Failure.{Failure}
+use Rattle.endings.specs.declared.failure.Failure.TheVariants.{NoMemory}
+use Rattle.request_values.specs.declared.request.Rehearsal.{Rehearsal}
+use Rattle.input_files.specs.Inputs.{Known, AreOpened, IsUnopened, OfFiles, inputs_of}
+use Rattle.input_files.specs.Opening.{Name}
+use Rattle.input_files.specs.Taking.{FailsToTake, rehearsed_names, rehearsed_tapes}
 use Rattle.input_files.proofs.Errors.{error_is}
 use Rattle.input_files.proofs.Tapes.{of_files, opened_in_vain}
-use Rattle.input_files.specs.Taking.{AreTakenOf, FailsToTake}
 use Rattle.input_files.proofs.taking.take_files_with_script.Goals as goal
+
+of_names : (rehearsal : Rehearsal) (more : List Name) (P : List Name → Type 0) → more ≡ rehearsal.more.items → P (rehearsal.tape ∷ rehearsal.script ∷ more) → P (rehearsed_names rehearsal)
+of_names rehearsal more P is h = subst (λ (l : List Name). P (rehearsal.tape ∷ rehearsal.script ∷ l)) is h
+
+of_tapes : (rehearsal : Rehearsal) (more : List Name) (P : List Name → Type 0) → more ≡ rehearsal.more.items → P (rehearsal.tape ∷ more) → P (rehearsed_tapes rehearsal)
+of_tapes rehearsal more P is h = subst (λ (l : List Name). P (rehearsal.tape ∷ l)) is h
+
+renamed : {X : Type 0} (known : X → Known) (names names' : List Name) (old new : List X) (failure : Failure) → names ≡ names'
+    → FailsToTake (inputs_of names known old new) failure → FailsToTake (inputs_of names' known old new) failure
+renamed known names names' old new failure is h = subst (λ (l : List Name). FailsToTake (inputs_of l known old new) failure) is h
 
 pub returns-in_err-tapes-clause-err : goal.returns-in_err-tapes-clause-err
 returns-in_err-tapes-clause-err g c =
-    rw (← c.as_slice-more.ensures.value) (error_is c.from_residual.result c.in_err-tapes.field-0.0 _ c.from_residual.ensures.1 (inl c.in_err-tapes.ensures.tried))
+    error_is c.from_residual.result c.in_err-tapes.field-0.0 _ c.from_residual.ensures.1
+    (inl (of_names c.args.rehearsal.now c.as_slice-more.result.now
+    (λ names. IsUnopened names (g.F.InputFiles.opened c.args.files.now) (g.F.InputFiles.opened c.open_with_script.new.rt) c.in_err-tapes.field-0.0)
+    c.as_slice-more.ensures.value c.in_err-tapes.ensures.tried))
 
 pub returns-in_default-clause-err : goal.returns-in_default-clause-err
-returns-in_default-clause-err g c = rw (← c.as_slice-more.ensures.value) (inl (opened_in_vain _ _ _ c.in_ok-tapes.ensures.tried))
+returns-in_default-clause-err g c =
+    inl (of_names c.args.rehearsal.now c.as_slice-more.result.now
+    (λ names. IsUnopened names (g.F.InputFiles.opened c.args.files.now) (g.F.InputFiles.opened c.open_with_script.new.rt) NoMemory)
+    c.as_slice-more.ensures.value (opened_in_vain _ _ _ c.in_ok-tapes.ensures.tried))
+
+pub returns-in_err-taken-clause-err : goal.returns-in_err-taken-clause-err
+returns-in_err-taken-clause-err g c =
+    error_is c.from_residual-in_err-taken.result c.in_err-taken.field-0.0 _ c.from_residual-in_err-taken.ensures.1
+    (inr (
+      of_names c.args.rehearsal.now c.as_slice-more.result.now
+          (λ names. AreOpened names (g.F.InputFiles.opened c.args.files.now) (g.F.InputFiles.opened c.open_with_script.new.rt))
+          c.as_slice-more.ensures.value c.in_ok-tapes.ensures.tried,
+      of_tapes c.args.rehearsal.now c.as_slice-more.result.now
+          (λ names. OfFiles names (λ inputs. FailsToTake inputs c.in_err-taken.field-0.0))
+          c.as_slice-more.ensures.value
+          (of_files _ (c.args.rehearsal.now.tape ∷ c.as_slice-more.result.now) c.deref_mut.result.now c.take_named.new.inputs
+          (λ inputs. FailsToTake inputs c.in_err-taken.field-0.0)
+          (ap length c.deref_mut.ensures.value ∙ c.in_ok-tapes.ensures.ok)
+          (renamed _ _ _ _ _ _ (c.deref.ensures.value ∙ c.in-Ok.ensures) c.in_err-taken.ensures.err)),
+    ))

@@ -17,7 +17,8 @@ StandAsRead samples numbers count = (i : ℕ) → i < count → Stands (word_nr 
 -- the word at this address is the first whose number does not have them
 abbrev pub IsFirstToDiffer : List WordValue → List ℕ → ℕ → Type 0
 IsFirstToDiffer samples numbers address =
-    (i : ℕ) × (i < length numbers) × StandAsRead samples numbers i × (Stands (word_nr samples i) (get_or numbers i 0) → ⊥) × (address ≡ (word_nr samples i).address)
+    (i : ℕ) × (i < length numbers) × StandAsRead samples numbers i
+    × (Stands (word_nr samples i) (get_or numbers i 0) → ⊥) × (address ≡ (word_nr samples i).address)
 
 -- where none differs, by how the reading stopped
 abbrev pub unless_stopped_at : Stop → Finding
@@ -37,5 +38,6 @@ IsFound samples numbers stop Unfinished = (stop ≡ Ended Complete → ⊥) × S
 abbrev pub IsSoIn : List ℕ → List WordValue → Finding → Type 0
 IsSoIn memory samples AllStand = FirstStand samples (length samples) memory
 IsSoIn memory samples (Stale address) =
-    (i : ℕ) × (i < length samples) × (address ≡ (word_nr samples i).address) × (is_word memory address ≡ true) × (Stands (word_nr samples i) (word_at memory address) → ⊥)
+    (i : ℕ) × (i < length samples) × (address ≡ (word_nr samples i).address)
+    × (is_word memory address ≡ true) × (Stands (word_nr samples i) (word_at memory address) → ⊥)
 IsSoIn memory samples Unfinished = ⊤

@@ -15,7 +15,7 @@ pub enum Finding {
     /// The first of those that were read and do not stand is the one at this address.
     Stale(u16),
 
-    /// Those that were read stand, and the reading stopped before it had read all.
+    /// Those that were read stand, and the reading did not come to its end.
     Unfinished,
 }
 

@@ -217,6 +217,7 @@ const GONE: &str = "+ look d.record\n\
     + hold d.record\n\
     + look d.record\n\
     - sole d.record\n\
+    - sole d.record\n\
     - look d.record\n";
 
 #[test]

@@ -6,6 +6,7 @@ use host_core::End;
 use load_devices::KeepFault;
 use load_engine::Stop;
 use machine_load::LoadFault;
+use record_file::Writable;
 use simulated_system::{BrokenInput, BrokenOutput, NOWHERE};
 use std::alloc::Global;
 use std::cell::RefCell;

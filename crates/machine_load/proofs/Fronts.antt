@@ -57,7 +57,7 @@ exchange_cut image chunks e (thing ∷ things) (item ∷ front) rest is =
             thing ∷ later.0,
             later.1,
             ap (λ i. i ∷ (said_all next.keys ++ exchange_dialogue image chunks next.next later.0)) same ∙ ap (λ l. item ∷ l)
-            (ap (λ l. said_all next.keys ++ l) later.2 ∙ (sym (append_assoc (said_all next.keys) behind.0 (said_all later.1)) ∙ ap (λ l. l ++ said_all later.1) (sym behind.1))),
+                (ap (λ l. said_all next.keys ++ l) later.2 ∙ (sym (append_assoc (said_all next.keys) behind.0 (said_all later.1)) ∙ ap (λ l. l ++ said_all later.1) (sym behind.1))),
           )
     ]
 
@@ -86,16 +86,16 @@ stub_fronts program tape v (part ∷ more) front rest are is =
     elim (cut talk (exchange_said tape v part ++ later) front rest is) [
       | inl within ↦ typed (fronts_are_stopped (bringer part) part.brought front within.0 within.1)
       | inr behind ↦ elim (cut (exchange_said tape v part) later behind.0 rest behind.2) [
-          | inl half ↦ exchanged behind.0 behind.1 (where_cut (starts part) tape.image part.chunks (exchange_begun v) part.exchanged behind.0 half.0 half.1)
-          | inr all ↦
-              let fewer = stub_fronts program tape (verified_after tape v part) more all.0 rest are.2 all.2 in (
-                part ∷ fewer.0,
-                fewer.1,
-                (are.0, are.1, fewer.2),
-                ap (λ l. talk ++ (exchange_said tape v part ++ l)) fewer.3 ∙ (ap (λ l. talk ++ l) (sym (append_assoc (exchange_said tape v part) all.0 (said_all fewer.1)) ∙ ap (λ l. l ++ said_all fewer.1) (sym all.1))
-                ∙ (sym (append_assoc talk behind.0 (said_all fewer.1)) ∙ ap (λ l. l ++ said_all fewer.1) (sym behind.1))),
-              )
-        ]
+        | inl half ↦ exchanged behind.0 behind.1 (where_cut (starts part) tape.image part.chunks (exchange_begun v) part.exchanged behind.0 half.0 half.1)
+        | inr all ↦
+            let fewer = stub_fronts program tape (verified_after tape v part) more all.0 rest are.2 all.2 in (
+              part ∷ fewer.0,
+              fewer.1,
+              (are.0, are.1, fewer.2),
+              ap (λ l. talk ++ (exchange_said tape v part ++ l)) fewer.3 ∙ (ap (λ l. talk ++ l) (sym (append_assoc (exchange_said tape v part) all.0 (said_all fewer.1)) ∙ ap (λ l. l ++ said_all fewer.1) (sym all.1))
+                  ∙ (sym (append_assoc talk behind.0 (said_all fewer.1)) ∙ ap (λ l. l ++ said_all fewer.1) (sym behind.1))),
+            )
+      ]
     ]
   where
     talk : List Item

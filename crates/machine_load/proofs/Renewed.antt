@@ -159,8 +159,8 @@ module _ (plan : PlanValue) (v w : ℕ) (keep keep' : Keeper) (holds : HoldsReco
         record_text Second plan k false ++ part.0,
         part.2,
         begins_more (record_text Second plan k false ++ part.0) (record_text Second plan (k + 1) false) (record_text Second plan w false)
-        (records_are_fronts.word plan k l.word part.0 at (subst (λ run. IsBeginning part.0 (second_piece run l.word)) held.knows part.1))
-        (records_are_fronts.fewer plan (k + 1) w false below),
+            (records_are_fronts.word plan k l.word part.0 at (subst (λ run. IsBeginning part.0 (second_piece run l.word)) held.knows part.1))
+            (records_are_fronts.fewer plan (k + 1) w false below),
       )
     where
       rest : List WordValue

@@ -253,7 +253,12 @@ fn drive_behind<L: Line, K: Keep, O: Onlooker>(
 }
 
 // Reports a life.
-fn report_life<W: Write>(core: &HostCore, stubs: Option<Stubs>, stop: Stop, out: &mut W) -> Result<(), WriteFault>
+fn report_life<W: Write>(
+    core: &HostCore,
+    stubs: Option<Stubs>,
+    stop: Stop,
+    out: &mut W,
+) -> Result<(), WriteFault>
     requires { IfSome stubs AreFew }
     ensures ok { OnOk result (Appends (W.contents out.old) (W.contents out.new) (load_report (counting core.now stubs) stop)) }
     ensures err { OnErr result (WritesPrefix (W.contents out.old) (W.contents out.new) (load_report (counting core.now stubs) stop)) }

@@ -6,10 +6,10 @@ ghost use Rattle.byte_io.specs.Text.{line};
 ghost use Rattle.machine_load.specs.LoadReport.{load_counts_text, load_report, stop_name};
 ghost use Rattle.machine_load.specs.Stubs.{AreFew, counting};
 
+use crate::stubs::Stubs;
 use arrayvec::ArrayVec;
 use byte_io::{push_bytes, push_decimal, push_octal};
 use host_core::{End, HostCore};
-use crate::stubs::Stubs;
 use load_engine::Stop;
 
 // Room for the longest report: its words, four numbers of 20 digits, the longest word for an end and an address.

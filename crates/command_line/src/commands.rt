@@ -1,8 +1,8 @@
 //! The commands, and how the parser is told of them.
 
 use crate::arguments::{
-    ADDRESS, Argument, FAST, FILE, FROM, LINE, LISTEN, MORE, NO_START, PATIENCE, QUIET, RECHECK, RECORD,
-    SAVED_START, SCRIPT, START, STYLE, TAPE, TO, WORDS,
+    ADDRESS, Argument, FAST, FILE, FROM, LINE, LISTEN, MORE, NO_START, PATIENCE, QUIET, RECHECK,
+    RECORD, SAVED_START, SCRIPT, START, STYLE, TAPE, TO, WORDS,
 };
 use crate::texts;
 use clap::Command;

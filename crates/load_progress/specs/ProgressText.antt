@@ -19,15 +19,11 @@ time_text seconds =
 abbrev pub part_text : ℕ → ℕ → List ℕ
 part_text done words = if words == 0 then [] else codes ", " ++ decimal (percent_of done words) ++ codes "%"
 
--- that the line is listened to until it is silent
-abbrev pub listening_text : Bool → List ℕ
-listening_text true = codes ", listening"
-listening_text false = []
-
--- that a stub is typed in
-abbrev pub stub_text : Bool → List ℕ
-stub_text true = codes ", stub"
-stub_text false = []
+-- that a stub is typed in, or that the line is listened to until it is silent
+abbrev pub doing_text : Bool → Bool → List ℕ
+doing_text listening true = codes ", stub"
+doing_text true false = codes ", listening"
+doing_text false false = []
 
 -- the mishaps, where there were any
 abbrev pub mishaps_text : ℕ → List ℕ
@@ -45,7 +41,7 @@ left_text (Some seconds) = codes ", " ++ time_text seconds ++ codes " left"
 abbrev pub showing_text : Showing → List ℕ
 showing_text showing =
     decimal showing.done ++ codes " of " ++ decimal showing.words ++ codes " words" ++ part_text showing.done showing.words
-    ++ listening_text showing.is_listening ++ stub_text showing.is_stub ++ mishaps_text showing.mishaps ++ left_text showing.seconds_left
+    ++ doing_text showing.is_listening showing.is_stub ++ mishaps_text showing.mishaps ++ left_text showing.seconds_left
 
 -- that it goes on behind words that were done before
 abbrev pub going_on_text : GoingOn → List ℕ

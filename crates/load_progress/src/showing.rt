@@ -33,10 +33,13 @@ impl fmt::Display for Showing {
 
     fn fmt<W: fmt::Write>(&self, f: &mut fmt::Formatter<W>) -> fmt::Result {
         let (done, words) = (self.done, self.words);
-        let (part, listening) = (Part { done, words }, Listening(self.is_listening));
-        let stub = Stub(self.is_stub);
+        let part = Part { done, words };
+        let doing = Doing {
+            is_listening: self.is_listening,
+            is_stub: self.is_stub,
+        };
         let (mishaps, left) = (Mishaps(self.mishaps), Left(self.seconds_left));
-        write!(f, "{done} of {words} words{part}{listening}{stub}{mishaps}{left}")
+        write!(f, "{done} of {words} words{part}{doing}{mishaps}{left}")
     }
 }
 
@@ -117,37 +120,27 @@ impl fmt::Display for Part {
     }
 }
 
-// That the line is listened to until it is silent, where that is so.
+// That a stub is typed in, or that the line is listened to until it is silent, where that is so.
 #[derive(Clone, Copy)]
-struct Listening(bool);
+struct Doing {
+    is_listening: bool,
+    is_stub: bool,
+}
 
-impl fmt::Display for Listening {
+impl fmt::Display for Doing {
     ghost use Rattle.std.specs.Prelude.{Some};
-    ghost use Rattle.load_progress.specs.ProgressText.{listening_text};
+    ghost use Rattle.load_progress.specs.ProgressText.{doing_text};
 
-    ghost output = { λ listening. Some (listening_text listening.0) };
+    ghost output = { λ doing. Some (doing_text doing.is_listening doing.is_stub) };
 
     fn fmt<W: fmt::Write>(&self, f: &mut fmt::Formatter<W>) -> fmt::Result {
-        if self.0 {
+        if self.is_stub {
+            f.write_str(", stub")
+        } else if self.is_listening {
             f.write_str(", listening")
         } else {
             Ok(())
         }
-    }
-}
-
-// That a stub is typed in, where that is so.
-#[derive(Clone, Copy)]
-struct Stub(bool);
-
-impl fmt::Display for Stub {
-    ghost use Rattle.std.specs.Prelude.{Some};
-    ghost use Rattle.load_progress.specs.ProgressText.{stub_text};
-
-    ghost output = { λ stub. Some (stub_text stub.0) };
-
-    fn fmt<W: fmt::Write>(&self, f: &mut fmt::Formatter<W>) -> fmt::Result {
-        if self.0 { f.write_str(", stub") } else { Ok(()) }
     }
 }
 

@@ -1,6 +1,6 @@
 //! What is known of how far it is.
 ghost use Rattle.std.specs.Prelude.{◌≡◌, ◌≢◌, ◌⊎◌, ◌↔◌, IsTrue};
-ghost use Rattle.load_progress.specs.Tally.{after_sight, after_stub, beginning, heard_behind, is_listening, measured_anew, showing_of, time_between, with_way};
+ghost use Rattle.load_progress.specs.Tally.{after_sight, after_stub, beginning, heard_behind, is_listening, measured_anew, showing_of, time_between, way_behind, with_way};
 
 use crate::pace::time_left;
 use crate::showing::Showing;

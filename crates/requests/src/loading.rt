@@ -172,7 +172,10 @@ fn end<'a, S: Surroundings, W: Write>(
     ensures disk { S.disk around.new ≡ S.disk around.old }
 {
     let Outcome {
-        stop, marked, line, ..
+        stop,
+        marked,
+        line,
+        ..
     } = outcome;
     match line {
         Some(mut line) => {

@@ -8,7 +8,7 @@ use crate::names::{LINE, MORE, STYLE, TAPE, WORDS};
 use crate::no_request::NoRequest;
 use crate::refusals::invalid_value;
 use clap::ArgMatches;
-use console_reach::is_path;
+use console_lines::is_path;
 use odt_machine::{LARGEST_WORDS, PLAIN_STYLE, Style};
 use request_values::Console;
 use std::alloc::{AllocError, Global};

@@ -3,7 +3,7 @@ use Rattle.std.specs.Prelude.{ℕ, Bool, List, Option, Some, None, IsSome, Strin
 use Rattle.std.specs.String.{string_bytes}
 use Rattle.input_files.specs.Opening.{InputStep, opening}
 use Rattle.requests.specs.Asked.{SystemAsked}
-use Rattle.stream_line.specs.Dialling.{LineRequest, Dialled, Limited, OpenedDevice}
+use Rattle.console_lines.specs.Dialling.{LineRequest, Dialled, Limited, OpenedDevice}
 
 -- files were opened by these names, or were not
 abbrev pub opened_by : {A : Type 0} → List (String A × Bool) → List InputStep

@@ -1,10 +1,10 @@
 //! Requests, attempted as the program does it.
 
+use console_lines::Devices;
 use endings::{Status, Streams};
 use record_file::Locks;
 use request_values::{Load, LoadOptions, MachineRequest, Request};
 use requests::{SharedSystem, attempt};
-use serial_line::Devices;
 use simulated_system::QUIET_MS;
 use std::alloc::{AllocError, Global};
 use std::io::Stderr;

@@ -8,6 +8,7 @@ ghost use Rattle.requests.specs.Moment.{moment};
 ghost use Rattle.requests.specs.Attempt.{IsAttempted};
 
 use crate::attempts::NOBODY;
+use console_lines::{Device, DeviceOpening, Devices, Dialling};
 use endings::{Status, Streams};
 use input_files::InputFiles;
 use request_values::{
@@ -15,7 +16,6 @@ use request_values::{
     TapeRequest,
 };
 use requests::{Outside, System, attempt};
-use serial_line::{Device, DeviceOpening, Devices};
 use simulated_system::{AMPLE, Console, DEVICE, ONE_WORD, QUIET_MS, System as Simulated, ToldDisk};
 use std::alloc::{AllocError, Global};
 use std::fs::File;
@@ -23,7 +23,6 @@ use std::process::Abort;
 use std::test::Fail;
 use std::time::Clock;
 use std::{fs, io};
-use stream_line::Dialling;
 use tape_image::Start;
 
 /// Files that are opened to be read, and by which names they were, or were not.

@@ -2,7 +2,7 @@
 use Rattle.std.specs.Prelude.{ℕ, List, Option, Some, None, String, map}
 use Rattle.std.specs.String.{string_bytes}
 use Rattle.load_devices.specs.declared.fault.LineFault.{LineFault}
-use Rattle.stream_line.specs.Dialling.{LineRequest, Call, OpenedDevice, Limited, asked_once, asked_until}
+use Rattle.console_lines.specs.Dialling.{LineRequest, Call, OpenedDevice, Limited, asked_once, asked_until}
 
 -- a device was opened at a path, or reads were limited to a time in milliseconds
 abbrev pub opening : List ℕ → Option ℕ → LineRequest

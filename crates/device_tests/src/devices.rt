@@ -2,9 +2,9 @@
 //! hang-up, a failure and a stopped output are heard as.
 
 use crate::terminals::{Bench, DAWN, HOUR, PATH, Pace, Scripted, Turn};
+use console_lines::{Device, DeviceLine, Devices, open_line};
 use host_core::Heard;
 use load_devices::{Line, LineFault};
-use serial_line::{Device, DeviceLine, Devices, open_line};
 use std::io::ErrorKind;
 use std::net::OpenStream;
 use std::time::{Clock, Duration};

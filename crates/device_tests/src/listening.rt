@@ -3,14 +3,12 @@
 use crate::brittle_writer::Brittle;
 use crate::streams::{Faulty, Notes, Spoken};
 use crate::terminals::{Bench, PATH, Pace, Turn};
-use console_reach::{Cable, Reach, is_path, listen, silences_within};
+use console_lines::{Cable, Devices, Reach, StreamLine, is_path, listen, silences_within};
 use load_devices::{Line, LineFault};
-use serial_line::Devices;
 use std::alloc::Global;
 use std::cell::Cell;
 use std::io::ErrorKind;
 use std::time::Clock;
-use stream_line::StreamLine;
 
 // Nothing has come.
 const NOTHING: Turn = Turn::Fails(ErrorKind::WouldBlock);

@@ -1,12 +1,12 @@
 //! Lines over sockets of 127.0.0.1, both ends in one thread, and over streams that fail as they are told.
 
 use crate::streams::{Faulty, Notes, TwoAddresses};
+use console_lines::SocketLine;
 use host_core::Heard;
 use load_devices::{Line, LineFault};
 use std::io::{ErrorKind, Read, Write};
 use std::net::{SocketAddr, TcpListener, TcpStream};
 use std::time::Duration;
-use stream_line::SocketLine;
 
 // How a call of `hear` may end.
 type Hearing = Result<Heard, LineFault>;

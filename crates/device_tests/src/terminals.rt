@@ -1,6 +1,6 @@
 //! A system with one serial device that does as a test says, and a clock that does, too.
 
-use serial_line::Devices;
+use console_lines::Devices;
 use std::cell::Cell;
 use std::io;
 use std::io::{ErrorKind, IsTerminal, Read, Write};

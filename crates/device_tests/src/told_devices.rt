@@ -1,12 +1,11 @@
 //! Serial devices that tell what was asked of them, so that it can be met what a way to a console promises of that.
 ghost use Rattle.std.specs.Prelude.{◌≡◌, [], ◌∷◌, ◌++◌, Some};
-ghost use Rattle.stream_line.specs.Dialling.{ToDevice};
+ghost use Rattle.console_lines.specs.Dialling.{ToDevice};
 ghost use Rattle.device_tests.specs.ToldDevices.{asked_by, asked_till, opening};
 
 use crate::terminals::{Bench, PATH, Pace, Scripted};
-use console_reach::{Cable, Reach};
+use console_lines::{Cable, Device, DeviceOpening, Devices, Reach};
 use load_devices::LineFault;
-use serial_line::{Device, DeviceOpening, Devices};
 use std::alloc::Global;
 use std::io;
 use std::process::Abort;

@@ -1,7 +1,7 @@
 //! Names that stand in each other's places on the command line, as a tape where the line belongs: what a device
 //! sends would be waited for, and nobody told.
 
-use console_reach::is_path;
+use console_lines::is_path;
 use endings::{Failure, Place};
 use input_files::is_input;
 use request_values::{MachineRequest, Request, TapeRequest};

@@ -10,15 +10,14 @@ ghost use Rattle.requests.specs.Attempt.{IsAttempted};
 ghost use Rattle.ldaodt.specs.Answer.{IsAnswered};
 
 use command_line::{explain, parse};
+use console_lines::{DeviceOpening, Dialling};
 use endings::{FaultOutput, Output, Streams};
 use input_files::InputFiles;
 use record_file::Disk;
 use requests::{System, attempt};
-use serial_line::DeviceOpening;
 use std::alloc::Global;
 use std::io::{Print, Read};
 use std::time::Clock;
-use stream_line::Dialling;
 
 /// Does what the words after the program's name ask for, in a system that comes back, and answers the exit
 /// status.

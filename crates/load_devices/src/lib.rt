@@ -3,7 +3,7 @@
 //! `Line` and `Keep` are devices as traits. Each tells how often it failed and whether its last call
 //! did, and where its type tells it, what was sent and heard or what is kept. `MemoryKeep` keeps in
 //! memory. An `Onlooker` is told of each turn, and decides nothing. Used by every crate that brings a line
-//! or a keeper (`stream_line`, `honest_line`, `load_record`), and by the engines, to which these are lent.
+//! or a keeper (`console_lines`, `honest_line`, `load_record`), and by the engines, to which these are lent.
 #![tactic(auto)]
 
 mod fault;

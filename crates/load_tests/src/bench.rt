@@ -8,7 +8,7 @@ ghost use Rattle.record_file.specs.RecordFault.{IsUnbegun};
 
 use crate::disk_text::DiskText;
 use crate::memory_reach::MemoryReach;
-use console_reach::Reach;
+use console_lines::Reach;
 use honest_line::MemoryLine;
 use load_devices::{LineFault, Unwatched};
 use load_record::FileKeep;

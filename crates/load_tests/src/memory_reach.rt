@@ -1,6 +1,6 @@
 //! A way to a machine in memory.
 
-use console_reach::Reach;
+use console_lines::Reach;
 use honest_line::MemoryLine;
 use load_devices::LineFault;
 use odt_machine::Odt;

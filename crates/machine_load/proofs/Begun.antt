@@ -8,7 +8,7 @@ use Rattle.host_core.specs.declared.phase.Phase.TheVariants.{Settle, Ended as Ha
 use Rattle.host_core.specs.Core.{Core, ended}
 use Rattle.load_engine.specs.declared.stop.Stop.{Stop}
 use Rattle.load_engine.specs.declared.stop.Stop.TheVariants.{Ended}
-use Rattle.console_reach.specs.Reached.{LineTold}
+use Rattle.console_lines.specs.Reached.{LineTold}
 use Rattle.machine_load.specs.Driving.{KeeperTells, IsLived}
 use Rattle.machine_load.specs.Parts.{Course}
 use Rattle.machine_load.specs.Load.{Around, finish_of, IsOpening, IsOverAtOnce, IsNeverBegun, words_taken}

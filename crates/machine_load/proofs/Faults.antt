@@ -2,7 +2,7 @@
 use Rattle.std.proofs.Common.{◌≡◌, ℕ, Bool, true, false, List, Option, Result, Ok, Err, IfErr, IfOk, IsErrAnd, [], ◌∷◌, inr, inl, refl, sym, subst}
 use Rattle.std.proofs.KnownBytes.{Keeps-refl, Keeps-trans}
 use Rattle.tape_image.specs.Plan.{PlanValue}
-use Rattle.console_reach.specs.Reached.{LineTold}
+use Rattle.console_lines.specs.Reached.{LineTold}
 use Rattle.machine_load.specs.Step.{Step, Connected, begin_step}
 use Rattle.machine_load.proofs.Steps.{gains_more}
 use Rattle.machine_load.specs.GivenBack.{GivesNothingSaid}

@@ -3,7 +3,7 @@ use Rattle.std.specs.Prelude.{◌≡◌, ◌⊎◌, ℕ, List, [], ◌∷◌, Bo
 use Rattle.std.specs.Io.KnownBytes.{Appends}
 use Rattle.tape_image.specs.Plan.{PlanValue}
 use Rattle.host_core.specs.Core.{Core, ended}
-use Rattle.console_reach.specs.Reached.{IsUnused, LineTold}
+use Rattle.console_lines.specs.Reached.{IsUnused, LineTold}
 use Rattle.byte_io.specs.Output.{WritesAllBut}
 use Rattle.machine_load.specs.declared.stubs.Stubs.{Stubs}
 use Rattle.machine_load.specs.GivenBack.{IsGivenBack}

@@ -1,7 +1,7 @@
 -- What is told of a load's line once it was given back.
 use Rattle.std.specs.Prelude.{◌≡◌, ◌⊎◌, List, [], ◌∷◌, Option, Some, None}
 use Rattle.load_devices.specs.Told.{Gains}
-use Rattle.console_reach.specs.Reached.{IsUnused, LineTold}
+use Rattle.console_lines.specs.Reached.{IsUnused, LineTold}
 
 -- no line was given back, or one on which nothing was said
 abbrev pub GivesNothingSaid : Option (List LineTold) → Option (List LineTold) → Type 0

@@ -15,7 +15,7 @@ use Rattle.load_record.specs.declared.version.Version.TheVariants.{Second}
 use Rattle.load_record.specs.RecordText.{record_text}
 use Rattle.load_record.specs.Reading.{Says}
 use Rattle.byte_io.specs.Output.{WritesAllBut}
-use Rattle.console_reach.specs.Reached.{IsUnused, LineTold}
+use Rattle.console_lines.specs.Reached.{IsUnused, LineTold}
 use Rattle.machine_load.specs.GivenBack.{IsGivenBack}
 use Rattle.machine_load.specs.LoadReport.{course_report, load_report}
 use Rattle.machine_load.specs.Parts.{AreParts, Course, Devices, course, devices}

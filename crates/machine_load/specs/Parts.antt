@@ -16,7 +16,7 @@ use Rattle.load_engine.specs.Keeping.{KeptBy}
 use Rattle.load_engine.specs.Session.{Session, KeepsMarkFirst, TellsEnd}
 use Rattle.exchange_engine.specs.Failing.{keep_fault as stub_keep_fault, line_fault as stub_line_fault}
 use Rattle.exchange_engine.specs.Keeping.{KeptBy as StubsKeptBy, ToldBy, words_kept}
-use Rattle.console_reach.specs.Reached.{LineTold, line_told}
+use Rattle.console_lines.specs.Reached.{LineTold, line_told}
 use Rattle.stub_engine.specs.Parts.{AreBroughtIn, failure_of}
 use Rattle.stub_engine.specs.Tallies.{begun as none_yet}
 use Rattle.machine_load.specs.declared.stubs.Stubs.{Stubs}

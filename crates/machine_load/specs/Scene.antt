@@ -4,7 +4,7 @@ use Rattle.std.specs.declared.io.Write.{Ghosts as Write}
 use Rattle.load_devices.specs.declared.keep.Keep.{Ghosts as Keep}
 use Rattle.load_devices.specs.declared.line.Line.{Ghosts as Line}
 use Rattle.load_devices.specs.Told.{Gains}
-use Rattle.console_reach.specs.Reached.{line_told}
+use Rattle.console_lines.specs.Reached.{line_told}
 use Rattle.machine_load.specs.declared.fault.LoadFault.{LoadFault}
 use Rattle.machine_load.specs.declared.fault.LoadFault.TheVariants.{WriteOutput}
 use Rattle.machine_load.specs.declared.outcome.Outcome.{Outcome}
@@ -15,7 +15,7 @@ use Rattle.machine_load.specs.LoadFault.{IsLoadFault}
 use Rattle.machine_load.specs.Parts.{calls_of}
 use Rattle.machine_load.specs.RecordDisk.{RecordDisk, DiskAsked, disk_asked_by, disk_asked_before}
 use Rattle.request_values.specs.declared.options.LoadOptions.{LoadOptions}
-use Rattle.stream_line.specs.Dialling.{LineRequest, Call}
+use Rattle.console_lines.specs.Dialling.{LineRequest, Call}
 use Rattle.tape_image.specs.Plan.{PlanValue}
 use Rattle.machine_load.specs.Load.{Around, Ending, Setting, IsNeverBegun, IsReported}
 

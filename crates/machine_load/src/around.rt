@@ -2,7 +2,7 @@
 
 use crate::records::Records;
 use crate::surroundings::Surroundings;
-use console_reach::Reach;
+use console_lines::Reach;
 use load_devices::LineFault;
 use record_file::{OldRecord, RecordFault};
 use std::alloc::Global;

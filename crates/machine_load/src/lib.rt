@@ -5,7 +5,7 @@
 //! crate `stub_engine`), and behind them the host goes on; its report is of this host, and counts what all of
 //! them sent. That is its contract, and by its laws a load is a life, with stubs or without, wherever it
 //! stops. `Around` joins the two parts of the surroundings of a real machine: a way to its console (of the
-//! crate `console_reach`), and where its record is, in a file (of the crate `record_file`) or in memory. An
+//! crate `console_lines`), and where its record is, in a file (of the crate `record_file`) or in memory. An
 //! `Onlooker` sees how far the load is and decides nothing.
 //!
 //! The crate `requests` calls it, and its tests stand in `load_tests`, `record_tests` and `command_tests`.

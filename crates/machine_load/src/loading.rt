@@ -6,7 +6,7 @@ ghost use Rattle.load_record.specs.Reading.{Says};
 ghost use Rattle.load_devices.specs.Told.{Gains};
 ghost use Rattle.byte_io.specs.Output.{WritesPrefix};
 ghost use Rattle.machine_load.specs.Called.{asked_by, IsAskedBefore};
-ghost use Rattle.console_reach.specs.Reached.{line_told};
+ghost use Rattle.console_lines.specs.Reached.{line_told};
 ghost use Rattle.machine_load.specs.Driving.{IsLived};
 ghost use Rattle.machine_load.specs.GivenBack.{GivesNothingSaid, IsGivenBack};
 ghost use Rattle.machine_load.specs.Load.{finish_of, IsOpened, words_taken};

@@ -5,8 +5,8 @@ ghost use Rattle.load_devices.specs.Told.{Gains};
 ghost use Rattle.machine_load.specs.Load.{IsTextBegun};
 ghost use Rattle.machine_load.specs.RecordDisk.{RecordDisk, IsReadAnswered, IsBeginAnswered};
 ghost use Rattle.record_file.specs.RecordFault.{IsUnread, IsUnbegun};
-ghost use Rattle.console_reach.specs.Reached.{IsUnused, LineTold, line_told};
-ghost use Rattle.stream_line.specs.Dialling.{LineRequest, Call, ToDevice, asked_for};
+ghost use Rattle.console_lines.specs.Reached.{IsUnused, LineTold, line_told};
+ghost use Rattle.console_lines.specs.Dialling.{LineRequest, Call, ToDevice, asked_for};
 ghost use Rattle.tape_image.specs.Plan.{PlanValue};
 ghost use Rattle.machine_load.specs.Step.{Step, RecordGivenBack, read_step, connect_step, begin_step};
 

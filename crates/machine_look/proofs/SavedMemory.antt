@@ -11,7 +11,7 @@ use Rattle.reading_core.specs.declared.phase.End.TheVariants.{Complete}
 use Rattle.reading_core.specs.declared.phase.Phase.TheVariants.{Settle, Ended as Over}
 use Rattle.reading_core.specs.Reader.{Reader, begun, ended}
 use Rattle.reading_core.proofs.Asking.{one_more, length_from}
-use Rattle.console_reach.specs.Reached.{LineTold}
+use Rattle.console_lines.specs.Reached.{LineTold}
 use Rattle.reading_engine.specs.declared.stop.Stop.{Stop}
 use Rattle.machine_look.specs.declared.saving.SaveOptions.{SaveOptions}
 use Rattle.machine_look.specs.Look.{AsksOnce, IsLook, OverHonestLine}

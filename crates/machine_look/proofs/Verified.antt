@@ -12,7 +12,7 @@ use Rattle.reading_core.specs.declared.phase.End.TheVariants.{Complete, GaveUp a
 use Rattle.reading_core.specs.Addresses.{addresses_of}
 use Rattle.reading_core.specs.Reader.{Reader, begun, ended}
 use Rattle.looking_law.specs.Belief.{IsTrueReading}
-use Rattle.console_reach.specs.Reached.{LineTold}
+use Rattle.console_lines.specs.Reached.{LineTold}
 use Rattle.reading_engine.specs.Inquired.{TellsEnd}
 use Rattle.reading_engine.specs.declared.stop.Stop.{Stop}
 use Rattle.reading_engine.specs.declared.stop.Stop.TheVariants.{Ended, LineFailed as LineHasFailed, TurnsOver as TurnsAreOver}
@@ -20,7 +20,7 @@ use Rattle.machine_look.specs.declared.difference.Difference.{Difference}
 use Rattle.machine_look.specs.declared.verify_end.VerifyEnd.{VerifyEnd}
 use Rattle.machine_look.specs.declared.verify_end.VerifyEnd.TheVariants.{Same, Differs}
 use Rattle.machine_look.specs.Differences.{differences}
-use Rattle.console_reach.specs.Console.{ConsoleTold}
+use Rattle.console_lines.specs.Console.{ConsoleTold}
 use Rattle.machine_look.specs.Look.{AsksOnce, IsLook, OverHonestLine}
 use Rattle.machine_look.specs.Verify.{IsSameWith, IsVerified}
 use Rattle.machine_look.specs.VerifyReport.{report_text, verify_end, verify_report}

@@ -3,13 +3,13 @@ use Rattle.std.specs.Prelude.{◌≡◌, ℕ, ◌≤◌, List, [], ◌∷◌, le
 use Rattle.odt_machine.specs.Machine.{Machine}
 use Rattle.load_devices.specs.Told.{Gains}
 use Rattle.load_devices.specs.Failures.{CountsFault, IsLastFault}
-use Rattle.console_reach.specs.Reached.{LineTold}
+use Rattle.console_lines.specs.Reached.{LineTold}
 use Rattle.reading_engine.specs.Failing.{line_fault}
 use Rattle.load_devices.specs.Turns.{most_turns}
 use Rattle.tape_values.specs.Told.{IsAsTold}
 use Rattle.load_devices.specs.declared.item.Item.{Item}
 use Rattle.reading_engine.specs.Honest.{IsHonest}
-use Rattle.stream_line.specs.Dialling.{Call, LineRequest, asked_once}
+use Rattle.console_lines.specs.Dialling.{Call, LineRequest, asked_once}
 use Rattle.reading_core.specs.Bound.{reading_bound}
 use Rattle.reading_core.specs.Invariant.{IsReader}
 use Rattle.reading_core.specs.Reader.{Reader, ended}

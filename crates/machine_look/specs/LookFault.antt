@@ -4,7 +4,7 @@ use Rattle.std.specs.Io.KnownBytes.{Keeps}
 use Rattle.tape_values.specs.Tape.{TapeValue, plain_text}
 use Rattle.tape_image.specs.Plan.{PlanValue}
 use Rattle.load_devices.specs.Told.{Gains}
-use Rattle.stream_line.specs.Dialling.{IsAskedInVain}
+use Rattle.console_lines.specs.Dialling.{IsAskedInVain}
 use Rattle.reading_core.specs.Addresses.{addresses_of}
 use Rattle.reading_core.specs.Reader.{begun, ended}
 use Rattle.machine_look.specs.declared.look_fault.LookFault.{LookFault}
@@ -12,7 +12,7 @@ use Rattle.machine_look.specs.declared.look_fault.LookFault.TheVariants.{IsThere
 use Rattle.machine_look.specs.declared.saving.SaveOptions.{SaveOptions}
 use Rattle.machine_look.specs.declared.shelf.ShelfFault.{ShelfFault}
 use Rattle.machine_look.specs.declared.shelf.ShelfFault.TheVariants as shelf_fault
-use Rattle.console_reach.specs.Console.{ConsoleTold}
+use Rattle.console_lines.specs.Console.{ConsoleTold}
 use Rattle.machine_look.specs.Save.{IsRead, IsUnput, IsSavedUnreported, SaveTold}
 use Rattle.machine_look.specs.Shelf.{Step, Reserve, NotReserved, NotPut}
 use Rattle.machine_look.specs.Verify.{IsCutShort}

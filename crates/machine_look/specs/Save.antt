@@ -7,9 +7,9 @@ use Rattle.tape_image.specs.Plan.{plan_of}
 use Rattle.tape_image.specs.Word.{whole_word}
 use Rattle.odt_machine.specs.Machine.{Machine, word_at}
 use Rattle.load_devices.specs.Told.{Gains}
-use Rattle.console_reach.specs.declared.reach.Reach.{Ghosts as Reach}
-use Rattle.console_reach.specs.Reached.{LineTold}
-use Rattle.stream_line.specs.Dialling.{Call, LineRequest, asked_once}
+use Rattle.console_lines.specs.declared.reach.Reach.{Ghosts as Reach}
+use Rattle.console_lines.specs.Reached.{LineTold}
+use Rattle.console_lines.specs.Dialling.{Call, LineRequest, asked_once}
 use Rattle.byte_io.specs.Output.{WritesAllBut}
 use Rattle.reading_core.specs.Addresses.{addresses_between}
 use Rattle.reading_core.specs.Reader.{Reader, begun}

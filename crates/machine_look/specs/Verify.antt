@@ -12,7 +12,7 @@ use Rattle.reading_engine.specs.declared.stop.Stop.{Stop}
 use Rattle.machine_look.specs.declared.verify_end.VerifyEnd.{VerifyEnd}
 use Rattle.machine_look.specs.declared.verify_end.VerifyEnd.TheVariants.{Same}
 use Rattle.machine_look.specs.Differences.{differences}
-use Rattle.console_reach.specs.Console.{ConsoleTold}
+use Rattle.console_lines.specs.Console.{ConsoleTold}
 use Rattle.machine_look.specs.Look.{AsksOnce, IsLook, OverHonestLine}
 use Rattle.machine_look.specs.VerifyReport.{verify_end, verify_report}
 

@@ -8,11 +8,11 @@ ghost use Rattle.reading_engine.specs.Belief.{IsBelievableOver};
 ghost use Rattle.load_devices.specs.Failures.{CountsFault, IsLastFault};
 ghost use Rattle.reading_engine.specs.Failing.{line_fault};
 ghost use Rattle.reading_engine.specs.Inquired.{Inquired, TellsEnd};
-ghost use Rattle.stream_line.specs.Dialling.{IsAskedInVain};
+ghost use Rattle.console_lines.specs.Dialling.{IsAskedInVain};
 ghost use Rattle.machine_look.specs.Look.{AsksOnce, IsLook};
 
 use crate::look_fault::LookFault;
-use console_reach::Reach;
+use console_lines::Reach;
 use load_devices::{Line, MOST_TURNS, Onlooker};
 use reading_core::ReadingCore;
 use reading_engine::{Stop, inquire};

@@ -15,7 +15,7 @@ use crate::save_report::{save_end, save_report};
 use crate::saved_tape::tape_of;
 use crate::shelf::Shelf;
 use byte_io::write_and_flush;
-use console_reach::Reach;
+use console_lines::Reach;
 use load_devices::Onlooker;
 use reading_core::ReadingCore;
 use request_values::AddressRange;

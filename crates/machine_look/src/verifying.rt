@@ -1,6 +1,6 @@
 //! The command `verify`: whether memory holds what a plan says.
 ghost use Rattle.std.specs.Prelude.{◌≡◌, IfErr, IfOk};
-ghost use Rattle.console_reach.specs.Console.{console_told};
+ghost use Rattle.console_lines.specs.Console.{console_told};
 ghost use Rattle.machine_look.specs.LookFault.{IsVerifyFault};
 ghost use Rattle.machine_look.specs.Verify.{IsReported};
 
@@ -10,7 +10,7 @@ use crate::looking::look_over;
 use crate::verify_end::VerifyEnd;
 use crate::verify_report::{longest_report, put_verify_report};
 use byte_io::write_and_flush;
-use console_reach::Reach;
+use console_lines::Reach;
 use load_devices::Onlooker;
 use reading_core::ReadingCore;
 use std::alloc::Global;

@@ -6,7 +6,7 @@ use Rattle.byte_io.specs.Output.{WritesAllBut, WritesPrefix}
 use Rattle.load_devices.specs.Told.{Gains}
 use Rattle.load_devices.specs.declared.item.Item.{Item}
 use Rattle.load_devices.specs.declared.line.Line.{Ghosts as Line}
-use Rattle.stream_line.specs.Dialling.{asked_once}
+use Rattle.console_lines.specs.Dialling.{asked_once}
 use Rattle.probe_report.specs.declared.findings.Findings.{Findings}
 use Rattle.probe_report.specs.declared.pace.Pace.{Pace}
 use Rattle.probe_report.specs.declared.probe_end.ProbeEnd.{ProbeEnd}
@@ -18,8 +18,8 @@ use Rattle.tape_values.specs.Told.{IsAsTold}
 use Rattle.machine_probe.specs.declared.probe_options.ProbeOptions.{ProbeOptions}
 use Rattle.machine_probe.specs.Follow.{IsBrokenOff, IsProbe}
 use Rattle.machine_probe.specs.Noted.{AreNotesSince}
-use Rattle.console_reach.specs.Console.{ConsoleTold}
-use Rattle.console_reach.specs.Reached.{line_told}
+use Rattle.console_lines.specs.Console.{ConsoleTold}
+use Rattle.console_lines.specs.Reached.{line_told}
 use Rattle.machine_probe.specs.Probe.{IsCutShort, IsReport, IsReportOver, IsReported, IsReportedOver}
 use Rattle.machine_probe.specs.ProbeFault.{WayTold, way_of, IsProbeFault, IsUnreported, IsWanting, IsWantOfMemory}
 use Rattle.machine_probe.specs.declared.probe_fault.ProbeFault.{ProbeFault}

@@ -5,9 +5,9 @@ use Rattle.byte_io.specs.Output.{WritesAllBut}
 use Rattle.load_devices.specs.declared.item.Item.{Item}
 use Rattle.load_devices.specs.Told.{Gains}
 use Rattle.load_devices.specs.declared.line.Line.{Ghosts as Line}
-use Rattle.stream_line.specs.Dialling.{asked_once}
-use Rattle.console_reach.specs.Console.{ConsoleTold}
-use Rattle.console_reach.specs.Reached.{LineTold, line_told}
+use Rattle.console_lines.specs.Dialling.{asked_once}
+use Rattle.console_lines.specs.Console.{ConsoleTold}
+use Rattle.console_lines.specs.Reached.{LineTold, line_told}
 use Rattle.looking_law.specs.Rows.{in_a_row}
 use Rattle.probe_report.specs.declared.findings.Findings.{Findings}
 use Rattle.probe_report.specs.declared.pace.Pace.{Pace}

@@ -4,15 +4,15 @@ use Rattle.std.specs.Io.KnownBytes.{Keeps}
 use Rattle.load_devices.specs.Told.{Gains}
 use Rattle.load_devices.specs.declared.item.Item.{Item}
 use Rattle.load_devices.specs.declared.line.Line.{Ghosts as Line}
-use Rattle.stream_line.specs.Dialling.{Call, LineRequest, IsAskedInVain, asked_once}
+use Rattle.console_lines.specs.Dialling.{Call, LineRequest, IsAskedInVain, asked_once}
 use Rattle.tape_values.specs.Told.{IsAsTold}
 use Rattle.machine_probe.specs.declared.probe_fault.ProbeFault.{ProbeFault}
 use Rattle.machine_probe.specs.declared.probe_fault.ProbeFault.TheVariants.{Connect, WriteOutput, Memory}
 use Rattle.machine_probe.specs.declared.probe_options.ProbeOptions.{ProbeOptions}
 use Rattle.machine_probe.specs.Follow.{IsBrokenOff}
-use Rattle.console_reach.specs.Console.{ConsoleTold}
-use Rattle.console_reach.specs.Reached.{LineTold, line_told}
-use Rattle.console_reach.specs.declared.reach.Reach.{Ghosts as Reach}
+use Rattle.console_lines.specs.Console.{ConsoleTold}
+use Rattle.console_lines.specs.Reached.{LineTold, line_told}
+use Rattle.console_lines.specs.declared.reach.Reach.{Ghosts as Reach}
 use Rattle.machine_probe.specs.Probe.{IsCutShort}
 use Rattle.machine_probe.specs.Runs.{OnLine}
 

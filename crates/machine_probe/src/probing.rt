@@ -1,11 +1,11 @@
 //! The command `probe`.
 ghost use Rattle.std.specs.Prelude.{◌≡◌, ◌≤◌, [], vec_capacity, IfErr, IfOk, OnErr, OnOk};
 ghost use Rattle.load_devices.specs.Told.{Gains};
-ghost use Rattle.stream_line.specs.Dialling.{asked_once};
+ghost use Rattle.console_lines.specs.Dialling.{asked_once};
 ghost use Rattle.tape_values.specs.Told.{IsAsTold};
 ghost use Rattle.reading_core.specs.Addresses.{IsAddress};
 ghost use Rattle.probe_report.specs.ProbeText.{longest_report};
-ghost use Rattle.console_reach.specs.Console.{console_told};
+ghost use Rattle.console_lines.specs.Console.{console_told};
 ghost use Rattle.machine_probe.specs.Follow.{IsBrokenOff};
 ghost use Rattle.machine_probe.specs.Probe.{IsReport, IsReportOver, IsReported, IsReportedOver};
 ghost use Rattle.machine_probe.specs.ProbeFault.{way_told, IsProbeFault, IsUnreported, IsWanting};
@@ -17,7 +17,7 @@ use crate::probe_fault::ProbeFault;
 use crate::probe_options::ProbeOptions;
 use crate::runs::{Lookers, make_runs};
 use byte_io::write_and_flush;
-use console_reach::Reach;
+use console_lines::Reach;
 use load_devices::Line;
 use probe_report::{LONGEST_REPORT, ProbeEnd, put_report};
 use std::alloc::{AllocError, Global};

@@ -1,12 +1,12 @@
 //! The engine over the devices of a real load: a line over a stream, and the keeper of a record.
 
+use console_lines::SocketLine;
 use host_core::{End, HostCore, Progress};
 use load_devices::{Keep, Unwatched};
 use load_engine::{Stop, drive};
 use load_record::FileKeep;
 use simulated_system::{AMPLE, Console, QUIET_MS, System, plan_of_one_word};
 use std::alloc::Global;
-use stream_line::SocketLine;
 
 // A host that has verified nothing of the smallest tape, with a record that is begun so; or None where one of them
 // can't be had.

@@ -1,15 +1,15 @@
 -- What becomes of a load, by what is said of its disk.
 use Rattle.std.proofs.Common.{◌≡◌, ◌∙◌, ℕ, List, Option, Some, None, Ok, inl, inr, ap, subst, option_map, ⊎_elim}
 use Rattle.std.specs.Prelude.{⊤}
-use Rattle.console_reach.specs.Console.{ConsoleTold}
-use Rattle.console_reach.specs.Reached.{LineTold}
+use Rattle.console_lines.specs.Console.{ConsoleTold}
+use Rattle.console_lines.specs.Reached.{LineTold}
 use Rattle.load_devices.specs.Told.{Gains, HasAsked}
 use Rattle.machine_load.proofs.OnDisk.{closed_ok}
 use Rattle.machine_load.specs.Called.{asked_by}
 use Rattle.machine_load.specs.RecordDisk.{DiskAsked, FileKnown, IsClosedAfter, RecordDisk, disk_asked_by, disk_asked_before}
 use Rattle.record_file.specs.Closing.{IsRecordClosed}
 use Rattle.record_file.specs.DiskStep.{DiskStep}
-use Rattle.stream_line.specs.Dialling.{Call, LineRequest}
+use Rattle.console_lines.specs.Dialling.{Call, LineRequest}
 use Rattle.tape_image.specs.Plan.{PlanValue}
 use Rattle.endings.specs.declared.failure.Failure.{Failure}
 use Rattle.endings.specs.declared.status.Status.{Status}

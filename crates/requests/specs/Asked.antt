@@ -1,9 +1,9 @@
 -- What is asked of a system for a request, part by part, each where it tells.
 use Rattle.std.specs.Prelude.{◌≡◌, ℕ, if◌then◌else◌, List, Option, None}
-use Rattle.console_reach.specs.Path.{has_slash}
+use Rattle.console_lines.specs.Path.{has_slash}
 use Rattle.input_files.specs.Opening.{InputStep}
 use Rattle.record_file.specs.DiskStep.{DiskStep}
-use Rattle.stream_line.specs.Dialling.{LineRequest, Call, ToPort, ToDevice}
+use Rattle.console_lines.specs.Dialling.{LineRequest, Call, ToPort, ToDevice}
 
 -- what was asked of the disk, of the network and of the serial devices
 pub record OutsideAsked : Type 0 where

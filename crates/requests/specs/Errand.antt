@@ -1,9 +1,9 @@
 -- What is told before and after an errand at a console.
 use Rattle.std.specs.Prelude.{ℕ, List, Option, None}
-use Rattle.console_reach.specs.Console.{ConsoleTold}
-use Rattle.console_reach.specs.Reached.{LineTold}
+use Rattle.console_lines.specs.Console.{ConsoleTold}
+use Rattle.console_lines.specs.Reached.{LineTold}
 use Rattle.record_file.specs.DiskStep.{DiskStep}
-use Rattle.stream_line.specs.Dialling.{Call, LineRequest}
+use Rattle.console_lines.specs.Dialling.{Call, LineRequest}
 use Rattle.input_files.specs.Inputs.{Known}
 use Rattle.requests.specs.Asked.{OutsideAsked, asked_towards, call_to}
 

@@ -4,12 +4,12 @@ use Rattle.host_core.specs.declared.phase.End.{End}
 use Rattle.host_core.specs.declared.phase.End.TheVariants as end
 use Rattle.load_devices.specs.declared.fault.LineFault.{LineFault}
 use Rattle.load_devices.specs.Told.{Gains}
-use Rattle.console_reach.specs.Reached.{LineTold}
+use Rattle.console_lines.specs.Reached.{LineTold}
 use Rattle.endings.specs.declared.failure.Failure.{Failure}
 use Rattle.endings.specs.declared.failure.Failure.TheVariants.{CannotWrite}
 use Rattle.load_engine.specs.declared.stop.Stop.{Stop}
 use Rattle.load_engine.specs.declared.stop.Stop.TheVariants.{Ended}
-use Rattle.console_reach.specs.Listening.{Copying, IsListening, IsCopiedInPart}
+use Rattle.console_lines.specs.Listening.{Copying, IsListening, IsCopiedInPart}
 use Rattle.input_files.specs.Inputs.{Known}
 
 -- whether somebody listens behind this end: the program was started, or may have been

@@ -1,7 +1,7 @@
 -- What becomes of a request to load a real machine.
 use Rattle.std.specs.Prelude.{◌≡◌, ◌⊎◌, ℕ, List, Option, Some, None, Result, IfOk, IfErr, codes}
 use Rattle.std.specs.declared.io.Write.{Ghosts as Write}
-use Rattle.console_reach.specs.Console.{ConsoleTold}
+use Rattle.console_lines.specs.Console.{ConsoleTold}
 use Rattle.tape_image.specs.Plan.{PlanValue, starting}
 use Rattle.load_devices.specs.Told.{Gains, HasAsked}
 use Rattle.machine_load.specs.Called.{asked_by, IsAskedBefore}

@@ -1,7 +1,7 @@
 -- What becomes of a request to probe a console.
 use Rattle.std.specs.Prelude.{◌⊎◌, ◌≡◌, Result, Ok, Err, IfOk, IfErr}
 use Rattle.probe_report.specs.declared.probe_end.ProbeEnd.{ProbeEnd}
-use Rattle.console_reach.specs.Console.{ConsoleTold}
+use Rattle.console_lines.specs.Console.{ConsoleTold}
 use Rattle.machine_probe.specs.Probe.{IsReported}
 use Rattle.machine_probe.specs.ProbeFault.{IsProbeFault}
 use Rattle.machine_probe.specs.declared.probe_fault.ProbeFault.{ProbeFault}

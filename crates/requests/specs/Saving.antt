@@ -1,6 +1,6 @@
 -- What becomes of a request to save what a real machine holds.
 use Rattle.std.specs.Prelude.{◌≡◌, ◌⊎◌, List, ◌++◌, Option, None, Result, Ok, Err, IfOk, IfErr}
-use Rattle.console_reach.specs.Console.{ConsoleTold}
+use Rattle.console_lines.specs.Console.{ConsoleTold}
 use Rattle.load_devices.specs.Told.{HasAsked}
 use Rattle.record_file.specs.DiskStep.{DiskStep}
 use Rattle.machine_look.specs.LookFault.{IsSaveFault}

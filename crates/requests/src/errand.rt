@@ -6,13 +6,11 @@ ghost use Rattle.requests.specs.Errand.{Told, told, told_towards};
 ghost use Rattle.requests.specs.Asked.{NotElsewhere};
 
 use crate::system::Outside;
-use console_reach::{Cable, Port, Reach, is_path};
+use console_lines::{Cable, DeviceOpening, Dialling, Port, Reach, is_path};
 use endings::{Failure, Status};
 use record_file::Disk;
-use serial_line::DeviceOpening;
 use std::io::Write;
 use std::time::Clock;
-use stream_line::Dialling;
 
 /// What is done with a console.
 pub(crate) trait Errand<'a> {

@@ -10,15 +10,14 @@ use crate::probing::probe_console;
 use crate::saving::save_words;
 use crate::system::System;
 use crate::verifying::verify_tapes;
+use console_lines::{DeviceOpening, Dialling};
 use endings::{Failure, FaultOutput, Output, Status, Streams, tell_unless_unheard};
 use input_files::InputFiles;
 use record_file::Disk;
 use request_values::{MachineRequest, Request};
-use serial_line::DeviceOpening;
 use std::alloc::Global;
 use std::io::{Print, Read};
 use std::time::Clock;
-use stream_line::Dialling;
 use tape_commands::print_answer;
 
 /// Does a request in a system, which comes back, and answers the exit status, or tells why not, with the

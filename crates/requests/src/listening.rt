@@ -1,9 +1,9 @@
 //! Listening to a machine behind a load.
 ghost use Rattle.std.specs.Prelude.{◌≡◌, ◌<◌, OnOk, IfErr};
-ghost use Rattle.console_reach.specs.Listening.{copying, IsCopiedInPart};
+ghost use Rattle.console_lines.specs.Listening.{copying, IsCopiedInPart};
 ghost use Rattle.requests.specs.Listening.{quiet_time, seconds_of, IsHeardOut, IsListenedTo, IsListeningCut};
 
-use console_reach::{listen, silences_within};
+use console_lines::{listen, silences_within};
 use endings::Failure;
 use host_core::End;
 use load_devices::Line;

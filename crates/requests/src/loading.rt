@@ -1,7 +1,7 @@
 //! Loading a real machine.
 ghost use Rattle.std.specs.Prelude.{◌≡◌, ◌⊎◌, IfOk, IfErr};
 ghost use Rattle.std.specs.Mem.{FitsInMemory};
-ghost use Rattle.console_reach.specs.Listening.{copying};
+ghost use Rattle.console_lines.specs.Listening.{copying};
 ghost use Rattle.machine_load.specs.RecordDisk.{DiskAsked};
 ghost use Rattle.machine_load.specs.Scene.{ending};
 ghost use Rattle.requests.specs.Ending.{IsStopFailure, IsStopStatus};
@@ -16,7 +16,7 @@ use crate::host::Host;
 use crate::listening::listen_behind;
 use crate::planning::plan_tapes;
 use crate::system::System;
-use console_reach::Reach;
+use console_lines::{DeviceOpening, Dialling, Reach};
 use endings::{Failure, FaultOutput, Output, Status, Streams};
 use input_files::InputFiles;
 use load_devices::Line;
@@ -24,11 +24,9 @@ use load_engine::Stop;
 use machine_load::{Around, InMemory, Outcome, Surroundings, load};
 use record_file::{Disk, RecordFile};
 use request_values::Load;
-use serial_line::DeviceOpening;
 use std::alloc::Global;
 use std::io::{Print, Read, Write};
 use std::time::Clock;
-use stream_line::Dialling;
 use tape_image::Plan;
 
 /// Loads tapes, as one, into a real machine, in a system that comes back, and answers the exit status.

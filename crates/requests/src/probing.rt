@@ -7,17 +7,15 @@ ghost use Rattle.requests.specs.Asked.{AsksConsoleAlone};
 use crate::ending::{after_probe, probe_failure};
 use crate::errand::{Errand, run_at};
 use crate::system::System;
-use console_reach::Reach;
+use console_lines::{DeviceOpening, Dialling, Reach};
 use endings::{Failure, Status};
 use input_files::InputFiles;
 use machine_probe::{ProbeOptions, probe};
 use record_file::Disk;
 use request_values::Probe;
-use serial_line::DeviceOpening;
 use std::alloc::Global;
 use std::io::Write;
 use std::time::Clock;
-use stream_line::Dialling;
 
 /// Probes a console, in a system that comes back, and answers the exit status.
 ///

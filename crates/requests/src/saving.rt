@@ -8,17 +8,15 @@ use crate::ending::{after_save, look_failure};
 use crate::errand::{Errand, run_at};
 use crate::host::Host;
 use crate::system::System;
-use console_reach::Reach;
+use console_lines::{DeviceOpening, Dialling, Reach};
 use endings::{Failure, Status};
 use input_files::InputFiles;
 use machine_look::{NewFile, SaveOptions, save};
 use record_file::Disk;
 use request_values::Save;
-use serial_line::DeviceOpening;
 use std::alloc::Global;
 use std::io::{Print, Write};
 use std::time::Clock;
-use stream_line::Dialling;
 
 /// Saves words of a real machine as a tape in a new file, in a system that comes back, and answers the exit
 /// status.

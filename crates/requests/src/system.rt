@@ -1,13 +1,12 @@
 //! The system in which a request is done.
 
+use console_lines::{DeviceOpening, Devices, Dialling, TimedStream};
 use input_files::InputFiles;
 use record_file::{Disk, Locks};
-use serial_line::{DeviceOpening, Devices};
 use std::marker::Model;
 use std::net::Net;
 use std::rt::Files;
 use std::time::Clock;
-use stream_line::{Dialling, TimedStream};
 
 /// What a command at a machine works with.
 ///

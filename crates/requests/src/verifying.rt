@@ -9,17 +9,15 @@ use crate::errand::{Errand, run_at};
 use crate::host::Host;
 use crate::planning::plan_tapes;
 use crate::system::System;
-use console_reach::Reach;
+use console_lines::{DeviceOpening, Dialling, Reach};
 use endings::{Failure, FaultOutput, Output, Status, Streams};
 use input_files::InputFiles;
 use machine_look::verify;
 use record_file::Disk;
 use request_values::Look;
-use serial_line::DeviceOpening;
 use std::alloc::Global;
 use std::io::{Print, Read, Write};
 use std::time::Clock;
-use stream_line::Dialling;
 use tape_image::Plan;
 
 /// Looks whether a real machine holds what tapes, as one, say, in a system that comes back, and answers the exit

@@ -5,9 +5,9 @@
 
 use crate::notes::{Notes, Step, holding, note, note_opening, removing};
 use arrayvec::ArrayVec;
+use console_lines::Devices;
 use odt_machine::{LARGEST_WORDS, Odt, PLAIN_STYLE};
 use record_file::Locks;
-use serial_line::Devices;
 use std::alloc::{Allocator, Global};
 use std::cell::Cell;
 use std::fs::{File, Metadata, OpenFile, OpenOptions, TryLockError};

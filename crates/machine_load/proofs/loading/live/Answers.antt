@@ -1,6 +1,6 @@
 use Rattle.std.proofs.Common.{refl, rules, sym, subst, ◌∙◌, inl, inr, [], ◌∷◌}
 use Rattle.load_devices.specs.Told.{Gains}
-use Rattle.console_reach.specs.Reached.{line_told}
+use Rattle.console_lines.specs.Reached.{line_told}
 use Rattle.machine_load.specs.Scene.{around_of}
 use Rattle.machine_load.specs.LoadFault.{IsDrivingFault}
 use Rattle.machine_load.proofs.Faults.{not_begun}

@@ -1,5 +1,5 @@
 use Rattle.std.proofs.Common.{◌≡◌, ◌∙◌, ap, sym, subst, inl, option_map, rules}
-use Rattle.console_reach.specs.Reached.{line_told}
+use Rattle.console_lines.specs.Reached.{line_told}
 use Rattle.machine_load.specs.Driving.{IsLoadLived, IsLoadUntold}
 use Rattle.machine_load.specs.GivenBack.{GivesNothingSaid, IsGivenBack}
 use Rattle.machine_load.specs.Load.{finish_of}

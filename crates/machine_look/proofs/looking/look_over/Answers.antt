@@ -1,9 +1,9 @@
 use Rattle.std.proofs.Common.{sym, subst, refl, [], ◌∷◌, Some}
-use Rattle.console_reach.specs.Reached.{line_told}
+use Rattle.console_lines.specs.Reached.{line_told}
 use Rattle.load_devices.specs.Failures.{CountsFault}
 use Rattle.load_devices.specs.Told.{Gains}
 use Rattle.reading_engine.specs.Failing.{line_fault}
-use Rattle.stream_line.proofs.Asked.{in_vain}
+use Rattle.console_lines.proofs.Asked.{in_vain}
 use Rattle.machine_look.specs.Look.{IsLineOf}
 use Rattle.machine_look.proofs.Faults.{on_err}
 use Rattle.machine_look.proofs.Looks.{is_look, no_look}

@@ -1,8 +1,8 @@
 use Rattle.std.proofs.Common.{◌≡◌, IfOk, OnErr, [], ◌∷◌, inl, inr, refl, sym, subst}
-use Rattle.console_reach.specs.Reached.{line_told}
+use Rattle.console_lines.specs.Reached.{line_told}
 use Rattle.load_devices.specs.Told.{Gains}
-use Rattle.stream_line.specs.Dialling.{asked_once}
-use Rattle.stream_line.proofs.Asked.{in_vain}
+use Rattle.console_lines.specs.Dialling.{asked_once}
+use Rattle.console_lines.proofs.Asked.{in_vain}
 use Rattle.machine_probe.specs.declared.probe_fault.ProbeFault.TheVariants.{Connect, Memory}
 use Rattle.machine_probe.specs.Follow.{IsBrokenOff}
 use Rattle.machine_probe.specs.Probe.{IsReport}

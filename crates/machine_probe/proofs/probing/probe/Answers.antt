@@ -2,7 +2,7 @@ use Rattle.std.proofs.Common.{◌≡◌, inl, refl}
 use Rattle.std.proofs.KnownBytes.{Keeps-refl}
 use Rattle.machine_probe.specs.declared.probe_fault.ProbeFault.{ProbeFault}
 use Rattle.machine_probe.specs.declared.probe_fault.ProbeFault.TheVariants.{Memory, WriteOutput}
-use Rattle.console_reach.specs.Console.{console_told}
+use Rattle.console_lines.specs.Console.{console_told}
 use Rattle.machine_probe.specs.ProbeFault.{IsProbeFault, IsWanting, way_told}
 use Rattle.machine_probe.proofs.Faults.{error_is, no_value}
 use Rattle.machine_probe.proofs.Reports.{cut_of, over_of, some_of, unreported_is, wanting_is}

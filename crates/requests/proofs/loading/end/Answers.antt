@@ -1,6 +1,6 @@
 use Rattle.std.proofs.Common.{◌≡◌, IfOk, IfErr, Some, None, option_map, inl, inr, refl, ap, subst, sym, ⊎_elim}
 use Rattle.std.proofs.lemmas.Result.{IfOk-weaker, IfErr-weaker}
-use Rattle.console_reach.specs.Reached.{LineTold, line_told}
+use Rattle.console_lines.specs.Reached.{LineTold, line_told}
 use Rattle.machine_load.specs.GivenBack.{IsGivenBack}
 use Rattle.machine_load.specs.Load.{Ending, ending_of}
 use Rattle.requests.specs.Loading.{IsEnded, IsEndFailure, console_around, lines_and_out}

@@ -1,6 +1,6 @@
 use Rattle.std.proofs.Common.{inl, inr, subst, sym}
 use Rattle.std.proofs.lemmas.Result.{IfOk-weaker, IfErr-weaker}
-use Rattle.console_reach.specs.Reached.{line_told}
+use Rattle.console_lines.specs.Reached.{line_told}
 use Rattle.load_devices.specs.Told.{Gains}
 use Rattle.machine_load.specs.Called.{asked_by}
 use Rattle.machine_load.specs.Scene.{around_of, ending}

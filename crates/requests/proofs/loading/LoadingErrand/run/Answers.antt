@@ -1,6 +1,6 @@
 use Rattle.std.proofs.Common.{IfOk, IfErr, ap, refl, sym, subst, option_map}
 use Rattle.std.proofs.lemmas.Result.{IfOk-weaker, IfErr-weaker}
-use Rattle.console_reach.specs.Console.{ConsoleTold}
+use Rattle.console_lines.specs.Console.{ConsoleTold}
 use Rattle.machine_load.specs.RecordDisk.{RecordDisk}
 use Rattle.record_file.specs.Taking.{kind_of}
 use Rattle.requests.specs.Loading.{AsksDisk, IsPlanLoaded, IsPlanFailure}

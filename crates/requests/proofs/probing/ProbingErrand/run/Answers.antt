@@ -1,6 +1,6 @@
 use Rattle.std.proofs.Common.{inl, refl, subst}
 use Rattle.machine_probe.specs.ProbeFault.{IsProbeFault}
-use Rattle.stream_line.specs.Dialling.{Call}
+use Rattle.console_lines.specs.Dialling.{Call}
 use Rattle.requests.specs.Errand.{Told, told}
 use Rattle.requests.specs.Probing.{probe_options}
 use Rattle.requests.proofs.probing.ProbingErrand.run.Goals as goal

@@ -4,7 +4,7 @@ use Rattle.machine_look.specs.LookFault.{IsSaveFault}
 use Rattle.machine_look.specs.Save.{IsSavedAndReported}
 use Rattle.machine_look.specs.SaveDisk.{IsSavedOn, save_disk_asked_before}
 use Rattle.machine_look.specs.ShelfDisk.{ShelfDisk}
-use Rattle.stream_line.specs.Dialling.{Call}
+use Rattle.console_lines.specs.Dialling.{Call}
 use Rattle.requests.specs.Errand.{Told, told}
 use Rattle.requests.specs.Saving.{options_of, save_told_of}
 use Rattle.requests.proofs.Saved.{let_go_new, over_ok, over_err}

@@ -1,0 +1,6 @@
+pub mod Asked
+mod Copied
+mod Dropping
+mod FirstByte
+mod Looks
+pub mod Silences

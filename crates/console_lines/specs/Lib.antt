@@ -1,0 +1,9 @@
+pub mod Console
+pub mod DeviceValue
+pub mod Dialling
+pub mod Hearing
+pub mod Listening
+pub mod Looking
+pub mod Path
+pub mod Reached
+pub mod StreamLine

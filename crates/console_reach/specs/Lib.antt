@@ -1,4 +1,0 @@
-pub mod Console
-pub mod Listening
-pub mod Path
-pub mod Reached

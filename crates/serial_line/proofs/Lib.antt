@@ -1,2 +1,0 @@
-mod FirstByte
-mod Looks

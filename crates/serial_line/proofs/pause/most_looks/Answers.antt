@@ -1,5 +1,0 @@
-use Rattle.std.proofs.Common.{rules}
-use Rattle.serial_line.proofs.pause.most_looks.Goals as goal
-
-pub returns : goal.returns
-returns c = search rules

@@ -1,2 +1,0 @@
-pub mod DeviceValue
-pub mod Looking

@@ -1,3 +1,0 @@
-pub mod Asked
-mod Dropping
-pub mod Silences

@@ -1,3 +1,0 @@
-pub mod Dialling
-pub mod Hearing
-pub mod StreamLine

@@ -366,11 +366,21 @@ class Files(Looks):
         self.holds_in_room({"a.lda": as_tape(0o1000, [0])})
 
     def test_a_disk_that_is_full(self):
-        """The file may have 20 bytes, and the tape has 16; or 15, and then there is none."""
-        line = self.console_at(Console())
-        self.ends(self.look(line, "save a.lda LINE 1000 1000", file_size=20), 0, "sent 9 spent 0 read 1 of 1\nend Saved\n")
-        self.ends(self.look(line, "save b.lda LINE 1000 1000", file_size=15), 4, "", "ldaodt: cannot write b.lda\n")
-        self.holds_in_room({"a.lda": as_tape(0o1000, [0])})
+        """A file may have so many bytes. The tape has 16, and with fewer none is begun: nobody is called. A tape that is shorter
+        than its room, since memory ends, takes that of all its words."""
+        for size in range(18):
+            line = self.console_at(Console())
+            given = self.look(line, f"save {size}.lda LINE 1000 1000", file_size=size)
+            if size < 16:
+                self.ends(given, 4, "", f"ldaodt: cannot write {size}.lda\n")
+                self.is_so((line.connections, line.machine.typed), (0, ""))
+            else:
+                self.ends(given, 0, "sent 9 spent 0 read 1 of 1\nend Saved\n")
+        line = self.console_at(Console(words=64))
+        self.ends(self.look(line, "save a.lda LINE 176 200", file_size=17), 4, "", "ldaodt: cannot write a.lda\n")
+        self.is_so(line.machine.typed, "")
+        self.ends(self.look(line, "save a.lda LINE 176 200", file_size=18), 5, "sent 16 spent 0 read 1 of 2\nend NoWord 000200\n")
+        self.holds_in_room({"16.lda": as_tape(0o1000, [0]), "17.lda": as_tape(0o1000, [0]), "a.lda": as_tape(0o176, [0])})
 
 
 class Failures(Looks):

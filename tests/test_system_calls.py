@@ -144,26 +144,30 @@ class Between(Calls):
                 self.is_so((bytes_of(self.path("a.record")).decode(), line.machine.typed), (VERIFIED, ""))
 
     def test_a_tape_in_whose_place_another_file_stands(self):
-        """What a save has written comes to no name then, and that file is not taken away."""
+        """Where it comes once room was taken, nothing is typed; what a save has written comes to no name. That file is not taken
+        away."""
         for place in self.PLACES:
-            with self.subTest(place):
-                before = self.led_elsewhere("a.lda.ldaodt-new", "fsync", place)
-                given = self.ask(self.console_at(Console()), "save a.lda LINE 1000 1000", before)
-                self.ends(given, 4, "", "ldaodt: cannot write a.lda\n")
-                self.is_so(sorted(os.listdir(self.room)), ["a.lda.ldaodt-new", "first.lda"])
-                os.remove(self.path("a.lda.ldaodt-new"))
+            for behind, keys in (("fsync", 0), ("ftruncate", 9)):
+                with self.subTest(place, behind=behind):
+                    line = self.console_at(Console())
+                    given = self.ask(line, "save a.lda LINE 1000 1000", self.led_elsewhere("a.lda.ldaodt-new", behind, place))
+                    self.ends(given, 4, "", "ldaodt: cannot write a.lda\n")
+                    self.is_so((len(line.machine.typed), sorted(os.listdir(self.room))), (keys, ["a.lda.ldaodt-new", "first.lda"]))
+                    os.remove(self.path("a.lda.ldaodt-new"))
 
     def test_a_link_in_the_place_of_a_tape_that_was_written(self):
-        """It leads to the tape, and would itself come to the tape's name."""
-        def before(call):
-            if call.name == "fsync" and call.file() == "a.lda.ldaodt-new":
-                os.rename(self.path("a.lda.ldaodt-new"), self.path("b.lda"))
-                os.symlink("b.lda", self.path("a.lda.ldaodt-new"))
+        """It leads to the tape, and would itself come to the tape's name. Where it comes once room was taken, nothing is typed."""
+        for behind, keys in (("fsync", 0), ("ftruncate", 9)):
+            def before(call, behind=behind):
+                if call.name == behind and call.file() == "a.lda.ldaodt-new":
+                    os.rename(self.path("a.lda.ldaodt-new"), self.path("b.lda"))
+                    os.symlink("b.lda", self.path("a.lda.ldaodt-new"))
 
-        given = self.ask(self.console_at(Console()), "save a.lda LINE 1000 1000", before)
-        self.ends(given, 4, "", "ldaodt: cannot write a.lda\n")
-        self.assertFalse(os.path.lexists(self.path("a.lda")))
-        self.is_so(os.readlink(self.path("a.lda.ldaodt-new")), "b.lda")
+            line = self.console_at(Console())
+            self.ends(self.ask(line, "save a.lda LINE 1000 1000", before), 4, "", "ldaodt: cannot write a.lda\n")
+            self.assertFalse(os.path.lexists(self.path("a.lda")))
+            self.is_so((len(line.machine.typed), os.readlink(self.path("a.lda.ldaodt-new"))), (keys, "b.lda"))
+            os.remove(self.path("a.lda.ldaodt-new"))
 
     def test_a_record_that_somebody_makes_behind_a_link(self):
         """The link led nowhere a moment ago. What is there now is the record, and is read."""

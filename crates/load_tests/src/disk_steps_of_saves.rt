@@ -28,15 +28,19 @@ const TAPE: [u8; 16] = [
 const OTHERS: &[u8] = b"hello";
 
 // What is to be on the disk's list before the console is reached: nothing has the name, and a file beside is
-// made in its folder, and held.
+// made in its folder, held, and filled with as many bytes as the tape is to have, and opened once more.
 const RESERVED: &str = "- look at name d.lda\n\
     + open to read .\n\
     + open new d.lda.ldaodt-new\n\
-    + hold d.lda.ldaodt-new\n";
+    + hold d.lda.ldaodt-new\n\
+    + sync \0\0\0\0\0\0\0\0\0\0\0\0\0\0\0\0\n\
+    + open to write d.lda.ldaodt-new\n\
+    + find d.lda.ldaodt-new \0\0\0\0\0\0\0\0\0\0\0\0\0\0\0\0\n";
 
 // What is to follow, once the word was read: the tape is on the disk before it has its name, as a second one;
 // the first goes, and then the folder is on the disk. (`?` is the tape, which is no text.)
-const NAMED: &str = "+ sync ?\n\
+const NAMED: &str = "+ cut ?\n\
+    + sync ?\n\
     + find d.lda.ldaodt-new ?\n\
     + link d.lda.ldaodt-new d.lda\n\
     + find d.lda.ldaodt-new ?\n\
@@ -45,7 +49,8 @@ const NAMED: &str = "+ sync ?\n\
     - find d.lda.ldaodt-new ?\n";
 
 // The same where the folder can't be brought to the disk: the name goes again.
-const FOLDER_UNSYNCED: &str = "+ sync ?\n\
+const FOLDER_UNSYNCED: &str = "+ cut ?\n\
+    + sync ?\n\
     + find d.lda.ldaodt-new ?\n\
     + link d.lda.ldaodt-new d.lda\n\
     + find d.lda.ldaodt-new ?\n\
@@ -56,7 +61,8 @@ const FOLDER_UNSYNCED: &str = "+ sync ?\n\
     - find d.lda.ldaodt-new ?\n";
 
 // Where the file system knows no second names, the name is looked for once more, and the file renamed.
-const RENAMED: &str = "+ sync ?\n\
+const RENAMED: &str = "+ cut ?\n\
+    + sync ?\n\
     + find d.lda.ldaodt-new ?\n\
     - link d.lda.ldaodt-new d.lda\n\
     - look at name d.lda\n\
@@ -66,14 +72,16 @@ const RENAMED: &str = "+ sync ?\n\
     - find d.lda.ldaodt-new ?\n";
 
 // Where something has the name by then, nothing is renamed.
-const TAKEN: &str = "+ sync ?\n\
+const TAKEN: &str = "+ cut ?\n\
+    + sync ?\n\
     + find d.lda.ldaodt-new ?\n\
     - link d.lda.ldaodt-new d.lda\n\
     + find d.lda.ldaodt-new ?\n\
     + remove d.lda.ldaodt-new\n";
 
 // Where that can't be found out, nothing is renamed either.
-const UNKNOWN: &str = "+ sync ?\n\
+const UNKNOWN: &str = "+ cut ?\n\
+    + sync ?\n\
     + find d.lda.ldaodt-new ?\n\
     - link d.lda.ldaodt-new d.lda\n\
     - look at name d.lda\n\
@@ -83,14 +91,29 @@ const UNKNOWN: &str = "+ sync ?\n\
 // What a file system answers that gives no second names: one says so, another that it is not permitted, and some
 // have other words for it.
 const UNLINKED: [FailingSteps; 3] = [
-    &[(6, ErrorKind::Unsupported)],
-    &[(6, ErrorKind::PermissionDenied)],
-    &[(6, ErrorKind::Other)],
+    &[(10, ErrorKind::Unsupported)],
+    &[(10, ErrorKind::PermissionDenied)],
+    &[(10, ErrorKind::Other)],
 ];
 
 // A tape that is not on the disk gets no name.
-const UNSYNCED: &str = "- sync ?\n\
+const UNSYNCED: &str = "+ cut ?\n\
+    - sync ?\n\
     + find d.lda.ldaodt-new ?\n\
+    + remove d.lda.ldaodt-new\n";
+
+// Nor does one behind which there are bytes that only took room.
+const UNCUT: &str = "- cut ?\n\
+    + find d.lda.ldaodt-new ?\n\
+    + remove d.lda.ldaodt-new\n";
+
+// Where the room can't be taken, the file beside goes, and nothing else is asked.
+const NO_ROOM: &str = "- look at name d.lda\n\
+    + open to read .\n\
+    + open new d.lda.ldaodt-new\n\
+    + hold d.lda.ldaodt-new\n\
+    - sync \0\0\0\0\0\0\0\0\0\0\0\0\0\0\0\0\n\
+    + find d.lda.ldaodt-new \0\0\0\0\0\0\0\0\0\0\0\0\0\0\0\0\n\
     + remove d.lda.ldaodt-new\n";
 
 // A file beside to which nothing was written goes.
@@ -198,14 +221,20 @@ fn a_tape_is_on_the_disk_before_its_name(rt: HostRuntime) {
     assert!(rt; is_saved(&rt, AMPLE, whole, (RESERVED, NAMED)), "named");
     assert!(rt; holds(&rt, Some(&TAPE)), "named");
     clear(&rt);
-    let unsynced = refusing(&[(4, ErrorKind::Other)]);
+    let unsynced = refusing(&[(8, ErrorKind::Other)]);
     let fault = Err(LookFault::WriteTape);
     assert!(rt;
         is_saved(&rt, unsynced, fault, (RESERVED, UNSYNCED)),
         "file"
     );
     assert!(rt; holds(&rt, None), "file");
-    let folder = refusing(&[(9, ErrorKind::Other)]);
+    let uncut = refusing(&[(7, ErrorKind::Other)]);
+    assert!(rt; is_saved(&rt, uncut, fault, (RESERVED, UNCUT)), "cut");
+    assert!(rt; holds(&rt, None), "cut");
+    let no_room = refusing(&[(4, ErrorKind::StorageFull)]);
+    assert!(rt; is_saved(&rt, no_room, fault, (NO_ROOM, "")), "room");
+    assert!(rt; holds(&rt, None), "room");
+    let folder = refusing(&[(13, ErrorKind::Other)]);
     assert!(rt;
         is_saved(&rt, folder, fault, (RESERVED, FOLDER_UNSYNCED)),
         "folder"
@@ -225,7 +254,7 @@ fn a_tape_is_renamed_where_no_second_name_can_be(rt: HostRuntime) {
         assert!(rt; holds(&rt, Some(&TAPE)), "renamed {number}");
     }
     clear(&rt);
-    let taken = refusing(&[(6, ErrorKind::AlreadyExists)]);
+    let taken = refusing(&[(10, ErrorKind::AlreadyExists)]);
     let fault = Err(LookFault::IsThere);
     assert!(rt; is_saved(&rt, taken, fault, (RESERVED, TAKEN)), "taken");
     assert!(rt; holds(&rt, None), "taken");
@@ -241,7 +270,7 @@ fn a_name_that_can_not_be_looked_for_is_not_taken(rt: HostRuntime) {
         "at first"
     );
     assert!(rt; holds(&rt, None), "at first");
-    let at_last = refusing(&[(6, ErrorKind::Unsupported), (7, ErrorKind::Other)]);
+    let at_last = refusing(&[(10, ErrorKind::Unsupported), (11, ErrorKind::Other)]);
     assert!(rt;
         is_saved(&rt, at_last, fault, (RESERVED, UNKNOWN)),
         "at last"

@@ -12,7 +12,7 @@ use Rattle.machine_look.specs.declared.shelf.ShelfFault.{ShelfFault}
 use Rattle.machine_look.specs.declared.shelf.ShelfFault.TheVariants as why
 use Rattle.machine_look.specs.LookFault.{IsKeepFault, IsSaveFault, fault_of_shelf}
 use Rattle.machine_look.specs.Save.{IsRead, SaveTold, puts, tape_to_save}
-use Rattle.machine_look.specs.SavedTape.{saved_tape}
+use Rattle.machine_look.specs.SavedTape.{room_for, saved_tape}
 use Rattle.machine_look.specs.Shelf.{Step, Reserve, Put, NotPut, reserve_step, put_step, IsPutFault}
 
 -- ---- what is done on a shelf, one step after another
@@ -27,7 +27,7 @@ puts_some from (n ∷ numbers) start some = refl
 
 -- ---- how a save fails
 
-pub not_reserved : (options : SaveOptions) (before after : SaveTold) (fault : ShelfFault) → Gains before.steps after.steps (reserve_step (Err fault) ∷ [])
+pub not_reserved : (options : SaveOptions) (before after : SaveTold) (fault : ShelfFault) → Gains before.steps after.steps (reserve_step (room_for options.range) (Err fault) ∷ [])
     → after.asked ≡ before.asked → after.lines ≡ before.lines → Keeps before.out after.out → IsSaveFault options before after (fault_of_shelf fault)
 not_reserved options before after why.IsThere step unasked unlined same = inl (record { refused = step; not_asked = unasked; no_line = unlined; nothing_reported = same })
 not_reserved options before after why.Write step unasked unlined same = inl (record { refused = step; not_asked = unasked; no_line = unlined; nothing_reported = same })
@@ -40,7 +40,7 @@ not_put tape shelf shelf' text why.IsThere is can step = subst (λ t. Gains shel
 not_put tape shelf shelf' text why.Write is can step = subst (λ t. Gains shelf shelf' (NotPut t why.Write ∷ [])) is step
 not_put tape shelf shelf' text why.Memory is can step = absurd can
 
-pub not_kept : (options : SaveOptions) (before after : SaveTold) (mid : Option (List Step)) (fault : LookFault) → Gains before.steps mid (Reserve ∷ [])
+pub not_kept : (options : SaveOptions) (before after : SaveTold) (mid : Option (List Step)) (fault : LookFault) → Gains before.steps mid (Reserve (room_for options.range) ∷ [])
     → (read : IsRead options before after) → IsKeepFault (tape_to_save options read.last.values) mid after.steps fault → Keeps before.out after.out → IsSaveFault options before after fault
 not_kept options before after mid IsThere reserved read fails same =
     inr (record { read = read; refused = gains_join before.steps mid after.steps _ _ reserved fails; nothing_reported = same })

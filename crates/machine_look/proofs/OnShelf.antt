@@ -1,18 +1,18 @@
 -- What the disk of a shelf was asked, by what came of a call.
-use Rattle.std.proofs.Common.{◌≡◌, ℕ, ◌-◌, List, [], ◌∷◌, ◌++◌, length, take, Bool, true, false, Option, Some, None, Result, Ok, Err, IsErrAnd, refl, sym, subst, ap, arith, inl, inr, OnOk, eqb}
+use Rattle.std.proofs.Common.{◌≡◌, ℕ, ◌-◌, List, [], ◌∷◌, ◌++◌, length, take, Bool, true, false, Option, Some, None, Result, Ok, Err, IsErrAnd, refl, sym, subst, ap, ◌∙◌, arith, inl, inr, OnOk, eqb}
 use Rattle.std.proofs.lemmas.Bool.{eqb-true}
 use Rattle.std.specs.Bool.{OnTrue}
 use Rattle.std.specs.Io.KnownBytes.{Appends}
-use Rattle.std.specs.Prelude.{OnSome, option_map, is_err, ⊤}
+use Rattle.std.specs.Prelude.{OnSome, option_map, is_err, replicate, IfNone, ⊤}
 use Rattle.std.specs.String.{string_bytes}
 use Rattle.record_file.specs.Beginning.{IsMakingHeld, new_name}
 use Rattle.load_devices.specs.Told.{HasAsked, Tells}
-use Rattle.record_file.specs.DiskStep.{DiskStep, Did, Failed, answered, step_by, LookAtName, FindFile, Open, Link, Rename, Remove, SyncFile}
+use Rattle.record_file.specs.DiskStep.{DiskStep, Did, Failed, answered, step_by, LookAtName, FindFile, Open, Link, Rename, Remove, Cut, SyncFile}
 use Rattle.record_file.specs.Folder.{IsFolderOf}
 use Rattle.record_file.specs.declared.disk.Access.TheVariants.{ReadOnly}
 use Rattle.load_devices.proofs.Told.{tells_join, tells_none}
 use Rattle.machine_look.specs.Beside.{room_of, IsFolderOpened}
-use Rattle.machine_look.specs.ShelfDisk.{Room, ShelfDisk, ShelfAsked, HasNoRoom, HasRoomIn, IsPutOn, IsPut, Written, IsNoFileName, IsSearch, Free, IsNotReserved, NotMade, IsReserved, Reserved, IsGone, Goes, IsOnDisk, Synced, IsNaming, Renamed, NotRenamed, IsSettling, IsNamed, Named, NotNamed, IsClosed, IsReserveAnswered}
+use Rattle.machine_look.specs.ShelfDisk.{Room, ShelfDisk, ShelfAsked, HasNoRoom, HasRoomIn, IsPutOn, IsPut, Written, IsNoFileName, IsSearch, Free, IsNotReserved, NotMade, IsReserved, Reserved, IsTaking, IsTakingHeld, Unmade, Taken, NotTaken, IsGone, Goes, IsOnDisk, Synced, IsNaming, Renamed, NotRenamed, IsSettling, IsNamed, Named, NotNamed, IsClosed, IsReserveAnswered}
 use Rattle.machine_look.specs.declared.new_file.Beside.{Beside}
 use Rattle.machine_look.specs.declared.shelf.ShelfFault.{ShelfFault}
 use Rattle.machine_look.specs.declared.shelf.ShelfFault.TheVariants.{Write}
@@ -62,31 +62,65 @@ not_renamed own name steps Free = NotRenamed
 
 -- ---- room
 
-pub reserved : (name folder own : List ℕ) (a b c : Option (List DiskStep)) → own ≡ new_name name → Tells a b (Did (Open ReadOnly folder) ∷ [])
-    → HasAsked b c (IsMakingHeld own true) → HasAsked a c (λ steps. IsReserved name folder (Failed (LookAtName name) ∷ steps))
-reserved name folder own a b c is opened making = (
+pub if_none : {A : Type 0} (found : Option A) (X : Type 0) → X → IfNone found X
+if_none None X x = x
+if_none (Some value) X x = tt
+
+-- a file that was filled holds just what it was filled with, where the disk still tells
+pub filled_with : (before after : Option (List ℕ)) (zeros : List ℕ) (steps : List DiskStep) (a b : Option (List DiskStep)) → OnSome a (before ≡ Some [])
+    → Tells a b steps → Appends before after zeros → OnSome b (after ≡ Some zeros)
+filled_with before after zeros steps None None fresh t g = tt
+filled_with before after zeros steps None (Some told) fresh t g = absurd t
+filled_with before after zeros steps (Some items) None fresh t g = tt
+filled_with before after zeros steps (Some items) (Some told) fresh t g = held before after zeros fresh g
+  where
+    held : (before after : Option (List ℕ)) (zeros : List ℕ) → before ≡ Some [] → Appends before after zeros → after ≡ Some zeros
+    held None after zeros is g = absurd (cc is)
+    held (Some xs) None zeros is g = absurd g
+    held (Some xs) (Some ys) zeros is g = let none : xs ≡ [] = cc is in ap (λ (list : List ℕ). Some list) (g ∙ ap (λ list. list ++ zeros) none)
+
+pub taken_held : (own : List ℕ) (filled : Option (List ℕ)) (a b c : Option (List DiskStep)) → HasAsked a b (IsMakingHeld own true) → HasAsked b c (IsTaking own filled true)
+    → HasAsked a c (IsTakingHeld own filled true)
+taken_held own filled a b c making taking =
+    (making.0 ++ taking.0, tells_join a b c making.0 taking.0 making.1 taking.1, Taken making.0 taking.0 making.2 taking.2)
+
+pub not_taken : (own : List ℕ) (filled : Option (List ℕ)) (a b c d : Option (List DiskStep)) → HasAsked a b (IsMakingHeld own true)
+    → HasAsked b c (IsTaking own filled false) → HasAsked c d (IsGone own filled) → HasAsked a d (IsTakingHeld own filled false)
+not_taken own filled a b c d making taking going = (
+  making.0 ++ (taking.0 ++ going.0),
+  tells_join a b d making.0 (taking.0 ++ going.0) making.1 (tells_join b c d taking.0 going.0 taking.1 going.1),
+  NotTaken making.0 taking.0 going.0 making.2 taking.2 going.2,
+)
+
+pub not_made_held : (own : List ℕ) (a b : Option (List DiskStep)) → HasAsked a b (IsMakingHeld own false)
+    → (filled : Option (List ℕ)) × HasAsked a b (IsTakingHeld own filled false)
+not_made_held own a b making = (None, (making.0, making.1, Unmade making.0 making.2))
+
+pub reserved : (name folder own : List ℕ) (filled : Option (List ℕ)) (a b c : Option (List DiskStep)) → own ≡ new_name name → Tells a b (Did (Open ReadOnly folder) ∷ [])
+    → HasAsked b c (IsTakingHeld own filled true) → HasAsked a c (λ steps. IsReserved name folder filled (Failed (LookAtName name) ∷ steps))
+reserved name folder own filled a b c is opened making = (
   Did (Open ReadOnly folder) ∷ making.0,
   tells_join a b c (Did (Open ReadOnly folder) ∷ []) making.0 opened making.1,
-  Reserved making.0 (subst (λ n. IsMakingHeld n true making.0) is making.2),
+  Reserved making.0 (subst (λ n. IsTakingHeld n filled true making.0) is making.2),
 )
 
 pub not_made : (name folder own : List ℕ) (a b c : Option (List DiskStep)) → IsFolderOf name folder → own ≡ new_name name
-    → Tells a b (Did (Open ReadOnly folder) ∷ []) → HasAsked b c (IsMakingHeld own false)
+    → Tells a b (Did (Open ReadOnly folder) ∷ []) → (filled : Option (List ℕ)) × HasAsked b c (IsTakingHeld own filled false)
     → HasAsked a c (λ steps. IsNotReserved name Write (Failed (LookAtName name) ∷ steps))
-not_made name folder own a b c of is opened making = (
+not_made name folder own a b c of is opened made = let making = made.1 in (
   Did (Open ReadOnly folder) ∷ making.0,
   tells_join a b c (Did (Open ReadOnly folder) ∷ []) making.0 opened making.1,
-  NotMade folder making.0 of (subst (λ n. IsMakingHeld n false making.0) is making.2),
+  NotMade folder made.0 making.0 of (subst (λ n. IsTakingHeld n made.0 false making.0) is making.2),
 )
 
 -- nothing had the name, and then the room was made, or not
-then_reserved : (name folder : List ℕ) (a b c : Option (List DiskStep)) → HasAsked a b (IsSearch name None)
-    → HasAsked b c (λ steps. IsReserved name folder (Failed (LookAtName name) ∷ steps)) → HasAsked a c (IsReserved name folder)
-then_reserved name folder a b c search making =
-    (search.0 ++ making.0, tells_join a b c search.0 making.0 search.1 making.1, behind name folder search.0 making.0 search.2 making.2) where
-      behind : (name folder : List ℕ) (front back : List DiskStep) → IsSearch name None front → IsReserved name folder (Failed (LookAtName name) ∷ back)
-          → IsReserved name folder (front ++ back)
-      behind name folder front back Free r = r
+then_reserved : (name folder : List ℕ) (filled : Option (List ℕ)) (a b c : Option (List DiskStep)) → HasAsked a b (IsSearch name None)
+    → HasAsked b c (λ steps. IsReserved name folder filled (Failed (LookAtName name) ∷ steps)) → HasAsked a c (IsReserved name folder filled)
+then_reserved name folder filled a b c search making =
+    (search.0 ++ making.0, tells_join a b c search.0 making.0 search.1 making.1, behind name folder filled search.0 making.0 search.2 making.2) where
+      behind : (name folder : List ℕ) (filled : Option (List ℕ)) (front back : List DiskStep) → IsSearch name None front
+          → IsReserved name folder filled (Failed (LookAtName name) ∷ back) → IsReserved name folder filled (front ++ back)
+      behind name folder filled front back Free r = r
 
 pub then_not_reserved : (name : List ℕ) (fault : ShelfFault) (a b c : Option (List DiskStep)) → HasAsked a b (IsSearch name None)
     → HasAsked b c (λ steps. IsNotReserved name fault (Failed (LookAtName name) ∷ steps)) → HasAsked a c (IsNotReserved name fault)
@@ -101,18 +135,18 @@ pub no_room_on : (name : List ℕ) (room : Option Room) (fault : ShelfFault) (a 
     → ShelfAsked (Some (record { asked = a; name = name; room = room })) (Some (record { asked = b; name = name; room = room })) (HasNoRoom fault)
 no_room_on name room fault a b h = (h.0, h.1, record { refused = h.2; room = refl; name = refl })
 
-pub refused_on : (opened : List ℕ → Type 0) (a b : Option ShelfDisk) (result : Result ⊤ ShelfFault) (fault : ShelfFault) → IsErrAnd result (λ e. e ≡ fault)
-    → ShelfAsked a b (HasNoRoom fault) → IsReserveAnswered opened a b result
-refused_on opened a b (Ok done) fault is h = absurd is
-refused_on opened a b (Err error) fault is h = subst (λ f. ShelfAsked a b (HasNoRoom f)) (sym is) h
+pub refused_on : (opened : List ℕ → Type 0) (length : ℕ) (a b : Option ShelfDisk) (result : Result ⊤ ShelfFault) (fault : ShelfFault) → IsErrAnd result (λ e. e ≡ fault)
+    → ShelfAsked a b (HasNoRoom fault) → IsReserveAnswered opened length a b result
+refused_on opened length a b (Ok done) fault is h = absurd is
+refused_on opened length a b (Err error) fault is h = subst (λ f. ShelfAsked a b (HasNoRoom f)) (sym is) h
 
-pub has_room_on : {T : Type 0} (opened : T → List ℕ → Type 0) (contents : T → Option (List ℕ)) (name : List ℕ) (room : Option Room) (beside : Beside T) (a b c : Option (List DiskStep))
-    → string_bytes beside.name ≡ new_name name → OnSome c (contents beside.file ≡ Some []) → HasAsked a b (IsSearch name None)
-    → (folder : List ℕ) × opened beside.folder folder × IsFolderOf name folder × HasAsked b c (λ steps. IsReserved name folder (Failed (LookAtName name) ∷ steps))
+pub has_room_on : {T : Type 0} (opened : T → List ℕ → Type 0) (length : ℕ) (contents : T → Option (List ℕ)) (name : List ℕ) (room : Option Room) (beside : Beside T) (a b c : Option (List DiskStep))
+    → string_bytes beside.name ≡ new_name name → OnSome c (contents beside.file ≡ Some []) → OnSome c (contents beside.held ≡ Some (replicate length 0)) → HasAsked a b (IsSearch name None)
+    → (folder : List ℕ) × opened beside.folder folder × IsFolderOf name folder × HasAsked b c (λ steps. IsReserved name folder (contents beside.held) (Failed (LookAtName name) ∷ steps))
     → ShelfAsked (Some (record { asked = a; name = name; room = room })) (Some (record { asked = c; name = name; room = Some (room_of contents beside) }))
-    (HasRoomIn (IsFolderOpened opened (Some beside)))
-has_room_on opened contents name room beside a b c own fresh search made =
-    let h = then_reserved name made.0 a b c search made.3 in
+    (HasRoomIn (IsFolderOpened opened (Some beside)) length)
+has_room_on opened length contents name room beside a b c own fresh filled search made =
+    let h = then_reserved name made.0 (contents beside.held) a b c search made.3 in
     let room_named : List ℕ → Option Room = λ n. Some (record { name = n; written = contents beside.file }) in (
       h.0,
       h.1,
@@ -121,6 +155,8 @@ has_room_on opened contents name room beside a b c own fresh search made =
         made.1,
         record {
           folder_of = made.2;
+          filled = contents beside.held;
+          taken = filled;
           reserved = h.2;
           written = contents beside.file;
           room = ap room_named own;
@@ -133,10 +169,10 @@ has_room_on opened contents name room beside a b c own fresh search made =
 -- ---- the tape
 
 pub on_disk : (name name' : List ℕ) (written : Option (List ℕ)) (found : Bool) (a b c : Option (List DiskStep)) → name ≡ name'
-    → Tells a b (Did (SyncFile written) ∷ []) → Tells b c (step_by (FindFile name written) found ∷ []) → HasAsked a c (IsOnDisk name' written found)
+    → Tells a b (Did (Cut written) ∷ Did (SyncFile written) ∷ []) → Tells b c (step_by (FindFile name written) found ∷ []) → HasAsked a c (IsOnDisk name' written found)
 on_disk name name' written found a b c is synced looked = subst (λ n. HasAsked a c (IsOnDisk n written found)) is (
-  Did (SyncFile written) ∷ step_by (FindFile name written) found ∷ [],
-  tells_join a b c (Did (SyncFile written) ∷ []) (step_by (FindFile name written) found ∷ []) synced looked,
+  Did (Cut written) ∷ Did (SyncFile written) ∷ step_by (FindFile name written) found ∷ [],
+  tells_join a b c (Did (Cut written) ∷ Did (SyncFile written) ∷ []) (step_by (FindFile name written) found ∷ []) synced looked,
   Synced found,
 )
 

@@ -1,5 +1,5 @@
 -- The blocks of what was read: what they hold, and that a tape may have them.
-use Rattle.std.proofs.Common.{◌≡◌, ℕ, zero, suc, ◌+◌, ◌*◌, ◌/◌, ◌%◌, ◌-◌, ◌^◌, ◌<◌, ◌≤◌, List, [], ◌∷◌, ◌++◌, length, min, take, drop, None, Result, Ok, Err, IfErr, IsOk, IsSomeAnd, refl, arith, ap, sym, ◌∙◌, inl, inr, length-drop, subst}
+use Rattle.std.proofs.Common.{◌≡◌, ℕ, zero, suc, ◌+◌, ◌*◌, ◌/◌, ◌%◌, ◌-◌, ◌^◌, ◌<◌, ◌≤◌, List, [], ◌∷◌, ◌++◌, length, min, take, drop, None, Result, Ok, Err, IfErr, IsOk, IsSomeAnd, refl, arith, ap, sym, ◌∙◌, inl, inr, length-append, length-drop, subst}
 use Rattle.std.specs.Prelude.{All, slice_get, sum_by}
 use Rattle.std.specs.List.{flat_map}
 use Rattle.std.specs.Option.{option_or}
@@ -11,13 +11,14 @@ use Rattle.std.proofs.lemmas.List.Sums.{sum_by_push}
 use Rattle.std.proofs.lemmas.List.Elements.{All-nil, All-cons, All-push, All-head, All-tail, All-take, All-drop}
 use Rattle.tape_values.specs.Block.{BlockValue, IsBlock, HoldsBytes, block_at, low_first, top}
 use Rattle.tape_values.specs.BadTape.{IsBadTape}
-use Rattle.tape_values.specs.Tape.{written_length, tape_limit}
+use Rattle.tape_values.specs.Tape.{plain_text, written_length, tape_limit}
+use Rattle.tape_values.proofs.Plain.{length-plain_text}
 use Rattle.tape_values.specs.declared.tape.BadTape.{BadTape}
 use Rattle.tape_values.specs.declared.tape.BadTape.TheVariants.{EmptyBlock, BlockPastTop, TooMuch}
 use Rattle.tape_image.specs.Image.{byte_in, byte_at}
 use Rattle.tape_image.proofs.Blocks.{byte_in-before, byte_in-behind}
 use Rattle.tape_image.proofs.Laying.{byte_at-append, byte_in-append}
-use Rattle.machine_look.specs.SavedTape.{saved_block, saved_blocks}
+use Rattle.machine_look.specs.SavedTape.{saved_block, saved_blocks, saved_tape, tape_length}
 
 -- ---- parts of a list
 
@@ -136,6 +137,22 @@ all_framed from numbers (suc n) =
 
 pub few_enough : (from : ℕ) (numbers : List ℕ) → from + 2 * length numbers ≤ top → written_length (saved_blocks from numbers ((length numbers + 255) / 256)) ≤ tape_limit
 few_enough from numbers low = omega (arith, all_framed from numbers ((length numbers + 255) / 256))
+
+-- the blocks so far have the bytes of the numbers so far, and their frames
+framed_numbers : (from : ℕ) (numbers : List ℕ) (n : ℕ) → sum_by framed_length (saved_blocks from numbers n) ≡ 7 * n + 2 * length (take (256 * n) numbers)
+framed_numbers from numbers zero = ap (sum_by framed_length) (no_blocks from numbers)
+framed_numbers from numbers (suc n) =
+    let more : length (take (256 * suc n) numbers) ≡ length (take (256 * n) numbers) + length (take 256 (drop (256 * n) numbers)) =
+    (let same : 256 * suc n ≡ 256 * n + 256 = omega arith in ap (λ k. length (take k numbers)) same)
+    ∙ (ap length (take-add (256 * n) 256 numbers) ∙ length-append (take (256 * n) numbers) (take 256 (drop (256 * n) numbers))) in
+    subst (λ blocks. sum_by framed_length blocks ≡ 7 * suc n + 2 * length (take (256 * suc n) numbers)) (sym (one_more from numbers n))
+    (omega (arith, sum_by_push framed_length (saved_blocks from numbers n) (saved_block from numbers n), framed_numbers from numbers n, bytes_length (take 256 (drop (256 * n) numbers)), more))
+
+-- as many numbers as there are words, or fewer, need no more room than that many words
+pub room_enough : (from : ℕ) (numbers : List ℕ) (start words : ℕ) → length numbers ≤ words → length (plain_text (saved_tape from numbers start)) ≤ tape_length words
+room_enough from numbers start words few =
+    let blocks : ℕ = (length numbers + 255) / 256 in
+    omega (arith, few, length-plain_text (saved_tape from numbers start), framed_numbers from numbers blocks, length_take_no_more (256 * blocks) numbers)
 
 -- ---- so nothing refuses them
 

@@ -5,6 +5,7 @@ use Rattle.std.proofs.lemmas.List.{get_or_append_left}
 use Rattle.std.proofs.Math.Seq.{get_or-append_seam}
 use Rattle.tape_image.specs.Word.{whole_word}
 use Rattle.tape_values.specs.Block.{top}
+use Rattle.tape_values.specs.Tape.{plain_text}
 use Rattle.odt_machine.specs.Machine.{word_at}
 use Rattle.reading_core.specs.Addresses.{IsRange, addresses_from, addresses_between}
 use Rattle.reading_core.specs.declared.phase.End.TheVariants.{Complete}
@@ -16,8 +17,9 @@ use Rattle.reading_engine.specs.declared.stop.Stop.{Stop}
 use Rattle.machine_look.specs.declared.saving.SaveOptions.{SaveOptions}
 use Rattle.machine_look.specs.Look.{AsksOnce, IsLook, OverHonestLine}
 use Rattle.machine_look.specs.Save.{IsMemoryAt, IsRead, SaveTold, addresses_in, tape_to_save}
-use Rattle.machine_look.specs.SavedTape.{HoldsWhatWasRead, words_read, StandFrom}
+use Rattle.machine_look.specs.SavedTape.{HoldsWhatWasRead, room_for, words_read, StandFrom}
 use Rattle.machine_look.proofs.Looks.{is_true}
+use Rattle.machine_look.proofs.SavedBlocks.{room_enough}
 use Rattle.machine_look.proofs.SavedWords.{holds_what_was_read}
 
 -- ---- the addresses of a range
@@ -70,6 +72,14 @@ holds_read options last stop range begins look =
     let low : from + 2 * length last.values ≤ top = omega (arith, few, range_length from to, range.from_is.even, range.to_is.even, range.to_is.below, range.order) in
     holds_what_was_read from (addresses_between from to) last.values options.start range.from_is.even low look.kept.numbers begins (range_stands from to) few
 
+-- the tape of what was read needs no more room than the tape of the range
+pub fits_room : (options : SaveOptions) (last : Reader) (stop : Stop) {lines lines' : Option (List LineTold)} → IsLook (begun (addresses_in options.range) [] options.patience) last stop lines lines'
+    → length (plain_text (tape_to_save options last.values)) ≤ room_for options.range
+fits_room options last stop look =
+    let from = options.range.from in
+    let to = options.range.to in
+    room_enough from last.values options.start ((to - from) / 2 + 1) (omega (arith, few_read options last stop look, range_length from to))
+
 pub memory_read : (options : SaveOptions) (last : Reader) (stop : Stop) {lines lines' : Option (List LineTold)} → IsRange options.range.from options.range.to → options.start < 65536
     → (look : IsLook (begun (addresses_in options.range) [] options.patience) last stop lines lines')
     → OverHonestLine look (IsMemoryAt (take (length last.values) (addresses_in options.range)) (tape_to_save options last.values))
@@ -96,6 +106,7 @@ read_of options before after first last stop range begins is look asks =
       look = moved;
       asked = asked_for_range options before after first is asks;
       holds = holds_read options last stop range begins moved;
+      fits = fits_room options last stop moved;
       is_memory = memory_read options last stop range begins moved;
     }
 

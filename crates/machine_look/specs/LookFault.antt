@@ -14,6 +14,7 @@ use Rattle.machine_look.specs.declared.shelf.ShelfFault.{ShelfFault}
 use Rattle.machine_look.specs.declared.shelf.ShelfFault.TheVariants as shelf_fault
 use Rattle.console_lines.specs.Console.{ConsoleTold}
 use Rattle.machine_look.specs.Save.{IsRead, IsUnput, IsSavedUnreported, SaveTold}
+use Rattle.machine_look.specs.SavedTape.{room_for}
 use Rattle.machine_look.specs.Shelf.{Step, Reserve, NotReserved, NotPut}
 use Rattle.machine_look.specs.Verify.{IsCutShort}
 
@@ -34,21 +35,21 @@ IsVerifyFault plan patience before after Memory = (after.asked ≡ before.asked)
 IsVerifyFault plan patience before after other = ⊥
 
 -- room for the tape was refused, and nothing else was done
-pub record IsSaveNotBegun (fault : ShelfFault) (before after : SaveTold) : Type 0 where
-  pub refused : Gains before.steps after.steps (NotReserved fault ∷ [])
+pub record IsSaveNotBegun (fault : ShelfFault) (options : SaveOptions) (before after : SaveTold) : Type 0 where
+  pub refused : Gains before.steps after.steps (NotReserved (room_for options.range) fault ∷ [])
   pub not_asked : after.asked ≡ before.asked
   pub no_line : after.lines ≡ before.lines
   pub nothing_reported : Keeps before.out after.out
 
 -- memory was wanting before the console was asked for: for the host, or for the shelf
-pub record IsWantingBefore (before after : SaveTold) : Type 0 where
-  pub nothing_put : Gains before.steps after.steps [] ⊎ Gains before.steps after.steps (NotReserved shelf_fault.Memory ∷ [])
+pub record IsWantingBefore (options : SaveOptions) (before after : SaveTold) : Type 0 where
+  pub nothing_put : Gains before.steps after.steps [] ⊎ Gains before.steps after.steps (NotReserved (room_for options.range) shelf_fault.Memory ∷ [])
   pub not_asked : after.asked ≡ before.asked
   pub no_line : after.lines ≡ before.lines
 
 -- or behind the look: for the tape
 pub record IsWantingBehind (options : SaveOptions) (before after : SaveTold) : Type 0 where
-  pub nothing_put : Gains before.steps after.steps (Reserve ∷ [])
+  pub nothing_put : Gains before.steps after.steps (Reserve (room_for options.range) ∷ [])
   pub read : IsRead options before after
 
 -- a tape is not put on a shelf: that takes none, or memory is wanting before
@@ -61,10 +62,10 @@ IsKeepFault tape shelf shelf' other = ⊥
 -- how `save` comes to nothing: a file that is there or can't be made before the console is reached, a console that can't be reached and
 -- want of memory before there is a tape, a tape that can't be put there with nothing reported, a report that can't be written whole last
 abbrev pub IsSaveFault : SaveOptions → SaveTold → SaveTold → LookFault → Type 0
-IsSaveFault options before after IsThere = IsSaveNotBegun shelf_fault.IsThere before after ⊎ IsUnput shelf_fault.IsThere options before after
-IsSaveFault options before after WriteTape = IsSaveNotBegun shelf_fault.Write before after ⊎ IsUnput shelf_fault.Write options before after
+IsSaveFault options before after IsThere = IsSaveNotBegun shelf_fault.IsThere options before after ⊎ IsUnput shelf_fault.IsThere options before after
+IsSaveFault options before after WriteTape = IsSaveNotBegun shelf_fault.Write options before after ⊎ IsUnput shelf_fault.Write options before after
 IsSaveFault options before after Connect =
-    Gains before.steps after.steps (Reserve ∷ []) × IsAskedInVain before.call before.asked after.asked × (after.lines ≡ before.lines)
+    Gains before.steps after.steps (Reserve (room_for options.range) ∷ []) × IsAskedInVain before.call before.asked after.asked × (after.lines ≡ before.lines)
     × Keeps before.out after.out
 IsSaveFault options before after WriteOutput = IsSavedUnreported options before after
-IsSaveFault options before after Memory = (IsWantingBefore before after ⊎ IsWantingBehind options before after) × Keeps before.out after.out
+IsSaveFault options before after Memory = (IsWantingBefore options before after ⊎ IsWantingBehind options before after) × Keeps before.out after.out

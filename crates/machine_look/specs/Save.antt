@@ -1,5 +1,5 @@
 -- What `save` does (this project's own).
-use Rattle.std.specs.Prelude.{◌≡◌, ℕ, List, [], ◌∷◌, length, map, take, Option}
+use Rattle.std.specs.Prelude.{◌≡◌, ℕ, ◌≤◌, List, [], ◌∷◌, length, map, take, Option}
 use Rattle.std.specs.Io.KnownBytes.{Appends, Keeps}
 use Rattle.std.specs.declared.io.Write.{Ghosts as Write}
 use Rattle.tape_values.specs.Tape.{TapeValue, plain_text}
@@ -20,7 +20,7 @@ use Rattle.machine_look.specs.declared.saving.SaveOptions.{SaveOptions}
 use Rattle.machine_look.specs.declared.shelf.Shelf.{Ghosts as Shelf}
 use Rattle.machine_look.specs.declared.shelf.ShelfFault.{ShelfFault}
 use Rattle.machine_look.specs.Look.{IsLook, OverHonestLine}
-use Rattle.machine_look.specs.SavedTape.{saved_tape, HoldsWhatWasRead}
+use Rattle.machine_look.specs.SavedTape.{room_for, saved_tape, HoldsWhatWasRead}
 use Rattle.machine_look.specs.SaveReport.{save_end, save_report}
 use Rattle.machine_look.specs.Shelf.{Step, Reserve, Put, NotPut}
 
@@ -69,12 +69,14 @@ pub record IsRead (options : SaveOptions) (before after : SaveTold) : Type 0 whe
   pub asked : Gains before.asked after.asked (asked_once before.call)
   -- the tape of what was read is memory, where the line was honest
   pub holds : HoldsWhatWasRead (addresses_in options.range) last.values (tape_to_save options last.values)
+  -- and needs no more room than was taken
+  pub fits : length (plain_text (tape_to_save options last.values)) ≤ room_for options.range
   pub is_memory : OverHonestLine look (IsMemoryAt (take (length last.values) (addresses_in options.range)) (tape_to_save options last.values))
 
 -- what was read was put where the tape goes
 pub record IsShelved (options : SaveOptions) (before after : SaveTold) : Type 0 where
   pub read : IsRead options before after
-  pub is_put : Gains before.steps after.steps (Reserve ∷ puts options.range.from read.last.values options.start)
+  pub is_put : Gains before.steps after.steps (Reserve (room_for options.range) ∷ puts options.range.from read.last.values options.start)
 
 -- it was reported, too
 pub record IsSavedAndReported (options : SaveOptions) (before after : SaveTold) (end : SaveEnd) : Type 0 where
@@ -91,5 +93,5 @@ pub record IsSavedUnreported (options : SaveOptions) (before after : SaveTold) :
 -- what was read could not be put where the tape goes, and nothing was reported
 pub record IsUnput (fault : ShelfFault) (options : SaveOptions) (before after : SaveTold) : Type 0 where
   pub read : IsRead options before after
-  pub refused : Gains before.steps after.steps (Reserve ∷ NotPut (plain_text (tape_to_save options read.last.values)) fault ∷ [])
+  pub refused : Gains before.steps after.steps (Reserve (room_for options.range) ∷ NotPut (plain_text (tape_to_save options read.last.values)) fault ∷ [])
   pub nothing_reported : Keeps before.out after.out

@@ -5,6 +5,7 @@ use Rattle.std.specs.FinMap.{get}
 use Rattle.tape_values.specs.Block.{BlockValue, block_at, low_first}
 use Rattle.tape_values.specs.Tape.{TapeValue}
 use Rattle.tape_image.specs.Word.{WordValue, whole_word}
+use Rattle.request_values.specs.declared.range.AddressRange.{AddressRange}
 use Rattle.tape_image.specs.Plan.{plan_of, given_byte, program_start}
 
 -- how many words a block holds, but for the last: 512 bytes
@@ -23,6 +24,14 @@ saved_blocks from numbers (suc n) = saved_blocks from numbers n ++ saved_block f
 -- the tape of the numbers that stand from an address on, in as few blocks as hold them
 abbrev pub saved_tape : ℕ → List ℕ → ℕ → TapeValue
 saved_tape from numbers start = record { blocks = saved_blocks from numbers ((length numbers + (block_words - 1)) / block_words); start = start }
+
+-- the length in bytes of a tape of so many words: each block and the transfer block have 7 beside their data
+abbrev pub tape_length : ℕ → ℕ
+tape_length words = 7 + 7 * ((words + 255) / 256) + 2 * words
+
+-- the room in bytes that the tape of the words of a range needs, both ends included
+abbrev pub room_for : AddressRange → ℕ
+room_for range = tape_length ((range.to - range.from) / 2 + 1)
 
 -- the words that were read: the numbers at the first of the addresses
 abbrev pub words_read : List ℕ → List ℕ → List WordValue

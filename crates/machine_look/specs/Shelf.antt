@@ -3,17 +3,17 @@ use Rattle.std.specs.Prelude.{ℕ, List, Result, Ok, Err, ⊤}
 use Rattle.machine_look.specs.declared.shelf.ShelfFault.{ShelfFault}
 use Rattle.machine_look.specs.declared.shelf.ShelfFault.TheVariants.{IsThere, Write}
 
--- room was asked for, or a tape of this text was put there, and what came of it
+-- the room of so many bytes was asked for, or a tape of this text was put there, and what came of it
 pub data Step : Type 0 where
-  Reserve : Step
-  NotReserved : ShelfFault → Step
+  Reserve : ℕ → Step
+  NotReserved : ℕ → ShelfFault → Step
   Put : List ℕ → Step
   NotPut : List ℕ → ShelfFault → Step
 
 -- what was answered where room was asked for
-abbrev pub reserve_step : Result ⊤ ShelfFault → Step
-reserve_step (Ok done) = Reserve
-reserve_step (Err fault) = NotReserved fault
+abbrev pub reserve_step : ℕ → Result ⊤ ShelfFault → Step
+reserve_step length (Ok done) = Reserve length
+reserve_step length (Err fault) = NotReserved length fault
 
 -- what was answered where a tape of this text was to be put there
 abbrev pub put_step : List ℕ → Result ⊤ ShelfFault → Step

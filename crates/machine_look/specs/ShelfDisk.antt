@@ -1,18 +1,23 @@
 -- What is asked of a disk to make room there for a tape, and to put it there.
-use Rattle.std.specs.Prelude.{◌≡◌, ◌⊎◌, ℕ, List, [], ◌∷◌, ◌++◌, Bool, true, false, Option, Some, None, Result, Ok, Err, OnSome, ⊤}
+use Rattle.std.specs.Prelude.{◌≡◌, ◌⊎◌, ℕ, List, [], ◌∷◌, ◌++◌, Bool, true, false, Option, Some, None, Result, Ok, Err, OnSome, replicate, ⊤}
 use Rattle.std.specs.Io.KnownBytes.{Appends}
 use Rattle.load_devices.specs.Failures.{fault_of}
 use Rattle.byte_io.specs.Text.{name_slash}
 use Rattle.record_file.specs.Beginning.{IsMakingHeld, new_name}
 use Rattle.load_devices.specs.Told.{HasAsked}
 use Rattle.record_file.specs.DiskStep.{DiskStep, Did, Failed, step_by}
-use Rattle.record_file.specs.DiskStep.{LookAtName, FindFile, Open, Link, Rename, Remove, SyncFolder, SyncFile}
+use Rattle.record_file.specs.DiskStep.{LookAtName, FindFile, Open, Link, Rename, Remove, SyncFolder, Cut, SyncFile}
 use Rattle.record_file.specs.Folder.{IsFolderOf}
-use Rattle.record_file.specs.declared.disk.Access.TheVariants.{ReadOnly}
+use Rattle.record_file.specs.declared.disk.Access.TheVariants.{ReadOnly, ReadWrite}
 use Rattle.machine_look.specs.declared.shelf.ShelfFault.{ShelfFault}
 use Rattle.machine_look.specs.declared.shelf.ShelfFault.TheVariants.{IsThere, Write, Memory}
 
 -- ---- room
+
+-- a name goes, where the file of which this was written still has it
+pub data IsGone (name : List ℕ) (written : Option (List ℕ)) : List DiskStep → Type 0 where
+  Goes : (removed : Bool) → IsGone name written (Did (FindFile name written) ∷ step_by (Remove name) removed ∷ [])
+  HasAnother : IsGone name written (Failed (FindFile name written) ∷ [])
 
 -- no file has this name: it is empty, or a folder's
 abbrev pub IsNoFileName : List ℕ → Type 0
@@ -25,10 +30,25 @@ pub data IsSearch (name : List ℕ) : Option ShelfFault → List DiskStep → Ty
   Unknown : IsSearch name (Some Write) (Failed (LookAtName name) ∷ [])
   NoFileName : IsNoFileName name → IsSearch name (Some Write) []
 
--- nothing has the name, its folder is opened, and a new file beside is made and held
-pub data IsReserved (name folder : List ℕ) : List DiskStep → Type 0 where
-  Reserved : (making : List DiskStep) → IsMakingHeld (new_name name) true making
-      → IsReserved name folder (Failed (LookAtName name) ∷ Did (Open ReadOnly folder) ∷ making)
+-- a file that was made is filled with bytes that take room, which is brought to the disk; and it is opened once more, and still has its name
+pub data IsTaking (own : List ℕ) (filled : Option (List ℕ)) : Bool → List DiskStep → Type 0 where
+  Unfilled : IsTaking own filled false []
+  NotFilled : IsTaking own filled false (Failed (SyncFile filled) ∷ [])
+  Unopened : IsTaking own filled false (Did (SyncFile filled) ∷ Failed (Open ReadWrite own) ∷ [])
+  Filled : (found : Bool) → IsTaking own filled found (Did (SyncFile filled) ∷ Did (Open ReadWrite own) ∷ step_by (FindFile own filled) found ∷ [])
+
+-- a new file is made and held, and filled. One that can't be filled goes
+pub data IsTakingHeld (own : List ℕ) (filled : Option (List ℕ)) : Bool → List DiskStep → Type 0 where
+  Unmade : (making : List DiskStep) → IsMakingHeld own false making → IsTakingHeld own filled false making
+  Taken : (making taking : List DiskStep) → IsMakingHeld own true making → IsTaking own filled true taking
+      → IsTakingHeld own filled true (making ++ taking)
+  NotTaken : (making taking going : List DiskStep) → IsMakingHeld own true making → IsTaking own filled false taking → IsGone own filled going
+      → IsTakingHeld own filled false (making ++ (taking ++ going))
+
+-- nothing has the name, its folder is opened, and a new file beside is made, held and filled
+pub data IsReserved (name folder : List ℕ) (filled : Option (List ℕ)) : List DiskStep → Type 0 where
+  Reserved : (making : List DiskStep) → IsTakingHeld (new_name name) filled true making
+      → IsReserved name folder filled (Failed (LookAtName name) ∷ Did (Open ReadOnly folder) ∷ making)
 
 -- or one of these fails
 pub data IsNotReserved (name : List ℕ) : ShelfFault → List DiskStep → Type 0 where
@@ -37,20 +57,16 @@ pub data IsNotReserved (name : List ℕ) : ShelfFault → List DiskStep → Type
       → IsNotReserved name Write (Failed (LookAtName name) ∷ Failed (Open ReadOnly folder) ∷ [])
   NoMemory : (folder : List ℕ) → IsFolderOf name folder
       → IsNotReserved name Memory (Failed (LookAtName name) ∷ Did (Open ReadOnly folder) ∷ [])
-  NotMade : (folder : List ℕ) (making : List DiskStep) → IsFolderOf name folder → IsMakingHeld (new_name name) false making
+  NotMade : (folder : List ℕ) (filled : Option (List ℕ)) (making : List DiskStep) → IsFolderOf name folder → IsTakingHeld (new_name name) filled false making
       → IsNotReserved name Write (Failed (LookAtName name) ∷ Did (Open ReadOnly folder) ∷ making)
 
 -- ---- the tape
 
--- a name goes, where the file of which this was written still has it
-pub data IsGone (name : List ℕ) (written : Option (List ℕ)) : List DiskStep → Type 0 where
-  Goes : (removed : Bool) → IsGone name written (Did (FindFile name written) ∷ step_by (Remove name) removed ∷ [])
-  HasAnother : IsGone name written (Failed (FindFile name written) ∷ [])
-
--- a file is brought to the disk, and then its name is still its own
+-- a file is cut behind what was written, and brought to the disk, and then its name is still its own
 pub data IsOnDisk (name : List ℕ) (written : Option (List ℕ)) : Bool → List DiskStep → Type 0 where
-  Synced : (found : Bool) → IsOnDisk name written found (Did (SyncFile written) ∷ step_by (FindFile name written) found ∷ [])
-  Unsynced : IsOnDisk name written false (Failed (SyncFile written) ∷ [])
+  Synced : (found : Bool) → IsOnDisk name written found (Did (Cut written) ∷ Did (SyncFile written) ∷ step_by (FindFile name written) found ∷ [])
+  Unsynced : IsOnDisk name written false (Did (Cut written) ∷ Failed (SyncFile written) ∷ [])
+  Uncut : IsOnDisk name written false (Failed (Cut written) ∷ [])
 
 -- a file is given a second name, which no system does where something has it; where that can't be, it is renamed, once nothing was found to
 -- have the name
@@ -115,18 +131,20 @@ ShelfAsked (Some disk) (Some disk') P = HasAsked disk.asked disk'.asked (P disk 
 abbrev pub ShelfAskedIn : (List ℕ → Type 0) → Option ShelfDisk → Option ShelfDisk → (List ℕ → ShelfDisk → ShelfDisk → List DiskStep → Type 0) → Type 0
 ShelfAskedIn opened before after P = (folder : List ℕ) → opened folder → ShelfAsked before after (P folder)
 
--- there is room now, in this folder, in a file beside, to which nothing was written where the disk tells
-pub record HasRoom (folder : List ℕ) (disk disk' : ShelfDisk) (steps : List DiskStep) : Type 0 where
+-- the room of so many bytes was taken, in this folder, in a file beside, to which nothing was written since it is filled, where the disk tells
+pub record HasRoom (folder : List ℕ) (length : ℕ) (disk disk' : ShelfDisk) (steps : List DiskStep) : Type 0 where
   pub folder_of : IsFolderOf disk.name folder
-  pub reserved : IsReserved disk.name folder steps
+  pub filled : Option (List ℕ)
+  pub taken : OnSome disk'.asked (filled ≡ Some (replicate length 0))
+  pub reserved : IsReserved disk.name folder filled steps
   pub written : Option (List ℕ)
   pub room : disk'.room ≡ Some (record { name = new_name disk.name; written = written })
   pub fresh : OnSome disk'.asked (written ≡ Some [])
   pub name : disk'.name ≡ disk.name
 
 -- the folder is the one that was opened
-abbrev pub HasRoomIn : (List ℕ → Type 0) → ShelfDisk → ShelfDisk → List DiskStep → Type 0
-HasRoomIn opened disk disk' steps = (folder : List ℕ) × opened folder × HasRoom folder disk disk' steps
+abbrev pub HasRoomIn : (List ℕ → Type 0) → ℕ → ShelfDisk → ShelfDisk → List DiskStep → Type 0
+HasRoomIn opened length disk disk' steps = (folder : List ℕ) × opened folder × HasRoom folder length disk disk' steps
 
 -- there is none, for this reason, and what room there was is as it was
 pub record HasNoRoom (fault : ShelfFault) (disk disk' : ShelfDisk) (steps : List DiskStep) : Type 0 where
@@ -135,9 +153,9 @@ pub record HasNoRoom (fault : ShelfFault) (disk disk' : ShelfDisk) (steps : List
   pub name : disk'.name ≡ disk.name
 
 -- what was asked by what came of making room
-abbrev pub IsReserveAnswered : (List ℕ → Type 0) → Option ShelfDisk → Option ShelfDisk → Result ⊤ ShelfFault → Type 0
-IsReserveAnswered opened before after (Ok done) = ShelfAsked before after (HasRoomIn opened)
-IsReserveAnswered opened before after (Err fault) = ShelfAsked before after (HasNoRoom fault)
+abbrev pub IsReserveAnswered : (List ℕ → Type 0) → ℕ → Option ShelfDisk → Option ShelfDisk → Result ⊤ ShelfFault → Type 0
+IsReserveAnswered opened length before after (Ok done) = ShelfAsked before after (HasRoomIn opened length)
+IsReserveAnswered opened length before after (Err fault) = ShelfAsked before after (HasNoRoom fault)
 
 -- a tape was put into the room, or not, and there is no room any more
 pub record IsPutOn (folder text : List ℕ) (fault : Option ShelfFault) (disk disk' : ShelfDisk) (steps : List DiskStep) : Type 0 where

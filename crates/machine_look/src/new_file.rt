@@ -1,6 +1,8 @@
 //! The file of a saved tape, which comes to its name whole and replaces nothing.
-ghost use Rattle.std.specs.Prelude.{◌≡◌, ◌∷◌, List, ℕ, None, Some, [], IfErr, IfOk, IfSome, OnSome, is_some, option_map};
+ghost use Rattle.std.specs.Prelude.{◌≡◌, ◌∷◌, List, ℕ, None, Some, [], IfErr, IfOk, IfSome, OnSome, IfNone, Option, is_some, option_map};
+ghost use Rattle.std.specs.Prelude.{false, replicate, true};
 ghost use Rattle.std.specs.Bool.{OnTrue};
+ghost use Rattle.std.specs.Io.KnownBytes.{Appends};
 ghost use Rattle.std.specs.String.{string_bytes};
 ghost use Rattle.load_devices.specs.Failures.{fault_of};
 ghost use Rattle.record_file.specs.Beginning.{IsMakingHeld, new_name};
@@ -9,7 +11,7 @@ ghost use Rattle.record_file.specs.DiskStep.{Failed, Link, LookAtName};
 ghost use Rattle.record_file.specs.Folder.{IsFolderOf};
 ghost use Rattle.machine_look.specs.Beside.{IsFolderOpened, room_of};
 ghost use Rattle.machine_look.specs.Shelf.{IsPutFault};
-ghost use Rattle.machine_look.specs.ShelfDisk.{IsReserved, IsNotReserved, IsNoFileName, IsSearch};
+ghost use Rattle.machine_look.specs.ShelfDisk.{IsReserved, IsNotReserved, IsNoFileName, IsSearch, IsTaking, IsTakingHeld};
 ghost use Rattle.machine_look.specs.ShelfDisk.{IsClosed, IsGone, IsNamed, IsNaming, IsOnDisk, IsPut, IsSettling};
 
 use crate::shelf::{Shelf, ShelfFault};
@@ -20,20 +22,22 @@ use std::io::ErrorKind;
 
 /// A file that is not there yet, for the tape of a save.
 ///
-/// The tape is written to a file beside it, which is made before anything is read, held, and goes once the
-/// tape was put or this value is closed. The tape is given its name once it is on the disk, and only where
-/// nothing has that name.
+/// The tape is written to a file beside it, which is made before anything is read, held, filled with as many
+/// bytes 00 as the tape may have, so that a full disk is told then, and goes once the tape was put or this
+/// value is closed. The tape is given its name once it is on the disk, and only where nothing has that name.
 pub struct NewFile<'a, D: Disk> {
     disk: D,
     name: &'a str,
     beside: Option<Beside<D::File>>,
 }
 
-// A file beside the one of a name, which is held, and the folder of both.
+// A file beside the one of a name, the same once more, through which it was filled and is held, and the
+// folder of both.
 #[derive(Drop)]
 struct Beside<T: Drop> {
     name: String,
     file: T,
+    held: T,
     folder: T,
 }
 
@@ -79,9 +83,9 @@ impl<D: Disk> Shelf for NewFile<'_, D> {
 
     // `Write` also comes where another save writes the tape of this name. A file beside that was there before
     // has lost its name to the new one.
-    fn reserve(&mut self, alloc: Global) -> Result<(), ShelfFault> {
+    fn reserve(&mut self, alloc: Global, length: usize) -> Result<(), ShelfFault> {
         find_free(&mut self.disk, self.name)?;
-        self.beside = Some(make_beside(&mut self.disk, alloc, self.name)?);
+        self.beside = Some(make_beside(&mut self.disk, alloc, self.name, length)?);
         Ok(())
     }
 
@@ -93,16 +97,20 @@ impl<D: Disk> Shelf for NewFile<'_, D> {
     }
 }
 
-// Opens the folder of a name, which nothing has, and makes and holds the file beside.
+// Opens the folder of a name, which nothing has, and makes the file beside, and takes the room of so many
+// bytes with it.
 fn make_beside<D: Disk>(
     disk: &mut D,
     alloc: Global,
     name: &str,
+    length: usize,
 ) -> Result<Beside<D::File>, ShelfFault>
     ensures named { IfOk result (λ beside. string_bytes beside.name ≡ new_name name.now) }
     ensures fresh { IfOk result (λ beside. OnSome (D.asked disk.new) (D.File.contents beside.file ≡ Some [])) }
+    ensures filled { IfOk result (λ beside. OnSome (D.asked disk.new) (D.File.contents beside.held ≡ Some (replicate length 0))) }
     ensures asked { IfOk result (λ beside. (folder : List ℕ) × D.is_opened_as beside.folder folder × IsFolderOf name.now folder
-        × HasAsked (D.asked disk.old) (D.asked disk.new) (λ steps. IsReserved name.now folder (Failed (LookAtName name.now) ∷ steps))) }
+        × HasAsked (D.asked disk.old) (D.asked disk.new)
+        (λ steps. IsReserved name.now folder (D.File.contents beside.held) (Failed (LookAtName name.now) ∷ steps))) }
     ensures failed { IfErr result (λ fault.
         HasAsked (D.asked disk.old) (D.asked disk.new) (λ steps. IsNotReserved name.now fault (Failed (LookAtName name.now) ∷ steps))) }
 {
@@ -112,13 +120,60 @@ fn make_beside<D: Disk>(
     let Ok(own) = format!(in alloc; "{name}{BESIDE}") else {
         return Err(ShelfFault::Memory);
     };
-    match make_held(disk, own.as_str()) {
-        Some(file) => Ok(Beside {
+    let Ok(zeros) = vec![in alloc; 0u8; length] else {
+        return Err(ShelfFault::Memory);
+    };
+    match make_filled(disk, own.as_str(), &zeros) {
+        Some((held, file)) => Ok(Beside {
             name: own,
             file,
+            held,
             folder,
         }),
         None => Err(ShelfFault::Write),
+    }
+}
+
+// Makes a file, holds it, takes room by filling it, and opens it once more, to be written from its front on.
+// One that can't be filled goes.
+fn make_filled<D: Disk>(disk: &mut D, name: &str, zeros: &[u8]) -> Option<(D::File, D::File)>
+    ensures filled { IfSome result (λ files. OnSome (D.asked disk.new) (D.File.contents files.0 ≡ Some zeros.now)) }
+    ensures fresh { IfSome result (λ files. OnSome (D.asked disk.new) (D.File.contents files.1 ≡ Some [])) }
+    ensures made { IfSome result (λ files. HasAsked (D.asked disk.old) (D.asked disk.new) (IsTakingHeld name.now (D.File.contents files.0) true)) }
+    ensures not_made { IfNone result ((zeros : Option (List ℕ)) × HasAsked (D.asked disk.old) (D.asked disk.new) (IsTakingHeld name.now zeros false)) }
+{
+    let mut held = make_held(disk, name)?;
+    match take_room(disk, name, &mut held, zeros) {
+        Some(file) => Some((held, file)),
+        None => {
+            let_go(disk, name, &held);
+            None
+        }
+    }
+}
+
+// Fills a file that was made under a name with these bytes, brings it to the disk, and opens it once more.
+// None where that can't be, or somebody has taken its name.
+fn take_room<D: Disk>(disk: &mut D, name: &str, held: &mut D::File, zeros: &[u8]) -> Option<D::File>
+    ensures filled { OnSome result (Appends (D.File.contents held.old) (D.File.contents held.new) zeros.now) }
+    ensures fresh { IfSome result (λ file. OnSome (D.asked disk.new) (D.File.contents file ≡ Some [])) }
+    ensures asked { HasAsked (D.asked disk.old) (D.asked disk.new) (IsTaking name.now (D.File.contents held.new) (is_some result)) }
+{
+    if write_and_flush(held, zeros).is_err() {
+        return None;
+    }
+    if disk.sync_file(held).is_err() {
+        return None;
+    }
+    match disk.open(Access::ReadWrite, name) {
+        Ok(file) => {
+            if disk.has_name(name, held) {
+                Some(file)
+            } else {
+                None
+            }
+        }
+        Err(_) => None,
     }
 }
 
@@ -148,23 +203,24 @@ fn put_into<D: Disk>(
         let_go(disk, beside.name.as_str(), &beside.file);
         return Err(ShelfFault::Write);
     }
-    let named = name_written(disk, &beside, name);
+    let named = name_written(disk, &beside, name, text.len() as u64);
     let_go(disk, beside.name.as_str(), &beside.file);
     named
 }
 
-// Brings the file beside to the disk, and then gives it its name.
+// Brings the file beside to the disk, which has so many bytes, and then gives it its name.
 fn name_written<D: Disk>(
     disk: &mut D,
     beside: &Beside<D::File>,
     name: &str,
+    length: u64,
 ) -> Result<(), ShelfFault>
     ensures fault { IfErr result IsPutFault }
     ensures asked { (folder : List ℕ) → D.is_opened_as beside.now.folder folder
         → HasAsked (D.asked disk.old) (D.asked disk.new)
         (IsNamed (string_bytes beside.now.name) folder name.now (D.File.contents beside.now.file) (fault_of result)) }
 {
-    if !is_on_disk(disk, beside) {
+    if !is_on_disk(disk, beside, length) {
         return Err(ShelfFault::Write);
     }
     match give_name(disk, beside.name.as_str(), name) {
@@ -173,11 +229,15 @@ fn name_written<D: Disk>(
     }
 }
 
-// Brings the file beside to the disk. False where that fails, or somebody has taken its name.
-fn is_on_disk<D: Disk>(disk: &mut D, beside: &Beside<D::File>) -> bool
+// Cuts the file beside behind so many bytes, and brings it to the disk. False where that fails, or somebody
+// has taken its name.
+fn is_on_disk<D: Disk>(disk: &mut D, beside: &Beside<D::File>, length: u64) -> bool
     ensures asked { HasAsked (D.asked disk.old) (D.asked disk.new)
         (IsOnDisk (string_bytes beside.now.name) (D.File.contents beside.now.file) result) }
 {
+    if disk.cut(&beside.file, length).is_err() {
+        return false;
+    }
     if disk.sync_file(&beside.file).is_err() {
         return false;
     }

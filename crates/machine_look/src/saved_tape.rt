@@ -2,13 +2,26 @@
 ghost use Rattle.std.specs.Prelude.{◌≡◌, ℕ, ◌+◌, ◌*◌, ◌%◌, ◌<◌, ◌≤◌, List, length, IfOk};
 ghost use Rattle.std.specs.List.{flat_map};
 ghost use Rattle.tape_values.specs.Block.{low_first, top};
-ghost use Rattle.machine_look.specs.SavedTape.{HoldsWhatWasRead, StandFrom, saved_block, saved_tape};
+ghost use Rattle.machine_look.specs.SavedTape.{HoldsWhatWasRead, StandFrom, room_for, saved_block, saved_tape};
 
+use request_values::AddressRange;
 use std::alloc::{AllocError, Global};
 use tape_values::{Block, Tape};
 
 // How many words a block has, but for the last: 512 bytes.
 const BLOCK_WORDS: usize = 256;
+
+// How many bytes a block has beside its data, and the transfer block without any.
+const FRAME: usize = 7;
+
+/// The room that the tape of the words of a range needs, in bytes.
+pub(crate) fn tape_room(range: AddressRange) -> usize
+    ensures { result ≡ room_for range }
+{
+    let words = usize::from((range.to() - range.from()) / 2 + 1);
+    let frames = 1 + words.div_ceil(BLOCK_WORDS);
+    FRAME * frames + 2 * words
+}
 
 /// The tape of the numbers that stand in memory from an address on, in blocks of 512 bytes, of which the
 /// last may be shorter, and with this start address. The error is want of memory.

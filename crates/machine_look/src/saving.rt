@@ -12,7 +12,7 @@ use crate::look_fault::LookFault;
 use crate::looking::look_over;
 use crate::save_end::SaveEnd;
 use crate::save_report::{save_end, save_report};
-use crate::saved_tape::tape_of;
+use crate::saved_tape::{tape_of, tape_room};
 use crate::shelf::Shelf;
 use byte_io::write_and_flush;
 use console_lines::Reach;
@@ -39,7 +39,8 @@ pub struct SaveOptions {
 /// Reads the words of a range, changes none, puts the tape of what was read on the shelf, and reports how
 /// far that came and how it ended.
 ///
-/// The tape is put there once the host has ended, with every word that was read by then, also where the
+/// The room of the whole tape is taken there before the console is reached, so that want of it is told with
+/// nothing typed. The tape is put there once the host has ended, with every word that was read by then, also where the
 /// machine has no more memory, the line failed or the host gave up; where no word was read, none is.
 ///
 /// `IsThere` and `WriteTape` come before the console is reached, or where the tape can't be put there at
@@ -66,7 +67,7 @@ pub fn save<S: Shelf, R: Reach, W: Write, O: Onlooker>(
 {
     let (from, to) = (options.range.from(), options.range.to());
     let core = ReadingCore::of_range(alloc, from, to, options.patience)?;
-    shelf.reserve(alloc)?;
+    shelf.reserve(alloc, tape_room(options.range))?;
     let (core, stop) = look_over(core, console, onlooker)?;
     keep(alloc, from, core.values(), options.start, shelf)?;
     write_and_flush(out, &save_report(&core, stop))?;

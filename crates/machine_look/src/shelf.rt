@@ -29,10 +29,10 @@ pub trait Shelf {
     /// Whether the folder of the room was opened under a name, and nothing was done with it since.
     ghost is_opened_as: { Self → List ℕ → Type 0 } = { λ _ _. ⊤ };
 
-    /// Makes room for a tape, where there is none yet.
-    fn reserve(&mut self, alloc: Global) -> Result<(), ShelfFault>
-        ensures step { Gains (steps self.old) (steps self.new) (reserve_step result ∷ []) }
-        ensures disk { IsReserveAnswered (is_opened_as self.new) (disk self.old) (disk self.new) result };
+    /// Takes the room of so many bytes for a tape, where there is none yet.
+    fn reserve(&mut self, alloc: Global, length: usize) -> Result<(), ShelfFault>
+        ensures step { Gains (steps self.old) (steps self.new) (reserve_step length result ∷ []) }
+        ensures disk { IsReserveAnswered (is_opened_as self.new) length (disk self.old) (disk self.new) result };
 
     /// Puts a tape of this text into the room, whole or not at all, and in place of nothing. `Memory` does
     /// not come.

@@ -14,16 +14,25 @@ const BESIDE: &str = "shelf.lda.ldaodt-new";
 
 const TEXT: &str = "a tape";
 
+// How much room is taken for it: more than it has.
+const ROOM: usize = 10;
+
 // What somebody else's file has.
 const OTHERS: &str = "hello";
 
-// The file is made and held; the tape is on the disk before it gets its name, and then that is, too.
-const WHOLE: [Step; 8] = [
+// The file is made, held and filled, and opened once more; the tape is on the disk before it gets its name,
+// and then that is, too.
+const WHOLE: [Step; 13] = [
     Step::OpenFolder,
     Step::OpenBeside,
     Step::HoldBeside,
     Step::Write,
     Step::Flush,
+    Step::SyncAll,
+    Step::OpenBeside,
+    Step::Write,
+    Step::Flush,
+    Step::Cut,
     Step::SyncAll,
     Step::Rename,
     Step::SyncAll,
@@ -58,12 +67,12 @@ type Row = (
     Option<&'static str>,
 );
 
-const ROWS: [Row; 11] = [
+const ROWS: [Row; 16] = [
     (
         NO_FAULT,
         Meanwhile::Nothing,
         Ok(()),
-        8,
+        13,
         &[],
         Some(TEXT),
         None,
@@ -87,6 +96,7 @@ const ROWS: [Row; 11] = [
         None,
         Some(""),
     ),
+    // A disk on which there is no room is told before anything is to be put there.
     (
         &[(Step::Write, 1, ErrorKind::StorageFull)],
         Meanwhile::Nothing,
@@ -105,9 +115,8 @@ const ROWS: [Row; 11] = [
         None,
         None,
     ),
-    // A tape that is not on the disk gets no name; one with no disk behind it does.
     (
-        &[(Step::SyncAll, 1, ErrorKind::Other)],
+        &[(Step::SyncAll, 1, ErrorKind::StorageFull)],
         Meanwhile::Nothing,
         Err(ShelfFault::Write),
         6,
@@ -116,10 +125,60 @@ const ROWS: [Row; 11] = [
         None,
     ),
     (
-        &[(Step::SyncAll, 1, ErrorKind::InvalidInput)],
+        &[(Step::OpenBeside, 2, ErrorKind::Other)],
+        Meanwhile::Nothing,
+        Err(ShelfFault::Write),
+        7,
+        GIVEN_UP,
+        None,
+        None,
+    ),
+    (
+        &[(Step::Write, 2, ErrorKind::StorageFull)],
+        Meanwhile::Nothing,
+        Err(ShelfFault::Write),
+        8,
+        GIVEN_UP,
+        None,
+        None,
+    ),
+    (
+        &[(Step::Flush, 2, ErrorKind::Other)],
+        Meanwhile::Nothing,
+        Err(ShelfFault::Write),
+        9,
+        GIVEN_UP,
+        None,
+        None,
+    ),
+    // Bytes that only took room are no part of a tape.
+    (
+        &[(Step::Cut, 1, ErrorKind::Other)],
+        Meanwhile::Nothing,
+        Err(ShelfFault::Write),
+        10,
+        GIVEN_UP,
+        None,
+        None,
+    ),
+    // A tape that is not on the disk gets no name; one with no disk behind it does.
+    (
+        &[(Step::SyncAll, 2, ErrorKind::Other)],
+        Meanwhile::Nothing,
+        Err(ShelfFault::Write),
+        11,
+        GIVEN_UP,
+        None,
+        None,
+    ),
+    (
+        &[
+            (Step::SyncAll, 1, ErrorKind::InvalidInput),
+            (Step::SyncAll, 2, ErrorKind::InvalidInput),
+        ],
         Meanwhile::Nothing,
         Ok(()),
-        8,
+        13,
         &[],
         Some(TEXT),
         None,
@@ -128,17 +187,17 @@ const ROWS: [Row; 11] = [
         &[(Step::Rename, 1, ErrorKind::PermissionDenied)],
         Meanwhile::Nothing,
         Err(ShelfFault::Write),
-        7,
+        12,
         GIVEN_UP,
         None,
         None,
     ),
     // A name that is not on the disk goes again.
     (
-        &[(Step::SyncAll, 2, ErrorKind::Other)],
+        &[(Step::SyncAll, 3, ErrorKind::Other)],
         Meanwhile::Nothing,
         Err(ShelfFault::Write),
-        8,
+        13,
         &[Step::Remove],
         None,
         None,
@@ -148,7 +207,7 @@ const ROWS: [Row; 11] = [
         NO_FAULT,
         Meanwhile::Named,
         Err(ShelfFault::IsThere),
-        6,
+        11,
         GIVEN_UP,
         Some(OTHERS),
         None,
@@ -157,7 +216,7 @@ const ROWS: [Row; 11] = [
         NO_FAULT,
         Meanwhile::Replaced,
         Err(ShelfFault::Write),
-        6,
+        11,
         &[],
         None,
         Some(OTHERS),
@@ -183,7 +242,7 @@ fn put<'x>(
     meanwhile: Meanwhile,
 ) -> Result<(), ShelfFault> {
     let mut file = NewFile::new(system, SAVED);
-    let reserved = file.reserve(rt.alloc());
+    let reserved = file.reserve(rt.alloc(), ROOM);
     let put = match reserved {
         Ok(()) => {
             meddle(rt, meanwhile);

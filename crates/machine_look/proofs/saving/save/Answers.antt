@@ -8,13 +8,13 @@ use Rattle.reading_core.specs.Reader.{Reader, begun}
 use Rattle.machine_look.specs.declared.look_fault.LookFault.TheVariants.{WriteOutput, Memory}
 use Rattle.machine_look.specs.LookFault.{IsKeepFault, IsSaveFault, fault_of_shelf}
 use Rattle.machine_look.specs.Save.{puts, save_told}
-use Rattle.machine_look.specs.SavedTape.{saved_tape}
-use Rattle.machine_look.specs.Shelf.{Reserve}
+use Rattle.machine_look.specs.SavedTape.{room_for, saved_tape}
+use Rattle.machine_look.specs.Shelf.{Reserve, NotReserved}
 use Rattle.load_devices.proofs.Told.{gains_none, gains_join}
 use Rattle.machine_look.proofs.Faults.{error_is, no_value, not_kept, not_reserved}
 use Rattle.machine_look.proofs.SavedMemory.{read_of, reads_low}
 use Rattle.machine_look.specs.SaveDisk.{IsLeftAlone, save_disk_asked_before}
-use Rattle.machine_look.specs.ShelfDisk.{ShelfAsked}
+use Rattle.machine_look.specs.ShelfDisk.{HasRoomIn, ShelfAsked}
 use Rattle.machine_look.proofs.Faults.{no_ok}
 use Rattle.machine_look.proofs.SavedOnDisk.{as_asked, left_alone, not_kept_on, not_reserved_on, only_reserved, saved_on}
 use Rattle.machine_look.proofs.saving.save.Goals as goal
@@ -39,7 +39,7 @@ pub returns-in_err-reserve-clause-fault : goal.returns-in_err-reserve-clause-fau
 returns-in_err-reserve-clause-fault g c =
     error_is c.from_residual-in_err-reserve.result (fault_of_shelf c.in_err-reserve.field-0.0)
     (IsSaveFault c.args.options (save_told g.S.Shelf g.R.Reach g.W.Write c.args.shelf.now c.args.console.now c.args.out.now) (save_told g.S.Shelf g.R.Reach g.W.Write c.reserve.new.self c.args.console.now c.args.out.now))
-    c.from_residual-in_err-reserve.ensures.1 (not_reserved c.args.options (save_told g.S.Shelf g.R.Reach g.W.Write c.args.shelf.now c.args.console.now c.args.out.now) (save_told g.S.Shelf g.R.Reach g.W.Write c.reserve.new.self c.args.console.now c.args.out.now) c.in_err-reserve.field-0.0 c.in_err-reserve.ensures.step refl refl (Keeps-refl (g.W.Write.contents c.args.out.now)))
+    c.from_residual-in_err-reserve.ensures.1 (not_reserved c.args.options (save_told g.S.Shelf g.R.Reach g.W.Write c.args.shelf.now c.args.console.now c.args.out.now) (save_told g.S.Shelf g.R.Reach g.W.Write c.reserve.new.self c.args.console.now c.args.out.now) c.in_err-reserve.field-0.0 (subst (λ n. Gains (g.S.Shelf.steps c.args.shelf.now) (g.S.Shelf.steps c.reserve.new.self) (NotReserved n c.in_err-reserve.field-0.0 ∷ [])) c.tape_room.ensures c.in_err-reserve.ensures.step) refl refl (Keeps-refl (g.W.Write.contents c.args.out.now)))
 
 pub returns-in_err-core-2-clause-reported : goal.returns-in_err-core-2-clause-reported
 returns-in_err-core-2-clause-reported g c = no_value c.from_residual-in_err-core-2.result _ _ c.from_residual-in_err-core-2.ensures.1
@@ -51,7 +51,7 @@ returns-in_err-core-2-clause-fault g c =
     (IsSaveFault c.args.options (save_told g.S.Shelf g.R.Reach g.W.Write c.args.shelf.now c.args.console.now c.args.out.now) (save_told g.S.Shelf g.R.Reach g.W.Write c.reserve.new.self c.look_over.new.console c.args.out.now))
     c.from_residual-in_err-core-2.ensures.1
     (subst (IsSaveFault c.args.options (save_told g.S.Shelf g.R.Reach g.W.Write c.args.shelf.now c.args.console.now c.args.out.now) (save_told g.S.Shelf g.R.Reach g.W.Write c.reserve.new.self c.look_over.new.console c.args.out.now)) (sym fails.0)
-    (c.in_ok-reserve.ensures.step, c.in_err-core-2.ensures.asked_in_vain, c.in_err-core-2.ensures.no_line, Keeps-refl (g.W.Write.contents c.args.out.now)))
+    ((subst (λ n. Gains (g.S.Shelf.steps c.args.shelf.now) (g.S.Shelf.steps c.reserve.new.self) (Reserve n ∷ [])) c.tape_room.ensures c.in_ok-reserve.ensures.step), c.in_err-core-2.ensures.asked_in_vain, c.in_err-core-2.ensures.no_line, Keeps-refl (g.W.Write.contents c.args.out.now)))
 
 pub returns-in_err-keep-clause-reported : goal.returns-in_err-keep-clause-reported
 returns-in_err-keep-clause-reported g c = no_value c.from_residual-in_err-keep.result _ _ c.from_residual-in_err-keep.ensures.1
@@ -69,7 +69,7 @@ returns-in_err-keep-clause-fault g c =
     error_is c.from_residual-in_err-keep.result c.in_err-keep.field-0.0
     (IsSaveFault c.args.options (save_told g.S.Shelf g.R.Reach g.W.Write c.args.shelf.now c.args.console.now c.args.out.now) (save_told g.S.Shelf g.R.Reach g.W.Write c.keep.new.shelf c.look_over.new.console c.args.out.now))
     c.from_residual-in_err-keep.ensures.1
-    (not_kept c.args.options (save_told g.S.Shelf g.R.Reach g.W.Write c.args.shelf.now c.args.console.now c.args.out.now) (save_told g.S.Shelf g.R.Reach g.W.Write c.keep.new.shelf c.look_over.new.console c.args.out.now) (g.S.Shelf.steps c.reserve.new.self) c.in_err-keep.field-0.0 c.in_ok-reserve.ensures.step read fails (Keeps-refl (g.W.Write.contents c.args.out.now)))
+    (not_kept c.args.options (save_told g.S.Shelf g.R.Reach g.W.Write c.args.shelf.now c.args.console.now c.args.out.now) (save_told g.S.Shelf g.R.Reach g.W.Write c.keep.new.shelf c.look_over.new.console c.args.out.now) (g.S.Shelf.steps c.reserve.new.self) c.in_err-keep.field-0.0 (subst (λ n. Gains (g.S.Shelf.steps c.args.shelf.now) (g.S.Shelf.steps c.reserve.new.self) (Reserve n ∷ [])) c.tape_room.ensures c.in_ok-reserve.ensures.step) read fails (Keeps-refl (g.W.Write.contents c.args.out.now)))
 
 pub returns-in_err-write_and_flush-clause-fault : goal.returns-in_err-write_and_flush-clause-fault
 returns-in_err-write_and_flush-clause-fault g c =
@@ -82,7 +82,7 @@ returns-in_err-write_and_flush-clause-fault g c =
     error_is c.from_residual-in_err-write_and_flush.result WriteOutput
     (IsSaveFault c.args.options (save_told g.S.Shelf g.R.Reach g.W.Write c.args.shelf.now c.args.console.now c.args.out.now) (save_told g.S.Shelf g.R.Reach g.W.Write c.keep.new.shelf c.look_over.new.console c.write_and_flush.new.out))
     c.from_residual-in_err-write_and_flush.ensures.1 (record {
-      saved = record { read = read; is_put = gains_join (g.S.Shelf.steps c.args.shelf.now) (g.S.Shelf.steps c.reserve.new.self) (g.S.Shelf.steps c.keep.new.shelf) (Reserve ∷ []) _ c.in_ok-reserve.ensures.step kept };
+      saved = record { read = read; is_put = gains_join (g.S.Shelf.steps c.args.shelf.now) (g.S.Shelf.steps c.reserve.new.self) (g.S.Shelf.steps c.keep.new.shelf) (Reserve (room_for c.args.options.range) ∷ []) _ (subst (λ n. Gains (g.S.Shelf.steps c.args.shelf.now) (g.S.Shelf.steps c.reserve.new.self) (Reserve n ∷ [])) c.tape_room.ensures c.in_ok-reserve.ensures.step) kept };
       missing = c.in_err-write_and_flush.ensures.err.0;
       reported = subst (λ t. WritesAllBut (g.W.Write.contents c.args.out.now) (g.W.Write.contents c.write_and_flush.new.out) t c.in_err-write_and_flush.ensures.err.0) text c.in_err-write_and_flush.ensures.err.1;
     })
@@ -109,7 +109,7 @@ returns-clause-reported g c =
     (subst (λ (numbers : List ℕ). Gains (g.S.Shelf.steps c.reserve.new.self) (g.S.Shelf.steps c.keep.new.shelf) (puts c.from-from.result numbers c.args.options.start)) c.values.ensures.value c.in_ok-keep.ensures.ok) in
     let text = c.deref.ensures.0 ∙ c.save_report.ensures in
     record {
-      saved = record { read = read; is_put = gains_join (g.S.Shelf.steps c.args.shelf.now) (g.S.Shelf.steps c.reserve.new.self) (g.S.Shelf.steps c.keep.new.shelf) (Reserve ∷ []) _ c.in_ok-reserve.ensures.step kept };
+      saved = record { read = read; is_put = gains_join (g.S.Shelf.steps c.args.shelf.now) (g.S.Shelf.steps c.reserve.new.self) (g.S.Shelf.steps c.keep.new.shelf) (Reserve (room_for c.args.options.range) ∷ []) _ (subst (λ n. Gains (g.S.Shelf.steps c.args.shelf.now) (g.S.Shelf.steps c.reserve.new.self) (Reserve n ∷ [])) c.tape_room.ensures c.in_ok-reserve.ensures.step) kept };
       end_is = c.save_end.ensures;
       reported = subst (Appends (g.W.Write.contents c.args.out.now) (g.W.Write.contents c.write_and_flush.new.out)) text c.in_ok-write_and_flush.ensures.ok;
     }
@@ -148,7 +148,7 @@ returns-in_err-core-2-clause-disk_in_vain g c =
     (λ fault. ShelfAsked (g.S.Shelf.disk c.args.shelf.now) (g.S.Shelf.disk c.reserve.new.self) (save_disk_asked_before c.args.options fault))
     c.from_residual-in_err-core-2.ensures.1
     (subst (λ fault. ShelfAsked (g.S.Shelf.disk c.args.shelf.now) (g.S.Shelf.disk c.reserve.new.self) (save_disk_asked_before c.args.options fault)) (sym c.in_err-core-2.ensures.fault.0)
-    (only_reserved (g.S.Shelf.is_opened_as c.reserve.new.self) (g.S.Shelf.disk c.args.shelf.now) (g.S.Shelf.disk c.reserve.new.self) c.in_ok-reserve.ensures.disk))
+    (only_reserved c.args.options (g.S.Shelf.is_opened_as c.reserve.new.self) (g.S.Shelf.disk c.args.shelf.now) (g.S.Shelf.disk c.reserve.new.self) (subst (λ n. ShelfAsked (g.S.Shelf.disk c.args.shelf.now) (g.S.Shelf.disk c.reserve.new.self) (HasRoomIn (g.S.Shelf.is_opened_as c.reserve.new.self) n)) c.tape_room.ensures c.in_ok-reserve.ensures.disk)))
 
 pub returns-in_err-keep-clause-disk : goal.returns-in_err-keep-clause-disk
 returns-in_err-keep-clause-disk g c = no_ok c.from_residual-in_err-keep.result _ _ c.from_residual-in_err-keep.ensures.1
@@ -159,7 +159,7 @@ returns-in_err-keep-clause-disk_in_vain g c =
     (λ fault. ShelfAsked (g.S.Shelf.disk c.args.shelf.now) (g.S.Shelf.disk c.keep.new.shelf) (save_disk_asked_before c.args.options fault))
     c.from_residual-in_err-keep.ensures.1
     (not_kept_on c.args.options (g.S.Shelf.is_opened_as c.reserve.new.self) (g.S.Shelf.disk c.args.shelf.now) (g.S.Shelf.disk c.reserve.new.self) (g.S.Shelf.disk c.keep.new.shelf) c.from-from.result c.values.result.now c.in_err-keep.field-0.0
-    c.from-from.ensures.value c.in_ok-reserve.ensures.disk c.in_err-keep.ensures.disk_in_vain)
+    c.from-from.ensures.value (subst (λ n. ShelfAsked (g.S.Shelf.disk c.args.shelf.now) (g.S.Shelf.disk c.reserve.new.self) (HasRoomIn (g.S.Shelf.is_opened_as c.reserve.new.self) n)) c.tape_room.ensures c.in_ok-reserve.ensures.disk) c.in_err-keep.ensures.disk_in_vain)
 
 pub returns-in_err-write_and_flush-clause-disk : goal.returns-in_err-write_and_flush-clause-disk
 returns-in_err-write_and_flush-clause-disk g c = no_ok c.from_residual-in_err-write_and_flush.result _ _ c.from_residual-in_err-write_and_flush.ensures.1
@@ -170,9 +170,9 @@ returns-in_err-write_and_flush-clause-disk_in_vain g c =
     (λ fault. ShelfAsked (g.S.Shelf.disk c.args.shelf.now) (g.S.Shelf.disk c.keep.new.shelf) (save_disk_asked_before c.args.options fault))
     c.from_residual-in_err-write_and_flush.ensures.1
     (saved_on c.args.options (g.S.Shelf.is_opened_as c.reserve.new.self) (g.S.Shelf.disk c.args.shelf.now) (g.S.Shelf.disk c.reserve.new.self) (g.S.Shelf.disk c.keep.new.shelf) c.from-from.result c.values.result.now
-    c.from-from.ensures.value c.in_ok-reserve.ensures.disk c.in_ok-keep.ensures.disk)
+    c.from-from.ensures.value (subst (λ n. ShelfAsked (g.S.Shelf.disk c.args.shelf.now) (g.S.Shelf.disk c.reserve.new.self) (HasRoomIn (g.S.Shelf.is_opened_as c.reserve.new.self) n)) c.tape_room.ensures c.in_ok-reserve.ensures.disk) c.in_ok-keep.ensures.disk)
 
 pub returns-clause-disk : goal.returns-clause-disk
 returns-clause-disk g c =
     saved_on c.args.options (g.S.Shelf.is_opened_as c.reserve.new.self) (g.S.Shelf.disk c.args.shelf.now) (g.S.Shelf.disk c.reserve.new.self) (g.S.Shelf.disk c.keep.new.shelf) c.from-from.result c.values.result.now
-    c.from-from.ensures.value c.in_ok-reserve.ensures.disk c.in_ok-keep.ensures.disk
+    c.from-from.ensures.value (subst (λ n. ShelfAsked (g.S.Shelf.disk c.args.shelf.now) (g.S.Shelf.disk c.reserve.new.self) (HasRoomIn (g.S.Shelf.is_opened_as c.reserve.new.self) n)) c.tape_room.ensures c.in_ok-reserve.ensures.disk) c.in_ok-keep.ensures.disk

@@ -1,5 +1,5 @@
 -- The blocks of the bytes below an address.
-use Rattle.std.proofs.Common.{◌≡◌, ◌⊎◌, ℕ, ◌+◌, ◌-◌, ◌*◌, ◌<◌, ◌≤◌, List, [], ◌∷◌, ◌++◌, length, get_or, arith, ap, sym, refl, ◌∙◌, subst, inl, inr, Option, Some, None}
+use Rattle.std.proofs.Common.{◌≡◌, ◌⊎◌, ℕ, ◌+◌, ◌-◌, ◌*◌, ◌<◌, ◌≤◌, List, [], ◌∷◌, ◌++◌, length, get_or, arith, ap, sym, refl, ◌∙◌, subst, inl, inr, Option, None}
 use Rattle.std.specs.Prelude.{All, AllPairs, IsSome, sum_by}
 use Rattle.std.specs.Option.{option_or}
 use Rattle.std.proofs.lemmas.Bool.{cases_lt}
@@ -8,7 +8,7 @@ use Rattle.std.proofs.lemmas.List.Quantifiers.{all_pairs_push}
 use Rattle.std.proofs.lemmas.List.Sums.{sum_by_push}
 use Rattle.tape_values.specs.Block.{BlockValue, IsBlock, block_at, top}
 use Rattle.tape_values.specs.Tape.{written_length, tape_limit}
-use Rattle.tape_image.specs.Image.{byte_in, byte_at}
+use Rattle.tape_image.specs.Image.{byte_at}
 use Rattle.tape_image.proofs.Blocks.{byte_in-before, byte_in-inside, byte_in-behind}
 use Rattle.tape_image.proofs.Laying.{byte_at-append}
 use Rattle.tape_making.specs.MadeTape.{IsNextByte, IsRun, IsShort, IsBefore, byte_on}

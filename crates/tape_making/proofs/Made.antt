@@ -1,14 +1,13 @@
 -- The tape of a text, and what is made of an input.
-use Rattle.std.proofs.Common.{◌≡◌, ℕ, ◌+◌, List, Option, None, Result, Ok, Err, get_or, ap, sym, refl, ◌∙◌, subst}
+use Rattle.std.proofs.Common.{◌≡◌, ℕ, List, Option, None, Result, Ok, Err, get_or, ap, sym, ◌∙◌, subst}
 use Rattle.std.specs.Prelude.{IfOk, IfErr, IsErrAnd}
 use Rattle.tape_values.specs.Block.{BlockValue, top}
 use Rattle.tape_values.specs.Tape.{TapeValue}
 use Rattle.tape_image.specs.Image.{byte_at, image_of, image_below}
-use Rattle.tape_image.specs.Plan.{PlanValue, plan_of, plan_with, program_start}
+use Rattle.tape_image.specs.Plan.{plan_with, program_start}
 use Rattle.byte_io.specs.Input.{IsTaken, TakesAtMost}
 use Rattle.byte_io.specs.declared.input.InputFault.{InputFault}
 use Rattle.byte_io.specs.declared.input.InputFault.TheVariants as input
-use Rattle.word_text.specs.Words.{HasRows, IsReading}
 use Rattle.word_text.specs.Reading.{HoldsText, IsWordsFault}
 use Rattle.word_text.specs.Sheet.{bytes_on}
 use Rattle.word_text.specs.declared.sheet.Sheet.{Sheet}
@@ -16,8 +15,6 @@ use Rattle.word_text.specs.declared.refusal.WordsFault.{WordsFault}
 use Rattle.word_text.specs.declared.refusal.WordsFault.TheVariants as words
 use Rattle.tape_making.specs.MadeTape.{IsTapeOf, IsTapeSaid, byte_on}
 use Rattle.tape_making.specs.Making.{IsNotMade, from_input, from_words, input_limit}
-use Rattle.tape_making.specs.declared.making.MakeFault.{MakeFault}
-use Rattle.tape_making.specs.declared.making.MakeFault.TheVariants.{Words, Read, Memory}
 
 -- blocks with the same bytes have the same image
 same_image : (xs ys : List BlockValue) → ((a : ℕ) → byte_at xs a ≡ byte_at ys a) → image_of xs ≡ image_of ys

@@ -1,6 +1,6 @@
 -- The numbers of a line, and what they say.
-use Rattle.std.proofs.Common.{◌≡◌, ◌==◌, ℕ, ◌+◌, ◌-◌, ◌*◌, ◌%◌, ◌<◌, ◌≤◌, List, [], ◌∷◌, ◌++◌, length, take, drop, arith, ap, sym, refl, ◌∙◌, subst, inl, inr, ⊎_elim, Result, Ok, Err, Bool, true, false, Option, Some, None, nat_lt, cond, append-nil}
-use Rattle.std.specs.Prelude.{IsErrAnd, IfSome, MatchResult}
+use Rattle.std.proofs.Common.{◌≡◌, ◌==◌, ℕ, ◌+◌, ◌-◌, ◌*◌, ◌%◌, ◌≤◌, List, [], ◌∷◌, ◌++◌, length, take, drop, arith, ap, sym, refl, ◌∙◌, subst, inr, ⊎_elim, Result, Ok, Err, true, false, Option, Some, None, nat_lt, cond, append-nil}
+use Rattle.std.specs.Prelude.{IsErrAnd, IfSome}
 use Rattle.std.specs.List.{position, position_or_len, before_first, after_first, flat_map}
 use Rattle.std.proofs.lemmas.List.{take_all, take_rest, drop_all}
 use Rattle.std.proofs.lemmas.Bool.Decides.{nat_tests}

@@ -1,5 +1,5 @@
 -- Texts of numbers.
-use Rattle.std.proofs.Common.{◌≡◌, ◌==◌, ◌↔◌, ◌-◌, ℕ, zero, suc, replicate, ◌+◌, ◌<◌, ◌≤◌, List, [], ◌∷◌, ◌++◌, length, map, take, get_or, arith, ap, sym, refl, ◌∙◌, subst, Bor, Result, Ok, Err, MatchResult, Bool, true, false, Option, Some, None, cond, nat_lt}
+use Rattle.std.proofs.Common.{◌≡◌, ◌==◌, ◌↔◌, ◌-◌, ℕ, zero, suc, replicate, ◌+◌, ◌<◌, ◌≤◌, List, [], ◌∷◌, ◌++◌, length, map, take, get_or, arith, sym, refl, ◌∙◌, subst, Bor, Result, Ok, Err, MatchResult, true, false, Option, Some, None, cond, nat_lt}
 use Rattle.std.specs.List.{AllZip}
 use Rattle.std.specs.Prelude.{IsErrAnd, IfSome, IfNone}
 use Rattle.octal.specs.Octal.{IsOct6}

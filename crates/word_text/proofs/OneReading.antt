@@ -1,11 +1,11 @@
 -- A text says one thing.
-use Rattle.std.proofs.Common.{◌≡◌, ℕ, ◌+◌, ◌<◌, ◌≤◌, suc, List, [], ◌∷◌, ◌++◌, length, arith, ap, sym, refl, ◌∙◌, subst, ⊎_elim, Result, Ok, Err, Option}
+use Rattle.std.proofs.Common.{◌≡◌, ℕ, ◌+◌, suc, List, [], ◌∷◌, ◌++◌, length, arith, ap, sym, refl, ◌∙◌, subst, ⊎_elim, Result, Ok, Err, Option}
 use Rattle.std.specs.List.{flat_map}
 use Rattle.std.specs.Option.{option_to_list}
 use Rattle.tape_values.specs.Block.{BlockValue}
 use Rattle.word_text.specs.declared.refusal.WordsWhy.{WordsWhy}
 use Rattle.word_text.specs.declared.refusal.Refusal.{Refusal}
-use Rattle.word_text.specs.Words.{AllSay, Says, HasRows, IsWrongLine, IsReading, lines, words_limit, too_long}
+use Rattle.word_text.specs.Words.{AllSay, Says, HasRows, IsWrongLine, IsReading, lines}
 use Rattle.word_text.proofs.Zips.{zip_same}
 use Rattle.word_text.proofs.Lines.{says_one, not_both}
 use Rattle.word_text.proofs.Readings.{says_so}

@@ -1,11 +1,10 @@
 -- A text as far as it is read.
-use Rattle.std.proofs.Common.{◌≡◌, ℕ, suc, ◌+◌, ◌<◌, ◌≤◌, List, [], ◌∷◌, ◌++◌, length, map, take, drop, get_or, arith, ap, sym, refl, ◌∙◌, subst, inr, Bor, take-append-drop, drop-cons, add-one, Option, Ok, Err, append-nil, length-take-le}
+use Rattle.std.proofs.Common.{◌≡◌, ℕ, suc, ◌+◌, ◌<◌, ◌≤◌, List, [], ◌∷◌, ◌++◌, length, map, take, drop, get_or, arith, ap, sym, refl, ◌∙◌, subst, inr, Bor, take-append-drop, drop-cons, Option, Ok, append-nil, length-take-le}
 use Rattle.std.specs.List.{flat_map}
 use Rattle.std.specs.Option.{option_to_list}
 use Rattle.std.proofs.lemmas.List.{take_all}
 use Rattle.std.proofs.lemmas.List.Concat.{flat_map-append}
 use Rattle.tape_values.specs.Block.{BlockValue}
-use Rattle.word_text.specs.declared.refusal.WordsWhy.{WordsWhy}
 use Rattle.word_text.specs.declared.refusal.LineFault.{LineFault}
 use Rattle.word_text.specs.declared.refusal.LineFault.TheVariants.{Wrong, Memory}
 use Rattle.word_text.specs.declared.sheet.Sheet.{Sheet}

@@ -1,4 +1,4 @@
-use Rattle.std.proofs.Common.{ℕ, ◌-◌, length}
+use Rattle.std.proofs.Common.{◌-◌, length}
 use Rattle.tape_making.proofs.Gathered.{IsGathered}
 use Rattle.tape_making.proofs.tape.tape_of.Given as goal
 

@@ -1,6 +1,6 @@
-use Rattle.std.proofs.Common.{◌≡◌, ℕ, List, [], map, ap, sym, refl, ◌∙◌, subst, Bor}
+use Rattle.std.proofs.Common.{ℕ, List, [], map, ap, sym, refl, ◌∙◌, subst, Bor}
 use Rattle.std.specs.List.{AllZip}
-use Rattle.word_text.specs.Words.{IsNumber, fields}
+use Rattle.word_text.specs.Words.{IsNumber}
 use Rattle.word_text.proofs.Numbers.{numbers_more, no_numbers, numbers_all}
 use Rattle.word_text.proofs.number.numbers_in.Goals as goal
 

@@ -1,6 +1,5 @@
-use Rattle.std.proofs.Common.{List, [], ◌++◌, sym, subst, Some, None, Ok, append-nil}
+use Rattle.std.proofs.Common.{List, sym, subst, Some, None, append-nil}
 use Rattle.tape_values.specs.Block.{BlockValue}
-use Rattle.word_text.specs.Words.{Says}
 use Rattle.word_text.specs.Sheet.{HoldsRows}
 use Rattle.word_text.specs.Reading.{IsLineFault, LaysLine}
 use Rattle.word_text.proofs.Numbers.{error_is}

@@ -1,4 +1,4 @@
-use Rattle.std.proofs.Common.{◌≡◌, ℕ, List, [], map, ap, sym, refl, ◌∙◌, subst, Bor}
+use Rattle.std.proofs.Common.{ℕ, List, [], map, ap, sym, ◌∙◌, subst, Bor}
 use Rattle.word_text.specs.Reading.{IsWordsFault}
 use Rattle.word_text.proofs.Readings.{read_more, read_all, read_wrong}
 use Rattle.word_text.proofs.text.read_words.Goals as goal

@@ -1,6 +1,6 @@
-use Rattle.std.proofs.Common.{◌≡◌, ◌+◌, ◌<◌, ℕ, length, get_or, arith, ap, sym, refl, ◌∙◌, None, Some, length-set, subst}
+use Rattle.std.proofs.Common.{◌≡◌, ◌+◌, ◌<◌, length, get_or, arith, ap, sym, refl, ◌∙◌, None, length-set, subst}
 use Rattle.std.specs.Option.{option_or}
-use Rattle.tape_values.specs.Block.{BlockValue, IsBlock, block_at, top}
+use Rattle.tape_values.specs.Block.{BlockValue, IsBlock, block_at}
 use Rattle.tape_image.proofs.Laying.{byte_in-nothing}
 use Rattle.word_text.proofs.Laying.{laid_more, rows_more}
 use Rattle.word_text.proofs.sheet.Sheet.lay.Goals as goal

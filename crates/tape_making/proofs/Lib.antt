@@ -1,0 +1,4 @@
+mod Runs
+mod Gathered
+mod Refused
+mod Made

@@ -1,0 +1,2 @@
+pub mod MadeTape
+pub mod Making

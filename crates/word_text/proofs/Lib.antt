@@ -1,0 +1,6 @@
+mod Zips
+mod Numbers
+mod Lines
+mod Laying
+mod Readings
+mod OneReading

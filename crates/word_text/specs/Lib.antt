@@ -1,0 +1,4 @@
+pub mod Words
+pub mod Refusal
+pub mod Sheet
+pub mod Reading

@@ -5,7 +5,7 @@ use host_core::End;
 use load_devices::Line;
 use load_engine::Stop;
 use machine_load::{Outcome, StubStop, Stubs};
-use octal::oct6;
+use octal::Octal;
 use request_values::Load;
 use std::fmt;
 use std::io::Print;
@@ -52,11 +52,7 @@ impl fmt::Display for NoStub {
             StubStop::NoRoom => f.write_str("no room for the stub in this tape"),
             StubStop::InVain => f.write_str("three stubs took no word"),
             StubStop::NotStarted(End::NoWord(address)) => {
-                f.write_str("memory ends at ")?;
-                for digit in oct6(address) {
-                    f.write_char(char::from(digit))?;
-                }
-                Ok(())
+                write!(f, "memory ends at {}", Octal(address))
             }
             StubStop::NotStarted(_) => f.write_str("the stub did not start"),
             StubStop::LineFailed(_) => f.write_str("the line failed"),

@@ -17,8 +17,9 @@ from stub_listing import CODE, chunks, stub_words, typed
 # What a word of memory holds before, and so each byte of it.
 BACKGROUND, BACKGROUND_BYTE = 0o125252, 0o252
 
-# The words of a stub of no stretch; each stretch adds two.
+# The words of a stub of no stretch, to which each stretch adds two; and of one.
 LEAST_STUB = len(CODE) + 1
+ONE_STRETCH = LEAST_STUB + 2
 
 # With fewer words to be gained no stub is brought in; of so many words one is sounded; so many stubs may verify nothing.
 LEAST_GAIN, SOUNDED, MOST_IN_VAIN = 256, 1024, 3
@@ -272,10 +273,10 @@ class Model:
 class FastConsole(Keeping, RunningMachine):
     """ODT over a machine on which stubs run, and then the program; it knows the image, and where that is started.
 
-    The line's characters are counted, keys and answers together, in the order in which they pass: the one with the number `lost` is
-    lost, and before one with a number of `at` something is done (an answer's belongs to a WatchedPeer)."""
+    The line's characters are counted, keys and answers together, in the order in which they pass: those with the numbers of `lost`
+    are lost, and before one with a number of `at` something is done (where it is an answer's, by a WatchedPeer)."""
 
-    def __init__(self, image, start=START, words=4096, style=0, stuck=None, lost=None):
+    def __init__(self, image, start=START, words=4096, style=0, stuck=None, lost=()):
         super().__init__(words=words, style=style)
         self.words = StuckWords([BACKGROUND] * words, stuck or {})
         self.image, self.start, self.start_keys = image, start, f"{start:06o}G"
@@ -291,7 +292,7 @@ class FastConsole(Keeping, RunningMachine):
         number = self.passed()
         if action := self.at.pop(number, None):
             action()
-        if number == self.lost:
+        if number in self.lost:
             self.kept.write(key)
             return ""
         return self.without_lost(number + 1, super().take(key))
@@ -303,8 +304,7 @@ class FastConsole(Keeping, RunningMachine):
         """What passes of an answer whose first character has this number."""
         if self.starts[-1:] == [self.start]:
             self.shown += answer
-        place = len(answer) if self.lost is None else self.lost - number
-        return answer if not 0 <= place < len(answer) else answer[:place] + answer[place + 1:]
+        return "".join(it for place, it in enumerate(answer, number) if place not in self.lost)
 
     def started(self):
         if self.starts[-1] != self.start and not self.is_stub_at(self.starts[-1]):
@@ -348,6 +348,17 @@ class WatchedPeer(Peer):
         return super().say(text, send)
 
 
+# ---------------------------------------------------------------- a small load
+
+# The stub takes so many words, and lies in the others.
+GAIN = 300
+IMAGE = image_of(GAIN + ONE_STRETCH)
+WORDS = words_of(IMAGE)
+PLACE = START + 2 * GAIN
+
+# How many characters have passed where its parts end: the stub's start, the exchange, the text of the halt, and all.
+STARTED, EXCHANGED, HALTED, ALL = Model(WORDS, [BACKGROUND] * 4096).fast().borders
+
 # ---------------------------------------------------------------- the tests
 
 
@@ -366,6 +377,9 @@ def record_of(words, mark=False):
             run = [address]
     # The end of a run comes with what follows it.
     return "\n".join(lines) + ("" if run and not mark else "\n") + "G\n" * mark
+
+
+WHOLE = record_of(WORDS, mark=True)
 
 
 def wrong_with(machine, record):
@@ -440,4 +454,5 @@ class FastCase(Case):
     def were_started_once(self):
         super().were_started_once()
         for machine in Keeping.made:
-            self.is_so(machine.strays, [])
+            if isinstance(machine, FastConsole):
+                self.is_so(machine.strays, [])

@@ -4,13 +4,10 @@ import os
 import unittest
 from concurrent.futures import ThreadPoolExecutor
 
-from fast_cases import (BACKGROUND, GREETING, GREETING_TEXT, LEAST_GAIN, LEAST_STUB, START, FastCase, FastConsole, Model, bytes_at, image_of,
-                        memory_with, record_of, words_of)
+from fast_cases import (BACKGROUND, GREETING, GREETING_TEXT, LEAST_GAIN, LEAST_STUB, ONE_STRETCH, START, FastCase, FastConsole, Model, bytes_at,
+                        image_of, memory_with, record_of, words_of)
 from programs import WAITING, placed
 from stub_listing import CHUNK
-
-# The stub of one stretch.
-STUB = LEAST_STUB + 2
 
 THOUSAND = image_of(1000)
 
@@ -35,7 +32,7 @@ class Served(FastCase):
             self.went_as(model, line, self.load(line))
             self.is_so(list(line.machine.words), memory_with(THOUSAND, 4096))
             self.is_so(line.machine.run_on(), "G" + GREETING_TEXT + HALTED_TEXT)
-            self.is_so((model.stubs, model.end), ([START + 2 * (1000 - STUB)], "Started"))
+            self.is_so((model.stubs, model.end), ([START + 2 * (1000 - ONE_STRETCH)], "Started"))
         self.is_so(os.listdir(self.room), ["a.lda"])
 
     def test_a_record(self):
@@ -51,7 +48,7 @@ class Served(FastCase):
 
     def test_it_goes_on_behind_a_record(self):
         """The words that it has are believed: a stub fills those behind them. Half of the first chunk is among these."""
-        for verified in (1, 300, 300 + CHUNK // 4, 1000 - STUB - LEAST_GAIN):
+        for verified in (1, 300, 300 + CHUNK // 4, 1000 - ONE_STRETCH - LEAST_GAIN):
             self.put("a.record", record_of(words_of(THOUSAND)[:verified]).encode())
             peer = self.console_at(FastConsole(THOUSAND))
             model = self.model(verified=verified).fast()
@@ -157,7 +154,7 @@ class Images(FastCase):
         peer = self.console_at(FastConsole(image, start=start, words=28672))
         model = Model(words_of(image), [BACKGROUND] * 28672, start=start).fast()
         self.went_as(model, peer, self.load(peer))
-        self.is_so(model.stubs, [0o160000 - 2 * STUB])
+        self.is_so(model.stubs, [0o160000 - 2 * ONE_STRETCH])
         self.is_so(list(peer.machine.words), memory_with(image, 28672))
 
     def test_the_first_words_of_memory(self):
@@ -170,7 +167,7 @@ class Images(FastCase):
 
     def test_as_few_words_as_a_stub_serves(self):
         """256 before the window; with one less all is typed."""
-        for words, stubs in ((STUB + LEAST_GAIN, 1), (STUB + LEAST_GAIN - 1, 0)):
+        for words, stubs in ((ONE_STRETCH + LEAST_GAIN, 1), (ONE_STRETCH + LEAST_GAIN - 1, 0)):
             image = image_of(words)
             self.put_tape("a.lda", image)
             peer = self.console_at(FastConsole(image))
@@ -203,7 +200,7 @@ class NotServed(FastCase):
 
     def test_too_few_words_before_the_window(self):
         """There are enough words, but behind the last at which a stub could lie."""
-        image = image_of(STUB + 50)
+        image = image_of(ONE_STRETCH + 50)
         image.update(bytes_at({0o4000 + 4 * number: number for number in range(300)}))
         self.is_ordinary(image, "too few words")
 
@@ -230,12 +227,12 @@ class NotServed(FastCase):
             self.went_as(model.fast() if option else model.ordinary(), peer, self.load(peer, "a.lda" + option))
             ends[option] = model.end, list(peer.machine.words)
         self.is_so(ends[""], ends[" --fast"])
-        self.is_so(model.why, f"memory ends at {START + 2 * (400 - STUB - 1):06o}")
+        self.is_so(model.why, f"memory ends at {START + 2 * (400 - ONE_STRETCH - 1):06o}")
         self.assertIn(model.why, self.told(image, " --fast", words))
 
     def test_memory_that_ends_inside_the_stub(self):
         image = image_of(400)
-        words = START // 2 + 400 - STUB + 30
+        words = START // 2 + 400 - ONE_STRETCH + 30
         self.put_tape("a.lda", image)
         peer = self.console_at(FastConsole(image, words=words))
         model = Model(words_of(image), [BACKGROUND] * words).fast()

@@ -7,20 +7,10 @@ import time
 import unittest
 from concurrent.futures import ThreadPoolExecutor
 
-from fast_cases import BACKGROUND, LEAST_STUB, START, FastCase, FastConsole, Model, StuckWords, WatchedPeer, image_of, memory_with, record_of, words_of
+from cases import DeafConsole
+from fast_cases import (ALL, BACKGROUND, EXCHANGED, GAIN, HALTED, IMAGE, ONE_STRETCH, PLACE, START, STARTED, WHOLE, WORDS, FastCase,
+                        FastConsole, Model, StuckWords, WatchedPeer, memory_with)
 from outside import PROGRAM, Answer, kept_in, text_of
-
-# A small load: the stub takes 300 words, and lies in the others.
-STUB = LEAST_STUB + 2
-GAIN = 300
-IMAGE = image_of(GAIN + STUB)
-WORDS = words_of(IMAGE)
-PLACE = START + 2 * GAIN
-WHOLE = record_of(WORDS, mark=True)
-
-# How many characters have passed where its parts end: the stub's start, the exchange, the text of the halt, and all.
-BORDERS = Model(WORDS, [BACKGROUND] * 4096).fast().borders
-STARTED, EXCHANGED, HALTED, ALL = BORDERS
 
 # Loads at a time, in each of the tests that do many.
 AT_ONCE = 4
@@ -82,6 +72,8 @@ class SmallLoads(FastCase):
 
     def setUp(self):
         super().setUp()
+        # Several machines are answered at the same time.
+        self.quiet = max(self.quiet, 300)
         self.put_tape("a.lda", IMAGE)
 
     def each(self, story, rows):
@@ -125,7 +117,7 @@ class BadMemory(SmallLoads):
         """No stub is started. The load ends as one without the option: well, where the image's own word holds."""
         stub, image = Model(WORDS, [BACKGROUND] * 4096), memory_with(IMAGE, 4096)
         stub.bring_in()
-        for address in (PLACE, PLACE + 0o10, PLACE + 2 * STUB - 2):
+        for address in (PLACE, PLACE + 0o10, PLACE + 2 * ONE_STRETCH - 2):
             bit = next(1 << number for number in range(16) if (stub.memory[address // 2] ^ image[address // 2]) >> number & 1)
             stuck = {address: (bit, image[address // 2] & bit)}
             self.is_loaded(stuck, "Started", 0, "the stub did not start")
@@ -156,9 +148,12 @@ class Losses(SmallLoads):
 
     def loses(self, numbers):
         def story(_, lost):
-            it = Load(self, f"{lost}", lost=lost)
+            it = Load(self, f"{lost}", lost=[lost])
             if lost < ALL - 2:
                 it.comes_to_its_end()
+                # Where the stub's own start or its echo is lost, nothing is exchanged, and all is typed.
+                self.is_so(PLACE in it.machine.starts, lost != STARTED - 2)
+                self.is_so(any(nibble in it.machine.typed for nibble in "`abcdefghijklmno"), lost not in (STARTED - 2, STARTED - 1))
                 return
             given = it.lives()
             self.is_so((given.status, given.out[-14:], self.recorded(it.record)), (6, "end Uncertain\n", WHOLE))
@@ -182,6 +177,21 @@ class Losses(SmallLoads):
     def test_in_the_last_part(self):
         self.loses(spread(HALTED, ALL, 15))
 
+    def test_each_part_has_a_patience_of_its_own(self):
+        """One mishap is survived while the stub is typed, and one behind it. Where none is survived there, all is typed."""
+        for patience, lost, stubs, spent in ((1, (100, HALTED + 400), [PLACE], 2), (0, (100,), [], 0)):
+            it = Load(self, f"{patience}", lost=lost)
+            given = it.lives(f"--fast --patience {patience}")
+            self.is_so((given.status, given.out.split(" ", 2)[2]), (0, f"spent {spent} verified {len(WORDS)} of {len(WORDS)}\nend Started\n"))
+            self.is_so((it.machine.starts, self.recorded(it.record)), ([*stubs, START], WHOLE))
+
+    def test_a_console_that_answers_nothing(self):
+        """Two hosts give up, each behind its own mishaps."""
+        peer = self.console_at(DeafConsole())
+        given = self.load(peer, "a.lda --fast --patience 2")
+        self.ends(given, 5, f"sent 6 spent 4 verified 0 of {len(WORDS)}\nend GaveUp\n")
+        self.is_so(peer.machine.typed, "Z" * 6)
+
 
 class Kills(SmallLoads):
     """Loads that are killed and begun again with the same record, with the option and without it."""
@@ -192,6 +202,8 @@ class Kills(SmallLoads):
             it = Load(self, f"{killed_at}")
             self.is_so(it.lives(killed_at=killed_at).status, -9)
             it.comes_to_its_end("--fast" if number % 2 else "")
+            # The first brought in a stub if the machine had its start.
+            self.is_so(PLACE in it.machine.starts, killed_at >= STARTED - 2 or number % 2 == 1)
         self.each(story, numbers)
 
     def test_while_the_stub_is_typed(self):
@@ -208,6 +220,7 @@ class Kills(SmallLoads):
         def story(number, killed_at):
             it = Load(self, f"{killed_at}")
             it.lives(killed_at=killed_at)
+            self.is_so(it.machine.starts, [PLACE, START])
             typed = it.machine.typed
             given = it.lives("--fast" if number else "")
             self.is_so((given.status, given.out), (6, f"sent 0 spent 0 verified {len(WORDS)} of {len(WORDS)}\nend MaybeStarted\n"))
@@ -216,17 +229,19 @@ class Kills(SmallLoads):
 
     def test_lives_in_a_row(self):
         """Each killed in another part than the one before: a stub that waits is halted by whoever comes next."""
+        fast, plain = "--fast", ""
         rows = (
-            (STARTED + 200, 30, STARTED + 100, STARTED - 1),
-            (STARTED - 1, STARTED - 1, STARTED, 4),
-            (STARTED + 40, 5, 6, 7, 8),
-            (EXCHANGED - 1, HALTED - EXCHANGED, 300),
+            ((fast, STARTED + 200), (fast, 30), (plain, 100), (fast, STARTED - 1)),
+            ((fast, STARTED - 1), (fast, STARTED - 1), (plain, 200), (fast, 4)),
+            ((fast, STARTED + 40), (plain, 5), (fast, 6), (plain, 7), (fast, 8)),
+            ((fast, EXCHANGED - 1), (fast, HALTED - EXCHANGED), (plain, 300)),
         )
         def story(number, kills):
             it = Load(self, f"{number}")
-            for place, killed_at in enumerate(kills):
-                it.lives("--fast" if (number + place) % 3 != 2 else "", killed_at)
+            for options, killed_at in kills:
+                it.lives(options, killed_at)
             it.comes_to_its_end()
+            self.assertIn(PLACE, it.machine.starts)
         self.each(story, rows)
 
     def test_a_whole_record_and_each_word_looked_at_again(self):
@@ -235,6 +250,7 @@ class Kills(SmallLoads):
             it = Load(self, f"{killed_at}")
             self.is_so(it.lives("--fast --no-start").status, 0)
             self.is_so(kept_in(self.path(it.record)), ([tuple(word) for word in WORDS], False))
+            self.is_so(it.machine.starts, [PLACE])
             it.lives("--fast --recheck", killed_at)
             it.comes_to_its_end("--fast" if killed_at % 2 else "")
         # The sounding stands: 1 + 4 + 25 characters, before the stub's first word.
@@ -249,6 +265,7 @@ class Power(SmallLoads):
             it = Load(self, f"{killed_at}")
             it.lives(killed_at=killed_at, loses_power=True)
             it.comes_to_its_end("--recheck --fast" if number % 3 else "--recheck")
+            self.is_so(PLACE in it.machine.starts, killed_at >= STARTED - 2 or number % 3 > 0)
         self.each(story, [100, STARTED - 1, STARTED, STARTED + 33, STARTED + 500, EXCHANGED, HALTED, HALTED + 100, ALL - 10])
 
     def test_power_is_lost_while_the_host_goes_on(self):
@@ -293,7 +310,7 @@ class Records(SmallLoads):
             with self.subTest(size):
                 given = self.load(peer, "a.lda --fast --record a.record", file_size=size)
                 self.is_so((given.status, given.out.split("\n")[1:], given.err), (4, ["end KeepFailed", ""], "ldaodt: cannot write a.record\n"))
-                self.is_so(len(self.recorded()), size)
+                self.is_so((peer.machine.starts, len(self.recorded())), ([PLACE], size))
                 sent, verified = int(given.out.split()[1]), int(given.out.split()[5])
                 kept, _ = kept_in(self.path("a.record"))
                 self.assertTrue(len(kept) < verified <= len(kept) + 8, (given.out, len(kept)))

@@ -201,17 +201,17 @@ class NotServed(FastCase):
     def test_too_few_words_before_the_window(self):
         """There are enough words, but behind the last at which a stub could lie."""
         image = image_of(ONE_STRETCH + 50)
-        image.update(bytes_at({0o4000 + 4 * number: number for number in range(300)}))
+        image.update(bytes_at({0o4000 + 4 * number: number for number in range(150)}))
         self.is_ordinary(image, "too few words")
 
     def test_half_words_everywhere(self):
-        image = {START + 2 * number: number & 255 for number in range(400)}
+        image = {START + 2 * number: number & 255 for number in range(300)}
         image.update(bytes_at({START + 2 * number: word for number, word in enumerate(GREETING)}))
         self.is_ordinary(image, "no room for the stub in this tape")
 
     def test_stretches_that_are_too_short(self):
         """Each has 60 words."""
-        image = {at: byte for at, byte in image_of(500).items() if (at - START) // 2 % 61 != 60}
+        image = {at: byte for at, byte in image_of(300).items() if (at - START) // 2 % 61 != 60}
         self.is_ordinary(image, "no room for the stub in this tape")
 
     def test_memory_that_ends_inside_the_image(self):

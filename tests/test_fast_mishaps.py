@@ -124,22 +124,25 @@ class BadMemory(SmallLoads):
         self.is_loaded(self.wrong_bit(PLACE + 4), f"WontHold {PLACE + 4:06o}", 0, "the stub did not start")
 
     def test_in_a_sounding(self):
-        """The last word before the window."""
-        self.is_loaded(self.wrong_bit(PLACE - 2), f"WontHold {PLACE - 2:06o}", 0, "the stub did not start")
+        """The last word before the window. A person is told."""
+        stuck = self.wrong_bit(PLACE - 2)
+        self.is_loaded(stuck, f"WontHold {PLACE - 2:06o}", 0, "the stub did not start")
+        peer = self.console_at(FastConsole(IMAGE, stuck=stuck))
+        _, told = self.at_a_terminal(lambda terminal: self.load(peer, stderr=terminal))
+        self.assertIn("the stub did not start", told)
 
     def test_the_halt_switch(self):
         """Three stubs halt before they have taken anything, and the rest is typed. A person is told."""
-        told = {}
-        for is_told in (False, True):
+        def halting():
             peer = self.console_at(FastConsole(IMAGE))
             peer.machine.has_halt_switch_on = True
-            model = Model(WORDS, [BACKGROUND] * 4096, has_halt_switch_on=True).fast()
-            if is_told:
-                _, told = self.at_a_terminal(lambda terminal: self.load(peer, stderr=terminal))
-                self.assertIn("the stub did not start", told)
-            else:
-                self.went_as(model, peer, self.load(peer))
-            self.is_so((model.end, peer.machine.starts), ("Started", [PLACE] * 3 + [START]))
+            return peer
+        model, peer = Model(WORDS, [BACKGROUND] * 4096, has_halt_switch_on=True).fast(), halting()
+        self.went_as(model, peer, self.load(peer))
+        self.is_so((model.end, peer.machine.starts), ("Started", [PLACE] * 3 + [START]))
+        peer = halting()
+        _, told = self.at_a_terminal(lambda terminal: self.load(peer, stderr=terminal))
+        self.assertIn("--fast did not serve: three stubs took no word", told)
 
 
 class Losses(SmallLoads):

@@ -187,7 +187,7 @@ class NotServed(FastCase):
         for option in ("", " --fast"):
             peer = self.console_at(FastConsole(image))
             self.went_as(model, peer, self.load(peer, "a.lda" + option))
-            self.is_so(why in self.told(image, option), bool(option))
+            (self.assertIn if option else self.assertNotIn)(why, self.told(image, option))
 
     def told(self, image, option, words=4096):
         """What a load of a.lda shows at a terminal."""

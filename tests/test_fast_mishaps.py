@@ -247,6 +247,19 @@ class Kills(SmallLoads):
             self.assertIn(PLACE, it.machine.starts)
         self.each(story, rows)
 
+    def test_a_look_at_a_machine_on_which_a_stub_waits(self):
+        """It halts the stub and changes nothing; the load then goes on."""
+        it = Load(self, "a")
+        it.lives(killed_at=STARTED + 64 * 3 + 5)
+        words = list(it.machine.words)
+        given = self.ldaodt(["verify", "a.lda", it.peer.name, "--quiet", str(self.quiet)])
+        it.peer.settle()
+        differ = sum(words[address // 2] != value for address, _, value in WORDS)
+        self.is_so((given.status, given.err), (1, ""))
+        self.assertTrue(given.out.endswith(f" looked {len(WORDS)} of {len(WORDS)} differ {differ}\nend Differs\n"), given.out[-200:])
+        self.is_so(list(it.machine.words), words)
+        it.comes_to_its_end()
+
     def test_a_whole_record_and_each_word_looked_at_again(self):
         """The stub lies in words that the old record has: it is begun anew before the first key."""
         def story(_, killed_at):

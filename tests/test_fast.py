@@ -97,12 +97,14 @@ class Served(FastCase):
 
     def test_each_style(self):
         """Of consoles that are there at the same time."""
-        peers = [self.console_at(FastConsole(THOUSAND, style=style)) for style in range(8)]
+        image = image_of(400)
+        self.put_tape("a.lda", image)
+        peers = [self.console_at(FastConsole(image, style=style)) for style in range(8)]
         with ThreadPoolExecutor(4) as pool:
             for style, (peer, given) in enumerate(zip(peers, pool.map(self.load, peers))):
                 with self.subTest(style):
-                    self.went_as(self.model(style=style).fast(), peer, given)
-                    self.is_so(list(peer.machine.words), memory_with(THOUSAND, 4096))
+                    self.went_as(self.model(image, style=style).fast(), peer, given)
+                    self.is_so(list(peer.machine.words), memory_with(image, 4096))
 
     def test_a_program_that_is_loaded_already(self):
         """Each sounding stands; in the window the stub's words replace the image's, and are replaced again."""

@@ -40,6 +40,9 @@ class Keeping:
     # What is typed behind the start, where a test says that something is; None where nobody asks.
     behind_start = ""
 
+    # The keys of the start; where others are started before the program, its address belongs to them.
+    start_keys = "G"
+
     def __init__(self, words=28672, memory=None, style=0, says=()):
         super().__init__(words, style, says)
         self.typed, self.times, self.answered = "", [], 0
@@ -219,7 +222,7 @@ class Case(unittest.TestCase):
         nothing behind it but what the test says."""
         for machine in Keeping.made:
             if machine.behind_start is not None:
-                self.is_so(machine.typed.partition("G")[2], machine.behind_start)
+                self.is_so(machine.typed.partition(machine.start_keys)[2], machine.behind_start)
 
     def path(self, name):
         return os.path.join(self.room, name)

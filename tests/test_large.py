@@ -10,6 +10,7 @@ from cases import BabblingPeer, Case, Console
 from outside import Answer, block, bytes_of, run, tape_of
 
 import odt_peer
+from fast_cases import FastCase
 
 WORDS = 28672
 # Twenty-eight words in each block, none of them zero, since addresses end below 177777.
@@ -203,6 +204,14 @@ class Turns(Case):
             enough, too_many = pool.map(lambda peer: self.ldaodt(f"load first.lda 127.0.0.1:{peer.port} --quiet 2000"), peers)
         self.ends(enough, 0, "sent 30 spent 0 verified 1 of 1\nend Started\n")
         self.ends(too_many, 5, "sent 30 spent 0 verified 1 of 1\nend TurnsOver\n")
+
+
+class Fast(FastCase):
+    """A large tape that a stub takes."""
+
+    def test_how_many_characters_pass(self):
+        self.quiet = max(self.quiet, 2000)
+        self.passes_in(28000, 0, 236_000, 1_736_019)
 
 
 class TooLong(Case):

@@ -105,6 +105,30 @@ def bytes_of(path):
         return b""
 
 
+def kept_in(path):
+    """What a record tells, of either version: its words as address, mask and value, and whether the mark is there."""
+    lines = bytes_of(path).decode("latin-1").split("\n")
+    whole, torn, words, mark = lines[:-1], lines[-1], [], False
+    if not whole:
+        return [], False
+    if whole[0] not in ("LDAODT 1", "LDAODT 2"):
+        raise ValueError(f"a record begins with {whole[0]!r}")
+    for line in whole[1:]:
+        fields = line.split(" ")
+        if line == "G":
+            mark = True
+        elif whole[0] == "LDAODT 1":
+            words.append(tuple(int(it, 8) for it in fields))
+        elif fields[0] == "H":
+            words.append(tuple(int(it, 8) for it in fields[1:]))
+        else:
+            words.extend((int(fields[0], 8) + 2 * i, 0o177777, int(it, 8)) for i, it in enumerate(fields[1:]))
+    if whole[0] == "LDAODT 2" and torn[:1] in "01":
+        address, *values = torn.split(" ")
+        words.extend((int(address, 8) + 2 * i, 0o177777, int(it, 8)) for i, it in enumerate(values) if len(it) == 6)
+    return words, mark
+
+
 # ---------------------------------------------------------------- a busy computer
 
 class HeldUp(threading.Thread):

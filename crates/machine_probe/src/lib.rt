@@ -19,7 +19,7 @@ mod runs;
 mod search;
 mod stopwatch;
 
-pub use machine_probe::find_end;
+pub use memory_end::find_end;
 pub use probe_fault::ProbeFault;
 pub use probe_options::ProbeOptions;
 pub use probing::probe;

@@ -19,11 +19,11 @@ mod told_step;
 pub use failing_devices::{BrokenInput, BrokenOutput, NOWHERE, UnflushedOutput};
 pub use files::{opened, remove};
 pub use notes::{Failing, Notes, Step};
-pub use simulated_system::{FailingSteps, ToldDisk};
 pub use system::{AMPLE, Console, DEVICE, QUIET_MS, Setting, System};
 pub use tapes::{
     NOTHING, ONE_WORD, ONE_WORD_DIALOGUE, ONE_WORD_TEXT, OVERLAP, PADDED, WRONG_SUM,
     plan_of_one_word,
 };
+pub use told_disk::{FailingSteps, ToldDisk};
 pub use told_file::ToldFile;
 pub use told_step::{ToldRequest, ToldStep};

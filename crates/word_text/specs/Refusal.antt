@@ -1,4 +1,4 @@
--- What is said of words that are refused (this project's own; docs/TAPE.md).
+-- What is said of words that are refused (this project's own).
 use Rattle.std.specs.Prelude.{ℕ, List, ◌++◌, codes, decimal}
 use Rattle.word_text.specs.declared.refusal.WordsWhy.{WordsWhy}
 use Rattle.word_text.specs.declared.refusal.WordsWhy.TheVariants.{BadNumber, NoWords, OddAddress, PastTop, TooLong}

@@ -1,4 +1,4 @@
--- Words as octal text: what a line says, and what a text says (this project's own; docs/TAPE.md).
+-- Words as octal text: what a line says, and what a text says (this project's own).
 use Rattle.std.specs.Prelude.{◌≡◌, ◌==◌, ◌⊎◌, ◌||◌, ℕ, ◌+◌, ◌-◌, ◌*◌, ◌%◌, ◌<◌, ◌≤◌, Bool, not, nat_lt, if◌then◌else◌}
 use Rattle.std.specs.Prelude.{List, [], ◌∷◌, ◌++◌, length, replicate, Option, Some, None, Result, Ok, Err}
 use Rattle.std.specs.List.{AllZip, filter, slice_split, before_first, after_first, position_or_len, flat_map}

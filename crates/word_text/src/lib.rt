@@ -6,7 +6,7 @@
 //!
 //! `read_words` lays the words of a text on a `Sheet`, a byte for each address of memory, or answers the
 //! first line that is wrong, by its number, and why. A text says one thing alone (`one_reading`).
-//! `tape_making` makes a tape of a sheet; `docs/TAPE.md` is the page for those who write words.
+//! `tape_making` makes a tape of a sheet. No command reads such a text yet.
 #![tactic(auto)]
 
 mod law;

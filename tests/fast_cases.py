@@ -160,6 +160,16 @@ class Model:
         """How long a new line and a prompt are."""
         return 3 + self.second_return
 
+    def looking_first(self):
+        """Looks before at words that count as verified: at each seventh of the way from the first to the last, or at all."""
+        count = self.verified
+        if count:
+            self.says("Z", 1 + self.prompt() + self.echo)
+        for place in range(count) if count <= 8 else [it * (count - 1) // 7 for it in range(8)]:
+            self.look(self.words[place].address)
+            self.says("\r", self.prompt())
+        return self
+
     def ordinary(self):
         """Loads the rest by ODT, and starts."""
         self.end = self.visit_all(self.words[self.verified:], counted=True) or ("Loaded" if self.start is None else "Started")

@@ -170,7 +170,7 @@ class Scripts(Many):
 
     def setUp(self):
         super().setUp()
-        self.put("good.script", b"clean\n")
+        self.put("good.script", b"# the first digit is lost\nto 4\ndown 0\nquiet\n" + b"# nothing\n" * 1000 + b"\nclean\n")
         self.put("bad.script", b"what is this\n")
         self.put("bad.lda", BAD)
         os.mkdir(self.path("folder"))
@@ -179,10 +179,11 @@ class Scripts(Many):
         return ["rehearse", names[0], script, *names[1:]]
 
     def test_all_are_good(self):
+        """A script of several lines, and of more than a buffer. A lost digit costs four keys more."""
         given = self.answers(self.words("good.script", self.names))
         stand = "".join(f"{address(number):06o} {value(number):06o} stands\n" for number in range(TAPES))
-        self.is_so((given.status, given.err), (0, ""))
-        self.assertIn(f"verified {TAPES} of {TAPES}\nend Started\nodt Running 001000\n{stand}", given.out)
+        report = f"sent {1 + 22 * TAPES + 7 + 4} lost 1 spent 1 verified {TAPES} of {TAPES}\nend Started\nodt Running 001000\n"
+        self.is_so(given, Answer(0, report + stand, ""))
 
     def test_faults_in_their_order(self):
         for script, names, status, fault in (

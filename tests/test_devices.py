@@ -100,11 +100,11 @@ class Loads(Devices):
                 self.is_so(bytes_of(self.path(f"{number}.record")).decode(), MARKED)
 
     def test_a_machine_that_starts_over_behind_a_record(self):
-        """The record's word is not looked at again, over a device as over a port."""
+        """The record's word is looked at first, over a device as over a port."""
         device = self.device_at(Console(memory={0o1000: 0o011064}))
         self.put("a.record", b"LDAODT 2\n001000 011064\n")
-        self.ends(self.load(device, "first.lda --record a.record"), 0, "sent 8 spent 0 verified 1 of 1\nend Started\n")
-        self.was_typed(device, "Z001000G")
+        self.ends(self.load(device, "first.lda --record a.record"), 0, "sent 17 spent 0 verified 1 of 1\nend Started\n")
+        self.was_typed(device, "Z001000/\rZ001000G")
 
     def test_a_word_that_is_no_memory(self):
         device = self.device_at(Console(words=256))

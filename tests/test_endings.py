@@ -12,6 +12,9 @@ from concurrent.futures import ThreadPoolExecutor
 from cases import Case, Console, DeafConsole
 from outside import Answer, bytes_of, tape_of
 
+# What a probe says of a console that answers nothing.
+NO_PROMPT = 'prompt no\nheard nothing\nhelp: docs/REAL-MACHINE.md, "Nothing answers"\nend NoPrompt\n'
+
 # The tape that `save` makes of the word at 001000: it starts nothing.
 SAVED = tape_of([(0o1000, b"\x34\x12")])
 
@@ -168,22 +171,23 @@ class Numbers(Case):
         self.put_tapes("first.lda")
 
     def test_a_patience_is_used_up(self):
-        """A console that answers nothing gets one key, and one for each mishap."""
+        """A console that answers nothing gets one key, and one for each mishap: of a probe, whose first look it is, too."""
         values = sorted({0, 1000, *range(13), *(power + by for power in (16, 32, 64, 100, 128, 256, 512) for by in (-1, 0, 1)), 500, 999})
-        counts = {"load first.lda LINE": "verified 0 of 1", "verify first.lda LINE": "looked 0 of 1 differ 0"}
-        rows = [(value, words) for value in reversed(values) for words in counts]
+        counts = {"load first.lda LINE": "verified 0 of 1", "verify first.lda LINE": "looked 0 of 1 differ 0", "save a.lda LINE 1000 1000": "read 0 of 1"}
+        rows = [(value, words) for value in reversed(values) for words in (*counts, "probe LINE")]
 
         def given(row):
             value, words = row
             peer = self.console_at(DeafConsole())
-            answer = self.ldaodt(words.replace("LINE", peer.address) + f" --quiet 1 --patience {value}")
+            words = words.replace("LINE", peer.address).replace("a.lda", f"{value}.lda")
+            answer = self.ldaodt(words + f" --quiet 1 --patience {value}")
             peer.settle()
             return answer, peer.machine.typed
 
         with ThreadPoolExecutor(16) as pool:
             for (value, words), answer in zip(rows, pool.map(given, rows)):
                 with self.subTest(words, patience=value):
-                    report = f"sent {value + 1} spent {value} {counts[words]}\nend GaveUp\n"
+                    report = f"sent {value + 1} spent {value} {counts[words]}\nend GaveUp\n" if words in counts else NO_PROMPT
                     self.is_so(answer, (Answer(5, report, ""), "Z" * (value + 1)))
 
     def test_every_number_is_taken_and_no_other(self):

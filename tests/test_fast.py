@@ -47,14 +47,21 @@ class Served(FastCase):
         self.is_so((peer.machine.typed, peer.connections), (model.keys, 1))
 
     def test_it_goes_on_behind_a_record(self):
-        """The words that it has are believed: a stub fills those behind them. Half of the first chunk is among these."""
+        """Eight of the words that it has are looked at, and the others believed: a stub fills those behind them. Half of the
+        first chunk is among these."""
         for verified in (1, 300, 300 + CHUNK // 4, 1000 - ONE_STRETCH - LEAST_GAIN):
             self.put("a.record", record_of(words_of(THOUSAND)[:verified]).encode())
+            places = {it * (verified - 1) // 7 for it in range(8)}
+            memory = [BACKGROUND] * 4096
+            for place in places:
+                memory[START // 2 + place] = words_of(THOUSAND)[place].value
             peer = self.console_at(FastConsole(THOUSAND))
-            model = self.model(verified=verified).fast()
+            peer.machine.words.set_all(memory)
+            model = self.model(memory=memory, verified=verified).looking_first().fast()
             self.went_as(model, peer, self.load(peer, "a.lda --fast --record a.record"))
             self.is_so((len(model.stubs), self.recorded()), (1, record_of(words_of(THOUSAND), mark=True)))
-            self.is_so(set(peer.machine.words[START // 2:START // 2 + verified]), {BACKGROUND})
+            believed = [peer.machine.words[START // 2 + it] for it in range(verified) if it not in places]
+            self.is_so(set(believed) - {BACKGROUND}, set())
 
     def test_recheck(self):
         """Nothing of the record is believed: a machine that lost its memory gets all of it."""
@@ -66,15 +73,16 @@ class Served(FastCase):
         self.is_so(list(peer.machine.words), memory_with(THOUSAND, 4096))
 
     def test_no_start(self):
-        """A later load with the record types the start alone, and brings in no stub."""
+        """A later load with the record looks at eight words and types the start alone, and brings in no stub."""
         peer = self.console_at(FastConsole(THOUSAND))
         model = self.model(start=None).fast()
         self.went_as(model, peer, self.load(peer, "a.lda --fast --no-start --record a.record"))
         self.is_so((model.end, self.recorded()), ("Loaded", record_of(words_of(THOUSAND))))
         for words in ("a.lda --fast --no-start --record a.record", "a.lda --fast --record a.record"):
             given = self.load(peer, words)
-        self.ends(given, 0, "sent 8 spent 0 verified 1000 of 1000\nend Started\n")
-        self.is_so((peer.machine.typed, peer.connections), (model.keys + "Z001000G", 2))
+        self.ends(given, 0, "sent 73 spent 0 verified 1000 of 1000\nend Started\n")
+        looks = self.model(verified=1000).looking_first().keys
+        self.is_so((peer.machine.typed, peer.connections), (model.keys + looks + "Z001000G", 2))
         self.is_so(self.recorded(), record_of(words_of(THOUSAND), mark=True))
 
     def test_another_start(self):

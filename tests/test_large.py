@@ -78,22 +78,24 @@ class FullImage(Case):
             self.ends(given, 6, "sent 0 spent 0 verified 28672 of 28672\nend MaybeStarted\n")
             self.is_so(left, marked)
         self.is_so(peer.connections, 0)
-        # Without the mark there is a start to type: the record is written anew, and the line breaks.
+        # Without the mark there is a start to type: eight words are looked at, the record is written anew, and the line breaks.
         for unmarked in whole.values():
+            peer = self.console_at(Console(memory=dict(IMAGE)), close_after=5 + 8 * 25)
             given, left = self.recorded("starting.lda", unmarked, peer)
-            self.ends(given, 4, "sent 0 spent 0 verified 28672 of 28672\nend LineFailed\n", "ldaodt: line failed\n")
+            self.ends(given, 4, "sent 65 spent 0 verified 28672 of 28672\nend LineFailed\n", "ldaodt: line failed\n")
             self.is_so(left, whole[2])
-        self.is_so((peer.connections, peer.machine.typed), (2, ""))
 
     def test_a_load_goes_on_behind_a_long_record(self):
-        """Of the last 500 words each other one stands: of the rest one half has 22 keys, the other 8."""
+        """Eight words of the record are looked at, and the others believed. Of the last 500 words each other one stands: of the
+        rest one half has 22 keys, the other 8."""
         done, due = IMAGE[:-500], IMAGE[-500:]
-        peer = self.console_at(Console(memory=dict(due[::2])))
+        held = dict(done[it * (len(done) - 1) // 7] for it in range(8))
+        peer = self.console_at(Console(memory={**held, **dict(due[::2])}))
         given, left = self.recorded("starting.lda", record_of(done, 2), peer)
-        self.ends(given, 0, f"sent {1 + 250 * 22 + 250 * 8 + 7} spent 0 verified 28672 of 28672\nend Started\n")
+        self.ends(given, 0, f"sent {65 + 1 + 250 * 22 + 250 * 8 + 7} spent 0 verified 28672 of 28672\nend Started\n")
         self.is_so(left, record_of(IMAGE, 2) + "\nG\n")
         self.is_so([(address, peer.machine.word(address)) for address, _ in due], due)
-        self.is_so((set(peer.machine.words[:len(done)]), peer.machine.starts), ({0}, [0]))
+        self.is_so(({address for address, _ in done if peer.machine.word(address)} - set(held), peer.machine.starts), (set(), [0]))
 
 
 # How many words the plans of `Sizes` have.
@@ -107,7 +109,7 @@ def at_a_console(room, memory, words):
     """Runs a command at a console of its own that has these words, in a process of its own, since four are faster so;
     the quiet time is far above what a busy computer needs. Returns the answer and the starts."""
     peer = odt_peer.Peer(Console(memory=memory), at_once=True)
-    given = run([word.replace("LINE", peer.name) for word in words.split()] + ["--quiet", "2000"], cwd=room, seconds=600)
+    given = run([word.replace("LINE", peer.name) for word in words.split()] + ["--quiet", "2000"], cwd=room, seconds=400)
     peer.close()
     return given, peer.machine.starts
 
@@ -136,7 +138,8 @@ class Sizes(Case):
         started = lambda keys, words: Answer(0, f"sent {keys + 8} spent 0 verified {words} of {words}\nend Started\n", "")
         rows = [(dict(IMAGE[:words]), f"load {words}.lda LINE", started(8 * words, words), [0]) for words in SIZES]
         for words in SIZES:
-            keys = 8 * min(words, LEFT)
+            # Eight words of the record are looked at, behind a `Z`.
+            keys = 8 * min(words, LEFT) + (65 if words > LEFT else 0)
             rows.append((dict(IMAGE[:words]), f"load {words}.lda LINE --record {words}.record", started(keys, words), [0]))
         rows.append((dict(IMAGE[:8192]), "load 8192.lda LINE --record made.record", started(8 * 8192, 8192), [0]))
         files = {words: os.stat(self.path(f"{words}.record")).st_ino for words in SIZES}
@@ -153,7 +156,8 @@ class Sizes(Case):
         for words in SIZES:
             self.put(f"{words}.other", (record_of(IMAGE[:words][:-LEFT], 2) + "0" * 3000).encode())
             os.symlink(f"{words}.other", self.path(f"{words}.link"))
-            report = f"sent {8 * min(words, LEFT) + 8} spent 0 verified {words} of {words}\nend Started\n"
+            keys = 8 * min(words, LEFT) + (65 if words > LEFT else 0)
+            report = f"sent {keys + 8} spent 0 verified {words} of {words}\nend Started\n"
             rows.append((dict(IMAGE[:words]), f"load {words}.lda LINE --record {words}.link", Answer(0, report, ""), [0]))
         files = {words: os.stat(self.path(f"{words}.other")).st_ino for words in SIZES}
         self.all_end(rows)
@@ -165,13 +169,15 @@ class Sizes(Case):
         """All words differ from memory, which is zero; all of it is saved."""
         differs = "".join(f"{address:06o} 177777 {value:06o} differs 000000\n" for address, value in IMAGE[:8192])
         report = f"sent {1 + 8 * 8192} spent 0 looked 8192 of 8192 differ 8192\nend Differs\n"
-        saved = Answer(0, f"sent {1 + 8 * 8192} spent 0 read 8192 of 8192\nend Saved\n", "")
+        saved = lambda words: Answer(0, f"sent {1 + 8 * words} spent 0 read {words} of {words}\nend Saved\n", "")
         self.all_end([
+            (dict(IMAGE), "save all.lda LINE 0 157776", saved(WORDS), []),
             ({}, "verify 8192.lda LINE", Answer(1, differs + report, ""), []),
-            (dict(IMAGE), "save saved.lda LINE 0 37776", saved, []),
+            (dict(IMAGE), "save saved.lda LINE 0 37776", saved(8192), []),
         ])
-        words = "".join(f"{address:06o} 177777 {value:06o}\n" for address, value in IMAGE[:8192])
-        self.is_so(self.ldaodt("check saved.lda").out.split("words ", 1)[1], "8192\n" + words)
+        for name, count in (("saved.lda", 8192), ("all.lda", WORDS)):
+            words = "".join(f"{address:06o} 177777 {value:06o}\n" for address, value in IMAGE[:count])
+            self.is_so(self.ldaodt(f"check {name}").out.split("words ", 1)[1], f"{count}\n{words}")
 
 
 class SmallBlocks(Case):

@@ -88,12 +88,12 @@ class Endings(Loads):
             self.holds({"a.record": record})
         self.was_typed(peer, "", connections=0)
 
-    def test_a_word_that_is_verified_is_not_looked_at(self):
+    def test_a_word_that_is_verified_is_looked_at_first_and_not_again(self):
         peer = self.console_at(Console(memory={0o1000: 0o011064}))
         self.put("a.record", OLD_VERIFIED.encode())
-        self.ends(self.recorded(peer), 0, "sent 8 spent 0 verified 1 of 1\nend Started\n")
+        self.ends(self.recorded(peer), 0, "sent 17 spent 0 verified 1 of 1\nend Started\n")
         self.holds({"a.record": MARKED})
-        self.was_typed(peer, "Z001000G")
+        self.was_typed(peer, "Z001000/\rZ001000G")
 
     def test_no_memory_at_the_word(self):
         """256 words of memory end right below 001000."""
@@ -110,11 +110,11 @@ class Endings(Loads):
         hung_up = self.recorded(peer, "two-words.lda")
         self.ends(hung_up, 4, "sent 24 spent 0 verified 1 of 2\nend LineFailed\n", "ldaodt: line failed\n")
         self.holds({"a.record": "LDAODT 2\n001000 031421"})
-        # The word that it has is not looked at again; the one that it lacks stands, but for a byte that is not the tape's.
+        # The word that it has is looked at first; the one that it lacks stands, but for a byte that is not the tape's.
         peer.close_after, peer.machine = None, Console(memory={0o1000: 0o031421, 0o1002: 0o125504})
-        self.ends(self.recorded(peer, "two-words.lda"), 0, "sent 16 spent 0 verified 2 of 2\nend Started\n")
+        self.ends(self.recorded(peer, "two-words.lda"), 0, "sent 25 spent 0 verified 2 of 2\nend Started\n")
         self.holds({"a.record": "LDAODT 2\n001000 031421\nH 001002 000377 000104\nG\n"})
-        self.was_typed(peer, "Z001002/\r001000G", connections=2)
+        self.was_typed(peer, "Z001000/\rZ001002/\r001000G", connections=2)
         self.is_so(peer.machine.word(0o1002), 0o125504)
 
     def test_a_word_of_which_the_tape_has_one_byte(self):
@@ -172,9 +172,9 @@ class Starts(Loads):
         self.was_typed(peer, "Z001000/011064\r001000/\r")
         self.ends(self.recorded(peer, "first.lda --no-start"), 0, "sent 0 spent 0 verified 1 of 1\nend Loaded\n")
         self.holds({"a.record": "LDAODT 2\n001000 011064"})
-        self.ends(self.recorded(peer), 0, "sent 8 spent 0 verified 1 of 1\nend Started\n")
+        self.ends(self.recorded(peer), 0, "sent 17 spent 0 verified 1 of 1\nend Started\n")
         self.holds({"a.record": MARKED})
-        self.was_typed(peer, "Z001000/011064\r001000/\rZ001000G", connections=2)
+        self.was_typed(peer, "Z001000/011064\r001000/\rZ001000/\rZ001000G", connections=2)
 
     def test_no_start_of_a_record_with_a_mark(self):
         """Such a record is none of a load that starts nothing, and stays."""
@@ -275,6 +275,7 @@ class Silence(Loads):
             ("", 4.0, gave_up),
             ("--quiet 300", 1.5, gave_up),
             ("--quiet 3000", 2.3, started),
+            ("--quiet 15000", 12.0, started),
         )
         peers = [self.console_at(LateConsole(late)) for _, late, _ in rows]
         with ThreadPoolExecutor(len(rows)) as pool:
@@ -320,12 +321,13 @@ class Records(Loads):
         self.is_so([os.readlink(self.path(name)) for name in ("full", "zero", "null")], ["/dev/full", "/dev/zero", "/dev/null"])
 
     def test_a_full_disk_leaves_the_old_record(self):
+        """It is found out right behind the looks."""
         for record in (VERIFIED, OLD_VERIFIED):
-            peer = self.console_at(Console())
+            peer = self.console_at(Console(memory={0o1000: 0o011064}))
             self.put("a.record", record.encode())
             self.ends(self.recorded(peer, file_size=0), 4, "", "ldaodt: cannot write a.record\n")
             self.holds({"a.record": record})
-            self.was_typed(peer, "")
+            self.was_typed(peer, "Z001000/\r")
 
     def test_a_disk_that_becomes_full(self):
         """What can't be kept isn't acted upon: the key that was due is counted, and not sent.

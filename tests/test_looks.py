@@ -9,7 +9,6 @@ import random
 import re
 import shutil
 import signal
-import stat
 import subprocess
 import time
 import unittest
@@ -22,7 +21,7 @@ FAILED = "ldaodt: line failed\n"
 
 # Runs a command where this folder is the root, with the system's libraries in it.
 IN_A_ROOT = 'for it in lib lib64 usr; do [ -e /$it ] && mkdir -p $it && mount --rbind /$it $it || exit; done; exec chroot . "$@"'
-BESIDE = ".ldaodt-new"
+BESIDE = ".part"
 
 # What passes at a look at two words of a machine of zeroed memory, keys and answers in their order, and which of these
 # are keys. A number counts once its space has come.
@@ -300,20 +299,6 @@ class Files(Looks):
         self.ends(given, 4, "", "ldaodt: cannot write ''\n")
         self.is_so(line.connections, 0)
 
-    def test_what_stands_beside(self):
-        """What a save left that was killed goes; a folder or a pipe of that name stays, and then none can be made. Who
-        opened the pipe would wait for somebody to write to it."""
-        self.put(f"a.lda{BESIDE}", b"left")
-        line = self.console_at(Console())
-        self.ends(self.look(line, "save a.lda LINE 1000 1000"), 0, "sent 9 spent 0 read 1 of 1\nend Saved\n")
-        self.is_so((bytes_of(self.path("a.lda")), os.path.exists(self.path(f"a.lda{BESIDE}"))), (as_tape(0o1000, [0]), False))
-        os.mkdir(self.path(f"b.lda{BESIDE}"))
-        self.is_refused("b.lda", "cannot write b.lda")
-        self.is_so(os.listdir(self.path(f"b.lda{BESIDE}")), [])
-        os.mkfifo(self.path(f"c.lda{BESIDE}"))
-        self.is_refused("c.lda", "cannot write c.lda")
-        self.assertTrue(stat.S_ISFIFO(os.lstat(self.path(f"c.lda{BESIDE}")).st_mode))
-
     def test_a_file_in_the_root_folder(self):
         """That of a test's own root: its folder has no name but the slash."""
         rooted = ["unshare", "--user", "--map-root-user", "--mount", "sh", "-c", IN_A_ROOT, "sh"]
@@ -334,21 +319,21 @@ class Files(Looks):
         self.holds({})
 
     def test_a_file_that_somebody_makes_meanwhile(self):
-        """It is as it was, and nothing is reported."""
+        """It is as it was, and nothing is reported; the tape stays beside it."""
         line = self.console_at(SlowConsole())
         process = self.begin(line, "save a.lda LINE 1000 1100")
         self.until(lambda: len(line.machine.typed) > 20)
         self.put("a.lda", b"hello")
         out, err = process.communicate(timeout=60)
         self.is_so((process.returncode, out, err), (4, "", "ldaodt: a.lda is there already\n"))
-        self.holds_in_room({"a.lda": b"hello"})
+        self.holds_in_room({"a.lda": b"hello", f"a.lda{BESIDE}": as_tape(0o1000, [0] * 33)})
 
     def test_two_saves_of_one_name(self):
         """The second is refused, and the first goes on."""
         line, other = self.console_at(SlowConsole()), self.console_at(Console())
         process = self.begin(line, "save a.lda LINE 1000 1100")
         self.until(lambda: len(line.machine.typed) > 20)
-        self.ends(self.look(other, "save a.lda LINE 1000 1000"), 4, "", "ldaodt: cannot write a.lda\n")
+        self.ends(self.look(other, "save a.lda LINE 1000 1000"), 4, "", "ldaodt: a.lda.part is there already\n")
         self.is_so(other.connections, 0)
         out, err = process.communicate(timeout=60)
         self.is_so((process.returncode, out, err), (0, "sent 265 spent 0 read 33 of 33\nend Saved\n", ""))
@@ -459,7 +444,7 @@ class Failures(Looks):
             self.assertIn("end GaveUp", ended)
 
     def test_a_look_that_is_killed(self):
-        """At any moment: memory is what it was, no file has the name, and the next save makes it."""
+        """At any moment: memory is what it was, no file has the name, and the next save makes it, once what is left is gone."""
         words = numbers("killed", 33)
 
         def trial(keys):
@@ -470,6 +455,8 @@ class Failures(Looks):
             process.send_signal(signal.SIGKILL)
             process.wait()
             is_there = os.path.exists(self.path(f"{keys}.lda"))
+            if keys or os.path.exists(self.path(f"{keys}.lda{BESIDE}")):
+                os.remove(self.path(f"{keys}.lda{BESIDE}"))
             line.settle()
             self.has_looked(line, before)
             # A key that was under way may have opened a word, and a look begins at any state of ODT.

@@ -25,6 +25,7 @@ FILES = {
     "large.lda": block(0o1000, b"".join(value.to_bytes(2, "little") for _, value in LARGE)) + block(0o1000, b""),
     "full.lda": block(0, b"\x55" * 57344) + block(0, b""),
     "wordless.lda": block(1, b""),
+    "blocks.lda": b"".join(block(2 * place, b"\1") for place in range(5000)) + block(1, b""),
     "large.script": b"# nothing\n" * 20000 + b"clean",
     "large.record": "".join(["LDAODT 1\n", *(f"{address:06o} 177777 {value:06o}\n" for address, value in LARGE), "G\n"]).encode(),
 }
@@ -36,6 +37,9 @@ LINES = (
     ("", FILES["large.lda"], 0),
     ("check small.lda small.lda", b"", 0),
     ("check large.lda large.lda", b"", 0),
+    ("check --blocks large.lda blocks.lda", b"", 0),
+    ("make new.lda", b"1000/1\n" * 5000 + b"1001 1\n", 3),
+    ("make small.lda", b"0 " + b"125 " * 28672, 4),
     ("dialogue small.lda --words 512", b"", 0),
     ("dialogue large.lda", b"", 0),
     ("rehearse small.lda small.script", b"", 0),
@@ -56,18 +60,30 @@ LINES = (
     ("\x1b" * 20000, b"", 2),
 )
 
+# The same where so few files may be open, two of the loader's among them, that each but the last is read ahead.
+FILES_OPEN = 6
+READ_AHEAD = (
+    ("check full.lda full.lda full.lda small.lda", b"", 0),
+    ("rehearse small.lda large.script small.lda small.lda small.lda", b"", 0),
+)
+
 PROCESSES = 4
 FEWEST = 20
+
+
+def may_open_few():
+    resource.setrlimit(resource.RLIMIT_NOFILE, (FILES_OPEN, FILES_OPEN))
 
 
 def swept(line):
     """Runs a command line with more and more memory; returns how often it was wanting, and what was wrong."""
     words, keys, status = line
+    setup = may_open_few if line in READ_AHEAD else None
     with tempfile.TemporaryDirectory(prefix="scarce-") as room:
         for name, data in FILES.items():
             with open(os.path.join(room, name), "wb") as file:
                 file.write(data)
-        once = lambda starter=(), env=None: run(words.split(), keys, starter=starter, env=env, cwd=room, seconds=60)
+        once = lambda starter=(), env=None: run(words.split(), keys, starter=starter, env=env, setup=setup, cwd=room, seconds=60)
         whole = once()
         if whole.status != status:
             return 0, f"with no limit: {whole}"
@@ -79,8 +95,9 @@ class Memory(Case):
 
     def test_each_command_with_more_and_more_memory(self):
         with ProcessPoolExecutor(PROCESSES, multiprocessing.get_context("fork")) as pool:
-            for line, (wanting, wrong) in zip(LINES, pool.map(swept, LINES)):
-                with self.subTest(line[0][:40]):
+            lines = LINES + READ_AHEAD
+            for line, (wanting, wrong) in zip(lines, pool.map(swept, lines)):
+                with self.subTest(line[0][:60]):
                     self.assertIsNone(wrong)
                     self.assertGreaterEqual(wanting, FEWEST)
 

@@ -15,6 +15,7 @@ NO_INPUT = "ldaodt: cannot read standard input\n"
 PRINTING = {
     "": bytes_of(HELLO),
     "check first.lda": b"",
+    "check --blocks first.lda": b"",
     "dialogue first.lda": b"",
     f"rehearse first.lda {LOST_DIGIT}": b"",
     "type": b"001000/011064\n",
@@ -29,6 +30,7 @@ TOLD = {
     "check no-such.lda": (4, "ldaodt: cannot read no-such.lda\n"),
     "load first.lda x:y": (4, "ldaodt: cannot connect to x:y\n"),
     "check first.lda first.lda long": (3, "ldaodt: tape 3 refused at 1048576: TooLong\n"),
+    "make new.lda long": (3, "ldaodt: words refused at line 1: BadNumber\n"),
     "rehearse first.lda long": (3, "ldaodt: script refused at line 0\n"),
     "load first.lda x:y --record long": (3, "ldaodt: record refused: NotARecord\n"),
     "--dry-run": (2, "error: unexpected argument '--dry-run' found\n\nUsage: ldaodt [COMMAND]\n\nFor more information, try '--help'.\n"),

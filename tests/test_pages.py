@@ -13,7 +13,7 @@ from cases import Case, Console, StoringConsole
 from outside import FIRST, HELLO, PROGRAM, TOP, run
 
 ROW = re.compile(r"^\|(.*)\|$", re.MULTILINE)
-ENDS = re.compile(r"\b(Loaded|Started|Uncertain|MaybeStarted|GaveUp|NoWord|WontHold|TurnsOver|LineFailed|KeepFailed|Same|Differs|Saved"
+ENDS = re.compile(r"\b(Loaded|Started|Uncertain|MaybeStarted|GaveUp|NoWord|WontHold|Stale|TurnsOver|LineFailed|KeepFailed|Same|Differs|Saved"
                   r"|Probed|NotTrusted|NoPrompt)\b")
 
 
@@ -56,10 +56,11 @@ NOT_IN_HELP = {"LineFailed", "KeepFailed"}
 # Whose endings ENDINGS has as those of `all`.
 AT_A_MACHINE = {"load", "verify", "save", "probe"}
 
-# Where the crates have how something ends.
+# Where the crates have how something ends. Behind Ended, Driven and Unfinished stands how an engine did.
 END_TYPES = {
     "crates/host_core/src/phase.rt": "End",
     "crates/load_engine/src/stop.rt": "Stop",
+    "crates/machine_load/src/load_end.rt": "LoadEnd",
     "crates/machine_look/src/verify_end.rt": "VerifyEnd",
     "crates/machine_look/src/save_end.rt": "SaveEnd",
     "crates/probe_report/src/probe_end.rt": "ProbeEnd",
@@ -95,7 +96,7 @@ class Endings(Case):
 
     def test_each_ending_of_the_crates_is_one(self):
         cases = set().union(*(cases_of(file, name) for file, name in END_TYPES.items()))
-        self.is_so(cases - {"Ended"}, set(self.ends) - {"none"})
+        self.is_so(cases - {"Ended", "Driven", "Unfinished"}, set(self.ends) - {"none"})
 
     def test_help_says_the_same(self):
         named = set()
@@ -144,6 +145,19 @@ class Endings(Case):
         told = re.findall(r"`(ldaodt: [^`]*)`", "\n".join(cells[0] for cells in rows_of(section(self.page, "## Faults"))))
         self.assertGreater(len(told), 12)
         self.is_so(set(re.findall(r'^\.It Li "(ldaodt: .*)"$', page, re.MULTILINE)), {it for it in told if not it.startswith("ldaodt: tape K")})
+
+
+class Reasons(Case):
+    """Why tapes and words are refused."""
+
+    def test_each_reason_is_explained(self):
+        """In a table of TAPE and on the manual page."""
+        cases = cases_of("crates/tape_blocks/src/fault.rt", "Why") | cases_of("crates/tape_making/src/refusal.rt", "WordsWhy")
+        self.assertGreater(len(cases), 10)
+        named = [re.fullmatch(r"`([A-Z][a-z]\w+)`", cells[0]) for cells in rows_of(text_at("docs/TAPE.md"))]
+        self.is_so({it[1] for it in named if it}, cases)
+        faults = text_at("docs/ldaodt.1").split(".Sh DIAGNOSTICS")[1]
+        self.is_so({it for it in cases if not re.search(rf"\b{it}\b", faults)}, set())
 
 
 class Options(Case):
@@ -351,9 +365,13 @@ class Pasting(Case):
                 os.remove(f"{room}/{name}")
 
     def paste(self, row):
-        """Pastes a block; returns its status and what it said on standard error. What is only looked at was loaded before."""
+        """Pastes a block; returns its status and what it said on standard error. What is only looked at was loaded before,
+        and what is made isn't there before."""
         number, block = row
         room = self.folder(number)
+        for name in re.findall(r"ldaodt make (\S+)", block):
+            with contextlib.suppress(FileNotFoundError):
+                os.remove(f"{room}/{name}")
         if "verify" in block and "load" not in block:
             loaded = run("load first.lda ./ttyUSB0 --no-start --quiet 300".split(), cwd=room)
             self.is_so((loaded.status, loaded.err), (0, ""))

@@ -50,6 +50,7 @@ class Places(Case):
                       f"verify ./ttyUSB0 {peer.name}"):
             self.is_refused(words, "./ttyUSB0 is a terminal, no tape")
         self.is_refused("rehearse first.lda ./ttyUSB0", "./ttyUSB0 is a terminal, no script")
+        self.is_refused("make new.lda ./ttyUSB0", "./ttyUSB0 is a terminal, no words")
         self.is_refused(f"load first.lda {peer.name} --record ./ttyUSB0", "./ttyUSB0 is a terminal, no record")
         self.is_so(peer.connections, 0)
 

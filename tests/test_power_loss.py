@@ -1,5 +1,5 @@
-"""A machine that lost its power in the middle of a load: what `--recheck` makes of it, and what becomes of the program
-without it. And a line that fails behind `G`.
+"""A machine that lost its power in the middle of a load: what `--recheck` makes of it, and that a load without it finds
+out. And a line that fails behind `G`.
 
 A word that has to be deposited is 22 keys and 40 characters of answers, one that stands 8 and 17, `Z` one and four, and the
 start seven keys.
@@ -19,6 +19,7 @@ WHOLE = BOTH_WORDS + "G\n"
 BEHIND_ONE_WORD = 1 + 4 + 22 + 40
 
 FAILED = "ldaodt: line failed\n"
+STALE = "ldaodt: memory does not hold what the record says: load with --recheck\n"
 LOOK_FIRST = "ldaodt: the start may have gone out: look at the machine first\n"
 GOING_ON = "going on behind 1 of 2 words, listening; power lost? use --recheck"
 
@@ -61,15 +62,16 @@ class PowerLoss(Loads):
         self.ends(self.load(peer, "two-words.lda --record a.record --recheck"), 0, "sent 52 spent 0 verified 2 of 2\nend Started\n")
         self.is_whole_and_started(peer)
 
-    def test_power_lost_and_the_record_believed(self):
-        """Why the documents warn: the first word is not looked at, and the program is started over a memory without it."""
+    def test_power_lost_and_found_out(self):
+        """The first word is looked at first, and the program is not started over a memory without it."""
         peer = self.broken_off()
         peer.machine = Console()
-        self.ends(self.load(peer), 0, "sent 30 spent 0 verified 2 of 2\nend Started\n")
-        self.is_so((peer.machine.word(0o1000), peer.machine.starts), (0, [0o1000]))
+        self.ends(self.load(peer), 5, "sent 9 spent 0 verified 0 of 2\nend Stale 001000\n", STALE)
+        self.is_so((peer.machine.word(0o1000), peer.machine.starts), (0, []))
+        self.holds({"a.record": ONE_WORD})
 
     def test_power_kept(self):
-        """A word that stands costs eight keys, and the record believed costs none."""
+        """A word that stands costs eight keys, also one of the record, which is looked at behind a `Z` of its own."""
         peer = self.broken_off()
         machine = peer.machine
         kept = list(machine.words)
@@ -78,7 +80,7 @@ class PowerLoss(Loads):
         self.put("a.record", ONE_WORD.encode())
         peer.machine = Console()
         peer.machine.words = kept
-        self.ends(self.load(peer), 0, "sent 30 spent 0 verified 2 of 2\nend Started\n")
+        self.ends(self.load(peer), 0, "sent 39 spent 0 verified 2 of 2\nend Started\n")
         self.is_whole_and_started(peer)
 
     def test_what_a_word_costs(self):

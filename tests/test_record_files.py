@@ -2,6 +2,7 @@
 can be no record is refused at once. And what a load makes for its record, and takes away again.
 """
 import os
+import re
 import shutil
 import socket
 import stat
@@ -257,11 +258,11 @@ class OutOfReach(Files):
                     self.refuses(text)
                     os.remove(self.path("a.record"))
         self.put("a.record", self.OTHERS[0])
-        self.ends(self.load("a.record", tape="row.lda"), 0, "sent 16 spent 0 verified 3 of 3\nend Started\n")
+        self.ends(self.load("a.record", tape="row.lda"), 0, "sent 33 spent 0 verified 3 of 3\nend Started\n")
         self.is_so(bytes_of(self.path("a.record")), b"LDAODT 2\n001000 000001 000002 000003\nG\n")
 
     def test_where_only_trying_shows_it(self):
-        """No file can be made beside it: it is refused behind the connection, and before any key."""
+        """No file can be made beside it: it is refused behind the looks, and before any other key."""
         os.mkdir(self.path("a.record.ldaodt-new"))
         for number, text in enumerate(self.OTHERS, 1):
             with self.subTest(text=text):
@@ -270,7 +271,8 @@ class OutOfReach(Files):
                 self.ends(self.load("a.record", tape="row.lda"), 4, "", "ldaodt: cannot write a.record\n")
                 self.is_untouched("a.record", before)
                 self.is_so(bytes_of(self.path("a.record")), text)
-                self.was_nothing_typed(connections=number)
+                self.assertIsNone(re.search(r"/[0-7]|[^0-7/\rZ]", self.peer.machine.typed))
+                self.is_so(self.peer.connections, number)
 
     def test_with_recheck(self):
         """No word is taken: what is written then is the header, which every record of version 2 begins with."""
@@ -281,10 +283,11 @@ class OutOfReach(Files):
         self.is_so(bytes_of(self.path("b.record")), b"LDAODT 2\n001000 000001 000002 000003\nG\n")
 
     def test_a_text_that_is_written_over(self):
-        """Of what stands there and of what is written, one is a front of the other."""
+        """Of what stands there and of what is written, one is a front of the other. A word that stands takes as many keys whether the
+        record has it or not, but for one `Z`."""
         for put in (self.by_a_link, self.by_a_second_name):
-            for text, sent in ((b"", 32), (b"LDAODT", 32), (b"LDAODT 2\n", 32), (b"LDAODT 2\n001000 0000", 32), (b"LDAODT 2\n001000 000001", 24),
-                               (b"LDAODT 2\n001000 000001 0000", 24), (b"LDAODT 2\n001000 000001 000002\n", 16), (b"LDAODT 2\n001000 000001 000002 000003\n", 8)):
+            for text, sent in ((b"", 32), (b"LDAODT", 32), (b"LDAODT 2\n", 32), (b"LDAODT 2\n001000 0000", 32), (b"LDAODT 2\n001000 000001", 33),
+                               (b"LDAODT 2\n001000 000001 0000", 33), (b"LDAODT 2\n001000 000001 000002\n", 33), (b"LDAODT 2\n001000 000001 000002 000003\n", 33)):
                 with self.subTest(put.__name__, text=text):
                     put(text)
                     before = os.lstat(self.path("b.record"))
@@ -358,11 +361,13 @@ class Made(Files):
         given = self.load("a.record", file_size=0)
         self.ends(given, 4, "", "ldaodt: cannot write a.record\n")
         self.assertIn(bytes_of(self.path("a.record")), (b"",))
+        self.is_so(self.peer.machine.typed, "")
         self.put("a.record", VERIFIED.encode())
         before = os.lstat(self.path("a.record"))
+        self.peer.machine = Console(memory={0o1000: 0o011064})
         self.ends(self.load("a.record", file_size=0), 4, "", "ldaodt: cannot write a.record\n")
         self.is_untouched("a.record", before)
-        self.is_so(self.peer.machine.typed, "")
+        self.is_so(self.peer.machine.typed, "Z001000/\r")
 
     def test_permissions_stay(self):
         self.put("a.record", b"")
@@ -385,7 +390,7 @@ class Made(Files):
             self.put("a.record", VERIFIED.encode())
             self.put("a.record.ldaodt-new", text)
             self.peer.machine = Console(memory={0o1000: 0o011064})
-            self.ends(self.load("a.record"), 0, "sent 8 spent 0 verified 1 of 1\nend Started\n")
+            self.ends(self.load("a.record"), 0, "sent 17 spent 0 verified 1 of 1\nend Started\n")
             self.holds({"a.record": MARKED})
 
     def test_long_names(self):

@@ -2,8 +2,9 @@
 
 The reader is written from docs/RECORD.md: it makes the texts that may come next and looks which of them is there. A
 load whose record it refuses is refused, connects to nobody, and leaves the record as it was; so does a load of a
-record with the mark, which is over. Any other load connects, writes its record anew with the words that it found, and
-here the line breaks at once: so its report says how many words those are, and nothing was typed.
+record with the mark, which is over. Any other load connects, and here the line breaks at once: so its report says how many words
+it found, and nothing was typed. Where there are some, it was about to look at them, and the record is as it was; else it
+was written anew. Behind looks it is written anew with the words that were found.
 """
 import os
 import unittest
@@ -130,7 +131,25 @@ class Records(Case):
             return Answer(6, f"{report}end MaybeStarted\n", ""), record, 1
         if count == len(words) and not has_start:
             return Answer(0, f"{report}end Loaded\n", ""), record, 1
-        return Answer(4, f"{report}end LineFailed\n", "ldaodt: line failed\n"), written(words[:count]).encode(), 2
+        left = record if count else written([]).encode()
+        return Answer(4, f"{report}end LineFailed\n", "ldaodt: line failed\n"), left, 2
+
+    def test_it_is_written_anew_behind_the_looks(self):
+        """Of any number of words, in each version; the line breaks right behind the looks, of 25 characters for each word."""
+        for pieces, start in ((PIECES, 0o1000), (ROW, 0o2000)):
+            words = words_of(pieces)
+            self.put("tape.lda", tape_of(pieces, start))
+            for version in (1, 2):
+                for count in range(1, len(words) + 1):
+                    record = whole_record(words[:count], version, "")
+                    self.is_so(read(record.encode(), words, True), (count, False))
+                    self.put("a.record", record.encode())
+                    memory = {address: value for address, _, value in words[:count]}
+                    peer = self.console_at(Console(memory=memory), close_after=5 + 25 * min(8, count))
+                    given = self.ldaodt(f"load tape.lda {peer.address} --quiet {self.quiet} --record a.record")
+                    peer.settle()
+                    self.is_so((given.status, given.out.split("\n")[1]), (4, "end LineFailed"))
+                    self.is_so(bytes_of(self.path("a.record")), written(words[:count]).encode())
 
     def test_each_byte_is_changed(self):
         for version in (1, 2):

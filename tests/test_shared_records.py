@@ -104,7 +104,7 @@ class Round:
         except subprocess.TimeoutExpired:
             load.kill()
             load.communicate()
-            return Answer(None, "", "it did not end within 60 seconds")
+            return Answer(None, "", f"{' '.join(load.args)} did not end within 60 seconds")
         return Answer(load.returncode, text_of(out), text_of(err))
 
     def load(self, kind="the same name", options=None):

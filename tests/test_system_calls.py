@@ -12,7 +12,11 @@ import traced
 
 VERIFIED, MARKED = "LDAODT 2\n001000 011064\n", "LDAODT 2\n001000 011064\nG\n"
 STARTED = "sent 30 spent 0 verified 1 of 1\nend Started\n"
-STOOD = "sent 8 spent 0 verified 1 of 1\nend Started\n"
+STOOD = "sent 17 spent 0 verified 1 of 1\nend Started\n"
+# What is typed of looks at the word of a record.
+LOOKED = "Z001000/\r"
+# A memory that holds it.
+HELD = {0o1000: 0o011064}
 NO_RECORD = "ldaodt: cannot write a.record\n"
 
 WRITES, SYNCS, RENAMES = ("write", "sendto"), ("fsync", "fdatasync"), ("rename", "renameat", "renameat2")
@@ -66,17 +70,17 @@ class Between(Calls):
     def test_a_record_that_is_replaced_while_it_connects(self):
         """It is no longer the file that the load holds, so that the load begins no record."""
         for text in ("", VERIFIED):
-            line = self.console_at(Console())
+            line = self.console_at(Console(memory=HELD))
             self.put("a.record", text.encode())
             self.put("new.record", b"hello")
             self.ends(self.load(line, self.meddling("connect")), 4, "", NO_RECORD)
             self.holds({"a.record": "hello"})
-            self.is_so(line.machine.typed, "")
+            self.is_so(line.machine.typed, LOOKED if text else "")
 
     def test_a_record_that_is_removed_while_it_connects(self):
         """What was written to a file without a name would be lost with it, also where this load made it, or behind a link."""
         for text, name in ((None, "a.record"), ("", "a.record"), (VERIFIED, "a.record"), (VERIFIED, "b.record")):
-            line = self.console_at(Console())
+            line = self.console_at(Console(memory=HELD))
             if text is not None:
                 self.put(name, text.encode())
             if name != "a.record":
@@ -89,7 +93,7 @@ class Between(Calls):
             with self.subTest(text=text, name=name):
                 self.ends(self.load(line, before), 4, "", NO_RECORD)
                 self.assertFalse(os.path.exists(self.path(name)))
-                self.is_so(line.machine.typed, "")
+                self.is_so(line.machine.typed, LOOKED if text else "")
         os.remove(self.path("a.record"))
 
     def test_a_record_that_is_removed_before_it_is_opened(self):
@@ -138,10 +142,10 @@ class Between(Calls):
         """Each file system numbers its files by itself. It is another file, so that the load begins no record."""
         for place in self.PLACES:
             with self.subTest(place):
-                line = self.console_at(Console())
+                line = self.console_at(Console(memory=HELD))
                 self.put("a.record", VERIFIED.encode())
                 self.ends(self.load(line, self.led_elsewhere("a.record", "connect", place)), 4, "", NO_RECORD)
-                self.is_so((bytes_of(self.path("a.record")).decode(), line.machine.typed), (VERIFIED, ""))
+                self.is_so((bytes_of(self.path("a.record")).decode(), line.machine.typed), (VERIFIED, LOOKED))
 
     def test_a_tape_in_whose_place_another_file_stands(self):
         """Where it comes once room was taken, nothing is typed; what a save has written comes to no name. That file is not taken
@@ -150,24 +154,24 @@ class Between(Calls):
             for behind, keys in (("fsync", 0), ("ftruncate", 9)):
                 with self.subTest(place, behind=behind):
                     line = self.console_at(Console())
-                    given = self.ask(line, "save a.lda LINE 1000 1000", self.led_elsewhere("a.lda.ldaodt-new", behind, place))
+                    given = self.ask(line, "save a.lda LINE 1000 1000", self.led_elsewhere("a.lda.part", behind, place))
                     self.ends(given, 4, "", "ldaodt: cannot write a.lda\n")
-                    self.is_so((len(line.machine.typed), sorted(os.listdir(self.room))), (keys, ["a.lda.ldaodt-new", "first.lda"]))
-                    os.remove(self.path("a.lda.ldaodt-new"))
+                    self.is_so((len(line.machine.typed), sorted(os.listdir(self.room))), (keys, ["a.lda.part", "first.lda"]))
+                    os.remove(self.path("a.lda.part"))
 
     def test_a_link_in_the_place_of_a_tape_that_was_written(self):
         """It leads to the tape, and would itself come to the tape's name. Where it comes once room was taken, nothing is typed."""
         for behind, keys in (("fsync", 0), ("ftruncate", 9)):
             def before(call, behind=behind):
-                if call.name == behind and call.file() == "a.lda.ldaodt-new":
-                    os.rename(self.path("a.lda.ldaodt-new"), self.path("b.lda"))
-                    os.symlink("b.lda", self.path("a.lda.ldaodt-new"))
+                if call.name == behind and call.file() == "a.lda.part":
+                    os.rename(self.path("a.lda.part"), self.path("b.lda"))
+                    os.symlink("b.lda", self.path("a.lda.part"))
 
             line = self.console_at(Console())
             self.ends(self.ask(line, "save a.lda LINE 1000 1000", before), 4, "", "ldaodt: cannot write a.lda\n")
             self.assertFalse(os.path.lexists(self.path("a.lda")))
-            self.is_so((len(line.machine.typed), os.readlink(self.path("a.lda.ldaodt-new"))), (keys, "b.lda"))
-            os.remove(self.path("a.lda.ldaodt-new"))
+            self.is_so((len(line.machine.typed), os.readlink(self.path("a.lda.part"))), (keys, "b.lda"))
+            os.remove(self.path("a.lda.part"))
 
     def test_a_record_that_somebody_makes_behind_a_link(self):
         """The link led nowhere a moment ago. What is there now is the record, and is read."""
@@ -235,12 +239,12 @@ class Answers(Calls):
 
     def test_a_record_that_can_not_be_gone_back_in(self):
         """Behind a link it would be written over: what is written behind it instead would be a part of it."""
-        line = self.console_at(Console())
+        line = self.console_at(Console(memory=HELD))
         self.put("b.record", VERIFIED.encode())
         os.symlink("b.record", self.path("a.record"))
         given = self.load(line, lambda call: call.fails(errno.EIO) if call.name == "lseek" and call.file() == "b.record" else None)
         self.ends(given, 4, "", NO_RECORD)
-        self.is_so((bytes_of(self.path("b.record")).decode(), line.machine.typed), (VERIFIED, ""))
+        self.is_so((bytes_of(self.path("b.record")).decode(), line.machine.typed), (VERIFIED, LOOKED))
 
     def test_a_system_without_a_descriptor(self):
         """The process has too many files open, or the whole system has: the tape that is open is read and closed, and the next is
@@ -351,7 +355,7 @@ class Orders(Calls):
         return before, early, unsynced
 
     def test_so_it_is_far_behind_in_a_record(self):
-        """Of words behind so many others. Two are left, and stand."""
+        """Of words behind so many others, of which eight are looked at. Two are left, and stand."""
         words = [(address, 0o177777 - address) for address in range(0o1000, 0o60000, 2)]
         for count in (80, 1200, len(words)):
             texts = [f"{address:06o}" + "".join(f" {value:06o}" for _, value in words[first:first + 16][:count - 2 - first])
@@ -367,7 +371,7 @@ class Orders(Calls):
                 line = self.console_at(Console(memory=dict(words)))
                 with self.subTest(record, count=count):
                     given = self.ask(line, f"load long.lda LINE --record {record}", before)
-                    self.ends(given, 0, f"sent 24 spent 0 verified {count} of {count}\nend Started\n")
+                    self.ends(given, 0, f"sent 89 spent 0 verified {count} of {count}\nend Started\n")
                     self.is_so((early, unsynced), ([], set()))
 
     def test_permissions_come_before_what_is_written(self):
@@ -380,7 +384,7 @@ class Orders(Calls):
             if call.name in ("fchmod", *WRITES) and call.file() == "a.record.ldaodt-new":
                 told.append(stat.S_IMODE(call.arguments[1]) if call.name == "fchmod" else "written")
 
-        self.ends(self.load(self.console_at(Console()), before), 0, STOOD)
+        self.ends(self.load(self.console_at(Console(memory=HELD)), before), 0, STOOD)
         self.is_so((told[0], set(told[1:])), (0o600, {"written"}))
 
     def test_the_console_is_reached_once(self):

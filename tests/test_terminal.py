@@ -7,6 +7,7 @@ import signal
 import subprocess
 import time
 import unittest
+from concurrent.futures import ThreadPoolExecutor
 
 from cases import Case, Console, DeafConsole
 from outside import PROGRAM
@@ -18,7 +19,11 @@ LISTENING = SHOWN.format("0 of 1 words, 0%, listening")
 NO_WORD = SHOWN.format("0 of 1 words, 0%")
 CLEARED = "\r\x1b[K"
 GOING_ON = "going on behind 1 of 2 words, listening; power lost? use --recheck"
+PROBING = "probing: four to six quiet times, mostly 8 seconds\r\n"
 STARTED = "sent 30 spent 0 verified 1 of 1\nend Started\n"
+
+# The words of two-words.lda.
+BOTH_WORDS = {0o1000: 0o031421, 0o1002: 0o104}
 
 # What a person is told behind the report.
 ASK_PROBE = "'ldaodt probe LINE' says what is wrong\r\n"
@@ -99,7 +104,7 @@ class Terminal(Case):
     def test_a_narrow_terminal(self):
         """Whatever is shown stays in one line, nothing is left of it, and what is printed then wraps as before."""
         self.put("a.record", b"LDAODT 2\n001000 031421")
-        machine = SlowConsole(6, memory={0o1002: 0o104})
+        machine = SlowConsole(9 + 6, memory=BOTH_WORDS)
         given, shown = self.load_at_a_terminal(machine, "two-words.lda --record a.record", quiet=1000)
         self.is_so(given.status, 0)
         for columns, seen in ((20, "going on behind 1 of"), (40, "going on behind 1 of 2 words, listening"), (80, GOING_ON)):
@@ -159,11 +164,11 @@ class Terminal(Case):
         self.assertTrue(shown.startswith(LISTENING + NO_WORD + babble), repr(shown))
 
     def test_words_of_the_record_count(self):
-        """Of the second word's eight keys and the start's seven the last ten are slow."""
+        """The first word is looked at with nine keys. Of the second word's eight keys and the start's seven the last ten are slow."""
         self.put("a.record", b"LDAODT 2\n001000 031421")
-        machine = SlowConsole(6, memory={0o1002: 0o104})
+        machine = SlowConsole(9 + 6, memory=BOTH_WORDS)
         given, shown = self.load_at_a_terminal(machine, "two-words.lda --record a.record", quiet=1000)
-        self.is_so((given.status, given.out), (0, "sent 16 spent 0 verified 2 of 2\nend Started\n"))
+        self.is_so((given.status, given.out), (0, "sent 25 spent 0 verified 2 of 2\nend Started\n"))
         self.assertTrue(shown.startswith(SHOWN.format(GOING_ON)), repr(shown))
         self.is_so(shown.count(GOING_ON), 1)
         self.assertTrue(shown.endswith(SHOWN.format("2 of 2 words, 100%, 0:00 left") + CLEARED + "1 of 2 by the record\r\n"), repr(shown))
@@ -181,14 +186,14 @@ class Terminal(Case):
             (one, 4, "", "LineFailed", f"1 of 2 by the record\r\n{GOES_ON}ldaodt: line failed\r\n"),
             ("", 4, "", "LineFailed", f"{GOES_ON}ldaodt: line failed\r\n"),
             (None, 4, "", "LineFailed", "ldaodt: line failed\r\n"),
-            (both, 4 + 2 * 6 + 1, "", "LineFailed",
+            (both, 5 + 2 * 25 + 4 + 2 * 6 + 1, "", "LineFailed",
              "2 of 2 by the record\r\nldaodt: line failed\r\nldaodt: the start may have gone out: look at the machine first\r\n"),
         ):
             with self.subTest(record=record, close_after=close_after, more=more):
                 if record is not None:
                     self.put("a.record", record.encode())
                 words = f"two-words.lda {more} {'' if record is None else '--record a.record'}"
-                given, shown = self.load_at_a_terminal(words=words, close_after=close_after)
+                given, shown = self.load_at_a_terminal(Console(memory=BOTH_WORDS), words, close_after=close_after)
                 self.is_so(given.out.split("\n")[1], f"end {end}")
                 self.is_so(shown.split(CLEARED)[-1], told)
 
@@ -196,7 +201,7 @@ class Terminal(Case):
         """Before its first key, on a line of its own."""
         peer = self.console_at(Console())
         given, shown = self.at_a_terminal(lambda terminal: self.ldaodt(["probe", peer.address, "--quiet", str(self.quiet)], stderr=terminal))
-        self.is_so((given.status, given.out.split("\n")[-2], shown), (0, "end Probed", "probing: four to six quiet times, mostly 8 seconds\r\n"))
+        self.is_so((given.status, given.out.split("\n")[-2], shown), (0, "end Probed", PROBING))
 
     def test_a_verified_word_is_shown_also_where_it_can_not_be_kept(self):
         """The report counts it, too. The record has room for its header alone, and the keys that look at the word again
@@ -235,6 +240,38 @@ class Looks(Case):
         self.is_so((given.status, given.out), (5, "sent 3 spent 2 looked 0 of 1 differ 0\nend GaveUp\n"))
         mishaps = "".join(SHOWN.format(f"0 of 1 words, 0%, {text}") for text in ("1 mishap", "2 mishaps"))
         self.is_so(shown, LISTENING + NO_WORD + mishaps + CLEARED)
+
+
+class Plain(Case):
+    """Command lines as short as they are typed, each about one word: without an option, so that the quiet time is the plain one."""
+
+    def each(self, rows, machine):
+        """Runs commands beside one another, each at a console of its own, and asserts how they end; returns what each has shown, by
+        its words."""
+        self.put_tapes("first.lda")
+        peers = [self.console_at(machine(memory={0o1000: 0o011064})) for _ in rows]
+
+        def given(row, peer):
+            words = row[0].replace("LINE", peer.address)
+            return self.at_a_terminal(lambda terminal: self.ldaodt(words, stderr=terminal))
+
+        with ThreadPoolExecutor(len(rows)) as pool:
+            answers = dict(zip(rows, pool.map(given, rows, peers)))
+        self.is_so([(answer.status, answer.out.split("\n")[-2]) for answer, _ in answers.values()], [(0, f"end {end}") for _, end in rows])
+        return {words: shown for (words, _), (_, shown) in answers.items()}
+
+    def test_the_word_counts(self):
+        """Each key is slow, so that a line is shown with each."""
+        rows = (("load first.lda LINE", "Started"), ("verify first.lda LINE", "Same"), ("save a.lda LINE 1000 1000", "Saved"))
+        for words, shown in self.each(rows, lambda memory: SlowConsole(0, memory=memory)).items():
+            with self.subTest(words):
+                texts = re.findall(re.escape(SHOWN).replace(r"\{\}", "(.*?)"), shown)
+                self.is_so(list(dict.fromkeys(re.sub(r", 0:\d\d left$", "", it) for it in texts)),
+                           ["0 of 1 words, 0%, listening", "0 of 1 words, 0%", "1 of 1 words, 100%"])
+                self.assertTrue(shown.endswith(CLEARED), repr(shown))
+
+    def test_a_probe_says_that_it_works(self):
+        self.is_so(self.each((("probe LINE", "Probed"),), Console), {"probe LINE": PROBING})
 
 
 class Input(Case):

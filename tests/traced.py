@@ -11,7 +11,8 @@ import outside
 
 # The calls that tests know by name, by their numbers.
 NAMES = {1: "write", 2: "open", 8: "lseek", 16: "ioctl", 42: "connect", 44: "sendto", 54: "setsockopt", 72: "fcntl", 73: "flock", 74: "fsync",
-         75: "fdatasync", 77: "ftruncate", 82: "rename", 91: "fchmod", 257: "openat", 264: "renameat", 316: "renameat2", 332: "statx"}
+         75: "fdatasync", 77: "ftruncate", 82: "rename", 86: "link", 87: "unlink", 91: "fchmod", 257: "openat", 263: "unlink", 264: "renameat", 265: "link",
+         316: "renameat2", 332: "statx"}
 
 # Where the system keeps a process's registers: a call's number, its answer, and its first arguments.
 NUMBER, ANSWER, ARGUMENTS = 8 * 15, 8 * 10, (8 * 14, 8 * 13, 8 * 12)

@@ -37,6 +37,12 @@ os.execv(sys.argv[2], sys.argv[2:])
 """
 
 
+def late(words, seconds):
+    """What is said of a run that was ended, since it took longer than that: which it was."""
+    said = " ".join(text_of(it) if isinstance(it, bytes) else it for it in words)
+    return Answer(None, "", f"ldaodt {said:.300} did not end within {seconds} seconds")
+
+
 def run(words, keys=b"", before="", file_size=None, name=PROGRAM, starter=(), setup=None, seconds=120, **more):
     """Runs ldaodt on these words and keys: after redirections by a shell, with a limit to how long a file may get,
     under another name, by another command that starts it, or after a setup of the process."""
@@ -51,7 +57,7 @@ def run(words, keys=b"", before="", file_size=None, name=PROGRAM, starter=(), se
     try:
         ran = subprocess.run(command, preexec_fn=setup, timeout=seconds, **given)
     except subprocess.TimeoutExpired:
-        return Answer(None, "", f"it did not end within {seconds} seconds")
+        return late(words, seconds)
     return Answer(ran.returncode, text_of(ran.stdout or b""), text_of(ran.stderr or b""))
 
 
@@ -66,7 +72,7 @@ def run_often(words, stdin=None, keys=b"", seconds=120):
         actions = [(os.POSIX_SPAWN_DUP2, file, number) for number, file in enumerate(streams)]
         status = status_of(os.posix_spawn(PROGRAM, [PROGRAM, *words], os.environ, file_actions=actions), seconds)
         if status is None:
-            return Answer(None, "", f"it did not end within {seconds} seconds")
+            return late(words, seconds)
         return Answer(status, *(text_of(os.pread(file, os.fstat(file).st_size, 0)) for file in files[1:]))
     finally:
         for file in files:

@@ -7,10 +7,12 @@ use Rattle.std.proofs.lemmas.List.Elements.{AllZip-push}
 use Rattle.tape_blocks.specs.Tape.{TapeValue}
 use Rattle.byte_io.specs.Input.{TakesAtMost}
 use Rattle.tape_blocks.specs.Input.{input_limit}
-use Rattle.command_io.specs.Tapes.{TapeText, IsTapeTaken, AreTaken, AreTapes, StopsAt, TakeAtMost, tapes_of, lengths_of}
+use Rattle.tape_blocks.specs.Layout.{IsLaidOut}
+use Rattle.tape_blocks.specs.declared.layout.Layout.{Layout}
+use Rattle.command_io.specs.Tapes.{TapeText, IsTapeTaken, AreTaken, AreTapes, StopsAt, TakeAtMost, AreLaidOut, tapes_of}
 
 -- of the first inputs tapes were taken, and the others are as they were
-pub record IsTaking {X : Type 0} (known : X → Option (List ℕ)) (start now : List X) (done : ℕ) (tapes : List TapeValue) (lengths : List ℕ) : Type 0 where
+pub record IsTaking {X : Type 0} (known : X → Option (List ℕ)) (start now : List X) (done : ℕ) (tapes : List TapeValue) (layouts : List Layout) : Type 0 where
   pub texts : List TapeText
   pub count : length texts ≡ done
   pub size : length now ≡ length start
@@ -18,7 +20,7 @@ pub record IsTaking {X : Type 0} (known : X → Option (List ℕ)) (start now : 
   pub at_most : TakeAtMost (map known (take done start)) (map known (take done now))
   pub rest : drop done now ≡ drop done start
   pub tapes_are : tapes ≡ tapes_of texts
-  pub lengths_are : lengths ≡ lengths_of texts
+  pub laid : AreLaidOut texts layouts
 
 -- one tape more
 are_more : (befores afters : List (Option (List ℕ))) (texts : List TapeText) (before after : Option (List ℕ)) (t : TapeText) → AreTaken befores afters texts → IsTapeTaken before after t
@@ -32,6 +34,13 @@ are_more (x ∷ xs) [] (u ∷ us) before after t are is = absurd are
 are_more (x ∷ xs) (y ∷ ys) [] before after t are is = absurd are
 are_more (x ∷ xs) (y ∷ ys) (u ∷ us) before after t are is = (are.0, are_more xs ys us before after t are.1 is)
 
+laid_more : (texts : List TapeText) (layouts : List Layout) (t : TapeText) (layout : Layout) → AreLaidOut texts layouts → IsLaidOut t.text t.tape layout
+    → AreLaidOut (texts ++ t ∷ []) (layouts ++ layout ∷ [])
+laid_more [] [] t layout are is = (is, tt)
+laid_more [] (l ∷ ls) t layout are is = absurd are
+laid_more (u ∷ us) [] t layout are is = absurd are
+laid_more (u ∷ us) (l ∷ ls) t layout are is = (are.0, laid_more us ls t layout are.1 is)
+
 at_most_joined : (xs ys others : List (Option (List ℕ))) → TakeAtMost xs ys → TakeAtMost (xs ++ others) (ys ++ others)
 at_most_joined [] [] others first = untouched others
   where
@@ -42,7 +51,7 @@ at_most_joined [] (y ∷ ys) others first = absurd first
 at_most_joined (x ∷ xs) [] others first = absurd first
 at_most_joined (x ∷ xs) (y ∷ ys) others first = (first.0, at_most_joined xs ys others first.1)
 
-module _ {X : Type 0} (known : X → Option (List ℕ)) (start now : List X) (i : ℕ) (d y : X) (tapes : List TapeValue) (lengths : List ℕ) (so : IsTaking known start now i tapes lengths) (within : i < length start) where
+module _ {X : Type 0} (known : X → Option (List ℕ)) (start now : List X) (i : ℕ) (d y : X) (tapes : List TapeValue) (layouts : List Layout) (so : IsTaking known start now i tapes layouts) (within : i < length start) where
   -- the input whose turn it is
   abbrev x : X
   x = get_or now i d
@@ -100,9 +109,9 @@ module _ {X : Type 0} (known : X → Option (List ℕ)) (start now : List X) (i 
       front zs = ap (λ n. take n (map known zs)) so.count ∙ take-map known i zs
 
   -- this input gave a tape
-  pub taking_more : (text : List ℕ) (tape : TapeValue) (length_is : ℕ) (more_tapes : List TapeValue) (more_lengths : List ℕ) → IsTapeTaken (known x) (known y) (record { text = text; tape = tape }) → length_is ≡ length text
-      → TakesAtMost (known x) (known y) input_limit → more_tapes ≡ tapes ++ tape ∷ [] → more_lengths ≡ lengths ++ length_is ∷ [] → IsTaking known start (set now i y) (i + 1) more_tapes more_lengths
-  taking_more text tape length_is more_tapes more_lengths is long most tapes_more lengths_more =
+  pub taking_more : (text : List ℕ) (tape : TapeValue) (layout : Layout) (more_tapes : List TapeValue) (more_layouts : List Layout) → IsTapeTaken (known x) (known y) (record { text = text; tape = tape }) → IsLaidOut text tape layout
+      → TakesAtMost (known x) (known y) input_limit → more_tapes ≡ tapes ++ tape ∷ [] → more_layouts ≡ layouts ++ layout ∷ [] → IsTaking known start (set now i y) (i + 1) more_tapes more_layouts
+  taking_more text tape layout more_tapes more_layouts is laid most tapes_more layouts_more =
       let t : TapeText = record { text = text; tape = tape } in
       record {
         texts = so.texts ++ t ∷ [];
@@ -114,23 +123,24 @@ module _ {X : Type 0} (known : X → Option (List ℕ)) (start now : List X) (i 
         at_most = at_most_more most;
         rest = rest_more;
         tapes_are = tapes_more ∙ ap (λ ts. ts ++ tape ∷ []) so.tapes_are ∙ sym (map-append (λ (u : TapeText). u.tape) so.texts (t ∷ []));
-        lengths_are = lengths_more ∙ ap (λ ls. ls ++ length_is ∷ []) so.lengths_are ∙ ap (λ n. lengths_of so.texts ++ n ∷ []) long ∙ sym (map-append (λ (u : TapeText). length u.text) so.texts (t ∷ []));
+        laid = subst (AreLaidOut (so.texts ++ t ∷ [])) (sym layouts_more)
+            (laid_more so.texts layouts t layout so.laid laid);
       }
 
 -- each input gave a tape
-module _ {X : Type 0} (known : X → Option (List ℕ)) (start now : List X) (done : ℕ) (tapes : List TapeValue) (lengths : List ℕ) (so : IsTaking known start now done tapes lengths) (all : length start ≤ done) where
+module _ {X : Type 0} (known : X → Option (List ℕ)) (start now : List X) (done : ℕ) (tapes : List TapeValue) (layouts : List Layout) (so : IsTaking known start now done tapes layouts) (all : length start ≤ done) where
   started : take done start ≡ start
   started = take_all done start all
 
   ended : take done now ≡ now
   ended = take_all done now (let same = so.size in omega arith)
 
-  pub are_tapes : AreTapes (map known start) (map known now) tapes lengths
+  pub are_tapes : AreTapes (map known start) (map known now) tapes layouts
   are_tapes = record {
     texts = so.texts;
     taken = subst (λ xs. AreTaken (map known xs) (map known now) so.texts) started (subst (λ xs. AreTaken (map known (take done start)) (map known xs) so.texts) ended so.taken);
     tapes_are = so.tapes_are;
-    lengths_are = so.lengths_are;
+    laid = so.laid;
   }
 
   pub taken_at_most : TakeAtMost (map known start) (map known now)

@@ -4,6 +4,8 @@ use Rattle.std.specs.List.{AllZip}
 use Rattle.std.specs.Io.KnownBytes.{Consumes}
 use Rattle.tape_blocks.specs.Tape.{TapeValue, IsTape}
 use Rattle.tape_blocks.specs.Input.{input_limit}
+use Rattle.tape_blocks.specs.Layout.{IsLaidOut}
+use Rattle.tape_blocks.specs.declared.layout.Layout.{Layout}
 use Rattle.byte_io.specs.Input.{TakesAtMost}
 use Rattle.command_io.specs.TapeFile.{IsRefusedInput}
 use Rattle.command_io.specs.declared.fault.CommandFault.{CommandFault}
@@ -38,16 +40,16 @@ TakeAtMost inputs inputs' = AllZip (λ input input'. TakesAtMost input input' in
 abbrev pub tapes_of : List TapeText → List TapeValue
 tapes_of texts = map (λ t. t.tape) texts
 
--- how many bytes each of them has
-abbrev pub lengths_of : List TapeText → List ℕ
-lengths_of texts = map (λ t. length t.text) texts
+-- each of them lies so in its bytes
+abbrev pub AreLaidOut : List TapeText → List Layout → Type 0
+AreLaidOut texts layouts = AllZip (λ t layout. IsLaidOut t.text t.tape layout) texts layouts
 
--- these tapes were taken of the inputs, and they are so long
-pub record AreTapes (inputs inputs' : List (Option (List ℕ))) (tapes : List TapeValue) (lengths : List ℕ) : Type 0 where
+-- these tapes were taken of the inputs, and they lie so in what was taken
+pub record AreTapes (inputs inputs' : List (Option (List ℕ))) (tapes : List TapeValue) (layouts : List Layout) : Type 0 where
   pub texts : List TapeText
   pub taken : AreTaken inputs inputs' texts
   pub tapes_are : tapes ≡ tapes_of texts
-  pub lengths_are : lengths ≡ lengths_of texts
+  pub laid : AreLaidOut texts layouts
 
 -- a tape was taken of each input before the one of this number, counted from 1; none behind it was touched
 pub record StopsAt (inputs inputs' : List (Option (List ℕ))) (number : ℕ) (input : Option (List ℕ)) : Type 0 where
@@ -66,7 +68,7 @@ AreTapesFault inputs inputs' other = ⊥
 
 -- this is so of whatever inputs these tapes were taken of
 abbrev pub OfTaken : Tapes → (List (Option (List ℕ)) → List (Option (List ℕ)) → Type 0) → Type 0
-OfTaken taken P = (inputs inputs' : List (Option (List ℕ))) → AreTapes inputs inputs' taken.tapes.items taken.lengths.items → P inputs inputs'
+OfTaken taken P = (inputs inputs' : List (Option (List ℕ))) → AreTapes inputs inputs' taken.tapes.items taken.layouts.items → P inputs inputs'
 
 -- a fault that blames no tape: it comes once they are taken
 abbrev pub BlamesNoTape : CommandFault → Type 0

@@ -5,26 +5,26 @@ ghost use Rattle.command_io.specs.Tapes.{AreTapes, AreTapesFault, TakeAtMost};
 use crate::fault::CommandFault;
 use std::alloc::{AllocError, Global};
 use std::io::Read;
-use tape_blocks::{FromError, Tape, read_from};
+use tape_blocks::{FromError, Layout, Tape, read_with_layout};
 
-/// Tapes, and how many bytes each was read from.
+/// Tapes, and how each lies in the bytes that it was read from.
 #[derive(Drop)]
 pub struct Tapes {
     /// The tapes, in order.
     pub tapes: Vec<Tape>,
 
-    /// How many bytes each has, up to the end of its transfer block.
-    pub lengths: Vec<u32>,
+    /// The layout of each.
+    pub layouts: Vec<Layout>,
 }
 
 impl Tapes {
     // Puts a tape behind the others.
-    fn add(&mut self, tape: Tape, length: u32) -> Result<(), AllocError>
+    fn add(&mut self, tape: Tape, layout: Layout) -> Result<(), AllocError>
         ensures tapes { OnOk result (self.new.tapes.items ≡ self.old.tapes.items ++ tape ∷ []) }
-        ensures lengths { OnOk result (self.new.lengths.items ≡ self.old.lengths.items ++ length ∷ []) }
+        ensures layouts { OnOk result (self.new.layouts.items ≡ self.old.layouts.items ++ layout ∷ []) }
     {
         self.tapes.push(tape)?;
-        self.lengths.push(length)?;
+        self.layouts.push(layout)?;
         Ok(())
     }
 }
@@ -36,17 +36,17 @@ impl Tapes {
 /// tried again. Of each input at most 1,048,577 bytes are taken. `Memory` comes only where a growth was
 /// refused.
 pub fn take_tapes<R: Read>(alloc: Global, inputs: &mut [R]) -> Result<Tapes, CommandFault>
-    ensures ok { IfOk result (λ taken. AreTapes (map R.remaining inputs.old) (map R.remaining inputs.new) taken.tapes.items taken.lengths.items) }
+    ensures ok { IfOk result (λ taken. AreTapes (map R.remaining inputs.old) (map R.remaining inputs.new) taken.tapes.items taken.layouts.items) }
     ensures err { IfErr result (AreTapesFault (map R.remaining inputs.old) (map R.remaining inputs.new)) }
     ensures at_most { TakeAtMost (map R.remaining inputs.old) (map R.remaining inputs.new) }
 {
     let mut taken = Tapes {
         tapes: Vec::new(alloc),
-        lengths: Vec::new(alloc),
+        layouts: Vec::new(alloc),
     };
     for place in 0..inputs.len() {
-        match read_from(alloc, &mut inputs[place]) {
-            Ok((tape, length)) => taken.add(tape, length)?,
+        match read_with_layout(alloc, &mut inputs[place]) {
+            Ok((tape, layout)) => taken.add(tape, layout)?,
             Err(FromError::Tape(fault)) => return Err(CommandFault::Tape(place + 1, fault)),
             Err(FromError::Io) => return Err(CommandFault::ReadTape(place + 1)),
             Err(FromError::Memory) => return Err(CommandFault::Memory),

@@ -1,6 +1,7 @@
 -- What the arguments and options of a command come to (this project's own).
-use Rattle.std.specs.Prelude.{◌≡◌, ℕ, Bool, true, false, List, [], ◌∷◌, Option, Some, None, map, option_map, codes}
+use Rattle.std.specs.Prelude.{◌≡◌, ◌==◌, ◌||◌, ℕ, Bool, true, false, List, [], ◌∷◌, Option, Some, None, map, option_map, codes}
 use Rattle.std.specs.Option.{option_map_or}
+use Rattle.std.specs.List.{list_any}
 use Rattle.std.specs.Borrow.{Bor}
 use Rattle.std.specs.Str.Parse.{digits_value, without_leading_plus}
 use Rattle.clap.specs.Matches.{first_value, matched_of, one_text, raw_values}
@@ -9,12 +10,14 @@ use Rattle.tape_image.specs.declared.start.Start.{Start}
 use Rattle.tape_image.specs.declared.start.Start.TheVariants.{OfTape, At, Nowhere}
 use Rattle.request_values.specs.declared.range.AddressRange.{AddressRange}
 use Rattle.host_core.specs.Core.{plain_patience}
+use Rattle.console_lines.specs.Path.{has_slash}
 use Rattle.odt_machine.specs.Machine.{largest_words}
 use Rattle.odt_machine.specs.Style.{style_number}
 use Rattle.request_values.specs.declared.request.Console.{Console}
 use Rattle.request_values.specs.declared.machine.Load.{Load}
 use Rattle.request_values.specs.declared.machine.Look.{Look}
 use Rattle.request_values.specs.declared.machine.Probe.{Probe}
+use Rattle.request_values.specs.declared.request.Make.{Make}
 use Rattle.request_values.specs.declared.request.Rehearsal.{Rehearsal}
 use Rattle.request_values.specs.declared.request.MachineRequest.{MachineRequest}
 use Rattle.request_values.specs.declared.request.MachineRequest.TheVariants.{Load as Loads, Verify, Save as Saves, Probe as Probes}
@@ -61,6 +64,11 @@ abbrev pub IsSavedStart : Option (List ℕ) → ℕ → Type 0
 IsSavedStart None start = start ≡ 1
 IsSavedStart (Some text) start = IsOctalText text start
 
+-- the file of octal words: the one that is given, or standard input
+abbrev pub IsWordsFile : Option (List ℕ) → List ℕ → Type 0
+IsWordsFile None name = name ≡ codes "-"
+IsWordsFile (Some text) name = name ≡ text
+
 -- the address of the word at which a probe is made: the one that is given, or 001000
 abbrev pub IsProbedWord : Option (List ℕ) → ℕ → Type 0
 IsProbedWord None address = address ≡ 0o001000
@@ -82,6 +90,14 @@ pub record IsConsoleOf (found : Found) (console : Console) : Type 0 where
 -- the quiet time, in milliseconds, where nothing else is said: too short is dangerous, too long costs little, and adapters hold back far less
 abbrev pub plain_quiet : ℕ
 plain_quiet = 2000
+
+-- it has a colon
+abbrev pub has_colon : List ℕ → Bool
+has_colon text = list_any (λ c. c == 58) text
+
+-- the text can be a line: HOST:PORT has a colon, and the path of a device a slash
+abbrev pub is_line : List ℕ → Bool
+is_line text = has_colon text || has_slash text
 
 -- a load, but for its tapes, is what the arguments and options of `load` say
 pub record SaysLoad (found : Found) (load : Load) : Type 0 where
@@ -112,6 +128,12 @@ pub record IsSaveOf (found : Found) (save : Save) : Type 0 where
   pub start : IsSavedStart (first_value found (codes "start")) save.start
   pub look : IsLookOf found save.look
 
+-- a tape is made as the arguments and options of `make` say
+pub record IsMakeOf (found : Found) (make : Make) : Type 0 where
+  pub file : first_value found (codes "FILE") ≡ Some make.file.now
+  pub words : IsWordsFile (first_value found (codes "WORDS")) make.words.now
+  pub start : IsSavedStart (first_value found (codes "start")) make.start
+
 -- a rehearsal is what the arguments of `rehearse` say
 pub record IsRehearsalOf (found : Found) (rehearsal : Rehearsal) : Type 0 where
   pub tape : first_value found (codes "TAPE") ≡ Some rehearsal.tape.now
@@ -125,7 +147,7 @@ pub record IsProbeOf (found : Found) (probe : Probe) : Type 0 where
 
 -- a request that is about no machine is what the arguments and options of its command say
 abbrev pub IsTapeRequestOf : Found → TapeRequest → Type 0
-IsTapeRequestOf found (Check names) = NamesTapes found names.items
+IsTapeRequestOf found (Check names options) = NamesTapes found names.items × IsFlag found (codes "blocks") options.blocks
 IsTapeRequestOf found (Dialogue names stage) = NamesTapes found names.items × IsConsoleOf found stage.console × IsStartOf found stage.start
 IsTapeRequestOf found (Rehearse rehearsal) = IsRehearsalOf found rehearsal
 IsTapeRequestOf found (TypeKeys console) = IsConsoleOf found console

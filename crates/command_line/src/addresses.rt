@@ -1,6 +1,5 @@
 //! Addresses on the command line.
-ghost use Rattle.std.specs.Prelude.{◌≤◌, ◌-◌, ◌++◌, length, replicate, IfSome, IfOk, codes};
-ghost use Rattle.octal.specs.Octal.{IsOct6};
+ghost use Rattle.std.specs.Prelude.{◌≡◌, ◌↔◌, ℕ, Some, Ok, IfOk, IsOk, codes};
 ghost use Rattle.reading_core.specs.Addresses.{IsAddress};
 ghost use Rattle.clap.specs.Matches.{found_of, first_value};
 ghost use Rattle.command_line.specs.Addresses.{IsEvenText, IsOctalText, IsWordText};
@@ -50,7 +49,7 @@ pub(crate) fn start_of(alloc: Global, found: &ArgMatches<'_>) -> Result<Start, N
 
 /// The start address of a saved tape.
 pub(crate) fn saved_start_of(alloc: Global, found: &ArgMatches<'_>) -> Result<u16, NoRequest>
-    ensures { IfOk result (IsSavedStart (first_value (found_of found.now) (codes "start"))) }
+    ensures { (start : ℕ) → (result ≡ Ok start) ↔ IsSavedStart (first_value (found_of found.now) (codes "start")) start }
 {
     match found.get_str(START) {
         Some(text) => any_start(alloc, text),
@@ -60,7 +59,7 @@ pub(crate) fn saved_start_of(alloc: Global, found: &ArgMatches<'_>) -> Result<u1
 
 // The start address of a tape that a text is, or its refusal.
 fn any_start(alloc: Global, text: &str) -> Result<u16, NoRequest>
-    ensures { IfOk result (IsOctalText text.now) }
+    ensures { (start : ℕ) → (result ≡ Ok start) ↔ IsOctalText text.now start }
 {
     match octal(text) {
         Some(start) => Ok(start),
@@ -70,7 +69,7 @@ fn any_start(alloc: Global, text: &str) -> Result<u16, NoRequest>
 
 // The start address of a program that a text is, or its refusal.
 fn given_start(alloc: Global, text: &str) -> Result<u16, NoRequest>
-    ensures { IfOk result (IsEvenText text.now) }
+    ensures { (start : ℕ) → (result ≡ Ok start) ↔ IsEvenText text.now start }
 {
     match even(text) {
         Some(start) => Ok(start),
@@ -80,7 +79,8 @@ fn given_start(alloc: Global, text: &str) -> Result<u16, NoRequest>
 
 /// The range of words that are saved.
 pub(crate) fn range_of(alloc: Global, found: &ArgMatches<'_>) -> Result<AddressRange, NoRequest>
-    ensures { IfOk result (IsRangeOf (found_of found.now)) }
+    ensures value { IfOk result (IsRangeOf (found_of found.now)) }
+    ensures due { (range : AddressRange) → IsRangeOf (found_of found.now) range → IsOk result }
 {
     let last = text_of(found, TO)?;
     let from = word_of(alloc, text_of(found, FROM)?, "<FROM>")?;
@@ -93,7 +93,7 @@ pub(crate) fn range_of(alloc: Global, found: &ArgMatches<'_>) -> Result<AddressR
 
 /// The address of the word at which a probe is made.
 pub(crate) fn probed_of(alloc: Global, found: &ArgMatches<'_>) -> Result<u16, NoRequest>
-    ensures value { IfOk result (IsProbedWord (first_value (found_of found.now) (codes "address"))) }
+    ensures value { (address : ℕ) → (result ≡ Ok address) ↔ IsProbedWord (first_value (found_of found.now) (codes "address")) address }
     ensures in_memory { IfOk result IsAddress }
 {
     match found.get_str(ADDRESS) {
@@ -104,7 +104,7 @@ pub(crate) fn probed_of(alloc: Global, found: &ArgMatches<'_>) -> Result<u16, No
 
 // The address of a word of memory that an argument's text is, or its refusal.
 fn word_of(alloc: Global, text: &str, argument: &str) -> Result<u16, NoRequest>
-    ensures { IfOk result (IsWordText text.now) }
+    ensures { (address : ℕ) → (result ≡ Ok address) ↔ IsWordText text.now address }
 {
     match even(text) {
         Some(address) if address < TOP as u16 => Ok(address),
@@ -114,7 +114,7 @@ fn word_of(alloc: Global, text: &str, argument: &str) -> Result<u16, NoRequest>
 
 // The even number that a text of one to six octal digits is.
 fn even(text: &str) -> Option<u16>
-    ensures { IfSome result (IsEvenText text.now) }
+    ensures { (number : ℕ) → (result ≡ Some number) ↔ IsEvenText text.now number }
 {
     match octal(text) {
         Some(number) if number % 2 == 0 => Some(number),
@@ -124,8 +124,7 @@ fn even(text: &str) -> Option<u16>
 
 // The number that a text of one to six octal digits is.
 fn octal(text: &str) -> Option<u16>
-    ensures some { IfSome result (λ number. 1 ≤ length text.now) }
-    ensures value { IfSome result (λ number. IsOct6 number (replicate (6 - length text.now) 48 ++ text.now)) }
+    ensures { (number : ℕ) → (result ≡ Some number) ↔ IsOctalText text.now number }
 {
     let digits = text.as_bytes();
     let missing = 6usize.checked_sub(digits.len())?;

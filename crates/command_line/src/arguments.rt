@@ -22,6 +22,9 @@ enum Form {
     // An argument that has to be there.
     Required,
 
+    // An argument that may be there.
+    Optional,
+
     // An argument that may be there any number of times.
     Further,
 
@@ -50,6 +53,7 @@ impl Argument {
         let arg = Arg::new(alloc, self.name).help(self.help);
         match self.form {
             Form::Required => Ok(arg.required(true)),
+            Form::Optional => Ok(arg),
             Form::Further => Ok(arg.num_args(0..).action(ArgAction::Append)),
             Form::Text(value) => Ok(arg.long(self.name).value_name(value)),
             Form::Number(value, least, most) => {
@@ -101,6 +105,18 @@ pub(crate) const FILE: Argument = Argument {
     name: names::FILE,
     form: Form::Required,
     help: "The new tape's file, which is not there yet",
+};
+
+pub(crate) const OCTAL_WORDS: Argument = Argument {
+    name: names::OCTAL_WORDS,
+    form: Form::Optional,
+    help: "The file of the octal words, or - for standard input\n[default: -]",
+};
+
+pub(crate) const BLOCKS: Argument = Argument {
+    name: names::BLOCKS,
+    form: Form::Flag,
+    help: "List the blocks, too: where each begins in its file,\nits addresses and its bytes",
 };
 
 pub(crate) const FROM: Argument = Argument {

@@ -1,8 +1,8 @@
 //! The commands, and how the parser is told of them.
 
 use crate::arguments::{
-    ADDRESS, Argument, FAST, FILE, FROM, LINE, LISTEN, MORE, NO_START, PATIENCE, QUIET, RECHECK,
-    RECORD, SAVED_START, SCRIPT, START, STYLE, TAPE, TO, WORDS,
+    ADDRESS, Argument, BLOCKS, FAST, FILE, FROM, LINE, LISTEN, MORE, NO_START, OCTAL_WORDS,
+    PATIENCE, QUIET, RECHECK, RECORD, SAVED_START, SCRIPT, START, STYLE, TAPE, TO, WORDS,
 };
 use crate::texts;
 use clap::Command;
@@ -30,11 +30,12 @@ fn program<'a>(alloc: Global) -> Result<Command<'a>, AllocError> {
 }
 
 // The commands, as help lists them: first what is done at a machine, and then what is done without one.
-const COMMANDS: [CommandName; 8] = [
+const COMMANDS: [CommandName; 9] = [
     CommandName::Load,
     CommandName::Verify,
     CommandName::Save,
     CommandName::Probe,
+    CommandName::Make,
     CommandName::Check,
     CommandName::Dialogue,
     CommandName::Rehearse,
@@ -47,6 +48,7 @@ enum CommandName {
     Verify,
     Save,
     Probe,
+    Make,
     Check,
     Dialogue,
     Rehearse,
@@ -73,6 +75,7 @@ impl CommandName {
             CommandName::Verify => "verify",
             CommandName::Save => "save",
             CommandName::Probe => "probe",
+            CommandName::Make => "make",
             CommandName::Check => "check",
             CommandName::Dialogue => "dialogue",
             CommandName::Rehearse => "rehearse",
@@ -89,6 +92,7 @@ impl CommandName {
             }
             CommandName::Save => "Saves words of a machine as a tape, and changes nothing",
             CommandName::Probe => "Finds out what console is there, and whether it may be trusted",
+            CommandName::Make => "Makes a tape of octal words",
             CommandName::Check => "Checks tapes and lists the words that they make together",
             CommandName::Dialogue => "Loads a simulated machine and shows all that passes",
             CommandName::Rehearse => "Loads a simulated machine over a line that loses characters",
@@ -103,6 +107,7 @@ impl CommandName {
             CommandName::Verify => texts::VERIFY,
             CommandName::Save => texts::SAVE,
             CommandName::Probe => texts::PROBE,
+            CommandName::Make => texts::MAKE,
             CommandName::Check => texts::CHECK,
             CommandName::Dialogue => texts::DIALOGUE,
             CommandName::Rehearse => texts::REHEARSE,
@@ -117,6 +122,7 @@ impl CommandName {
             CommandName::Verify => &VERIFY,
             CommandName::Save => &SAVE,
             CommandName::Probe => &PROBE,
+            CommandName::Make => &MAKE,
             CommandName::Check => &CHECK,
             CommandName::Dialogue => &DIALOGUE,
             CommandName::Rehearse => &REHEARSE,
@@ -135,7 +141,9 @@ static SAVE: [Argument; 7] = [FILE, LINE, FROM, TO, SAVED_START, PATIENCE, QUIET
 
 static PROBE: [Argument; 4] = [LINE, ADDRESS, PATIENCE, QUIET];
 
-static CHECK: [Argument; 2] = [TAPE, MORE];
+static MAKE: [Argument; 3] = [FILE, OCTAL_WORDS, SAVED_START];
+
+static CHECK: [Argument; 3] = [TAPE, MORE, BLOCKS];
 
 static DIALOGUE: [Argument; 6] = [TAPE, MORE, START, NO_START, WORDS, STYLE];
 

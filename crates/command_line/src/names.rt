@@ -12,6 +12,12 @@ pub const MORE: &str = "MORE";
 /// Where the console is.
 pub const LINE: &str = "LINE";
 
+/// The file of octal words.
+pub const OCTAL_WORDS: &str = "WORDS";
+
+/// Whether each block is listed.
+pub const BLOCKS: &str = "blocks";
+
 /// The file of a new tape.
 pub const FILE: &str = "FILE";
 

@@ -1,11 +1,13 @@
 //! Words become a request, as the plain values say where one is not given.
 ghost use Rattle.std.specs.Prelude.{◌≡◌, ◌≢◌, [], IfOk};
 ghost use Rattle.clap.specs.Matches.{found_of};
-ghost use Rattle.command_line.specs.Options.{SaysLoad, IsLookOf, IsMachineRequestOf, IsTapeRequestOf};
+ghost use Rattle.command_line.specs.Options.{SaysLoad, IsLookOf, IsMachineRequestOf, IsMakeOf, IsTapeRequestOf};
 
 use crate::addresses::{probed_of, range_of, saved_start_of, start_of};
 use crate::commands::known_words;
-use crate::names::{FAST, FILE, LISTEN, PATIENCE, QUIET, RECHECK, RECORD, SCRIPT, TAPE};
+use crate::names::{
+    BLOCKS, FAST, FILE, LISTEN, OCTAL_WORDS, PATIENCE, QUIET, RECHECK, RECORD, SCRIPT, TAPE,
+};
 use crate::no_request::NoRequest;
 use crate::shown_words::{have_control, shown_words};
 use crate::values::{
@@ -14,9 +16,13 @@ use crate::values::{
 use clap::ArgMatches;
 use host_core::PLAIN_PATIENCE;
 use request_values::{
-    Load, LoadOptions, Look, MachineRequest, Probe, Rehearsal, Request, Save, Stage, TapeRequest,
+    CheckOptions, Load, LoadOptions, Look, MachineRequest, Make, Probe, Rehearsal, Request, Save,
+    Stage, TapeRequest,
 };
 use std::alloc::Global;
+
+// What words of octal are read of where no file is named: standard input.
+const INPUT: &str = "-";
 
 // How many milliseconds of silence mean that nothing more is coming, where nothing else is said.
 const PLAIN_QUIET: u16 = 2000;
@@ -71,7 +77,8 @@ fn request_of<'a>(alloc: Global, matches: &ArgMatches<'a>) -> Result<Request<'a>
         Some(("verify", found)) => Ok(Request::Machine(verifying_of(alloc, found)?)),
         Some(("save", found)) => Ok(Request::Machine(saving_of(alloc, found)?)),
         Some(("probe", found)) => Ok(Request::Machine(probing_of(alloc, found)?)),
-        Some(("check", found)) => Ok(Request::Tape(TapeRequest::Check(tapes_of(alloc, found)?))),
+        Some(("make", found)) => Ok(Request::Make(making_of(alloc, found)?)),
+        Some(("check", found)) => Ok(Request::Tape(checking_of(alloc, found)?)),
         Some(("dialogue", found)) => Ok(Request::Tape(dialogue_of(alloc, found)?)),
         Some(("rehearse", found)) => Ok(Request::Tape(rehearsal_of(alloc, found)?)),
         Some(("type", found)) => Ok(Request::Tape(TapeRequest::Type(console_of(found)?))),
@@ -147,6 +154,26 @@ fn look_of<'a>(alloc: Global, found: &ArgMatches<'a>) -> Result<Look<'a>, NoRequ
         patience: u32::from(number_of(found, PATIENCE, PLAIN_PATIENCE as u16)?),
         quiet_ms: u32::from(number_of(found, QUIET, PLAIN_QUIET)?),
     })
+}
+
+// The tape that is made of octal words.
+fn making_of<'a>(alloc: Global, found: &ArgMatches<'a>) -> Result<Make<'a>, NoRequest>
+    ensures { IfOk result (IsMakeOf (found_of found.now)) }
+{
+    Ok(Make {
+        file: text_of(found, FILE)?,
+        words: found.get_str(OCTAL_WORDS).unwrap_or(INPUT),
+        start: saved_start_of(alloc, found)?,
+    })
+}
+
+// The check of tapes.
+fn checking_of<'a>(alloc: Global, found: &ArgMatches<'a>) -> Result<TapeRequest<'a>, NoRequest>
+    ensures value { IfOk result (IsTapeRequestOf (found_of found.now)) }
+    ensures some { IfOk result (λ request. request ≢ TapeRequest.CheckInput) }
+{
+    let blocks = found.get_flag(BLOCKS);
+    Ok(TapeRequest::Check(tapes_of(alloc, found)?, CheckOptions { blocks }))
 }
 
 // The dialogue of tapes with a console.

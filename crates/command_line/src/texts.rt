@@ -11,12 +11,12 @@ Exit status:
   0  done; help was asked for
   1  verify found words that differ
   2  the command line was refused
-  3  a tape, a script or a record was refused
+  3  a tape, words, a script or a record was refused
   4  a file could not be read or something not be written, the file of a new
      tape is there already, a record is another load's at the time, there was
      no connection, or the line failed
-  5  a load, verify, save or probe ended GaveUp, NoWord, WontHold, TurnsOver,
-     NoPrompt or NotTrusted
+  5  a load, verify, save or probe ended GaveUp, NoWord, WontHold, Stale,
+     TurnsOver, NoPrompt or NotTrusted
   6  a load ended Uncertain or MaybeStarted: the program may be running
   7  no memory left
 Each fault but a refused command line is one line on standard error; a line
@@ -34,6 +34,8 @@ Each word is looked at, deposited where it is not there yet, and read back; at
 the end the program is started, once at most. Without --record a later load
 knows nothing of that, and may start it again. A record is good while the
 machine keeps its power and nobody resets it; else load with --recheck, too.
+A load that goes on looks at up to 8 of its words first: where one does not
+stand it ends Stale, and has changed nothing.
 'verified' counts the words read back, now or by the record before.
 
 A device in the working folder is ./ttyUSB0. It is used as stty has set it.
@@ -44,7 +46,7 @@ Exit status:
   4  a file could not be read or something not be written, the record is
      another load's at the time, there was no connection, or the line failed;
      with the start in doubt a second line says so: look at the machine first
-  5  the load ended GaveUp, NoWord, WontHold or TurnsOver
+  5  the load ended GaveUp, NoWord, WontHold, Stale or TurnsOver
   6  it ended Uncertain or MaybeStarted: look at the machine before all else
 
 Example, a machine on a serial adapter, which prints when it runs:
@@ -107,6 +109,23 @@ Exit status:
 
 Example, before the first load:
   ldaodt probe /dev/ttyUSB0";
+
+/// Of `make`.
+pub(crate) const MAKE: &str = "\
+A line of WORDS is an address and the words from there on, each one to six
+octal digits; a '/' may stand behind the address, as ODT prints it. Empty lines
+and what follows ';' or '#' are skipped, and later words at an address count.
+A file that is there is never overwritten. Nothing is printed.
+
+Exit status:
+  0  FILE has the tape
+  3  the words are refused: the line on standard error says at which line, from
+     1, and why, and nothing was written
+  4  the words could not be read, or FILE is there already or could not be
+     written
+
+Example:
+  printf '001000/012700 000101\\n001004/000000\\n' | ldaodt make first.lda";
 
 /// Of `check`.
 pub(crate) const CHECK: &str = "\

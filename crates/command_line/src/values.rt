@@ -1,8 +1,8 @@
 //! What the words of a command's arguments and options come to.
-ghost use Rattle.std.specs.Prelude.{◌≡◌, ◌++◌, Some, IfOk, codes, map};
+ghost use Rattle.std.specs.Prelude.{◌≡◌, ◌↔◌, ◌++◌, Some, IfOk, IsOk, IsSome, IsSomeAnd, IsTrue, codes, map};
 ghost use Rattle.odt_machine.specs.Style.{style_number};
 ghost use Rattle.clap.specs.Matches.{first_value, found_of};
-ghost use Rattle.command_line.specs.Options.{NamesTapes, IsConsoleOf, IsNumberGiven, IsNumberOf, more_in};
+ghost use Rattle.command_line.specs.Options.{NamesTapes, IsConsoleOf, IsNumberGiven, IsNumberOf, has_colon, is_line, more_in};
 
 use crate::names::{LINE, MORE, STYLE, TAPE, WORDS};
 use crate::no_request::NoRequest;
@@ -18,21 +18,36 @@ const NO_LINE: &str = "a line is HOST:PORT, or the path of a serial device, whic
 
 /// The text of a required argument.
 pub(crate) fn text_of<'a>(found: &ArgMatches<'a>, name: &str) -> Result<&'a str, NoRequest>
-    ensures { IfOk result (λ text. first_value (found_of found.now) name.now ≡ Some text.now) }
+    ensures value { IfOk result (λ text. first_value (found_of found.now) name.now ≡ Some text.now) }
+    ensures due { IsOk result ↔ IsSome (first_value (found_of found.now) name.now) }
 {
     found.get_str(name).ok_or(NoRequest::Meaningless)
 }
 
 /// The line to the console: HOST:PORT, or the path of a device.
 pub(crate) fn line_of<'a>(alloc: Global, found: &ArgMatches<'a>) -> Result<&'a str, NoRequest>
-    ensures { IfOk result (λ line. first_value (found_of found.now) (codes "LINE") ≡ Some line.now) }
+    ensures value { IfOk result (λ line. first_value (found_of found.now) (codes "LINE") ≡ Some line.now) }
+    ensures due { IsOk result ↔ IsSomeAnd (first_value (found_of found.now) (codes "LINE")) (λ line. IsTrue (is_line line)) }
 {
     let line = text_of(found, LINE)?;
-    if is_path(line) || line.as_bytes().contains(&b':') {
+    if is_line(line) {
         Ok(line)
     } else {
         Err(invalid_value(alloc, line, "<LINE>", NO_LINE))
     }
+}
+
+// Whether a text can be a line.
+fn is_line(text: &str) -> bool
+    ensures { result ≡ is_line text.now }
+{
+    has_colon(text) || is_path(text)
+}
+
+fn has_colon(text: &str) -> bool
+    ensures { result ≡ has_colon text.now }
+{
+    text.as_bytes().contains(&b':')
 }
 
 /// The names of the tapes, in order.

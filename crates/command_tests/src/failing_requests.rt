@@ -4,7 +4,7 @@
 use crate::attempts::{Ended, NOBODY, load_of, run};
 use endings::{Output, Status, Streams};
 use odt_machine::{LARGEST_WORDS, PLAIN_STYLE};
-use request_values::{Console, Request, TapeRequest};
+use request_values::{CheckOptions, Console, Request, TapeRequest};
 use requests::{SharedSystem, attempt};
 use simulated_system::{
     AMPLE, BrokenInput, BrokenOutput, NOWHERE, ONE_WORD, Setting, System, UnflushedOutput,
@@ -159,7 +159,7 @@ fn is_said(rt: &HostRuntime, names: &[&str], line: &str) -> bool {
     run(
         &system,
         rt.alloc(),
-        Request::Tape(TapeRequest::Check(names)),
+        Request::Tape(TapeRequest::Check(names, CheckOptions { blocks: false })),
         &[],
         &mut ended,
     );

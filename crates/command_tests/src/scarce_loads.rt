@@ -31,7 +31,7 @@ const RECORD: &str = "scarce-load.record";
 // The file of a save, and the one that is written beside it.
 const SAVED: &str = "scarce-saved.lda";
 
-const BESIDE_SAVED: &str = "scarce-saved.lda.ldaodt-new";
+const BESIDE_SAVED: &str = "scarce-saved.lda.part";
 
 // A look at the machine.
 const LOOK: Look<'static> = Look {

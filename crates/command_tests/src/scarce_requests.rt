@@ -5,7 +5,8 @@ use crate::attempts::{Ended, OUT_OF_MEMORY, run};
 use endings::Status;
 use odt_machine::{LARGEST_WORDS, PLAIN_STYLE};
 use request_values::{
-    Console, Load, LoadOptions, Look, MachineRequest, Probe, Rehearsal, Request, Stage, TapeRequest,
+    CheckOptions, Console, Load, LoadOptions, Look, MachineRequest, Probe, Rehearsal, Request,
+    Stage, TapeRequest,
 };
 use scarce_memory::{Famine, ROOMS};
 use simulated_system::{NOTHING, ONE_WORD, ONE_WORD_DIALOGUE, ONE_WORD_TEXT, PADDED, WRONG_SUM};
@@ -98,7 +99,10 @@ enum Asked {
 fn request_of(alloc: Global, asked: Asked) -> Result<Request<'static>, AllocError> {
     Ok(match asked {
         Asked::CheckInput => Request::Tape(TapeRequest::CheckInput),
-        Asked::Check(tapes) => Request::Tape(TapeRequest::Check(Vec::from_slice(alloc, tapes)?)),
+        Asked::Check(tapes) => Request::Tape(TapeRequest::Check(
+            Vec::from_slice(alloc, tapes)?,
+            CheckOptions { blocks: false },
+        )),
         Asked::Dialogue(tapes, console) => {
             let stage = Stage {
                 console,

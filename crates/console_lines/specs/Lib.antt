@@ -1,4 +1,5 @@
 pub mod Console
+pub mod ConsoleLine
 pub mod DeviceValue
 pub mod Dialling
 pub mod Hearing

@@ -4,23 +4,12 @@ use Rattle.tape_values.specs.Told.{IsAsTold}
 use Rattle.load_devices.specs.declared.item.Item.{Item}
 use Rattle.load_devices.specs.declared.fault.LineFault.{LineFault}
 use Rattle.load_devices.specs.declared.fault.LineFault.TheVariants.{Connect, Receive}
-use Rattle.load_devices.specs.declared.line.Line.{Ghosts as Line}
 
 -- a line on which nothing was said, where it tells, and of which no call failed
 pub record IsUnused (told : Option (List Item)) (failures : ℕ) (fault : Option LineFault) : Type 0 where
   pub nothing_said : IsAsTold told []
   pub none_failed : failures ≡ 0
   pub no_fault : fault ≡ None
-
--- what a line tells at a moment: what was said on it, how many calls of it failed, and the fault of the last one
-pub record LineTold : Type 0 where
-  pub said : Option (List Item)
-  pub failures : ℕ
-  pub fault : Option LineFault
-
--- what a line tells
-abbrev pub line_told : {L : Type 0} → Line L → L → LineTold
-line_told tell line = record { said = tell.told line; failures = tell.fault_count line; fault = tell.last_fault line }
 
 -- a console can't be reached, or its line takes no such quiet time
 abbrev pub IsReachFault : LineFault → Type 0

@@ -5,7 +5,7 @@ ghost use Rattle.console_lines.specs.Dialling.{ToDevice, asked_for};
 ghost use Rattle.console_lines.specs.StreamLine.{IsFreshLine};
 
 use crate::device::Device;
-use crate::opening::DeviceOpening;
+use crate::outlets::Outlets;
 use crate::stream_line::StreamLine;
 use load_devices::LineFault;
 use std::time::Clock;
@@ -18,18 +18,18 @@ pub type DeviceLine<'a, T, C> = StreamLine<Device<'a, T, C>>;
 ///
 /// `Connect` where it can't be opened, is no terminal or is in use, and `Receive` where the quiet time
 /// is 0; it is then closed.
-pub fn open_line<'a, V: DeviceOpening, C: Clock>(
-    devices: &mut V,
+pub fn open_line<'a, O: Outlets, C: Clock>(
+    devices: &mut O,
     clock: &'a C,
     path: &str,
     quiet_ms: u32,
-) -> Result<DeviceLine<'a, V::Terminal, C>, LineFault>
+) -> Result<DeviceLine<'a, O::Terminal, C>, LineFault>
     ensures fresh { IfOk result IsFreshLine }
     ensures fault { IfErr result (λ fault. (fault ≡ LineFault.Connect) ⊎ (fault ≡ LineFault.Receive)) }
-    ensures asked { Gains (V.asked devices.old) (V.asked devices.new) (asked_for (ToDevice path.now quiet_ms) result) }
+    ensures asked { Gains (O.asked devices.old) (O.asked devices.new) (asked_for (ToDevice path.now quiet_ms) result) }
 {
     match devices.open_device(path) {
-        Ok(terminal) => StreamLine::new(devices.limit(terminal, clock, quiet_ms), quiet_ms),
+        Ok(terminal) => StreamLine::new(devices.limit_device(terminal, clock, quiet_ms), quiet_ms),
         Err(_) => Err(LineFault::Connect),
     }
 }

@@ -1,4 +1,5 @@
 //! What opens serial devices.
+ghost use Rattle.std.specs.Prelude.{◌↔◌, IsOk, IsTrue};
 
 use crate::terminal::Terminal;
 use std::fs::File;
@@ -25,22 +26,24 @@ impl Devices for HostRuntime {
 
     // The lock is the open file's, so it goes with the process, however that ends.
     fn open_terminal(&self, path: &str) -> io::Result<File> {
-        if !fs::metadata(self, path)?.file_type().is_char_device() {
-            return Err(no_terminal());
-        }
+        is_so(fs::metadata(self, path)?.file_type().is_char_device())?;
         let file = File::options().read(true).write(true).open(self, path)?;
-        if !file.is_terminal() {
-            return Err(no_terminal());
-        }
+        is_so(file.is_terminal())?;
         file.try_lock()?;
         wait_for_nothing(&file)?;
         Ok(file)
     }
 }
 
-// The name is not that of a terminal.
-fn no_terminal() -> io::Error {
-    io::Error::from(ErrorKind::Unsupported)
+// Whether what a terminal has to be is so: an error where it isn't.
+fn is_so(is: bool) -> io::Result<()>
+    ensures { IsOk result ↔ IsTrue is }
+{
+    if is {
+        Ok(())
+    } else {
+        Err(io::Error::from(ErrorKind::Unsupported))
+    }
 }
 
 // Makes all reads and writes of an open file answer at once. Std has this for sockets alone, but the system's

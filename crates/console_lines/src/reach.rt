@@ -1,5 +1,6 @@
 ghost use Rattle.std.specs.Prelude.{◌≡◌, [], ◌∷◌, List, Option, None, IfOk, IfErr};
-ghost use Rattle.console_lines.specs.Reached.{IsUnused, IsReachFault, LineTold, line_told};
+ghost use Rattle.load_devices.specs.Devices.{LineTold, line_told};
+ghost use Rattle.console_lines.specs.Reached.{IsUnused, IsReachFault};
 ghost use Rattle.load_devices.specs.Told.{Gains};
 ghost use Rattle.console_lines.specs.Dialling.{LineRequest, Call, ToDevice, asked_for};
 

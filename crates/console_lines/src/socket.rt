@@ -4,7 +4,7 @@ ghost use Rattle.load_devices.specs.Told.{Gains};
 ghost use Rattle.console_lines.specs.Dialling.{ToPort, asked_for};
 ghost use Rattle.console_lines.specs.StreamLine.{IsFreshLine};
 
-use crate::dialling::Dialling;
+use crate::outlets::Outlets;
 use crate::receive::TimedStream;
 use crate::stream_line::StreamLine;
 use load_devices::LineFault;
@@ -17,14 +17,14 @@ impl<S: TimedStream + Drop> StreamLine<S> {
     /// they are tried in turn.
     ///
     /// `Connect` where none answers or there is none, and `Receive` as in `new`.
-    pub fn connect<D: Dialling<Stream = S>>(
-        network: &mut D,
+    pub fn connect<O: Outlets<Stream = S>>(
+        network: &mut O,
         address: &str,
         quiet_ms: u32,
     ) -> Result<StreamLine<S>, LineFault>
         ensures fresh { IfOk result IsFreshLine }
         ensures fault { IfErr result (λ fault. (fault ≡ LineFault.Connect) ⊎ (fault ≡ LineFault.Receive)) }
-        ensures asked { Gains (D.asked network.old) (D.asked network.new) (asked_for (ToPort address.now quiet_ms) result) }
+        ensures asked { Gains (O.asked network.old) (O.asked network.new) (asked_for (ToPort address.now quiet_ms) result) }
     {
         let Ok(stream) = network.dial(address) else {
             return Err(LineFault::Connect);

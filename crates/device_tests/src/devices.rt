@@ -6,14 +6,14 @@ use console_lines::{Device, DeviceLine, Devices, open_line};
 use host_core::Heard;
 use load_devices::{Line, LineFault};
 use std::io::ErrorKind;
-use std::net::OpenStream;
+use std::net::{Net, OpenStream};
 use std::time::{Clock, Duration};
 
 // Nothing has come.
 const NOTHING: Turn = Turn::Fails(ErrorKind::WouldBlock);
 
 // A line to a device of a system, by its clock.
-fn line_to<'a, D: Devices + Clock>(
+fn line_to<'a, D: Devices + Net + Clock>(
     system: &'a D,
     path: &str,
     quiet_ms: u32,

@@ -9,6 +9,7 @@
 //! They stand in a crate of their own, since a crate with tests is proved twice.
 #![tactic(auto)]
 
+mod asked;
 #[cfg(test)]
 mod brittle_writer;
 #[cfg(test)]
@@ -29,4 +30,4 @@ mod telling;
 #[cfg(test)]
 mod terminals;
 #[cfg(test)]
-mod told_devices;
+mod told_outlets;

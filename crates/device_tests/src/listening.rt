@@ -3,11 +3,14 @@
 use crate::brittle_writer::Brittle;
 use crate::streams::{Faulty, Notes, Spoken};
 use crate::terminals::{Bench, PATH, Pace, Turn};
-use console_lines::{Cable, Devices, Reach, StreamLine, is_path, listen, silences_within};
+use console_lines::{
+    Consoles, Devices, StreamLine, SystemConsoles, is_path, listen, silences_within,
+};
 use load_devices::{Line, LineFault};
 use std::alloc::Global;
 use std::cell::Cell;
 use std::io::ErrorKind;
+use std::net::Net;
 use std::time::Clock;
 
 // Nothing has come.
@@ -110,29 +113,29 @@ fn is_copied(alloc: Global, row: &Listening) -> bool {
 }
 
 // Whether this is copied of a system's device, with each character flushed, and the line is then over or not.
-fn is_heard_out<D: Devices + Clock>(
+fn is_heard_out<D: Devices + Net + Clock>(
     alloc: Global,
     system: &D,
     silences: u32,
     copied: &[u8],
     is_over: bool,
 ) -> bool {
-    let mut cable = Cable {
-        devices: system,
+    let mut consoles = SystemConsoles {
+        outlets: system,
         clock: system,
-        path: PATH,
-        quiet_ms: 1,
     };
-    let Ok(mut line) = cable.reach() else {
+    let Ok(mut line) = consoles.reach(PATH, 1) else {
         return false;
     };
     let mut out = Brittle::new(alloc, 8, 0);
     let listened = listen(&mut line, &mut out, silences);
+    let failed = line.failed();
+    consoles.let_go(line);
     listened.is_ok()
         && out.text.as_slice() == copied
         && out.flushes as usize == copied.len()
         && out.calls as usize == 2 * copied.len()
-        && line.failed() == is_over
+        && failed == is_over
 }
 
 #[test]
@@ -267,18 +270,18 @@ fn is_not_reached(path: &str, quiet_ms: u32, wanted: LineFault) -> bool {
 }
 
 // How a system's device is not reached.
-fn fault_of<'a, D: Devices + Clock>(
-    system: &'a D,
-    path: &'a str,
-    quiet_ms: u32,
-) -> Option<LineFault> {
-    let mut cable = Cable {
-        devices: system,
+fn fault_of<D: Devices + Net + Clock>(system: &D, path: &str, quiet_ms: u32) -> Option<LineFault> {
+    let mut consoles = SystemConsoles {
+        outlets: system,
         clock: system,
-        path,
-        quiet_ms,
     };
-    cable.reach().err()
+    match consoles.reach(path, quiet_ms) {
+        Ok(line) => {
+            consoles.let_go(line);
+            None
+        }
+        Err(fault) => Some(fault),
+    }
 }
 
 #[test]

@@ -1,6 +1,8 @@
 //! A network and a stream that do as a test says.
 
+use console_lines::Devices;
 use std::cell::Cell;
+use std::fs::File;
 use std::io;
 use std::io::{ErrorKind, Read, Write};
 use std::net::{Ipv4Addr, Net, OpenStream, SocketAddr, TcpListener, TcpStream};
@@ -54,6 +56,15 @@ impl Net for TwoAddresses<'_> {
         found[0] = SocketAddr::from((Ipv4Addr::LOCALHOST, 9));
         found[1] = self.second;
         Ok(2)
+    }
+}
+
+// It has no device.
+impl Devices for TwoAddresses<'_> {
+    type Terminal = File;
+
+    fn open_terminal(&self, _path: &str) -> io::Result<File> {
+        Err(io::Error::from(ErrorKind::NotFound))
     }
 }
 

@@ -4,6 +4,7 @@ use console_lines::Devices;
 use std::cell::Cell;
 use std::io;
 use std::io::{ErrorKind, IsTerminal, Read, Write};
+use std::net::{Net, SocketAddr, TcpListener, TcpStream};
 use std::time::{Clock, Duration};
 
 /// What a read or a write of the terminal meets.
@@ -158,6 +159,21 @@ impl<'a> Devices for &'a Bench {
             bench: *self,
             is_gone: false,
         })
+    }
+}
+
+// It has no network.
+impl<'a> Net for &'a Bench {
+    type Stream = TcpStream;
+
+    type Listener = TcpListener;
+
+    fn bind(&self, _address: SocketAddr) -> io::Result<TcpListener> {
+        Err(io::Error::from(ErrorKind::Unsupported))
+    }
+
+    fn connect(&self, _address: SocketAddr) -> io::Result<TcpStream> {
+        Err(io::Error::from(ErrorKind::Unsupported))
     }
 }
 

@@ -11,16 +11,17 @@ use Rattle.tape_blocks.specs.Fault.{fault_text, refused_tape_text}
 use Rattle.tape_blocks.specs.OutOfMemory.{memory_text}
 use Rattle.endings.specs.FaultOutput.{StandardError, IsSaidOnError}
 use Rattle.endings.specs.declared.failure.Failure.{Failure}
-use Rattle.endings.specs.declared.failure.Failure.TheVariants.{CannotRead, CannotWrite, CannotWriteFile, FileIsThere, RecordInUse, CannotConnect}
-use Rattle.endings.specs.declared.failure.Failure.TheVariants.{LineFailed, StartInDoubt, TapeRefused, OneTapeRefused, ScriptRefused, RecordRefused}
-use Rattle.endings.specs.declared.failure.Failure.TheVariants.{TooLarge, Misplaced, BadWord, NoMemory}
+use Rattle.endings.specs.declared.failure.Failure.TheVariants.{CannotRead, CannotWrite, CannotWriteFile, FileIsThere, PartIsThere, RecordInUse, CannotConnect}
+use Rattle.endings.specs.declared.failure.Failure.TheVariants.{LineFailed, StartInDoubt, TapeRefused, OneTapeRefused, ScriptRefused, WordsRefused, RecordRefused}
+use Rattle.endings.specs.declared.failure.Failure.TheVariants.{RecordStale, TooLarge, Misplaced, BadWord, NoMemory}
 use Rattle.endings.specs.declared.place.Place.{Place}
-use Rattle.endings.specs.declared.place.Place.TheVariants.{LineOfLoad, LineOfVerify, LineOfSave, LineOfProbe, Tape, Script, Record}
+use Rattle.endings.specs.declared.place.Place.TheVariants.{LineOfLoad, LineOfVerify, LineOfSave, LineOfProbe, Tape, Script, Words, Record}
 use Rattle.command_io.specs.declared.fault.CommandFault.{CommandFault}
 use Rattle.command_io.specs.declared.fault.CommandFault.TheVariants as fault
 use Rattle.load_record.specs.declared.reader.RecordError.TheVariants as why
+use Rattle.tape_making.specs.Refusal.{refusal_text}
 use Rattle.endings.specs.declared.status.Status.{Status}
-use Rattle.endings.specs.declared.status.Status.TheVariants.{BadCommandLine, Refused, DeviceFailed, NoMemory as OutOfMemory}
+use Rattle.endings.specs.declared.status.Status.TheVariants.{BadCommandLine, Refused, DeviceFailed, NotLoaded, NoMemory as OutOfMemory}
 
 -- the exit status that tells of a failure
 abbrev pub status_of : Failure → Status
@@ -28,6 +29,7 @@ status_of (CannotRead name) = DeviceFailed
 status_of CannotWrite = DeviceFailed
 status_of (CannotWriteFile name) = DeviceFailed
 status_of (FileIsThere name) = DeviceFailed
+status_of (PartIsThere name) = DeviceFailed
 status_of (RecordInUse name) = DeviceFailed
 status_of (CannotConnect address) = DeviceFailed
 status_of LineFailed = DeviceFailed
@@ -35,7 +37,9 @@ status_of StartInDoubt = DeviceFailed
 status_of (TapeRefused refusal) = Refused
 status_of (OneTapeRefused number refusal) = Refused
 status_of (ScriptRefused number) = Refused
+status_of (WordsRefused refusal) = Refused
 status_of (RecordRefused reason) = Refused
+status_of RecordStale = NotLoaded
 status_of TooLarge = BadCommandLine
 status_of (Misplaced name place) = BadCommandLine
 status_of BadWord = BadCommandLine
@@ -69,6 +73,7 @@ failure_words CannotWrite = codes "cannot write output"
 failure_words (CannotWriteFile name) = codes "cannot write "
 failure_words (CannotConnect address) = codes "cannot connect to "
 failure_words (FileIsThere name) = []
+failure_words (PartIsThere name) = []
 failure_words (Misplaced name place) = []
 failure_words (RecordInUse name) = codes "record in use: "
 failure_words LineFailed = line_failed
@@ -76,8 +81,10 @@ failure_words StartInDoubt = line_failed
 failure_words (TapeRefused refusal) = refused_tape_text refusal
 failure_words (OneTapeRefused number refusal) = codes "tape " ++ one_tape_text number refusal
 failure_words (ScriptRefused number) = codes "script " ++ refused_line_text number
+failure_words (WordsRefused refusal) = refusal_text refusal
 failure_words (RecordRefused why.NotARecord) = codes "record refused: NotARecord"
 failure_words (RecordRefused (why.Foreign number)) = codes "record " ++ refused_line_text number
+failure_words RecordStale = codes "memory does not hold what the record says: load with --recheck"
 failure_words TooLarge = codes "machine too large"
 failure_words BadWord = codes "a word of the command line is not UTF-8"
 failure_words NoMemory = memory_text
@@ -87,6 +94,7 @@ abbrev pub failure_name : Failure → List ℕ
 failure_name (CannotRead name) = shown_name name.now
 failure_name (CannotWriteFile name) = shown_name name.now
 failure_name (FileIsThere name) = shown_name name.now
+failure_name (PartIsThere name) = shown_name name.now
 failure_name (RecordInUse name) = shown_name name.now
 failure_name (Misplaced name place) = shown_name name.now
 failure_name (CannotConnect address) = shown_name address.now
@@ -101,11 +109,13 @@ misplaced_end LineOfSave = codes " is no serial device: save FILE LINE FROM TO\n
 misplaced_end LineOfProbe = codes " is no serial device: probe LINE\n"
 misplaced_end Tape = codes " is a terminal, no tape\n"
 misplaced_end Script = codes " is a terminal, no script\n"
+misplaced_end Words = codes " is a terminal, no words\n"
 misplaced_end Record = codes " is a terminal, no record\n"
 
 -- what stands behind the name, and the line's end; where the start may have gone out, a line of its own says so
 abbrev pub failure_end : Failure → List ℕ
 failure_end (FileIsThere name) = codes " is there already\n"
+failure_end (PartIsThere name) = codes ".part is there already\n"
 failure_end (Misplaced name place) = misplaced_end place
 failure_end StartInDoubt = codes "\nldaodt: the start may have gone out: look at the machine first\n"
 failure_end other = codes "\n"

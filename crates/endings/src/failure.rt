@@ -3,6 +3,7 @@ use crate::status::Status;
 use command_io::CommandFault;
 use load_record::RecordError;
 use tape_blocks::Fault;
+use tape_making::Refusal;
 
 /// Why the program did not do what it was asked, in the words of its line on standard error.
 #[derive(Clone, Copy)]
@@ -18,6 +19,9 @@ pub enum Failure<'a> {
 
     /// There is a file of this name already, which is as it was.
     FileIsThere(&'a str),
+
+    /// What a save read that did not come to its end is beside the file of this name: its name has `.part` more.
+    PartIsThere(&'a str),
 
     /// Another load holds the record's file of this name.
     RecordInUse(&'a str),
@@ -40,8 +44,14 @@ pub enum Failure<'a> {
     /// The script is refused at this line.
     ScriptRefused(u32),
 
+    /// The octal words are refused at this line, for this reason.
+    WordsRefused(Refusal),
+
     /// The record is none of this tape's load.
     RecordRefused(RecordError),
+
+    /// Memory does not hold a word that the record has.
+    RecordStale,
 
     /// The machine is larger than an LSI-11's memory.
     TooLarge,
@@ -103,6 +113,7 @@ impl<'a> Failure<'a> {
             | Failure::CannotWrite
             | Failure::CannotWriteFile(_)
             | Failure::FileIsThere(_)
+            | Failure::PartIsThere(_)
             | Failure::RecordInUse(_)
             | Failure::CannotConnect(_)
             | Failure::LineFailed
@@ -110,7 +121,9 @@ impl<'a> Failure<'a> {
             Failure::TapeRefused(_)
             | Failure::OneTapeRefused(..)
             | Failure::ScriptRefused(_)
+            | Failure::WordsRefused(_)
             | Failure::RecordRefused(_) => Status::Refused,
+            Failure::RecordStale => Status::NotLoaded,
             Failure::TooLarge | Failure::BadWord | Failure::Misplaced(..) => Status::BadCommandLine,
             Failure::NoMemory => Status::NoMemory,
         }

@@ -3,12 +3,14 @@ ghost use Rattle.std.specs.Prelude.{◌≡◌, ◌≤◌, ◌++◌, ◌+◌, cod
 ghost use Rattle.arrayvec.specs.ArrayVec.{array_vec_len};
 ghost use Rattle.endings.specs.Failure.{failure_words, one_tape_text, refused_line_text};
 ghost use Rattle.tape_blocks.specs.Fault.{fault_text};
+ghost use Rattle.tape_making.specs.Refusal.{refusal_text};
 
 use crate::failure::Failure;
 use arrayvec::ArrayVec;
 use byte_io::{push_bytes, push_decimal};
 use load_record::RecordError;
 use tape_blocks::{Fault, OUT_OF_MEMORY, REFUSED_AT, TAPE};
+use tape_making::{REFUSED_WORDS, Refusal};
 
 /// The words of a line, with room for the longest and for its end.
 pub(crate) type LineWords = ArrayVec<u8, 128>;
@@ -34,7 +36,7 @@ fn push_words(words: &mut LineWords, failure: Failure<'_>)
         Failure::CannotRead(_) => push_bytes(words, b"cannot read "),
         Failure::CannotWrite => push_bytes(words, b"cannot write output"),
         Failure::CannotWriteFile(_) => push_bytes(words, b"cannot write "),
-        Failure::FileIsThere(_) | Failure::Misplaced(..) => {}
+        Failure::FileIsThere(_) | Failure::PartIsThere(_) | Failure::Misplaced(..) => {}
         Failure::CannotConnect(_) => push_bytes(words, b"cannot connect to "),
         Failure::RecordInUse(_) => push_bytes(words, b"record in use: "),
         Failure::LineFailed | Failure::StartInDoubt => push_bytes(words, b"line failed"),
@@ -44,11 +46,18 @@ fn push_words(words: &mut LineWords, failure: Failure<'_>)
         }
         Failure::OneTapeRefused(number, fault) => push_tape(words, number, fault),
         Failure::ScriptRefused(line) => push_place(words, b"script ", line),
+        Failure::WordsRefused(refusal) => push_refusal(words, refusal),
         Failure::RecordRefused(RecordError::NotARecord) => {
             push_bytes(words, b"record refused: NotARecord");
         }
         Failure::RecordRefused(RecordError::Foreign(line)) => {
             push_place(words, b"record ", line);
+        }
+        Failure::RecordStale => {
+            push_bytes(
+                words,
+                b"memory does not hold what the record says: load with --recheck",
+            );
         }
         Failure::TooLarge => push_bytes(words, b"machine too large"),
         Failure::BadWord => push_bytes(words, b"a word of the command line is not UTF-8"),
@@ -75,6 +84,18 @@ fn push_fault(words: &mut LineWords, fault: Fault)
     ensures short { array_vec_len words.new ≤ array_vec_len words.old + 33 }
 {
     push_bytes(words, fault.text().as_str().as_bytes());
+}
+
+// Puts what is said of refused words behind the program's name.
+fn push_refusal(words: &mut LineWords, refusal: Refusal)
+    requires { array_vec_len words.old ≤ 8 }
+    ensures words { words.new.items ≡ words.old.items ++ refusal_text refusal }
+    ensures short { array_vec_len words.new ≤ 127 }
+{
+    push_bytes(words, REFUSED_WORDS.as_bytes());
+    push_decimal(words, refusal.line as u64);
+    push_bytes(words, b": ");
+    push_bytes(words, refusal.why.name().as_bytes());
 }
 
 // Puts what is refused, and the number of its line, behind other words.

@@ -1,6 +1,6 @@
 /// What the place of a word on the command line asks for, where its file can't be that.
 ///
-/// A line to the console is a serial device; a tape, a script and a record are no terminal, which would have to be
+/// A line to the console is a serial device; a tape, a script, octal words and a record are no terminal, which would have to be
 /// typed. The first four are the line of a command, whose order of words is told.
 #[derive(Clone, Copy, Debug, PartialEq, Eq)]
 pub enum Place {
@@ -21,6 +21,9 @@ pub enum Place {
 
     /// A script.
     Script,
+
+    /// Octal words.
+    Words,
 
     /// A record.
     Record,

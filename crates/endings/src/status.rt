@@ -12,15 +12,15 @@ pub enum Status {
     /// The command line was refused.
     BadCommandLine,
 
-    /// A tape, the script or the record was refused.
+    /// A tape, octal words, the script or the record was refused.
     Refused,
 
     /// A file, standard input or standard output failed, no connection was made, or the line of a load
     /// or its record failed.
     DeviceFailed,
 
-    /// The host gave up, a word was not there or did not hold, or the turns were over with no end; or a
-    /// console has no prompt or is not to be trusted.
+    /// The host gave up, a word was not there or did not hold, memory does not hold what a record says, or the
+    /// turns were over with no end; or a console has no prompt or is not to be trusted.
     NotLoaded,
 
     /// The load may have started the program, or not.

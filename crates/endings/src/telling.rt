@@ -106,6 +106,7 @@ fn line_end(failure: Failure<'_>) -> &'static [u8]
 {
     match failure {
         Failure::FileIsThere(_) => b" is there already\n",
+        Failure::PartIsThere(_) => b".part is there already\n",
         Failure::Misplaced(_, place) => misplaced_end(place),
         Failure::StartInDoubt => {
             b"\nldaodt: the start may have gone out: look at the machine first\n"
@@ -125,6 +126,7 @@ fn misplaced_end(place: Place) -> &'static [u8]
         Place::LineOfProbe => b" is no serial device: probe LINE\n",
         Place::Tape => b" is a terminal, no tape\n",
         Place::Script => b" is a terminal, no script\n",
+        Place::Words => b" is a terminal, no words\n",
         Place::Record => b" is a terminal, no record\n",
     }
 }
@@ -138,6 +140,7 @@ fn write_shown_name<E: FaultOutput>(err: &mut E, failure: Failure<'_>) -> Result
         Failure::CannotRead(name)
         | Failure::CannotWriteFile(name)
         | Failure::FileIsThere(name)
+        | Failure::PartIsThere(name)
         | Failure::RecordInUse(name)
         | Failure::Misplaced(name, _)
         | Failure::CannotConnect(name) => write_name(err, name),

@@ -15,7 +15,7 @@ use Rattle.exchange_core.specs.declared.phase.End.TheVariants.{Complete, Broken}
 use Rattle.exchange_core.specs.declared.turn.Turn.{Turn}
 use Rattle.exchange_core.specs.declared.turn.Turn.TheVariants.{Listen, Next, Verified, Stop}
 use Rattle.exchange_core.specs.Chunk.{AreChunks, chunk_nr, answer_at, words_behind}
-use Rattle.exchange_core.specs.Exchange.{IsExchange, PhaseFits, RisesByAnswer, Step, advance, exchange_bound, listens, next_chunk, taken, turn_of, used_in, with_chunk}
+use Rattle.exchange_core.specs.Exchange.{IsExchange, PhaseFits, RisesByAnswer, ExchangeStep, advance, exchange_bound, listens, next_chunk, taken, turn_of, used_in, with_chunk}
 use Rattle.exchange_core.proofs.Chunks.{chunks_few}
 
 -- there is a chunk, and each has one to sixteen bytes
@@ -52,7 +52,7 @@ bound_kept chunks e small k = by e.phase k.fits k.paid
     by (Ended Broken) fits paid = omega (arith, fits, paid)
 
 -- a test over steps
-pub on_step : (P : Step → Type 0) (test : Bool) (one other : Step) → (test ≡ true → P one) → (test ≡ false → P other) → P (if test then one else other)
+pub on_step : (P : ExchangeStep → Type 0) (test : Bool) (one other : ExchangeStep) → (test ≡ true → P one) → (test ≡ false → P other) → P (if test then one else other)
 on_step P true one other h k = h refl
 on_step P false one other h k = k refl
 

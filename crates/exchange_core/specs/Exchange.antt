@@ -45,16 +45,16 @@ waits Leave = Stop
 waits (Ended end) = Listen (Ended end)
 
 -- an exchange after a step, and the characters that it sends
-pub record Step : Type 0 where
+pub record ExchangeStep : Type 0 where
   pub next : Exchange
   pub keys : List ℕ
 
 -- it goes on in a phase, nothing is sent
-abbrev pub listens : Exchange → Phase → Step
+abbrev pub listens : Exchange → Phase → ExchangeStep
 listens e phase = record { next = record e { phase = phase }; keys = [] }
 
 -- the next chunk is sent, or there is none and the exchange is complete
-abbrev pub next_chunk : Image → List Chunk → Exchange → Step
+abbrev pub next_chunk : Image → List Chunk → Exchange → ExchangeStep
 next_chunk image chunks e =
     if nat_lt e.done (length chunks)
     then record {
@@ -68,7 +68,7 @@ abbrev pub with_chunk : List Chunk → Exchange → Exchange
 with_chunk chunks e = record e { done = e.done + 1; verified = (chunk_nr chunks e.done).until }
 
 -- what a turn of the table does
-abbrev pub taken : Image → List Chunk → Exchange → Turn → Step
+abbrev pub taken : Image → List Chunk → Exchange → Turn → ExchangeStep
 taken image chunks e (Listen phase) = listens e phase
 taken image chunks e Next = next_chunk image chunks e
 taken image chunks e Verified = next_chunk image chunks (with_chunk chunks e)
@@ -80,7 +80,7 @@ turn_of image chunks e (Got c) = hears image (chunk_nr chunks e.done) e.phase c
 turn_of image chunks e Quiet = waits e.phase
 
 -- one step of the exchange
-abbrev pub advance : Image → List Chunk → Exchange → Heard → Step
+abbrev pub advance : Image → List Chunk → Exchange → Heard → ExchangeStep
 advance image chunks e heard = taken image chunks e (turn_of image chunks e heard)
 
 -- the exchange that a list of heard things makes

@@ -1,22 +1,31 @@
-//! What a host decides that exchanges bytes with a stub on a machine: for each thing heard, the
-//! characters to send.
+//! What a host decides that brings a stub to a machine and exchanges bytes with it.
 //!
-//! A `Chunk` is a few consecutive bytes of the tape's image. The host waits for silence; then it sends
-//! all nibbles of a chunk and takes the stub's answer, which tells each nibble as memory holds it now,
-//! complemented, so that no echo passes for an answer. The words of a chunk are verified once its whole
-//! answer came and is the image's. At anything else that is heard, and at a silence, it leaves.
+//! First how a tape's words are split: a `Chunk` is a few consecutive bytes of its image, a stretch an entry of
+//! the stub's table of them. The stub lies in a window behind the verified words; its plan has its words there,
+//! and before it soundings with the tape's own content: where the stub starts, memory is there.
 //!
-//! The contract of `step` is the table of the phases. An exchange sends at most the exchange bound.
-//! `exchange_law` shows what this means for a machine, `exchange_engine` lends the exchange to a line.
+//! Then the exchange. The host waits for silence, sends all nibbles of a chunk, and takes the stub's answer, which
+//! tells each nibble as memory holds it now, complemented, so that no echo passes for an answer. The words of a
+//! chunk are verified once its whole answer came and is the image's. At anything else, and at a silence, it leaves.
+//! The contract of `step` is the table of the phases. `exchange_law` shows what this means for a machine.
 #![tactic(auto)]
 
 mod chunk;
+mod chunking;
 mod exchange;
 mod phase;
+mod planning;
 mod stretch;
+mod stretches;
 mod turn;
+mod window;
+mod word_bytes;
 
 pub use chunk::{Chunk, Keys};
+pub use chunking::chunks_of;
 pub use exchange::{Asked, Exchange};
 pub use phase::{End, Phase};
+pub use planning::stub_plan;
 pub use stretch::Stretch;
+pub use stretches::stretches_of;
+pub use window::window_for;

@@ -15,7 +15,7 @@ use Rattle.exchange_core.specs.declared.phase.Phase.TheVariants.{Settle, Answer,
 use Rattle.exchange_core.specs.declared.phase.End.TheVariants.{Complete, Broken}
 use Rattle.exchange_core.specs.declared.turn.Turn.TheVariants.{Listen, Verified, Stop}
 use Rattle.exchange_core.specs.Chunk.{IsChunk, answer_at, answer_for, chunk_keys, chunk_nr, is_nibble, told}
-use Rattle.exchange_core.specs.Exchange.{IsExchange, PhaseFits, Step, advance, listens, next_chunk, taken, with_chunk}
+use Rattle.exchange_core.specs.Exchange.{IsExchange, PhaseFits, ExchangeStep, advance, listens, next_chunk, taken, with_chunk}
 use Rattle.exchange_core.proofs.Keys.{keys_length}
 use Rattle.exchange_core.proofs.Steps.{below, not_below, on_step, on_turn}
 use Rattle.exchange_core.specs.declared.stretch.Stretch.{Stretch}
@@ -33,7 +33,7 @@ pub record Known (image : Image) (chunks : List Chunk) : Type 0 where
   pub small : (a : ℕ) → told image a < 256
 
 -- a step leads to an exchange that is kept
-abbrev pub Goes : Image → List Chunk → List ℕ → Step → Link → Type 0
+abbrev pub Goes : Image → List Chunk → List ℕ → ExchangeStep → Link → Type 0
 Goes image chunks before s v = Kept image chunks before s.next.done s.next.phase (sent v s.keys)
 
 goes_listen : (image : Image) (chunks : List Chunk) (before : List ℕ) (e : Exchange) (phase : Phase) (v : Link) → Kept image chunks before e.done phase v → Goes image chunks before (listens e phase) v

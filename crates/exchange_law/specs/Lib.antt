@@ -2,3 +2,9 @@ pub mod Station
 pub mod Line
 pub mod Unsettled
 pub mod Law
+pub mod Mirror
+pub mod Recovery
+pub mod Start
+pub mod StubStation
+pub mod Clean
+pub mod Cable

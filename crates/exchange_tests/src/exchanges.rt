@@ -4,13 +4,12 @@ ghost use Rattle.exchange_core.specs.Chunk.{AreChunks};
 
 use crate::station::{StationLine, Upset};
 use crate::tapes::{block_of, plan_of};
-use exchange_core::{Chunk, End, Exchange};
-use exchange_engine::{Stop, exchange};
+use exchange_core::{Chunk, End, Exchange, chunks_of};
 use host_core::Heard;
 use load_devices::{Item, KeepFault, Kept, LineFault, MemoryKeep, Unwatched};
 use std::alloc::Global;
 use std::process::Abort;
-use stub_plan::chunks_of;
+use stub_engine::{ExchangeStop, exchange};
 use tape_image::{Plan, Word};
 
 // The tape: two words, at 001016 and 001020, so that a multiple of 16 lies between, and so two chunks.
@@ -215,7 +214,7 @@ const FIRST_ANSWERED: usize = 9;
 #[derive(Drop)]
 struct Outcome {
     state: Exchange,
-    stop: Stop,
+    stop: ExchangeStop,
     line: StationLine,
     keep: MemoryKeep,
 }
@@ -227,7 +226,7 @@ fn exchange_on(
     line: &mut StationLine,
     keep: &mut MemoryKeep,
     turns: u64,
-) -> (Exchange, Stop)
+) -> (Exchange, ExchangeStop)
     requires { AreChunks plan.now 0 chunks.now }
 {
     exchange(plan, chunks, 0, line, keep, turns, &Unwatched)
@@ -319,7 +318,7 @@ fn breaks_so(alloc: Global, upset: Upset, verified: u32, said: &str) -> Option<b
         End::Broken
     };
     Some(
-        outcome.stop == Stop::Ended(end)
+        outcome.stop == ExchangeStop::Ended(end)
             && outcome.state.verified == verified
             && outcome.state.sent == keys_in(said)
             && is_said(outcome.line.items(), said)
@@ -353,12 +352,12 @@ fn is_said_before(items: &[Item], call: usize) -> bool {
 }
 
 // How an exchange stops whose calls fail from this number on, and how many words are verified.
-fn failure_at(call: usize) -> (Stop, u32) {
+fn failure_at(call: usize) -> (ExchangeStop, u32) {
     let verified = if call <= FIRST_ANSWERED { 0 } else { 1 };
     match CALLS.as_bytes().get(call.saturating_sub(1)) {
-        Some(b's') => (Stop::LineFailed(LineFault::Send), verified),
-        Some(_) => (Stop::LineFailed(LineFault::Receive), verified),
-        None => (Stop::Ended(End::Complete), 2),
+        Some(b's') => (ExchangeStop::LineFailed(LineFault::Send), verified),
+        Some(_) => (ExchangeStop::LineFailed(LineFault::Receive), verified),
+        None => (ExchangeStop::Ended(End::Complete), 2),
     }
 }
 
@@ -383,11 +382,11 @@ fn each_call_of_the_line_fails(rt: HostRuntime) {
 
 // From which call on the keeper fails, and after how many turns the engine stops; how it stops, how many
 // words are verified and kept, what is said, and why the row is here.
-const STOPS: [(Option<u32>, u64, Stop, u32, usize, &str, &str); 7] = [
+const STOPS: [(Option<u32>, u64, ExchangeStop, u32, usize, &str, &str); 7] = [
     (
         Some(1),
         100,
-        Stop::KeepFailed(KeepFault::Write),
+        ExchangeStop::KeepFailed(KeepFault::Write),
         1,
         0,
         "<~abcd<n<m<l<k",
@@ -396,17 +395,17 @@ const STOPS: [(Option<u32>, u64, Stop, u32, usize, &str, &str); 7] = [
     (
         Some(2),
         100,
-        Stop::KeepFailed(KeepFault::Write),
+        ExchangeStop::KeepFailed(KeepFault::Write),
         2,
         1,
         WHOLE,
         "the last word is not kept: it is no end",
     ),
-    (None, 0, Stop::TurnsOver, 0, 0, "", "no turn"),
+    (None, 0, ExchangeStop::TurnsOver, 0, 0, "", "no turn"),
     (
         None,
         1,
-        Stop::TurnsOver,
+        ExchangeStop::TurnsOver,
         0,
         0,
         "<~abcd",
@@ -415,7 +414,7 @@ const STOPS: [(Option<u32>, u64, Stop, u32, usize, &str, &str); 7] = [
     (
         None,
         5,
-        Stop::TurnsOver,
+        ExchangeStop::TurnsOver,
         1,
         1,
         "<~abcd<n<m<l<kefgh",
@@ -424,7 +423,7 @@ const STOPS: [(Option<u32>, u64, Stop, u32, usize, &str, &str); 7] = [
     (
         None,
         8,
-        Stop::TurnsOver,
+        ExchangeStop::TurnsOver,
         1,
         1,
         "<~abcd<n<m<l<kefgh<j<i<h",
@@ -433,7 +432,7 @@ const STOPS: [(Option<u32>, u64, Stop, u32, usize, &str, &str); 7] = [
     (
         None,
         9,
-        Stop::Ended(End::Complete),
+        ExchangeStop::Ended(End::Complete),
         2,
         2,
         WHOLE,

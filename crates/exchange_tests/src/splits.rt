@@ -1,10 +1,9 @@
 //! How words are split: chunks, stretches, the window, the stub's plan.
 
 use crate::tapes::{block_of, plan_of};
-use exchange_core::{Chunk, Stretch};
+use exchange_core::{Chunk, Stretch, chunks_of, stretches_of, stub_plan, window_for};
 use std::alloc::Global;
 use std::process::Abort;
-use stub_plan::{chunks_of, stretches_of, stub_plan, window_for};
 use tape_image::Plan;
 
 // 100 words from 001006 on, a gap, and the byte at 002001.

@@ -10,7 +10,7 @@ use Rattle.request_values.specs.declared.request.Rehearsal.{Rehearsal}
 
 -- these tapes were taken of inputs
 abbrev pub AreTakenOf : Tapes → Inputs → Type 0
-AreTakenOf taken inputs = AreTapes inputs.held inputs.rests taken.tapes.items taken.lengths.items
+AreTakenOf taken inputs = AreTapes inputs.held inputs.rests taken.tapes.items taken.layouts.items
 
 -- this is so of whatever inputs these tapes were taken of
 abbrev pub OfTakenInputs : Tapes → (Inputs → Type 0) → Type 0

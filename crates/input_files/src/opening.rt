@@ -20,7 +20,7 @@ const PROCESS_HAS_TOO_MANY: i32 = 24;
 /// Opens a file. It is read ahead, which nobody sees: no one else reads what this program has opened.
 ///
 /// `CannotRead` names it where it can't be opened; `NoMemory` comes only where a growth was refused.
-pub(crate) fn open<'a, F: InputFiles>(
+pub fn open<'a, F: InputFiles>(
     rt: &mut F,
     alloc: Global,
     name: &'a str,

@@ -32,7 +32,7 @@ pub fn take<'a, F: InputFiles, R: Read, W: Output, E: FaultOutput>(
     ensures ok { IfOk result (λ taken.
         OfTapes names.now (intake (F.opened files.old) streams.old) (intake (F.opened files.new) streams.new) (AreTakenOf taken)) }
     ensures err { IfErr result (AreUntaken names.now (intake (F.opened files.old) streams.old) (intake (F.opened files.new) streams.new)) }
-    ensures each { IfOk result (λ taken. length taken.lengths.items ≡ length taken.tapes.items) }
+    ensures each { IfOk result (λ taken. length taken.layouts.items ≡ length taken.tapes.items) }
     ensures same_out { streams.new.out ≡ streams.old.out }
     ensures quiet { streams.new.err ≡ streams.old.err }
 {
@@ -49,7 +49,7 @@ pub fn take_input<R: Read>(alloc: Global, input: &mut R) -> Result<Tapes, Failur
     requires { FitsInMemory R.row }
     ensures ok { IfOk result (λ taken. AreTakenOf taken (only_input (R.remaining input.old) (R.remaining input.new))) }
     ensures err { IfErr result (FailsToTake (only_input (R.remaining input.old) (R.remaining input.new))) }
-    ensures each { IfOk result (λ taken. length taken.lengths.items ≡ length taken.tapes.items) }
+    ensures each { IfOk result (λ taken. length taken.layouts.items ≡ length taken.tapes.items) }
 {
     take_named(alloc, &[], slice::from_mut(input))
 }
@@ -131,7 +131,7 @@ fn take_named<'a, R: Read>(
 ) -> Result<Tapes, Failure<'a>>
     ensures ok { IfOk result (λ taken. AreTakenOf taken (inputs_of names.now R.remaining inputs.old inputs.new)) }
     ensures err { IfErr result (FailsToTake (inputs_of names.now R.remaining inputs.old inputs.new)) }
-    ensures each { IfOk result (λ taken. length taken.lengths.items ≡ length taken.tapes.items) }
+    ensures each { IfOk result (λ taken. length taken.layouts.items ≡ length taken.tapes.items) }
 {
     match take_tapes(alloc, inputs) {
         Ok(taken) => Ok(taken),

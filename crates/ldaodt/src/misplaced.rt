@@ -28,11 +28,12 @@ pub(crate) fn misplaced<'a>(rt: &HostRuntime, request: &Request<'a>) -> Option<F
             )
         }
         Request::Machine(MachineRequest::Verify(tapes, _))
-        | Request::Tape(TapeRequest::Check(tapes))
+        | Request::Tape(TapeRequest::Check(tapes, _))
         | Request::Tape(TapeRequest::Dialogue(tapes, _)) => terminal_among(rt, tapes),
         Request::Tape(TapeRequest::Rehearse(rehearsal)) => terminal_among(rt, &[rehearsal.tape])
             .or(terminal(rt, rehearsal.script, Place::Script))
             .or(terminal_among(rt, &rehearsal.more)),
+        Request::Make(make) => terminal_as_words(rt, make.words),
         Request::Tape(_) | Request::Machine(_) => None,
     }
 }
@@ -47,7 +48,7 @@ fn line_of<'a>(request: &Request<'a>) -> Option<(&'a str, Place)> {
             probe.look.line,
             Place::LineOfProbe,
         )),
-        Request::Tape(_) => None,
+        Request::Tape(_) | Request::Make(_) => None,
     }
 }
 
@@ -73,6 +74,14 @@ fn terminal_among<'a>(rt: &HostRuntime, tapes: &[&'a str]) -> Option<Failure<'a>
         }
     }
     None
+}
+
+// That octal words have a terminal's name. Standard input may be one.
+fn terminal_as_words<'a>(rt: &HostRuntime, words: &'a str) -> Option<Failure<'a>> {
+    if is_input(&[words]) {
+        return None;
+    }
+    terminal(rt, words, Place::Words)
 }
 
 // That a name is a terminal, where it is one. Only a character device is opened: to open a pipe does something.

@@ -10,14 +10,10 @@ ghost use Rattle.requests.specs.Attempt.{IsAttempted};
 ghost use Rattle.ldaodt.specs.Answer.{IsAnswered};
 
 use command_line::{explain, parse};
-use console_lines::{DeviceOpening, Dialling};
 use endings::{FaultOutput, Output, Streams};
-use input_files::InputFiles;
-use record_file::Disk;
-use requests::{System, attempt};
+use requests::{Kinds, System, attempt};
 use std::alloc::Global;
 use std::io::{Print, Read};
-use std::time::Clock;
 
 /// Does what the words after the program's name ask for, in a system that comes back, and answers the exit
 /// status.
@@ -25,33 +21,22 @@ use std::time::Clock;
 /// Reports and help go to standard output, which is flushed; refused command lines and faults go to
 /// standard error, a fault as one line. What can't be written there is not told, nor that nobody reads
 /// any more what only prints. A load shows on the terminal, where there is one, how far it is.
-pub(crate) fn program<
-    'c,
-    F: InputFiles + Drop,
-    D: Disk + Drop,
-    N: Dialling + Drop,
-    V: DeviceOpening + Drop,
-    C: Clock,
-    R: Read,
-    W: Output,
-    E: FaultOutput,
-    T: Print,
->(
-    system: System<'c, F, D, N, V, C>,
+pub(crate) fn program<K: Kinds, R: Read, W: Output, E: FaultOutput, T: Print>(
+    system: System<K>,
     alloc: Global,
     words: &[String],
     streams: &mut Streams<R, W, E>,
     terminal: Option<&T>,
-) -> (System<'c, F, D, N, V, C>, u8)
+) -> (System<K>, u8)
     requires { FitsInMemory R.row }
     // With no words, the tape on the input is checked.
     ensures checked { words.now ≡ [] → (status : Status)
-        × IsAttempted (Request.Tape TapeRequest.CheckInput) (moment system.entry streams.old) (moment result.0 streams.new) status
+        × IsAttempted (Request.Tape TapeRequest.CheckInput) (moment system streams.old) (moment result.0 streams.new) status
         × (result.1 ≡ status_code status) }
     // Whatever the words are, they ask for something that is then attempted, or they are explained. Only where
     // there are none, the input is checked.
     ensures answered { (status : Status)
-        × IsAnswered (words.now ≡ []) (moment system.entry streams.old) (moment result.0 streams.new) status × (result.1 ≡ status_code status) }
+        × IsAnswered (words.now ≡ []) (moment system streams.old) (moment result.0 streams.new) status × (result.1 ≡ status_code status) }
 {
     match parse(alloc, words) {
         Ok(request) => {

@@ -1,3 +1,4 @@
+pub mod Devices
 pub mod Dialogue
 pub mod Failures
 pub mod KeepTable

@@ -1,4 +1,5 @@
 mod Beliefs
+mod Driven
 mod Keepings
 mod Lendings
 pub mod News

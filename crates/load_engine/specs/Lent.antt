@@ -1,8 +1,9 @@
 -- What a load does over a line in memory that is lent for it.
-use Rattle.std.specs.Prelude.{ℕ, ◌+◌, ◌≤◌, List, length}
+use Rattle.std.specs.Prelude.{ℕ, ◌+◌, ◌≤◌, List, Some, length}
 use Rattle.host_core.specs.Core.{Core}
 use Rattle.honest_line.specs.Wire.{most_waiting}
 use Rattle.load_devices.specs.declared.item.Item.{Item}
+use Rattle.load_devices.specs.Devices.{LineTold}
 use Rattle.load_devices.specs.Dialogue.{keys_of}
 use Rattle.honest_line.specs.Lent.{Passed}
 use Rattle.honest_line.specs.LineTable.{LineValue}
@@ -10,6 +11,10 @@ use Rattle.honest_line.specs.Starts.{IsStartTrue}
 use Rattle.honest_line.specs.Trust.{MayBegin, IsTrusted}
 use Rattle.load_engine.specs.declared.stop.Stop.{Stop}
 use Rattle.load_engine.specs.declared.stop.Stop.TheVariants.{LineFailed, KeepFailed}
+
+-- what a line in memory tells: all that was said on it
+abbrev pub memory_told : LineValue → LineTold
+memory_told line = record { said = Some line.items; failures = line.failures; fault = line.fault }
 
 -- the key that was not sent, where a device failed, may have cost a mishap that no loss paid for
 abbrev pub unpaid : Stop → ℕ

@@ -1,4 +1,5 @@
 pub mod Belief
+pub mod Driven
 pub mod Failing
 pub mod Keeping
 pub mod Lent

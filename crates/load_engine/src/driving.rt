@@ -1,16 +1,16 @@
-ghost use Rattle.std.specs.Prelude.{◌≡◌, ◌≤◌, [], ◌∷◌, None, Some, length, option_to_list, IsSome, IfErr, OnOk, OnErr};
-ghost use Rattle.host_core.specs.Bound.{character_bound};
+ghost use Rattle.std.specs.Prelude.{◌≡◌, [], ◌∷◌, None, Some, option_to_list, IsSome, IfErr, OnOk, OnErr};
 ghost use Rattle.host_core.specs.Console.{go};
 ghost use Rattle.host_core.specs.Core.{ended};
 ghost use Rattle.host_core.specs.Host.{IsHost};
 ghost use Rattle.host_core.specs.PhaseTable.{move};
+ghost use Rattle.load_devices.specs.Devices.{calls_of, devices_of};
 ghost use Rattle.load_devices.specs.Dialogue.{news_between, said};
 ghost use Rattle.load_devices.specs.Failures.{count_after, fault_of};
 ghost use Rattle.load_devices.specs.Told.{Gains, SaysNothing};
-ghost use Rattle.load_engine.specs.Belief.{IsBelievableOver, TellsStartOver};
+ghost use Rattle.load_engine.specs.Driven.{IsDriven, IsKeptBy};
 ghost use Rattle.load_engine.specs.Failing.{Counts, NamesFault};
 ghost use Rattle.load_engine.specs.Keeping.{KeptBy};
-ghost use Rattle.load_engine.specs.Session.{Session, KeepsMarkFirst, TellsEnd, IsFailure};
+ghost use Rattle.load_engine.specs.Session.{Session, IsFailure};
 
 use crate::stop::Stop;
 use host_core::{Heard, HostCore, Progress};
@@ -30,18 +30,8 @@ pub fn drive<L: Line, K: Keep, O: Onlooker>(
     turns: u64,
     onlooker: &O,
 ) -> (HostCore, Stop)
-    ensures turns { Session turns (Some result.1) core result.0 (L.told line.old) (L.told line.new) (K.told keep.old) (K.told keep.new) }
-    ensures end { TellsEnd result.1 result.0 }
-    ensures counted { Counts (Some result.1) (L.fault_count line.old) (L.fault_count line.new) (K.fault_count keep.old) (K.fault_count keep.new) }
-    ensures fault { NamesFault (Some result.1) (L.last_fault line.new) (K.last_fault keep.new) }
-    ensures kept_by { KeptBy K.keeps K.fails (Some result.1) keep.old (news_between core result.0) keep.new }
-    ensures mark_first { KeepsMarkFirst (L.told line.old) (L.told line.new) (K.told keep.old) (K.told keep.new) }
-    ensures honest { IsBelievableOver result.1 core result.0 (L.told line.old) (L.told line.new) }
-    ensures start { TellsStartOver core result.0 (L.told line.old) (L.told line.new) }
-    ensures same_plan { result.0.plan ≡ core.plan }
-    ensures same_patience { result.0.patience ≡ core.patience }
-    ensures bound { result.0.sent ≤ character_bound (length result.0.plan.words) result.0.patience }
-    ensures kept { IsHost result.0 }
+    ensures driven { IsDriven turns core result.0 result.1 (devices_of L.Line K.Keep line.old keep.old) (devices_of L.Line K.Keep line.new keep.new) }
+    ensures kept { IsKeptBy (calls_of K.Keep) core result.0 result.1 keep.old keep.new }
 {
     let mut end = core.end();
     for _ in 0..turns {

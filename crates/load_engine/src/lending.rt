@@ -1,12 +1,8 @@
-ghost use Rattle.std.specs.Prelude.{◌≡◌, ◌≤◌, Some, length};
+ghost use Rattle.std.specs.Prelude.{◌≡◌};
 ghost use Rattle.honest_line.specs.Lent.{HasMovedOn};
-ghost use Rattle.host_core.specs.Bound.{character_bound};
-ghost use Rattle.host_core.specs.Host.{IsHost};
-ghost use Rattle.load_devices.specs.Dialogue.{news_between};
-ghost use Rattle.load_engine.specs.Failing.{Counts, NamesFault};
-ghost use Rattle.load_engine.specs.Keeping.{KeptBy};
-ghost use Rattle.load_engine.specs.Lent.{LoadsSafely};
-ghost use Rattle.load_engine.specs.Session.{Session, KeepsMarkFirst, TellsEnd};
+ghost use Rattle.load_devices.specs.Devices.{calls_of, devices};
+ghost use Rattle.load_engine.specs.Driven.{IsDriven, IsKeptBy};
+ghost use Rattle.load_engine.specs.Lent.{LoadsSafely, memory_told};
 
 use crate::driving::drive;
 use crate::stop::Stop;
@@ -28,16 +24,9 @@ pub fn drive_in_memory<K: Keep>(
 ) -> ((HostCore, Stop), MemoryLine)
     ensures moved { HasMovedOn line result.1 }
     ensures loads { LoadsSafely result.0.1 core result.0.0 line result.1 }
-    ensures turns { Session turns (Some result.0.1) core result.0.0 (Some line.items) (Some result.1.items) (K.told keep.old) (K.told keep.new) }
-    ensures end { TellsEnd result.0.1 result.0.0 }
-    ensures counted { Counts (Some result.0.1) line.failures result.1.failures (K.fault_count keep.old) (K.fault_count keep.new) }
-    ensures fault { NamesFault (Some result.0.1) result.1.fault (K.last_fault keep.new) }
-    ensures kept_by { KeptBy K.keeps K.fails (Some result.0.1) keep.old (news_between core result.0.0) keep.new }
-    ensures mark_first { KeepsMarkFirst (Some line.items) (Some result.1.items) (K.told keep.old) (K.told keep.new) }
-    ensures same_plan { result.0.0.plan ≡ core.plan }
-    ensures same_patience { result.0.0.patience ≡ core.patience }
-    ensures bound { result.0.0.sent ≤ character_bound (length result.0.0.plan.words) result.0.0.patience }
-    ensures kept { IsHost result.0.0 }
+    ensures driven { IsDriven turns core result.0.0 result.0.1
+        (devices (memory_told line) (K.told keep.old)) (devices (memory_told result.1) (K.told keep.new)) }
+    ensures kept { IsKeptBy (calls_of K.Keep) core result.0.0 result.0.1 keep.old keep.new }
 {
     drive_lent::<Brand, K>(core, line, keep, turns)
 }
@@ -52,16 +41,9 @@ fn drive_lent<E: Opening, K: Keep>(
     requires { line ≡ E.line }
     ensures moved { HasMovedOn E.line result.1 }
     ensures loads { LoadsSafely result.0.1 core result.0.0 E.line result.1 }
-    ensures turns { Session turns (Some result.0.1) core result.0.0 (Some line.items) (Some result.1.items) (K.told keep.old) (K.told keep.new) }
-    ensures end { TellsEnd result.0.1 result.0.0 }
-    ensures counted { Counts (Some result.0.1) line.failures result.1.failures (K.fault_count keep.old) (K.fault_count keep.new) }
-    ensures fault { NamesFault (Some result.0.1) result.1.fault (K.last_fault keep.new) }
-    ensures kept_by { KeptBy K.keeps K.fails (Some result.0.1) keep.old (news_between core result.0.0) keep.new }
-    ensures mark_first { KeepsMarkFirst (Some line.items) (Some result.1.items) (K.told keep.old) (K.told keep.new) }
-    ensures same_plan { result.0.0.plan ≡ core.plan }
-    ensures same_patience { result.0.0.patience ≡ core.patience }
-    ensures bound { result.0.0.sent ≤ character_bound (length result.0.0.plan.words) result.0.0.patience }
-    ensures kept { IsHost result.0.0 }
+    ensures driven { IsDriven turns core result.0.0 result.0.1
+        (devices (memory_told line) (K.told keep.old)) (devices (memory_told result.1) (K.told keep.new)) }
+    ensures kept { IsKeptBy (calls_of K.Keep) core result.0.0 result.0.1 keep.old keep.new }
 {
     let mut lent = LentLine::<E>::lend(line);
     let answer = drive(core, &mut lent, keep, turns, &Unwatched);

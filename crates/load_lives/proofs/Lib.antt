@@ -6,3 +6,14 @@ pub mod Starting
 pub mod Chains
 pub mod Stopping
 pub mod Keepers
+mod Storing
+mod Leaving
+mod Going
+mod Calm
+mod Growing
+mod Loads
+mod Backs
+mod FastChains
+mod Looking
+mod First
+pub mod Planning

@@ -1,3 +1,9 @@
 pub mod Keepers
 pub mod Lives
 pub mod Stops
+pub mod Between
+pub mod StubParts
+pub mod FastLoads
+pub mod FastLives
+pub mod Planned
+pub mod LooksFirst

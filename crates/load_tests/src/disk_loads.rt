@@ -26,7 +26,7 @@ pub(crate) fn load_on_disk<'a, W: Write>(
     out: &mut W,
 ) -> (Result<Outcome<MemoryLine>, LoadFault>, ToldDisk<'a>)
     ensures disk { IfOk result.0 (λ outcome. HasAsked (steps_of around.entry.records.disk.asked) (steps_of result.1.asked)
-        (IsClosedAfter (disk_asked_by outcome.line) (record {
+        (IsClosedAfter (disk_asked_by outcome.end outcome.line) (record {
           asked = steps_of around.entry.records.disk.asked;
           name = around.entry.records.name.now;
           known = option_map kind_of around.entry.records.held;

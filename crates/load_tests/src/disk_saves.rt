@@ -1,8 +1,10 @@
 //! Saves of a machine in memory, with the tape on a disk that tells what it was asked.
-ghost use Rattle.std.specs.Prelude.{IfErr, OnOk, option_map};
-ghost use Rattle.machine_look.specs.Beside.{room_of};
-ghost use Rattle.machine_look.specs.SaveDisk.{save_disk_asked_before, IsSavedOn};
-ghost use Rattle.load_devices.specs.Told.{HasAsked};
+ghost use Rattle.std.specs.Prelude.{◌∷◌, List, ℕ, None, Some, IfErr, OnOk, option_map};
+ghost use Rattle.machine_look.specs.Room.{room_of};
+ghost use Rattle.machine_look.specs.SavedSteps.{puts};
+ghost use Rattle.machine_look.specs.SavedTape.{room_for};
+ghost use Rattle.machine_look.specs.Shelf.{Reserve, ShelfStep};
+ghost use Rattle.machine_look.specs.ShelfTold.{HasDone};
 ghost use Rattle.simulated_system.specs.ToldSteps.{steps_of, written_to};
 
 use crate::memory_reach::MemoryReach;
@@ -21,14 +23,12 @@ pub(crate) fn save_on_disk<W: Write>(
     console: &mut MemoryReach,
     out: &mut W,
 ) -> Result<SaveEnd, LookFault>
-    ensures disk { OnOk result (HasAsked (steps_of shelf.old.disk.asked) (steps_of shelf.new.disk.asked)
-        (IsSavedOn options
-        (record { asked = steps_of shelf.old.disk.asked; name = shelf.old.name.now; room = option_map (room_of written_to) shelf.old.beside })
-        (record { asked = steps_of shelf.new.disk.asked; name = shelf.new.name.now; room = option_map (room_of written_to) shelf.new.beside }))) }
-    ensures disk_in_vain { IfErr result (λ fault. HasAsked (steps_of shelf.old.disk.asked) (steps_of shelf.new.disk.asked)
-        (save_disk_asked_before options fault
-        (record { asked = steps_of shelf.old.disk.asked; name = shelf.old.name.now; room = option_map (room_of written_to) shelf.old.beside })
-        (record { asked = steps_of shelf.new.disk.asked; name = shelf.new.name.now; room = option_map (room_of written_to) shelf.new.beside }))) }
+    ensures disk { OnOk result ((numbers : List ℕ) × HasDone (Reserve (room_for options.range) ∷ puts options.range.from numbers options.start)
+        (record { steps = None; disk = Some (record { asked = steps_of shelf.old.disk.asked; name = shelf.old.name.now; room = option_map (room_of written_to) shelf.old.part }) })
+        (record { steps = None; disk = Some (record { asked = steps_of shelf.new.disk.asked; name = shelf.new.name.now; room = option_map (room_of written_to) shelf.new.part }) })) }
+    ensures disk_in_vain { IfErr result (λ _. (steps : List ShelfStep) × HasDone steps
+        (record { steps = None; disk = Some (record { asked = steps_of shelf.old.disk.asked; name = shelf.old.name.now; room = option_map (room_of written_to) shelf.old.part }) })
+        (record { steps = None; disk = Some (record { asked = steps_of shelf.new.disk.asked; name = shelf.new.name.now; room = option_map (room_of written_to) shelf.new.part }) })) }
 {
     save(alloc, options, shelf, console, out, &Unwatched)
 }

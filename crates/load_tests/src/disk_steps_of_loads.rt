@@ -2,7 +2,7 @@
 
 use crate::disk_loads::load_on_disk;
 use crate::disk_steps_of_records::{RECORD, held};
-use crate::loads_in_a_row::{OPTIONS, new_machine, plan_of_one_word};
+use crate::loads_in_a_row::{ADDRESS, OPTIONS, WORD, new_machine, plan_of_one_word};
 use crate::memory_reach::MemoryReach;
 use load_record::RecordError;
 use machine_load::{Around, LoadFault};
@@ -111,15 +111,16 @@ impl Write for FullOutput {
     }
 }
 
-// What is around a load: whether there is a machine, and what a disk refuses.
+// What is around a load: the smallest tape's word as memory has it, where there is a machine, and what a disk
+// refuses.
 #[derive(Clone, Copy)]
 struct Setting {
-    machine: bool,
+    machine: Option<u16>,
     failing: FailingSteps,
 }
 
 const AMPLE: Setting = Setting {
-    machine: true,
+    machine: Some(WORD),
     failing: &[],
 };
 
@@ -130,11 +131,12 @@ fn loaded<W: Write>(
     out: &mut W,
 ) -> Option<(Option<LoadFault>, String)> {
     let alloc = rt.alloc();
-    let odt = if setting.machine {
-        Some(new_machine(alloc)?)
-    } else {
-        None
-    };
+    let mut odt = None;
+    if let Some(word) = setting.machine {
+        let mut machine = new_machine(alloc)?;
+        machine.put(ADDRESS, word);
+        odt = Some(machine);
+    }
     let plan = plan_of_one_word(alloc)?;
     let around = Around {
         console: MemoryReach::new(alloc, odt),
@@ -183,9 +185,23 @@ fn a_record_is_read_and_then_begun(rt: HostRuntime) -> Result<(), Fail> {
 }
 
 #[test]
+fn one_that_memory_does_not_hold_is_only_read(rt: HostRuntime) -> Result<(), Fail> {
+    let emptied = Setting {
+        machine: Some(0),
+        failing: &[],
+    };
+    for text in [GOING_ON, STANDING, OLD] {
+        put(&rt, Some(text))?;
+        assert!(rt; is_loaded(&rt, emptied, None, (READ, "")), "{text}");
+        assert!(rt; fs::read(&rt, RECORD)?.as_slice() == text.as_bytes());
+    }
+    Ok(put(&rt, None)?)
+}
+
+#[test]
 fn without_a_line_it_is_only_read(rt: HostRuntime) -> Result<(), Fail> {
     let unplugged = Setting {
-        machine: false,
+        machine: None,
         failing: &[],
     };
     put(&rt, Some(GOING_ON))?;
@@ -203,7 +219,7 @@ fn without_a_line_it_is_only_read(rt: HostRuntime) -> Result<(), Fail> {
     let foreign = LoadFault::Record(RecordError::Foreign(2));
     assert!(rt; is_loaded(&rt, AMPLE, Some(foreign), (READ, "")), "foreign");
     let protected = Setting {
-        machine: true,
+        machine: Some(WORD),
         failing: &[(1, ErrorKind::PermissionDenied)],
     };
     put(&rt, Some(GOING_ON))?;
@@ -267,7 +283,7 @@ fn one_that_is_not_read_is_not_begun(rt: HostRuntime) -> Result<(), Fail> {
     );
     drop(file);
     let closed = Setting {
-        machine: true,
+        machine: Some(WORD),
         failing: &[
             (1, ErrorKind::PermissionDenied),
             (2, ErrorKind::PermissionDenied),
@@ -284,7 +300,7 @@ fn one_that_is_not_read_is_not_begun(rt: HostRuntime) -> Result<(), Fail> {
 fn what_fails_behind_it_is_not_tried_again(rt: HostRuntime) -> Result<(), Fail> {
     put(&rt, Some(GOING_ON))?;
     let unsynced = Setting {
-        machine: true,
+        machine: Some(WORD),
         failing: &[(11, ErrorKind::Other)],
     };
     assert!(rt;

@@ -13,7 +13,7 @@ use std::io::ErrorKind;
 // The file of a save, and the one beside it.
 const SAVED: &str = "d.lda";
 
-const BESIDE: &str = "d.lda.ldaodt-new";
+const BESIDE: &str = "d.lda.part";
 
 // The word that is saved, where it is, and the tape of it, which starts there.
 const ADDRESS: u16 = 0o001000;
@@ -28,97 +28,87 @@ const TAPE: [u8; 16] = [
 const OTHERS: &[u8] = b"hello";
 
 // What is to be on the disk's list before the console is reached: nothing has the name, and a file beside is
-// made in its folder, held, and filled with as many bytes as the tape is to have, and opened once more.
+// made in its folder, held, and filled with as many bytes as the tape is to have; that and its name are on the
+// disk, and it is opened once more.
 const RESERVED: &str = "- look at name d.lda\n\
     + open to read .\n\
-    + open new d.lda.ldaodt-new\n\
-    + hold d.lda.ldaodt-new\n\
+    + open new d.lda.part\n\
+    + hold d.lda.part\n\
     + sync \0\0\0\0\0\0\0\0\0\0\0\0\0\0\0\0\n\
-    + open to write d.lda.ldaodt-new\n\
-    + find d.lda.ldaodt-new \0\0\0\0\0\0\0\0\0\0\0\0\0\0\0\0\n";
+    + sync folder .\n\
+    + open to write d.lda.part\n\
+    + find d.lda.part \0\0\0\0\0\0\0\0\0\0\0\0\0\0\0\0\n";
 
 // What is to follow, once the word was read: the tape is on the disk before it has its name, as a second one;
-// the first goes, and then the folder is on the disk. (`?` is the tape, which is no text.)
+// then that is, too, and the first goes. (`?` is the tape, which is no text.)
 const NAMED: &str = "+ cut ?\n\
     + sync ?\n\
-    + find d.lda.ldaodt-new ?\n\
-    + link d.lda.ldaodt-new d.lda\n\
-    + find d.lda.ldaodt-new ?\n\
-    + remove d.lda.ldaodt-new\n\
+    + find d.lda.part ?\n\
+    + link d.lda.part d.lda\n\
     + sync folder .\n\
-    - find d.lda.ldaodt-new ?\n";
+    + find d.lda.part ?\n\
+    + remove d.lda.part\n";
 
-// The same where the folder can't be brought to the disk: the name goes again.
+// The same where the folder can't be brought to the disk: the name goes again, and the first one stays.
 const FOLDER_UNSYNCED: &str = "+ cut ?\n\
     + sync ?\n\
-    + find d.lda.ldaodt-new ?\n\
-    + link d.lda.ldaodt-new d.lda\n\
-    + find d.lda.ldaodt-new ?\n\
-    + remove d.lda.ldaodt-new\n\
+    + find d.lda.part ?\n\
+    + link d.lda.part d.lda\n\
     - sync folder .\n\
+    + find d.lda.part ?\n\
     + find d.lda ?\n\
-    + remove d.lda\n\
-    - find d.lda.ldaodt-new ?\n";
+    + remove d.lda\n";
 
 // Where the file system knows no second names, the name is looked for once more, and the file renamed.
 const RENAMED: &str = "+ cut ?\n\
     + sync ?\n\
-    + find d.lda.ldaodt-new ?\n\
-    - link d.lda.ldaodt-new d.lda\n\
+    + find d.lda.part ?\n\
+    - link d.lda.part d.lda\n\
     - look at name d.lda\n\
-    + rename d.lda.ldaodt-new d.lda\n\
-    - find d.lda.ldaodt-new ?\n\
+    + rename d.lda.part d.lda\n\
     + sync folder .\n\
-    - find d.lda.ldaodt-new ?\n";
+    - find d.lda.part ?\n";
 
 // Where something has the name by then, nothing is renamed.
 const TAKEN: &str = "+ cut ?\n\
     + sync ?\n\
-    + find d.lda.ldaodt-new ?\n\
-    - link d.lda.ldaodt-new d.lda\n\
-    + find d.lda.ldaodt-new ?\n\
-    + remove d.lda.ldaodt-new\n";
+    + find d.lda.part ?\n\
+    - link d.lda.part d.lda\n";
 
 // Where that can't be found out, nothing is renamed either.
 const UNKNOWN: &str = "+ cut ?\n\
     + sync ?\n\
-    + find d.lda.ldaodt-new ?\n\
-    - link d.lda.ldaodt-new d.lda\n\
-    - look at name d.lda\n\
-    + find d.lda.ldaodt-new ?\n\
-    + remove d.lda.ldaodt-new\n";
+    + find d.lda.part ?\n\
+    - link d.lda.part d.lda\n\
+    - look at name d.lda\n";
 
 // What a file system answers that gives no second names: one says so, another that it is not permitted, and some
 // have other words for it.
 const UNLINKED: [FailingSteps; 3] = [
-    &[(10, ErrorKind::Unsupported)],
-    &[(10, ErrorKind::PermissionDenied)],
-    &[(10, ErrorKind::Other)],
+    &[(11, ErrorKind::Unsupported)],
+    &[(11, ErrorKind::PermissionDenied)],
+    &[(11, ErrorKind::Other)],
 ];
 
 // A tape that is not on the disk gets no name.
 const UNSYNCED: &str = "+ cut ?\n\
-    - sync ?\n\
-    + find d.lda.ldaodt-new ?\n\
-    + remove d.lda.ldaodt-new\n";
+    - sync ?\n";
 
 // Nor does one behind which there are bytes that only took room.
-const UNCUT: &str = "- cut ?\n\
-    + find d.lda.ldaodt-new ?\n\
-    + remove d.lda.ldaodt-new\n";
+const UNCUT: &str = "- cut ?\n";
 
 // Where the room can't be taken, the file beside goes, and nothing else is asked.
 const NO_ROOM: &str = "- look at name d.lda\n\
     + open to read .\n\
-    + open new d.lda.ldaodt-new\n\
-    + hold d.lda.ldaodt-new\n\
+    + open new d.lda.part\n\
+    + hold d.lda.part\n\
     - sync \0\0\0\0\0\0\0\0\0\0\0\0\0\0\0\0\n\
-    + find d.lda.ldaodt-new \0\0\0\0\0\0\0\0\0\0\0\0\0\0\0\0\n\
-    + remove d.lda.ldaodt-new\n";
+    + find d.lda.part \0\0\0\0\0\0\0\0\0\0\0\0\0\0\0\0\n\
+    + remove d.lda.part\n";
 
 // A file beside to which nothing was written goes.
-const CLOSED: &str = "+ find d.lda.ldaodt-new \n\
-    + remove d.lda.ldaodt-new\n";
+const CLOSED: &str = "+ find d.lda.part \n\
+    + remove d.lda.part\n";
 
 // A file that is there is looked at, and nothing is made.
 const THERE: &str = "+ look at name d.lda\n";
@@ -198,14 +188,25 @@ fn is_saved(
     }
 }
 
-// Whether the file holds this, or is not there, and the one beside is not there.
-fn holds(rt: &HostRuntime, bytes: Option<&[u8]>) -> bool {
-    let is_so = match (fs::read(rt, SAVED), bytes) {
+// Whether a file holds this, or is not there.
+fn has(rt: &HostRuntime, name: &str, bytes: Option<&[u8]>) -> bool {
+    match (fs::read(rt, name), bytes) {
         (Ok(held), Some(bytes)) => held.as_slice() == bytes,
         (Err(_), None) => true,
         _ => false,
-    };
-    is_so && fs::read(rt, BESIDE).is_err()
+    }
+}
+
+// Whether the file holds this, or is not there, and the one beside is not there.
+fn holds(rt: &HostRuntime, bytes: Option<&[u8]>) -> bool {
+    has(rt, SAVED, bytes) && has(rt, BESIDE, None)
+}
+
+// Whether the file is not there, and the one beside has the tape. That goes now.
+fn stays(rt: &HostRuntime) -> bool {
+    let is_so = has(rt, SAVED, None) && has(rt, BESIDE, Some(&TAPE));
+    clear(rt);
+    is_so
 }
 
 // Removes whatever is there.
@@ -221,25 +222,25 @@ fn a_tape_is_on_the_disk_before_its_name(rt: HostRuntime) {
     assert!(rt; is_saved(&rt, AMPLE, whole, (RESERVED, NAMED)), "named");
     assert!(rt; holds(&rt, Some(&TAPE)), "named");
     clear(&rt);
-    let unsynced = refusing(&[(8, ErrorKind::Other)]);
+    let unsynced = refusing(&[(9, ErrorKind::Other)]);
     let fault = Err(LookFault::WriteTape);
     assert!(rt;
         is_saved(&rt, unsynced, fault, (RESERVED, UNSYNCED)),
         "file"
     );
-    assert!(rt; holds(&rt, None), "file");
-    let uncut = refusing(&[(7, ErrorKind::Other)]);
+    assert!(rt; stays(&rt), "file");
+    let uncut = refusing(&[(8, ErrorKind::Other)]);
     assert!(rt; is_saved(&rt, uncut, fault, (RESERVED, UNCUT)), "cut");
-    assert!(rt; holds(&rt, None), "cut");
+    assert!(rt; stays(&rt), "cut");
     let no_room = refusing(&[(4, ErrorKind::StorageFull)]);
     assert!(rt; is_saved(&rt, no_room, fault, (NO_ROOM, "")), "room");
     assert!(rt; holds(&rt, None), "room");
-    let folder = refusing(&[(13, ErrorKind::Other)]);
+    let folder = refusing(&[(12, ErrorKind::Other)]);
     assert!(rt;
         is_saved(&rt, folder, fault, (RESERVED, FOLDER_UNSYNCED)),
         "folder"
     );
-    assert!(rt; holds(&rt, None), "folder");
+    assert!(rt; stays(&rt), "folder");
 }
 
 #[test]
@@ -254,10 +255,10 @@ fn a_tape_is_renamed_where_no_second_name_can_be(rt: HostRuntime) {
         assert!(rt; holds(&rt, Some(&TAPE)), "renamed {number}");
     }
     clear(&rt);
-    let taken = refusing(&[(10, ErrorKind::AlreadyExists)]);
+    let taken = refusing(&[(11, ErrorKind::AlreadyExists)]);
     let fault = Err(LookFault::IsThere);
     assert!(rt; is_saved(&rt, taken, fault, (RESERVED, TAKEN)), "taken");
-    assert!(rt; holds(&rt, None), "taken");
+    assert!(rt; stays(&rt), "taken");
 }
 
 #[test]
@@ -270,12 +271,12 @@ fn a_name_that_can_not_be_looked_for_is_not_taken(rt: HostRuntime) {
         "at first"
     );
     assert!(rt; holds(&rt, None), "at first");
-    let at_last = refusing(&[(10, ErrorKind::Unsupported), (11, ErrorKind::Other)]);
+    let at_last = refusing(&[(11, ErrorKind::Unsupported), (12, ErrorKind::Other)]);
     assert!(rt;
         is_saved(&rt, at_last, fault, (RESERVED, UNKNOWN)),
         "at last"
     );
-    assert!(rt; holds(&rt, None), "at last");
+    assert!(rt; stays(&rt), "at last");
 }
 
 #[test]

@@ -5,6 +5,7 @@ use honest_line::MemoryLine;
 use host_core::End;
 use load_devices::Item;
 use load_engine::Stop;
+use machine_load::LoadEnd;
 use odt_machine::{LARGEST_WORDS, Odt, PLAIN_STYLE};
 use request_values::LoadOptions;
 use std::alloc::Global;
@@ -17,9 +18,9 @@ const ONE_WORD: [u8; 16] = [
 ];
 
 // Where its word is, and which it is.
-const ADDRESS: u16 = 0o001000;
+pub(crate) const ADDRESS: u16 = 0o001000;
 
-const WORD: u16 = 0o011064;
+pub(crate) const WORD: u16 = 0o011064;
 
 // The whole record of its load.
 const RECORD: &[u8] = b"LDAODT 2\n001000 011064\nG\n";
@@ -39,8 +40,8 @@ struct Row {
     /// How often the start was typed.
     starts: usize,
 
-    /// Why the last load stopped, and whether it had a line.
-    stop: Option<Stop>,
+    /// How the last load ended, and whether it had a line.
+    end: Option<LoadEnd>,
     had_line: bool,
 
     /// The word in memory after the last load that had a line.
@@ -82,7 +83,7 @@ fn new_row(alloc: Global) -> Option<Row> {
     Some(Row {
         bench: Bench::new(alloc, new_machine(alloc)?),
         starts: 0,
-        stop: None,
+        end: None,
         had_line: false,
         word: None,
     })
@@ -94,7 +95,7 @@ impl Row {
         let plan = plan_of_one_word(alloc)?;
         let mut report = Vec::new(alloc);
         let outcome = load_once(alloc, plan, OPTIONS, &mut self.bench, &mut report).ok()?;
-        self.stop = Some(outcome.stop);
+        self.end = Some(outcome.end);
         self.had_line = outcome.line.is_some();
         if let Some(line) = &outcome.line {
             self.starts = self.starts.saturating_add(starts_on(line));
@@ -107,9 +108,11 @@ impl Row {
     // Whether the last load is over as it should be: it has started the program, and the start was typed
     // just once, or it had no line, since the start was typed before or may have been.
     fn is_over(&self) -> bool {
-        match self.stop {
-            Some(Stop::Ended(End::Started)) => self.had_line && self.starts == 1,
-            Some(Stop::Ended(End::MaybeStarted)) => !self.had_line && self.starts <= 1,
+        match self.end {
+            Some(LoadEnd::Driven(Stop::Ended(End::Started))) => self.had_line && self.starts == 1,
+            Some(LoadEnd::Driven(Stop::Ended(End::MaybeStarted))) => {
+                !self.had_line && self.starts <= 1
+            }
             _ => false,
         }
     }

@@ -6,12 +6,14 @@ use Rattle.host_core.specs.declared.phase.End.{End}
 use Rattle.host_core.specs.declared.phase.End.TheVariants.{Loaded, MaybeStarted}
 use Rattle.host_core.specs.declared.phase.Phase.TheVariants.{Settle, Ended as HasEnded}
 use Rattle.host_core.specs.Core.{Core, ended}
-use Rattle.load_engine.specs.declared.stop.Stop.{Stop}
 use Rattle.load_engine.specs.declared.stop.Stop.TheVariants.{Ended}
-use Rattle.console_lines.specs.Reached.{LineTold}
+use Rattle.load_devices.specs.Devices.{LineTold}
 use Rattle.machine_load.specs.Driving.{KeeperTells, IsLived}
-use Rattle.machine_load.specs.Parts.{Course}
-use Rattle.machine_load.specs.Load.{Around, finish_of, IsOpening, IsOverAtOnce, IsNeverBegun, words_taken}
+use Rattle.machine_load.specs.declared.load_end.LoadEnd.{LoadEnd}
+use Rattle.machine_load.specs.declared.load_end.LoadEnd.TheVariants.{Driven}
+use Rattle.machine_load.specs.declared.looks.Looks.{Looks}
+use Rattle.machine_load.specs.declared.stubs.Stubs.{Stubs}
+use Rattle.machine_load.specs.Load.{SurroundingsTold, finish_of, IsOpening, IsOverAtOnce, IsNeverBegun, words_taken}
 use Rattle.request_values.specs.declared.options.LoadOptions.{LoadOptions}
 
 abbrev end_of : (otherwise : End) → Option End → End
@@ -24,13 +26,13 @@ first_end true all end is = inr (sym (ap (end_of end) is))
 first_end false true end is = inl (sym (ap (end_of end) is))
 first_end false false end is = absurd (cc is)
 
-stops_so : (stop : Stop) (end : End) → stop ≡ Ended end → (end ≡ Loaded) ⊎ (end ≡ MaybeStarted) → IsNeverBegun stop
-stops_so stop end is (inl loaded) = inl (is ∙ ap Ended loaded)
-stops_so stop end is (inr started) = inr (is ∙ ap Ended started)
+ends_so : (ended_so : LoadEnd) (end : End) → ended_so ≡ Driven (Ended end) → (end ≡ Loaded) ⊎ (end ≡ MaybeStarted) → IsNeverBegun ended_so
+ends_so ended_so end is (inl loaded) = inl (is ∙ ap (λ e. Driven (Ended e)) loaded)
+ends_so ended_so end is (inr started) = inr (is ∙ ap (λ e. Driven (Ended e)) started)
 
-pub never_begun : (told : Option (List ℕ)) (plan : PlanValue) (options : LoadOptions) (core last : Core) (stop : Stop) → IsOpening told plan options core → IsOverAtOnce core last stop → IsNeverBegun stop
-never_begun told plan options core last stop opening over =
-    stops_so stop over.end over.stop_is
+pub never_begun : (told : Option (List ℕ)) (plan : PlanValue) (options : LoadOptions) (core last : Core) (ended_so : LoadEnd) → IsOpening told plan options core → IsOverAtOnce core last ended_so → IsNeverBegun ended_so
+never_begun told plan options core last ended_so opening over =
+    ends_so ended_so over.end over.end_is
     (first_end opening.said.going ((words_taken options.recheck opening.said == length plan.words) && is_none plan.start) over.end (subst (λ (c : Core). ended c.phase ≡ Some over.end) opening.core_is over.over))
 
 -- there is a line, or what follows from there being none
@@ -39,8 +41,9 @@ line_or_never line so (inl is) = inl is
 line_or_never line so (inr over) = inr (so over)
 
 -- a life has a line, or it was over at once
-pub line_or_over : {K L : Type 0} (tells : KeeperTells K) (told_of : L → LineTold) (fast writable : Bool) (first : Core) (before after : Around) (way : Course) (line : Option L)
-    → IsLived tells fast writable first before after (finish_of way (option_map told_of line)) → IsSome line ⊎ IsOverAtOnce first way.core way.stop
-line_or_over tells told_of fast writable first before after way line (inl idle) = inr idle.idle.over
-line_or_over tells told_of fast writable first before after way (Some l) (inr life) = inl refl
-line_or_over tells told_of fast writable first before after way None (inr life) = absurd (cc life.has_line)
+pub line_or_over : {K L : Type 0} (tells : KeeperTells K) (told_of : L → LineTold) (fast writable : Bool) (first : Core) (before after : SurroundingsTold) (looks : Option Looks) (stubs : Option Stubs) (core : Core) (end : LoadEnd) (line : Option L)
+    → IsLived tells fast writable first before after (finish_of looks stubs core end (option_map told_of line)) → IsSome line ⊎ IsOverAtOnce first core end
+line_or_over tells told_of fast writable first before after looks stubs core end line (inl idle) = inr idle.idle.over
+line_or_over tells told_of fast writable first before after looks stubs core end (Some l) (inr life) = inl refl
+line_or_over tells told_of fast writable first before after looks stubs core end None (inr (inl held)) = absurd (cc held.has_line)
+line_or_over tells told_of fast writable first before after looks stubs core end None (inr (inr life)) = absurd (cc life.driven.has_line)

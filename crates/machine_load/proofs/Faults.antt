@@ -1,18 +1,31 @@
 -- Reports that fail, and the loads that they are of.
-use Rattle.std.proofs.Common.{◌≡◌, ℕ, Bool, true, false, List, Option, Result, Ok, Err, IfErr, IfOk, IsErrAnd, [], ◌∷◌, inr, inl, refl, sym, subst}
+use Rattle.std.proofs.Common.{◌≡◌, ℕ, Bool, true, false, List, Option, None, Result, Ok, Err, IfErr, IfOk, IsErrAnd, [], ◌∷◌, inr, inl, refl, sym, subst, ap}
 use Rattle.std.proofs.KnownBytes.{Keeps-refl, Keeps-trans}
 use Rattle.tape_image.specs.Plan.{PlanValue}
-use Rattle.console_lines.specs.Reached.{LineTold}
-use Rattle.machine_load.specs.Step.{Step, Connected, begin_step}
+use Rattle.load_devices.specs.Devices.{LineTold}
+use Rattle.machine_load.specs.Step.{LoadStep, Connected, begin_step}
 use Rattle.machine_load.proofs.Steps.{gains_more}
-use Rattle.machine_load.specs.GivenBack.{GivesNothingSaid}
+use Rattle.load_devices.specs.Told.{Gains}
+use Rattle.std.specs.Prelude.{OnErr}
+use Rattle.console_lines.specs.Reached.{IsUnused}
+use Rattle.machine_load.specs.declared.looks.Looks.{Looks}
+use Rattle.machine_load.specs.GivenBack.{GivesLooked, GivesNone}
+use Rattle.machine_load.specs.Looks.{AreLooks, AreLooksAt, IsSampled, ended_by, unfinished_at}
+use Rattle.reading_core.specs.Reader.{Reader}
+use Rattle.reading_core.specs.declared.phase.End.TheVariants.{Complete, GaveUp, NoWord}
+use Rattle.reading_engine.specs.declared.stop.Stop.{Stop}
+use Rattle.reading_engine.specs.declared.stop.Stop.TheVariants.{Ended, LineFailed, TurnsOver}
+use Rattle.sample_looks.specs.declared.finding.Finding.{Finding}
+use Rattle.sample_looks.specs.declared.finding.Finding.TheVariants.{AllStand, Stale, Unfinished}
+use Rattle.sample_looks.specs.Finding.{IsFound}
+use Rattle.tape_image.specs.Word.{WordValue}
 use Rattle.host_core.specs.Core.{Core}
-use Rattle.machine_load.specs.Load.{Around, Asks, IsOpened, KeepsRecord}
+use Rattle.machine_load.specs.Load.{SurroundingsTold, Asks, IsOpened, KeepsRecord}
 use Rattle.machine_load.specs.Called.{IsAskedBefore}
 use Rattle.machine_load.specs.Driving.{KeeperTells, IsLoadUntold}
 use Rattle.machine_load.specs.RecordDisk.{DiskAsked, disk_asked_before}
 use Rattle.machine_load.specs.Scene.{Scene, IsNotLoaded}
-use Rattle.machine_load.specs.LoadFault.{IsLoadFault, IsOpeningFault, IsDrivingFault, StopsOpened, fault_of_record}
+use Rattle.machine_load.specs.LoadFault.{IsLoadFault, IsOpeningFault, IsDrivingFault, IsUnbegunFault, StopsOpened, StopsUnconnected, fault_of_record, gone}
 use Rattle.record_file.specs.RecordFault.{IsUnbegun}
 use Rattle.request_values.specs.declared.options.LoadOptions.{LoadOptions}
 use Rattle.record_file.specs.declared.record_fault.RecordFault.{RecordFault}
@@ -21,8 +34,8 @@ use Rattle.machine_load.specs.declared.fault.LoadFault.{LoadFault}
 use Rattle.machine_load.specs.declared.fault.LoadFault.TheVariants.{Record, RecordInUse, ReadRecord, Connect, WriteRecord, WriteOutput, Memory}
 
 -- a life that does not open
-pub of_opening : (plan : PlanValue) (options : LoadOptions) (before after : Around) (lines lines' : Option (List LineTold)) (out : Option (List ℕ)) (fault : LoadFault)
-    → IsOpeningFault plan before after fault → KeepsRecord before after → GivesNothingSaid lines lines'
+pub of_opening : (plan : PlanValue) (options : LoadOptions) (before after : SurroundingsTold) (lines lines' : Option (List LineTold)) (out : Option (List ℕ)) (fault : LoadFault)
+    → IsOpeningFault plan before after fault → KeepsRecord before after → lines' ≡ lines
     → IsLoadFault plan options (record { around = before; lines = lines; out = out }) (record { around = after; lines = lines'; out = out }) fault
 of_opening plan options before after lines lines' out ReadRecord fails same unsaid =
     record { steps_are = fails; record_same = same; nothing_said = unsaid; nothing_reported = Keeps-refl out }
@@ -37,41 +50,81 @@ of_opening plan options before after lines lines' out Memory (inr unlike) same u
 of_opening plan options before after lines lines' out other fails same unsaid = absurd fails
 
 -- an opened life comes to nothing, before anything is reported
-module _ (plan : PlanValue) (options : LoadOptions) (before between after : Around) (lines lines' : Option (List LineTold)) (out : Option (List ℕ)) (first : Core) (unsaid : GivesNothingSaid lines lines') where
-  stops : (may_begin : Bool) (done : List Step) → IsOpened plan options before between first may_begin → Asks between after done
-      → StopsOpened plan options (record { around = before; lines = lines; out = out }) (record { around = after; lines = lines'; out = out }) may_begin done
-  stops may_begin done opened asks =
-      record { first = first; between = between; opened = opened; steps_are = asks; nothing_said = unsaid; nothing_reported = Keeps-refl out }
+module _ (plan : PlanValue) (options : LoadOptions) (before between after : SurroundingsTold) (lines lines' : Option (List LineTold)) (out : Option (List ℕ)) (first : Core) where
+  stops : (may_begin : Bool) (done : List LoadStep) (Gives : Core → Option (List LineTold) → Option (List LineTold) → Type 0) → IsOpened plan options before between first may_begin → Asks between after done → Gives first lines lines'
+      → StopsOpened plan options (record { around = before; lines = lines; out = out }) (record { around = after; lines = lines'; out = out }) may_begin done Gives
+  stops may_begin done Gives opened asks given =
+      record { first = first; between = between; opened = opened; steps_are = asks; given = given; nothing_reported = Keeps-refl out }
+
+  unconnected : (may_begin : Bool) (done : List LoadStep) → IsOpened plan options before between first may_begin → Asks between after done → KeepsRecord between after → GivesNone first lines lines'
+      → StopsUnconnected plan options (record { around = before; lines = lines; out = out }) (record { around = after; lines = lines'; out = out }) may_begin done
+  unconnected may_begin done opened asks same given = (stops may_begin done GivesNone opened asks given, Keeps-trans _ _ _ opened.record_read same)
 
   -- one whose record may be begun
-  of_busy : (fault : LoadFault) → IsOpened plan options before between first true → IsDrivingFault true between after fault
+  of_busy : (fault : LoadFault) → IsOpened plan options before between first true → IsDrivingFault true first (gone between lines) (gone after lines') fault
       → IsLoadFault plan options (record { around = before; lines = lines; out = out }) (record { around = after; lines = lines'; out = out }) fault
-  of_busy Connect opened fails = (stops true _ opened fails.1, Keeps-trans _ _ _ opened.record_read fails.2)
+  of_busy Connect opened fails = unconnected true _ opened fails.1 fails.2 fails.3
   of_busy WriteRecord opened (inl unlike) = absurd (cc (unlike.0))
-  of_busy WriteRecord opened (inr unbegun) = inr (stops true _ opened unbegun.1)
-  of_busy Memory opened fails = inr (stops true _ opened fails.1)
+  of_busy WriteRecord opened (inr unbegun) = inr (stops true _ GivesLooked opened unbegun.1 unbegun.2)
+  of_busy Memory opened (inl none) = inr (inl (unconnected true _ opened none.1.nothing_asked none.1.record_same none.2))
+  of_busy Memory opened (inr unbegun) = inr (inr (stops true _ GivesLooked opened unbegun.1 unbegun.2))
   of_busy other opened fails = absurd fails
 
   -- one whose record may not be begun
-  of_idle : (fault : LoadFault) → IsOpened plan options before between first false → IsDrivingFault false between after fault
+  of_idle : (fault : LoadFault) → IsOpened plan options before between first false → IsDrivingFault false first (gone between lines) (gone after lines') fault
       → IsLoadFault plan options (record { around = before; lines = lines; out = out }) (record { around = after; lines = lines'; out = out }) fault
-  of_idle WriteRecord opened (inl unlike) = inl (stops false _ opened unlike.1.nothing_asked, Keeps-trans _ _ _ opened.record_read unlike.1.record_same)
+  of_idle WriteRecord opened (inl unlike) = inl (unconnected false _ opened unlike.1.nothing_asked unlike.1.record_same unlike.2)
   of_idle WriteRecord opened (inr unbegun) = absurd (cc (unbegun.0))
   of_idle Connect opened fails = absurd (cc (fails.0))
-  of_idle Memory opened fails = absurd (cc (fails.0))
+  of_idle Memory opened (inl none) = absurd (cc (none.0))
+  of_idle Memory opened (inr unbegun) = absurd (cc (unbegun.0))
   of_idle other opened fails = absurd fails
 
-  pub of_driving : (may_begin : Bool) (fault : LoadFault) → IsOpened plan options before between first may_begin → IsDrivingFault may_begin between after fault
+  pub of_driving : (may_begin : Bool) (fault : LoadFault) → IsOpened plan options before between first may_begin → IsDrivingFault may_begin first (gone between lines) (gone after lines') fault
       → IsLoadFault plan options (record { around = before; lines = lines; out = out }) (record { around = after; lines = lines'; out = out }) fault
   of_driving true fault opened fails = of_busy fault opened fails
   of_driving false fault opened fails = of_idle fault opened fails
 
--- a record that is not begun, once there is a connection
-pub not_begun : (before between after : Around) (why : RecordFault) → IsUnbegun why
-    → Asks before between (Connected ∷ []) → Asks between after (begin_step {A = Unit {0}} (Err why) ∷ []) → IsDrivingFault true before after (fault_of_record why)
-not_begun before between after why.Write is connected fails = inr (refl, gains_more _ _ _ _ _ connected fails)
-not_begun before between after why.Memory is connected fails = (refl, gains_more _ _ _ _ _ connected fails)
-not_begun before between after other is connected fails = absurd is
+-- a record that is not begun
+pub not_begun : (before after : SurroundingsTold) (why : RecordFault) → IsUnbegun why → Asks before after (begin_step {A = Unit {0}} (Err why) ∷ []) → IsUnbegunFault before after (fault_of_record why)
+not_begun before after why.Write is fails = fails
+not_begun before after why.Memory is fails = fails
+not_begun before after other is fails = absurd is
+
+-- the same, of a life that has looked and goes on
+pub behind_looks_fault : {T : Type 0} (result : Result T LoadFault) (writable : Bool) (first : Core) (before between after : SurroundingsTold) (lines lines' : Option (List LineTold)) (line behind : LineTold) (looks : Looks) → writable ≡ true → Asks before between (Connected ∷ [])
+    → IsUnused line.said line.failures line.fault → AreLooks first looks line behind → looks.finding ≡ AllStand → IfErr result (IsUnbegunFault between after) → OnErr result (Gains lines lines' (behind ∷ []))
+    → IfErr result (IsDrivingFault writable first (gone before lines) (gone after lines'))
+behind_looks_fault (Ok x) writable first before between after lines lines' line behind looks may connected fresh looked stand fails given = tt
+behind_looks_fault (Err WriteRecord) writable first before between after lines lines' line behind looks may connected fresh looked stand fails given =
+    inr (may, gains_more _ _ _ _ _ connected fails, record { line = line; fresh = fresh; looks = looks; behind = behind; looked = looked; all_stand = stand; given = given })
+behind_looks_fault (Err Memory) writable first before between after lines lines' line behind looks may connected fresh looked stand fails given =
+    inr (may, gains_more _ _ _ _ _ connected fails, record { line = line; fresh = fresh; looks = looks; behind = behind; looked = looked; all_stand = stand; given = given })
+behind_looks_fault (Err other) writable first before between after lines lines' line behind looks may connected fresh looked stand fails given = absurd fails
+
+-- ---- looks
+
+-- samples of a life's record were looked at
+pub looked_first : (first : Core) (samples shown : List WordValue) (reader : Reader) (looks : Looks) (before after : LineTold) → IsSampled first samples reader → shown ≡ samples → AreLooksAt shown reader.patience looks before after → AreLooks first looks before after
+looked_first first samples shown reader looks before after sampled same looked = record {
+  samples = samples;
+  of_record = sampled.of_record;
+  asked = sampled.asked;
+  looked = subst (λ patience. AreLooksAt samples patience looks before after) (ap (λ (r : Reader). r.patience) sampled.begins) (subst (λ list. AreLooksAt list reader.patience looks before after) same looked);
+}
+
+whole : (stop : Stop) → unfinished_at stop ≡ None → stop ≡ Ended Complete
+whole (Ended Complete) free = refl
+whole (Ended GaveUp) free = absurd (cc free)
+whole (Ended (NoWord address)) free = absurd (cc free)
+whole (LineFailed fault) free = absurd (cc free)
+whole TurnsOver free = absurd (cc free)
+
+-- looks that let a life go on found that all words stand
+pub all_stand : (samples : List WordValue) (numbers : List ℕ) (stop : Stop) (finding : Finding) → IsFound samples numbers stop finding → ended_by finding stop ≡ None → finding ≡ AllStand
+all_stand samples numbers stop AllStand found free = refl
+all_stand samples numbers stop (Stale address) found free = absurd (cc free)
+all_stand samples numbers stop Unfinished found free = absurd (found.0 (whole stop free))
 
 -- what is known of the error that a result has is known of the result
 pub error_is : {T E : Type 0} (r : Result T E) (error : E) (P : E → Type 0) → IsErrAnd r (λ e. e ≡ error) → P error → IfErr r P
@@ -82,6 +135,11 @@ error_is (Err e) error P is h = subst P (sym is) h
 pub no_value : {T E : Type 0} (r : Result T E) (error : E) (P : T → Type 0) → IsErrAnd r (λ e. e ≡ error) → IfOk r P
 no_value (Ok x) error P is = absurd is
 no_value (Err e) error P is = tt
+
+-- two things that are known of a result's value make a third
+pub both_ok : {T E : Type 0} (r : Result T E) (P Q R : T → Type 0) → ((value : T) → P value → Q value → R value) → IfOk r P → IfOk r Q → IfOk r R
+both_ok (Ok value) P Q R f p q = f value p q
+both_ok (Err error) P Q R f p q = tt
 
 -- all that is said of a load that came to nothing
 pub not_loaded : {T K : Type 0} (r : Result T LoadFault) (keeper : KeeperTells K) (plan : PlanValue) (options : LoadOptions) (before after : Scene)

@@ -2,7 +2,6 @@
 use Rattle.std.proofs.Common.{◌≡◌, ◌⊎◌, ℕ, Bool, true, false, if◌then◌else◌, List, [], ◌∷◌, ◌++◌, Option, Some, None, inl, inr, refl, ap, sym, ◌∙◌, append-nil, append_assoc}
 use Rattle.std.specs.Prelude.{option_to_list}
 use Rattle.tape_image.specs.Image.{Image}
-use Rattle.tape_image.specs.Plan.{PlanValue}
 use Rattle.host_core.specs.declared.heard.Heard.{Heard}
 use Rattle.load_devices.specs.declared.item.Item.{Item}
 use Rattle.load_devices.specs.declared.item.Item.TheVariants.{Sent, Heard as Came}
@@ -12,8 +11,7 @@ use Rattle.exchange_core.specs.declared.chunk.Chunk.{Chunk}
 use Rattle.exchange_core.specs.declared.exchange.Exchange.{Exchange}
 use Rattle.exchange_core.specs.Exchange.{advance, begun as exchange_begun}
 use Rattle.exchange_law.specs.Law.{dialogue as exchange_dialogue, said_all}
-use Rattle.exchange_law.specs.Station.{Program}
-use Rattle.fast_lives.specs.StubParts.{AreStubParts, StubPart, bringer, exchange_said, starts, stubs_said, verified_after}
+use Rattle.load_lives.specs.StubParts.{AreStubParts, StubPart, bringer, exchange_said, starts, stubs_said, verified_after}
 use Rattle.machine_load.specs.Fronts.{StubFrontsAreStopped}
 
 -- a front of two lists is one of the first, or the first and a front of the second

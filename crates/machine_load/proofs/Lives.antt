@@ -1,46 +1,53 @@
 -- A load is a life.
-use Rattle.std.proofs.Common.{◌≡◌, ◌≤◌, ◌<◌, ◌^◌, ◌+◌, ℕ, Bool, true, false, not, ◌&&◌, if◌then◌else◌, List, [], ◌∷◌, ◌++◌, length, Option, Some, None, Ok, refl, sym, subst, ap, ◌∙◌, inl, inr, arith, append-nil, append_assoc}
+use Rattle.std.proofs.Common.{◌≡◌, ◌≤◌, ◌<◌, ◌^◌, ◌-◌, ◌⊎◌, ℕ, Bool, true, false, not, ◌&&◌, if◌then◌else◌, List, [], ◌∷◌, ◌++◌, length, Option, Some, None, Ok, refl, sym, subst, ap, ◌∙◌, inl, inr, arith, append-nil, append_assoc}
 use Rattle.std.specs.Prelude.{Contains, is_some, option_to_list}
 use Rattle.std.specs.Io.KnownBytes.{Keeps}
 use Rattle.std.proofs.KnownBytes.{Keeps-trans}
 use Rattle.tape_values.specs.Told.{IsAsTold}
 use Rattle.tape_image.specs.Plan.{PlanValue, IsPlan}
-use Rattle.host_core.specs.declared.heard.Heard.{Heard}
 use Rattle.host_core.specs.declared.progress.Progress.{Progress}
 use Rattle.host_core.specs.Console.{go}
-use Rattle.host_core.specs.Core.{Core, begun, ended}
+use Rattle.host_core.specs.Core.{Core, begun}
 use Rattle.host_core.specs.Laws.{led}
 use Rattle.load_devices.specs.declared.item.Item.{Item}
 use Rattle.load_devices.specs.declared.item.Kept.{Kept}
-use Rattle.load_devices.specs.Dialogue.{said, dialogue, keys_of, news_between}
+use Rattle.load_devices.specs.Dialogue.{dialogue, keys_of}
 use Rattle.load_devices.specs.Turns.{most_turns}
 use Rattle.load_engine.specs.declared.stop.Stop.{Stop}
 use Rattle.load_engine.specs.declared.stop.Stop.TheVariants.{Ended, LineFailed, KeepFailed, TurnsOver}
-use Rattle.load_engine.specs.Keeping.{KeptBy}
 use Rattle.load_engine.specs.Session.{Session}
 use Rattle.load_lives.specs.Keepers.{WentOutAt}
-use Rattle.load_lives.specs.Lives.{Life, WireAndRecord, GoesOnFrom, IsLeft, IsLife, PassesOver, last_core}
+use Rattle.load_lives.specs.Lives.{Life, WireAndRecord, GoesOnFrom, IsLeft, PassesOver, last_core}
 use Rattle.load_lives.specs.Stops.{IsBeginning, WentOut}
 use Rattle.load_lives.proofs.Records.{says_sound}
-use Rattle.load_lives.proofs.Stopping.{sessions_are_lives, unsent_out}
+use Rattle.load_lives.proofs.Stopping.{unsent_out}
 use Rattle.load_record.specs.declared.version.Version.TheVariants.{Second}
 use Rattle.load_record.specs.Keeper.{Keeper, HasKept, HasCutShort, HoldsRecord}
 use Rattle.load_record.specs.Reading.{Says}
 use Rattle.load_record.specs.RecordText.{record_text}
 use Rattle.exchange_law.specs.Law.{said_all}
-use Rattle.exchange_engine.specs.Keeping.{KeptBy as StubsKeptBy, words_kept}
-use Rattle.exchange_engine.proofs.Stretches.{said_append}
-use Rattle.stub_station.specs.Start.{program as stub_program}
+use Rattle.stub_engine.specs.Keeping.{KeptBy as StubsKeptBy, words_kept}
+use Rattle.stub_engine.proofs.Stretches.{said_append}
+use Rattle.exchange_law.specs.Start.{program as stub_program}
 use Rattle.stub_engine.specs.declared.stop.Stop.{Stop as StubStop}
 use Rattle.stub_engine.specs.declared.stop.Stop.TheVariants as stub
 use Rattle.stub_engine.specs.Parts.{failure_of}
-use Rattle.fast_lives.specs.FastLives.{FastLife, IsFastLife, LinkAndRecord, PassesAt, first_core as fast_first, last_core as fast_core}
-use Rattle.fast_lives.specs.StubParts.{AreStubParts, StubPart, stubs_said, verified_by}
+use Rattle.load_lives.specs.FastLives.{FastLife, LinkAndRecord, PassesAt, last_core as fast_core}
+use Rattle.load_lives.specs.LooksFirst.{LookingLife as FastLookingLife, IsLookingLife as IsFastLookingLife}
+use Rattle.load_lives.specs.StubParts.{AreStubParts, StubPart, stubs_said, verified_by}
+use Rattle.load_devices.specs.Devices.{Devices, LineTold, devices}
+use Rattle.looking_law.specs.RecordLook.{HasLooked}
+use Rattle.sample_looks.specs.declared.finding.Finding.{Finding}
+use Rattle.sample_looks.specs.declared.finding.Finding.TheVariants.{AllStand, Stale, Unfinished}
+use Rattle.sample_looks.specs.LooksFirst.{LookingLife, IsLookingLife}
+use Rattle.sample_looks.proofs.OfRecord.{are_of_the_record}
+use Rattle.machine_load.specs.declared.looks.Looks.{Looks}
 use Rattle.machine_load.specs.declared.stubs.Stubs.{Stubs}
 use Rattle.machine_load.specs.Driving.{IsDrivenLife, IsLived}
-use Rattle.machine_load.specs.Lives.{GoesOut, HostGoesOut, PartsGoOut, StubsGoOut, LoadsAreFastLives, LoadsAreLives, of_file}
-use Rattle.machine_load.specs.Load.{Around, Finish, IsIdleLife, words_taken}
-use Rattle.machine_load.specs.Parts.{AreBrought, AreKept, Devices, IsDrivenWhere, IsKeptWhere, devices}
+use Rattle.machine_load.specs.Lives.{GoesOut, HostGoesOut, LooksGoOut, PartsGoOut, StubsGoOut, LoadsAreFastLives, LoadsAreLives, of_file}
+use Rattle.machine_load.specs.Load.{SurroundingsTold, Finish, IsHeldUp, IsIdleLife, words_taken}
+use Rattle.machine_load.specs.Looks.{AreLooks, vouched_for}
+use Rattle.machine_load.specs.Parts.{AreBrought, AreKept, IsDrivenWhere, IsKeptWhere}
 use Rattle.machine_load.specs.Stubs.{hindrance, hindrance_of, host_behind}
 use Rattle.machine_load.proofs.Renewed.{HoldsFront, host_holds, stubs_front, stubs_held}
 
@@ -85,12 +92,49 @@ kept_text told told' old new kept was is = subst (Keeps (Some old)) is (subst (�
 none_sent : Contains (keys_of []) go → ⊥
 none_sent (k, below, is) = omega (arith, below)
 
+-- ---- looks
+
+-- no more words count behind looks than before them
+vouched_below : (verified : ℕ) (finding : Finding) → vouched_for verified finding ≤ verified
+vouched_below verified AllStand = omega arith
+vouched_below verified (Stale address) = omega arith
+vouched_below verified Unfinished = omega arith
+
+-- a life may go on behind looks as it might have before them
+abbrev goes_behind : (plan : PlanValue) (text : List ℕ) (v : ℕ) (finding : Finding) → GoesOnFrom plan text (record { verified = v; going = false })
+    → GoesOnFrom plan text (record { verified = vouched_for v finding; going = false })
+goes_behind plan text v finding goes = record {
+  recorded = goes.recorded;
+  says = goes.says;
+  fewer = omega (arith, goes.fewer, vouched_below v finding);
+  same_mark = goes.same_mark;
+}
+
+less_patience : (patience spent : ℕ) → patience < 2 ^ 32 → patience - spent < 2 ^ 32
+less_patience patience spent long = omega (arith, long)
+
+-- the looks of a life are at words that its record says
+of_record : (plan : PlanValue) (v patience : ℕ) (recorded : Progress) (looks : Looks) (before after : LineTold) (items : List Item) → patience < 2 ^ 32 → v ≤ recorded.verified → false ≡ recorded.going
+    → (l : AreLooks (begun plan v false patience) looks before after) → LooksGoOut l items → HasLooked plan recorded items
+of_record plan v patience recorded looks before after items long fewer same l out =
+    let looked : HasLooked plan (record { verified = v; going = false }) items =
+    are_of_the_record plan (record { verified = v; going = false }) l.samples patience most_turns looks.stop l.looked.reader before.said after.said items refl l.of_record l.asked long l.looked.turns out in record {
+      unmarked = sym same;
+      addresses = looked.addresses;
+      asked = looked.asked;
+      of_record = λ k d low. let one = looked.of_record k d low in (one.0, omega (arith, one.1, fewer), one.2);
+      patience = looked.patience;
+      patient = looked.patient;
+      heard = looked.heard;
+      told = looked.told;
+    }
+
 -- ---- a life at a station
 
--- a life of this plan came to this core, and said these items with its stubs and behind them
-abbrev FastLives : PlanValue → Core → List Item → List Item → LinkAndRecord → LinkAndRecord → Type 0
-FastLives plan last front rest old new =
-    (life : FastLife) × (fast_core plan life ≡ last) × (life.front ≡ front) × (life.rest ≡ rest) × IsFastLife stub_program plan old life new
+-- a life of this plan came to this core, and said these items while it looked, with its stubs and behind them
+abbrev FastLives : PlanValue → Core → List Item → List Item → List Item → LinkAndRecord → LinkAndRecord → Type 0
+FastLives plan last looks front rest old new =
+    (l : FastLookingLife) × (fast_core plan l.life ≡ last) × (l.looks ≡ looks) × (l.life.front ≡ front) × (l.life.rest ≡ rest) × IsFastLookingLife stub_program plan old l new
 
 -- no device failed in stubs that hindered nothing
 unhindered : (stop : StubStop) → hindrance_of stop ≡ None → failure_of (Some stop) ≡ None
@@ -104,7 +148,7 @@ unhindered (stub.NotStarted end) e = refl
 unhindered stub.Memory e = refl
 
 -- a life that goes on without the mark behind so many words, over a record that was read
-module _ (plan : PlanValue) (v patience : ℕ) (front rest : List Item) (old new : LinkAndRecord) (fits : IsPlan plan) (long : patience < 2 ^ 32) (goes : GoesOnFrom plan old.text (record { verified = v; going = false })) (passes : PassesAt stub_program old.link (front ++ rest) new.link) where
+module _ (plan : PlanValue) (v patience : ℕ) (looks front rest : List Item) (old new : LinkAndRecord) (fits : IsPlan plan) (long : patience < 2 ^ 32) (goes : GoesOnFrom plan old.text (record { verified = v; going = false })) (looked : (looks ≡ []) ⊎ HasLooked plan goes.recorded looks) (passes : PassesAt stub_program old.link (looks ++ (front ++ rest)) new.link) where
   abbrev first : Core
   first = begun plan v false patience
 
@@ -122,19 +166,21 @@ module _ (plan : PlanValue) (v patience : ℕ) (front rest : List Item) (old new
   -- its host went on behind stubs
   behind : (parts : List StubPart) (w : ℕ) (core : Core) (stop : Stop) (line line' : Option (List Item)) (told told' : Option (List Kept)) (keep : Keeper) → w ≡ verified_by plan v parts → AreStubParts stub_program plan v parts → stubs_said plan v parts ≡ front
       → (session : Session most_turns (Some stop) (begun plan w false patience) core line line' told told') → WentOutAt stop (dialogue (begun plan w false patience) session.heard) session.said rest
-      → HoldsFront plan core rest keep → keep.text ≡ Some new.text → FastLives plan core front rest old new
+      → HoldsFront plan core rest keep → keep.text ≡ Some new.text → FastLives plan core looks front rest old new
   behind parts w core stop line line' told told' keep here are said_is session out holds is =
       let all = dialogue (begun plan w false patience) session.heard in
       let u = unsent_out (Some stop) _ all session.said rest session.items (went_out stop all session.said rest out) in
       let life : FastLife = record { progress = record { verified = v; going = false }; stubs = parts; patience = patience; heard = session.heard; front = front; rest = rest; unsent = option_to_list u.0 } in
       let came : fast_core plan life ≡ core = ap (λ n. led (begun plan n false patience) session.heard) (sym here) ∙ sym session.core in (
-        life,
+        record { looks = looks; life = life },
         came,
+        refl,
         refl,
         refl,
         record {
           patient = long;
           goes_on = goes;
+          looked = looked;
           alone = λ set. absurd (cc set);
           stubs = are;
           stops = inr (record { front = said_is; key = u.0; rest = ap (λ n. dialogue (begun plan n false patience) session.heard) (sym here) ∙ u.1; last = refl });
@@ -146,17 +192,19 @@ module _ (plan : PlanValue) (v patience : ℕ) (front rest : List Item) (old new
 
   -- it stopped with its stubs
   within : (parts : List StubPart) (w : ℕ) (unsent : List ℕ) (keep : Keeper) → w ≡ verified_by plan v parts → AreStubParts stub_program plan v parts → stubs_said plan v parts ≡ front ++ said_all unsent → rest ≡ []
-      → HoldsFront plan (begun plan w false patience) rest keep → keep.text ≡ Some new.text → FastLives plan (begun plan w false patience) front rest old new
+      → HoldsFront plan (begun plan w false patience) rest keep → keep.text ≡ Some new.text → FastLives plan (begun plan w false patience) looks front rest old new
   within parts w unsent keep here are said_is none holds is =
       let life : FastLife = record { progress = record { verified = v; going = false }; stubs = parts; patience = patience; heard = []; front = front; rest = rest; unsent = unsent } in
       let came : fast_core plan life ≡ begun plan w false patience = ap (λ n. begun plan n false patience) (sym here) in (
-        life,
+        record { looks = looks; life = life },
         came,
+        refl,
         refl,
         refl,
         record {
           patient = long;
           goes_on = goes;
+          looked = looked;
           alone = λ set. absurd (cc set);
           stubs = are;
           stops = inl (record { front = said_is; unheard = refl; unsaid = none });
@@ -174,7 +222,7 @@ module _ (plan : PlanValue) (v patience : ℕ) (front rest : List Item) (old new
   behind_stubs : (stubs : Stubs) (hindered : Option Stop) (core : Core) (stop : Stop) (before between after : Devices) (keeper keeping keeper' : Keeper) → hindrance_of stubs.stop ≡ hindered → HoldsRecord keeper plan v
       → (brought : AreBrought first (Some stubs) before between) → (host : IsDrivenWhere hindered (host_behind first (Some stubs)) core stop between after)
       → AreKept of_file.calls first (Some stubs) keeper keeping → IsKeptWhere of_file.calls hindered (host_behind first (Some stubs)) core stop keeping keeper'
-      → StubsGoOut first (Some stubs) before between brought front → HostGoesOut hindered (host_behind first (Some stubs)) core stop between after host rest → keeper'.text ≡ Some new.text → FastLives plan core front rest old new
+      → StubsGoOut first (Some stubs) before between brought front → HostGoesOut hindered (host_behind first (Some stubs)) core stop between after host rest → keeper'.text ≡ Some new.text → FastLives plan core looks front rest old new
   behind_stubs stubs None core stop before between after keeper keeping keeper' free holds brought host kept host_kept (sent, later, unsent_is, front_is) out is =
       behind brought.brought.parts stubs.tally.verified core stop between.line.said after.line.said between.kept after.kept keeper' brought.brought.verified brought.brought.stubs all_said host.session out
       (host_holds plan stubs.tally.verified patience stop core between.line.said after.line.said between.kept after.kept keeping keeper' rest fits long brought.within held host.session out host_kept.kept_by) is
@@ -195,7 +243,7 @@ module _ (plan : PlanValue) (v patience : ℕ) (front rest : List Item) (old new
       held : HoldsRecord keeping plan stubs.tally.verified
       held = stubs_held plan v stubs.tally.verified keeper keeping holds brought.grows brought.within (subst (λ failure. StubsKeptBy HasKept HasCutShort failure keeper (words_kept plan.words v stubs.tally.verified) keeping) none_failed kept.kept_by)
   behind_stubs stubs (Some hindered) core stop before between after keeper keeping keeper' is_hindered holds brought host kept host_kept (sent, later, unsent_is, front_is) out is =
-      subst (λ (c : Core). FastLives plan c front rest old new) (sym host.core)
+      subst (λ (c : Core). FastLives plan c looks front rest old new) (sym host.core)
       (within brought.brought.parts stubs.tally.verified later keeping brought.brought.verified brought.brought.stubs said_is out
       (record {
         text = held.0;
@@ -217,7 +265,7 @@ module _ (plan : PlanValue) (v patience : ℕ) (front rest : List Item) (old new
   parts_lived : (stubs : Option Stubs) (core : Core) (stop : Stop) (before between after : Devices) (keeper keeping keeper' : Keeper) → HoldsRecord keeper plan v
       → (brought : AreBrought first stubs before between) → (host : IsDrivenWhere (hindrance stubs) (host_behind first stubs) core stop between after)
       → AreKept of_file.calls first stubs keeper keeping → IsKeptWhere of_file.calls (hindrance stubs) (host_behind first stubs) core stop keeping keeper'
-      → StubsGoOut first stubs before between brought front → HostGoesOut (hindrance stubs) (host_behind first stubs) core stop between after host rest → keeper'.text ≡ Some new.text → FastLives plan core front rest old new
+      → StubsGoOut first stubs before between brought front → HostGoesOut (hindrance stubs) (host_behind first stubs) core stop between after host rest → keeper'.text ≡ Some new.text → FastLives plan core looks front rest old new
   parts_lived None core stop before between after keeper keeping keeper' holds brought host kept host_kept none out is =
       behind [] v core stop between.line.said after.line.said between.kept after.kept keeper' refl tt (sym none) host.session out
       (host_holds plan v patience stop core between.line.said after.line.said between.kept after.kept keeping keeper' rest fits long fewer_than_all (subst (λ (k : Keeper). HoldsRecord k plan v) (sym kept) holds) host.session out host_kept.kept_by) is
@@ -225,17 +273,20 @@ module _ (plan : PlanValue) (v patience : ℕ) (front rest : List Item) (old new
       behind_stubs stubs (hindrance_of stubs.stop) core stop before between after keeper keeping keeper' refl holds brought host kept host_kept went out is
 
 -- a life that goes on with a progress, once its record was read
-module _ (plan : PlanValue) (v patience : ℕ) (told : Option (List ℕ)) (between after : Around) (finish : Finish) (front rest : List Item) (old new : LinkAndRecord) (fits : IsPlan plan) (long : patience < 2 ^ 32) (was : told ≡ Some old.text) (read : Keeps told between.record_text) (is : after.record_text ≡ Some new.text) (passes : PassesAt stub_program old.link (front ++ rest) new.link) where
-  -- one that is over at once
-  idle_fast : (going : Bool) → GoesOnFrom plan old.text (record { verified = v; going = going }) → IsIdleLife (begun plan v going patience) between after finish → front ≡ [] → rest ≡ [] → FastLives plan finish.course.core front rest old new
-  idle_fast going goes idle no_front no_rest = (
-    record { progress = record { verified = v; going = going }; stubs = []; patience = patience; heard = []; front = front; rest = rest; unsent = [] },
-    sym idle.idle.over.same,
+module _ (plan : PlanValue) (v patience : ℕ) (told : Option (List ℕ)) (between after : SurroundingsTold) (finish : Finish) (looks front rest : List Item) (old new : LinkAndRecord) (fits : IsPlan plan) (long : patience < 2 ^ 32) (was : told ≡ Some old.text) (read : Keeps told between.record_text) (is : after.record_text ≡ Some new.text) (passes : PassesAt stub_program old.link (looks ++ (front ++ rest)) new.link) where
+  -- one whose record is as it was, and that said nothing behind its looks
+  left_alone : (w kept : ℕ) (going : Bool) → kept < 2 ^ 32 → (goes : GoesOnFrom plan old.text (record { verified = w; going = going })) → (looks ≡ []) ⊎ HasLooked plan goes.recorded looks → Keeps between.record_text after.record_text → front ≡ [] → rest ≡ []
+      → FastLives plan (begun plan w going kept) looks front rest old new
+  left_alone w kept going long goes looked alone no_front no_rest = (
+    record { looks = looks; life = record { progress = record { verified = w; going = going }; stubs = []; patience = kept; heard = []; front = front; rest = rest; unsent = [] } },
+    refl,
+    refl,
     refl,
     refl,
     record {
       patient = long;
       goes_on = goes;
+      looked = looked;
       alone = λ set. refl;
       stubs = tt;
       stops = inl (record { front = sym no_front ∙ sym (append-nil front); unheard = refl; unsaid = no_rest });
@@ -246,25 +297,45 @@ module _ (plan : PlanValue) (v patience : ℕ) (told : Option (List ℕ)) (betwe
   )
     where
       same : new.text ≡ old.text
-      same = kept_text told after.record_text old.text new.text (Keeps-trans told between.record_text after.record_text read idle.idle.left_alone.record_same) was is
+      same = kept_text told after.record_text old.text new.text (Keeps-trans told between.record_text after.record_text read alone) was is
+
+  -- one that is over at once
+  idle_fast : (going : Bool) → GoesOnFrom plan old.text (record { verified = v; going = going }) → IsIdleLife (begun plan v going patience) between after finish → looks ≡ [] → front ≡ [] → rest ≡ [] → FastLives plan finish.core looks front rest old new
+  idle_fast going goes idle no_looks no_front no_rest =
+      subst (λ (core : Core). FastLives plan core looks front rest old new) (sym idle.idle.over.same) (left_alone v patience going long goes (inl no_looks) idle.idle.left_alone.record_same no_front no_rest)
+
+  -- one that its looks hold up
+  held_fast : {writable : Bool} (going : Bool) → GoesOnFrom plan old.text (record { verified = v; going = going }) → (held : IsHeldUp writable (begun plan v going patience) between after finish)
+      → LooksGoOut held.first_looks.looked looks → front ≡ [] → rest ≡ [] → FastLives plan finish.core looks front rest old new
+  held_fast true goes held out no_front no_rest = absurd (cc held.first_looks.goes_on)
+  held_fast false goes held out no_front no_rest =
+      subst (λ (core : Core). FastLives plan core looks front rest old new) (sym held.core_is)
+      (left_alone (vouched_for v held.first_looks.looks.finding) (patience - held.first_looks.looks.spent) false (less_patience patience held.first_looks.looks.spent long)
+      (goes_behind plan old.text v held.first_looks.looks.finding goes)
+      (inr (of_record plan v patience goes.recorded held.first_looks.looks held.first_looks.line held.first_looks.behind looks long goes.fewer goes.same_mark held.first_looks.looked out))
+      held.first_looks.record_same no_front no_rest)
 
   -- one that is driven
   driven_fast : {fast writable : Bool} (going : Bool) → GoesOnFrom plan old.text (record { verified = v; going = going }) → (life : IsDrivenLife of_file fast writable (begun plan v going patience) between after finish)
-      → PartsGoOut life.parts.parts front rest → FastLives plan finish.course.core front rest old new
-  driven_fast true goes life out = absurd (cc life.goes_on)
-  driven_fast false goes life out =
-      parts_lived plan v patience front rest old new fits long goes passes finish.course.stubs finish.course.core finish.course.stop (devices life.line (of_file.calls.kept life.keeper)) (devices life.parts.between (of_file.calls.kept life.parts.keeping)) (devices life.line' (of_file.calls.kept life.keeper')) life.keeper life.parts.keeping life.keeper' life.begun_so
-      life.parts.parts.stubs life.parts.parts.host life.parts.stubs_kept life.parts.host_kept out.0 out.1 (sym life.left ∙ is)
+      → LooksGoOut life.first_looks.looked looks → PartsGoOut life.driven.parts.parts front rest → FastLives plan finish.core looks front rest old new
+  driven_fast true goes life looked out = absurd (cc life.first_looks.goes_on)
+  driven_fast false goes life looked out =
+      parts_lived plan (vouched_for v life.first_looks.looks.finding) (patience - life.first_looks.looks.spent) looks front rest old new fits (less_patience patience life.first_looks.looks.spent long)
+      (goes_behind plan old.text v life.first_looks.looks.finding goes)
+      (inr (of_record plan v patience goes.recorded life.first_looks.looks life.first_looks.line life.first_looks.behind looks long goes.fewer goes.same_mark life.first_looks.looked looked))
+      passes finish.stubs finish.core life.driven.stop (devices life.first_looks.behind (of_file.calls.kept life.driven.keeper)) (devices life.driven.parts.between (of_file.calls.kept life.driven.parts.keeping)) (devices life.driven.line' (of_file.calls.kept life.driven.keeper')) life.driven.keeper life.driven.parts.keeping life.driven.keeper' life.driven.begun_so
+      life.driven.parts.parts.stubs life.driven.parts.parts.host life.driven.parts.stubs_kept life.driven.parts.host_kept out.0 out.1 (sym life.driven.left ∙ is)
 
-  fast_lived : {fast writable : Bool} (going : Bool) → GoesOnFrom plan old.text (record { verified = v; going = going }) → (life : IsLived of_file fast writable (begun plan v going patience) between after finish) → GoesOut life front rest
-      → FastLives plan finish.course.core front rest old new
-  fast_lived going goes (inl idle) (no_front, no_rest) = idle_fast going goes idle no_front no_rest
-  fast_lived going goes (inr life) out = driven_fast going goes life out
+  fast_lived : {fast writable : Bool} (going : Bool) → GoesOnFrom plan old.text (record { verified = v; going = going }) → (life : IsLived of_file fast writable (begun plan v going patience) between after finish) → GoesOut life looks front rest
+      → FastLives plan finish.core looks front rest old new
+  fast_lived going goes (inl idle) (no_looks, no_front, no_rest) = idle_fast going goes idle no_looks no_front no_rest
+  fast_lived going goes (inr (inl held)) (looked, no_front, no_rest) = held_fast going goes held looked no_front no_rest
+  fast_lived going goes (inr (inr life)) (looked, out) = driven_fast going goes life looked out
 
 pub loads_are_fast_lives : LoadsAreFastLives
-loads_are_fast_lives plan options before after finish load front rest old new fits long was is out passes =
-    subst (λ (core : Core). (life : IsLived of_file options.fast load.writable core load.between after finish) → GoesOut life front rest → FastLives plan finish.course.core front rest old new) (sym load.opened.opening.core_is)
-    (fast_lived plan (words_taken options.recheck said) options.patience before.record_text load.between after finish front rest old new fits long was load.opened.record_read is passes said.going goes) load.life out
+loads_are_fast_lives plan options before after finish load looks front rest old new fits long was is out passes =
+    subst (λ (core : Core). (life : IsLived of_file options.fast load.writable core load.between after finish) → GoesOut life looks front rest → FastLives plan finish.core looks front rest old new) (sym load.opened.opening.core_is)
+    (fast_lived plan (words_taken options.recheck said) options.patience before.record_text load.between after finish looks front rest old new fits long was load.opened.record_read is passes said.going goes) load.life out
   where
     said : Progress
     said = load.opened.opening.said
@@ -279,71 +350,104 @@ loads_are_fast_lives plan options before after finish load front rest old new fi
 
 -- ---- a life at a machine
 
--- a life of this plan came to this core, and said these items
-abbrev Lives : PlanValue → Core → List Item → WireAndRecord → WireAndRecord → Type 0
-Lives plan last items old new = (life : Life) × (last_core plan life ≡ last) × (life.items ≡ items) × IsLife plan old life new
+-- a life of this plan came to this core, and said these items while it looked and behind its looks
+abbrev Lives : PlanValue → Core → List Item → List Item → WireAndRecord → WireAndRecord → Type 0
+Lives plan last looks items old new = (l : LookingLife) × (last_core plan l.life ≡ last) × (l.looks ≡ looks) × (l.life.items ≡ items) × IsLookingLife plan old l new
 
--- a life without stubs
-module _ (plan : PlanValue) (v patience : ℕ) (told : Option (List ℕ)) (between after : Around) (finish : Finish) (items : List Item) (old new : WireAndRecord) (fits : IsPlan plan) (long : patience < 2 ^ 32) (was : told ≡ Some old.text) (read : Keeps told between.record_text) (is : after.record_text ≡ Some new.text) (passes : PassesOver old.wire items new.wire) where
-  -- one that is over at once
-  idle_life : (going : Bool) → GoesOnFrom plan old.text (record { verified = v; going = going }) → IsIdleLife (begun plan v going patience) between after finish → items ≡ [] → Lives plan finish.course.core items old new
-  idle_life going goes idle out = (
-    record { patience = patience; progress = record { verified = v; going = going }; heard = []; items = []; unsent = None },
-    sym idle.idle.over.same,
+-- a life without stubs that goes on without the mark behind so many words
+module _ (plan : PlanValue) (v patience : ℕ) (looks items : List Item) (old new : WireAndRecord) (fits : IsPlan plan) (long : patience < 2 ^ 32) (goes : GoesOnFrom plan old.text (record { verified = v; going = false })) (looked : (looks ≡ []) ⊎ HasLooked plan goes.recorded looks) (passes : PassesOver old.wire (looks ++ items) new.wire) where
+  -- its host alone
+  host_life : (core : Core) (stop : Stop) (before behind : Devices) (keeper keeper' : Keeper) → HoldsRecord keeper plan v
+      → (host : IsDrivenWhere None (begun plan v false patience) core stop before behind) → IsKeptWhere of_file.calls None (begun plan v false patience) core stop keeper keeper' → HostGoesOut None (begun plan v false patience) core stop before behind host items → keeper'.text ≡ Some new.text
+      → Lives plan core looks items old new
+  host_life core stop before behind keeper keeper' holds host kept out held =
+      let sound = says_sound plan old.text goes.recorded goes.says in
+      let front = host_holds plan v patience stop core before.line.said behind.line.said before.kept behind.kept keeper keeper' items fits long (omega (arith, goes.fewer, sound.within)) holds host.session out kept.kept_by in
+      let same : front.text ≡ new.text = same_text front.text new.text (sym front.held ∙ held) in
+      let all = dialogue (begun plan v false patience) host.session.heard in
+      let u = unsent_out (Some stop) _ all host.session.said items host.session.items (went_out stop all host.session.said items out) in
+      let life : Life = record { patience = patience; progress = record { verified = v; going = false }; heard = host.session.heard; items = items; unsent = u.0 } in (
+        record { looks = looks; life = life },
+        sym host.session.core,
+        refl,
+        refl,
+        record {
+          patient = long;
+          goes_on = goes;
+          looked = looked;
+          stopped = u.1;
+          line = passes;
+          left = subst (λ (c : Core). IsLeft plan (record { verified = v; going = false }) c items old.text new.text) host.session.core (record {
+            cut = inr (subst (λ text. (missing : List ℕ) × (text ++ missing ≡ record_text Second plan core.verified core.going)) same front.front);
+            whole = λ has. sym same ∙ front.whole has;
+            alone = λ set. absurd (cc set);
+          });
+        },
+      )
+
+  parts_alone : (stubs : Option Stubs) (core : Core) (stop : Stop) (before middle behind : Devices) (keeper keeping keeper' : Keeper) → is_some stubs ≡ false → HoldsRecord keeper plan v
+      → (brought : AreBrought (begun plan v false patience) stubs before middle) → (host : IsDrivenWhere (hindrance stubs) (host_behind (begun plan v false patience) stubs) core stop middle behind)
+      → AreKept of_file.calls (begun plan v false patience) stubs keeper keeping → IsKeptWhere of_file.calls (hindrance stubs) (host_behind (begun plan v false patience) stubs) core stop keeping keeper'
+      → HostGoesOut (hindrance stubs) (host_behind (begun plan v false patience) stubs) core stop middle behind host items → keeper'.text ≡ Some new.text → Lives plan core looks items old new
+  parts_alone None core stop before middle behind keeper keeping keeper' none holds brought host kept host_kept out held =
+      host_life core stop middle behind keeping keeper' (subst (λ (k : Keeper). HoldsRecord k plan v) (sym kept) holds) host host_kept out held
+  parts_alone (Some stubs) core stop before middle behind keeper keeping keeper' none holds brought host kept host_kept out held = absurd (cc none)
+
+-- a life without stubs, once its record was read
+module _ (plan : PlanValue) (v patience : ℕ) (told : Option (List ℕ)) (between after : SurroundingsTold) (finish : Finish) (looks items : List Item) (old new : WireAndRecord) (fits : IsPlan plan) (long : patience < 2 ^ 32) (was : told ≡ Some old.text) (read : Keeps told between.record_text) (is : after.record_text ≡ Some new.text) (passes : PassesOver old.wire (looks ++ items) new.wire) where
+  -- one whose record is as it was, and that said nothing behind its looks
+  alone_life : (w kept : ℕ) (going : Bool) → kept < 2 ^ 32 → (goes : GoesOnFrom plan old.text (record { verified = w; going = going })) → (looks ≡ []) ⊎ HasLooked plan goes.recorded looks → Keeps between.record_text after.record_text → items ≡ []
+      → Lives plan (begun plan w going kept) looks items old new
+  alone_life w kept going long goes looked alone out = (
+    record { looks = looks; life = record { patience = kept; progress = record { verified = w; going = going }; heard = []; items = []; unsent = None } },
+    refl,
+    refl,
     sym out,
     record {
       patient = long;
       goes_on = goes;
+      looked = looked;
       stopped = refl;
-      line = subst (λ list. PassesOver old.wire list new.wire) out passes;
+      line = subst (λ list. PassesOver old.wire (looks ++ list) new.wire) out passes;
       left = record { cut = inl same; whole = λ has. absurd (none_sent has); alone = λ set. same };
     },
   )
     where
       same : new.text ≡ old.text
-      same = kept_text told after.record_text old.text new.text (Keeps-trans told between.record_text after.record_text read idle.idle.left_alone.record_same) was is
+      same = kept_text told after.record_text old.text new.text (Keeps-trans told between.record_text after.record_text read alone) was is
 
-  -- its host alone
-  host_life : (core : Core) (stop : Stop) (before behind : Devices) (keeper keeper' : Keeper) → GoesOnFrom plan old.text (record { verified = v; going = false }) → HoldsRecord keeper plan v
-      → (host : IsDrivenWhere None (begun plan v false patience) core stop before behind) → IsKeptWhere of_file.calls None (begun plan v false patience) core stop keeper keeper' → HostGoesOut None (begun plan v false patience) core stop before behind host items → keeper'.text ≡ Some new.text
-      → Lives plan core items old new
-  host_life core stop before behind keeper keeper' goes holds host kept out held =
-      let sound = says_sound plan old.text goes.recorded goes.says in
-      let front = host_holds plan v patience stop core before.line.said behind.line.said before.kept behind.kept keeper keeper' items fits long (omega (arith, goes.fewer, sound.within)) holds host.session out kept.kept_by in
-      let same : front.text ≡ new.text = same_text front.text new.text (sym front.held ∙ held) in
-      sessions_are_lives plan (record { verified = v; going = false }) patience most_turns (Some stop) core before.line.said behind.line.said before.kept behind.kept items old new long goes host.session
-      (went_out stop (dialogue (begun plan v false patience) host.session.heard) host.session.said items out) passes
-      (record {
-        cut = inr (subst (λ text. (missing : List ℕ) × (text ++ missing ≡ record_text Second plan core.verified core.going)) same front.front);
-        whole = λ has. sym same ∙ front.whole has;
-        alone = λ set. absurd (cc set);
-      })
-
-  parts_alone : (stubs : Option Stubs) (core : Core) (stop : Stop) (before middle behind : Devices) (keeper keeping keeper' : Keeper) → is_some stubs ≡ false → GoesOnFrom plan old.text (record { verified = v; going = false }) → HoldsRecord keeper plan v
-      → (brought : AreBrought (begun plan v false patience) stubs before middle) → (host : IsDrivenWhere (hindrance stubs) (host_behind (begun plan v false patience) stubs) core stop middle behind)
-      → AreKept of_file.calls (begun plan v false patience) stubs keeper keeping → IsKeptWhere of_file.calls (hindrance stubs) (host_behind (begun plan v false patience) stubs) core stop keeping keeper'
-      → HostGoesOut (hindrance stubs) (host_behind (begun plan v false patience) stubs) core stop middle behind host items → keeper'.text ≡ Some new.text → Lives plan core items old new
-  parts_alone None core stop before middle behind keeper keeping keeper' none goes holds brought host kept host_kept out held =
-      host_life core stop middle behind keeping keeper' goes (subst (λ (k : Keeper). HoldsRecord k plan v) (sym kept) holds) host host_kept out held
-  parts_alone (Some stubs) core stop before middle behind keeper keeping keeper' none goes holds brought host kept host_kept out held = absurd (cc none)
+  held_life : {writable : Bool} (going : Bool) → GoesOnFrom plan old.text (record { verified = v; going = going }) → (held : IsHeldUp writable (begun plan v going patience) between after finish)
+      → LooksGoOut held.first_looks.looked looks → items ≡ [] → Lives plan finish.core looks items old new
+  held_life true goes held looked out = absurd (cc held.first_looks.goes_on)
+  held_life false goes held looked out =
+      subst (λ (core : Core). Lives plan core looks items old new) (sym held.core_is)
+      (alone_life (vouched_for v held.first_looks.looks.finding) (patience - held.first_looks.looks.spent) false (less_patience patience held.first_looks.looks.spent long)
+      (goes_behind plan old.text v held.first_looks.looks.finding goes)
+      (inr (of_record plan v patience goes.recorded held.first_looks.looks held.first_looks.line held.first_looks.behind looks long goes.fewer goes.same_mark held.first_looks.looked looked))
+      held.first_looks.record_same out)
 
   driven_life : {writable : Bool} (going : Bool) → GoesOnFrom plan old.text (record { verified = v; going = going }) → (life : IsDrivenLife of_file false writable (begun plan v going patience) between after finish)
-      → PartsGoOut life.parts.parts [] items → Lives plan finish.course.core items old new
-  driven_life true goes life out = absurd (cc life.goes_on)
-  driven_life false goes life out =
-      parts_alone finish.course.stubs finish.course.core finish.course.stop (devices life.line (of_file.calls.kept life.keeper)) (devices life.parts.between (of_file.calls.kept life.parts.keeping)) (devices life.line' (of_file.calls.kept life.keeper')) life.keeper life.parts.keeping life.keeper' life.stubs_asked goes life.begun_so life.parts.parts.stubs life.parts.parts.host life.parts.stubs_kept life.parts.host_kept
-      out.1 (sym life.left ∙ is)
+      → LooksGoOut life.first_looks.looked looks → PartsGoOut life.driven.parts.parts [] items → Lives plan finish.core looks items old new
+  driven_life true goes life looked out = absurd (cc life.first_looks.goes_on)
+  driven_life false goes life looked out =
+      parts_alone plan (vouched_for v life.first_looks.looks.finding) (patience - life.first_looks.looks.spent) looks items old new fits (less_patience patience life.first_looks.looks.spent long)
+      (goes_behind plan old.text v life.first_looks.looks.finding goes)
+      (inr (of_record plan v patience goes.recorded life.first_looks.looks life.first_looks.line life.first_looks.behind looks long goes.fewer goes.same_mark life.first_looks.looked looked))
+      passes finish.stubs finish.core life.driven.stop (devices life.first_looks.behind (of_file.calls.kept life.driven.keeper)) (devices life.driven.parts.between (of_file.calls.kept life.driven.parts.keeping)) (devices life.driven.line' (of_file.calls.kept life.driven.keeper')) life.driven.keeper life.driven.parts.keeping life.driven.keeper' life.driven.stubs_asked life.driven.begun_so
+      life.driven.parts.parts.stubs life.driven.parts.parts.host life.driven.parts.stubs_kept life.driven.parts.host_kept out.1 (sym life.driven.left ∙ is)
 
-  lived : {writable : Bool} (going : Bool) → GoesOnFrom plan old.text (record { verified = v; going = going }) → (life : IsLived of_file false writable (begun plan v going patience) between after finish) → GoesOut life [] items
-      → Lives plan finish.course.core items old new
-  lived going goes (inl idle) (none, out) = idle_life going goes idle out
-  lived going goes (inr life) out = driven_life going goes life out
+  lived : {writable : Bool} (going : Bool) → GoesOnFrom plan old.text (record { verified = v; going = going }) → (life : IsLived of_file false writable (begun plan v going patience) between after finish) → GoesOut life looks [] items
+      → Lives plan finish.core looks items old new
+  lived going goes (inl idle) (no_looks, none, out) =
+      subst (λ (core : Core). Lives plan core looks items old new) (sym idle.idle.over.same) (alone_life v patience going long goes (inl no_looks) idle.idle.left_alone.record_same out)
+  lived going goes (inr (inl held)) (looked, none, out) = held_life going goes held looked out
+  lived going goes (inr (inr life)) (looked, out) = driven_life going goes life looked out
 
 pub loads_are_lives : LoadsAreLives
-loads_are_lives plan options before after finish load items old new plain fits long was is out passes =
-    subst (λ (core : Core). (life : IsLived of_file options.fast load.writable core load.between after finish) → GoesOut life [] items → Lives plan finish.course.core items old new) (sym load.opened.opening.core_is)
-    (subst (λ fast. (life : IsLived of_file fast load.writable (begun plan (words_taken options.recheck said) said.going options.patience) load.between after finish) → GoesOut life [] items → Lives plan finish.course.core items old new) (sym plain)
-    (lived plan (words_taken options.recheck said) options.patience before.record_text load.between after finish items old new fits long was load.opened.record_read is passes said.going goes)) load.life out
+loads_are_lives plan options before after finish load looks items old new plain fits long was is out passes =
+    subst (λ (core : Core). (life : IsLived of_file options.fast load.writable core load.between after finish) → GoesOut life looks [] items → Lives plan finish.core looks items old new) (sym load.opened.opening.core_is)
+    (subst (λ fast. (life : IsLived of_file fast load.writable (begun plan (words_taken options.recheck said) said.going options.patience) load.between after finish) → GoesOut life looks [] items → Lives plan finish.core looks items old new) (sym plain)
+    (lived plan (words_taken options.recheck said) options.patience before.record_text load.between after finish looks items old new fits long was load.opened.record_read is passes said.going goes)) load.life out
   where
     said : Progress
     said = load.opened.opening.said

@@ -1,6 +1,6 @@
 -- What the disk of a record was asked, by the parts of a load.
 use Rattle.std.proofs.Common.{◌≡◌, ℕ, List, [], ◌++◌, Option, Some, None, Result, Ok, Err, refl, sym, subst, ◌∙◌, inl, inr}
-use Rattle.std.specs.Prelude.{MatchOption, OnOk, OnErr}
+use Rattle.std.specs.Prelude.{MatchOption, OnOk, OnErr, option_map}
 use Rattle.std.specs.Result.{IfOk, IfErr}
 use Rattle.load_devices.proofs.Told.{tells_join, tells_none}
 use Rattle.record_file.specs.Beginning.{IsBegun, IsNotBegun}
@@ -10,7 +10,18 @@ use Rattle.record_file.specs.DiskStep.{DiskStep}
 use Rattle.record_file.specs.Reading.{IsRead, IsNotRead}
 use Rattle.record_file.specs.declared.old_record.OldRecord.{OldRecord}
 use Rattle.record_file.specs.declared.record_fault.RecordFault.{RecordFault}
-use Rattle.machine_load.specs.RecordDisk.{RecordDisk, FileKnown, DiskAsked, IsReadAnswered, IsBegunOf, IsNotBegunOf, IsNotBegunOn, IsBeginAnswered, IsReadFirst, IsReadAndBegun, IsReadNotBegun, IsOnlyRead, IsClosedAfter, disk_asked_by, disk_asked_before, IsLivedOn, IsNotLivedOn}
+use Rattle.machine_load.specs.RecordDisk.{RecordDisk, FileKnown, DiskAsked, IsReadAnswered, IsBegunOf, IsBegunOn, IsNotBegunOf, IsNotBegunOn, IsBeginAnswered, IsReadFirst, IsReadAndBegun, IsReadNotBegun, IsOnlyRead, IsClosedAfter, disk_asked_by, disk_asked_before, IsLivedOn, IsNotLivedOn}
+use Rattle.load_devices.specs.Devices.{LineTold}
+use Rattle.load_engine.specs.declared.stop.Stop.{Stop as DriveStop}
+use Rattle.machine_load.specs.declared.load_end.LoadEnd.{LoadEnd}
+use Rattle.machine_load.specs.declared.load_end.LoadEnd.TheVariants as load_end
+use Rattle.machine_load.specs.declared.looks.Looks.{Looks}
+use Rattle.machine_load.specs.Looks.{ended_by, held_up_by, unfinished_at}
+use Rattle.reading_core.specs.declared.phase.End.TheVariants.{Complete, GaveUp, NoWord}
+use Rattle.reading_engine.specs.declared.stop.Stop.{Stop}
+use Rattle.reading_engine.specs.declared.stop.Stop.TheVariants.{Ended, LineFailed, TurnsOver}
+use Rattle.sample_looks.specs.declared.finding.Finding.{Finding}
+use Rattle.sample_looks.specs.declared.finding.Finding.TheVariants.{AllStand, Stale, Unfinished}
 use Rattle.machine_load.specs.declared.fault.LoadFault.{LoadFault}
 use Rattle.machine_load.specs.declared.fault.LoadFault.TheVariants.{Connect, WriteRecord, WriteOutput, Memory}
 
@@ -85,13 +96,44 @@ only_read_on a b c o same = subst (λ after. DiskAsked a after IsOnlyRead) (sym 
 
 -- ---- a load
 
-pub lived_on : {L : Type 0} (a b c : Option RecordDisk) (line : Option L) → DiskAsked a b IsOnlyRead → IsLivedOn b c line → DiskAsked a c (disk_asked_by line)
-lived_on a b c None o h = only_read_on a b c o h
-lived_on a b c (Some line) o h = then_on IsBegunOf a b c o h
+pub lived_on : {L : Type 0} (a b c : Option RecordDisk) (end : LoadEnd) (line : Option L) → DiskAsked a b IsOnlyRead → IsLivedOn b c end line → DiskAsked a c (disk_asked_by end line)
+lived_on a b c (load_end.Driven stop) (Some line) o h = then_on IsBegunOf a b c o h
+lived_on a b c (load_end.Driven stop) None o h = only_read_on a b c o h
+lived_on a b c (load_end.Unfinished stop) line o h = only_read_on a b c o h
+lived_on a b c (load_end.Stale address) line o h = only_read_on a b c o h
 
-pub untold_on : {L : Type 0} (a b c : Option RecordDisk) (line : Option L) → DiskAsked a b IsOnlyRead → IsLivedOn b c line → DiskAsked a c (disk_asked_before WriteOutput)
-untold_on a b c None o h = asked_as IsOnlyRead (disk_asked_before WriteOutput) a c (λ disk known' steps x. inl x) (only_read_on a b c o h)
-untold_on a b c (Some line) o h = asked_as IsReadAndBegun (disk_asked_before WriteOutput) a c (λ disk known' steps x. inr x) (then_on IsBegunOf a b c o h)
+untold_read : (a b c : Option RecordDisk) → DiskAsked a b IsOnlyRead → c ≡ b → DiskAsked a c (disk_asked_before WriteOutput)
+untold_read a b c o same = asked_as IsOnlyRead (disk_asked_before WriteOutput) a c (λ disk known' steps x. inl x) (only_read_on a b c o same)
+
+pub untold_on : {L : Type 0} (a b c : Option RecordDisk) (end : LoadEnd) (line : Option L) → DiskAsked a b IsOnlyRead → IsLivedOn b c end line → DiskAsked a c (disk_asked_before WriteOutput)
+untold_on a b c (load_end.Driven stop) (Some line) o h = asked_as IsReadAndBegun (disk_asked_before WriteOutput) a c (λ disk known' steps x. inr x) (then_on IsBegunOf a b c o h)
+untold_on a b c (load_end.Driven stop) None o h = untold_read a b c o h
+untold_on a b c (load_end.Unfinished stop) line o h = untold_read a b c o h
+untold_on a b c (load_end.Stale address) line o h = untold_read a b c o h
+
+-- a life that its looks hold up was not driven
+never_unfinished : {A : Type 0} (stop : Stop) (driven : DriveStop) → unfinished_at stop ≡ Some (load_end.Driven driven) → A
+never_unfinished (Ended Complete) driven e = absurd (cc e)
+never_unfinished (Ended GaveUp) driven e = absurd (cc e)
+never_unfinished (Ended (NoWord address)) driven e = absurd (cc e)
+never_unfinished (LineFailed fault) driven e = absurd (cc e)
+never_unfinished TurnsOver driven e = absurd (cc e)
+
+never_driven : {A : Type 0} (finding : Finding) (stop : Stop) (driven : DriveStop) → ended_by finding stop ≡ Some (load_end.Driven driven) → A
+never_driven AllStand stop driven e = never_unfinished stop driven e
+never_driven (Stale address) stop driven e = absurd (cc e)
+never_driven Unfinished stop driven e = never_unfinished stop driven e
+
+pub held_on : {L : Type 0} (looks : Looks) (end : LoadEnd) (before after : Option RecordDisk) (line : Option L) → held_up_by looks ≡ Some end → after ≡ before → IsLivedOn before after end line
+held_on looks (load_end.Driven stop) before after line is same = never_driven looks.finding looks.stop stop is
+held_on looks (load_end.Unfinished stop) before after line is same = same
+held_on looks (load_end.Stale address) before after line is same = same
+
+-- one that goes on behind them was
+pub driven_on : {L : Type 0} (told : L → LineTold) (before after : Option RecordDisk) (end : LoadEnd) (line : Option L) (stop : DriveStop) (line' : LineTold) → end ≡ load_end.Driven stop → option_map told line ≡ Some line'
+    → DiskAsked before after IsBegunOn → IsLivedOn before after end line
+driven_on told before after end None stop line' is has h = absurd (cc has)
+driven_on told before after end (Some line) stop line' is has h = subst (λ e. IsLivedOn before after e (Some line)) (sym is) h
 
 not_begun_then : (fault : LoadFault) (a b c : Option RecordDisk)
     → ((disk : RecordDisk) (known' : FileKnown) (steps : List DiskStep) → IsReadNotBegun disk known' steps → disk_asked_before fault disk known' steps)
@@ -102,7 +144,8 @@ pub not_lived_on : (a b c : Option RecordDisk) (fault : LoadFault) → DiskAsked
 not_lived_on a b c Connect o h = only_read_on a b c o h
 not_lived_on a b c WriteRecord o (inl same) = asked_as IsOnlyRead (disk_asked_before WriteRecord) a c (λ disk known' steps x. inl x) (only_read_on a b c o same)
 not_lived_on a b c WriteRecord o (inr h) = not_begun_then WriteRecord a b c (λ disk known' steps x. inr x) o h
-not_lived_on a b c Memory o h = not_begun_then Memory a b c (λ disk known' steps x. inr (inr x)) o h
+not_lived_on a b c Memory o (inl same) = asked_as IsOnlyRead (disk_asked_before Memory) a c (λ disk known' steps x. inr (inl x)) (only_read_on a b c o same)
+not_lived_on a b c Memory o (inr h) = not_begun_then Memory a b c (λ disk known' steps x. inr (inr x)) o h
 not_lived_on a b c other o h = absurd h
 
 -- ---- and its record closed

@@ -7,14 +7,14 @@ use Rattle.host_core.specs.Core.{Core, begun}
 use Rattle.load_record.specs.declared.version.Version.TheVariants.{Second}
 use Rattle.load_record.specs.RecordText.{record_text}
 use Rattle.load_record.specs.Reading.{Says}
-use Rattle.machine_load.specs.Load.{Around, Asks, IsOpened, KeepsRecord, words_taken}
+use Rattle.machine_load.specs.Load.{SurroundingsTold, Asks, IsOpened, KeepsRecord, words_taken}
 use Rattle.machine_load.specs.Step.{RecordRead}
 use Rattle.record_file.specs.OldRecord.{HoldsNoRecord, MayBecome}
 use Rattle.record_file.specs.declared.old_record.Writable.{Writable}
 use Rattle.request_values.specs.declared.options.LoadOptions.{LoadOptions}
 
 -- a record was read, its text looked at, and what it says taken; and it was compared with the record of the words that the core counts
-pub opens : (plan shown_plan : PlanValue) (options : LoadOptions) (before between : Around) (how : Writable) (text shown : List ℕ) (said : Progress) (first : Core) (verified : ℕ) (may_begin : Bool)
+pub opens : (plan shown_plan : PlanValue) (options : LoadOptions) (before between : SurroundingsTold) (how : Writable) (text shown : List ℕ) (said : Progress) (first : Core) (verified : ℕ) (may_begin : Bool)
     → Asks before between (RecordRead how ∷ []) → KeepsRecord before between → IsAsTold before.record_text text → shown ≡ text
     → (HoldsNoRecord shown → ⊥) → Says plan shown (Ok said) → first ≡ begun plan (words_taken options.recheck said) said.going options.patience
     → shown_plan ≡ first.plan → verified ≡ first.verified → (IsTrue may_begin ↔ MayBecome how text (record_text Second shown_plan verified false))

@@ -1,5 +1,5 @@
 -- What a keeper that has begun a record holds behind the parts of a life: a front of the record of what is verified, whatever the record was before.
-use Rattle.std.proofs.Common.{◌≡◌, ◌⊎◌, ℕ, zero, suc, ◌+◌, ◌-◌, ◌^◌, ◌≤◌, ◌<◌, Bool, true, false, List, [], ◌∷◌, ◌++◌, length, take, drop, map, Option, Some, None, Ok, inl, inr, refl, arith, ap, sym, subst, ◌∙◌, append-nil, append_assoc}
+use Rattle.std.proofs.Common.{◌≡◌, ◌⊎◌, ℕ, zero, suc, ◌+◌, ◌-◌, ◌^◌, ◌≤◌, ◌<◌, true, false, List, [], ◌∷◌, ◌++◌, length, take, drop, map, Option, Some, Ok, inl, inr, refl, arith, ap, sym, subst, ◌∙◌, append-nil, append_assoc}
 use Rattle.std.specs.Prelude.{Contains}
 use Rattle.std.specs.List.{slice_get}
 use Rattle.std.proofs.Math.Seq.{drop-drop}
@@ -33,7 +33,7 @@ use Rattle.load_lives.specs.Lives.{GoesOnFrom}
 use Rattle.load_lives.specs.Stops.{IsBeginning}
 use Rattle.load_lives.proofs.Keepers.{keepers_leave}
 use Rattle.load_lives.proofs.Stopping.{records_are_fronts}
-use Rattle.exchange_engine.specs.Keeping.{KeptBy as StubsKeptBy, KeepsFront, words_kept}
+use Rattle.stub_engine.specs.Keeping.{KeptBy as StubsKeptBy, words_kept}
 use Rattle.stub_engine.specs.declared.stop.Stop.{Stop as StubStop}
 use Rattle.stub_engine.specs.declared.stop.Stop.TheVariants.{TooFewWords, NoRoom, InVain, NotStarted, TurnsOver, LineFailed, KeepFailed, Memory}
 use Rattle.stub_engine.specs.Parts.{failure_of}

@@ -4,7 +4,7 @@ use Rattle.tape_image.specs.Plan.{PlanValue}
 use Rattle.load_devices.specs.declared.item.Item.{Item}
 use Rattle.exchange_law.specs.Law.{said_all}
 use Rattle.exchange_law.specs.Station.{Program}
-use Rattle.fast_lives.specs.StubParts.{AreStubParts, StubPart, stubs_said}
+use Rattle.load_lives.specs.StubParts.{AreStubParts, StubPart, stubs_said}
 
 -- a load that is killed with its stubs has said a front of what it would have said, and this is what a stopped life says: of its stubs the first, the last
 -- of which heard perhaps less, said all that they decide, or all but the last characters

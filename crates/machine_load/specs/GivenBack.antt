@@ -1,11 +1,26 @@
 -- What is told of a load's line once it was given back.
-use Rattle.std.specs.Prelude.{◌≡◌, ◌⊎◌, List, [], ◌∷◌, Option, Some, None}
+use Rattle.std.specs.Prelude.{◌≡◌, List, [], ◌∷◌, Option, Some, None}
 use Rattle.load_devices.specs.Told.{Gains}
-use Rattle.console_lines.specs.Reached.{IsUnused, LineTold}
+use Rattle.load_devices.specs.Devices.{LineTold}
+use Rattle.console_lines.specs.Reached.{IsUnused}
+use Rattle.host_core.specs.Core.{Core}
+use Rattle.machine_load.specs.declared.looks.Looks.{Looks}
+use Rattle.machine_load.specs.Looks.{AreLooks}
+use Rattle.sample_looks.specs.declared.finding.Finding.TheVariants.{AllStand}
 
--- no line was given back, or one on which nothing was said
-abbrev pub GivesNothingSaid : Option (List LineTold) → Option (List LineTold) → Type 0
-GivesNothingSaid lines lines' = (lines' ≡ lines) ⊎ ((line : LineTold) × IsUnused line.said line.failures line.fault × Gains lines lines' (line ∷ []))
+-- no line was given back
+abbrev pub GivesNone : Core → Option (List LineTold) → Option (List LineTold) → Type 0
+GivesNone first lines lines' = lines' ≡ lines
+
+-- a line was given back on which nothing was said but the looks of a life, which found that all words stand
+pub record GivesLooked (first : Core) (lines lines' : Option (List LineTold)) : Type 0 where
+  pub line : LineTold
+  pub fresh : IsUnused line.said line.failures line.fault
+  pub looks : Looks
+  pub behind : LineTold
+  pub looked : AreLooks first looks line behind
+  pub all_stand : looks.finding ≡ AllStand
+  pub given : Gains lines lines' (behind ∷ [])
 
 -- a line was given back, where there was one
 abbrev pub IsGivenBack : Option (List LineTold) → Option (List LineTold) → Option LineTold → Type 0

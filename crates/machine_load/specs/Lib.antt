@@ -1,6 +1,7 @@
 pub mod Load
 pub mod LoadFault
 pub mod LoadReport
+pub mod Looks
 pub mod Called
 pub mod RecordDisk
 pub mod Scene

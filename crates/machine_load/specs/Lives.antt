@@ -6,18 +6,27 @@ use Rattle.host_core.specs.Core.{Core}
 use Rattle.load_devices.specs.declared.item.Item.{Item}
 use Rattle.load_devices.specs.Dialogue.{dialogue}
 use Rattle.load_engine.specs.declared.stop.Stop.{Stop}
+use Rattle.load_devices.specs.Devices.{Devices, LineTold}
 use Rattle.load_record.specs.Keeper.{Keeper, HasKept, HasCutShort, HoldsRecord, fault_now}
 use Rattle.load_lives.specs.Keepers.{WentOutAt}
-use Rattle.load_lives.specs.Lives.{Life, PassesOver, IsLife, WireAndRecord, last_core}
+use Rattle.load_lives.specs.Lives.{PassesOver, WireAndRecord, last_core}
+use Rattle.load_lives.specs.Stops.{WentOut}
 use Rattle.exchange_law.specs.Law.{said_all}
-use Rattle.stub_station.specs.Start.{program as stub_program}
-use Rattle.fast_lives.specs.FastLives.{FastLife, IsFastLife, LinkAndRecord, PassesAt, last_core as fast_core}
+use Rattle.exchange_law.specs.Start.{program as stub_program}
+use Rattle.load_lives.specs.FastLives.{LinkAndRecord, PassesAt, last_core as fast_core}
+use Rattle.load_lives.specs.LooksFirst.{LookingLife as FastLookingLife, IsLookingLife as IsFastLookingLife}
+use Rattle.looking_law.specs.Belief.{dialogue as looks_of}
 use Rattle.machine_load.specs.declared.stubs.Stubs.{Stubs}
+use Rattle.machine_load.specs.declared.looks.Looks.{Looks}
 use Rattle.machine_load.specs.Driving.{KeeperTells, IsLived, IsLoadLived}
-use Rattle.machine_load.specs.Load.{Around, Finish}
-use Rattle.machine_load.specs.Parts.{AreBrought, AreParts, Course, Devices, IsDrivenWhere}
+use Rattle.machine_load.specs.Load.{SurroundingsTold, Finish}
+use Rattle.machine_load.specs.Looks.{AreLooks}
+use Rattle.machine_load.specs.Parts.{AreBrought, AreParts, Course, IsDrivenWhere}
 use Rattle.machine_load.specs.Stubs.{hindrance, host_behind}
+use Rattle.reading_core.specs.Addresses.{addresses_of}
+use Rattle.reading_core.specs.Reader.{begun as reader_begun}
 use Rattle.request_values.specs.declared.options.LoadOptions.{LoadOptions}
+use Rattle.sample_looks.specs.LooksFirst.{LookingLife, IsLookingLife}
 
 -- what the keeper of a record's file tells, where its writer tells what it holds, and where it held nothing before
 abbrev pub of_file : KeeperTells Keeper
@@ -32,6 +41,11 @@ of_file = record {
   begins = λ keeper plan k. HoldsRecord keeper plan k;
   text = λ keeper. keeper.text;
 }
+
+-- what went out of the looks: what the line tells, or all, where the call that failed sent its key after all
+abbrev pub LooksGoOut : {first : Core} {looks : Looks} {before after : LineTold} → AreLooks first looks before after → List Item → Type 0
+LooksGoOut {first} {looks} {before} {after} l items =
+    WentOut (looks_of (reader_begun (addresses_of l.samples) [] first.patience) l.looked.turns.heard) l.looked.turns.said items
 
 -- what went out of what the stubs said: what the line tells, and perhaps some of the keys that a call failed to send
 abbrev pub StubsGoOut : (first : Core) (stubs : Option Stubs) (before after : Devices) → AreBrought first stubs before after → List Item → Type 0
@@ -53,29 +67,31 @@ PartsGoOut {first} {course} {before} {between} {after} parts front rest =
     StubsGoOut first course.stubs before between parts.stubs front
     × HostGoesOut (hindrance course.stubs) (host_behind first course.stubs) course.core course.stop between after parts.host rest
 
--- what was said of a life: by its stubs, and then by its host; nothing, where it was over at once
-abbrev pub GoesOut : {fast writable : Bool} {first : Core} {before after : Around} {finish : Finish} → IsLived of_file fast writable first before after finish
-    → List Item → List Item → Type 0
-GoesOut {fast} {writable} {first} {before} {after} {finish} (inl idle) front rest = (front ≡ []) × (rest ≡ [])
-GoesOut {fast} {writable} {first} {before} {after} {finish} (inr life) front rest =
-    PartsGoOut life.parts.parts front rest
+-- what was said of a life: by its looks, by its stubs, and then by its host; nothing, where it was over at once, and nothing behind looks that held it up
+abbrev pub GoesOut : {fast writable : Bool} {first : Core} {before after : SurroundingsTold} {finish : Finish} → IsLived of_file fast writable first before after finish
+    → List Item → List Item → List Item → Type 0
+GoesOut {fast} {writable} {first} {before} {after} {finish} (inl idle) looks front rest = (looks ≡ []) × (front ≡ []) × (rest ≡ [])
+GoesOut {fast} {writable} {first} {before} {after} {finish} (inr (inl held)) looks front rest =
+    LooksGoOut held.first_looks.looked looks × (front ≡ []) × (rest ≡ [])
+GoesOut {fast} {writable} {first} {before} {after} {finish} (inr (inr life)) looks front rest =
+    LooksGoOut life.first_looks.looked looks × PartsGoOut life.driven.parts.parts front rest
 
--- a load whose keeper writes the record's file, with stubs or without, is a life at a station, from the line and the record that it found to those
--- that it left
+-- a load whose keeper writes the record's file, with stubs or without, is a life at a station which may look first, from the line and the record that it
+-- found to those that it left
 abbrev pub LoadsAreFastLives : Type 0
 LoadsAreFastLives =
-    (plan : PlanValue) (options : LoadOptions) (before after : Around) (finish : Finish) (load : IsLoadLived of_file plan options before after finish)
-    (front rest : List Item) (old new : LinkAndRecord) → IsPlan plan → options.patience < 2 ^ 32 →
+    (plan : PlanValue) (options : LoadOptions) (before after : SurroundingsTold) (finish : Finish) (load : IsLoadLived of_file plan options before after finish)
+    (looks front rest : List Item) (old new : LinkAndRecord) → IsPlan plan → options.patience < 2 ^ 32 →
     before.record_text ≡ Some old.text → after.record_text ≡ Some new.text →
-    GoesOut load.life front rest → PassesAt stub_program old.link (front ++ rest) new.link →
-    (life : FastLife) × (fast_core plan life ≡ finish.course.core) × (life.front ≡ front) × (life.rest ≡ rest)
-    × IsFastLife stub_program plan old life new
+    GoesOut load.life looks front rest → PassesAt stub_program old.link (looks ++ (front ++ rest)) new.link →
+    (l : FastLookingLife) × (fast_core plan l.life ≡ finish.core) × (l.looks ≡ looks) × (l.life.front ≡ front) × (l.life.rest ≡ rest)
+    × IsFastLookingLife stub_program plan old l new
 
 -- one without stubs is a life at a machine, too, of which more is promised
 abbrev pub LoadsAreLives : Type 0
 LoadsAreLives =
-    (plan : PlanValue) (options : LoadOptions) (before after : Around) (finish : Finish) (load : IsLoadLived of_file plan options before after finish)
-    (items : List Item) (old new : WireAndRecord) → options.fast ≡ false → IsPlan plan → options.patience < 2 ^ 32 →
+    (plan : PlanValue) (options : LoadOptions) (before after : SurroundingsTold) (finish : Finish) (load : IsLoadLived of_file plan options before after finish)
+    (looks items : List Item) (old new : WireAndRecord) → options.fast ≡ false → IsPlan plan → options.patience < 2 ^ 32 →
     before.record_text ≡ Some old.text → after.record_text ≡ Some new.text →
-    GoesOut load.life [] items → PassesOver old.wire items new.wire →
-    (life : Life) × (last_core plan life ≡ finish.course.core) × (life.items ≡ items) × IsLife plan old life new
+    GoesOut load.life looks [] items → PassesOver old.wire (looks ++ items) new.wire →
+    (l : LookingLife) × (last_core plan l.life ≡ finish.core) × (l.looks ≡ looks) × (l.life.items ≡ items) × IsLookingLife plan old l new

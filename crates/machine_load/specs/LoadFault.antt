@@ -6,13 +6,14 @@ use Rattle.tape_image.specs.Plan.{PlanValue}
 use Rattle.load_record.specs.declared.reader.RecordError.{RecordError}
 use Rattle.load_record.specs.Reading.{Says}
 use Rattle.load_record.specs.declared.reader.RecordError.TheVariants.{NotARecord}
-use Rattle.machine_load.specs.GivenBack.{GivesNothingSaid}
+use Rattle.load_devices.specs.Devices.{LineTold}
+use Rattle.machine_load.specs.GivenBack.{GivesLooked, GivesNone}
 use Rattle.host_core.specs.Core.{Core}
-use Rattle.machine_load.specs.Load.{Around, Setting, Asks, AsksNothing, KeepsRecord, IsCutShort, IsOpened}
+use Rattle.machine_load.specs.Load.{SurroundingsTold, Setting, Asks, AsksNothing, KeepsRecord, IsCutShort, IsOpened}
 use Rattle.record_file.specs.OldRecord.{HoldsNoRecord}
 use Rattle.record_file.specs.declared.old_record.Writable.{Writable}
 use Rattle.record_file.specs.declared.old_record.Writable.TheVariants.{InPlace}
-use Rattle.machine_load.specs.Step.{Step, RecordRead, Connected, InUse, NotRead, NotConnected, NotBegun, OutOfMemory}
+use Rattle.machine_load.specs.Step.{LoadStep, RecordRead, Connected, InUse, NotRead, NotConnected, NotBegun, OutOfMemory}
 use Rattle.request_values.specs.declared.options.LoadOptions.{LoadOptions}
 use Rattle.machine_load.specs.declared.fault.LoadFault.{LoadFault}
 use Rattle.machine_load.specs.declared.fault.LoadFault.TheVariants.{ReadRecord, RecordInUse, Record, Connect, WriteRecord, WriteOutput, Memory}
@@ -34,7 +35,7 @@ fault_of_record record_fault.Memory = Memory
 
 -- how a life fails to open: its record can't be read, or is another load's at the time, or is read and refused; or memory is wanting, also
 -- to compare what was read with the record that would be written over it
-abbrev pub IsOpeningFault : PlanValue → Around → Around → LoadFault → Type 0
+abbrev pub IsOpeningFault : PlanValue → SurroundingsTold → SurroundingsTold → LoadFault → Type 0
 IsOpeningFault plan before after ReadRecord = Asks before after (NotRead ∷ [])
 IsOpeningFault plan before after RecordInUse = Asks before after (InUse ∷ [])
 IsOpeningFault plan before after (Record why) =
@@ -42,58 +43,81 @@ IsOpeningFault plan before after (Record why) =
 IsOpeningFault plan before after Memory = Asks before after (OutOfMemory ∷ []) ⊎ Asks before after (RecordRead InPlace ∷ [])
 IsOpeningFault plan before after other = ⊥
 
--- how an opened life comes to no line or no record: one whose record may not be begun fails before there is a connection; and without a
--- connection the record is as it was
-abbrev pub IsDrivingFault : Bool → Around → Around → LoadFault → Type 0
-IsDrivingFault writable before after Connect = (writable ≡ true) × Asks before after (NotConnected ∷ []) × KeepsRecord before after
-IsDrivingFault writable before after WriteRecord =
-    ((writable ≡ false) × AsksNothing before after) ⊎ ((writable ≡ true) × Asks before after (Connected ∷ NotBegun ∷ []))
-IsDrivingFault writable before after Memory = (writable ≡ true) × Asks before after (Connected ∷ OutOfMemory ∷ [])
-IsDrivingFault writable before after other = ⊥
+-- what a load has done to what surroundings tell, and to the lines that were given back
+pub record Gone : Type 0 where
+  pub around : SurroundingsTold
+  pub lines : Option (List LineTold)
 
--- a life was opened, whose record may be begun or may not, and then so far was gone, with nothing said and nothing reported
-pub record StopsOpened (plan : PlanValue) (options : LoadOptions) (before after : Setting) (may_begin : Bool) (done : List Step) : Type 0 where
+abbrev pub gone : SurroundingsTold → Option (List LineTold) → Gone
+gone around lines = record { around = around; lines = lines }
+
+-- how an opened life comes to no record of its own: one whose record may not be begun fails before there is a connection, and so does one for whose looks
+-- there is no memory; and without a connection the record is as it was. Where there was one, nothing was said on it but the looks
+abbrev pub IsDrivingFault : Bool → Core → Gone → Gone → LoadFault → Type 0
+IsDrivingFault writable first before after Connect =
+    (writable ≡ true) × Asks before.around after.around (NotConnected ∷ []) × KeepsRecord before.around after.around
+    × GivesNone first before.lines after.lines
+IsDrivingFault writable first before after WriteRecord =
+    ((writable ≡ false) × AsksNothing before.around after.around × GivesNone first before.lines after.lines)
+    ⊎ ((writable ≡ true) × Asks before.around after.around (Connected ∷ NotBegun ∷ []) × GivesLooked first before.lines after.lines)
+IsDrivingFault writable first before after Memory =
+    ((writable ≡ true) × AsksNothing before.around after.around × GivesNone first before.lines after.lines)
+    ⊎ ((writable ≡ true) × Asks before.around after.around (Connected ∷ OutOfMemory ∷ []) × GivesLooked first before.lines after.lines)
+IsDrivingFault writable first before after other = ⊥
+
+-- a record was not begun anew, or memory is wanting to do so
+abbrev pub IsUnbegunFault : SurroundingsTold → SurroundingsTold → LoadFault → Type 0
+IsUnbegunFault before after WriteRecord = Asks before after (NotBegun ∷ [])
+IsUnbegunFault before after Memory = Asks before after (OutOfMemory ∷ [])
+IsUnbegunFault before after other = ⊥
+
+-- a life was opened, whose record may be begun or may not, and then so far was gone, with nothing reported, and with lines given back so
+pub record StopsOpened (plan : PlanValue) (options : LoadOptions) (before after : Setting) (may_begin : Bool) (done : List LoadStep)
+    (Gives : Core → Option (List LineTold) → Option (List LineTold) → Type 0) : Type 0 where
   pub first : Core
-  pub between : Around
+  pub between : SurroundingsTold
   pub opened : IsOpened plan options before.around between first may_begin
   pub steps_are : Asks between after.around done
-  pub nothing_said : GivesNothingSaid before.lines after.lines
+  pub given : Gives first before.lines after.lines
   pub nothing_reported : Keeps before.out after.out
 
 -- so far was gone, with nothing said and nothing reported, and with the record as it was
-pub record StopsAfter (before after : Setting) (done : List Step) : Type 0 where
+pub record StopsAfter (before after : Setting) (done : List LoadStep) : Type 0 where
   pub steps_are : Asks before.around after.around done
   pub record_same : KeepsRecord before.around after.around
-  pub nothing_said : GivesNothingSaid before.lines after.lines
+  pub nothing_said : after.lines ≡ before.lines
   pub nothing_reported : Keeps before.out after.out
 
 -- the record was read, and nothing else came of the load
 abbrev pub StopsAfterReading : Setting → Setting → Type 0
 StopsAfterReading before after = (writable : Writable) × StopsAfter before after (RecordRead writable ∷ [])
 
--- where memory may be wanting, with nothing reported: for the record, before there is a connection, and for the record begun anew, before
--- the first key
+-- a life was opened, and comes to nothing before there is a connection, with the record as it was
+abbrev pub StopsUnconnected : PlanValue → LoadOptions → Setting → Setting → Bool → List LoadStep → Type 0
+StopsUnconnected plan options before after may_begin done =
+    StopsOpened plan options before after may_begin done GivesNone × KeepsRecord before.around after.around
+
+-- where memory may be wanting, with nothing reported: for the record and for the looks, before there is a connection, and for the record begun anew,
+-- right behind the looks
 abbrev pub IsWantOfMemory : PlanValue → LoadOptions → Setting → Setting → Type 0
 IsWantOfMemory plan options before after =
     (StopsAfter before after (OutOfMemory ∷ []) ⊎ StopsAfter before after (RecordRead InPlace ∷ []))
-    ⊎ StopsOpened plan options before after true (Connected ∷ OutOfMemory ∷ [])
+    ⊎ (StopsUnconnected plan options before after true [] ⊎ StopsOpened plan options before after true (Connected ∷ OutOfMemory ∷ []) GivesLooked)
 
 -- a record that can't be written: before there is a connection, where it may not be begun, and then it is as it was; or, where all that
--- could be known before said that it may, before the first key
+-- could be known before said that it may, right behind the looks
 abbrev pub IsUnwritable : PlanValue → LoadOptions → Setting → Setting → Type 0
 IsUnwritable plan options before after =
-    (StopsOpened plan options before after false [] × KeepsRecord before.around after.around)
-    ⊎ StopsOpened plan options before after true (Connected ∷ NotBegun ∷ [])
+    StopsUnconnected plan options before after false [] ⊎ StopsOpened plan options before after true (Connected ∷ NotBegun ∷ []) GivesLooked
 
 -- how a load comes to nothing: a record that can't be read, is another load's at the time, is refused or may not be begun comes before the
--- connection, a connection that can't be made before the record is touched, a record that can't be written before the first key, a report
--- that can't be written last
+-- connection, a connection that can't be made before the record is touched, a record that can't be written before any key but those of looks, a
+-- report that can't be written last
 abbrev pub IsLoadFault : PlanValue → LoadOptions → Setting → Setting → LoadFault → Type 0
 IsLoadFault plan options before after ReadRecord = StopsAfter before after (NotRead ∷ [])
 IsLoadFault plan options before after RecordInUse = StopsAfter before after (InUse ∷ [])
 IsLoadFault plan options before after (Record why) = StopsAfterReading before after × IsRefusedRecord before.around.record_text plan why
-IsLoadFault plan options before after Connect =
-    StopsOpened plan options before after true (NotConnected ∷ []) × KeepsRecord before.around after.around
+IsLoadFault plan options before after Connect = StopsUnconnected plan options before after true (NotConnected ∷ [])
 IsLoadFault plan options before after WriteRecord = IsUnwritable plan options before after
 IsLoadFault plan options before after WriteOutput = IsCutShort plan options before after
 IsLoadFault plan options before after Memory = IsWantOfMemory plan options before after

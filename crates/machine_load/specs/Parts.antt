@@ -1,49 +1,17 @@
 -- The parts of a life on its line: its stubs, where it brings some in, and its host behind them.
-use Rattle.std.specs.Prelude.{◌≡◌, ℕ, ◌≤◌, List, length, Option, Some, None}
-use Rattle.host_core.specs.Bound.{character_bound}
+use Rattle.std.specs.Prelude.{◌≡◌, ◌≤◌, length, Option, Some, None}
 use Rattle.host_core.specs.Core.{Core}
-use Rattle.load_devices.specs.declared.fault.KeepFault.{KeepFault}
-use Rattle.load_devices.specs.declared.item.Kept.{Kept}
-use Rattle.load_devices.specs.declared.keep.Keep.{Ghosts as Keep}
-use Rattle.load_devices.specs.declared.line.Line.{Ghosts as Line}
-use Rattle.load_devices.specs.Dialogue.{news_between}
 use Rattle.load_devices.specs.Failures.{CountsFault, IsLastFault}
+use Rattle.load_devices.specs.Devices.{Devices, KeeperCalls, LineTold, devices}
 use Rattle.load_devices.specs.Turns.{most_turns}
 use Rattle.load_engine.specs.declared.stop.Stop.{Stop}
-use Rattle.load_engine.specs.Belief.{IsBelievableOver, TellsStartOver}
-use Rattle.load_engine.specs.Failing.{keep_fault, line_fault}
-use Rattle.load_engine.specs.Keeping.{KeptBy}
-use Rattle.load_engine.specs.Session.{Session, KeepsMarkFirst, TellsEnd}
-use Rattle.exchange_engine.specs.Failing.{keep_fault as stub_keep_fault, line_fault as stub_line_fault}
-use Rattle.exchange_engine.specs.Keeping.{KeptBy as StubsKeptBy, ToldBy, words_kept}
-use Rattle.console_lines.specs.Reached.{LineTold, line_told}
+use Rattle.stub_engine.specs.Failing.{keep_fault as stub_keep_fault, line_fault as stub_line_fault}
+use Rattle.stub_engine.specs.Keeping.{KeptBy as StubsKeptBy, ToldBy, words_kept}
+use Rattle.load_engine.specs.Driven.{IsDriven, IsKeptBy}
 use Rattle.stub_engine.specs.Parts.{AreBroughtIn, failure_of}
 use Rattle.stub_engine.specs.Tallies.{begun as none_yet}
 use Rattle.machine_load.specs.declared.stubs.Stubs.{Stubs}
 use Rattle.machine_load.specs.Stubs.{hindrance, host_behind}
-
--- what a line tells at a moment, and what was kept so far, where the keeper tells it
-pub record Devices : Type 0 where
-  pub line : LineTold
-  pub kept : Option (List Kept)
-
-abbrev pub devices : LineTold → Option (List Kept) → Devices
-devices line kept = record { line = line; kept = kept }
-
--- what keepers of a type tell, and what their calls make of them
-pub record KeeperCalls (K : Type 0) : Type 1 where
-  pub kept : K → Option (List Kept)
-  pub failures : K → ℕ
-  pub fault : K → Option KeepFault
-  pub keeps : K → Kept → K → Type 0
-  pub fails : K → Kept → K → Type 0
-
-abbrev pub calls_of : {K : Type 0} → Keep K → KeeperCalls K
-calls_of tell = record { kept = tell.told; failures = tell.fault_count; fault = tell.last_fault; keeps = tell.keeps; fails = tell.fails }
-
--- a line and a keeper at a moment
-abbrev pub devices_of : {L K : Type 0} → Line L → Keep K → L → K → Devices
-devices_of tell keep line keeper = devices (line_told tell line) (keep.told keeper)
 
 -- how a life came to its end on its line: its stubs, where it brought some in, its host, and how the last of them stopped
 pub record Course : Type 0 where
@@ -83,20 +51,6 @@ AreKept {K} calls first (Some stubs) old new = AreKeptBy calls first stubs old n
 
 -- ---- the host
 
--- an engine that had the most turns led a host to another, and stopped so
-pub record IsDriven (old new : Core) (stop : Stop) (before after : Devices) : Type 0 where
-  -- what was heard, said and kept, in its order
-  pub session : Session most_turns (Some stop) old new before.line.said after.line.said before.kept after.kept
-  pub end : TellsEnd stop new
-  pub counted : CountsFault (line_fault (Some stop)) before.line.failures after.line.failures
-  pub named : IsLastFault (line_fault (Some stop)) after.line.fault
-  -- the mark came before `G`
-  pub mark_first : KeepsMarkFirst before.line.said after.line.said before.kept after.kept
-  -- what may be believed where the line was honest
-  pub honest : IsBelievableOver stop old new before.line.said after.line.said
-  pub start : TellsStartOver old new before.line.said after.line.said
-  pub bound : new.sent ≤ character_bound (length new.plan.words) new.patience
-
 -- nothing was said and nothing kept by a host that something hindered, which has done nothing
 pub record IsHindered (hindered : Stop) (old new : Core) (stop : Stop) (before after : Devices) : Type 0 where
   pub core : new ≡ old
@@ -105,15 +59,10 @@ pub record IsHindered (hindered : Stop) (old new : Core) (stop : Stop) (before a
 
 -- the host was driven, where nothing hindered it
 abbrev pub IsDrivenWhere : Option Stop → Core → Core → Stop → Devices → Devices → Type 0
-IsDrivenWhere None old new stop before after = IsDriven old new stop before after
+IsDrivenWhere None old new stop before after = IsDriven most_turns old new stop before after
 IsDrivenWhere (Some hindered) old new stop before after = IsHindered hindered old new stop before after
 
--- what it made of a keeper
-pub record IsKeptBy {K : Type 0} (calls : KeeperCalls K) (old new : Core) (stop : Stop) (keeper keeper' : K) : Type 0 where
-  pub counted : CountsFault (keep_fault (Some stop)) (calls.failures keeper) (calls.failures keeper')
-  pub named : IsLastFault (keep_fault (Some stop)) (calls.fault keeper')
-  pub kept_by : KeptBy calls.keeps calls.fails (Some stop) keeper (news_between old new) keeper'
-
+-- what it made of a keeper, where it was driven
 abbrev pub IsKeptWhere : {K : Type 0} → KeeperCalls K → Option Stop → Core → Core → Stop → K → K → Type 0
 IsKeptWhere {K} calls None old new stop keeper keeper' = IsKeptBy calls old new stop keeper keeper'
 IsKeptWhere {K} calls (Some hindered) old new stop keeper keeper' = keeper' ≡ keeper

@@ -9,6 +9,8 @@ use Rattle.record_file.specs.declared.made.Made.{Made}
 use Rattle.record_file.specs.declared.old_record.OldRecord.{OldRecord}
 use Rattle.record_file.specs.declared.old_record.Writable.{Writable}
 use Rattle.record_file.specs.declared.record_fault.RecordFault.{RecordFault}
+use Rattle.machine_load.specs.declared.load_end.LoadEnd.{LoadEnd}
+use Rattle.machine_load.specs.declared.load_end.LoadEnd.TheVariants.{Driven, Unfinished, Stale}
 use Rattle.machine_load.specs.declared.fault.LoadFault.{LoadFault}
 use Rattle.machine_load.specs.declared.fault.LoadFault.TheVariants.{ReadRecord, RecordInUse, Record, Connect, WriteRecord, WriteOutput, Memory}
 
@@ -89,10 +91,12 @@ IsReadAndBegun = IsReadFirst IsBegunOf
 abbrev pub IsReadNotBegun : RecordDisk → FileKnown → List DiskStep → Type 0
 IsReadNotBegun = IsReadFirst IsNotBegunOf
 
--- a load that has a line has begun its record anew; one that has none has only read it
-abbrev pub disk_asked_by : {L : Type 0} → Option L → RecordDisk → FileKnown → List DiskStep → Type 0
-disk_asked_by (Some line) = IsReadAndBegun
-disk_asked_by None = IsOnlyRead
+-- a load that has a line has begun its record anew, unless its looks held it up; else it has only read it
+abbrev pub disk_asked_by : {L : Type 0} → LoadEnd → Option L → RecordDisk → FileKnown → List DiskStep → Type 0
+disk_asked_by (Driven stop) (Some line) = IsReadAndBegun
+disk_asked_by (Driven stop) None = IsOnlyRead
+disk_asked_by (Unfinished stop) line = IsOnlyRead
+disk_asked_by (Stale address) line = IsOnlyRead
 
 -- what was asked by how a load came to nothing: a record that is refused, and a console that was not reached, leave the record as it was read
 abbrev pub disk_asked_before : LoadFault → RecordDisk → FileKnown → List DiskStep → Type 0
@@ -115,14 +119,16 @@ pub record IsClosedAfter (P : RecordDisk → FileKnown → List DiskStep → Typ
 
 -- ---- parts of a load
 
--- a life that has a line has begun its record; one that has none has asked for nothing
-abbrev pub IsLivedOn : {L : Type 0} → Option RecordDisk → Option RecordDisk → Option L → Type 0
-IsLivedOn before after (Some line) = DiskAsked before after IsBegunOn
-IsLivedOn before after None = after ≡ before
+-- a life that has a line has begun its record, unless its looks held it up; else it has asked for nothing
+abbrev pub IsLivedOn : {L : Type 0} → Option RecordDisk → Option RecordDisk → LoadEnd → Option L → Type 0
+IsLivedOn before after (Driven stop) (Some line) = DiskAsked before after IsBegunOn
+IsLivedOn before after (Driven stop) None = after ≡ before
+IsLivedOn before after (Unfinished stop) line = after ≡ before
+IsLivedOn before after (Stale address) line = after ≡ before
 
 -- a life that came to nothing: without a connection nothing was asked, and else a record was not begun
 abbrev pub IsNotLivedOn : Option RecordDisk → Option RecordDisk → LoadFault → Type 0
 IsNotLivedOn before after Connect = after ≡ before
 IsNotLivedOn before after WriteRecord = (after ≡ before) ⊎ DiskAsked before after IsNotBegunOn
-IsNotLivedOn before after Memory = DiskAsked before after IsNotBegunOn
+IsNotLivedOn before after Memory = (after ≡ before) ⊎ DiskAsked before after IsNotBegunOn
 IsNotLivedOn before after other = ⊥

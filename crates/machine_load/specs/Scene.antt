@@ -4,7 +4,7 @@ use Rattle.std.specs.declared.io.Write.{Ghosts as Write}
 use Rattle.load_devices.specs.declared.keep.Keep.{Ghosts as Keep}
 use Rattle.load_devices.specs.declared.line.Line.{Ghosts as Line}
 use Rattle.load_devices.specs.Told.{Gains}
-use Rattle.console_lines.specs.Reached.{line_told}
+use Rattle.load_devices.specs.Devices.{calls_of, line_told}
 use Rattle.machine_load.specs.declared.fault.LoadFault.{LoadFault}
 use Rattle.machine_load.specs.declared.fault.LoadFault.TheVariants.{WriteOutput}
 use Rattle.machine_load.specs.declared.outcome.Outcome.{Outcome}
@@ -12,15 +12,14 @@ use Rattle.machine_load.specs.declared.surroundings.Surroundings.{Ghosts as Surr
 use Rattle.machine_load.specs.Called.{asked_by, IsAskedBefore}
 use Rattle.machine_load.specs.Driving.{KeeperTells, IsLoadReported, IsLoadUntold}
 use Rattle.machine_load.specs.LoadFault.{IsLoadFault}
-use Rattle.machine_load.specs.Parts.{calls_of}
 use Rattle.machine_load.specs.RecordDisk.{RecordDisk, DiskAsked, disk_asked_by, disk_asked_before}
 use Rattle.request_values.specs.declared.options.LoadOptions.{LoadOptions}
 use Rattle.console_lines.specs.Dialling.{LineRequest, Call}
 use Rattle.tape_image.specs.Plan.{PlanValue}
-use Rattle.machine_load.specs.Load.{Around, Ending, Setting, IsNeverBegun, IsReported}
+use Rattle.machine_load.specs.Load.{SurroundingsTold, Ending, Setting, IsNeverBegun, IsReported}
 
 -- what surroundings tell
-abbrev pub around_of : {S L K : Type 0} → Surroundings S L K → S → Around
+abbrev pub around_of : {S L K : Type 0} → Surroundings S L K → S → SurroundingsTold
 around_of tell around = record { steps = tell.steps around; record_text = tell.record_text around }
 
 -- what is known of a load at a moment: what was asked of its surroundings, its record, the lines that were given back and its output, what
@@ -46,18 +45,18 @@ keeper_of around tell = record { calls = calls_of tell; begins = around.begins; 
 
 -- what a load gives back, and what its line tells then
 abbrev pub ending : {L : Type 0} → Line L → Outcome L → Ending
-ending tell outcome = record { stop = outcome.stop; marked = outcome.marked; line = option_map (line_told tell) outcome.line }
+ending tell outcome = record { end = outcome.end; marked = outcome.marked; line = option_map (line_told tell) outcome.line }
 
 -- a load was reported, and gives its line back to whoever would listen
 pub record IsLoaded {L K : Type 0} (keeper : KeeperTells K) (tell : Line L) (plan : PlanValue) (options : LoadOptions) (before after : Scene)
     (outcome : Outcome L) : Type 0 where
   pub reported : IsReported plan options before.setting after.setting (ending tell outcome)
-  -- the report is of the core that the engine gave back, over the line that was reached and the keeper that was begun
+  -- the report is of the host that the life ended with, over the line that was reached and the keeper that was begun
   pub lived : IsLoadReported keeper plan options before.setting after.setting (ending tell outcome)
   pub stubs : outcome.stubs ≡ lived.stubs
-  pub line : IsSome outcome.line ⊎ IsNeverBegun outcome.stop
+  pub line : IsSome outcome.line ⊎ IsNeverBegun outcome.end
   pub asked : Gains before.asked after.asked (asked_by before.call outcome.line)
-  pub disk : DiskAsked before.disk after.disk (disk_asked_by outcome.line)
+  pub disk : DiskAsked before.disk after.disk (disk_asked_by outcome.end outcome.line)
 
 -- or it came to nothing
 pub record IsNotLoaded {K : Type 0} (keeper : KeeperTells K) (plan : PlanValue) (options : LoadOptions) (before after : Scene) (why : LoadFault) : Type 0 where

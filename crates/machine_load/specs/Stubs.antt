@@ -1,10 +1,11 @@
--- What the stubs of a load leave to its host.
-use Rattle.std.specs.Prelude.{ℕ, ◌+◌, ◌^◌, ◌≤◌, false, Option, Some, None}
+-- What the looks and the stubs of a load leave to its host.
+use Rattle.std.specs.Prelude.{◌+◌, ◌^◌, ◌≤◌, false, Option, Some, None}
 use Rattle.host_core.specs.Core.{Core, begun}
 use Rattle.load_engine.specs.declared.stop.Stop.{Stop}
 use Rattle.load_engine.specs.declared.stop.Stop.TheVariants.{LineFailed, KeepFailed, TurnsOver}
 use Rattle.stub_engine.specs.declared.stop.Stop.{Stop as StubStop}
 use Rattle.stub_engine.specs.declared.stop.Stop.TheVariants as stub
+use Rattle.machine_load.specs.declared.looks.Looks.{Looks}
 use Rattle.machine_load.specs.declared.stubs.Stubs.{Stubs}
 
 -- the host behind the stubs of a life, where it brings some in: it begins behind the words that they verified, with a patience of its own
@@ -24,9 +25,15 @@ hindrance None = None
 hindrance (Some stubs) = hindrance_of stubs.stop
 
 -- a host with the characters and the mishaps of the stubs, too
-abbrev pub counting : Core → Option Stubs → Core
-counting core None = core
-counting core (Some stubs) = record core { sent = core.sent + stubs.tally.sent; spent = core.spent + stubs.tally.spent }
+abbrev pub with_stubs : Core → Option Stubs → Core
+with_stubs core None = core
+with_stubs core (Some stubs) = record core { sent = core.sent + stubs.tally.sent; spent = core.spent + stubs.tally.spent }
+
+-- and with those of the looks
+abbrev pub counting : Core → Option Looks → Option Stubs → Core
+counting core None stubs = with_stubs core stubs
+counting core (Some looks) stubs =
+    record core { sent = (with_stubs core stubs).sent + looks.sent; spent = (with_stubs core stubs).spent + looks.spent }
 
 -- so few characters and mishaps that a sum has room for them
 pub record AreFew (stubs : Stubs) : Type 0 where

@@ -2,10 +2,13 @@
 ghost use Rattle.std.specs.Prelude.{◌≡◌, ◌≤◌, false, length, None, IfSome};
 ghost use Rattle.host_core.specs.Core.{begun, ended};
 ghost use Rattle.host_core.specs.Opening.{refusal_of};
+ghost use Rattle.machine_load.specs.Looks.{behind_looks};
 ghost use Rattle.machine_load.specs.Stubs.{host_behind};
 
+use crate::looks::Looks;
 use crate::stubs::Stubs;
 use host_core::{End, HostCore, Progress};
+use sample_looks::Finding;
 use std::marker::Model;
 use tape_image::Plan;
 
@@ -82,6 +85,29 @@ impl FirstLife {
         } else {
             None
         }
+    }
+
+    /// The life behind its looks: with the patience that they left, and where a word does not stand, with
+    /// none that counts as verified.
+    pub(crate) fn behind(self, looks: Looks) -> FirstLife
+        requires paid { looks.spent ≤ self.patience }
+        requires within { self.verified ≤ length self.plan.words }
+        ensures { result ≡ behind_looks self looks }
+    {
+        let FirstLife {
+            plan,
+            progress,
+            patience,
+        } = self;
+        let verified = match looks.finding {
+            Finding::Stale(_) => 0,
+            _ => progress.verified,
+        };
+        let progress = Progress {
+            verified,
+            going: false,
+        };
+        FirstLife::new(plan, progress, patience - looks.spent)
     }
 
     /// Its host, as one that nothing came before.

@@ -2,7 +2,7 @@ ghost use Rattle.machine_load.specs.Fronts.{StubFrontsAreStopped};
 ghost use Rattle.machine_load.specs.Lives.{LoadsAreFastLives, LoadsAreLives};
 
 /// What `load` promises of a load whose keeper writes the record's file is a life, with stubs or without,
-/// whatever stopped it: so `fast_lives_are_trusted` of the crate `fast_lives` speaks of loads in a row,
+/// whatever stopped it: so `fast_lives_are_trusted` of the crate `load_lives` speaks of loads in a row,
 /// also with `recheck`. This function does nothing: its contract is the law.
 pub fn loads_are_fast_lives()
     ensures { LoadsAreFastLives }

@@ -1,25 +1,28 @@
 //! The load itself.
-ghost use Rattle.std.specs.Prelude.{◌≡◌, ◌≤◌, ◌⊎◌, length, [], ◌∷◌, None, Ok, Err, IfOk, IfErr, IfSome, OnErr, OnOk, is_some, option_map};
+ghost use Rattle.std.specs.Prelude.{◌≡◌, ◌≤◌, ◌⊎◌, length, [], ◌∷◌, None, Some, Ok, Err, IfOk, IfErr, IfSome, OnErr, OnOk, is_some, option_map};
 ghost use Rattle.std.specs.Io.KnownBytes.{Appends, Keeps};
 ghost use Rattle.host_core.specs.Opening.{refusal_of};
 ghost use Rattle.load_record.specs.Reading.{Says};
 ghost use Rattle.load_devices.specs.Told.{Gains};
 ghost use Rattle.byte_io.specs.Output.{WritesPrefix};
 ghost use Rattle.machine_load.specs.Called.{asked_by, IsAskedBefore};
-ghost use Rattle.console_lines.specs.Reached.{line_told};
-ghost use Rattle.machine_load.specs.Driving.{IsLived};
-ghost use Rattle.machine_load.specs.GivenBack.{GivesNothingSaid, IsGivenBack};
+ghost use Rattle.load_devices.specs.Devices.{calls_of, devices_of, line_told};
+ghost use Rattle.machine_load.specs.Driving.{IsDrivenOn, IsLived};
+ghost use Rattle.machine_load.specs.GivenBack.{IsGivenBack};
 ghost use Rattle.machine_load.specs.Load.{finish_of, IsOpened, words_taken};
-ghost use Rattle.machine_load.specs.LoadFault.{IsOpeningFault, IsDrivingFault};
+ghost use Rattle.machine_load.specs.LoadFault.{IsOpeningFault, IsDrivingFault, IsUnbegunFault, gone};
 ghost use Rattle.machine_load.specs.LoadReport.{load_report};
-ghost use Rattle.machine_load.specs.Parts.{IsDrivenWhere, IsKeptWhere, calls_of, course, devices_of};
-ghost use Rattle.machine_load.specs.RecordDisk.{DiskAsked, disk_asked_before, IsOnlyRead, IsLivedOn, IsNotLivedOn};
+ghost use Rattle.machine_load.specs.Looks.{AreFewLooks};
+ghost use Rattle.machine_load.specs.Parts.{IsDrivenWhere, IsKeptWhere};
+ghost use Rattle.machine_load.specs.RecordDisk.{DiskAsked, disk_asked_before, IsBegunOn, IsNotBegunOn, IsOnlyRead, IsLivedOn, IsNotLivedOn};
 ghost use Rattle.machine_load.specs.Scene.{around_of, keeper_of, scene, IsLoaded, IsNotLoaded};
 ghost use Rattle.machine_load.specs.Stubs.{AreFew, counting, hindrance, host_behind};
 ghost use Rattle.record_file.specs.OldRecord.{HoldsNoRecord};
 
 use crate::fault::LoadFault;
 use crate::first_life::FirstLife;
+use crate::load_end::LoadEnd;
+use crate::looks::{Looks, look, sampled};
 use crate::outcome::Outcome;
 use crate::report::load_report;
 use crate::stubs::{Stubs, bring_stubs, hindrance};
@@ -39,22 +42,26 @@ use tape_image::Plan;
 ///
 /// The record of earlier lives is read first, and held from there on. A life that it ends at once, as
 /// one whose start was typed before, is reported with no connection, and its record stays as it is.
-/// Else a connection is made, and the record is written anew with the words that count as verified.
 /// Where each word is to be looked at again, no word counts as verified; a typed start does.
 ///
-/// Then, where the load is to be fast, stubs take words, as `bring_in` of the crate `stub_engine` has it.
-/// Where a device fails with them, or turns are over, the load stops so; for every other reason it goes on
-/// behind the words that they verified, with its host: that has the whole patience, and is driven for
-/// 10,000,000 turns at most. The report is of the host that the engine gives back, with the characters and
-/// the mishaps of the stubs, too. The line comes back, without which only a life ends that was over before
-/// it began.
+/// Else a connection is made, and samples of the words that count as verified are looked at, as
+/// `look_at_samples` of the crate `sample_looks` has it. Where one does not stand the load ends as `Stale`, and
+/// no word counts; where the looks stop before each was read, it ends as `Unfinished`. Nothing is done behind
+/// them then, and the record is as it was.
+///
+/// Else the record is written anew with the words that count as verified. Then, where the load is to be fast,
+/// stubs take words, as `bring_in` of the crate `stub_engine` has it. Where a device fails with them, or turns
+/// are over, the load stops so; for every other reason it goes on behind the words that they verified, with its
+/// host, which is driven for 10,000,000 turns at most. Each of them has the patience that the looks left. The
+/// report is of the host that the engine gives back, with the characters and the mishaps of the looks and of
+/// the stubs, too. The line comes back, without which only a life ends that was over before it began.
 ///
 /// `ReadRecord`, `RecordInUse`, `Record` and `Connect` come with nothing reported and the record as it
-/// was, `WriteRecord` before the first key, and before the connection, with the record as it was, where it
+/// was, `WriteRecord` right behind the looks, and before the connection, with the record as it was, where it
 /// is protected, or would have to be written in place and a byte of it would become another one.
 /// `WriteOutput` is a report that could not be written whole. `Memory` comes only where a growth was
-/// refused, for the record: before the first key, with nothing reported. From the first key on a load
-/// takes no memory but for stubs, and want of that ends these alone.
+/// refused, for the record or for the looks: before any key but theirs, with nothing reported. Behind them a
+/// load takes no memory but for stubs, and want of that ends these alone.
 pub fn load<S: Surroundings, W: Write, O: Onlooker>(
     alloc: Global,
     plan: Plan,
@@ -70,7 +77,7 @@ pub fn load<S: Surroundings, W: Write, O: Onlooker>(
 {
     let (first, writable) = first_core(alloc, plan, options, around)?;
     let lived = live(alloc, first, options.fast, writable, around, onlooker)?;
-    match report_life(&lived.core, lived.stubs, lived.stop, out) {
+    match report_life(&lived.core, lived.looks, lived.stubs, lived.end, out) {
         Ok(()) => Ok(lived.outcome()),
         Err(fault) => {
             give_back(around, lived.line);
@@ -92,30 +99,33 @@ fn give_back<S: Surroundings>(around: &mut S, line: Option<S::Line>)
     }
 }
 
-// A life that is over: its host, how it stopped, its stubs where it brought some in, and the line that it had.
+// A life that is over: its host, how it ended, its looks and its stubs where there were some, and the line that
+// it had.
 #[derive(Drop)]
 struct Lived<L> {
     core: HostCore,
-    stop: Stop,
+    end: LoadEnd,
+    looks: Option<Looks>,
     stubs: Option<Stubs>,
     line: Option<L>,
 }
 
 impl<L> Lived<L> {
     fn outcome(self) -> Outcome<L>
-        ensures stop { result.stop ≡ self.stop }
+        ensures end { result.end ≡ self.end }
         ensures marked { result.marked ≡ self.core.going }
         ensures stubs { result.stubs ≡ self.stubs }
         ensures line { result.line ≡ self.line }
     {
         let Lived {
             core,
-            stop,
+            end,
             stubs,
             line,
+            ..
         } = self;
         Outcome {
-            stop,
+            end,
             marked: core.progress().going,
             stubs,
             line,
@@ -177,8 +187,8 @@ fn taken(said: Progress, recheck: bool) -> Progress
     }
 }
 
-// The life, once it has opened. One that goes on wants a record that may be written, and a connection; then its
-// stubs, where they are asked for, and its host have the line and the keeper. An onlooker is told of it.
+// The life, once it has opened. One that goes on wants a record that may be written, and a connection, over which it
+// looks at words of its record first. An onlooker is told of it, but of no look.
 fn live<S: Surroundings, O: Onlooker>(
     alloc: Global,
     first: FirstLife,
@@ -189,20 +199,21 @@ fn live<S: Surroundings, O: Onlooker>(
 ) -> Result<Lived<S::Line>, LoadFault>
     ensures lived { IfOk result (λ lived. IsLived (keeper_of S.Surroundings S.Keeper.Keep) fast writable first
         (around_of S.Surroundings around.old) (around_of S.Surroundings around.new)
-        (finish_of (course lived.stubs lived.core lived.stop) (option_map (line_told S.Line.Line) lived.line))) }
-    ensures few { IfOk result (λ lived. IfSome lived.stubs AreFew) }
-    ensures fault { IfErr result (IsDrivingFault writable (around_of S.Surroundings around.old) (around_of S.Surroundings around.new)) }
+        (finish_of lived.looks lived.stubs lived.core lived.end (option_map (line_told S.Line.Line) lived.line))) }
+    ensures few { IfOk result (λ lived. IfSome lived.looks AreFewLooks × IfSome lived.stubs AreFew) }
+    ensures fault { IfErr result (IsDrivingFault writable first (gone (around_of S.Surroundings around.old) (S.lines around.old))
+        (gone (around_of S.Surroundings around.new) (S.lines around.new))) }
     ensures asked { IfOk result (λ lived. Gains (S.asked around.old) (S.asked around.new) (asked_by (S.call around.old) lived.line)) }
     ensures asked_in_vain { IfErr result (IsAskedBefore (S.call around.old) (S.asked around.old) (S.asked around.new)) }
     ensures lines { OnOk result (S.lines around.new ≡ S.lines around.old) }
-    ensures lines_in_vain { OnErr result (GivesNothingSaid (S.lines around.old) (S.lines around.new)) }
-    ensures disk { IfOk result (λ lived. IsLivedOn (S.disk around.old) (S.disk around.new) lived.line) }
+    ensures disk { IfOk result (λ lived. IsLivedOn (S.disk around.old) (S.disk around.new) lived.end lived.line) }
     ensures disk_in_vain { IfErr result (IsNotLivedOn (S.disk around.old) (S.disk around.new)) }
 {
     if let Some(end) = first.end() {
         return Ok(Lived {
             core: first.host(),
-            stop: Stop::Ended(end),
+            end: LoadEnd::Driven(Stop::Ended(end)),
+            looks: None,
             stubs: None,
             line: None,
         });
@@ -210,15 +221,64 @@ fn live<S: Surroundings, O: Onlooker>(
     if !writable {
         return Err(LoadFault::WriteRecord);
     }
+    let (samples, reader) = sampled(alloc, &first)?;
     let mut line = around.connect()?;
+    onlooker.begins(first.verified(), first.plan().words().len() as u32);
+    let looks = look(&samples, reader, &mut line);
+    match looks.hindrance() {
+        Some(end) => {
+            onlooker.ends();
+            Ok(Lived {
+                core: first.behind(looks).host(),
+                end,
+                looks: Some(looks),
+                stubs: None,
+                line: Some(line),
+            })
+        }
+        None => go_on(
+            first.behind(looks),
+            looks,
+            alloc,
+            fast,
+            line,
+            around,
+            onlooker,
+        ),
+    }
+}
+
+// A life that goes on behind its looks: its record is begun anew, and then its stubs, where they are asked for, and
+// its host have the line and the keeper.
+fn go_on<S: Surroundings, O: Onlooker>(
+    first: FirstLife,
+    looks: Looks,
+    alloc: Global,
+    fast: bool,
+    mut line: S::Line,
+    around: &mut S,
+    onlooker: &O,
+) -> Result<Lived<S::Line>, LoadFault>
+    ensures driven { IfOk result (λ lived. IsDrivenOn (keeper_of S.Surroundings S.Keeper.Keep) fast first (line_told S.Line.Line line)
+        (around_of S.Surroundings around.old) (around_of S.Surroundings around.new)
+        (finish_of lived.looks lived.stubs lived.core lived.end (option_map (line_told S.Line.Line) lived.line))) }
+    ensures looks { IfOk result (λ lived. lived.looks ≡ Some looks) }
+    ensures few { IfOk result (λ lived. IfSome lived.stubs AreFew) }
+    ensures fault { IfErr result (IsUnbegunFault (around_of S.Surroundings around.old) (around_of S.Surroundings around.new)) }
+    ensures asked { S.asked around.new ≡ S.asked around.old }
+    ensures lines { OnOk result (S.lines around.new ≡ S.lines around.old) }
+    ensures given { OnErr result (Gains (S.lines around.old) (S.lines around.new) (line_told S.Line.Line line ∷ [])) }
+    ensures disk { OnOk result (DiskAsked (S.disk around.old) (S.disk around.new) IsBegunOn) }
+    ensures disk_in_vain { OnErr result (DiskAsked (S.disk around.old) (S.disk around.new) IsNotBegunOn) }
+{
     let mut keeper = match around.begin_record(alloc, first.plan(), first.verified()) {
         Ok(keeper) => keeper,
         Err(fault) => {
+            onlooker.ends();
             around.let_go(line);
             return Err(LoadFault::from(fault));
         }
     };
-    onlooker.begins(first.verified(), first.plan().words().len() as u32);
     let stubs = bring_stubs(alloc, &first, fast, &mut line, &mut keeper, onlooker);
     let (core, stop) = drive_behind(first, stubs, &mut line, &mut keeper, onlooker);
     onlooker.ends();
@@ -226,7 +286,8 @@ fn live<S: Surroundings, O: Onlooker>(
     let line = Some(line);
     Ok(Lived {
         core,
-        stop,
+        end: LoadEnd::Driven(stop),
+        looks: Some(looks),
         stubs,
         line,
     })
@@ -255,13 +316,14 @@ fn drive_behind<L: Line, K: Keep, O: Onlooker>(
 // Reports a life.
 fn report_life<W: Write>(
     core: &HostCore,
+    looks: Option<Looks>,
     stubs: Option<Stubs>,
-    stop: Stop,
+    end: LoadEnd,
     out: &mut W,
 ) -> Result<(), WriteFault>
-    requires { IfSome stubs AreFew }
-    ensures ok { OnOk result (Appends (W.contents out.old) (W.contents out.new) (load_report (counting core.now stubs) stop)) }
-    ensures err { OnErr result (WritesPrefix (W.contents out.old) (W.contents out.new) (load_report (counting core.now stubs) stop)) }
+    requires few { IfSome looks AreFewLooks × IfSome stubs AreFew }
+    ensures ok { OnOk result (Appends (W.contents out.old) (W.contents out.new) (load_report (counting core.now looks stubs) end)) }
+    ensures err { OnErr result (WritesPrefix (W.contents out.old) (W.contents out.new) (load_report (counting core.now looks stubs) end)) }
 {
-    write_and_flush(out, &load_report(core, stubs, stop))
+    write_and_flush(out, &load_report(core, looks, stubs, end))
 }

@@ -1,11 +1,14 @@
 //! The report of a load.
-ghost use Rattle.std.specs.Prelude.{◌≡◌, ◌+◌, ◌≤◌, ◌++◌, [], codes, IfSome};
+ghost use Rattle.std.specs.Prelude.{◌≡◌, ◌+◌, ◌^◌, ◌≤◌, ◌++◌, [], codes, IfSome};
 ghost use Rattle.arrayvec.specs.ArrayVec.{array_vec_len};
 ghost use Rattle.host_core.specs.End.{end_name};
 ghost use Rattle.byte_io.specs.Text.{line};
-ghost use Rattle.machine_load.specs.LoadReport.{load_counts_text, load_report, stop_name};
-ghost use Rattle.machine_load.specs.Stubs.{AreFew, counting};
+ghost use Rattle.machine_load.specs.LoadReport.{end_text, load_counts_text, load_report, stop_name};
+ghost use Rattle.machine_load.specs.Looks.{AreFewLooks};
+ghost use Rattle.machine_load.specs.Stubs.{AreFew, counting, with_stubs};
 
+use crate::load_end::LoadEnd;
+use crate::looks::Looks;
 use crate::stubs::Stubs;
 use arrayvec::ArrayVec;
 use byte_io::{push_bytes, push_decimal, push_octal};
@@ -18,27 +21,32 @@ const REPORT_ROOM: usize = 131;
 // A report, in room of its own: a load that is over needs no memory to say so.
 type Report = ArrayVec<u8, REPORT_ROOM>;
 
-/// The report of a load: the counts of all its parts, and how it stopped.
-pub(crate) fn load_report(core: &HostCore, stubs: Option<Stubs>, stop: Stop) -> Report
-    requires few { IfSome stubs AreFew }
-    ensures { result.items ≡ load_report (counting core.now stubs) stop }
+/// The report of a load: the counts of all its parts, and how it ended.
+pub(crate) fn load_report(
+    core: &HostCore,
+    looks: Option<Looks>,
+    stubs: Option<Stubs>,
+    end: LoadEnd,
+) -> Report
+    requires few { IfSome looks AreFewLooks × IfSome stubs AreFew }
+    ensures { result.items ≡ load_report (counting core.now looks stubs) end }
 {
     let mut text = Report::new();
-    push_counts(&mut text, core, stubs);
-    push_stop(&mut text, stop);
+    push_counts(&mut text, core, looks, stubs);
+    push_end(&mut text, end);
     text
 }
 
-fn push_counts(text: &mut Report, core: &HostCore, stubs: Option<Stubs>)
+fn push_counts(text: &mut Report, core: &HostCore, looks: Option<Looks>, stubs: Option<Stubs>)
     requires empty { text.old.items ≡ [] }
-    requires few { IfSome stubs AreFew }
-    ensures items { text.new.items ≡ line (load_counts_text (counting core.now stubs)) }
+    requires few { IfSome looks AreFewLooks × IfSome stubs AreFew }
+    ensures items { text.new.items ≡ line (load_counts_text (counting core.now looks stubs)) }
     ensures length { array_vec_len text.new ≤ 107 }
 {
     push_bytes(text, b"sent ");
-    push_decimal(text, sent_in_all(core, stubs));
+    push_decimal(text, sent_in_all(core, looks, stubs));
     push_bytes(text, b" spent ");
-    push_decimal(text, spent_in_all(core, stubs));
+    push_decimal(text, spent_in_all(core, looks, stubs));
     push_bytes(text, b" verified ");
     push_decimal(text, core.progress().verified.into());
     push_bytes(text, b" of ");
@@ -46,10 +54,23 @@ fn push_counts(text: &mut Report, core: &HostCore, stubs: Option<Stubs>)
     push_bytes(text, b"\n");
 }
 
-// The characters that were sent, with those of the stubs.
-fn sent_in_all(core: &HostCore, stubs: Option<Stubs>) -> u64
+// The characters that were sent, with those of the looks and the stubs.
+fn sent_in_all(core: &HostCore, looks: Option<Looks>, stubs: Option<Stubs>) -> u64
+    requires few { IfSome looks AreFewLooks × IfSome stubs AreFew }
+    ensures { result ≡ (counting core.now looks stubs).sent }
+{
+    let sent = sent_with(core, stubs);
+    match looks {
+        Some(looks) => sent + looks.sent,
+        None => sent,
+    }
+}
+
+// The same, with those of the stubs alone.
+fn sent_with(core: &HostCore, stubs: Option<Stubs>) -> u64
     requires { IfSome stubs AreFew }
-    ensures { result ≡ (counting core.now stubs).sent }
+    ensures sent { result ≡ (with_stubs core.now stubs).sent }
+    ensures few { result ≤ 2 ^ 61 }
 {
     match stubs {
         Some(stubs) => core.sent_count() + stubs.tally.sent,
@@ -57,10 +78,23 @@ fn sent_in_all(core: &HostCore, stubs: Option<Stubs>) -> u64
     }
 }
 
-// The mishaps that were met, with those of the stubs' hosts.
-fn spent_in_all(core: &HostCore, stubs: Option<Stubs>) -> u64
+// The mishaps that were met, with those of the looks and of the stubs' hosts.
+fn spent_in_all(core: &HostCore, looks: Option<Looks>, stubs: Option<Stubs>) -> u64
+    requires few { IfSome looks AreFewLooks × IfSome stubs AreFew }
+    ensures { result ≡ (counting core.now looks stubs).spent }
+{
+    let spent = spent_with(core, stubs);
+    match looks {
+        Some(looks) => spent + u64::from(looks.spent),
+        None => spent,
+    }
+}
+
+// The same, with those of the stubs' hosts alone.
+fn spent_with(core: &HostCore, stubs: Option<Stubs>) -> u64
     requires { IfSome stubs AreFew }
-    ensures { result ≡ (counting core.now stubs).spent }
+    ensures spent { result ≡ (with_stubs core.now stubs).spent }
+    ensures few { result ≤ 2 ^ 61 }
 {
     let spent = u64::from(core.spent());
     match stubs {
@@ -69,13 +103,27 @@ fn spent_in_all(core: &HostCore, stubs: Option<Stubs>) -> u64
     }
 }
 
-fn push_stop(text: &mut Report, stop: Stop)
+fn push_end(text: &mut Report, end: LoadEnd)
     requires { array_vec_len text.old ≤ 107 }
-    ensures { text.new.items ≡ text.old.items ++ line (codes "end " ++ stop_name stop) }
+    ensures { text.new.items ≡ text.old.items ++ line (codes "end " ++ end_text end) }
 {
     push_bytes(text, b"end ");
-    push_stop_name(text, stop);
+    push_end_text(text, end);
     push_bytes(text, b"\n");
+}
+
+fn push_end_text(text: &mut Report, end: LoadEnd)
+    requires { array_vec_len text.old ≤ 111 }
+    ensures items { text.new.items ≡ text.old.items ++ end_text end }
+    ensures length { array_vec_len text.new ≤ array_vec_len text.old + 19 }
+{
+    match end {
+        LoadEnd::Driven(stop) | LoadEnd::Unfinished(stop) => push_stop_name(text, stop),
+        LoadEnd::Stale(address) => {
+            push_bytes(text, b"Stale ");
+            push_octal(text, address);
+        }
+    }
 }
 
 fn push_stop_name(text: &mut Report, stop: Stop)

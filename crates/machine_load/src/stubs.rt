@@ -1,7 +1,8 @@
 //! The stubs of a load.
 ghost use Rattle.std.specs.Prelude.{◌≡◌, ◌≤◌, None, length, is_some, IfSome};
 ghost use Rattle.host_core.specs.Core.{ended};
-ghost use Rattle.machine_load.specs.Parts.{AreBrought, AreKept, calls_of, devices_of};
+ghost use Rattle.load_devices.specs.Devices.{calls_of, devices_of};
+ghost use Rattle.machine_load.specs.Parts.{AreBrought, AreKept};
 ghost use Rattle.machine_load.specs.Stubs.{AreFew, hindrance};
 
 use crate::first_life::FirstLife;

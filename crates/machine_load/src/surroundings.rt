@@ -5,10 +5,11 @@ ghost use Rattle.load_devices.specs.Told.{Gains};
 ghost use Rattle.machine_load.specs.Load.{IsTextBegun};
 ghost use Rattle.machine_load.specs.RecordDisk.{RecordDisk, IsReadAnswered, IsBeginAnswered};
 ghost use Rattle.record_file.specs.RecordFault.{IsUnread, IsUnbegun};
-ghost use Rattle.console_lines.specs.Reached.{IsUnused, LineTold, line_told};
+ghost use Rattle.load_devices.specs.Devices.{LineTold, line_told};
+ghost use Rattle.console_lines.specs.Reached.{IsUnused};
 ghost use Rattle.console_lines.specs.Dialling.{LineRequest, Call, ToDevice, asked_for};
 ghost use Rattle.tape_image.specs.Plan.{PlanValue};
-ghost use Rattle.machine_load.specs.Step.{Step, RecordGivenBack, read_step, connect_step, begin_step};
+ghost use Rattle.machine_load.specs.Step.{LoadStep, RecordGivenBack, read_step, connect_step, begin_step};
 
 use load_devices::{Keep, Line, LineFault};
 use record_file::{OldRecord, RecordFault};
@@ -25,7 +26,7 @@ pub trait Surroundings {
     type Keeper: Keep + Drop;
 
     /// What was asked so far, in its order, with what was answered; None where the type doesn't tell.
-    ghost steps: { Self → Option (List Step) } = { λ _. None };
+    ghost steps: { Self → Option (List LoadStep) } = { λ _. None };
 
     /// What was asked for lines so far, of the network or of the devices; None where the type doesn't tell.
     ghost asked: { Self → Option (List LineRequest) } = { λ _. None };

@@ -4,6 +4,7 @@ mod Looks
 mod OnShelf
 mod SavedBlocks
 mod SavedMemory
-mod SavedOnDisk
 mod SavedWords
+mod Steps
+mod Turning
 mod Verified

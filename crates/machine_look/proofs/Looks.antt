@@ -19,8 +19,8 @@ use Rattle.reading_engine.specs.declared.stop.Stop.TheVariants.{Ended, LineFaile
 use Rattle.reading_engine.specs.Belief.{IsBelievableAt}
 use Rattle.reading_engine.specs.Inquired.{Inquired, TellsEnd}
 use Rattle.reading_engine.proofs.Beliefs.{inquired_believable}
-use Rattle.console_lines.specs.Reached.{LineTold}
-use Rattle.machine_look.specs.Look.{IsLineOf, IsLook}
+use Rattle.load_devices.specs.Devices.{LineTold}
+use Rattle.machine_look.specs.Look.{IsLineOf, IsLook, IsLookOf}
 
 -- ---- how a look comes to be
 
@@ -38,21 +38,26 @@ believed_said turns stop first last line line' s reads =
     } in
     inquired_believable turns stop first last (Some []) (Some s.said) reads told s.said ([], refl, refl)
 
-pub is_look : (first last : Reader) (stop : Stop) (line line' : Option (List Item)) (lines lines' : Option (List LineTold)) → IsReader first → Inquired most_turns (Some stop) first last line line'
+pub is_look_of : (turns : ℕ) (first last : Reader) (stop : Stop) (line line' : Option (List Item)) (lines lines' : Option (List LineTold)) → IsReader first → Inquired turns (Some stop) first last line line'
     → IsLineOf (ended first.phase) stop line line' lines lines' → TellsEnd stop last
-    → last.addresses ≡ first.addresses → last.patience ≡ first.patience → last.sent ≤ reading_bound (length last.addresses) last.patience → IsReader last → IsLook first last stop lines lines'
-is_look first last stop line line' lines lines' reads inquired is end addresses patience bound kept = record {
+    → last.addresses ≡ first.addresses → last.patience ≡ first.patience → last.sent ≤ reading_bound (length last.addresses) last.patience → IsReader last → IsLookOf turns first last stop lines lines'
+is_look_of turns first last stop line line' lines lines' reads inquired is end addresses patience bound kept = record {
   line = line;
   line' = line';
   inquired = inquired;
   line_is = is;
   end = end;
-  believed = believed_said most_turns stop first last line line' inquired reads;
+  believed = believed_said turns stop first last line line' inquired reads;
   addresses = addresses;
   patience = patience;
   bound = bound;
   kept = kept;
 }
+
+pub is_look : (first last : Reader) (stop : Stop) (line line' : Option (List Item)) (lines lines' : Option (List LineTold)) → IsReader first → Inquired most_turns (Some stop) first last line line'
+    → IsLineOf (ended first.phase) stop line line' lines lines' → TellsEnd stop last
+    → last.addresses ≡ first.addresses → last.patience ≡ first.patience → last.sent ≤ reading_bound (length last.addresses) last.patience → IsReader last → IsLook first last stop lines lines'
+is_look = is_look_of most_turns
 
 -- a reader that has an end from the beginning needs no line
 pub no_look : (reader : Reader) (end : End) (lines : Option (List LineTold)) → IsReader reader → ended reader.phase ≡ Some end → IsLook reader reader (Ended end) lines lines

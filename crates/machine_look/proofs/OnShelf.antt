@@ -1,19 +1,21 @@
 -- What the disk of a shelf was asked, by what came of a call.
-use Rattle.std.proofs.Common.{◌≡◌, ℕ, ◌-◌, List, [], ◌∷◌, ◌++◌, length, take, Bool, true, false, Option, Some, None, Result, Ok, Err, IsErrAnd, refl, sym, subst, ap, ◌∙◌, arith, inl, inr, OnOk, eqb}
+use Rattle.std.proofs.Common.{◌≡◌, ℕ, ◌+◌, ◌-◌, List, [], ◌∷◌, ◌++◌, length, take, Bool, true, false, Option, Some, None, Result, Ok, Err, IsErrAnd, refl, sym, subst, ap, ◌∙◌, arith, inl, inr, OnOk, eqb}
 use Rattle.std.proofs.lemmas.Bool.{eqb-true}
 use Rattle.std.specs.Bool.{OnTrue}
 use Rattle.std.specs.Io.KnownBytes.{Appends}
-use Rattle.std.specs.Prelude.{OnSome, option_map, is_err, replicate, IfNone, ⊤}
+use Rattle.std.specs.Prelude.{OnSome, option_map, is_err, replicate, IfErr, ⊤}
 use Rattle.std.specs.String.{string_bytes}
-use Rattle.record_file.specs.Beginning.{IsMakingHeld, new_name}
+use Rattle.load_devices.specs.Failures.{fault_of}
 use Rattle.load_devices.specs.Told.{HasAsked, Tells}
-use Rattle.record_file.specs.DiskStep.{DiskStep, Did, Failed, answered, step_by, LookAtName, FindFile, Open, Link, Rename, Remove, Cut, SyncFile}
+use Rattle.record_file.specs.DiskStep.{DiskStep, Did, Failed, answered, step_by, LookAtName, FindFile, Open, Hold, Link, Rename, Remove, Cut, SyncFile, SyncFolder}
 use Rattle.record_file.specs.Folder.{IsFolderOf}
 use Rattle.record_file.specs.declared.disk.Access.TheVariants.{ReadOnly}
 use Rattle.load_devices.proofs.Told.{tells_join, tells_none}
-use Rattle.machine_look.specs.Beside.{room_of, IsFolderOpened}
-use Rattle.machine_look.specs.ShelfDisk.{Room, ShelfDisk, ShelfAsked, HasNoRoom, HasRoomIn, IsPutOn, IsPut, Written, IsNoFileName, IsSearch, Free, IsNotReserved, NotMade, IsReserved, Reserved, IsTaking, IsTakingHeld, Unmade, Taken, NotTaken, IsGone, Goes, IsOnDisk, Synced, IsNaming, Renamed, NotRenamed, IsSettling, IsNamed, Named, NotNamed, IsClosed, IsReserveAnswered}
-use Rattle.machine_look.specs.declared.new_file.Beside.{Beside}
+use Rattle.machine_look.specs.Room.{room_of, IsFolderOpened}
+use Rattle.machine_look.specs.ShelfDisk.{Room, ShelfDisk, ShelfAsked, HasNoRoom, HasRoom, IsPutOn, IsPut, Written, IsNoFileName, IsSearch, Free, IsNotReserved, NoRoom, IsReserved, Reserved, IsMakingHeld, IsTaking, IsTakingHeld, Unmade, Taken, NotTaken, IsGone, Goes, IsLeftBehind, IsOnDisk, Synced, IsNaming, Renamed, NotRenamed, IsTakenBack, IsSettling, IsNamed, Named, Unnamed, IsClosed, part_name, IsAdded, IsNotAdded, IsUnadded, NoFile, Unwritten, Unsure}
+use Rattle.machine_look.specs.Shelf.{add_step, put_step}
+use Rattle.machine_look.specs.ShelfTold.{AsksFor}
+use Rattle.machine_look.specs.declared.new_file.Part.{Part}
 use Rattle.machine_look.specs.declared.shelf.ShelfFault.{ShelfFault}
 use Rattle.machine_look.specs.declared.shelf.ShelfFault.TheVariants.{Write}
 
@@ -62,10 +64,6 @@ not_renamed own name steps Free = NotRenamed
 
 -- ---- room
 
-pub if_none : {A : Type 0} (found : Option A) (X : Type 0) → X → IfNone found X
-if_none None X x = x
-if_none (Some value) X x = tt
-
 -- a file that was filled holds just what it was filled with, where the disk still tells
 pub filled_with : (before after : Option (List ℕ)) (zeros : List ℕ) (steps : List DiskStep) (a b : Option (List DiskStep)) → OnSome a (before ≡ Some [])
     → Tells a b steps → Appends before after zeros → OnSome b (after ≡ Some zeros)
@@ -79,38 +77,42 @@ filled_with before after zeros steps (Some items) (Some told) fresh t g = held b
     held (Some xs) None zeros is g = absurd g
     held (Some xs) (Some ys) zeros is g = let none : xs ≡ [] = cc is in ap (λ (list : List ℕ). Some list) (g ∙ ap (λ list. list ++ zeros) none)
 
-pub taken_held : (own : List ℕ) (filled : Option (List ℕ)) (a b c : Option (List DiskStep)) → HasAsked a b (IsMakingHeld own true) → HasAsked b c (IsTaking own filled true)
-    → HasAsked a c (IsTakingHeld own filled true)
-taken_held own filled a b c making taking =
+pub taken_held : (own dir : List ℕ) (filled : Option (List ℕ)) (a b c : Option (List DiskStep)) → HasAsked a b (IsMakingHeld own None) → HasAsked b c (IsTaking own dir filled true)
+    → HasAsked a c (IsTakingHeld own dir filled None)
+taken_held own dir filled a b c making taking =
     (making.0 ++ taking.0, tells_join a b c making.0 taking.0 making.1 taking.1, Taken making.0 taking.0 making.2 taking.2)
 
-pub not_taken : (own : List ℕ) (filled : Option (List ℕ)) (a b c d : Option (List DiskStep)) → HasAsked a b (IsMakingHeld own true)
-    → HasAsked b c (IsTaking own filled false) → HasAsked c d (IsGone own filled) → HasAsked a d (IsTakingHeld own filled false)
-not_taken own filled a b c d making taking going = (
-  making.0 ++ (taking.0 ++ going.0),
-  tells_join a b d making.0 (taking.0 ++ going.0) making.1 (tells_join b c d taking.0 going.0 taking.1 going.1),
-  NotTaken making.0 taking.0 going.0 making.2 taking.2 going.2,
+pub not_taken : (own dir : List ℕ) (filled : Option (List ℕ)) (a b c d : Option (List DiskStep)) → HasAsked a b (IsMakingHeld own None)
+    → HasAsked b c (IsTaking own dir filled false) → HasAsked c d (IsGone own filled)
+    → (zeros : Option (List ℕ)) × HasAsked a d (IsTakingHeld own dir zeros (Some Write))
+not_taken own dir filled a b c d making taking going = (
+  filled,
+  (
+    making.0 ++ (taking.0 ++ going.0),
+    tells_join a b d making.0 (taking.0 ++ going.0) making.1 (tells_join b c d taking.0 going.0 taking.1 going.1),
+    NotTaken making.0 taking.0 going.0 making.2 taking.2 going.2,
+  ),
 )
 
-pub not_made_held : (own : List ℕ) (a b : Option (List DiskStep)) → HasAsked a b (IsMakingHeld own false)
-    → (filled : Option (List ℕ)) × HasAsked a b (IsTakingHeld own filled false)
-not_made_held own a b making = (None, (making.0, making.1, Unmade making.0 making.2))
+pub not_made_held : (own dir : List ℕ) (fault : ShelfFault) (a b : Option (List DiskStep)) → HasAsked a b (IsMakingHeld own (Some fault))
+    → (zeros : Option (List ℕ)) × HasAsked a b (IsTakingHeld own dir zeros (Some fault))
+not_made_held own dir fault a b making = (None, (making.0, making.1, Unmade fault making.0 making.2))
 
-pub reserved : (name folder own : List ℕ) (filled : Option (List ℕ)) (a b c : Option (List DiskStep)) → own ≡ new_name name → Tells a b (Did (Open ReadOnly folder) ∷ [])
-    → HasAsked b c (IsTakingHeld own filled true) → HasAsked a c (λ steps. IsReserved name folder filled (Failed (LookAtName name) ∷ steps))
+pub reserved : (name folder own : List ℕ) (filled : Option (List ℕ)) (a b c : Option (List DiskStep)) → own ≡ part_name name → Tells a b (Did (Open ReadOnly folder) ∷ [])
+    → HasAsked b c (IsTakingHeld own folder filled None) → HasAsked a c (λ steps. IsReserved name folder filled (Failed (LookAtName name) ∷ steps))
 reserved name folder own filled a b c is opened making = (
   Did (Open ReadOnly folder) ∷ making.0,
   tells_join a b c (Did (Open ReadOnly folder) ∷ []) making.0 opened making.1,
-  Reserved making.0 (subst (λ n. IsTakingHeld n filled true making.0) is making.2),
+  Reserved making.0 (subst (λ n. IsTakingHeld n folder filled None making.0) is making.2),
 )
 
-pub not_made : (name folder own : List ℕ) (a b c : Option (List DiskStep)) → IsFolderOf name folder → own ≡ new_name name
-    → Tells a b (Did (Open ReadOnly folder) ∷ []) → (filled : Option (List ℕ)) × HasAsked b c (IsTakingHeld own filled false)
-    → HasAsked a c (λ steps. IsNotReserved name Write (Failed (LookAtName name) ∷ steps))
-not_made name folder own a b c of is opened made = let making = made.1 in (
+pub not_made : (name folder own : List ℕ) (fault : ShelfFault) (a b c : Option (List DiskStep)) → IsFolderOf name folder → own ≡ part_name name
+    → Tells a b (Did (Open ReadOnly folder) ∷ []) → (filled : Option (List ℕ)) × HasAsked b c (IsTakingHeld own folder filled (Some fault))
+    → HasAsked a c (λ steps. IsNotReserved name fault (Failed (LookAtName name) ∷ steps))
+not_made name folder own fault a b c of is opened made = let making = made.1 in (
   Did (Open ReadOnly folder) ∷ making.0,
   tells_join a b c (Did (Open ReadOnly folder) ∷ []) making.0 opened making.1,
-  NotMade folder made.0 making.0 of (subst (λ n. IsTakingHeld n made.0 false making.0) is making.2),
+  NoRoom folder made.0 fault making.0 of (subst (λ n. IsTakingHeld n folder made.0 (Some fault) making.0) is making.2),
 )
 
 -- nothing had the name, and then the room was made, or not
@@ -132,90 +134,132 @@ then_not_reserved name fault a b c search making =
 
 -- how that is called of a shelf
 pub no_room_on : (name : List ℕ) (room : Option Room) (fault : ShelfFault) (a b : Option (List DiskStep)) → HasAsked a b (IsNotReserved name fault)
-    → ShelfAsked (Some (record { asked = a; name = name; room = room })) (Some (record { asked = b; name = name; room = room })) (HasNoRoom fault)
+    → HasAsked a b (HasNoRoom fault (record { asked = a; name = name; room = room }) (record { asked = b; name = name; room = room }))
 no_room_on name room fault a b h = (h.0, h.1, record { refused = h.2; room = refl; name = refl })
 
-pub refused_on : (opened : List ℕ → Type 0) (length : ℕ) (a b : Option ShelfDisk) (result : Result ⊤ ShelfFault) (fault : ShelfFault) → IsErrAnd result (λ e. e ≡ fault)
-    → ShelfAsked a b (HasNoRoom fault) → IsReserveAnswered opened length a b result
-refused_on opened length a b (Ok done) fault is h = absurd is
-refused_on opened length a b (Err error) fault is h = subst (λ f. ShelfAsked a b (HasNoRoom f)) (sym is) h
-
-pub has_room_on : {T : Type 0} (opened : T → List ℕ → Type 0) (length : ℕ) (contents : T → Option (List ℕ)) (name : List ℕ) (room : Option Room) (beside : Beside T) (a b c : Option (List DiskStep))
-    → string_bytes beside.name ≡ new_name name → OnSome c (contents beside.file ≡ Some []) → OnSome c (contents beside.held ≡ Some (replicate length 0)) → HasAsked a b (IsSearch name None)
-    → (folder : List ℕ) × opened beside.folder folder × IsFolderOf name folder × HasAsked b c (λ steps. IsReserved name folder (contents beside.held) (Failed (LookAtName name) ∷ steps))
-    → ShelfAsked (Some (record { asked = a; name = name; room = room })) (Some (record { asked = c; name = name; room = Some (room_of contents beside) }))
-    (HasRoomIn (IsFolderOpened opened (Some beside)) length)
-has_room_on opened length contents name room beside a b c own fresh filled search made =
-    let h = then_reserved name made.0 (contents beside.held) a b c search made.3 in
-    let room_named : List ℕ → Option Room = λ n. Some (record { name = n; written = contents beside.file }) in (
-      h.0,
-      h.1,
+pub has_room_on : {T : Type 0} (opened : T → List ℕ → Type 0) (size : ℕ) (contents : T → Option (List ℕ)) (name : List ℕ) (room : Option Room) (part : Part T) (a b c : Option (List DiskStep))
+    → string_bytes part.name ≡ part_name name → (part.length ≡ 0) × (part.kept ≡ false) → OnSome c (contents part.file ≡ Some []) → OnSome c (contents part.held ≡ Some (replicate size 0)) → HasAsked a b (IsSearch name None)
+    → (folder : List ℕ) × opened part.folder folder × IsFolderOf name folder × HasAsked b c (λ steps. IsReserved name folder (contents part.held) (Failed (LookAtName name) ∷ steps))
+    → (folder : List ℕ) × IsFolderOpened opened (Some part) folder
+    × HasAsked a c (HasRoom folder size (record { asked = a; name = name; room = room }) (record { asked = c; name = name; room = Some (room_of contents part) }))
+has_room_on opened size contents name room part a b c own new fresh filled search made =
+    let h = then_reserved name made.0 (contents part.held) a b c search made.3 in (
+      made.0,
+      made.1,
       (
-        made.0,
-        made.1,
+        h.0,
+        h.1,
         record {
           folder_of = made.2;
-          filled = contents beside.held;
+          filled = contents part.held;
           taken = filled;
           reserved = h.2;
-          written = contents beside.file;
-          room = ap room_named own;
+          written = contents part.file;
+          room = λ i. Some (record { name = own i; written = contents part.file; length = new.0 i; kept = new.1 i });
           fresh = fresh;
           name = refl;
         },
       ),
     )
 
+-- ---- a block
+
+-- a text was added to the room that there is
+pub added_on : {T : Type 0} (contents : T → Option (List ℕ)) (name text : List ℕ) (before : Option (Part T)) (part part' : Part T) (a b : Option (List DiskStep))
+    → Some part ≡ before → string_bytes part'.name ≡ string_bytes part.name → Appends (contents part.file) (contents part'.file) text → part'.length ≡ part.length + length text → part'.kept ≡ true
+    → HasAsked a b (λ steps. steps ≡ Did (SyncFile (contents part'.file)) ∷ [])
+    → HasAsked a b (IsAdded text (record { asked = a; name = name; room = option_map (room_of contents) before }) (record { asked = b; name = name; room = Some (room_of contents part') }))
+added_on contents name text before part part' a b is own appends longer kept synced = (
+  synced.0,
+  synced.1,
+  record {
+    before = room_of contents part;
+    had = ap (option_map (room_of contents)) (sym is);
+    written = contents part'.file;
+    appends = appends;
+    synced = synced.2;
+    room = λ i. Some (record { name = own i; written = contents part'.file; length = longer i; kept = kept i });
+    name = refl;
+  },
+)
+
+-- or it was not
+pub not_added_on : {T : Type 0} (contents : T → Option (List ℕ)) (name : List ℕ) (before : Option (Part T)) (part part' : Part T) (a b : Option (List DiskStep)) → Some part ≡ before
+    → HasAsked a b (IsUnadded (Some (room_of contents part)) (Some (room_of contents part')))
+    → HasAsked a b (IsNotAdded (record { asked = a; name = name; room = option_map (room_of contents) before }) (record { asked = b; name = name; room = Some (room_of contents part') }))
+not_added_on contents name before part part' a b is unadded = (
+  unadded.0,
+  unadded.1,
+  record {
+    unadded = subst (λ room. IsUnadded room (Some (room_of contents part')) unadded.0) (ap (option_map (room_of contents)) is) unadded.2;
+    name = refl;
+  },
+)
+
+-- nor without room
+pub not_added_nowhere : {T : Type 0} (contents : T → Option (List ℕ)) (name : List ℕ) (before after : Option (Part T)) (a : Option (List DiskStep)) → None ≡ before → after ≡ None
+    → HasAsked a a (IsNotAdded (record { asked = a; name = name; room = option_map (room_of contents) before }) (record { asked = a; name = name; room = option_map (room_of contents) after }))
+not_added_nowhere contents name before after a is none = (
+  [],
+  tells_none a,
+  record {
+    unadded = subst (λ room. IsUnadded (option_map (room_of contents) room) (option_map (room_of contents) after) []) is (subst (λ room. IsUnadded None (option_map (room_of contents) room) []) (sym none) NoFile);
+    name = refl;
+  },
+)
+
+-- the folder is the same
+pub opened_still : {T : Type 0} (opened : T → List ℕ → Type 0) (before : Option (Part T)) (part part' : Part T) (folder : List ℕ) → Some part ≡ before → part'.folder ≡ part.folder
+    → IsFolderOpened opened before folder → IsFolderOpened opened (Some part') folder
+opened_still opened before part part' folder is same h = subst (λ f. opened f folder) (sym same) (subst (λ o. IsFolderOpened opened o folder) (sym is) h)
+
 -- ---- the tape
 
-pub on_disk : (name name' : List ℕ) (written : Option (List ℕ)) (found : Bool) (a b c : Option (List DiskStep)) → name ≡ name'
-    → Tells a b (Did (Cut written) ∷ Did (SyncFile written) ∷ []) → Tells b c (step_by (FindFile name written) found ∷ []) → HasAsked a c (IsOnDisk name' written found)
-on_disk name name' written found a b c is synced looked = subst (λ n. HasAsked a c (IsOnDisk n written found)) is (
-  Did (Cut written) ∷ Did (SyncFile written) ∷ step_by (FindFile name written) found ∷ [],
-  tells_join a b c (Did (Cut written) ∷ Did (SyncFile written) ∷ []) (step_by (FindFile name written) found ∷ []) synced looked,
+pub on_disk : (name name' : List ℕ) (written : Option (List ℕ)) (size : ℕ) (found : Bool) (a b c : Option (List DiskStep)) → name ≡ name'
+    → Tells a b (Did (Cut written size) ∷ Did (SyncFile written) ∷ []) → Tells b c (step_by (FindFile name written) found ∷ []) → HasAsked a c (IsOnDisk name' written size found)
+on_disk name name' written size found a b c is synced looked = subst (λ n. HasAsked a c (IsOnDisk n written size found)) is (
+  Did (Cut written size) ∷ Did (SyncFile written) ∷ step_by (FindFile name written) found ∷ [],
+  tells_join a b c (Did (Cut written size) ∷ Did (SyncFile written) ∷ []) (step_by (FindFile name written) found ∷ []) synced looked,
   Synced found,
 )
 
-pub not_named : (own own' folder name : List ℕ) (written : Option (List ℕ)) (fault : ShelfFault) (a b c : Option (List DiskStep)) → own' ≡ own
-    → HasAsked a b (IsOnDisk own written true) → HasAsked b c (IsNaming own' name (Some fault)) → HasAsked a c (IsNamed own folder name written (Some fault))
-not_named own own' folder name written fault a b c is disk naming = (
+pub not_named : (own own' folder name : List ℕ) (written : Option (List ℕ)) (size : ℕ) (fault : ShelfFault) (a b c : Option (List DiskStep)) → own' ≡ own
+    → HasAsked a b (IsOnDisk own written size true) → HasAsked b c (IsNaming own' name (Some fault)) → HasAsked a c (IsNamed own folder name written size (Some fault))
+not_named own own' folder name written size fault a b c is disk naming = (
   disk.0 ++ naming.0,
   tells_join a b c disk.0 naming.0 disk.1 naming.1,
-  NotNamed fault disk.0 naming.0 disk.2 (subst (λ n. IsNaming n name (Some fault) naming.0) is naming.2),
+  Unnamed fault disk.0 naming.0 disk.2 (subst (λ n. IsNaming n name (Some fault) naming.0) is naming.2),
 )
 
-pub named : (own own' folder name : List ℕ) (written : Option (List ℕ)) (fault : Option ShelfFault) (a b c d : Option (List DiskStep)) → own' ≡ own
-    → HasAsked a b (IsOnDisk own written true) → HasAsked b c (IsNaming own' name None) → HasAsked c d (IsSettling own folder name written fault)
-    → HasAsked a d (IsNamed own folder name written fault)
-named own own' folder name written fault a b c d is disk naming settling = (
+pub named : (own own' folder name : List ℕ) (written : Option (List ℕ)) (size : ℕ) (fault : Option ShelfFault) (a b c d : Option (List DiskStep)) → own' ≡ own
+    → HasAsked a b (IsOnDisk own written size true) → HasAsked b c (IsNaming own' name None) → HasAsked c d (IsSettling own folder name written fault)
+    → HasAsked a d (IsNamed own folder name written size fault)
+named own own' folder name written size fault a b c d is disk naming settling = (
   disk.0 ++ (naming.0 ++ settling.0),
   tells_join a b d disk.0 (naming.0 ++ settling.0) disk.1 (tells_join b c d naming.0 settling.0 naming.1 settling.1),
   Named fault disk.0 naming.0 settling.0 disk.2 (subst (λ n. IsNaming n name None naming.0) is naming.2) settling.2,
 )
 
-pub put_written : (name folder text own : List ℕ) (before written : Option (List ℕ)) (fault : Option ShelfFault) (a b c : Option (List DiskStep)) (named : List ℕ)
-    → Appends before written text → HasAsked a b (IsNamed own folder name written fault) → named ≡ own → HasAsked b c (IsGone named written)
-    → HasAsked a c (IsPut name folder text (record { name = own; written = before }) fault)
-put_written name folder text own before written fault a b c named appends naming is going = (
-  naming.0 ++ going.0,
-  tells_join a b c naming.0 going.0 naming.1 going.1,
-  Written written fault naming.0 going.0 appends naming.2 (subst (λ n. IsGone n written going.0) is going.2),
-)
+pub put_written : (name folder text own : List ℕ) (before written : Option (List ℕ)) (size all : ℕ) (kept : Bool) (fault : Option ShelfFault) (a b : Option (List DiskStep))
+    → Appends before written text → all ≡ size + length text → HasAsked a b (IsNamed own folder name written all fault)
+    → HasAsked a b (IsPut name folder text (record { name = own; written = before; length = size; kept = kept }) fault)
+put_written name folder text own before written size all kept fault a b appends is naming =
+    (naming.0, naming.1, Written written fault naming.0 appends (subst (λ n. IsNamed own folder name written n fault naming.0) is naming.2))
 
 -- what holds of the room that there is
-pub in_room : {T : Type 0} (opened : T → List ℕ → Type 0) (contents : T → Option (List ℕ)) (name text folder : List ℕ) (fault : Option ShelfFault) (before : Option (Beside T))
-    (beside : Beside T) (after : Option (Beside T)) (a b : Option (List DiskStep)) → Some beside ≡ before → after ≡ None
-    → ((dir : List ℕ) → opened beside.folder dir → HasAsked a b (IsPut name dir text (room_of contents beside) fault)) → IsFolderOpened opened before folder
+pub in_room : {T : Type 0} (opened : T → List ℕ → Type 0) (contents : T → Option (List ℕ)) (name text folder : List ℕ) (fault : Option ShelfFault) (before : Option (Part T))
+    (part : Part T) (after : Option (Part T)) (a b : Option (List DiskStep)) → Some part ≡ before → after ≡ None
+    → ((dir : List ℕ) → opened part.folder dir → HasAsked a b (IsPut name dir text (room_of contents part) fault)) → IsFolderOpened opened before folder
     → HasAsked a b (IsPutOn folder text fault (record { asked = a; name = name; room = option_map (room_of contents) before })
     (record { asked = b; name = name; room = option_map (room_of contents) after }))
-in_room opened contents name text folder fault before beside after a b is none put = subst
+in_room opened contents name text folder fault before part after a b is none put = subst
     (λ room. IsFolderOpened opened room folder → HasAsked a b (IsPutOn folder text fault (record { asked = a; name = name; room = option_map (room_of contents) room })
     (record { asked = b; name = name; room = option_map (room_of contents) after })))
     is
     (λ open_so. let h = put folder open_so in (h.0, h.1, record { put = h.2; room = subst (λ room. option_map (room_of contents) room ≡ None) (sym none) refl; name = refl }))
 
 -- without room nothing is asked
-pub in_no_room : {T : Type 0} (contents : T → Option (List ℕ)) (name text folder : List ℕ) (before after : Option (Beside T)) (a : Option (List DiskStep)) → None ≡ before → after ≡ None
+pub in_no_room : {T : Type 0} (contents : T → Option (List ℕ)) (name text folder : List ℕ) (before after : Option (Part T)) (a : Option (List DiskStep)) → None ≡ before → after ≡ None
     → HasAsked a a (IsPutOn folder text (Some Write) (record { asked = a; name = name; room = option_map (room_of contents) before })
     (record { asked = a; name = name; room = option_map (room_of contents) after }))
 in_no_room contents name text folder before after a is none = subst
@@ -224,6 +268,30 @@ in_no_room contents name text folder before after a is none = subst
     is
     ([], tells_none a, record { put = (refl, refl); room = subst (λ room. option_map (room_of contents) room ≡ None) (sym none) refl; name = refl })
 
-pub closed : {T : Type 0} (contents : T → Option (List ℕ)) (before : Option (Beside T)) (beside : Beside T) (a b : Option (List DiskStep)) → before ≡ Some beside
-    → HasAsked a b (IsGone (room_of contents beside).name (room_of contents beside).written) → HasAsked a b (IsClosed (option_map (room_of contents) before))
-closed contents before beside a b is h = subst (λ room. HasAsked a b (IsClosed (option_map (room_of contents) room))) (sym is) h
+-- ---- what is let go
+
+pub left : (own own' : List ℕ) (kept : Bool) (written : Option (List ℕ)) (a b : Option (List DiskStep)) → own ≡ own' → kept ≡ false → HasAsked a b (IsGone own written)
+    → HasAsked a b (IsLeftBehind kept own' written)
+left own own' kept written a b is not h = subst (λ k. HasAsked a b (IsLeftBehind k own' written)) (sym not) (gone_as own own' written a b is h)
+
+pub stays : (own : List ℕ) (kept : Bool) (written : Option (List ℕ)) (a : Option (List DiskStep)) → kept ≡ true → HasAsked a a (IsLeftBehind kept own written)
+stays own kept written a is = subst (λ k. HasAsked a a (IsLeftBehind k own written)) (sym is) ([], tells_none a, refl)
+
+pub closed : {T : Type 0} (contents : T → Option (List ℕ)) (before : Option (Part T)) (part : Part T) (a b : Option (List DiskStep)) → before ≡ Some part
+    → HasAsked a b (IsLeftBehind (room_of contents part).kept (room_of contents part).name (room_of contents part).written) → HasAsked a b (IsClosed (option_map (room_of contents) before))
+closed contents before part a b is h = subst (λ room. HasAsked a b (IsClosed (option_map (room_of contents) room))) (sym is) h
+
+-- ---- what was answered
+
+pub put_answer : (folder text : List ℕ) (answer : Result ⊤ ShelfFault) (a b : Option (List DiskStep)) (disk disk' : ShelfDisk) → HasAsked a b (IsPutOn folder text (fault_of answer) disk disk')
+    → HasAsked a b (AsksFor folder (put_step text answer) disk disk')
+put_answer folder text (Ok done) a b disk disk' h = h
+put_answer folder text (Err fault) a b disk disk' h = h
+
+pub add_answer : {T : Type 0} (contents : T → Option (List ℕ)) (folder name text : List ℕ) (before : Option (Part T)) (part part' : Part T) (answer : Result ⊤ ShelfFault) (a b : Option (List DiskStep))
+    → Some part ≡ before → string_bytes part'.name ≡ string_bytes part.name → OnOk answer (Appends (contents part.file) (contents part'.file) text) → OnOk answer (part'.length ≡ part.length + length text)
+    → OnOk answer (part'.kept ≡ true) → OnOk answer (HasAsked a b (λ steps. steps ≡ Did (SyncFile (contents part'.file)) ∷ []))
+    → IfErr answer (λ _. HasAsked a b (IsUnadded (Some (room_of contents part)) (Some (room_of contents part'))))
+    → HasAsked a b (AsksFor folder (add_step text answer) (record { asked = a; name = name; room = option_map (room_of contents) before }) (record { asked = b; name = name; room = Some (room_of contents part') }))
+add_answer contents folder name text before part part' (Ok done) a b is own appends longer kept synced unadded = added_on contents name text before part part' a b is own appends longer kept synced
+add_answer contents folder name text before part part' (Err fault) a b is own appends longer kept synced unadded = not_added_on contents name before part part' a b is unadded

@@ -12,15 +12,18 @@ use Rattle.reading_core.specs.declared.phase.End.TheVariants.{Complete}
 use Rattle.reading_core.specs.declared.phase.Phase.TheVariants.{Settle, Ended as Over}
 use Rattle.reading_core.specs.Reader.{Reader, begun, ended}
 use Rattle.reading_core.proofs.Asking.{one_more, length_from}
-use Rattle.console_lines.specs.Reached.{LineTold}
+use Rattle.console_lines.specs.Dialling.{asked_once}
+use Rattle.load_devices.specs.Devices.{LineTold}
+use Rattle.load_devices.specs.Told.{Gains}
 use Rattle.reading_engine.specs.declared.stop.Stop.{Stop}
 use Rattle.machine_look.specs.declared.saving.SaveOptions.{SaveOptions}
-use Rattle.machine_look.specs.Look.{AsksOnce, IsLook, OverHonestLine}
+use Rattle.machine_look.specs.Look.{IsLook, OverHonestLine}
 use Rattle.machine_look.specs.Save.{IsMemoryAt, IsRead, SaveTold, addresses_in, tape_to_save}
 use Rattle.machine_look.specs.SavedTape.{HoldsWhatWasRead, room_for, words_read, StandFrom}
 use Rattle.machine_look.proofs.Looks.{is_true}
 use Rattle.machine_look.proofs.SavedBlocks.{room_enough}
 use Rattle.machine_look.proofs.SavedWords.{holds_what_was_read}
+use Rattle.machine_look.proofs.Steps.{whole}
 
 -- ---- the addresses of a range
 
@@ -91,21 +94,24 @@ memory_read options last stop range begins look machine now lost may honest =
           (λ i low. true.1.read.holds i low ∙ ap (λ (list : List ℕ). word_at now.memory (get_or list i 0)) look.addresses),
     )
 
-pub asked_for_range : (options : SaveOptions) (before after : SaveTold) (first : Reader) → first ≡ begun (addresses_in options.range) [] options.patience
-    → AsksOnce (ended first.phase) before.call before.asked after.asked → AsksOnce None before.call before.asked after.asked
-asked_for_range options before after first is asks =
-    subst (λ o. AsksOnce o before.call before.asked after.asked) (ap (λ r. ended r.phase) is ∙ range_goes_on options.range.from options.range.to options.patience) asks
+-- so it is of the reader that begins
+pub range_begins : (from to patience : ℕ) (first : Reader) → first ≡ begun (addresses_between from to) [] patience → ended first.phase ≡ None
+range_begins from to patience first is = ap (λ r. ended r.phase) is ∙ range_goes_on from to patience
+
+pub range_low : (from to : ℕ) → IsRange from to → from + 2 * length (addresses_between from to) ≤ top
+range_low from to range = omega (arith, range_length from to, range.from_is.even, range.to_is.even, range.to_is.below, range.order)
 
 abbrev pub read_of : (options : SaveOptions) (before after : SaveTold) (first last : Reader) (stop : Stop) → IsRange options.range.from options.range.to → options.start < 65536
-    → first ≡ begun (addresses_in options.range) [] options.patience → IsLook first last stop before.lines after.lines → AsksOnce (ended first.phase) before.call before.asked after.asked → IsRead options before after
+    → first ≡ begun (addresses_in options.range) [] options.patience → IsLook first last stop before.lines after.lines → Gains before.asked after.asked (asked_once before.call) → IsRead options before after
 read_of options before after first last stop range begins is look asks =
     let moved : IsLook (begun (addresses_in options.range) [] options.patience) last stop before.lines after.lines = subst (λ r. IsLook r last stop before.lines after.lines) is look in
     record {
       last = last;
       stop = stop;
       look = moved;
-      asked = asked_for_range options before after first is asks;
+      asked = asks;
       holds = holds_read options last stop range begins moved;
+      whole = whole options.range.from last.values options.start;
       fits = fits_room options last stop moved;
       is_memory = memory_read options last stop range begins moved;
     }

@@ -12,7 +12,7 @@ use Rattle.reading_core.specs.declared.phase.End.TheVariants.{Complete, GaveUp a
 use Rattle.reading_core.specs.Addresses.{addresses_of}
 use Rattle.reading_core.specs.Reader.{Reader, begun, ended}
 use Rattle.looking_law.specs.Belief.{IsTrueReading}
-use Rattle.console_lines.specs.Reached.{LineTold}
+use Rattle.load_devices.specs.Devices.{LineTold}
 use Rattle.reading_engine.specs.Inquired.{TellsEnd}
 use Rattle.reading_engine.specs.declared.stop.Stop.{Stop}
 use Rattle.reading_engine.specs.declared.stop.Stop.TheVariants.{Ended, LineFailed as LineHasFailed, TurnsOver as TurnsAreOver}

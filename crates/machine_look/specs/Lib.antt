@@ -1,12 +1,13 @@
-pub mod Beside
 pub mod Differences
 pub mod Look
 pub mod LookFault
+pub mod Room
 pub mod Save
-pub mod SaveDisk
+pub mod SavedSteps
 pub mod SavedTape
 pub mod SaveReport
 pub mod Shelf
 pub mod ShelfDisk
+pub mod ShelfTold
 pub mod Verify
 pub mod VerifyReport

@@ -3,7 +3,7 @@ use Rattle.std.specs.Prelude.{◌≡◌, ℕ, ◌≤◌, List, [], ◌∷◌, le
 use Rattle.odt_machine.specs.Machine.{Machine}
 use Rattle.load_devices.specs.Told.{Gains}
 use Rattle.load_devices.specs.Failures.{CountsFault, IsLastFault}
-use Rattle.console_lines.specs.Reached.{LineTold}
+use Rattle.load_devices.specs.Devices.{LineTold}
 use Rattle.reading_engine.specs.Failing.{line_fault}
 use Rattle.load_devices.specs.Turns.{most_turns}
 use Rattle.tape_values.specs.Told.{IsAsTold}
@@ -34,11 +34,11 @@ abbrev pub IsLineOf : Option End → Stop → Option (List Item) → Option (Lis
 IsLineOf (Some end) stop line line' lines lines' = lines' ≡ lines
 IsLineOf None stop line line' lines lines' = IsGivenBack stop line line' lines lines'
 
--- an engine that had the most turns led the one reader to the other, and stopped so; what was said meanwhile is all that was said on the line
-pub record IsLook (old new : Reader) (stop : Stop) (lines lines' : Option (List LineTold)) : Type 0 where
+-- an engine that had so many turns led the one reader to the other, and stopped so; what was said meanwhile is all that was said on the line
+pub record IsLookOf (turns : ℕ) (old new : Reader) (stop : Stop) (lines lines' : Option (List LineTold)) : Type 0 where
   pub line : Option (List Item)
   pub line' : Option (List Item)
-  pub inquired : Inquired most_turns (Some stop) old new line line'
+  pub inquired : Inquired turns (Some stop) old new line line'
   pub line_is : IsLineOf (ended old.phase) stop line line' lines lines'
   pub end : TellsEnd stop new
   -- where what was said is honest, memory is what it was and what was read is what it holds
@@ -48,10 +48,14 @@ pub record IsLook (old new : Reader) (stop : Stop) (lines lines' : Option (List 
   pub bound : new.sent ≤ reading_bound (length new.addresses) new.patience
   pub kept : IsReader new
 
+-- so it is of one that had the most turns
+abbrev pub IsLook : Reader → Reader → Stop → Option (List LineTold) → Option (List LineTold) → Type 0
+IsLook = IsLookOf most_turns
+
 -- what holds of memory wherever a look was over an honest line of a machine that runs no program
-abbrev pub OverHonestLine : {old new : Reader} {stop : Stop} {lines lines' : Option (List LineTold)} → IsLook old new stop lines lines'
+abbrev pub OverHonestLine : {turns : ℕ} {old new : Reader} {stop : Stop} {lines lines' : Option (List LineTold)} → IsLookOf turns old new stop lines lines'
     → (Machine → Machine → Type 0) → Type 0
-OverHonestLine {old} look holds =
+OverHonestLine {turns} {old} look holds =
     (machine now : Machine) (lost : ℕ) → MayLook old machine → IsHonest machine look.inquired.said lost now → holds machine now
 
 -- the console was asked for once, where there is something to look at, and else nothing was asked

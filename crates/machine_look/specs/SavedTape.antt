@@ -1,8 +1,8 @@
 -- The tape that holds what was read (this project's own).
-use Rattle.std.specs.Prelude.{◌≡◌, ℕ, zero, suc, ◌+◌, ◌-◌, ◌*◌, ◌/◌, ◌<◌, List, [], ◌∷◌, ◌++◌, length, take, drop, slice_index}
+use Rattle.std.specs.Prelude.{◌≡◌, ℕ, zero, suc, ◌+◌, ◌-◌, ◌*◌, ◌/◌, ◌<◌, nat_lt, if◌then◌else◌, List, [], ◌∷◌, ◌++◌, length, take, drop, slice_index}
 use Rattle.std.specs.List.{flat_map}
 use Rattle.std.specs.FinMap.{get}
-use Rattle.tape_values.specs.Block.{BlockValue, block_at, low_first}
+use Rattle.tape_values.specs.Block.{BlockValue, block_at, data_block, low_first, transfer_block}
 use Rattle.tape_values.specs.Tape.{TapeValue}
 use Rattle.tape_image.specs.Word.{WordValue, whole_word}
 use Rattle.request_values.specs.declared.range.AddressRange.{AddressRange}
@@ -24,6 +24,15 @@ saved_blocks from numbers (suc n) = saved_blocks from numbers n ++ saved_block f
 -- the tape of the numbers that stand from an address on, in as few blocks as hold them
 abbrev pub saved_tape : ℕ → List ℕ → ℕ → TapeValue
 saved_tape from numbers start = record { blocks = saved_blocks from numbers ((length numbers + (block_words - 1)) / block_words); start = start }
+
+-- the numbers that are left behind the full blocks, if there are any, as a block that is shorter
+abbrev pub rest_block : ℕ → List ℕ → List ℕ
+rest_block from numbers =
+    let full = length numbers / block_words in if nat_lt (block_words * full) (length numbers) then data_block (saved_block from numbers full) else []
+
+-- the last text of the tape: that block, and the transfer block
+abbrev pub last_text : ℕ → List ℕ → ℕ → List ℕ
+last_text from numbers start = rest_block from numbers ++ transfer_block start
 
 -- the length in bytes of a tape of so many words: each block and the transfer block have 7 beside their data
 abbrev pub tape_length : ℕ → ℕ

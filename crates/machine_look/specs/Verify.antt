@@ -30,12 +30,12 @@ pub record IsVerified (plan : PlanValue) (patience : ℕ) (before after : Consol
   pub stand : end ≡ Same → OverHonestLine look (IsSameWith plan.words)
 
 -- it was reported, too
-pub record IsReported (plan : PlanValue) (patience : ℕ) (before after : ConsoleTold) (end : VerifyEnd) : Type 0 where
+pub record IsVerifyReported (plan : PlanValue) (patience : ℕ) (before after : ConsoleTold) (end : VerifyEnd) : Type 0 where
   pub verified : IsVerified plan patience before after end
   pub reported : Appends before.out after.out (verify_report plan.words verified.last verified.stop)
 
 -- the same, with a report that may be cut short
-pub record IsCutShort (plan : PlanValue) (patience : ℕ) (before after : ConsoleTold) : Type 0 where
+pub record IsVerifyCutShort (plan : PlanValue) (patience : ℕ) (before after : ConsoleTold) : Type 0 where
   pub end : VerifyEnd
   pub verified : IsVerified plan patience before after end
   pub missing : List ℕ

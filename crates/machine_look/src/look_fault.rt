@@ -2,7 +2,6 @@ use crate::shelf::ShelfFault;
 use byte_io::WriteFault;
 use load_devices::LineFault;
 use std::alloc::AllocError;
-use tape_values::Memory;
 
 /// Why a look came to nothing.
 #[derive(Clone, Copy, Debug, PartialEq, Eq)]
@@ -10,7 +9,10 @@ pub enum LookFault {
     /// There is a file of that name already. It is as it was.
     IsThere,
 
-    /// The tape can't be written. There is no file of that name.
+    /// What a save read that did not come to its end is beside it. Both are as they were.
+    PartIsThere,
+
+    /// The tape can't be written. There is no file of that name; the blocks that were read before stay beside it.
     WriteTape,
 
     /// The console can't be reached. Nothing was sent.
@@ -32,6 +34,7 @@ impl From<ShelfFault> for LookFault {
     fn from(why: ShelfFault) -> LookFault {
         match why {
             ShelfFault::IsThere => LookFault::IsThere,
+            ShelfFault::PartIsThere => LookFault::PartIsThere,
             ShelfFault::Write => LookFault::WriteTape,
             ShelfFault::Memory => LookFault::Memory,
         }
@@ -67,17 +70,6 @@ impl From<AllocError> for LookFault {
     ghost from_gives = { λ _ fault. fault ≡ OutOfMemory };
 
     fn from(_refused: AllocError) -> LookFault {
-        LookFault::Memory
-    }
-}
-
-impl From<Memory> for LookFault {
-    ghost use Rattle.std.specs.Prelude.{◌≡◌};
-    ghost use Rattle.machine_look.specs.declared.look_fault.LookFault.TheVariants.{Memory as OutOfMemory};
-
-    ghost from_gives = { λ _ fault. fault ≡ OutOfMemory };
-
-    fn from(_refused: Memory) -> LookFault {
         LookFault::Memory
     }
 }

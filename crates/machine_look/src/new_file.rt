@@ -1,44 +1,50 @@
 //! The file of a saved tape, which comes to its name whole and replaces nothing.
-ghost use Rattle.std.specs.Prelude.{◌≡◌, ◌∷◌, List, ℕ, None, Some, [], IfErr, IfOk, IfSome, OnSome, IfNone, Option, is_some, option_map};
+ghost use Rattle.std.specs.Prelude.{◌≡◌, ◌+◌, ◌∷◌, List, ℕ, Option, None, Some, [], IfErr, IfOk, IfSome, OnOk, OnSome, length, is_some, option_map};
 ghost use Rattle.std.specs.Prelude.{false, replicate, true};
 ghost use Rattle.std.specs.Bool.{OnTrue};
 ghost use Rattle.std.specs.Io.KnownBytes.{Appends};
 ghost use Rattle.std.specs.String.{string_bytes};
 ghost use Rattle.load_devices.specs.Failures.{fault_of};
-ghost use Rattle.record_file.specs.Beginning.{IsMakingHeld, new_name};
 ghost use Rattle.load_devices.specs.Told.{HasAsked};
-ghost use Rattle.record_file.specs.DiskStep.{Failed, Link, LookAtName};
+ghost use Rattle.record_file.specs.DiskStep.{Did, Failed, Link, LookAtName, SyncFile};
 ghost use Rattle.record_file.specs.Folder.{IsFolderOf};
-ghost use Rattle.machine_look.specs.Beside.{IsFolderOpened, room_of};
+ghost use Rattle.machine_look.specs.Room.{IsFolderOpened, room_of};
 ghost use Rattle.machine_look.specs.Shelf.{IsPutFault};
-ghost use Rattle.machine_look.specs.ShelfDisk.{IsReserved, IsNotReserved, IsNoFileName, IsSearch, IsTaking, IsTakingHeld};
-ghost use Rattle.machine_look.specs.ShelfDisk.{IsClosed, IsGone, IsNamed, IsNaming, IsOnDisk, IsPut, IsSettling};
+ghost use Rattle.machine_look.specs.ShelfDisk.{part_name, IsReserved, IsNotReserved, IsNoFileName, IsSearch, IsMakingHeld, IsTaking, IsTakingHeld};
+ghost use Rattle.machine_look.specs.ShelfDisk.{IsClosed, IsGone, IsLeftBehind, IsNamed, IsNaming, IsOnDisk, IsPut, IsSettling, IsTakenBack, IsUnadded};
 
 use crate::shelf::{Shelf, ShelfFault};
 use byte_io::write_and_flush;
-use record_file::{Access, BESIDE, Disk, folder_of, make_new};
+use record_file::{Access, Disk, folder_of};
 use std::alloc::Global;
 use std::io::ErrorKind;
 
+/// What the name of the file that holds the blocks of a tape has more than the tape's, while a save is on its
+/// way.
+pub const PART: &str = ".part";
+
 /// A file that is not there yet, for the tape of a save.
 ///
-/// The tape is written to a file beside it, which is made before anything is read, held, filled with as many
-/// bytes 00 as the tape may have, so that a full disk is told then, and goes once the tape was put or this
-/// value is closed. The tape is given its name once it is on the disk, and only where nothing has that name.
+/// The tape is written to a file beside it, `PART`, which is made before anything is read, held, and filled
+/// with as many bytes 00 as the tape may have, so that a full disk is told then. Each block that is added is on
+/// the disk, and from then on that file stays, whatever comes, until it is given the tape's name, whole, and
+/// only where nothing has that. One that is there before is left as it is.
 pub struct NewFile<'a, D: Disk> {
     disk: D,
     name: &'a str,
-    beside: Option<Beside<D::File>>,
+    part: Option<Part<D::File>>,
 }
 
-// A file beside the one of a name, the same once more, through which it was filled and is held, and the
-// folder of both.
+// The file beside the one of a name, the same once more, through which it was filled and is held, and the
+// folder of both; how many bytes were written to it, and whether there is a block in it.
 #[derive(Drop)]
-struct Beside<T: Drop> {
+struct Part<T: Drop> {
     name: String,
     file: T,
     held: T,
     folder: T,
+    length: u64,
+    kept: bool,
 }
 
 impl<'a, D: Disk> NewFile<'a, D> {
@@ -46,52 +52,64 @@ impl<'a, D: Disk> NewFile<'a, D> {
     pub fn new(disk: D, name: &'a str) -> NewFile<'a, D>
         ensures disk { result.disk ≡ disk }
         ensures name { result.name.now ≡ name.now }
-        ensures room { result.beside ≡ None }
+        ensures room { result.part ≡ None }
     {
         NewFile {
             disk,
             name,
-            beside: None,
+            part: None,
         }
     }
 
-    /// Lets the file go, and gives the disk back. The file beside goes, where no tape was put and it still
-    /// has its own name.
+    /// Lets the file go, and gives the disk back. The file beside stays, where there is a block in it.
     pub fn close(self) -> D
-        ensures asked { HasAsked (D.asked self.entry.disk) (D.asked result) (IsClosed (option_map (room_of D.File.contents) self.entry.beside)) }
+        ensures asked { HasAsked (D.asked self.entry.disk) (D.asked result) (IsClosed (option_map (room_of D.File.contents) self.entry.part)) }
     {
         let NewFile {
             mut disk,
             name: _name,
-            beside,
+            part,
         } = self;
-        if let Some(beside) = beside {
-            let_go(&mut disk, beside.name.as_str(), &beside.file);
+        if let Some(part) = part {
+            leave(&mut disk, &part);
         }
         disk
     }
 }
 
 impl<D: Disk> Shelf for NewFile<'_, D> {
-    ghost disk = { λ shelf. Some (record {
-      asked = D.asked shelf.disk;
-      name = shelf.name.now;
-      room = option_map (room_of D.File.contents) shelf.beside;
-    }) };
+    ghost use Rattle.machine_look.specs.ShelfTold.{ShelfTold};
 
-    ghost is_opened_as = { λ shelf. IsFolderOpened D.is_opened_as shelf.beside };
+    ghost told = { λ shelf. record {
+      steps = None;
+      disk = Some (record {
+        asked = D.asked shelf.disk;
+        name = shelf.name.now;
+        room = option_map (room_of D.File.contents) shelf.part;
+      });
+    } };
 
-    // `Write` also comes where another save writes the tape of this name. A file beside that was there before
-    // has lost its name to the new one.
+    ghost is_opened_as = { λ shelf. IsFolderOpened D.is_opened_as shelf.part };
+
+    // `PartIsThere` also comes where another save writes the tape of this name.
     fn reserve(&mut self, alloc: Global, length: usize) -> Result<(), ShelfFault> {
         find_free(&mut self.disk, self.name)?;
-        self.beside = Some(make_beside(&mut self.disk, alloc, self.name, length)?);
+        self.part = Some(make_part(&mut self.disk, alloc, self.name, length)?);
         Ok(())
     }
 
+    fn add(&mut self, text: &[u8]) -> Result<(), ShelfFault> {
+        let Some(mut part) = self.part.take() else {
+            return Err(ShelfFault::Write);
+        };
+        let added = add_to(&mut self.disk, &mut part, text);
+        self.part = Some(part);
+        added
+    }
+
     fn put(&mut self, text: &[u8]) -> Result<(), ShelfFault> {
-        match self.beside.take() {
-            Some(beside) => put_into(&mut self.disk, beside, self.name, text),
+        match self.part.take() {
+            Some(part) => put_into(&mut self.disk, part, self.name, text),
             None => Err(ShelfFault::Write),
         }
     }
@@ -99,70 +117,93 @@ impl<D: Disk> Shelf for NewFile<'_, D> {
 
 // Opens the folder of a name, which nothing has, and makes the file beside, and takes the room of so many
 // bytes with it.
-fn make_beside<D: Disk>(
+fn make_part<D: Disk>(
     disk: &mut D,
     alloc: Global,
     name: &str,
     length: usize,
-) -> Result<Beside<D::File>, ShelfFault>
-    ensures named { IfOk result (λ beside. string_bytes beside.name ≡ new_name name.now) }
-    ensures fresh { IfOk result (λ beside. OnSome (D.asked disk.new) (D.File.contents beside.file ≡ Some [])) }
-    ensures filled { IfOk result (λ beside. OnSome (D.asked disk.new) (D.File.contents beside.held ≡ Some (replicate length 0))) }
-    ensures asked { IfOk result (λ beside. (folder : List ℕ) × D.is_opened_as beside.folder folder × IsFolderOf name.now folder
+) -> Result<Part<D::File>, ShelfFault>
+    ensures named { IfOk result (λ part. string_bytes part.name ≡ part_name name.now) }
+    ensures new { IfOk result (λ part. (part.length ≡ 0) × (part.kept ≡ false)) }
+    ensures fresh { IfOk result (λ part. OnSome (D.asked disk.new) (D.File.contents part.file ≡ Some [])) }
+    ensures filled { IfOk result (λ part. OnSome (D.asked disk.new) (D.File.contents part.held ≡ Some (replicate length 0))) }
+    ensures asked { IfOk result (λ part. (folder : List ℕ) × D.is_opened_as part.folder folder × IsFolderOf name.now folder
         × HasAsked (D.asked disk.old) (D.asked disk.new)
-        (λ steps. IsReserved name.now folder (D.File.contents beside.held) (Failed (LookAtName name.now) ∷ steps))) }
+        (λ steps. IsReserved name.now folder (D.File.contents part.held) (Failed (LookAtName name.now) ∷ steps))) }
     ensures failed { IfErr result (λ fault.
         HasAsked (D.asked disk.old) (D.asked disk.new) (λ steps. IsNotReserved name.now fault (Failed (LookAtName name.now) ∷ steps))) }
 {
     let Ok(folder) = disk.open(Access::ReadOnly, folder_of(name)) else {
         return Err(ShelfFault::Write);
     };
-    let Ok(own) = format!(in alloc; "{name}{BESIDE}") else {
+    let Ok(own) = format!(in alloc; "{name}{PART}") else {
         return Err(ShelfFault::Memory);
     };
     let Ok(zeros) = vec![in alloc; 0u8; length] else {
         return Err(ShelfFault::Memory);
     };
-    match make_filled(disk, own.as_str(), &zeros) {
-        Some((held, file)) => Ok(Beside {
+    match make_filled(disk, own.as_str(), &folder, &zeros) {
+        Ok((held, file)) => Ok(Part {
             name: own,
             file,
             held,
             folder,
+            length: 0,
+            kept: false,
         }),
-        None => Err(ShelfFault::Write),
+        Err(fault) => Err(fault),
     }
 }
 
 // Makes a file, holds it, takes room by filling it, and opens it once more, to be written from its front on.
-// One that can't be filled goes.
-fn make_filled<D: Disk>(disk: &mut D, name: &str, zeros: &[u8]) -> Option<(D::File, D::File)>
-    ensures filled { IfSome result (λ files. OnSome (D.asked disk.new) (D.File.contents files.0 ≡ Some zeros.now)) }
-    ensures fresh { IfSome result (λ files. OnSome (D.asked disk.new) (D.File.contents files.1 ≡ Some [])) }
-    ensures made { IfSome result (λ files. HasAsked (D.asked disk.old) (D.asked disk.new) (IsTakingHeld name.now (D.File.contents files.0) true)) }
-    ensures not_made { IfNone result ((zeros : Option (List ℕ)) × HasAsked (D.asked disk.old) (D.asked disk.new) (IsTakingHeld name.now zeros false)) }
+// One that can't be filled goes. The fault is `PartIsThere` or `Write`.
+fn make_filled<D: Disk>(
+    disk: &mut D,
+    name: &str,
+    folder: &D::File,
+    zeros: &[u8],
+) -> Result<(D::File, D::File), ShelfFault>
+    ensures filled { IfOk result (λ files. (dir : List ℕ) → D.is_opened_as folder.now dir
+        → OnSome (D.asked disk.new) (D.File.contents files.0 ≡ Some zeros.now)) }
+    ensures fresh { IfOk result (λ files. OnSome (D.asked disk.new) (D.File.contents files.1 ≡ Some [])) }
+    ensures made { IfOk result (λ files. (dir : List ℕ) → D.is_opened_as folder.now dir
+        → HasAsked (D.asked disk.old) (D.asked disk.new) (IsTakingHeld name.now dir (D.File.contents files.0) None)) }
+    ensures not_made { IfErr result (λ fault. (dir : List ℕ) → D.is_opened_as folder.now dir
+        → (zeros : Option (List ℕ)) × HasAsked (D.asked disk.old) (D.asked disk.new) (IsTakingHeld name.now dir zeros (Some fault))) }
 {
-    let mut held = make_held(disk, name)?;
-    match take_room(disk, name, &mut held, zeros) {
-        Some(file) => Some((held, file)),
-        None => {
-            let_go(disk, name, &held);
-            None
-        }
+    match make_held(disk, name) {
+        Ok(mut held) => match take_room(disk, name, folder, &mut held, zeros) {
+            Some(file) => Ok((held, file)),
+            None => {
+                let_go(disk, name, &held);
+                Err(ShelfFault::Write)
+            }
+        },
+        Err(fault) => Err(fault),
     }
 }
 
-// Fills a file that was made under a name with these bytes, brings it to the disk, and opens it once more.
-// None where that can't be, or somebody has taken its name.
-fn take_room<D: Disk>(disk: &mut D, name: &str, held: &mut D::File, zeros: &[u8]) -> Option<D::File>
+// Fills a file that was made under a name with these bytes, brings it and its name to the disk, and opens it
+// once more. None where that can't be, or somebody has taken its name.
+fn take_room<D: Disk>(
+    disk: &mut D,
+    name: &str,
+    folder: &D::File,
+    held: &mut D::File,
+    zeros: &[u8],
+) -> Option<D::File>
     ensures filled { OnSome result (Appends (D.File.contents held.old) (D.File.contents held.new) zeros.now) }
     ensures fresh { IfSome result (λ file. OnSome (D.asked disk.new) (D.File.contents file ≡ Some [])) }
-    ensures asked { HasAsked (D.asked disk.old) (D.asked disk.new) (IsTaking name.now (D.File.contents held.new) (is_some result)) }
+    ensures asked { (dir : List ℕ) → D.is_opened_as folder.now dir
+        → HasAsked (D.asked disk.old) (D.asked disk.new) (IsTaking name.now dir (D.File.contents held.new) (is_some result)) }
 {
     if write_and_flush(held, zeros).is_err() {
         return None;
     }
     if disk.sync_file(held).is_err() {
+        return None;
+    }
+    if disk.sync_folder(folder).is_err() {
         return None;
     }
     match disk.open(Access::ReadWrite, name) {
@@ -177,87 +218,138 @@ fn take_room<D: Disk>(disk: &mut D, name: &str, held: &mut D::File, zeros: &[u8]
     }
 }
 
-// Makes a file, and holds it. None where it can't be made, or somebody else holds it.
-fn make_held<D: Disk>(disk: &mut D, name: &str) -> Option<D::File>
-    ensures fresh { IfSome result (λ file. OnSome (D.asked disk.new) (D.File.contents file ≡ Some [])) }
-    ensures asked { HasAsked (D.asked disk.old) (D.asked disk.new) (IsMakingHeld name.now (is_some result)) }
+// Makes a file, and holds it. The fault is `PartIsThere` where one of its name is there, and `Write` where it
+// can't be made, or somebody else holds it.
+fn make_held<D: Disk>(disk: &mut D, name: &str) -> Result<D::File, ShelfFault>
+    ensures fresh { IfOk result (λ file. OnSome (D.asked disk.new) (D.File.contents file ≡ Some [])) }
+    ensures asked { HasAsked (D.asked disk.old) (D.asked disk.new) (IsMakingHeld name.now (fault_of result)) }
 {
-    match make_new(disk, name) {
-        Ok(file) => { if disk.hold(&file) { Some(file) } else { None } }
-        Err(_) => None,
+    match disk.open(Access::New, name) {
+        Ok(file) => {
+            if disk.hold(&file) {
+                Ok(file)
+            } else {
+                Err(ShelfFault::Write)
+            }
+        }
+        Err(error) if error.kind() == ErrorKind::AlreadyExists => Err(ShelfFault::PartIsThere),
+        Err(_) => Err(ShelfFault::Write),
     }
 }
 
-// Writes a tape to the file beside, gives it a name that nothing has, and takes its own name away.
+// Writes a text to the file beside, behind what was written there before, and brings it to the disk. Once it
+// was written there is a block in it.
+fn add_to<D: Disk>(disk: &mut D, beside: &mut Part<D::File>, text: &[u8]) -> Result<(), ShelfFault>
+    ensures fault { IfErr result (λ fault. fault ≡ ShelfFault.Write) }
+    ensures folder { beside.new.folder ≡ beside.old.folder }
+    ensures name { string_bytes beside.new.name ≡ string_bytes beside.old.name }
+    ensures appends { OnOk result (Appends (D.File.contents beside.old.file) (D.File.contents beside.new.file) text.now) }
+    ensures length { OnOk result (beside.new.length ≡ beside.old.length + length text.now) }
+    ensures kept { OnOk result (beside.new.kept ≡ true) }
+    ensures synced { OnOk result (HasAsked (D.asked disk.old) (D.asked disk.new) (λ steps. steps ≡ Did (SyncFile (D.File.contents beside.new.file)) ∷ [])) }
+    ensures not_added { IfErr result (λ _. HasAsked (D.asked disk.old) (D.asked disk.new)
+        (IsUnadded (Some (room_of D.File.contents beside.old)) (Some (room_of D.File.contents beside.new)))) }
+{
+    let Some(length) = beside.length.checked_add(text.len() as u64) else {
+        return Err(ShelfFault::Write);
+    };
+    if write_and_flush(&mut beside.file, text).is_err() {
+        return Err(ShelfFault::Write);
+    }
+    beside.kept = true;
+    beside.length = length;
+    if disk.sync_file(&beside.file).is_err() {
+        return Err(ShelfFault::Write);
+    }
+    Ok(())
+}
+
+// Writes the last text of a tape to the file beside, and gives that a name that nothing has, in place of its
+// own.
 fn put_into<D: Disk>(
     disk: &mut D,
-    mut beside: Beside<D::File>,
+    mut part: Part<D::File>,
     name: &str,
     text: &[u8],
 ) -> Result<(), ShelfFault>
     ensures fault { IfErr result IsPutFault }
-    ensures asked { (folder : List ℕ) → D.is_opened_as beside.folder folder
-        → HasAsked (D.asked disk.old) (D.asked disk.new) (IsPut name.now folder text.now (room_of D.File.contents beside) (fault_of result)) }
+    ensures asked { (folder : List ℕ) → D.is_opened_as part.folder folder
+        → HasAsked (D.asked disk.old) (D.asked disk.new) (IsPut name.now folder text.now (room_of D.File.contents part) (fault_of result)) }
 {
-    if write_and_flush(&mut beside.file, text).is_err() {
-        let_go(disk, beside.name.as_str(), &beside.file);
+    let Some(length) = part.length.checked_add(text.len() as u64) else {
+        leave(disk, &part);
+        return Err(ShelfFault::Write);
+    };
+    if write_and_flush(&mut part.file, text).is_err() {
+        leave(disk, &part);
         return Err(ShelfFault::Write);
     }
-    let named = name_written(disk, &beside, name, text.len() as u64);
-    let_go(disk, beside.name.as_str(), &beside.file);
-    named
+    name_written(disk, &part, name, length)
 }
 
 // Brings the file beside to the disk, which has so many bytes, and then gives it its name.
 fn name_written<D: Disk>(
     disk: &mut D,
-    beside: &Beside<D::File>,
+    part: &Part<D::File>,
     name: &str,
     length: u64,
 ) -> Result<(), ShelfFault>
     ensures fault { IfErr result IsPutFault }
-    ensures asked { (folder : List ℕ) → D.is_opened_as beside.now.folder folder
+    ensures asked { (folder : List ℕ) → D.is_opened_as part.now.folder folder
         → HasAsked (D.asked disk.old) (D.asked disk.new)
-        (IsNamed (string_bytes beside.now.name) folder name.now (D.File.contents beside.now.file) (fault_of result)) }
+        (IsNamed (string_bytes part.now.name) folder name.now (D.File.contents part.now.file) length (fault_of result)) }
 {
-    if !is_on_disk(disk, beside, length) {
+    if !is_on_disk(disk, part, length) {
         return Err(ShelfFault::Write);
     }
-    match give_name(disk, beside.name.as_str(), name) {
-        Ok(()) => settle(disk, beside, name),
+    match give_name(disk, part.name.as_str(), name) {
+        Ok(()) => settle(disk, part, name),
         Err(fault) => Err(fault),
     }
 }
 
-// Cuts the file beside behind so many bytes, and brings it to the disk. False where that fails, or somebody
-// has taken its name.
-fn is_on_disk<D: Disk>(disk: &mut D, beside: &Beside<D::File>, length: u64) -> bool
+// Cuts the file beside at this length, and brings it to the disk. False where that fails, or somebody has
+// taken its name.
+fn is_on_disk<D: Disk>(disk: &mut D, part: &Part<D::File>, length: u64) -> bool
     ensures asked { HasAsked (D.asked disk.old) (D.asked disk.new)
-        (IsOnDisk (string_bytes beside.now.name) (D.File.contents beside.now.file) result) }
+        (IsOnDisk (string_bytes part.now.name) (D.File.contents part.now.file) length result) }
 {
-    if disk.cut(&beside.file, length).is_err() {
+    if disk.cut(&part.file, length).is_err() {
         return false;
     }
-    if disk.sync_file(&beside.file).is_err() {
+    if disk.sync_file(&part.file).is_err() {
         return false;
     }
-    disk.has_name(beside.name.as_str(), &beside.file)
+    disk.has_name(part.name.as_str(), &part.file)
 }
 
-// Takes the file's own name away, and brings the folder to the disk. Where that fails the new name goes.
-fn settle<D: Disk>(disk: &mut D, beside: &Beside<D::File>, name: &str) -> Result<(), ShelfFault>
+// Brings the folder to the disk, and takes the file's own name away. Where that fails the new name goes.
+fn settle<D: Disk>(disk: &mut D, part: &Part<D::File>, name: &str) -> Result<(), ShelfFault>
     ensures fault { IfErr result IsPutFault }
-    ensures asked { (folder : List ℕ) → D.is_opened_as beside.now.folder folder
+    ensures asked { (folder : List ℕ) → D.is_opened_as part.now.folder folder
         → HasAsked (D.asked disk.old) (D.asked disk.new)
-        (IsSettling (string_bytes beside.now.name) folder name.now (D.File.contents beside.now.file) (fault_of result)) }
+        (IsSettling (string_bytes part.now.name) folder name.now (D.File.contents part.now.file) (fault_of result)) }
 {
-    let_go(disk, beside.name.as_str(), &beside.file);
-    match disk.sync_folder(&beside.folder) {
-        Ok(()) => Ok(()),
+    match disk.sync_folder(&part.folder) {
+        Ok(()) => {
+            let_go(disk, part.name.as_str(), &part.file);
+            Ok(())
+        }
         Err(_) => {
-            let_go(disk, name, &beside.file);
+            take_back(disk, part.name.as_str(), &part.file, name);
             Err(ShelfFault::Write)
         }
+    }
+}
+
+// Takes the new name away from a file, which has its own again. No byte of it is lost.
+fn take_back<D: Disk>(disk: &mut D, own: &str, file: &D::File, name: &str)
+    ensures asked { HasAsked (D.asked disk.old) (D.asked disk.new) (IsTakenBack own.now name.now (D.File.contents file.now)) }
+{
+    if disk.has_name(own, file) {
+        let_go(disk, name, file);
+    } else {
+        let _ = disk.rename(name, own);
     }
 }
 
@@ -286,6 +378,16 @@ fn rename_to_free<D: Disk>(disk: &mut D, own: &str, name: &str) -> Result<(), Sh
             Err(_) => Err(ShelfFault::Write),
         },
         Err(fault) => Err(fault),
+    }
+}
+
+// Lets the file beside go. It stays, where there is a block in it.
+fn leave<D: Disk>(disk: &mut D, part: &Part<D::File>)
+    ensures asked { HasAsked (D.asked disk.old) (D.asked disk.new)
+        (IsLeftBehind part.now.kept (string_bytes part.now.name) (D.File.contents part.now.file)) }
+{
+    if !part.kept {
+        let_go(disk, part.name.as_str(), &part.file);
     }
 }
 

@@ -1,18 +1,26 @@
-//! The tape of what was read.
-ghost use Rattle.std.specs.Prelude.{◌≡◌, ℕ, ◌+◌, ◌*◌, ◌%◌, ◌<◌, ◌≤◌, List, length, IfOk};
+//! The texts of the tape of what was read.
+ghost use Rattle.std.specs.Prelude.{◌≡◌, [], ◌++◌, ◌+◌, ◌*◌, ◌<◌, ◌≤◌, length};
 ghost use Rattle.std.specs.List.{flat_map};
-ghost use Rattle.tape_values.specs.Block.{low_first, top};
-ghost use Rattle.machine_look.specs.SavedTape.{HoldsWhatWasRead, StandFrom, room_for, saved_block, saved_tape};
+ghost use Rattle.arrayvec.specs.ArrayVec.{array_vec_len};
+ghost use Rattle.tape_values.specs.Block.{data_block, low_first, top};
+ghost use Rattle.machine_look.specs.SavedTape.{last_text, room_for, saved_block};
 
+use arrayvec::ArrayVec;
+use byte_io::push_bytes;
 use request_values::AddressRange;
-use std::alloc::{AllocError, Global};
-use tape_values::{Block, Tape};
+use tape_blocks::push_block;
 
-// How many words a block has, but for the last: 512 bytes.
-const BLOCK_WORDS: usize = 256;
+/// How many words a block has, but for the last: 512 bytes.
+pub(crate) const BLOCK_WORDS: usize = 256;
 
 // How many bytes a block has beside its data, and the transfer block without any.
 const FRAME: usize = 7;
+
+// Room for a block, and for the transfer block behind it.
+const TEXT_ROOM: usize = 526;
+
+/// A text that is added to a tape.
+pub(crate) type TapeText = ArrayVec<u8, TEXT_ROOM>;
 
 /// The room that the tape of the words of a range needs, in bytes.
 pub(crate) fn tape_room(range: AddressRange) -> usize
@@ -23,57 +31,55 @@ pub(crate) fn tape_room(range: AddressRange) -> usize
     FRAME * frames + 2 * words
 }
 
-/// The tape of the numbers that stand in memory from an address on, in blocks of 512 bytes, of which the
-/// last may be shorter, and with this start address. The error is want of memory.
-pub(crate) fn tape_of(
-    alloc: Global,
-    from: u16,
-    numbers: &[u16],
-    start: u16,
-) -> Result<Tape, AllocError>
-    requires even { from % 2 ≡ 0 }
-    requires below { from + 2 * length numbers.now ≤ top }
-    ensures made { IfOk result (λ tape. tape ≡ saved_tape from numbers.now start) }
-
-    // So a load of it gives memory back what was read, and changes nothing else.
-    ensures holds { (addresses : List ℕ) → StandFrom from addresses → length numbers.now ≤ length addresses →
-        IfOk result (HoldsWhatWasRead addresses numbers.now) }
-{
-    let count = numbers.len().div_ceil(BLOCK_WORDS);
-    let mut blocks = Vec::with_capacity(alloc, count)?;
-    for number in 0..count {
-        blocks.push(saved_block(alloc, from, numbers, number)?)?;
-    }
-    Ok(Tape::new(blocks, start).unwrap())
-}
-
-// The block of this number.
-fn saved_block(
-    alloc: Global,
-    from: u16,
-    numbers: &[u16],
-    number: usize,
-) -> Result<Block, AllocError>
+/// The text of the block of this number of the tape of the numbers that stand in memory from an address on.
+pub(crate) fn block_text(from: u16, numbers: &[u16], number: usize) -> TapeText
     requires below { from + 2 * length numbers.now ≤ top }
     requires within { 256 * number < length numbers.now }
-    ensures { IfOk result (λ block. block ≡ saved_block from numbers.now number) }
+    ensures { result.items ≡ data_block (saved_block from numbers.now number) }
+{
+    let mut text = TapeText::new();
+    push_saved_block(&mut text, from, numbers, number);
+    text
+}
+
+/// The last text of that tape, with this start address: the numbers that fill no block, where there are some,
+/// as a block that is shorter, and the transfer block.
+pub(crate) fn last_text(from: u16, numbers: &[u16], start: u16) -> TapeText
+    requires below { from + 2 * length numbers.now ≤ top }
+    ensures { result.items ≡ last_text from numbers.now start }
+{
+    let mut text = TapeText::new();
+    let full = numbers.len() / BLOCK_WORDS;
+    if BLOCK_WORDS * full < numbers.len() {
+        push_saved_block(&mut text, from, numbers, full);
+    }
+    push_block(&mut text, start, &[]);
+    text
+}
+
+// Puts the block of this number into a text that is empty.
+fn push_saved_block(text: &mut TapeText, from: u16, numbers: &[u16], number: usize)
+    requires empty { text.old.items ≡ [] }
+    requires below { from + 2 * length numbers.now ≤ top }
+    requires within { 256 * number < length numbers.now }
+    ensures items { text.new.items ≡ data_block (saved_block from numbers.now number) }
+    ensures length { array_vec_len text.new ≤ 519 }
 {
     let first = BLOCK_WORDS * number;
     let behind = (first + BLOCK_WORDS).min(numbers.len());
-    Ok(Block {
-        address: from + 2 * first as u16,
-        bytes: low_bytes_first(alloc, &numbers[first..behind])?,
-    })
+    let bytes = low_bytes_first(&numbers[first..behind]);
+    push_block(text, from + 2 * first as u16, &bytes);
 }
 
 // The bytes of numbers, of each the low one first.
-fn low_bytes_first(alloc: Global, numbers: &[u16]) -> Result<Vec<u8>, AllocError>
+fn low_bytes_first(numbers: &[u16]) -> ArrayVec<u8, 512>
     requires { length numbers.now ≤ 256 }
-    ensures { IfOk result (λ bytes. bytes.items ≡ flat_map low_first numbers.now) }
+    ensures bytes { result.items ≡ flat_map low_first numbers.now }
+    ensures length { array_vec_len result ≡ 2 * length numbers.now }
 {
-    let mut bytes = Vec::with_capacity(alloc, 2 * numbers.len())?;
+    let mut bytes = ArrayVec::new();
     for number in numbers {
-        bytes.extend_from_slice(&number.to_le_bytes())?;
+        push_bytes(&mut bytes, &number.to_le_bytes());
     }
-    Ok(bytes)
+    bytes
 }

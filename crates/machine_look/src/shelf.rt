@@ -1,7 +1,7 @@
-ghost use Rattle.std.specs.Prelude.{ℕ, List, [], ◌∷◌, Option, None, IfErr, ⊤};
-ghost use Rattle.load_devices.specs.Told.{Gains};
-ghost use Rattle.machine_look.specs.Shelf.{IsPutFault, Step, put_step, reserve_step};
-ghost use Rattle.machine_look.specs.ShelfDisk.{ShelfDisk, IsReserveAnswered, IsPutAnswered};
+ghost use Rattle.std.specs.Prelude.{◌≡◌, ℕ, List, IfErr, OnOk, ⊤};
+ghost use Rattle.machine_look.specs.declared.shelf.ShelfFault.TheVariants.{Write};
+ghost use Rattle.machine_look.specs.Shelf.{IsPutFault, Reserve, NotReserved, add_step, put_step};
+ghost use Rattle.machine_look.specs.ShelfTold.{ShelfTold, IsDone, untold_shelf};
 
 use std::alloc::Global;
 
@@ -10,6 +10,9 @@ use std::alloc::Global;
 pub enum ShelfFault {
     /// Something is there already.
     IsThere,
+
+    /// What a save read that did not come to its end is there. It is as it was.
+    PartIsThere,
 
     /// Nothing can be made or written there.
     Write,
@@ -20,24 +23,28 @@ pub enum ShelfFault {
 
 /// Where the tape of a save goes.
 pub trait Shelf {
-    /// What was asked so far, in its order, with what came of it; None where the type doesn't tell.
-    ghost steps: { Self → Option (List Step) } = { λ _. None };
-
-    /// The disk on which the tape goes; None where it goes on none, or the type doesn't say.
-    ghost disk: { Self → Option ShelfDisk } = { λ _. None };
+    /// What was asked so far, in its order, with what came of it, and the disk on which the tape goes; as far
+    /// as the type tells.
+    ghost told: { Self → ShelfTold } = { λ _. untold_shelf };
 
     /// Whether the folder of the room was opened under a name, and nothing was done with it since.
     ghost is_opened_as: { Self → List ℕ → Type 0 } = { λ _ _. ⊤ };
 
     /// Takes the room of so many bytes for a tape, where there is none yet.
     fn reserve(&mut self, alloc: Global, length: usize) -> Result<(), ShelfFault>
-        ensures step { Gains (steps self.old) (steps self.new) (reserve_step length result ∷ []) }
-        ensures disk { IsReserveAnswered (is_opened_as self.new) length (disk self.old) (disk self.new) result };
+        ensures done { OnOk result ((folder : List ℕ) × is_opened_as self.new folder × IsDone folder (Reserve length) (told self.old) (told self.new)) }
+        ensures failed { IfErr result (λ fault. (folder : List ℕ) → IsDone folder (NotReserved length fault) (told self.old) (told self.new)) };
 
-    /// Puts a tape of this text into the room, whole or not at all, and in place of nothing. `Memory` does
-    /// not come.
+    /// Adds the text of a block, behind what was added before, and brings it to where a loss of power leaves
+    /// it. The one fault is `Write`.
+    fn add(&mut self, text: &[u8]) -> Result<(), ShelfFault>
+        ensures fault { IfErr result (λ fault. fault ≡ Write) }
+        ensures opened { (folder : List ℕ) → is_opened_as self.old folder → is_opened_as self.new folder }
+        ensures done { (folder : List ℕ) → IsDone folder (add_step text.now result) (told self.old) (told self.new) };
+
+    /// Adds the last text of a tape, and gives the tape its place, whole or not at all, and in place of
+    /// nothing. `Memory` does not come.
     fn put(&mut self, text: &[u8]) -> Result<(), ShelfFault>
-        ensures step { Gains (steps self.old) (steps self.new) (put_step text.now result ∷ []) }
         ensures fault { IfErr result IsPutFault }
-        ensures disk { IsPutAnswered (is_opened_as self.old) text.now (disk self.old) (disk self.new) result };
+        ensures done { (folder : List ℕ) → is_opened_as self.old folder → IsDone folder (put_step text.now result) (told self.old) (told self.new) };
 }

@@ -2,7 +2,7 @@
 ghost use Rattle.std.specs.Prelude.{◌≡◌, IfErr, IfOk};
 ghost use Rattle.console_lines.specs.Console.{console_told};
 ghost use Rattle.machine_look.specs.LookFault.{IsVerifyFault};
-ghost use Rattle.machine_look.specs.Verify.{IsReported};
+ghost use Rattle.machine_look.specs.Verify.{IsVerifyReported};
 
 use crate::difference::differences;
 use crate::look_fault::LookFault;
@@ -32,7 +32,7 @@ pub fn verify<R: Reach, W: Write, O: Onlooker>(
     out: &mut W,
     onlooker: &O,
 ) -> Result<VerifyEnd, LookFault>
-    ensures reported { IfOk result (IsReported plan.now patience
+    ensures reported { IfOk result (IsVerifyReported plan.now patience
         (console_told R.Reach W.Write console.old out.old)
         (console_told R.Reach W.Write console.new out.new)) }
     ensures call { R.call console.new ≡ R.call console.old }

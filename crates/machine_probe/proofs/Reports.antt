@@ -19,8 +19,8 @@ use Rattle.machine_probe.specs.declared.probe_options.ProbeOptions.{ProbeOptions
 use Rattle.machine_probe.specs.Follow.{IsBrokenOff, IsProbe}
 use Rattle.machine_probe.specs.Noted.{AreNotesSince}
 use Rattle.console_lines.specs.Console.{ConsoleTold}
-use Rattle.console_lines.specs.Reached.{line_told}
-use Rattle.machine_probe.specs.Probe.{IsCutShort, IsReport, IsReportOver, IsReported, IsReportedOver}
+use Rattle.load_devices.specs.Devices.{line_told}
+use Rattle.machine_probe.specs.Probe.{IsProbeCutShort, IsReport, IsReportOver, IsProbeReported, IsProbeReportedOver}
 use Rattle.machine_probe.specs.ProbeFault.{WayTold, way_of, IsProbeFault, IsUnreported, IsWanting, IsWantOfMemory}
 use Rattle.machine_probe.specs.declared.probe_fault.ProbeFault.{ProbeFault}
 use Rattle.machine_probe.specs.declared.probe_fault.ProbeFault.TheVariants.{Connect, Memory}
@@ -61,16 +61,16 @@ report_from {E} options line line' first f notes pace before text (Ok end) addre
 
 pub over_of : {L : Type 0} (tell : Line L) (options : ProbeOptions) (before after : ConsoleTold) (text written : List ℕ) (end : ProbeEnd) →
     Gains before.asked after.asked (asked_once before.call) → IsReportOver tell options before.lines after.lines text end → written ≡ text → Appends before.out after.out written →
-    IsReportedOver tell options before after end
+    IsProbeReportedOver tell options before after end
 over_of {L} tell options before after text written end asks (line, last, given, report) is appended =
     (line, last, given, record { asked = asks; text = text; report = report; reported = subst (Appends before.out after.out) is appended })
 
-pub some_of : {L : Type 0} (tell : Line L) (options : ProbeOptions) (before after : ConsoleTold) (end : ProbeEnd) → IsReportedOver tell options before after end → IsReported options before after end
+pub some_of : {L : Type 0} (tell : Line L) (options : ProbeOptions) (before after : ConsoleTold) (end : ProbeEnd) → IsProbeReportedOver tell options before after end → IsProbeReported options before after end
 some_of {L} tell options before after end (line, last, given, reported) = (tell.told line, line_told tell last, given, reported)
 
 pub cut_of : {L : Type 0} (tell : Line L) (options : ProbeOptions) (before after : ConsoleTold) (text written : List ℕ) (end : ProbeEnd) →
     Gains before.asked after.asked (asked_once before.call) → IsReportOver tell options before.lines after.lines text end → written ≡ text → WritesPrefix before.out after.out written →
-    IsCutShort options before after
+    IsProbeCutShort options before after
 cut_of {L} tell options before after text written end asks (line, last, given, report) is (left, cut) = (
   tell.told line,
   line_told tell last,

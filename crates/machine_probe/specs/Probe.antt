@@ -7,7 +7,7 @@ use Rattle.load_devices.specs.Told.{Gains}
 use Rattle.load_devices.specs.declared.line.Line.{Ghosts as Line}
 use Rattle.console_lines.specs.Dialling.{asked_once}
 use Rattle.console_lines.specs.Console.{ConsoleTold}
-use Rattle.console_lines.specs.Reached.{LineTold, line_told}
+use Rattle.load_devices.specs.Devices.{LineTold, line_told}
 use Rattle.looking_law.specs.Rows.{in_a_row}
 use Rattle.probe_report.specs.declared.findings.Findings.{Findings}
 use Rattle.probe_report.specs.declared.pace.Pace.{Pace}
@@ -59,18 +59,18 @@ pub record IsCutShortOn (options : ProbeOptions) (line line' : Option (List Item
   pub reported : WritesAllBut before.out after.out text missing
 
 -- over a line on which nothing more was said until it was given back
-abbrev pub IsReported : ProbeOptions → ConsoleTold → ConsoleTold → ProbeEnd → Type 0
-IsReported options before after end =
+abbrev pub IsProbeReported : ProbeOptions → ConsoleTold → ConsoleTold → ProbeEnd → Type 0
+IsProbeReported options before after end =
     (line : Option (List Item)) × (last : LineTold) × Gains before.lines after.lines (last ∷ []) × IsReportedOn options line last.said before after end
 
 -- the same, with a report that may be cut short
-abbrev pub IsCutShort : ProbeOptions → ConsoleTold → ConsoleTold → Type 0
-IsCutShort options before after =
+abbrev pub IsProbeCutShort : ProbeOptions → ConsoleTold → ConsoleTold → Type 0
+IsProbeCutShort options before after =
     (line : Option (List Item)) × (last : LineTold) × Gains before.lines after.lines (last ∷ []) × IsCutShortOn options line last.said before after
 
 -- over a line of this type, which tells what was said on it
-abbrev pub IsReportedOver : {L : Type 0} → Line L → ProbeOptions → ConsoleTold → ConsoleTold → ProbeEnd → Type 0
-IsReportedOver {L} tell options before after end =
+abbrev pub IsProbeReportedOver : {L : Type 0} → Line L → ProbeOptions → ConsoleTold → ConsoleTold → ProbeEnd → Type 0
+IsProbeReportedOver {L} tell options before after end =
     (line : L) × (last : L) × Gains before.lines after.lines (line_told tell last ∷ [])
     × IsReportedOn options (tell.told line) (tell.told last) before after end
 

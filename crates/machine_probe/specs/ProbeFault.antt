@@ -11,9 +11,9 @@ use Rattle.machine_probe.specs.declared.probe_fault.ProbeFault.TheVariants.{Conn
 use Rattle.machine_probe.specs.declared.probe_options.ProbeOptions.{ProbeOptions}
 use Rattle.machine_probe.specs.Follow.{IsBrokenOff}
 use Rattle.console_lines.specs.Console.{ConsoleTold}
-use Rattle.console_lines.specs.Reached.{LineTold, line_told}
+use Rattle.load_devices.specs.Devices.{LineTold, line_told}
 use Rattle.console_lines.specs.declared.reach.Reach.{Ghosts as Reach}
-use Rattle.machine_probe.specs.Probe.{IsCutShort}
+use Rattle.machine_probe.specs.Probe.{IsProbeCutShort}
 use Rattle.machine_probe.specs.Runs.{OnLine}
 
 -- what a way to a console tells: what was asked for a line, where that one leads, and what the lines tell that were given back
@@ -56,7 +56,7 @@ IsWanting {L} tell options before after =
 abbrev pub IsProbeFault : ProbeOptions → ConsoleTold → ConsoleTold → ProbeFault → Type 0
 IsProbeFault options before after Connect =
     IsAskedInVain before.call before.asked after.asked × (after.lines ≡ before.lines) × Keeps before.out after.out
-IsProbeFault options before after WriteOutput = IsCutShort options before after
+IsProbeFault options before after WriteOutput = IsProbeCutShort options before after
 IsProbeFault options before after Memory = IsWantOfMemory options (way_of before) (way_of after) × Keeps before.out after.out
 
 -- what makes it come to nothing before there is a report

@@ -7,7 +7,7 @@ ghost use Rattle.reading_core.specs.Addresses.{IsAddress};
 ghost use Rattle.probe_report.specs.ProbeText.{longest_report};
 ghost use Rattle.console_lines.specs.Console.{console_told};
 ghost use Rattle.machine_probe.specs.Follow.{IsBrokenOff};
-ghost use Rattle.machine_probe.specs.Probe.{IsReport, IsReportOver, IsReported, IsReportedOver};
+ghost use Rattle.machine_probe.specs.Probe.{IsReport, IsReportOver, IsProbeReported, IsProbeReportedOver};
 ghost use Rattle.machine_probe.specs.ProbeFault.{way_told, IsProbeFault, IsUnreported, IsWanting};
 ghost use Rattle.machine_probe.specs.Rooms.{AreLookers};
 ghost use Rattle.machine_probe.specs.Runs.{OnLine};
@@ -45,10 +45,10 @@ pub fn probe<R: Reach, W: Write, C: Clock>(
     clock: &C,
 ) -> Result<ProbeEnd, ProbeFault>
     requires { IsAddress options.address }
-    ensures reported { IfOk result (IsReported options
+    ensures reported { IfOk result (IsProbeReported options
         (console_told R.Reach W.Write console.old out.old)
         (console_told R.Reach W.Write console.new out.new)) }
-    ensures over_line { IfOk result (IsReportedOver R.Line.Line options
+    ensures over_line { IfOk result (IsProbeReportedOver R.Line.Line options
         (console_told R.Reach W.Write console.old out.old)
         (console_told R.Reach W.Write console.new out.new)) }
     ensures call { R.call console.new ≡ R.call console.old }

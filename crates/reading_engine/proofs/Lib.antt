@@ -1,3 +1,3 @@
 pub mod Beliefs
 mod Calls
-mod Stretches
+pub mod Stretches

@@ -88,10 +88,10 @@ pub data IsMakingSynced (name : List ℕ) : Made → Bool → List DiskStep → 
       → IsMakingSynced name BehindLink synced (LedTo name target ∷ steps)
   Unresolved : IsMakingSynced name BehindLink false (Failed (Resolve name) ∷ [])
 
--- a file of which this was written is cut behind that, and synced
+-- a file of which this was written is cut, and synced
 pub data IsFileCut (text : Option (List ℕ)) : Bool → List DiskStep → Type 0 where
-  CutAndSynced : (synced : Bool) → IsFileCut text synced (Did (Cut text) ∷ step_by (SyncFile text) synced ∷ [])
-  NotCut : IsFileCut text false (Failed (Cut text) ∷ [])
+  CutAndSynced : (length : ℕ) (synced : Bool) → IsFileCut text synced (Did (Cut text length) ∷ step_by (SyncFile text) synced ∷ [])
+  NotCut : (length : ℕ) → IsFileCut text false (Failed (Cut text length) ∷ [])
 
 -- a file that this load made under this very name goes with it, where the name still leads to it
 pub data IsLetGo (name : List ℕ) : Made → List DiskStep → Type 0 where

@@ -6,8 +6,8 @@ use Rattle.record_file.specs.declared.disk.Access.{Access}
 
 -- what a name leads to is looked at, or what stands under it, or whether that is a plain file without another name, or an open file of which
 -- this much was written, or which name it leads to; a file is opened or made; it is held by this program alone, or given a second name, or
--- renamed, or its name taken away; the folder of a name is brought to the disk; or a file of which this much was written is cut behind that,
--- or brought to the disk
+-- renamed, or its name taken away; the folder of a name is brought to the disk; or a file of which this much was written is cut at this
+-- length, or brought to the disk
 pub data DiskRequest : Type 0 where
   Look : List ℕ → DiskRequest
   LookAtName : List ℕ → DiskRequest
@@ -20,7 +20,7 @@ pub data DiskRequest : Type 0 where
   Rename : List ℕ → List ℕ → DiskRequest
   Remove : List ℕ → DiskRequest
   SyncFolder : List ℕ → DiskRequest
-  Cut : Option (List ℕ) → DiskRequest
+  Cut : Option (List ℕ) → ℕ → DiskRequest
   SyncFile : Option (List ℕ) → DiskRequest
 
 -- something was asked, and done, or it failed; a name led to another

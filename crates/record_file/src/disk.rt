@@ -112,7 +112,7 @@ pub trait Disk {
 
     /// Cuts off what stands in a file behind this length, in bytes.
     fn cut(&mut self, file: &Self::File, length: u64) -> io::Result<()>
-        ensures asked { Tells (asked self.old) (asked self.new) (answered (Cut (Self.File.contents file.now)) result ∷ []) };
+        ensures asked { Tells (asked self.old) (asked self.new) (answered (Cut (Self.File.contents file.now) length) result ∷ []) };
 
     /// Brings a file to the disk. One that has no disk behind it counts as synced.
     fn sync_file(&mut self, file: &Self::File) -> io::Result<()>

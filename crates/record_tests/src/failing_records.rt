@@ -5,7 +5,7 @@ use crate::frail_surroundings::{Frail, RECORD, Stopped, VERIFIED, load_one_word,
 use host_core::End;
 use load_devices::KeepFault;
 use load_engine::Stop;
-use machine_load::LoadFault;
+use machine_load::{LoadEnd, LoadFault};
 use record_file::Writable;
 use simulated_system::{BrokenInput, BrokenOutput, NOWHERE};
 use std::alloc::Global;
@@ -72,19 +72,19 @@ const UNBEGUN: Ending = Err(LoadFault::WriteRecord);
 
 // A word could not be kept.
 const UNKEPT: Ending = Ok(Stopped {
-    stop: Stop::KeepFailed(KeepFault::Write),
+    end: LoadEnd::Driven(Stop::KeepFailed(KeepFault::Write)),
     marked: false,
 });
 
 // The mark could not be kept: the start is not typed.
 const UNMARKED: Ending = Ok(Stopped {
-    stop: Stop::KeepFailed(KeepFault::Write),
+    end: LoadEnd::Driven(Stop::KeepFailed(KeepFault::Write)),
     marked: true,
 });
 
 // The program was started.
 const STARTED: Ending = Ok(Stopped {
-    stop: Stop::Ended(End::Started),
+    end: LoadEnd::Driven(Stop::Ended(End::Started)),
     marked: true,
 });
 
@@ -92,7 +92,8 @@ const STARTED: Ending = Ok(Stopped {
 // fails, and then how it ends, how many bytes of that record were written before, and what is reported.
 type Row = (&'static [u8], u16, u32, Ending, usize, &'static str);
 
-// A write takes seven bytes at most: two for the header, two for the word, one for the mark.
+// A write takes seven bytes at most: two for the header, two for the word, one for the mark. A look at a word of the
+// record takes 9 keys.
 const WRITES: [Row; 10] = [
     (b"", 0, 1, UNBEGUN, 0, ""),
     (b"", 0, 2, UNBEGUN, 7, ""),
@@ -136,7 +137,7 @@ const WRITES: [Row; 10] = [
         5,
         UNMARKED,
         22,
-        "sent 8 spent 0 verified 1 of 1\nend KeepFailed\n",
+        "sent 17 spent 0 verified 1 of 1\nend KeepFailed\n",
     ),
     (
         VERIFIED,
@@ -144,7 +145,7 @@ const WRITES: [Row; 10] = [
         6,
         STARTED,
         25,
-        "sent 8 spent 0 verified 1 of 1\nend Started\n",
+        "sent 17 spent 0 verified 1 of 1\nend Started\n",
     ),
 ];
 

@@ -3,9 +3,8 @@
 use byte_io::read_up_to;
 use honest_line::MemoryLine;
 use load_devices::{LineFault, Unwatched};
-use load_engine::Stop;
 use load_record::{FileKeep, LastingWrite, RECORD_LIMIT};
-use machine_load::{LoadFault, Surroundings, load};
+use machine_load::{LoadEnd, LoadFault, Surroundings, load};
 use odt_machine::{LARGEST_WORDS, Odt, PLAIN_STYLE};
 use record_file::{OldRecord, RecordFault, Writable};
 use request_values::LoadOptions;
@@ -121,10 +120,10 @@ pub(crate) fn machine(alloc: Global, word: u16) -> Option<Odt> {
     Some(odt)
 }
 
-/// How a load stopped that was reported, and whether the host had come to the start.
+/// How a load ended that was reported, and whether the host had come to the start.
 #[derive(Clone, Copy, PartialEq, Eq)]
 pub(crate) struct Stopped {
-    pub(crate) stop: Stop,
+    pub(crate) end: LoadEnd,
     pub(crate) marked: bool,
 }
 
@@ -143,7 +142,7 @@ pub(crate) fn load_one_word(
     };
     Some(match load(alloc, plan, options, around, out, &Unwatched) {
         Ok(outcome) => Ok(Stopped {
-            stop: outcome.stop,
+            end: outcome.end,
             marked: outcome.marked,
         }),
         Err(fault) => Err(fault),

@@ -5,7 +5,7 @@ use crate::frail_surroundings::{Frail, RECORD, Stopped, VERIFIED, load_one_word,
 use host_core::End;
 use load_engine::Stop;
 use load_record::RecordError;
-use machine_load::LoadFault;
+use machine_load::{LoadEnd, LoadFault};
 use record_file::{RecordFault, Writable};
 use simulated_system::{BrokenInput, BrokenOutput, NOWHERE, ONE_WORD};
 use std::alloc::Global;
@@ -16,14 +16,20 @@ type Ending = Result<Stopped, LoadFault>;
 
 // The program was started.
 const STARTED: Ending = Ok(Stopped {
-    stop: Stop::Ended(End::Started),
+    end: LoadEnd::Driven(Stop::Ended(End::Started)),
     marked: true,
 });
 
 // The start was typed in an earlier life.
 const MAYBE_STARTED: Ending = Ok(Stopped {
-    stop: Stop::Ended(End::MaybeStarted),
+    end: LoadEnd::Driven(Stop::Ended(End::MaybeStarted)),
     marked: true,
+});
+
+// Memory does not hold the word that the record has.
+const STALE: Ending = Ok(Stopped {
+    end: LoadEnd::Stale(0o001000),
+    marked: false,
 });
 
 // The record may not be written.
@@ -286,23 +292,17 @@ fn a_record_that_is_not_written_is_not_connected_for(rt: HostRuntime) {
 // The word is looked at and typed and looked at again: 23 keys, and 7 to start it.
 const TYPED: &str = "sent 30 spent 0 verified 1 of 1\nend Started\n";
 
-// Loads that go on to the start. Where the word counts as verified, only the start is typed; where it is
-// looked at and stands, 8 keys more.
-const STARTS: [Row; 9] = [
+// Loads that go on to the start. Where the word counts as verified, it is looked at first, by 9 keys, and then
+// only the start is typed, by 8; where each word is to be looked at again, and it stands, it takes 16 in all.
+const STARTS: [Row; 8] = [
     (EMPTY, false, STARTED, TYPED),
     (EMPTY, true, STARTED, TYPED),
-    (
-        LOST,
-        false,
-        STARTED,
-        "sent 8 spent 0 verified 1 of 1\nend Started\n",
-    ),
     (LOST, true, STARTED, TYPED),
     (
         STANDS,
         false,
         STARTED,
-        "sent 8 spent 0 verified 1 of 1\nend Started\n",
+        "sent 17 spent 0 verified 1 of 1\nend Started\n",
     ),
     (
         STANDS,
@@ -314,7 +314,7 @@ const STARTS: [Row; 9] = [
         CURRENT_IN_PLACE,
         false,
         STARTED,
-        "sent 8 spent 0 verified 1 of 1\nend Started\n",
+        "sent 17 spent 0 verified 1 of 1\nend Started\n",
     ),
     (
         CURRENT_IN_PLACE,
@@ -347,10 +347,29 @@ fn words_that_are_to_be_looked_at_again_are(rt: HostRuntime) {
     }
 }
 
-// What a load whose line fails at once has written by then.
+// What is reported where the word was looked at and is another one.
+const NOT_HELD: &str = "sent 9 spent 0 verified 0 of 1\nend Stale 001000\n";
+
+#[test]
+fn a_record_that_memory_does_not_hold_is_left(rt: HostRuntime) {
+    let half_lost = Found {
+        record: b"LDAODT 1\n001000 177777 011064\n",
+        word: 0o011065,
+        ..LOST
+    };
+    for (place, found) in [LOST, half_lost].iter().enumerate() {
+        let left = left_by(rt.alloc(), *found, false);
+        assert!(rt;
+            left.connected && left.is(STALE, NOT_HELD, b""),
+            "row {place}"
+        );
+    }
+}
+
+// What a load whose line fails at once has written by then: nothing, where it is at its looks.
 const BEGINNINGS: [(Found, bool, &[u8]); 4] = [
     (EMPTY, false, b"LDAODT 2\n"),
-    (STANDS, false, b"LDAODT 2\n001000 011064"),
+    (STANDS, false, b""),
     (STANDS, true, b"LDAODT 2\n"),
     (LOST, true, b"LDAODT 2\n"),
 ];
@@ -444,10 +463,10 @@ fn place_of(left: &Left) -> Option<Place> {
     if outcome.marked != has_mark {
         return None;
     }
-    match outcome.stop {
-        Stop::LineFailed(_) if has_mark => Some(Place::BehindMark),
-        Stop::LineFailed(_) => Some(Place::BeforeMark),
-        Stop::Ended(End::Started) => Some(Place::Nowhere),
+    match outcome.end {
+        LoadEnd::Driven(Stop::LineFailed(_)) if has_mark => Some(Place::BehindMark),
+        LoadEnd::Driven(Stop::LineFailed(_)) => Some(Place::BeforeMark),
+        LoadEnd::Driven(Stop::Ended(End::Started)) => Some(Place::Nowhere),
         _ => None,
     }
 }

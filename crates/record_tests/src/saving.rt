@@ -10,7 +10,7 @@ use std::io::ErrorKind;
 // The file of a save, the one beside it, and what is put there.
 const SAVED: &str = "shelf.lda";
 
-const BESIDE: &str = "shelf.lda.ldaodt-new";
+const BESIDE: &str = "shelf.lda.part";
 
 const TEXT: &str = "a tape";
 
@@ -20,14 +20,18 @@ const ROOM: usize = 10;
 // What somebody else's file has.
 const OTHERS: &str = "hello";
 
-// The file is made, held and filled, and opened once more; the tape is on the disk before it gets its name,
-// and then that is, too.
-const WHOLE: [Step; 13] = [
+// What the one beside it holds that is not cut: the tape, and bytes 00.
+const UNCUT: &str = "a tape\0\0\0\0";
+
+// The file is made, held and filled, its name is on the disk, too, and it is opened once more; the tape is on
+// the disk before it gets its name, and then that is, too.
+const WHOLE: [Step; 14] = [
     Step::OpenFolder,
     Step::OpenBeside,
     Step::HoldBeside,
     Step::Write,
     Step::Flush,
+    Step::SyncAll,
     Step::SyncAll,
     Step::OpenBeside,
     Step::Write,
@@ -67,12 +71,12 @@ type Row = (
     Option<&'static str>,
 );
 
-const ROWS: [Row; 16] = [
+const ROWS: [Row; 17] = [
     (
         NO_FAULT,
         Meanwhile::Nothing,
         Ok(()),
-        13,
+        14,
         &[],
         Some(TEXT),
         None,
@@ -125,7 +129,7 @@ const ROWS: [Row; 16] = [
         None,
     ),
     (
-        &[(Step::OpenBeside, 2, ErrorKind::Other)],
+        &[(Step::SyncAll, 2, ErrorKind::Other)],
         Meanwhile::Nothing,
         Err(ShelfFault::Write),
         7,
@@ -134,7 +138,7 @@ const ROWS: [Row; 16] = [
         None,
     ),
     (
-        &[(Step::Write, 2, ErrorKind::StorageFull)],
+        &[(Step::OpenBeside, 2, ErrorKind::Other)],
         Meanwhile::Nothing,
         Err(ShelfFault::Write),
         8,
@@ -143,7 +147,7 @@ const ROWS: [Row; 16] = [
         None,
     ),
     (
-        &[(Step::Flush, 2, ErrorKind::Other)],
+        &[(Step::Write, 2, ErrorKind::StorageFull)],
         Meanwhile::Nothing,
         Err(ShelfFault::Write),
         9,
@@ -151,9 +155,8 @@ const ROWS: [Row; 16] = [
         None,
         None,
     ),
-    // Bytes that only took room are no part of a tape.
     (
-        &[(Step::Cut, 1, ErrorKind::Other)],
+        &[(Step::Flush, 2, ErrorKind::Other)],
         Meanwhile::Nothing,
         Err(ShelfFault::Write),
         10,
@@ -161,24 +164,34 @@ const ROWS: [Row; 16] = [
         None,
         None,
     ),
-    // A tape that is not on the disk gets no name; one with no disk behind it does.
+    // Once it was written it stays, whatever comes. Bytes that only took room are no part of a tape.
     (
-        &[(Step::SyncAll, 2, ErrorKind::Other)],
+        &[(Step::Cut, 1, ErrorKind::Other)],
         Meanwhile::Nothing,
         Err(ShelfFault::Write),
         11,
-        GIVEN_UP,
+        &[],
         None,
+        Some(UNCUT),
+    ),
+    // A tape that is not on the disk gets no name; one with no disk behind it does.
+    (
+        &[(Step::SyncAll, 3, ErrorKind::Other)],
+        Meanwhile::Nothing,
+        Err(ShelfFault::Write),
+        12,
+        &[],
         None,
+        Some(TEXT),
     ),
     (
         &[
             (Step::SyncAll, 1, ErrorKind::InvalidInput),
-            (Step::SyncAll, 2, ErrorKind::InvalidInput),
+            (Step::SyncAll, 3, ErrorKind::InvalidInput),
         ],
         Meanwhile::Nothing,
         Ok(()),
-        13,
+        14,
         &[],
         Some(TEXT),
         None,
@@ -187,36 +200,36 @@ const ROWS: [Row; 16] = [
         &[(Step::Rename, 1, ErrorKind::PermissionDenied)],
         Meanwhile::Nothing,
         Err(ShelfFault::Write),
-        12,
-        GIVEN_UP,
+        13,
+        &[],
         None,
-        None,
+        Some(TEXT),
     ),
     // A name that is not on the disk goes again.
     (
-        &[(Step::SyncAll, 3, ErrorKind::Other)],
+        &[(Step::SyncAll, 4, ErrorKind::Other)],
         Meanwhile::Nothing,
         Err(ShelfFault::Write),
-        13,
-        &[Step::Remove],
+        14,
+        &[Step::Rename],
         None,
-        None,
+        Some(TEXT),
     ),
     // Somebody else's file is as it was, and gets no other name.
     (
         NO_FAULT,
         Meanwhile::Named,
         Err(ShelfFault::IsThere),
-        11,
-        GIVEN_UP,
+        12,
+        &[],
         Some(OTHERS),
-        None,
+        Some(TEXT),
     ),
     (
         NO_FAULT,
         Meanwhile::Replaced,
         Err(ShelfFault::Write),
-        11,
+        12,
         &[],
         None,
         Some(OTHERS),

@@ -1,7 +1,7 @@
 //! What a person can ask of `ldaodt`, as values.
 //!
-//! A `Request` names a command, its files and its options: it is a `TapeRequest`, which does nothing but print, or a
-//! `MachineRequest`, as a `Load`, a `Look`, a `Save` or a `Probe`. A `Console` is a simulated one. A value that can't
+//! A `Request` names a command, its files and its options: it is a `TapeRequest`, which does nothing but print, a
+//! `Make`, which makes a tape of words, or a `MachineRequest`, as a `Load`, a `Look`, a `Save` or a `Probe`. A `Console` is a simulated one. A value that can't
 //! be meant can't be had where a type can say so: an `AddressRange` is two addresses of words in their order, and a
 //! probe's address is one of memory.
 //!
@@ -15,6 +15,6 @@ mod range;
 mod request;
 
 pub use machine::{Load, Look, Probe, Save};
-pub use options::LoadOptions;
+pub use options::{CheckOptions, LoadOptions};
 pub use range::AddressRange;
-pub use request::{Console, MachineRequest, Rehearsal, Request, Stage, TapeRequest};
+pub use request::{Console, MachineRequest, Make, Rehearsal, Request, Stage, TapeRequest};

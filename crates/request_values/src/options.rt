@@ -1,3 +1,10 @@
+/// What is printed of checked tapes beside their usual text.
+#[derive(Clone, Copy, Debug, PartialEq, Eq)]
+pub struct CheckOptions {
+    /// Whether each block is listed.
+    pub blocks: bool,
+}
+
 /// How a load is to go about it.
 #[derive(Clone, Copy, Debug, PartialEq, Eq)]
 pub struct LoadOptions {

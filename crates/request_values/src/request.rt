@@ -1,4 +1,5 @@
 use crate::machine::{Load, Look, Probe, Save};
+use crate::options::CheckOptions;
 use odt_machine::Style;
 use tape_image::Start;
 
@@ -11,6 +12,9 @@ pub enum Request<'a> {
     /// What is about no machine: it does nothing but print.
     Tape(TapeRequest<'a>),
 
+    /// A tape is made of octal words: it writes a new file, and is about no machine.
+    Make(Make<'a>),
+
     /// What is done at a real machine.
     Machine(MachineRequest<'a>),
 }
@@ -19,25 +23,25 @@ impl Request<'_> {
     ghost use Rattle.std.specs.Prelude.{◌≡◌};
     ghost use Rattle.request_values.specs.Request.{only_prints};
 
-    /// Whether it does nothing but print: it is about no machine.
+    /// Whether it does nothing but print.
     pub fn only_prints(&self) -> bool
         ensures { result ≡ only_prints self.now }
     {
         match self {
             Request::Tape(_) => true,
-            Request::Machine(_) => false,
+            Request::Make(_) | Request::Machine(_) => false,
         }
     }
 }
 
-/// What is asked that is about no machine.
+/// What is asked that is about no machine, and answered by what is printed.
 #[derive(Drop)]
 pub enum TapeRequest<'a> {
     /// Check the tape on standard input: there were no words.
     CheckInput,
 
     /// Check the tapes in some files.
-    Check(Vec<&'a str>),
+    Check(Vec<&'a str>, CheckOptions),
 
     /// Show the load of tapes, as one, into a simulated console.
     Dialogue(Vec<&'a str>, Stage),
@@ -63,6 +67,19 @@ pub enum MachineRequest<'a> {
 
     /// Find out what stands at the other end of a line, and whether it may be trusted.
     Probe(Probe<'a>),
+}
+
+/// A tape that is made of octal words.
+#[derive(Clone, Copy, Debug, PartialEq, Eq)]
+pub struct Make<'a> {
+    /// The new tape's file, which is not there yet.
+    pub file: &'a str,
+
+    /// The file of the words; `-` is standard input.
+    pub words: &'a str,
+
+    /// The start address of the tape; an odd one starts nothing.
+    pub start: u16,
 }
 
 /// A simulated console: how many words its machine has, and how it answers.

@@ -1,3 +1,7 @@
+mod Attempted
 mod Loaded
+mod Looked
+mod Made
 mod Saved
+mod Ways
 mod Whatever

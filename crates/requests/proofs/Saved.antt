@@ -1,51 +1,43 @@
--- What becomes of a save, by what is said of its disk.
-use Rattle.std.proofs.Common.{◌≡◌, ◌∙◌, ◌++◌, ℕ, List, Option, None, Result, Ok, Err, IfOk, IfErr, inr, ap, refl, sym, subst}
-use Rattle.load_devices.proofs.Told.{tells_join}
-use Rattle.load_devices.specs.Told.{HasAsked}
+-- What becomes of a save, by what is said of its shelf.
+use Rattle.std.proofs.Common.{◌≡◌, ℕ, List, Option, None, Some, Result, Ok, Err, IfOk, IfErr, inr, sym}
 use Rattle.record_file.specs.DiskStep.{DiskStep}
 use Rattle.machine_look.specs.Save.{IsSavedAndReported}
-use Rattle.machine_look.specs.SaveDisk.{IsSavedOn}
-use Rattle.machine_look.specs.ShelfDisk.{ShelfDisk, IsClosed}
+use Rattle.machine_look.specs.ShelfDisk.{Room}
+use Rattle.machine_look.specs.ShelfTold.{ShelfTold}
 use Rattle.machine_look.specs.declared.save_end.SaveEnd.{SaveEnd}
 use Rattle.endings.specs.declared.failure.Failure.{Failure}
 use Rattle.endings.specs.declared.status.Status.{Status}
 use Rattle.input_files.specs.Opening.{Name}
 use Rattle.request_values.specs.declared.machine.Save.{Save}
 use Rattle.requests.specs.Ending.{after_save}
-use Rattle.requests.specs.Errand.{Told}
-use Rattle.requests.specs.Saving.{AsksForTape, IsLetGoAfter, IsSaveFailure, IsSaveOver, options_of, save_told_of}
+use Rattle.requests.specs.Looking.{console_at}
+use Rattle.requests.specs.Moment.{Moment}
+use Rattle.requests.specs.Saving.{AreWordsSaved, AreWordsUnsaved, IsLetGo, new_shelf, options_of, save_told_by, save_told_first}
 
-as_known : (b : ShelfDisk) (asked : Option (List DiskStep)) (name : List ℕ) → b.asked ≡ asked → b.name ≡ name → b.room ≡ None
-    → b ≡ record { asked = asked; name = name; room = None }
-as_known b asked name p q r =
-    ap (λ x. record b { asked = x }) p ∙ ap (λ x. record b { asked = asked; name = x }) q ∙ ap (λ x. record b { asked = asked; name = name; room = x }) r
+-- a shelf on a disk
+abbrev pub shelf_on : Option (List DiskStep) → List ℕ → Option Room → ShelfTold
+shelf_on asked name room = record { steps = None; disk = Some (record { asked = asked; name = name; room = room }) }
 
--- a shelf that was new, and was let go behind a save
-pub let_go_new : (name : Name) (b a : ShelfDisk) (asked last : Option (List DiskStep)) → b.asked ≡ asked → b.name ≡ name.now → b.room ≡ None
-    → HasAsked a.asked last (IsClosed a.room) → (holds : ShelfDisk → ShelfDisk → List DiskStep → Type 0) → HasAsked b.asked a.asked (holds b a)
-    → HasAsked asked last (IsLetGoAfter name asked holds)
-let_go_new name b a asked last p q r closed holds h =
-    subst (λ x. HasAsked x last (IsLetGoAfter name asked holds)) p (
-      h.0 ++ closed.0,
-      tells_join b.asked a.asked last h.0 closed.0 h.1 closed.1,
-      record {
-        shelf = a;
-        before = h.0;
-        going = closed.0;
-        is_so = subst (λ d. holds d a h.0) (as_known b asked name.now p q r) h.2;
-        closed = closed.2;
-        all = refl;
-      },
-    )
+pub new_is : (name : Name) (asked asked' : Option (List DiskStep)) (name' : List ℕ) (room : Option Room) → asked' ≡ asked → name' ≡ name.now → room ≡ None
+    → shelf_on asked' name' room ≡ new_shelf name asked
+new_is name asked asked' name' room p q r = λ i. record { steps = None; disk = Some (record { asked = p i; name = q i; room = r i }) }
 
-pub over_ok : (result : Result Status Failure) (save : Save) (before after : Told) (end : SaveEnd) → result ≡ after_save end
-    → IsSavedAndReported (options_of save) (save_told_of before.console) (save_told_of after.console) end → AsksForTape save before after (IsSavedOn (options_of save))
-    → IfOk result (IsSaveOver save before after)
-over_ok (Ok status) save before after end is reported disk = record { end = end; reported = reported; status_is = sym is; disk = disk }
-over_ok (Err failure) save before after end is reported disk = tt
+module _ (save : Save) (before after : Moment) (no_file : after.asked.inputs ≡ before.asked.inputs) (nothing_read : after.held.input ≡ before.held.input)
+    (end : SaveEnd) (shelf : ShelfTold)
+    (reported : IsSavedAndReported (options_of save) (save_told_first save before) (save_told_by shelf (console_at save.look after)) end)
+    (gone : IsLetGo shelf.disk after.asked.outside.disk) where
+  pub saved : (result : Result Status Failure) → result ≡ after_save end → IfOk result (AreWordsSaved save before after)
+  saved (Ok status) is = record {
+    saved = record { end = end; shelf = shelf; reported = reported; status_is = sym is; let_go = gone };
+    no_file = no_file;
+    nothing_read = nothing_read;
+  }
+  saved (Err failure) is = tt
 
-pub over_err : (result : Result Status Failure) (save : Save) (before after : Told) (end : SaveEnd) → result ≡ after_save end
-    → IsSavedAndReported (options_of save) (save_told_of before.console) (save_told_of after.console) end → AsksForTape save before after (IsSavedOn (options_of save))
-    → IfErr result (IsSaveFailure save before after)
-over_err (Ok status) save before after end is reported disk = tt
-over_err (Err failure) save before after end is reported disk = inr (record { end = end; reported = reported; failed = sym is; disk = disk })
+  pub unsaved : (result : Result Status Failure) → result ≡ after_save end → IfErr result (AreWordsUnsaved save before after)
+  unsaved (Ok status) is = tt
+  unsaved (Err failure) is = record {
+    failed = inr (record { end = end; shelf = shelf; reported = reported; failed = sym is; let_go = gone });
+    no_file = no_file;
+    nothing_read = nothing_read;
+  }

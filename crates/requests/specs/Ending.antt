@@ -2,23 +2,24 @@
 use Rattle.std.specs.Prelude.{◌≡◌, ℕ, Bool, if◌then◌else◌, List, Result, Ok, Err}
 use Rattle.load_engine.specs.declared.stop.Stop.{Stop}
 use Rattle.load_engine.specs.declared.stop.Stop.TheVariants as stop
-use Rattle.machine_load.specs.declared.fault.LoadFault.{LoadFault}
 use Rattle.machine_load.specs.declared.fault.LoadFault.TheVariants as load
-use Rattle.machine_look.specs.declared.look_fault.LookFault.{LookFault}
+use Rattle.machine_load.specs.declared.load_end.LoadEnd.{LoadEnd}
+use Rattle.machine_load.specs.declared.load_end.LoadEnd.TheVariants as load_end
 use Rattle.machine_look.specs.declared.look_fault.LookFault.TheVariants as look
 use Rattle.machine_look.specs.declared.save_end.SaveEnd.{SaveEnd}
 use Rattle.machine_look.specs.declared.save_end.SaveEnd.TheVariants as save
 use Rattle.machine_look.specs.declared.verify_end.VerifyEnd.{VerifyEnd}
 use Rattle.machine_look.specs.declared.verify_end.VerifyEnd.TheVariants as verify
-use Rattle.machine_probe.specs.declared.probe_fault.ProbeFault.{ProbeFault}
 use Rattle.machine_probe.specs.declared.probe_fault.ProbeFault.TheVariants as probe_fault
 use Rattle.probe_report.specs.declared.probe_end.ProbeEnd.{ProbeEnd}
 use Rattle.probe_report.specs.declared.probe_end.ProbeEnd.TheVariants as probe
 use Rattle.endings.specs.declared.failure.Failure.{Failure}
-use Rattle.endings.specs.declared.failure.Failure.TheVariants.{CannotWrite, CannotWriteFile, FileIsThere, RecordInUse, CannotConnect}
-use Rattle.endings.specs.declared.failure.Failure.TheVariants.{LineFailed, StartInDoubt, RecordRefused, NoMemory}
+use Rattle.endings.specs.declared.failure.Failure.TheVariants.{CannotWrite, CannotWriteFile, FileIsThere, PartIsThere, RecordInUse, CannotConnect}
+use Rattle.endings.specs.declared.failure.Failure.TheVariants.{LineFailed, StartInDoubt, RecordRefused, RecordStale, NoMemory}
 use Rattle.endings.specs.declared.status.Status.{Status}
 use Rattle.endings.specs.declared.status.Status.TheVariants.{Done, Differs, NotLoaded}
+use Rattle.requests.specs.declared.machine_fault.MachineFault.{MachineFault}
+use Rattle.requests.specs.declared.machine_fault.MachineFault.TheVariants.{Load, Look, Probe}
 use Rattle.endings.specs.Failure.{NamesFile}
 use Rattle.endings.specs.Status.{end_status}
 
@@ -37,50 +38,62 @@ abbrev pub NamesAddress : List ℕ → Failure → Type 0
 NamesAddress text (CannotConnect address) = address.now ≡ text
 NamesAddress text other = ⊥
 
--- the failure that a load's fault is, where its console and its record have these names
-abbrev pub IsLoadFailureOf : LoadFault → List ℕ → List ℕ → Failure → Type 0
-IsLoadFailureOf load.ReadRecord address file failure = NamesFile file failure
-IsLoadFailureOf load.RecordInUse address file failure = NamesHeldFile file failure
-IsLoadFailureOf (load.Record reason) address file failure = failure ≡ RecordRefused reason
-IsLoadFailureOf load.Connect address file failure = NamesAddress address failure
-IsLoadFailureOf load.WriteRecord address file failure = NamesWrittenFile file failure
-IsLoadFailureOf load.WriteOutput address file failure = failure ≡ CannotWrite
-IsLoadFailureOf load.Memory address file failure = failure ≡ NoMemory
-
 -- the failure is that there is a file of this name already
 abbrev pub NamesFileThere : List ℕ → Failure → Type 0
 NamesFileThere text (FileIsThere name) = name.now ≡ text
 NamesFileThere text other = ⊥
 
--- the failure that a look's fault is, where its console and its new file have these names
-abbrev pub IsLookFailureOf : LookFault → List ℕ → List ℕ → Failure → Type 0
-IsLookFailureOf look.IsThere address file failure = NamesFileThere file failure
-IsLookFailureOf look.WriteTape address file failure = NamesWrittenFile file failure
-IsLookFailureOf look.Connect address file failure = NamesAddress address failure
-IsLookFailureOf look.WriteOutput address file failure = failure ≡ CannotWrite
-IsLookFailureOf look.Memory address file failure = failure ≡ NoMemory
+-- the failure is that there is a part of a save beside this name already
+abbrev pub NamesPartThere : List ℕ → Failure → Type 0
+NamesPartThere text (PartIsThere name) = name.now ≡ text
+NamesPartThere text other = ⊥
 
--- the failure that a probe's fault is, where its console has this name
-abbrev pub IsProbeFailureOf : ProbeFault → List ℕ → Failure → Type 0
-IsProbeFailureOf probe_fault.Connect address failure = NamesAddress address failure
-IsProbeFailureOf probe_fault.WriteOutput address failure = failure ≡ CannotWrite
-IsProbeFailureOf probe_fault.Memory address failure = failure ≡ NoMemory
+-- the failure that a fault at a machine is, where its console has this name, and its record or its new file that one
+abbrev pub IsFailureOf : MachineFault → List ℕ → List ℕ → Failure → Type 0
+IsFailureOf (Load load.ReadRecord) console file failure = NamesFile file failure
+IsFailureOf (Load load.RecordInUse) console file failure = NamesHeldFile file failure
+IsFailureOf (Load (load.Record reason)) console file failure = failure ≡ RecordRefused reason
+IsFailureOf (Load load.WriteRecord) console file failure = NamesWrittenFile file failure
+IsFailureOf (Look look.IsThere) console file failure = NamesFileThere file failure
+IsFailureOf (Look look.PartIsThere) console file failure = NamesPartThere file failure
+IsFailureOf (Look look.WriteTape) console file failure = NamesWrittenFile file failure
+IsFailureOf (Load load.Connect) console file failure = NamesAddress console failure
+IsFailureOf (Look look.Connect) console file failure = NamesAddress console failure
+IsFailureOf (Probe probe_fault.Connect) console file failure = NamesAddress console failure
+IsFailureOf (Load load.WriteOutput) console file failure = failure ≡ CannotWrite
+IsFailureOf (Look look.WriteOutput) console file failure = failure ≡ CannotWrite
+IsFailureOf (Probe probe_fault.WriteOutput) console file failure = failure ≡ CannotWrite
+IsFailureOf (Load load.Memory) console file failure = failure ≡ NoMemory
+IsFailureOf (Look look.Memory) console file failure = failure ≡ NoMemory
+IsFailureOf (Probe probe_fault.Memory) console file failure = failure ≡ NoMemory
 
 -- how a load fails whose line did: once the start was typed, or may have been, it says so
 abbrev pub line_failure : Bool → Failure
 line_failure marked = if marked then StartInDoubt else LineFailed
 
--- how a load that was reported fails all the same: the line failed, or the record's keeper
+-- how a load fails all the same whose engine stopped so: the line failed, or the record's keeper
 abbrev pub IsStopFailure : Stop → Bool → List ℕ → Failure → Type 0
 IsStopFailure (stop.LineFailed fault) marked file failure = failure ≡ line_failure marked
 IsStopFailure (stop.KeepFailed fault) marked file failure = NamesWrittenFile file failure
 IsStopFailure other marked file failure = ⊥
 
--- how the program ended where a load stopped so and was reported: where its line or its keeper failed, that is a failure and no ending
+-- how the program ended where the engine stopped so: where its line or its keeper failed, that is a failure and no ending
 abbrev pub IsStopStatus : Stop → Status → Type 0
 IsStopStatus (stop.Ended end) status = status ≡ end_status end
 IsStopStatus stop.TurnsOver status = status ≡ NotLoaded
 IsStopStatus other status = ⊥
+
+-- how a load that was reported fails all the same: its engine failed, or that of its looks; or memory does not hold what its record says
+abbrev pub IsEndedFailure : LoadEnd → Bool → List ℕ → Failure → Type 0
+IsEndedFailure (load_end.Driven stop) marked file failure = IsStopFailure stop marked file failure
+IsEndedFailure (load_end.Unfinished stop) marked file failure = IsStopFailure stop marked file failure
+IsEndedFailure (load_end.Stale address) marked file failure = failure ≡ RecordStale
+
+-- how the program ended where a load ended so and was reported
+abbrev pub IsEndedStatus : LoadEnd → Status → Type 0
+IsEndedStatus (load_end.Driven stop) status = IsStopStatus stop status
+IsEndedStatus (load_end.Unfinished stop) status = IsStopStatus stop status
+IsEndedStatus (load_end.Stale address) status = ⊥
 
 -- how the program ends after a `verify` that ended so: where its line failed, that is a failure and no ending
 abbrev pub after_verify : VerifyEnd → Result Status Failure

@@ -1,10 +1,10 @@
 pub mod Asked
 pub mod Attempt
 pub mod Ending
-pub mod Errand
 pub mod Listening
 pub mod Loading
 pub mod Looking
+pub mod Making
 pub mod Moment
 pub mod Planning
 pub mod Probing

@@ -1,43 +1,65 @@
 //! What a person at the terminal is told beside the report.
 
-use crate::host::Host;
 use host_core::End;
 use load_devices::Line;
 use load_engine::Stop;
-use machine_load::{Outcome, StubStop, Stubs};
+use load_progress::ProgressLine;
+use machine_load::{LoadEnd, Outcome, StubStop, Stubs};
 use octal::Octal;
 use request_values::Load;
+use std::alloc::Global;
 use std::fmt;
 use std::io::Print;
 use std::time::Clock;
 
-impl<K: Clock, T: Print> Host<'_, K, T> {
-    /// Tells behind the report of a load of so many words how many of them are verified by the record alone,
-    /// why stubs verified none, where they were asked for, and what helps where the load did not come to its
-    /// end.
-    pub(crate) fn advise<L: Line>(&self, load: Load<'_>, words: u32, outcome: &Outcome<L>) {
-        let Some(progress) = &self.progress else {
-            return;
-        };
-        // A load that was over before it began has looked at nothing.
-        let recorded = match outcome.line {
-            Some(_) => progress.done_at_first(),
-            None => words,
-        };
-        if recorded > 0
-            && let Ok(text) = format!(in self.alloc; "{recorded} of {words} by the record\n")
-        {
-            progress.say(text.as_str());
-        }
-        if let Some(Stubs { tally, stop }) = outcome.stubs
-            && tally.verified <= recorded
-            && let Ok(text) = format!(in self.alloc; "--fast did not serve: {}\n", NoStub(stop))
-        {
-            progress.say(text.as_str());
-        }
-        if let Some(text) = advice(load, outcome, progress.done()) {
-            progress.say(text);
-        }
+/// Who looks on: the line on the terminal, where there is one. `goes_on` says whether what was done need not be
+/// done again after a break.
+pub(crate) fn onlooker<'o, C: Clock, T: Print>(
+    clock: &'o C,
+    terminal: Option<&'o T>,
+    goes_on: bool,
+) -> Option<ProgressLine<'o, C, T>> {
+    match terminal {
+        Some(terminal) => Some(ProgressLine::new(clock, terminal, goes_on)),
+        None => None,
+    }
+}
+
+/// Tells behind the report of a load of so many words how many of them are verified by the record alone,
+/// why stubs verified none, where they were asked for, and what helps where the load did not come to its
+/// end.
+pub(crate) fn advise<C: Clock, T: Print, L: Line>(
+    alloc: Global,
+    onlooker: &Option<ProgressLine<'_, C, T>>,
+    load: Load<'_>,
+    words: u32,
+    outcome: &Outcome<L>,
+) {
+    let Some(progress) = onlooker else {
+        return;
+    };
+    // Of a record that memory does not hold nothing counts.
+    if let LoadEnd::Stale(_) = outcome.end {
+        return;
+    }
+    // A load that was over before it began has looked at nothing.
+    let recorded = match outcome.line {
+        Some(_) => progress.done_at_first(),
+        None => words,
+    };
+    if recorded > 0
+        && let Ok(text) = format!(in alloc; "{recorded} of {words} by the record\n")
+    {
+        progress.say(text.as_str());
+    }
+    if let Some(Stubs { tally, stop }) = outcome.stubs
+        && tally.verified <= recorded
+        && let Ok(text) = format!(in alloc; "--fast did not serve: {}\n", NoStub(stop))
+    {
+        progress.say(text.as_str());
+    }
+    if let Some(text) = advice(load, outcome, progress.done()) {
+        progress.say(text);
     }
 }
 
@@ -65,7 +87,10 @@ impl fmt::Display for NoStub {
 
 // What helps where a load with so many verified words did not come to its end.
 fn advice<L: Line>(load: Load<'_>, outcome: &Outcome<L>, verified: u32) -> Option<&'static str> {
-    match outcome.stop {
+    let (LoadEnd::Driven(stop) | LoadEnd::Unfinished(stop)) = outcome.end else {
+        return None;
+    };
+    match stop {
         Stop::Ended(End::GaveUp) if verified == 0 => {
             Some("'ldaodt probe LINE' says what is wrong\n")
         }

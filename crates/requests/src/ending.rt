@@ -1,57 +1,29 @@
-//! What a load, a look or a probe comes to: the exit status, or the failure that names what was at fault.
+//! What a load, a look or a probe comes to that was reported: the exit status, or the failure that names what was at fault.
 ghost use Rattle.std.specs.Prelude.{◌≡◌, IfOk, IfErr};
-ghost use Rattle.requests.specs.Ending.{IsLoadFailureOf, IsLookFailureOf, IsProbeFailureOf};
-ghost use Rattle.requests.specs.Ending.{IsStopFailure, IsStopStatus, after_probe, after_save, after_verify};
+ghost use Rattle.requests.specs.Ending.{IsEndedFailure, IsEndedStatus, IsStopFailure, IsStopStatus, after_probe, after_save, after_verify};
 
 use endings::{Failure, Status};
 use load_engine::Stop;
-use machine_load::LoadFault;
-use machine_look::{LookFault, SaveEnd, VerifyEnd};
-use machine_probe::ProbeFault;
+use machine_load::LoadEnd;
+use machine_look::{SaveEnd, VerifyEnd};
 use probe_report::ProbeEnd;
 
-/// The failure that a load's fault is, where its console and its record have these names.
-pub(crate) fn load_failure<'a>(fault: LoadFault, address: &'a str, file: &'a str) -> Failure<'a>
-    ensures { IsLoadFailureOf fault address.entry.now file.entry.now result }
+/// The status after a load that ended so and was reported, or the failure that it is where its line or its
+/// record failed, or memory does not hold what the record says. `marked` says whether the start was typed, or
+/// may have been.
+pub(crate) fn after_load(end: LoadEnd, marked: bool, file: &str) -> Result<Status, Failure<'_>>
+    ensures status { IfOk result (IsEndedStatus end) }
+    ensures failure { IfErr result (IsEndedFailure end marked file.entry.now) }
 {
-    match fault {
-        LoadFault::ReadRecord => Failure::CannotRead(file),
-        LoadFault::RecordInUse => Failure::RecordInUse(file),
-        LoadFault::Record(why) => Failure::RecordRefused(why),
-        LoadFault::Connect => Failure::CannotConnect(address),
-        LoadFault::WriteRecord => Failure::CannotWriteFile(file),
-        LoadFault::WriteOutput => Failure::CannotWrite,
-        LoadFault::Memory => Failure::NoMemory,
+    match end {
+        LoadEnd::Driven(stop) => after_stop(stop, marked, file),
+        LoadEnd::Unfinished(stop) => after_stop(stop, marked, file),
+        LoadEnd::Stale(_) => Err(Failure::RecordStale),
     }
 }
 
-/// The failure that a look's fault is, where its console and its new file have these names.
-pub(crate) fn look_failure<'a>(fault: LookFault, address: &'a str, file: &'a str) -> Failure<'a>
-    ensures { IsLookFailureOf fault address.entry.now file.entry.now result }
-{
-    match fault {
-        LookFault::IsThere => Failure::FileIsThere(file),
-        LookFault::WriteTape => Failure::CannotWriteFile(file),
-        LookFault::Connect => Failure::CannotConnect(address),
-        LookFault::WriteOutput => Failure::CannotWrite,
-        LookFault::Memory => Failure::NoMemory,
-    }
-}
-
-/// The failure that a probe's fault is, where its console has this name.
-pub(crate) fn probe_failure<'a>(fault: ProbeFault, address: &'a str) -> Failure<'a>
-    ensures { IsProbeFailureOf fault address.entry.now result }
-{
-    match fault {
-        ProbeFault::Connect => Failure::CannotConnect(address),
-        ProbeFault::WriteOutput => Failure::CannotWrite,
-        ProbeFault::Memory => Failure::NoMemory,
-    }
-}
-
-/// The status after a load that stopped so and was reported, or the failure that it is where its line or its
-/// record failed. `marked` says whether the start was typed, or may have been.
-pub(crate) fn after_load(stop: Stop, marked: bool, file: &str) -> Result<Status, Failure<'_>>
+// The same, where an engine stopped so.
+fn after_stop(stop: Stop, marked: bool, file: &str) -> Result<Status, Failure<'_>>
     ensures status { IfOk result (IsStopStatus stop) }
     ensures failure { IfErr result (IsStopFailure stop marked file.entry.now) }
 {

@@ -1,23 +1,19 @@
 //! Doing a request, and telling how it ended.
-ghost use Rattle.std.specs.Prelude.{◌≡◌, IfOk, IfErr};
 ghost use Rattle.std.specs.Mem.{FitsInMemory};
 ghost use Rattle.requests.specs.Moment.{moment};
-ghost use Rattle.requests.specs.Attempt.{IsDone, IsFailed, IsAttempted};
+ghost use Rattle.requests.specs.Attempt.{IsAttempted, IsEndOf};
 
 use crate::advice::say_probing;
 use crate::loading::load_tapes;
+use crate::making::make_words;
 use crate::probing::probe_console;
 use crate::saving::save_words;
-use crate::system::System;
+use crate::system::{Kinds, System};
 use crate::verifying::verify_tapes;
-use console_lines::{DeviceOpening, Dialling};
 use endings::{Failure, FaultOutput, Output, Status, Streams, tell_unless_unheard};
-use input_files::InputFiles;
-use record_file::Disk;
 use request_values::{MachineRequest, Request};
 use std::alloc::Global;
 use std::io::{Print, Read};
-use std::time::Clock;
 use tape_commands::print_answer;
 
 /// Does a request in a system, which comes back, and answers the exit status, or tells why not, with the
@@ -28,86 +24,68 @@ use tape_commands::print_answer;
 /// the request does nothing but print and nobody reads any more. A load of a machine and a look at it show
 /// on the terminal, where there is one, how far they are.
 ///
+/// Part by part, where the system tells: the files that are named are opened in their order; the console that is
+/// named is asked for once, and no other; its line is given back, with what was said on it and no more; the disk is
+/// asked for what the record or the saved tape takes.
+///
 /// What is asked of the caller is only that a value of the input's type fits into memory, as each type
 /// of a program does. It has to be said where the type is not known, since the input is lent as a slice of
 /// one.
-pub fn attempt<
-    'c,
-    F: InputFiles + Drop,
-    D: Disk + Drop,
-    N: Dialling + Drop,
-    V: DeviceOpening + Drop,
-    C: Clock,
-    R: Read,
-    W: Output,
-    E: FaultOutput,
-    T: Print,
->(
-    system: System<'c, F, D, N, V, C>,
+pub fn attempt<K: Kinds, R: Read, W: Output, E: FaultOutput, T: Print>(
+    mut system: System<K>,
     alloc: Global,
     request: &Request<'_>,
     streams: &mut Streams<R, W, E>,
     terminal: Option<&T>,
-) -> (System<'c, F, D, N, V, C>, Status)
+) -> (System<K>, Status)
     requires { FitsInMemory R.row }
-    ensures { IsAttempted request.now (moment system.entry streams.old) (moment result.0 streams.new) result.1 }
+    ensures { IsAttempted request.now (moment system streams.old) (moment result.0 streams.new) result.1 }
 {
     let only_prints = request.only_prints();
-    let (system, outcome) = perform(system, alloc, request, streams, terminal);
-    match outcome {
-        Ok(status) => (system, status),
-        Err(failure) => {
-            let (out, err) = (&streams.out, &mut streams.err);
-            (
-                system,
-                tell_unless_unheard(alloc, only_prints, failure, out, err),
-            )
+    match request {
+        Request::Tape(request) => {
+            let outcome = print_answer(&mut system.inputs, alloc, request, streams);
+            (system, end(alloc, only_prints, outcome, streams))
+        }
+        Request::Make(make) => {
+            let (system, outcome) = make_words(system, alloc, *make, streams);
+            (system, end(alloc, only_prints, outcome, streams))
+        }
+        Request::Machine(MachineRequest::Load(names, load)) => {
+            let (system, outcome) = load_tapes(system, alloc, names, *load, streams, terminal);
+            (system, end(alloc, only_prints, outcome, streams))
+        }
+        Request::Machine(MachineRequest::Verify(names, look)) => {
+            let (system, outcome) = verify_tapes(system, alloc, names, *look, streams, terminal);
+            (system, end(alloc, only_prints, outcome, streams))
+        }
+        Request::Machine(MachineRequest::Save(save)) => {
+            let (system, outcome) = save_words(system, alloc, *save, streams, terminal);
+            (system, end(alloc, only_prints, outcome, streams))
+        }
+        Request::Machine(MachineRequest::Probe(probe)) => {
+            say_probing(terminal);
+            let (system, outcome) = probe_console(system, alloc, *probe, streams);
+            (system, end(alloc, only_prints, outcome, streams))
         }
     }
 }
 
-// Does a request and answers how it ended, with nothing said on standard error.
-fn perform<
-    'a,
-    'c,
-    F: InputFiles + Drop,
-    D: Disk + Drop,
-    N: Dialling + Drop,
-    V: DeviceOpening + Drop,
-    C: Clock,
-    R: Read,
-    W: Output,
-    E: FaultOutput,
-    T: Print,
->(
-    mut system: System<'c, F, D, N, V, C>,
+// The status that a request ends with which came to this: where it failed, that is told on standard error, if
+// somebody is to hear of it.
+fn end<R: Read, W: Output, E: FaultOutput>(
     alloc: Global,
-    request: &Request<'a>,
+    only_prints: bool,
+    outcome: Result<Status, Failure<'_>>,
     streams: &mut Streams<R, W, E>,
-    terminal: Option<&T>,
-) -> (System<'c, F, D, N, V, C>, Result<Status, Failure<'a>>)
-    requires { FitsInMemory R.row }
-    ensures ok { IfOk result.1 (IsDone request.now (moment system.entry streams.old) (moment result.0 streams.new)) }
-    ensures err { IfErr result.1 (IsFailed request.now (moment system.entry streams.old) (moment result.0 streams.new)) }
-    ensures quiet { streams.new.err ≡ streams.old.err }
+) -> Status
+    ensures { IsEndOf only_prints outcome.entry streams.old streams.new result }
 {
-    match request {
-        Request::Tape(request) => {
-            let outcome = print_answer(&mut system.inputs, alloc, request, streams);
-            (system, outcome)
-        }
-        Request::Machine(MachineRequest::Load(names, load)) => {
-            load_tapes(system, alloc, names, *load, streams, terminal)
-        }
-        Request::Machine(MachineRequest::Verify(names, look)) => {
-            verify_tapes(system, alloc, names, *look, streams, terminal)
-        }
-        Request::Machine(MachineRequest::Save(save)) => {
-            save_words(system, alloc, *save, &mut streams.out, terminal)
-        }
-        Request::Machine(MachineRequest::Probe(probe)) => {
-            say_probing(terminal);
-            probe_console(system, alloc, *probe, &mut streams.out)
+    match outcome {
+        Ok(status) => status,
+        Err(failure) => {
+            let (out, err) = (&streams.out, &mut streams.err);
+            tell_unless_unheard(alloc, only_prints, failure, out, err)
         }
     }
 }

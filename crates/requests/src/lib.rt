@@ -3,7 +3,8 @@
 //! `attempt` does a request, as `request_values` has them, in a `System`, which comes back, and answers the exit
 //! status; where it can't be done, one line on standard error says why, by the name of what was at fault. Its
 //! contract says what is written, and, part by part where the system tells, what was asked of it: the files that
-//! are named, the console that is named and no other, of the disk what the record or the saved tape takes.
+//! are named, the console that is named and no other, what was said on its line until that was given back, of the disk
+//! what the record or the saved tape takes.
 //!
 //! What becomes of a request at a real machine stands here, of any other in `tape_commands`; which status and which
 //! line a failure has in `endings`. The program `ldaodt` has the request from `command_line`, which makes it of words.
@@ -11,11 +12,11 @@
 
 mod advice;
 mod ending;
-mod errand;
 mod handling;
-mod host;
 mod listening;
 mod loading;
+mod machine_fault;
+mod making;
 mod planning;
 mod probing;
 mod saving;
@@ -23,4 +24,4 @@ mod system;
 mod verifying;
 
 pub use handling::attempt;
-pub use system::{Outside, SharedSystem, System};
+pub use system::{Kinds, SharedSystem, System};

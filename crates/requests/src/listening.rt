@@ -1,42 +1,53 @@
 //! Listening to a machine behind a load.
 ghost use Rattle.std.specs.Prelude.{◌≡◌, ◌<◌, OnOk, IfErr};
 ghost use Rattle.console_lines.specs.Listening.{copying, IsCopiedInPart};
-ghost use Rattle.requests.specs.Listening.{quiet_time, seconds_of, IsHeardOut, IsListenedTo, IsListeningCut};
+ghost use Rattle.requests.specs.Listening.{quiet_time, seconds_behind_stop, seconds_of, IsHeardOut, IsListenedTo, IsListeningCut};
 
 use console_lines::{listen, silences_within};
 use endings::Failure;
 use host_core::End;
 use load_devices::Line;
 use load_engine::Stop;
+use machine_load::LoadEnd;
 use request_values::Load;
 use std::io::Write;
 
-/// Listens behind a load that stopped so, where that is asked for and the program was started or may have
+/// Listens behind a load that ended so, where that is asked for and the program was started or may have
 /// been. Nothing is sent. `CannotWrite` where what is heard can't be written.
 pub(crate) fn listen_behind<L: Line, W: Write>(
     load: Load<'_>,
-    stop: Stop,
+    end: LoadEnd,
     line: &mut L,
     out: &mut W,
 ) -> Result<(), Failure<'static>>
     ensures heard { OnOk result (IsListenedTo (L.last_fault line.new)
-        (seconds_of load.entry.listen stop)
+        (seconds_of load.entry.listen end)
         (quiet_time load.entry.quiet_ms)
         (copying L.told W.contents line.old out.old)
         (copying L.told W.contents line.new out.new)) }
-    ensures cut { IfErr result (IsListeningCut (seconds_of load.entry.listen stop)
+    ensures cut { IfErr result (IsListeningCut (seconds_of load.entry.listen end)
         (copying L.told W.contents line.old out.old)
         (copying L.told W.contents line.new out.new)) }
 {
-    match seconds_of(load.listen, stop) {
+    match seconds_of(load.listen, end) {
         Some(seconds) => listen_for(seconds, load.quiet_ms, line, out),
         None => Ok(()),
     }
 }
 
 // How many seconds of silence end the listening, where there is any.
-fn seconds_of(listen: Option<u16>, stop: Stop) -> Option<u16>
-    ensures { result ≡ seconds_of listen stop }
+fn seconds_of(listen: Option<u16>, end: LoadEnd) -> Option<u16>
+    ensures { result ≡ seconds_of listen end }
+{
+    match end {
+        LoadEnd::Driven(stop) => seconds_behind(listen, stop),
+        _ => None,
+    }
+}
+
+// The same, where the engine stopped so.
+fn seconds_behind(listen: Option<u16>, stop: Stop) -> Option<u16>
+    ensures { result ≡ seconds_behind_stop listen stop }
 {
     match stop {
         Stop::Ended(End::Started | End::Uncertain) => listen,

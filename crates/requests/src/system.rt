@@ -1,6 +1,6 @@
 //! The system in which a request is done.
 
-use console_lines::{DeviceOpening, Devices, Dialling, TimedStream};
+use console_lines::{Consoles, Devices, SystemConsoles, TimedStream};
 use input_files::InputFiles;
 use record_file::{Disk, Locks};
 use std::marker::Model;
@@ -8,55 +8,83 @@ use std::net::Net;
 use std::rt::Files;
 use std::time::Clock;
 
-/// What a command at a machine works with.
-///
-/// Contracts see what was asked of each part, as far as it tells.
-#[derive(Drop)]
-pub struct Outside<'c, D: Disk, N: Dialling, V: DeviceOpening, C: Clock> {
+/// Of which types the parts of a system are.
+pub trait Kinds {
+    /// The files of tapes and scripts.
+    type Inputs: InputFiles + Drop;
+
     /// The disk of records and of saved tapes.
-    pub disk: D,
+    type Disk: Disk + Drop;
 
-    /// The network, with consoles at HOST:PORT.
-    pub network: N,
-
-    /// The serial devices, with consoles at their paths.
-    pub devices: V,
+    /// The consoles that names stand for.
+    type Consoles: Consoles + Drop;
 
     /// The clock.
-    pub clock: &'c C,
+    type Clock: Clock + Drop;
 }
 
-impl<'c, D: Disk, N: Dialling, V: DeviceOpening, C: Clock> Model for Outside<'c, D, N, V, C> {
-    ghost use Rattle.requests.specs.Asked.{OutsideAsked};
-
-    ghost Value = { OutsideAsked };
-
-    ghost view = { λ outside. record { disk = D.asked outside.disk; network = N.asked outside.network; devices = V.asked outside.devices } };
-}
-
-/// A system: the files of tapes and scripts, and what a command at a machine works with.
+/// A system: all that a request needs beside the standard streams.
 ///
 /// Contracts see what was asked of each part, as far as it tells.
 #[derive(Drop)]
-pub struct System<'c, F: InputFiles, D: Disk, N: Dialling, V: DeviceOpening, C: Clock> {
-    /// The files, which are read.
-    pub inputs: F,
+pub struct System<K: Kinds> {
+    /// The files of tapes and scripts, which are read.
+    pub inputs: K::Inputs,
 
-    /// The rest.
-    pub outside: Outside<'c, D, N, V, C>,
+    /// The disk of records and of saved tapes.
+    pub disk: K::Disk,
+
+    /// The consoles that names stand for.
+    pub consoles: K::Consoles,
+
+    /// The clock.
+    pub clock: K::Clock,
 }
 
-impl<'c, F: InputFiles, D: Disk, N: Dialling, V: DeviceOpening, C: Clock> Model
-    for System<'c, F, D, N, V, C> {
-    ghost use Rattle.requests.specs.Asked.{SystemAsked};
+impl<K: Kinds> Model for System<K> {
+    ghost use Rattle.requests.specs.Asked.{SystemAsked, asked_of};
 
     ghost Value = { SystemAsked };
 
-    ghost view = { λ system. record { inputs = F.opened system.inputs; outside = system.outside } };
+    ghost view = { λ s. asked_of (K.Inputs.opened s.inputs) (K.Disk.asked s.disk) (K.Consoles.asked s.consoles) (K.Consoles.lines s.consoles) };
+}
+
+impl<K: Kinds> System<K> {
+    ghost use Rattle.std.specs.Prelude.{◌≡◌};
+    ghost use Rattle.requests.specs.Asked.{asked_of};
+
+    /// The system of these parts.
+    pub fn new(
+        inputs: K::Inputs,
+        disk: K::Disk,
+        consoles: K::Consoles,
+        clock: K::Clock,
+    ) -> System<K>
+        ensures { result ≡ asked_of (K.Inputs.opened inputs) (K.Disk.asked disk) (K.Consoles.asked consoles) (K.Consoles.lines consoles) }
+    {
+        System {
+            inputs,
+            disk,
+            consoles,
+            clock,
+        }
+    }
+}
+
+/// One value that is every part.
+impl<'c, S: TimedStream + Drop, F: Files + Locks + Net<Stream = S> + Devices + Clock> Kinds
+    for &'c F {
+    type Inputs = &'c F;
+
+    type Disk = &'c F;
+
+    type Consoles = SystemConsoles<'c, &'c F, F>;
+
+    type Clock = &'c F;
 }
 
 /// A system of which one value is every part.
-pub type SharedSystem<'c, F> = System<'c, &'c F, &'c F, &'c F, &'c F, F>;
+pub type SharedSystem<'c, F> = System<&'c F>;
 
 impl<'c, S: TimedStream + Drop, F: Files + Locks + Net<Stream = S> + Devices + Clock> SharedSystem<
     'c,
@@ -69,14 +97,10 @@ impl<'c, S: TimedStream + Drop, F: Files + Locks + Net<Stream = S> + Devices + C
     pub fn of(system: &'c F) -> SharedSystem<'c, F>
         ensures { result ≡ untold }
     {
-        System {
-            inputs: system,
-            outside: Outside {
-                disk: system,
-                network: system,
-                devices: system,
-                clock: system,
-            },
-        }
+        let consoles = SystemConsoles {
+            outlets: system,
+            clock: system,
+        };
+        System::new(system, system, consoles, system)
     }
 }

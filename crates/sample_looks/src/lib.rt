@@ -4,7 +4,7 @@
 //! between. `look_at_samples` lends a reading host to a line that looks at them, and says whether they
 //! stand, which is the first that does not, or that the reading stopped before. Over an honest line what
 //! it says is true of memory, which is what it was. The laws say that a load may follow such looks on
-//! its line, and that lives in a row stay what they are. No command calls it yet.
+//! its line, and that lives in a row stay what they are. Used by `machine_load`.
 #![tactic(auto)]
 
 mod finding;

@@ -22,7 +22,7 @@ request_of (Link from to) = disk.Link (string_bytes from) (string_bytes to)
 request_of (Rename from to) = disk.Rename (string_bytes from) (string_bytes to)
 request_of (Remove name) = disk.Remove (string_bytes name)
 request_of (SyncFolder name) = disk.SyncFolder (string_bytes name)
-request_of (Cut text) = disk.Cut (Some text.items)
+request_of (Cut text length) = disk.Cut (Some text.items) length
 request_of (SyncFile text) = disk.SyncFile (Some text.items)
 
 abbrev pub step_of : ToldStep → DiskStep

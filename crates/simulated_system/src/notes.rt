@@ -53,9 +53,9 @@ pub struct Notes<'n> {
     folder: &'n str,
 }
 
-// Whether a file of this name is a new record, beside the old one.
+// Whether a file of this name is a new record, beside the old one, or what a save has read.
 fn is_beside(path: &str) -> bool {
-    path.ends_with("-new")
+    path.ends_with("-new") || path.ends_with(".part")
 }
 
 /// What it is to remove a file of this name.

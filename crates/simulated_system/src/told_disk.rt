@@ -246,7 +246,7 @@ impl Disk for ToldDisk<'_> {
             Err(error) => Err(error),
         };
         match Vec::from_slice(self.alloc, &file.written) {
-            Ok(written) => self.tell(Ok(ToldRequest::Cut(written)), cut.is_ok()),
+            Ok(written) => self.tell(Ok(ToldRequest::Cut(written, length)), cut.is_ok()),
             Err(_) => self.asked = None,
         }
         cut
@@ -257,8 +257,10 @@ impl Disk for ToldDisk<'_> {
             Ok(()) => self.disk.sync_file(&file.file),
             Err(error) => Err(error),
         };
-        let written = Vec::from_slice(self.alloc, &file.written);
-        self.tell(written.map(ToldRequest::SyncFile), synced.is_ok());
+        match Vec::from_slice(self.alloc, &file.written) {
+            Ok(written) => self.tell(Ok(ToldRequest::SyncFile(written)), synced.is_ok()),
+            Err(_) => self.asked = None,
+        }
         synced
     }
 }

@@ -40,8 +40,8 @@ pub enum ToldRequest {
     /// That an open folder is brought to the disk.
     SyncFolder(String),
 
-    /// That a file is cut off behind what was written of it.
-    Cut(Vec<u8>),
+    /// That a file, of which this was written, is cut at a length.
+    Cut(Vec<u8>, u64),
 
     /// That it is brought to the disk.
     SyncFile(Vec<u8>),
@@ -92,7 +92,7 @@ impl fmt::Display for ToldRequest {
             ToldRequest::Rename(from, to) => write!(f, "rename {from} {to}"),
             ToldRequest::Remove(name) => write!(f, "remove {name}"),
             ToldRequest::SyncFolder(name) => write!(f, "sync folder {name}"),
-            ToldRequest::Cut(text) => write!(f, "cut {}", shown(text)),
+            ToldRequest::Cut(text, _) => write!(f, "cut {}", shown(text)),
             ToldRequest::SyncFile(text) => write!(f, "sync {}", shown(text)),
         }
     }

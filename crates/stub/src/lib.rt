@@ -7,7 +7,7 @@
 //! end of a line; it acts within 27 instructions, and a silence leaves nothing inside. It writes no
 //! byte outside its stretches, and never goes astray. Which stub stands at an address is one function.
 //!
-//! Used by `stub_station`, which joins it with the exchange's law.
+//! Used by `exchange_law`, which says what a host sees of it.
 #![tactic(auto)]
 
 mod law;

@@ -6,8 +6,8 @@ use Rattle.load_devices.specs.Dialogue.{dialogue}
 use Rattle.load_devices.proofs.Told.{gains_join}
 use Rattle.host_core.specs.Laws.{led}
 use Rattle.exchange_law.specs.Law.{said_all}
-use Rattle.stub_station.specs.Start.{program as stub_program}
-use Rattle.fast_lives.specs.StubParts.{AreStubParts, StubPart, bringer, exchange_said, stubs_said, verified_after, verified_by}
+use Rattle.exchange_law.specs.Start.{program as stub_program}
+use Rattle.load_lives.specs.StubParts.{AreStubParts, StubPart, bringer, exchange_said, stubs_said, verified_after, verified_by}
 use Rattle.stub_engine.specs.declared.stop.Stop.{Stop}
 use Rattle.stub_engine.specs.declared.stop.Stop.TheVariants.{TooFewWords, NoRoom, InVain, NotStarted, TurnsOver, LineFailed, KeepFailed, Memory}
 use Rattle.stub_engine.specs.declared.tally.Tally.{Tally}

@@ -10,8 +10,8 @@ use Rattle.exchange_core.specs.declared.chunk.Chunk.{Chunk}
 use Rattle.exchange_core.specs.declared.stretch.Stretch.{Stretch}
 use Rattle.exchange_core.specs.Stretch.{cut, piece_end, pieces, stretch_of}
 use Rattle.exchange_core.proofs.Chunks.{chunks_few}
-use Rattle.stub_plan.specs.Chunking.{AreStretches}
-use Rattle.stub_plan.specs.Window.{AreTogether, IsWindow}
+use Rattle.exchange_core.specs.Chunking.{AreStretches}
+use Rattle.exchange_core.specs.Window.{AreTogether, IsWindow}
 use Rattle.stub.specs.Words.{code, stub_words, table}
 use Rattle.stub_engine.specs.Planning.{IsLayout}
 

@@ -3,3 +3,6 @@ mod Joins
 mod Layouts
 mod Parts
 mod Stops
+pub mod Stretches
+pub mod Keepings
+pub mod Beliefs

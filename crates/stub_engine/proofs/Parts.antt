@@ -27,12 +27,12 @@ use Rattle.exchange_core.proofs.Chunks.{behind_grows}
 use Rattle.exchange_law.specs.Law.{dialogue as exchange_dialogue, said_all}
 use Rattle.exchange_law.proofs.Passing.{led_from}
 use Rattle.exchange_law.proofs.Words.{words_within}
-use Rattle.exchange_engine.specs.declared.stop.Stop.{Stop as ExchangeStop}
-use Rattle.exchange_engine.specs.declared.stop.Stop.TheVariants.{Ended, LineFailed, KeepFailed, TurnsOver}
-use Rattle.exchange_engine.specs.Exchanged.{Exchanged, IsSaid}
-use Rattle.stub_station.specs.Start.{program as stub_program}
-use Rattle.fast_lives.specs.StubParts.{IsStubFor, StubPart, bringer, is_started, starts, verified_after, exchange_said}
-use Rattle.fast_lives.proofs.Planning.{planned_stubs}
+use Rattle.stub_engine.specs.declared.exchange_stop.ExchangeStop.{ExchangeStop}
+use Rattle.stub_engine.specs.declared.exchange_stop.ExchangeStop.TheVariants.{Ended, LineFailed, KeepFailed, TurnsOver}
+use Rattle.stub_engine.specs.Exchanged.{Exchanged, IsSaid}
+use Rattle.exchange_law.specs.Start.{program as stub_program}
+use Rattle.load_lives.specs.StubParts.{IsStubFor, StubPart, bringer, is_started, starts, verified_after, exchange_said}
+use Rattle.load_lives.proofs.Planning.{planned_stubs}
 use Rattle.stub_engine.specs.declared.stop.Stop.{Stop}
 use Rattle.stub_engine.specs.declared.stop.Stop.TheVariants.{TooFewWords, NoRoom, InVain, NotStarted, Memory, TurnsOver as StubsTurnsOver, LineFailed as StubsLineFailed, KeepFailed as StubsKeepFailed}
 use Rattle.stub_engine.specs.declared.tally.Tally.{Tally}

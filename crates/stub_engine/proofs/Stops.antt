@@ -10,10 +10,10 @@ use Rattle.load_devices.specs.Failures.{CountsFault, IsLastFault}
 use Rattle.load_engine.specs.declared.stop.Stop.{Stop as LoadStop}
 use Rattle.load_engine.specs.declared.stop.Stop.TheVariants.{Ended as LoadEnded, LineFailed as LoadLineFailed, KeepFailed as LoadKeepFailed, TurnsOver as LoadTurnsOver}
 use Rattle.load_engine.specs.Failing.{line_fault as load_line_fault, keep_fault as load_keep_fault}
-use Rattle.exchange_engine.specs.declared.stop.Stop.{Stop as ExchangeStop}
-use Rattle.exchange_engine.specs.declared.stop.Stop.TheVariants.{Ended, LineFailed, KeepFailed, TurnsOver}
-use Rattle.exchange_engine.specs.Failing.{Counts, NamesFault}
-use Rattle.exchange_engine.specs.Keeping.{KeptBy, ToldBy, words_kept}
+use Rattle.stub_engine.specs.declared.exchange_stop.ExchangeStop.{ExchangeStop}
+use Rattle.stub_engine.specs.declared.exchange_stop.ExchangeStop.TheVariants.{Ended, LineFailed, KeepFailed, TurnsOver}
+use Rattle.stub_engine.specs.Failing.{Counts, NamesFault}
+use Rattle.stub_engine.specs.Keeping.{KeptBy, ToldBy, words_kept}
 use Rattle.stub_engine.specs.declared.stop.Stop.{Stop}
 use Rattle.stub_engine.specs.Parts.{failure_of, why_ended, why_left, why_unstarted}
 

@@ -13,11 +13,11 @@ use Rattle.load_engine.specs.declared.stop.Stop.TheVariants.{KeepFailed as LoadK
 use Rattle.exchange_core.specs.Chunk.{words_behind}
 use Rattle.exchange_core.specs.Exchange.{begun as exchange_begun, led as exchange_led}
 use Rattle.exchange_law.specs.Law.{said_all}
-use Rattle.exchange_engine.specs.declared.stop.Stop.{Stop as ExchangeStop}
-use Rattle.exchange_engine.specs.declared.stop.Stop.TheVariants.{Ended as ExchangeEnded, LineFailed as ExchangeLineFailed}
-use Rattle.exchange_engine.specs.declared.stop.Stop.TheVariants.{KeepFailed as ExchangeKeepFailed, TurnsOver as ExchangeTurnsOver}
-use Rattle.stub_station.specs.Start.{program as stub_program}
-use Rattle.fast_lives.specs.StubParts.{AreStubParts, StubPart, bringer, starts, stubs_said, verified_after, verified_by}
+use Rattle.stub_engine.specs.declared.exchange_stop.ExchangeStop.{ExchangeStop}
+use Rattle.stub_engine.specs.declared.exchange_stop.ExchangeStop.TheVariants.{Ended as ExchangeEnded, LineFailed as ExchangeLineFailed}
+use Rattle.stub_engine.specs.declared.exchange_stop.ExchangeStop.TheVariants.{KeepFailed as ExchangeKeepFailed, TurnsOver as ExchangeTurnsOver}
+use Rattle.exchange_law.specs.Start.{program as stub_program}
+use Rattle.load_lives.specs.StubParts.{AreStubParts, StubPart, bringer, starts, stubs_said, verified_after, verified_by}
 use Rattle.stub_engine.specs.declared.stop.Stop.{Stop}
 use Rattle.stub_engine.specs.declared.stop.Stop.TheVariants.{InVain, NotStarted, TurnsOver, LineFailed, KeepFailed}
 use Rattle.stub_engine.specs.declared.tally.Tally.{Tally}

@@ -3,9 +3,9 @@ use Rattle.std.specs.Prelude.{◌≡◌, ℕ, ◌+◌, ◌*◌, ◌<◌, ◌≤�
 use Rattle.tape_image.specs.Plan.{PlanValue}
 use Rattle.exchange_core.specs.declared.chunk.Chunk.{Chunk}
 use Rattle.exchange_core.specs.declared.stretch.Stretch.{Stretch}
-use Rattle.stub_plan.specs.Chunking.{AreChunksUpTo, AreStretches}
-use Rattle.stub_plan.specs.Window.{IsWindow}
-use Rattle.fast_lives.specs.Planned.{IsPlanned}
+use Rattle.exchange_core.specs.Chunking.{AreChunksUpTo, AreStretches}
+use Rattle.exchange_core.specs.Window.{IsWindow}
+use Rattle.load_lives.specs.Planned.{IsPlanned}
 use Rattle.stub_engine.specs.declared.stop.Stop.{Stop}
 use Rattle.stub_engine.specs.declared.stop.Stop.TheVariants.{TooFewWords, NoRoom, Memory}
 

@@ -3,10 +3,9 @@ ghost use Rattle.std.specs.Prelude.{◌≡◌, ◌≤◌, ◌^◌, length, IfOk,
 ghost use Rattle.stub_engine.specs.Planning.{IsLayout, IsPlannedFor, IsUnplanned};
 
 use crate::stop::Stop;
-use exchange_core::{Chunk, Stretch};
+use exchange_core::{Chunk, Stretch, chunks_of, stretches_of, stub_plan, window_for};
 use std::alloc::Global;
 use stub::{stub_size, stub_words};
-use stub_plan::{chunks_of, stretches_of, stub_plan, window_for};
 use tape_image::Plan;
 
 // With fewer words to be gained an ordinary load is as fast.

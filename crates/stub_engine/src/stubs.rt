@@ -2,16 +2,17 @@
 ghost use Rattle.std.specs.Prelude.{◌≡◌, ◌+◌, ◌<◌, ◌≤◌, ◌^◌, ◌⊎◌, length, None, Some, IfErr, OnOk};
 ghost use Rattle.tape_image.specs.Memory.{most_words};
 ghost use Rattle.load_devices.specs.Failures.{fault_of};
-ghost use Rattle.exchange_engine.specs.Failing.{Counts, NamesFault};
-ghost use Rattle.exchange_engine.specs.Keeping.{KeptBy, ToldBy, words_kept};
+ghost use Rattle.stub_engine.specs.Failing.{Counts, NamesFault};
+ghost use Rattle.stub_engine.specs.Keeping.{KeptBy, ToldBy, words_kept};
 ghost use Rattle.stub_engine.specs.Parts.{AreBroughtIn, TellsInVain, failure_of, most_in_vain, why_left, why_unstarted};
 ghost use Rattle.stub_engine.specs.Tallies.{IsOneMore, begun};
 
 use crate::bringing::bring;
+use crate::exchange_stop::ExchangeStop;
+use crate::exchanging::exchange;
 use crate::planning::{PlannedStub, planned_stub};
 use crate::stop::Stop;
 use crate::tally::Tally;
-use exchange_engine::{Stop as ExchangeStop, exchange};
 use host_core::End;
 use load_devices::{Keep, Line, MOST_TURNS, Onlooker};
 use load_engine::Stop as LoadStop;

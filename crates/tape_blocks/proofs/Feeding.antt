@@ -183,7 +183,7 @@ failure_answers old new Memory fed piece read s = tt
 
 -- what callers see of a reader
 abbrev pub value : Progress → Outcome → ReaderValue
-value p o = record { blocks = p.blocks.items; place = p.place; part = part_of p; outcome = o }
+value p o = record { blocks = p.blocks.items; places = p.places.items; place = p.place; part = part_of p; outcome = o }
 
 -- an open reader has read the list at which it stands
 pub came_open : (p : Progress) (o : Outcome) (r : ReaderValue) (fed : List ℕ) → value p o ≡ r → o ≡ Open → StandsAt r fed → IsReadBy p fed

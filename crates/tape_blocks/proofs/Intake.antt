@@ -7,11 +7,14 @@ use Rattle.std.specs.Io.KnownBytes.{Consumes, Keeps, IsAtEnd}
 use Rattle.tape_values.specs.Block.{BlockValue}
 use Rattle.tape_values.specs.Tape.{TapeValue, IsTape}
 use Rattle.tape_blocks.specs.Refusal.{missing_fault}
+use Rattle.tape_blocks.specs.Layout.{ArePlaced}
 use Rattle.tape_blocks.specs.TapeReader.{ReaderValue, StandsAt, IsOpen, IsFed, IsFinished}
-use Rattle.tape_blocks.specs.Input.{input_limit, IsNeeded, IsReadFrom, from_read_error}
+use Rattle.tape_blocks.specs.Input.{input_limit, IsNeeded, IsReadFrom, IsReadWithLayout, from_read_error}
 use Rattle.tape_blocks.specs.declared.fault.ReadError.{ReadError}
 use Rattle.tape_blocks.specs.declared.fault.ReadError.TheVariants.{Tape, Memory}
+use Rattle.tape_blocks.specs.declared.input.FromError.{FromError}
 use Rattle.tape_blocks.specs.declared.input.FromError.TheVariants.{Memory as NoMemory, Io}
+use Rattle.tape_blocks.specs.declared.layout.Layout.{Layout}
 use Rattle.tape_blocks.specs.declared.reader.Fed.{Fed}
 use Rattle.tape_blocks.specs.declared.reader.Fed.TheVariants.{More, Done}
 use Rattle.tape_blocks.proofs.Feeding.{open_under_way, under_way_says}
@@ -31,6 +34,7 @@ pub record IsTaking (before after : Option (List ℕ)) (reader : ReaderValue) (t
   pub so_far : IsTaken before after fed
   pub counted : length fed ≡ taken
   pub limited : taken < input_limit
+  pub placed : ArePlaced fed reader.blocks reader.places
 
 -- the reader's need, as its contract says it
 abbrev Needs : ReaderValue → ℕ → Type 0
@@ -117,6 +121,19 @@ tape_taken a d fed taken tape t l f =
       needed = t.needed;
       answer = (l, subst (λ x. IsTape x tape.blocks tape.start) (take_all n fed least) f.1.1);
     }
+
+-- and its blocks are placed
+pub tape_laid : (a d : Option (List ℕ)) (fed : List ℕ) (tape : TapeValue) (layout : Layout) → IsTaken a d fed → length fed ≡ layout.size
+    → IsFinished fed (Ok tape) → ArePlaced fed tape.blocks layout.places.items → IsReadWithLayout a d (Ok (tape, layout))
+unfolding tape_taken
+tape_laid a d fed tape layout t l f placed = record {
+  reading = tape_taken a d fed layout.size tape t l f;
+  laid = record { size_is = sym l; placed = placed };
+}
+
+-- no tape, and so no layout
+pub none_laid : (a d : Option (List ℕ)) (error : FromError) → IsReadFrom a d (Err error) → IsReadWithLayout a d (Err error)
+none_laid a d error r = record { reading = r; laid = tt }
 
 -- no tape, at the end of what was fed: behind the last piece the input is over, since no tape ended in it
 pub none_taken : (a d : Option (List ℕ)) (fed piece : List ℕ) (answer : Fed) (error : ReadError) → IsTaken a d (fed ++ piece) → IsFed fed piece (Ok answer)

@@ -9,6 +9,7 @@ mod Joined
 mod Longer
 mod Needs
 mod Parts
+mod Placings
 mod Readings
 mod Standings
 mod Steps

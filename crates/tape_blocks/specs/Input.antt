@@ -1,18 +1,20 @@
 -- What is taken of an input to read the tape that begins it, where the input tells its bytes; where it doesn't, these
 -- definitions speak of lengths and answers alone.
-use Rattle.std.specs.Prelude.{◌≡◌, ◌⊎◌, ℕ, ◌+◌, ◌≤◌, ◌++◌, List, Option, length, take, codes, Result, Ok, Err, ⊤}
+use Rattle.std.specs.Prelude.{◌≡◌, ◌⊎◌, ℕ, ◌+◌, ◌≤◌, ◌++◌, List, Option, length, take, codes, Result, Ok, Err, IfOk, ⊤}
 use Rattle.std.specs.Io.KnownBytes.{Consumes, IsAtEnd}
 use Rattle.tape_values.specs.Block.{BlockValue}
 use Rattle.tape_values.specs.Tape.{TapeValue, IsTape, tape_limit}
 use Rattle.tape_blocks.specs.Refusal.{IsRefused}
 use Rattle.tape_values.specs.OutOfMemory.{memory_text}
 use Rattle.tape_blocks.specs.Fault.{refused_tape_text}
+use Rattle.tape_blocks.specs.Layout.{IsLaidOut}
 use Rattle.tape_blocks.specs.Standing.{IsRefusedForGood}
 use Rattle.tape_blocks.specs.TapeReader.{IsForMore}
 use Rattle.tape_blocks.specs.declared.fault.Fault.{Fault}
 use Rattle.tape_blocks.specs.declared.fault.ReadError.{ReadError}
 use Rattle.tape_blocks.specs.declared.fault.ReadError.TheVariants.{Tape, Memory}
 use Rattle.tape_blocks.specs.declared.input.FromError.{FromError}
+use Rattle.tape_blocks.specs.declared.layout.Layout.{Layout}
 use Rattle.tape_blocks.specs.declared.input.FromError.TheVariants.{Tape as TapeOf, Memory as NoMemory, Io}
 
 -- the most bytes that are taken of an input for a tape: one more than a tape may have, so that a longer one is seen
@@ -40,6 +42,16 @@ pub record IsReadFrom (before after : Option (List ℕ)) (result : Result (TapeV
   pub within : length taken ≤ input_limit
   pub needed : IsNeeded taken
   pub answer : IsAnswerTo taken after result
+
+-- the same of a tape, told with how many bytes it has alone
+abbrev pub without_places : Result (TapeValue × Layout) FromError → Result (TapeValue × ℕ) FromError
+without_places (Ok (tape, layout)) = Ok (tape, layout.size)
+without_places (Err error) = Err error
+
+-- .. and how the tape lies in what was taken
+pub record IsReadWithLayout (before after : Option (List ℕ)) (result : Result (TapeValue × Layout) FromError) : Type 0 where
+  pub reading : IsReadFrom before after (without_places result)
+  pub laid : IfOk result (λ read. IsLaidOut reading.taken read.0 read.1)
 
 -- the same error of an input
 abbrev pub from_read_error : ReadError → FromError

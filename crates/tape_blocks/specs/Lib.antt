@@ -2,6 +2,7 @@ pub mod Fault
 pub mod Refusal
 pub mod Head
 pub mod Standing
+pub mod Layout
 pub mod Progress
 pub mod Reading
 pub mod TapeReader

@@ -8,6 +8,7 @@ use Rattle.tape_blocks.specs.declared.progress.Progress.{Progress}
 use Rattle.tape_blocks.specs.declared.progress.Step.{Step}
 use Rattle.tape_blocks.specs.declared.progress.Step.TheVariants.{Took, Ended}
 use Rattle.tape_blocks.specs.Standing.{IsReadTo, EndsTape, IsRefusedForGood}
+use Rattle.tape_blocks.specs.Layout.{ArePlaced}
 
 -- the bytes of the block under way that are there
 abbrev pub part_of : Progress → List ℕ
@@ -49,3 +50,13 @@ abbrev pub TakesNoMemory : Progress → Result Step ReadError → Type 0
 TakesNoMemory new (Ok step) = new.header.items ≡ []
 TakesNoMemory new (Err (Tape fault)) = ⊤
 TakesNoMemory new (Err Memory) = ⊥
+
+-- each block that was read is at its place of this list
+abbrev pub ArePlacedBy : Progress → List ℕ → Type 0
+ArePlacedBy p fed = ArePlaced fed p.blocks.items p.places.items
+
+-- and with the bytes that a step took they still are
+abbrev pub PlacesOn : Progress → List ℕ → Progress → Result Step ReadError → Type 0
+PlacesOn old left new (Ok (Took n)) = (fed : List ℕ) → IsReadBy old fed → ArePlacedBy old fed → ArePlacedBy new (fed ++ take n left)
+PlacesOn old left new (Ok (Ended n start)) = (fed : List ℕ) → IsReadBy old fed → ArePlacedBy old fed → ArePlacedBy new (fed ++ take n left)
+PlacesOn old left new (Err e) = ⊤

@@ -17,16 +17,17 @@ use Rattle.tape_blocks.specs.declared.outcome.Outcome.TheVariants.{Open, Done, F
 use Rattle.tape_blocks.specs.declared.reader.Fed.{Fed}
 use Rattle.tape_blocks.specs.declared.reader.Fed.TheVariants.{More, Done as DoneAt}
 
--- what a reader keeps: the blocks so far, the place behind them, the bytes of the block under way, and the outcome
+-- what a reader keeps: the blocks so far and their places, the place behind them, the bytes of the block under way, and the outcome
 pub record ReaderValue : Type 0 where
   pub blocks : List BlockValue
+  pub places : List ℕ
   pub place : ℕ
   pub part : List ℕ
   pub outcome : Outcome
 
 -- the value of a reader that has come so far
 abbrev pub value_of : Progress → Outcome → ReaderValue
-value_of p outcome = record { blocks = p.blocks.items; place = p.place; part = part_of p; outcome = outcome }
+value_of p outcome = record { blocks = p.blocks.items; places = p.places.items; place = p.place; part = part_of p; outcome = outcome }
 
 -- the list may yet be the beginning of a tape: blocks that were read, and then the beginning of a block or nothing
 pub record IsUnderWay (fed : List ℕ) (blocks : List BlockValue) (place : ℕ) (part : List ℕ) : Type 0 where
@@ -71,6 +72,11 @@ abbrev pub IsFinished : List ℕ → Result TapeValue ReadError → Type 0
 IsFinished fed (Ok tape) = (n : ℕ) × IsReading fed (Ok (tape, n))
 IsFinished fed (Err (Tape fault)) = IsReading fed (Err (Tape fault))
 IsFinished fed (Err Memory) = ⊤
+
+-- the same where something beside the tape is answered
+abbrev pub IsFinishedWith : {A : Type 0} → List ℕ → Result (TapeValue × A) ReadError → Type 0
+IsFinishedWith fed (Ok (tape, more)) = IsFinished fed (Ok tape)
+IsFinishedWith fed (Err error) = IsFinished fed (Err error)
 
 -- where a tape ends in a piece: how many of its bytes are the tape's; 0 where the tape goes on
 abbrev pub used_of : Fed → ℕ

@@ -1,8 +1,9 @@
 //! A tape from the front of an input.
 ghost use Rattle.std.specs.Prelude.{◌≡◌};
-ghost use Rattle.tape_blocks.specs.Input.{IsReadFrom};
+ghost use Rattle.tape_blocks.specs.Input.{IsReadFrom, IsReadWithLayout};
 
 use crate::fault::{Fault, ReadError, TAPE};
+use crate::layout::Layout;
 use crate::reader::{Fed, TapeReader};
 use std::alloc::{AllocError, Global};
 use std::error::Error;
@@ -91,6 +92,16 @@ impl From<AllocError> for FromError {
 pub fn read_from<R: Read>(alloc: Global, input: &mut R) -> Result<(Tape, u32), FromError>
     ensures { IsReadFrom (R.remaining input.old) (R.remaining input.new) result }
 {
+    match read_with_layout(alloc, input) {
+        Ok((tape, layout)) => Ok((tape, layout.size)),
+        Err(error) => Err(error),
+    }
+}
+
+/// The same, and how the tape lies in the bytes that were taken: where each of its blocks begins.
+pub fn read_with_layout<R: Read>(alloc: Global, input: &mut R) -> Result<(Tape, Layout), FromError>
+    ensures { IsReadWithLayout (R.remaining input.old) (R.remaining input.new) result }
+{
     let mut reader = TapeReader::new(alloc);
     // As long as a block may be, so not on the stack: where memory is short, a growth can be refused.
     let mut piece = Vec::new(alloc);
@@ -103,7 +114,11 @@ pub fn read_from<R: Read>(alloc: Global, input: &mut R) -> Result<(Tape, u32), F
         taken += count;
         match reader.feed(&bytes[..count])? {
             Fed::More if count > 0 => {}
-            _ => return Ok((reader.finish()?, taken as u32)),
+            _ => {
+                let (tape, places) = reader.finish_with_places()?;
+                let size = taken as u32;
+                return Ok((tape, Layout { places, size }));
+            }
         }
     }
 }

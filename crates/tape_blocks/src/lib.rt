@@ -11,8 +11,8 @@
 //!
 //! The contract: `read_tape` answers a tape exactly where one begins the input, and else the one
 //! fault of the input, at its place; `TapeReader` answers the same of any pieces, and `read_from` of
-//! an input, of which it takes the tape alone; `write_tape` gives the plain text, which reads as the
-//! same tape.
+//! an input, of which it takes the tape alone; `read_with_layout` tells, too, where each block began;
+//! `write_tape` gives the plain text, which reads as the same tape.
 //! What a tape is, as a value, stands in `tape_values`, and is passed on here; `command_io` reads the tapes of
 //! the commands.
 #![tactic(auto)]
@@ -22,14 +22,16 @@ mod fault;
 mod head;
 mod input;
 mod law;
+mod layout;
 mod outcome;
 mod progress;
 mod reader;
 mod writer;
 
 pub use fault::{Fault, FaultText, REFUSED_AT, ReadError, TAPE, Why};
-pub use input::{FromError, read_from};
+pub use input::{FromError, read_from, read_with_layout};
 pub use law::{one_reading, one_tape};
+pub use layout::Layout;
 pub use reader::{Fed, TapeReader, read_tape};
 pub use tape_values::{BadTape, Block, Memory, OUT_OF_MEMORY, TOP, Tape};
-pub use writer::write_tape;
+pub use writer::{push_block, write_tape};

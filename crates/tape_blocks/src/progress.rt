@@ -4,7 +4,8 @@ ghost use Rattle.tape_values.specs.Block.{BlockValue, block_at};
 ghost use Rattle.tape_values.specs.Tape.{IsTape, tape_limit};
 ghost use Rattle.tape_blocks.specs.Refusal.{count_of, missing_fault};
 ghost use Rattle.tape_blocks.specs.Head.{IsSplit};
-ghost use Rattle.tape_blocks.specs.Progress.{IsPart, IsReadBy, IsStep, Advances, TakesAll, TakesNoMemory, part_of};
+ghost use Rattle.tape_blocks.specs.Layout.{ArePlaced};
+ghost use Rattle.tape_blocks.specs.Progress.{IsPart, IsReadBy, IsStep, Advances, TakesAll, TakesNoMemory, PlacesOn, part_of};
 
 use crate::fault::{Fault, ReadError, Why};
 use crate::head::{BLANK, HEADER, Head, head_of};
@@ -14,12 +15,13 @@ use std::alloc::{AllocError, Global};
 use std::mem;
 use tape_values::{Block, FRAME, TAPE_LIMIT};
 
-/// The blocks that were read, the place behind them, and the bytes of the next block that are there:
-/// its header as far as it came, and then its data and checksum.
+/// The blocks that were read, the place of each, the place behind them, and the bytes of the next block that
+/// are there: its header as far as it came, and then its data and checksum.
 #[derive(Drop)]
 pub(crate) struct Progress {
     alloc: Global,
     pub(crate) blocks: Vec<Block>,
+    pub(crate) places: Vec<u32>,
     pub(crate) place: usize,
     header: ArrayVec<u8, HEADER>,
     body: Vec<u8>,
@@ -39,10 +41,12 @@ impl Progress {
     pub(crate) fn new(alloc: Global) -> Progress
         ensures part { IsPart result }
         ensures nothing { IsReadBy result [] }
+        ensures places { ArePlaced [] result.blocks.items result.places.items }
     {
         Progress {
             alloc,
             blocks: Vec::new(alloc),
+            places: Vec::new(alloc),
             place: 0,
             header: ArrayVec::new(),
             body: Vec::new(alloc),
@@ -53,6 +57,7 @@ impl Progress {
     pub(crate) fn read_on(&mut self, piece: &[u8]) -> Result<Step, ReadError>
         requires { IsPart self.old }
         ensures step { IsStep self.old piece.now self.new result }
+        ensures places { PlacesOn self.old piece.now self.new result }
         ensures whole { TakesAll piece.now result }
         ensures blank { self.old.header.items ≡ [] → All (λ byte. byte ≡ 0) piece.now → TakesNoMemory self.new result }
     {
@@ -71,6 +76,7 @@ impl Progress {
         requires part { IsPart self.old }
         requires some { 0 < length left.now }
         ensures step { IsStep self.old left.now self.new result }
+        ensures places { PlacesOn self.old left.now self.new result }
         ensures advances { Advances result }
         ensures blank { self.old.header.items ≡ [] → slice_index left.now 0 ≡ 0 → TakesNoMemory self.new result }
     {
@@ -94,6 +100,7 @@ impl Progress {
         requires some { 0 < length text.now }
         requires within { self.old.place + length text.now ≤ tape_limit }
         ensures step { IsStep self.old text.now self.new result }
+        ensures places { PlacesOn self.old text.now self.new result }
         ensures advances { Advances result }
         ensures blank { slice_index text.now 0 ≡ 0 → TakesNoMemory self.new result }
     {
@@ -109,8 +116,7 @@ impl Progress {
             }
             Head::Data(address, data) => {
                 let bytes = Vec::from_slice(self.alloc, data)?;
-                self.blocks.push(Block { address, bytes })?;
-                self.place += FRAME + data.len();
+                self.add(Block { address, bytes })?;
                 Ok(Step::Took(FRAME + data.len()))
             }
             Head::Transfer(start) => {
@@ -127,6 +133,7 @@ impl Progress {
         requires some { 0 < length text.now }
         requires within { self.old.place + length (part_of self.old) + length text.now ≤ tape_limit }
         ensures step { IsStep self.old text.now self.new result }
+        ensures places { PlacesOn self.old text.now self.new result }
         ensures advances { Advances result }
     {
         let count = text.len().min(self.lacking());
@@ -172,6 +179,7 @@ impl Progress {
         ensures added { OnOk result (part_of self.new ≡ part_of self.old ++ bytes.now) }
         ensures split { OnOk result (IsSplit self.new.header.items self.new.body.items) }
         ensures kept { self.new.blocks ≡ self.old.blocks }
+        ensures places { self.new.places ≡ self.old.places }
         ensures place { self.new.place ≡ self.old.place }
     {
         let room = self.header.remaining_capacity();
@@ -186,6 +194,7 @@ impl Progress {
         requires within { self.old.place + length (part_of self.old) ≤ tape_limit }
         ensures added { OnOk result (self.new.blocks.items
             ≡ self.old.blocks.items ++ block_at address (take (length self.old.body.items - 1) self.old.body.items) ∷ []) }
+        ensures places { OnOk result (self.new.places.items ≡ self.old.places.items ++ self.old.place ∷ []) }
         ensures place { OnOk result (self.new.place ≡ self.old.place + (6 + length self.old.body.items)) }
         ensures header { OnOk result (self.new.header.items ≡ []) }
         ensures body { OnOk result (self.new.body.items ≡ []) }
@@ -193,8 +202,21 @@ impl Progress {
         self.body.pop();
         let bytes = mem::replace(&mut self.body, Vec::new(self.alloc));
         self.header.clear();
-        self.place += FRAME + bytes.len();
-        self.blocks.push(Block { address, bytes })?;
+        self.add(Block { address, bytes })
+    }
+
+    // Adds a block, which begins at the place so far.
+    fn add(&mut self, block: Block) -> Result<(), AllocError>
+        requires within { self.old.place ≤ tape_limit }
+        ensures blocks { OnOk result (self.new.blocks.items ≡ self.old.blocks.items ++ block ∷ []) }
+        ensures places { OnOk result (self.new.places.items ≡ self.old.places.items ++ self.old.place ∷ []) }
+        ensures place { OnOk result (self.new.place ≡ self.old.place + (7 + length block.bytes)) }
+        ensures header { self.new.header ≡ self.old.header }
+        ensures body { self.new.body ≡ self.old.body }
+    {
+        self.places.push(self.place as u32)?;
+        self.place += FRAME + block.bytes.len();
+        self.blocks.push(block)?;
         Ok(())
     }
 

@@ -1,4 +1,5 @@
-ghost use Rattle.std.specs.Prelude.{◌≡◌, ◌⊎◌, ◌↔◌, ◌+◌, ◌<◌, ◌≤◌, ℕ, List, [], ◌++◌, length, All, Result};
+ghost use Rattle.std.specs.Prelude.{◌≡◌, ◌⊎◌, ◌↔◌, ◌+◌, ◌<◌, ◌≤◌, ℕ, List, [], ◌++◌, length, All, Result, IfOk, OnOk};
+ghost use Rattle.tape_blocks.specs.Layout.{ArePlaced};
 ghost use Rattle.tape_values.specs.Block.{BlockValue};
 ghost use Rattle.tape_values.specs.Tape.{IsTape, TapeValue};
 ghost use Rattle.tape_blocks.specs.Reading.{IsReading, IsReadingUnlessMemory};
@@ -76,12 +77,13 @@ impl Model for TapeReader {
 }
 
 impl TapeReader {
-    ghost use Rattle.tape_blocks.specs.TapeReader.{StandsAt, IsFed, IsFinished, IsOpen, IsOutOfMemory};
+    ghost use Rattle.tape_blocks.specs.TapeReader.{StandsAt, IsFed, IsFinished, IsFinishedWith, IsOpen, IsOutOfMemory};
 
     /// A reader that was fed nothing. Takes no memory.
     pub fn new(alloc: Global) -> TapeReader
         ensures stands { StandsAt result [] }
         ensures goes_on { IsOpen result }
+        ensures places { ArePlaced [] result.blocks result.places }
     {
         TapeReader {
             progress: Progress::new(alloc),
@@ -100,6 +102,10 @@ impl TapeReader {
         // What is answered is what all that was fed says.
         ensures answered { (fed : List ℕ) → StandsAt self.old fed → IsFed fed piece.now result }
         ensures goes_on { IsOpen self.new ↔ (result ≡ Ok Fed.More) }
+
+        // Each block has its place.
+        ensures places { OnOk result ((fed : List ℕ) → StandsAt self.old fed → ArePlaced fed self.old.blocks self.old.places
+            → ArePlaced (fed ++ piece.now) self.new.blocks self.new.places) }
 
         // A refused growth is the last word.
         ensures memory { IsOutOfMemory self.new ↔ (result ≡ Err ReadError.Memory) }
@@ -135,10 +141,23 @@ impl TapeReader {
         ensures answered { (fed : List ℕ) → StandsAt self fed → IsFinished fed result }
         ensures memory { IsOutOfMemory self ↔ (result ≡ Err ReadError.Memory) }
     {
+        match self.finish_with_places() {
+            Ok((tape, _places)) => Ok(tape),
+            Err(error) => Err(error),
+        }
+    }
+
+    /// The same, with the place of each of the tape's blocks.
+    pub(crate) fn finish_with_places(self) -> Result<(Tape, Vec<u32>), ReadError>
+        ensures answered { (fed : List ℕ) → StandsAt self fed → IsFinishedWith fed result }
+        ensures memory { IsOutOfMemory self ↔ (result ≡ Err ReadError.Memory) }
+        ensures blocks { IfOk result (λ read. read.0.blocks ≡ self.blocks) }
+        ensures places { IfOk result (λ read. read.1.items ≡ self.places) }
+    {
         let TapeReader { progress, outcome } = self;
         match outcome {
             Outcome::Open => Err(progress.missing().into()),
-            Outcome::Done(start) => Ok(Tape::of_sound(progress.blocks, start)),
+            Outcome::Done(start) => Ok((Tape::of_sound(progress.blocks, start), progress.places)),
             Outcome::Failed(error) => Err(error),
         }
     }

@@ -26,6 +26,7 @@ use Rattle.line_world.proofs.Opening.{opening_kept}
 use Rattle.command_io.specs.declared.fault.CommandFault.{CommandFault}
 use Rattle.command_io.specs.declared.fault.CommandFault.TheVariants as fault
 use Rattle.byte_io.specs.Output.{WritesPrefix, WritesProperPrefix}
+use Rattle.tape_blocks.specs.declared.layout.Layout.{Layout}
 use Rattle.command_io.specs.Tapes.{AreTapes, AreAllTaken, AreTapesFault, tapes_of}
 use Rattle.byte_io.specs.Text.{line}
 use Rattle.tape_commands.specs.Report.{life_text, end_text, mode_name, held_word_text, report}
@@ -207,7 +208,7 @@ report_some w =
     some_report (life_text w) (line (codes "end " ++ end_text (ended w.core.phase))) (line (codes "odt " ++ mode_name w.machine.mode))
     (flat_map (λ word. line (held_word_text w.machine.memory word)) w.core.plan.words)
 
-module _ (inputs rests : List (Option (List ℕ))) (words : ℕ) (style : Style) (start : Start) (tapes : List TapeValue) (lengths : List ℕ) (are : AreTapes inputs rests tapes lengths) (world : Scene)
+module _ (inputs rests : List (Option (List ℕ))) (words : ℕ) (style : Style) (start : Start) (tapes : List TapeValue) (layouts : List Layout) (are : AreTapes inputs rests tapes layouts) (world : Scene)
     (opens : world ≡ dialogue_opening (tapes_of are.texts) words style start) where
   -- the text of a run from there
   text_is : (last : Scene) (end : End) (run : RunsTo world last end) → IsDialogueText inputs rests words style start end (key_text (answered_keys world run.events) ++ report last)

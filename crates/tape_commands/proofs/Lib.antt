@@ -1,6 +1,8 @@
 mod TapeSize
 mod Canonical
 mod Texts
+mod BlockLines
+mod Spans
 mod TypedKeys
 mod Plays
 mod Openings

@@ -15,6 +15,7 @@ use Rattle.tape_commands.specs.Played.{Played, not_possible_lines}
 use Rattle.tape_commands.specs.Report.{report}
 use Rattle.byte_io.specs.Input.{IsTaken}
 use Rattle.tape_values.specs.Told.{IsAsTold}
+use Rattle.tape_blocks.specs.declared.layout.Layout.{Layout}
 use Rattle.command_io.specs.Tapes.{AreTapes, AreAllTaken}
 use Rattle.loss_scripts.specs.Script.{IsRefusedScript, IsRefusedLine, script_limit}
 use Rattle.tape_commands.specs.Rehearsal.{IsScriptInput, IsScriptInputFault, IsPlayFault, IsRehearseFault, IsRehearsal, IsRehearsed, AllLie, after_puts, machine_of, rehearsal_opening}
@@ -85,9 +86,9 @@ rehearsal_made tapes script plan odt put world last puts steps waiting start tol
     }
 
 -- what the inputs say, and the text of it
-pub rehearsed : (inputs rests : List (Option (List ℕ))) (script_input : Option (List ℕ)) (tapes played : List TapeValue) (lengths text : List ℕ) (script : Script)
-    → AreTapes inputs rests tapes lengths → played ≡ tapes → IsScriptInput script_input script → IsRehearsal played script text → IsRehearsed inputs rests script_input text
-rehearsed inputs rests script_input tapes played lengths text script are same is_script rehearsal = record {
+pub rehearsed : (inputs rests : List (Option (List ℕ))) (script_input : Option (List ℕ)) (tapes played : List TapeValue) (layouts : List Layout) (text : List ℕ) (script : Script)
+    → AreTapes inputs rests tapes layouts → played ≡ tapes → IsScriptInput script_input script → IsRehearsal played script text → IsRehearsed inputs rests script_input text
+rehearsed inputs rests script_input tapes played layouts text script are same is_script rehearsal = record {
   texts = are.texts;
   taken = are.taken;
   script = script;

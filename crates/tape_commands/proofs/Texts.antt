@@ -1,12 +1,13 @@
 -- What is printed of the tapes so far, and of one more.
-use Rattle.std.proofs.Common.{◌≡◌, ◌<◌, ◌+◌, ℕ, List, [], ◌∷◌, ◌++◌, Option, length, take, get_or, append-nil, zero, suc, arith, sym, ap, ◌∙◌, subst}
+use Rattle.std.proofs.Common.{◌≡◌, ◌<◌, ◌+◌, ℕ, List, [], ◌∷◌, ◌++◌, Option, length, take, get_or, append-nil, zero, suc, arith, refl, sym, ap, ◌∙◌, subst}
 use Rattle.std.proofs.Common.{Bool, Result, Ok, Err, OnOk, append_assoc}
 use Rattle.std.specs.List.{flat_map, AllByRecursion}
 use Rattle.std.proofs.lemmas.List.{get_or-map, take_more, length-map}
 use Rattle.std.proofs.lemmas.List.Concat.{flat_map-cons}
 use Rattle.std.proofs.lemmas.Grind.{flat_map-append}
 use Rattle.tape_values.specs.Tape.{TapeValue, IsTape, plain_text}
-use Rattle.command_io.specs.Tapes.{TapeText, AreTaken, AreTapes}
+use Rattle.tape_blocks.specs.declared.layout.Layout.{Layout}
+use Rattle.command_io.specs.Tapes.{TapeText, AreTaken, AreTapes, AreLaidOut}
 use Rattle.tape_commands.specs.CheckText.{AreTexts, tape_text, blocks_text, start_text, canonical_text, is_same}
 use Rattle.byte_io.specs.Text.{line}
 
@@ -31,10 +32,10 @@ taken_each (x ∷ xs) (y ∷ ys) [] are = absurd are
 taken_each (x ∷ xs) (y ∷ ys) (t ∷ texts) are = (are.0.is_tape, taken_each xs ys texts are.1)
 
 -- the tapes that were taken, and the bytes that they were read from
-pub are_texts : (befores afters : List (Option (List ℕ))) (tapes : List TapeValue) (lengths : List ℕ) (are : AreTapes befores afters tapes lengths) → AreTexts tapes lengths are.texts
-are_texts befores afters tapes lengths are = record {
+pub are_texts : (befores afters : List (Option (List ℕ))) (tapes : List TapeValue) (layouts : List Layout) (are : AreTapes befores afters tapes layouts) → AreTexts tapes layouts are.texts
+are_texts befores afters tapes layouts are = record {
   tapes_are = are.tapes_are;
-  lengths_are = are.lengths_are;
+  laid = are.laid;
   each = taken_each befores afters are.texts are.taken;
 }
 
@@ -43,17 +44,36 @@ each_at [] place d each within = absurd (omega arith)
 each_at (t ∷ texts) zero d each within = each.0
 each_at (t ∷ texts) (suc place) d each within = each_at texts place d each.1 (omega arith)
 
+laid_each : (texts : List TapeText) (layouts : List Layout) → AreLaidOut texts layouts → length layouts ≡ length texts
+laid_each [] [] laid = refl
+laid_each [] (l ∷ ls) laid = absurd laid
+laid_each (t ∷ ts) [] laid = absurd laid
+laid_each (t ∷ ts) (l ∷ ls) laid = ap suc (laid_each ts ls laid.1)
+
+-- each tape has a layout
+pub one_each : (befores afters : List (Option (List ℕ))) (tapes : List TapeValue) (layouts : List Layout) → AreTapes befores afters tapes layouts
+    → length layouts ≡ length tapes
+one_each befores afters tapes layouts are =
+    laid_each are.texts layouts are.laid ∙ sym (ap length are.tapes_are ∙ length-map are.texts (λ (t : TapeText). t.tape))
+
+size_at : (texts : List TapeText) (layouts : List Layout) (place : ℕ) (t : TapeText) (l : Layout) → AreLaidOut texts layouts → place < length texts
+    → (get_or layouts place l).size ≡ length (get_or texts place t).text
+size_at [] layouts place t l laid within = absurd (omega arith)
+size_at (u ∷ us) [] place t l laid within = absurd laid
+size_at (u ∷ us) (m ∷ ms) zero t l laid within = laid.0.size_is
+size_at (u ∷ us) (m ∷ ms) (suc place) t l laid within = size_at us ms place t l laid.1 (omega arith)
+
 -- the lines of the next tape stand behind those of the tapes so far
-pub next_text : (tapes : List TapeValue) (lengths : List ℕ) (texts : List TapeText) (place : ℕ) (e : TapeValue) (d : ℕ) (before after : List ℕ) → AreTexts tapes lengths texts → place < length tapes
-    → e ≡ get_or tapes place e → d ≡ get_or lengths place d → before ≡ flat_map tape_text (take place texts)
-    → ((text : List ℕ) → IsTape text e.blocks e.start → d ≡ length text → after ≡ before ++ tape_text (record { text = text; tape = e }))
+pub next_text : (tapes : List TapeValue) (layouts : List Layout) (texts : List TapeText) (place : ℕ) (e : TapeValue) (d : Layout) (before after : List ℕ) → AreTexts tapes layouts texts → place < length tapes
+    → e ≡ get_or tapes place e → d ≡ get_or layouts place d → before ≡ flat_map tape_text (take place texts)
+    → ((text : List ℕ) → IsTape text e.blocks e.start → d.size ≡ length text → after ≡ before ++ tape_text (record { text = text; tape = e }))
     → after ≡ flat_map tape_text (take (place + 1) texts)
-next_text tapes lengths texts place e d before after are within e_is d_is so put =
+next_text tapes layouts texts place e d before after are within e_is d_is so put =
     let none : TapeText = record { text = []; tape = e } in
     let t = get_or texts place none in
     let few : place < length texts = subst (λ n. place < n) (ap length are.tapes_are ∙ length-map texts (λ (t : TapeText). t.tape)) within in
     let tape : e ≡ t.tape = e_is ∙ ap (λ ts. get_or ts place e) are.tapes_are ∙ get_or-map (λ (t : TapeText). t.tape) texts place none e few in
-    let size : d ≡ length t.text = d_is ∙ ap (λ ls. get_or ls place d) are.lengths_are ∙ get_or-map (λ (t : TapeText). length t.text) texts place none d few in
+    let size : d.size ≡ length t.text = ap (λ (l : Layout). l.size) d_is ∙ size_at texts layouts place none d are.laid few in
     put t.text (subst (λ (v : TapeValue). IsTape t.text v.blocks v.start) (sym tape) (each_at texts place none are.each few)) size
     ∙ ap (λ v. before ++ tape_text (record { text = t.text; tape = v })) tape
     ∙ ap (λ l. l ++ tape_text t) so

@@ -1,5 +1,5 @@
 -- The text that `check` prints of tapes (this project's own).
-use Rattle.std.specs.Prelude.{◌≡◌, ℕ, ◌%◌, ◌==◌, if◌then◌else◌, Bool, nat_eq, List, ◌++◌, length, sum_by, codes, decimal, Option}
+use Rattle.std.specs.Prelude.{◌≡◌, ℕ, ◌%◌, ◌==◌, if◌then◌else◌, Bool, true, false, nat_eq, List, ◌++◌, length, sum_by, codes, decimal, Option}
 use Rattle.std.specs.List.{flat_map, AllByRecursion}
 use Rattle.std.specs.Cmp.Lexicographic.{pointwise}
 use Rattle.std.specs.Io.KnownBytes.{Appends}
@@ -10,7 +10,9 @@ use Rattle.tape_image.specs.Word.{WordValue, word_fields}
 use Rattle.tape_image.specs.Plan.{plan_of_all}
 use Rattle.byte_io.specs.Text.{line}
 use Rattle.byte_io.specs.Output.{WritesProperPrefix}
-use Rattle.command_io.specs.Tapes.{TapeText, AreTaken, tapes_of, lengths_of}
+use Rattle.command_io.specs.Tapes.{TapeText, AreTaken, AreLaidOut, tapes_of}
+use Rattle.tape_blocks.specs.declared.layout.Layout.{Layout}
+use Rattle.tape_commands.specs.BlockList.{IsBlockList}
 
 -- how many data bytes the blocks have together
 abbrev pub data_count : List BlockValue → ℕ
@@ -46,20 +48,29 @@ tape_text t = line (blocks_text t.tape (length t.text)) ++ line (start_text t.ta
 abbrev pub check_text : List TapeText → List ℕ
 check_text texts = flat_map tape_text texts ++ words_text (plan_of_all (tapes_of texts)).words
 
--- tapes were taken of the inputs, and their text for `check` was written, and nothing else
-pub record IsChecked (inputs inputs' : List (Option (List ℕ))) (out out' : Option (List ℕ)) : Type 0 where
+-- the same, behind a list of the blocks where that is asked for
+abbrev pub IsCheckText : Bool → List TapeText → List ℕ → Type 0
+IsCheckText false texts text = text ≡ check_text texts
+IsCheckText true texts text = (blocks : List ℕ) × IsBlockList texts blocks × (text ≡ blocks ++ check_text texts)
+
+-- tapes were taken of the inputs, and their text for `check` was written, with a list of the blocks or without, and nothing else
+pub record IsChecked (blocks : Bool) (inputs inputs' : List (Option (List ℕ))) (out out' : Option (List ℕ)) : Type 0 where
   pub texts : List TapeText
   pub taken : AreTaken inputs inputs' texts
-  pub written : Appends out out' (check_text texts)
+  pub text : List ℕ
+  pub is_text : IsCheckText blocks texts text
+  pub written : Appends out out' text
 
--- the same, but a proper prefix of the text for `check` was written
-pub record IsCheckedInPart (inputs inputs' : List (Option (List ℕ))) (out out' : Option (List ℕ)) : Type 0 where
+-- the same, but a proper prefix of the text was written
+pub record IsCheckedInPart (blocks : Bool) (inputs inputs' : List (Option (List ℕ))) (out out' : Option (List ℕ)) : Type 0 where
   pub texts : List TapeText
   pub taken : AreTaken inputs inputs' texts
-  pub written : WritesProperPrefix out out' (check_text texts)
+  pub text : List ℕ
+  pub is_text : IsCheckText blocks texts text
+  pub written : WritesProperPrefix out out' text
 
--- tapes of these texts, which are so long
-pub record AreTexts (tapes : List TapeValue) (lengths : List ℕ) (texts : List TapeText) : Type 0 where
+-- tapes of these texts, which lie so in them
+pub record AreTexts (tapes : List TapeValue) (layouts : List Layout) (texts : List TapeText) : Type 0 where
   pub tapes_are : tapes ≡ tapes_of texts
-  pub lengths_are : lengths ≡ lengths_of texts
+  pub laid : AreLaidOut texts layouts
   pub each : AllByRecursion (λ t. IsTape t.text t.tape.blocks t.tape.start) texts

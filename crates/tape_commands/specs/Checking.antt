@@ -1,5 +1,5 @@
 -- What becomes of a request to check tapes.
-use Rattle.std.specs.Prelude.{◌≡◌, ◌⊎◌, List}
+use Rattle.std.specs.Prelude.{◌≡◌, ◌⊎◌, Bool, false, List}
 use Rattle.tape_commands.specs.CheckText.{IsChecked}
 use Rattle.tape_commands.specs.CheckFault.{IsCheckFault}
 use Rattle.endings.specs.declared.failure.Failure.{Failure}
@@ -9,31 +9,32 @@ use Rattle.endings.specs.Held.{Held}
 use Rattle.input_files.specs.Opening.{Name}
 use Rattle.input_files.specs.Inputs.{Known, Inputs, OfTapes, files_of, FailsUnopened, only_input}
 use Rattle.input_files.specs.Intake.{Intake}
+use Rattle.request_values.specs.declared.options.CheckOptions.{CheckOptions}
 use Rattle.tape_commands.specs.Output.{FailsOver}
 
--- the tapes of some inputs were checked
-abbrev pub IsCheckedTo : Inputs → Known → Known → Status → Type 0
-IsCheckedTo inputs out out' status = IsChecked inputs.held inputs.rests out out' × (status ≡ Done)
+-- the tapes of some inputs were checked, with a list of the blocks or without
+abbrev pub IsCheckedTo : Bool → Inputs → Known → Known → Status → Type 0
+IsCheckedTo blocks inputs out out' status = IsChecked blocks inputs.held inputs.rests out out' × (status ≡ Done)
 
 -- the tapes of some inputs were not checked, or the text was not passed on
-abbrev pub IsCheckFailure : Inputs → Known → Known → Failure → Type 0
-IsCheckFailure inputs out out' failure =
-    FailsOver inputs (IsCheckFault inputs.held inputs.rests out out') (IsChecked inputs.held inputs.rests out out') failure
+abbrev pub IsCheckFailure : Bool → Inputs → Known → Known → Failure → Type 0
+IsCheckFailure blocks inputs out out' failure =
+    FailsOver inputs (IsCheckFault blocks inputs.held inputs.rests out out') (IsChecked blocks inputs.held inputs.rests out out') failure
 
 -- the tape on standard input was checked
 abbrev pub IsInputChecked : Held → Held → Status → Type 0
-IsInputChecked before after status = IsCheckedTo (only_input before.input after.input) before.out after.out status
+IsInputChecked before after status = IsCheckedTo false (only_input before.input after.input) before.out after.out status
 
 -- it was not
 abbrev pub IsInputUnchecked : Held → Held → Failure → Type 0
-IsInputUnchecked before after failure = IsCheckFailure (only_input before.input after.input) before.out after.out failure
+IsInputUnchecked before after failure = IsCheckFailure false (only_input before.input after.input) before.out after.out failure
 
 -- the tapes of these names were checked
-abbrev pub AreChecked : List Name → Intake → Intake → Status → Type 0
-AreChecked names before after status = OfTapes names before after (λ inputs. IsCheckedTo inputs before.held.out after.held.out status)
+abbrev pub AreChecked : List Name → CheckOptions → Intake → Intake → Status → Type 0
+AreChecked names options before after status = OfTapes names before after (λ inputs. IsCheckedTo options.blocks inputs before.held.out after.held.out status)
 
 -- they were not: a file can't be opened, or what the inputs hold is to blame
-abbrev pub AreUnchecked : List Name → Intake → Intake → Failure → Type 0
-AreUnchecked names before after failure =
+abbrev pub AreUnchecked : List Name → CheckOptions → Intake → Intake → Failure → Type 0
+AreUnchecked names options before after failure =
     FailsUnopened (files_of names) before after failure
-    ⊎ OfTapes names before after (λ inputs. IsCheckFailure inputs before.held.out after.held.out failure)
+    ⊎ OfTapes names before after (λ inputs. IsCheckFailure options.blocks inputs before.held.out after.held.out failure)

@@ -1,3 +1,4 @@
+pub mod BlockList
 pub mod CheckText
 pub mod CheckFault
 pub mod TypedKeys
@@ -11,4 +12,5 @@ pub mod Output
 pub mod Printing
 pub mod Rehearsing
 pub mod Showing
+pub mod TapeOfWords
 pub mod Typing

@@ -18,14 +18,14 @@ use tape_values::{Block, Tape};
 
 /// What is printed of tapes, which make this plan together.
 pub(crate) fn check_text(alloc: Global, taken: &Tapes, plan: &Plan) -> Result<Vec<u8>, AllocError>
-    requires lengths { length taken.now.lengths.items ≡ length taken.now.tapes.items }
+    requires layouts { length taken.now.layouts.items ≡ length taken.now.tapes.items }
     requires plan { plan.now ≡ plan_of_all taken.now.tapes.items }
-    ensures { IfOk result (λ report. (texts : List TapeText) → AreTexts taken.now.tapes.items taken.now.lengths.items texts →
+    ensures { IfOk result (λ report. (texts : List TapeText) → AreTexts taken.now.tapes.items taken.now.layouts.items texts →
         report.items ≡ text_of_check texts) }
 {
     let mut report = Vec::new(alloc);
     for place in 0..taken.tapes.len() {
-        put_tape(&mut report, &taken.tapes[place], taken.lengths[place])?;
+        put_tape(&mut report, &taken.tapes[place], taken.layouts[place].size)?;
     }
     put_words(&mut report, plan.words())?;
     Ok(report)

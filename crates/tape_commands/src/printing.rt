@@ -37,7 +37,7 @@ pub fn print_answer<'a, F: InputFiles, R: Read, W: Output, E: FaultOutput>(
 {
     match request {
         TapeRequest::CheckInput => check_input(alloc, streams),
-        TapeRequest::Check(names) => check_tapes(inputs, alloc, names, streams),
+        TapeRequest::Check(names, options) => check_tapes(inputs, alloc, names, *options, streams),
         TapeRequest::Dialogue(names, stage) => show_dialogue(inputs, alloc, names, *stage, streams),
         TapeRequest::Rehearse(rehearsal) => rehearse(inputs, alloc, rehearsal, streams),
         TapeRequest::Type(console) => type_input(alloc, *console, streams),

@@ -2,3 +2,9 @@ mod Runs
 mod Gathered
 mod Refused
 mod Made
+mod Zips
+mod Numbers
+mod Lines
+mod Laying
+mod Readings
+mod OneReading

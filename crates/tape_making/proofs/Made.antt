@@ -8,11 +8,11 @@ use Rattle.tape_image.specs.Plan.{plan_with, program_start}
 use Rattle.byte_io.specs.Input.{IsTaken, TakesAtMost}
 use Rattle.byte_io.specs.declared.input.InputFault.{InputFault}
 use Rattle.byte_io.specs.declared.input.InputFault.TheVariants as input
-use Rattle.word_text.specs.Reading.{HoldsText, IsWordsFault}
-use Rattle.word_text.specs.Sheet.{bytes_on}
-use Rattle.word_text.specs.declared.sheet.Sheet.{Sheet}
-use Rattle.word_text.specs.declared.refusal.WordsFault.{WordsFault}
-use Rattle.word_text.specs.declared.refusal.WordsFault.TheVariants as words
+use Rattle.tape_making.specs.Reading.{HoldsText, IsWordsFault}
+use Rattle.tape_making.specs.Sheet.{bytes_on}
+use Rattle.tape_making.specs.declared.sheet.Sheet.{Sheet}
+use Rattle.tape_making.specs.declared.refusal.WordsFault.{WordsFault}
+use Rattle.tape_making.specs.declared.refusal.WordsFault.TheVariants as words
 use Rattle.tape_making.specs.MadeTape.{IsTapeOf, IsTapeSaid, byte_on}
 use Rattle.tape_making.specs.Making.{IsNotMade, from_input, from_words, input_limit}
 

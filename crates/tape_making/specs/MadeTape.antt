@@ -4,7 +4,7 @@ use Rattle.tape_values.specs.Block.{BlockValue}
 use Rattle.tape_values.specs.Tape.{TapeValue}
 use Rattle.tape_image.specs.Image.{byte_at, image_of}
 use Rattle.tape_image.specs.Plan.{plan_of, plan_with, program_start}
-use Rattle.word_text.specs.Words.{HasRows}
+use Rattle.tape_making.specs.Words.{HasRows}
 
 -- the byte for an address, of a list that has one for each from 0 on, or none
 abbrev pub byte_on : List (Option ℕ) → ℕ → Option ℕ

@@ -4,9 +4,9 @@ use Rattle.byte_io.specs.Input.{IsTaken, TakesAtMost}
 use Rattle.byte_io.specs.declared.input.InputFault.{InputFault}
 use Rattle.byte_io.specs.declared.input.InputFault.TheVariants as input
 use Rattle.tape_values.specs.Tape.{TapeValue, plain_text}
-use Rattle.word_text.specs.Words.{IsReading, words_limit}
-use Rattle.word_text.specs.declared.refusal.WordsFault.{WordsFault}
-use Rattle.word_text.specs.declared.refusal.WordsFault.TheVariants as words
+use Rattle.tape_making.specs.Words.{IsReading, words_limit}
+use Rattle.tape_making.specs.declared.refusal.WordsFault.{WordsFault}
+use Rattle.tape_making.specs.declared.refusal.WordsFault.TheVariants as words
 use Rattle.tape_making.specs.declared.making.MakeFault.{MakeFault}
 use Rattle.tape_making.specs.declared.making.MakeFault.TheVariants.{Words, Read, Memory}
 use Rattle.tape_making.specs.MadeTape.{IsTapeSaid}

@@ -2,12 +2,13 @@
 ghost use Rattle.std.specs.Prelude.{◌≡◌, IfOk, IfErr};
 ghost use Rattle.tape_making.specs.Making.{IsMade, IsNotMade};
 
+use crate::refusal::{Refusal, WordsFault};
 use crate::tape::tape_from;
+use crate::text::WORDS_LIMIT;
 use byte_io::{InputFault, read_up_to};
 use std::alloc::Global;
 use std::io::Read;
 use tape_blocks::{Memory, write_tape};
-use word_text::{Refusal, WORDS_LIMIT, WordsFault};
 
 // The most bytes that are taken: one more than words may have, so that a longer text is seen.
 const INPUT_LIMIT: usize = WORDS_LIMIT + 1;

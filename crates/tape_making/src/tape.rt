@@ -1,12 +1,13 @@
 //! The tape of a sheet, and of a text of words.
 ghost use Rattle.std.specs.Prelude.{◌≡◌, ◌<◌, ◌≤◌, ℕ, length, None, slice_index_or, IfOk, IfErr, IfSome, IfNone};
 ghost use Rattle.tape_values.specs.Block.{top};
-ghost use Rattle.word_text.specs.Reading.{IsWordsFault};
+ghost use Rattle.tape_making.specs.Reading.{IsWordsFault};
 ghost use Rattle.tape_making.specs.MadeTape.{IsNextByte, IsRun, IsTapeOf, IsTapeSaid, byte_on};
 
+use crate::refusal::WordsFault;
+use crate::text::read_words;
 use std::alloc::{AllocError, Global};
 use tape_values::{Block, Tape};
-use word_text::{WordsFault, read_words};
 
 // The most bytes of a block.
 const BLOCK_BYTES: usize = 512;

@@ -4,7 +4,7 @@ use crate::tapes::{ONE_BLOCK, OVERLAPPING};
 use std::alloc::{AllocError, Global};
 use std::io;
 use std::io::{ErrorKind, Read};
-use tape_blocks::{Fault, Fed, FromError, ReadError, TapeReader, Why, read_from};
+use tape_blocks::{Fault, Fed, FromError, ReadError, TapeReader, Why, read_from, read_with_layout};
 
 /// Whether a reader that is fed a piece answers so.
 pub(crate) fn answers(
@@ -318,4 +318,17 @@ fn a_block_is_one_read(rt: HostRuntime) {
         reads == 3,
         "seven bytes, then the rest of each block and seven"
     );
+}
+
+// Three bytes 00, a block, two bytes 00, a second block, the transfer block, and what follows a tape.
+const PLACED: &[u8] =
+    b"\0\0\0\x01\0\x07\0\0\x02\x41\xB5\0\0\x01\0\x07\0\0\x02\x41\xB5\x01\0\x06\0\0\x02\xF7AB";
+
+#[test]
+fn a_layout_tells_where_blocks_begin(rt: HostRuntime) {
+    let mut input = PLACED;
+    let (_tape, layout) = read_with_layout(rt.alloc(), &mut input).expect(&rt, "no tape");
+    assert!(rt; layout.places.as_slice() == [3, 13].as_slice());
+    assert!(rt; layout.size == 28);
+    assert!(rt; input == b"AB".as_slice());
 }

@@ -10,7 +10,7 @@ use crate::tapes::{ONE_WORD, fresh_host};
 use honest_line::{Loss, MemoryLine};
 use host_core::{End, Heard, HostCore};
 use load_devices::{Item, Keep, KeepFault, Kept, Line, LineFault, MemoryKeep};
-use load_engine::{Stop, drive};
+use load_engine::{Stop, drive, drive_in_memory};
 use odt_machine::{Odt, PLAIN_STYLE};
 use std::alloc::Global;
 use std::process::Abort;
@@ -104,6 +104,31 @@ fn driven(alloc: Global, setting: &Setting) -> Option<Outcome> {
         stop,
         spent: core.spent(),
         is_seen: watch.has_seen(heard, core.progress().verified, core.spent()),
+        line,
+        keep,
+    })
+}
+
+// The engine's answer over a line that is lent.
+fn drive_by_lending(
+    core: HostCore,
+    line: MemoryLine,
+    keep: &mut MemoryKeep,
+    turns: u64,
+) -> ((HostCore, Stop), MemoryLine) {
+    drive_in_memory(core, line, keep, turns)
+}
+
+// What a drive in this setting comes to over a line that is lent, where nobody looks on.
+fn driven_by_lending(alloc: Global, setting: &Setting) -> Option<Outcome> {
+    let mut keep = MemoryKeep::new(alloc, setting.keep_room, setting.keep_fail_at).ok()?;
+    let line = line_of(alloc, setting)?;
+    let core = fresh_host(alloc, &ONE_WORD, setting.patience)?;
+    let ((core, stop), line) = drive_by_lending(core, line, &mut keep, setting.turns);
+    Some(Outcome {
+        stop,
+        spent: core.spent(),
+        is_seen: true,
         line,
         keep,
     })
@@ -320,7 +345,7 @@ fn came_to(rt: &impl Abort, outcome: &Outcome, course: &Course, reason: &str) {
     says_so(rt, outcome, course, reason);
 }
 
-// A drive in this setting comes to this; nothing where there is no drive.
+// A drive in this setting comes to this, also over a line that is lent; nothing where there is no drive.
 fn comes_to(
     rt: &impl Abort,
     alloc: Global,
@@ -329,6 +354,8 @@ fn comes_to(
     reason: &str,
 ) -> Option<()> {
     let outcome = driven(alloc, setting)?;
+    came_to(rt, &outcome, course, reason);
+    let outcome = driven_by_lending(alloc, setting)?;
     came_to(rt, &outcome, course, reason);
     Some(())
 }

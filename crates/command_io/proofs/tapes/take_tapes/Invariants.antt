@@ -3,4 +3,4 @@ use Rattle.command_io.proofs.TapesInput.{IsTaking}
 use Rattle.command_io.proofs.tapes.take_tapes.Given as goal
 
 abbrev pub invariant-loop-place : goal.invariant-loop-place
-invariant-loop-place g l = IsTaking g.R.Read.remaining l.initial.inputs l.inputs l.place l.taken.tapes.items l.taken.lengths.items
+invariant-loop-place g l = IsTaking g.R.Read.remaining l.initial.inputs l.inputs l.place l.taken.tapes.items l.taken.layouts.items

@@ -1,7 +1,8 @@
-use Rattle.std.proofs.Common.{Some, subst, sym, ◌∙◌}
+use Rattle.std.proofs.Common.{subst, sym, ◌∙◌}
 use Rattle.honest_line.specs.LineTable.{LineValue}
-use Rattle.load_engine.specs.Lent.{LoadsSafely}
-use Rattle.load_engine.specs.Session.{KeepsMarkFirst}
+use Rattle.load_devices.specs.Devices.{devices}
+use Rattle.load_engine.specs.Driven.{IsDriven}
+use Rattle.load_engine.specs.Lent.{LoadsSafely, memory_told}
 use Rattle.load_engine.proofs.Lendings.{loads_safely}
 use Rattle.load_engine.proofs.lending.drive_lent.Goals as goal
 
@@ -12,11 +13,13 @@ returns-clause-loads g c =
     let next = answer.result.0 in
     subst (LoadsSafely stop c.args.core next g.E.Opening.line) (sym c.take_back.ensures.same)
     (subst (λ (line : LineValue). LoadsSafely stop c.args.core next line answer.new.line) (c.lend-lent.ensures ∙ c.requires)
-    (loads_safely stop c.args.core next c.lend-lent.result answer.new.line answer.ensures.honest answer.ensures.start))
+    (loads_safely stop c.args.core next c.lend-lent.result answer.new.line answer.ensures.driven.honest answer.ensures.driven.start))
 
-pub returns-clause-mark_first : goal.returns-clause-mark_first
-returns-clause-mark_first g c =
-    let keep = g.K.Keep.told c.args.keep.now in
-    let keep' = g.K.Keep.told c.drive-answer.new.keep in
-    subst (λ (line : LineValue). KeepsMarkFirst (Some line.items) (Some c.take_back.result.items) keep keep') c.lend-lent.ensures
-    (subst (λ (line : LineValue). KeepsMarkFirst (Some c.lend-lent.result.items) (Some line.items) keep keep') (sym c.take_back.ensures.same) c.drive-answer.ensures.mark_first)
+pub returns-clause-driven : goal.returns-clause-driven
+returns-clause-driven g c =
+    let answer = c.drive-answer in
+    let kept = g.K.Keep.told c.args.keep.now in
+    let kept' = g.K.Keep.told answer.new.keep in
+    subst (λ (line : LineValue). IsDriven c.args.turns c.args.core answer.result.0 answer.result.1 (devices (memory_told line) kept) (devices (memory_told c.take_back.result) kept')) c.lend-lent.ensures
+    (subst (λ (line : LineValue). IsDriven c.args.turns c.args.core answer.result.0 answer.result.1 (devices (memory_told c.lend-lent.result) kept) (devices (memory_told line) kept'))
+    (sym c.take_back.ensures.same) answer.ensures.driven)

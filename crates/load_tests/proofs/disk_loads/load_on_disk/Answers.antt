@@ -7,7 +7,7 @@ use Rattle.simulated_system.specs.ToldSteps.{steps_of}
 use Rattle.load_tests.proofs.disk_loads.load_on_disk.Goals as goal
 
 pub returns-clause-disk : goal.returns-clause-disk
-returns-clause-disk g c = closed_ok (λ outcome. disk_asked_by outcome.line) c.load-outcome.result
+returns-clause-disk g c = closed_ok (λ outcome. disk_asked_by outcome.end outcome.line) c.load-outcome.result
     (record { asked = steps_of c.args.around.records.disk.asked; name = c.args.around.records.name.now; known = option_map kind_of c.args.around.records.held })
     (record { asked = steps_of c.load-outcome.new.around.records.disk.asked; name = c.load-outcome.new.around.records.name.now; known = option_map kind_of c.load-outcome.new.around.records.held })
     _ (IfOk-weaker c.load-outcome.result _ _ (λ outcome loaded. loaded.disk) c.load-outcome.ensures.ok) c.close.ensures.asked

@@ -1,6 +1,9 @@
 use Rattle.std.proofs.Common.{sym, subst, refl, ◌∙◌}
 use Rattle.host_core.specs.Core.{Core}
-use Rattle.machine_load.specs.Parts.{IsDriven, IsDrivenWhere, IsKeptWhere, calls_of, devices_of}
+use Rattle.load_devices.specs.Devices.{calls_of, devices_of}
+use Rattle.load_engine.specs.Driven.{IsDriven}
+use Rattle.machine_load.specs.Parts.{IsDrivenWhere, IsKeptWhere}
+use Rattle.load_devices.specs.Turns.{most_turns}
 use Rattle.machine_load.specs.Stubs.{host_behind}
 use Rattle.machine_load.proofs.loading.drive_behind.Goals as goal
 
@@ -18,15 +21,5 @@ pub returns-in-None-clause-host : goal.returns-in-None-clause-host
 returns-in-None-clause-host g c =
     let before = devices_of g.L.Line g.K.Keep c.args.line.now c.args.keeper.now in
     let after = devices_of g.L.Line g.K.Keep c.drive.new.line c.drive.new.keep in
-    let driven : IsDriven c.host_behind-core.result c.drive.result.0 c.drive.result.1 before after = record {
-      session = c.drive.ensures.turns;
-      end = c.drive.ensures.end;
-      counted = c.drive.ensures.counted.0;
-      named = c.drive.ensures.fault.0;
-      mark_first = c.drive.ensures.mark_first;
-      honest = c.drive.ensures.honest;
-      start = c.drive.ensures.start;
-      bound = c.drive.ensures.bound;
-    } in
     subst (λ hindered. IsDrivenWhere hindered (host_behind c.args.first c.args.stubs) c.drive.result.0 c.drive.result.1 before after) (sym c.in-None.is ∙ c.hindrance.ensures)
-    (subst (λ (core : Core). IsDriven core c.drive.result.0 c.drive.result.1 before after) c.host_behind-core.ensures driven)
+    (subst (λ (core : Core). IsDriven most_turns core c.drive.result.0 c.drive.result.1 before after) c.host_behind-core.ensures c.drive.ensures.driven)

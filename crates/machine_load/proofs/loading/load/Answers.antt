@@ -1,16 +1,15 @@
-use Rattle.std.proofs.Common.{◌≡◌, ◌∙◌, ap, sym, subst, inl, option_map, rules}
-use Rattle.console_lines.specs.Reached.{line_told}
+use Rattle.std.proofs.Common.{◌∙◌, ap, sym, subst, option_map, rules}
+use Rattle.load_devices.specs.Devices.{line_told}
 use Rattle.machine_load.specs.Driving.{IsLoadLived, IsLoadUntold}
-use Rattle.machine_load.specs.GivenBack.{GivesNothingSaid, IsGivenBack}
+use Rattle.machine_load.specs.GivenBack.{IsGivenBack}
 use Rattle.machine_load.specs.Load.{finish_of}
-use Rattle.machine_load.specs.LoadFault.{IsLoadFault}
-use Rattle.machine_load.specs.Parts.{course}
-use Rattle.machine_load.specs.Scene.{Scene, IsNotLoaded, around_of, ending, keeper_of, scene}
+use Rattle.machine_load.specs.LoadFault.{IsDrivingFault, IsLoadFault, gone}
+use Rattle.machine_load.specs.Scene.{IsNotLoaded, around_of, ending, keeper_of, scene}
 use Rattle.machine_load.proofs.Begun.{line_or_never, line_or_over, never_begun}
 use Rattle.machine_load.proofs.Driving.{asked_untold, cut_short_of, load_untold, loaded_as, reported_of, undriven_told, unopened_told}
 use Rattle.machine_load.proofs.Faults.{of_opening, of_driving, error_is, no_value, not_loaded}
 use Rattle.machine_load.proofs.OnDisk.{lived_on, not_lived_on, untold_on}
-use Rattle.machine_load.specs.RecordDisk.{DiskAsked, disk_asked_by, disk_asked_before}
+use Rattle.machine_load.specs.RecordDisk.{DiskAsked, disk_asked_before}
 use Rattle.machine_load.proofs.loading.load.Goals as goal
 
 pub returns-in_err-first-clause-ok : goal.returns-in_err-first-clause-ok
@@ -24,7 +23,7 @@ returns-in_err-first-clause-err g c =
     ((scene g.S.Surroundings g.W.Write c.args.around.now c.args.out.now).setting)
     ((scene g.S.Surroundings g.W.Write c.first_core.new.around c.args.out.now).setting))
     c.from_residual.ensures.1
-    (of_opening _ _ _ _ _ _ _ c.in_err-first.field-0.0 c.in_err-first.ensures.fault c.first_core.ensures.same (inl c.first_core.ensures.lines)))
+    (of_opening _ _ _ _ _ _ _ c.in_err-first.field-0.0 c.in_err-first.ensures.fault c.first_core.ensures.same c.first_core.ensures.lines))
     (error_is c.from_residual.result c.in_err-first.field-0.0 _ c.from_residual.ensures.1
     (unopened_told c.args.plan
     (around_of g.S.Surroundings c.args.around.now)
@@ -45,12 +44,14 @@ returns-in_err-lived-clause-err g c =
     ((scene g.S.Surroundings g.W.Write c.live.new.around c.args.out.now).setting))
     c.from_residual-in_err-lived.ensures.1
     (of_driving _ _ _ (around_of g.S.Surroundings c.first_core.new.around) _ _ _ _ _
-    (subst (λ lines. GivesNothingSaid lines (g.S.Surroundings.lines c.live.new.around)) c.first_core.ensures.lines c.in_err-lived.ensures.lines_in_vain)
-    _ c.in_err-lived.field-0.0 c.in_ok-first.ensures.opened c.in_err-lived.ensures.fault))
+    _ c.in_err-lived.field-0.0 c.in_ok-first.ensures.opened
+    (subst (λ lines. IsDrivingFault c.in_ok-first.writable c.in_ok-first.first (gone (around_of g.S.Surroundings c.first_core.new.around) lines)
+    (gone (around_of g.S.Surroundings c.live.new.around) (g.S.Surroundings.lines c.live.new.around)) c.in_err-lived.field-0.0)
+    c.first_core.ensures.lines c.in_err-lived.ensures.fault)))
     (error_is c.from_residual-in_err-lived.result c.in_err-lived.field-0.0 _ c.from_residual-in_err-lived.ensures.1
-    (undriven_told c.in_ok-first.writable
-    (around_of g.S.Surroundings c.first_core.new.around)
-    (around_of g.S.Surroundings c.live.new.around)
+    (undriven_told c.in_ok-first.writable c.in_ok-first.first
+    (gone (around_of g.S.Surroundings c.first_core.new.around) (g.S.Surroundings.lines c.first_core.new.around))
+    (gone (around_of g.S.Surroundings c.live.new.around) (g.S.Surroundings.lines c.live.new.around))
     c.in_err-lived.field-0.0 c.in_err-lived.ensures.fault))
     (search rules)
     (error_is c.from_residual-in_err-lived.result c.in_err-lived.field-0.0
@@ -64,14 +65,14 @@ returns-in-Err-clause-err g c =
     let before = scene g.S.Surroundings g.W.Write c.args.around.now c.args.out.now in
     let after = scene g.S.Surroundings g.W.Write c.give_back.new.around c.report_life.new.out in
     let line = option_map (line_told g.S.Line.Line) c.in_ok-lived.lived.line in
-    let way = course c.in_ok-lived.lived.stubs c.in_ok-lived.lived.core c.in_ok-lived.lived.stop in
+    let finish = finish_of c.in_ok-lived.lived.looks c.in_ok-lived.lived.stubs c.in_ok-lived.lived.core c.in_ok-lived.lived.end line in
     let untold : IsLoadUntold keeper c.args.plan c.args.options before.setting after.setting =
     rw (sym c.give_back.ensures.steps, sym c.give_back.ensures.text) at
     (load_untold keeper c.args.plan c.args.options before.setting
     (record { around = around_of g.S.Surroundings c.live.new.around; lines = g.S.Surroundings.lines c.give_back.new.around; out = g.W.Write.contents c.report_life.new.out })
     (around_of g.S.Surroundings c.first_core.new.around)
     c.in_ok-first.first c.in_ok-first.writable
-    (finish_of way line)
+    finish
     c.in_ok-first.ensures.opened c.in_ok-lived.ensures.lived c.in-Err.ensures.err
     (subst (λ lines. IsGivenBack lines (g.S.Surroundings.lines c.give_back.new.around) line) (c.in_ok-lived.ensures.lines ∙ c.first_core.ensures.lines) c.give_back.ensures.lines)) in
     subst (IsNotLoaded keeper c.args.plan c.args.options before after) (sym c.from.ensures) (record {
@@ -80,7 +81,7 @@ returns-in-Err-clause-err g c =
       asked = rw (c.first_core.ensures.asked, c.first_core.ensures.call, sym c.give_back.ensures.asked) at
           (asked_untold (g.S.Surroundings.call c.first_core.new.around) c.in_ok-lived.lived.line (g.S.Surroundings.asked c.first_core.new.around) (g.S.Surroundings.asked c.live.new.around) c.in_ok-lived.ensures.asked);
       disk = rw (sym c.give_back.ensures.disk) at
-          (untold_on _ (g.S.Surroundings.disk c.first_core.new.around) _ c.in_ok-lived.lived.line c.in_ok-first.ensures.disk c.in_ok-lived.ensures.disk);
+          (untold_on _ (g.S.Surroundings.disk c.first_core.new.around) _ c.in_ok-lived.lived.end c.in_ok-lived.lived.line c.in_ok-first.ensures.disk c.in_ok-lived.ensures.disk);
     })
 
 pub returns-in-Ok-clause-ok : goal.returns-in-Ok-clause-ok
@@ -88,29 +89,28 @@ returns-in-Ok-clause-ok g c =
     let keeper = keeper_of g.S.Surroundings g.S.Keeper.Keep in
     let before = scene g.S.Surroundings g.W.Write c.args.around.now c.args.out.now in
     let after = scene g.S.Surroundings g.W.Write c.live.new.around c.report_life.new.out in
-    let way = course c.in_ok-lived.lived.stubs c.in_ok-lived.lived.core c.in_ok-lived.lived.stop in
-    let line = option_map (line_told g.S.Line.Line) c.in_ok-lived.lived.line in
-    let lived : IsLoadLived keeper c.args.plan c.args.options before.setting.around after.setting.around (finish_of way line) = record {
+    let last = c.in_ok-lived.lived in
+    let line = option_map (line_told g.S.Line.Line) last.line in
+    let lived : IsLoadLived keeper c.args.plan c.args.options before.setting.around after.setting.around (finish_of last.looks last.stubs last.core last.end line) = record {
       first = c.in_ok-first.first;
       writable = c.in_ok-first.writable;
       between = around_of g.S.Surroundings c.first_core.new.around;
       opened = c.in_ok-first.ensures.opened;
       life = c.in_ok-lived.ensures.lived;
     } in
-    let load = loaded_as keeper c.args.plan c.args.options before.setting after.setting way line (ending g.S.Line.Line c.outcome.result) c.outcome.ensures.stop c.outcome.ensures.marked (ap (option_map (line_told g.S.Line.Line)) c.outcome.ensures.line) lived c.in-Ok.ensures.ok in
+    let load = loaded_as keeper c.args.plan c.args.options before.setting after.setting last.looks last.stubs last.core last.end line (ending g.S.Line.Line c.outcome.result) c.outcome.ensures.end c.outcome.ensures.marked (ap (option_map (line_told g.S.Line.Line)) c.outcome.ensures.line) lived c.in-Ok.ensures.ok in
     record {
       reported = reported_of keeper c.args.plan c.args.options before.setting after.setting (ending g.S.Line.Line c.outcome.result) (c.in_ok-lived.ensures.lines ∙ c.first_core.ensures.lines) load.0;
       lived = load.0;
       stubs = c.outcome.ensures.stubs ∙ sym load.1;
-      line = rw (sym c.outcome.ensures.stop, sym c.outcome.ensures.line) at
+      line = rw (sym c.outcome.ensures.end, sym c.outcome.ensures.line) at
           (line_or_never c.in_ok-lived.lived.line (never_begun _ _ _ _ _ _ c.in_ok-first.ensures.opened.opening)
           (line_or_over keeper (line_told g.S.Line.Line) c.args.options.fast
           c.in_ok-first.writable c.in_ok-first.first
           (around_of g.S.Surroundings c.first_core.new.around)
           (around_of g.S.Surroundings c.live.new.around)
-          way c.in_ok-lived.lived.line c.in_ok-lived.ensures.lived));
+          last.looks last.stubs last.core last.end last.line c.in_ok-lived.ensures.lived));
       asked = search rules;
-      disk = subst (λ line. DiskAsked (g.S.Surroundings.disk c.args.around.now) (g.S.Surroundings.disk c.live.new.around) (disk_asked_by line))
-          (sym c.outcome.ensures.line)
-          (lived_on _ (g.S.Surroundings.disk c.first_core.new.around) _ c.in_ok-lived.lived.line c.in_ok-first.ensures.disk c.in_ok-lived.ensures.disk);
+      disk = rw (sym c.outcome.ensures.end, sym c.outcome.ensures.line) at
+          (lived_on (g.S.Surroundings.disk c.args.around.now) (g.S.Surroundings.disk c.first_core.new.around) (g.S.Surroundings.disk c.live.new.around) last.end last.line c.in_ok-first.ensures.disk c.in_ok-lived.ensures.disk);
     }

@@ -1,5 +1,5 @@
 use Rattle.std.proofs.Common.{sym, subst, refl, [], ◌∷◌, Some}
-use Rattle.console_lines.specs.Reached.{line_told}
+use Rattle.load_devices.specs.Devices.{line_told}
 use Rattle.load_devices.specs.Failures.{CountsFault}
 use Rattle.load_devices.specs.Told.{Gains}
 use Rattle.reading_engine.specs.Failing.{line_fault}

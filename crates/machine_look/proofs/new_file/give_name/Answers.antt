@@ -1,13 +1,13 @@
 use Rattle.load_devices.proofs.Told.{tells_join}
 use Rattle.record_file.proofs.Asking.{asked_one}
-use Rattle.machine_look.specs.ShelfDisk.{Linked, Taken}
+use Rattle.machine_look.specs.ShelfDisk.{Linked, NameTaken}
 use Rattle.machine_look.proofs.new_file.give_name.Goals as goal
 
 pub returns-in-Ok-clause-asked : goal.returns-in-Ok-clause-asked
 returns-in-Ok-clause-asked g c = asked_one _ _ _ c.in-Ok.ensures.asked Linked
 
 pub returns-in-Err-clause-asked : goal.returns-in-Err-clause-asked
-returns-in-Err-clause-asked g c = asked_one _ _ _ c.in-Err.ensures.asked Taken
+returns-in-Err-clause-asked g c = asked_one _ _ _ c.in-Err.ensures.asked NameTaken
 
 pub returns-in-Err-2-clause-asked : goal.returns-in-Err-2-clause-asked
 returns-in-Err-2-clause-asked g c = let h = c.rename_to_free.ensures.asked in asked_one _ _ _ (tells_join _ _ _ _ _ c.in-Err-2.ensures.asked h.1) h.2

@@ -16,4 +16,4 @@ pub returns : goal.returns
 returns g c =
     let was_cut = tells_done _ _ _ c.cut.result c.cut.ensures.asked c.if-is_err.ensures.value in
     let synced = tells_done _ _ _ c.sync_file.result c.sync_file.ensures.asked c.if-is_err-2.ensures.value in
-    record { asked = on_disk _ _ _ _ _ _ _ c.as_str.ensures.value (tells_join _ _ _ _ _ was_cut synced) c.has_name.ensures.asked }
+    record { asked = on_disk _ _ _ _ _ _ _ _ c.as_str.ensures.value (tells_join _ _ _ _ _ was_cut synced) c.has_name.ensures.asked }

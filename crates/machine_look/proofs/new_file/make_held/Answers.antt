@@ -1,18 +1,20 @@
-use Rattle.std.proofs.Common.{true, false}
 use Rattle.load_devices.proofs.Told.{tells_join}
 use Rattle.record_file.proofs.Asking.{asked_one}
-use Rattle.record_file.specs.Beginning.{IsThere, NotMade}
+use Rattle.machine_look.specs.ShelfDisk.{Made, NotHeld, NotMade, WasLeft}
 use Rattle.machine_look.proofs.OnShelf.{still}
 use Rattle.machine_look.proofs.new_file.make_held.Goals as goal
 
 pub returns-then-hold-clause-fresh : goal.returns-then-hold-clause-fresh
-returns-then-hold-clause-fresh g c = still _ _ _ _ (c.if-hold.ensures.asked _ c.in-Ok.ensures.named) c.in-Ok.ensures.fresh
+returns-then-hold-clause-fresh g c = still _ _ _ _ (c.if-hold.ensures.asked _ c.in-Ok.ensures.opened) c.in-Ok.ensures.fresh
 
 pub returns-then-hold-clause-asked : goal.returns-then-hold-clause-asked
-returns-then-hold-clause-asked g c = let m = c.in-Ok.ensures.asked in asked_one _ _ _ (tells_join _ _ _ _ _ m.1 (c.if-hold.ensures.asked _ c.in-Ok.ensures.named)) (IsThere _ true m.2)
+returns-then-hold-clause-asked g c = asked_one _ _ _ (tells_join _ _ _ _ _ c.in-Ok.ensures.asked (c.if-hold.ensures.asked _ c.in-Ok.ensures.opened)) Made
 
 pub returns-else-hold-clause-asked : goal.returns-else-hold-clause-asked
-returns-else-hold-clause-asked g c = let m = c.in-Ok.ensures.asked in asked_one _ _ _ (tells_join _ _ _ _ _ m.1 (c.if-hold.ensures.asked _ c.in-Ok.ensures.named)) (IsThere _ false m.2)
+returns-else-hold-clause-asked g c = asked_one _ _ _ (tells_join _ _ _ _ _ c.in-Ok.ensures.asked (c.if-hold.ensures.asked _ c.in-Ok.ensures.opened)) NotHeld
 
 pub returns-in-Err-clause-asked : goal.returns-in-Err-clause-asked
-returns-in-Err-clause-asked g c = let m = c.in-Err.ensures.asked in (m.0, m.1, NotMade _ m.2)
+returns-in-Err-clause-asked g c = asked_one _ _ _ c.in-Err.ensures.asked WasLeft
+
+pub returns-in-Err-2-clause-asked : goal.returns-in-Err-2-clause-asked
+returns-in-Err-2-clause-asked g c = asked_one _ _ _ c.in-Err-2.ensures.asked NotMade

@@ -1,5 +1,5 @@
 use Rattle.std.proofs.Common.{◌≡◌, IfOk, OnErr, [], ◌∷◌, inl, inr, refl, sym, subst}
-use Rattle.console_lines.specs.Reached.{line_told}
+use Rattle.load_devices.specs.Devices.{line_told}
 use Rattle.load_devices.specs.Told.{Gains}
 use Rattle.console_lines.specs.Dialling.{asked_once}
 use Rattle.console_lines.proofs.Asked.{in_vain}

@@ -1,9 +1,9 @@
 use Rattle.std.proofs.Common.{◌≡◌, ℕ, ◌+◌, ◌*◌, ◌<◌, List, length, arith, ap, sym, subst, ◌∙◌}
 use Rattle.tape_image.specs.Word.{WordValue}
 use Rattle.exchange_core.specs.declared.stretch.Stretch.{Stretch}
-use Rattle.stub_plan.specs.StubPlan.{IsStubPlan, place_of}
-use Rattle.stub_plan.specs.Window.{IsWindow}
-use Rattle.stub_plan.proofs.Together.{read_from}
+use Rattle.exchange_core.specs.StubPlan.{IsStubPlan, place_of}
+use Rattle.exchange_core.specs.Window.{IsWindow}
+use Rattle.exchange_core.proofs.Together.{read_from}
 use Rattle.stub.specs.Words.{stub_words}
 use Rattle.stub_engine.proofs.Layouts.{stub_length}
 use Rattle.stub_engine.proofs.planning.brought_in_by.Goals as goal

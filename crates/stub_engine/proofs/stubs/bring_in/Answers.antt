@@ -1,5 +1,5 @@
 use Rattle.std.proofs.Common.{◌≡◌, None, Some, refl, arith, ap, sym, subst, ◌∙◌}
-use Rattle.exchange_engine.proofs.Keepings.{each_begins, kept_then, told_begins, told_then}
+use Rattle.stub_engine.proofs.Keepings.{each_begins, kept_then, told_begins, told_then}
 use Rattle.stub_engine.specs.declared.tally.Tally.{Tally}
 use Rattle.stub_engine.specs.Parts.{AreBroughtIn, failure_of}
 use Rattle.stub_engine.specs.Tallies.{begun}

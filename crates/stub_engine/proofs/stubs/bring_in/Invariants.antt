@@ -1,8 +1,8 @@
 use Rattle.std.proofs.Common.{◌+◌, ◌-◌, ◌*◌, ◌≤◌, length, None}
 use Rattle.load_devices.specs.Told.{Gains}
 use Rattle.load_engine.specs.Keeping.{KeepsEach}
-use Rattle.exchange_engine.specs.Failing.{Counts}
-use Rattle.exchange_engine.specs.Keeping.{words_kept}
+use Rattle.stub_engine.specs.Failing.{Counts}
+use Rattle.stub_engine.specs.Keeping.{words_kept}
 use Rattle.stub_engine.specs.Parts.{AreBroughtIn}
 use Rattle.stub_engine.specs.Tallies.{begun}
 use Rattle.stub_engine.proofs.Bounds.{AreBounded}

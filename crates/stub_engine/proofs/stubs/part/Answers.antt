@@ -5,11 +5,11 @@ use Rattle.load_devices.specs.Failures.{fault_of}
 use Rattle.load_devices.specs.Turns.{most_turns}
 use Rattle.exchange_core.specs.declared.chunk.Chunk.{Chunk}
 use Rattle.exchange_core.specs.Exchange.{IsExchange, begun as exchange_begun}
-use Rattle.exchange_engine.specs.declared.stop.Stop.{Stop as ExchangeStop}
-use Rattle.exchange_engine.specs.Exchanged.{Exchanged}
-use Rattle.exchange_engine.specs.Failing.{Counts, NamesFault}
-use Rattle.exchange_engine.specs.Keeping.{KeptBy, ToldBy, words_kept}
-use Rattle.exchange_engine.proofs.Keepings.{each_begins, told_begins}
+use Rattle.stub_engine.specs.declared.exchange_stop.ExchangeStop.{ExchangeStop}
+use Rattle.stub_engine.specs.Exchanged.{Exchanged}
+use Rattle.stub_engine.specs.Failing.{Counts, NamesFault}
+use Rattle.stub_engine.specs.Keeping.{KeptBy, ToldBy, words_kept}
+use Rattle.stub_engine.proofs.Keepings.{each_begins, told_begins}
 use Rattle.stub_engine.specs.declared.stop.Stop.{Stop}
 use Rattle.stub_engine.specs.declared.tally.Tally.{Tally}
 use Rattle.stub_engine.specs.Parts.{AreBroughtIn, TellsEnd, failure_of, why_left, why_unstarted}

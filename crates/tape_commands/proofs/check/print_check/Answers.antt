@@ -7,13 +7,13 @@ use Rattle.tape_commands.proofs.check.print_check.Goals as goal
 pub returns-in-Ok-clause-ok : goal.returns-in-Ok-clause-ok
 returns-in-Ok-clause-ok g c =
     IfOk-weaker c.flushed.result _ _
-    (λ status is inputs are. (checked_on inputs.held inputs.rests _ _ _ c.flushed.ensures.bytes (c.in-Ok.ensures.ok inputs.held inputs.rests are), is))
+    (λ status is inputs are. (checked_on inputs.held inputs.rests _ _ c.args.options.blocks _ c.flushed.ensures.bytes (c.in-Ok.ensures.ok inputs.held inputs.rests are), is))
     c.flushed.ensures.ok
 
 pub returns-in-Ok-clause-err : goal.returns-in-Ok-clause-err
 returns-in-Ok-clause-err g c =
     IfErr-weaker c.flushed.result _ _
-    (λ failure is inputs are. inr (is, checked_on inputs.held inputs.rests _ _ _ c.flushed.ensures.bytes (c.in-Ok.ensures.ok inputs.held inputs.rests are)))
+    (λ failure is inputs are. inr (is, checked_on inputs.held inputs.rests _ _ c.args.options.blocks _ c.flushed.ensures.bytes (c.in-Ok.ensures.ok inputs.held inputs.rests are)))
     c.flushed.ensures.err
 
 pub returns-in-Err-clause-err : goal.returns-in-Err-clause-err

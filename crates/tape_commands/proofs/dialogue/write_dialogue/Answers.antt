@@ -24,7 +24,7 @@ returns-in_err-end-clause-err g c =
     fault_is c.from_residual-in_err-end.result c.in_err-end.field-0.0
     (λ fault. OfTaken c.args.taken.now (λ inputs inputs'. IsDialogueFault inputs inputs' (g.W.Write.contents c.args.out.now) (g.W.Write.contents c.talk.new.out) c.args.words c.args.style c.args.start fault))
     c.from_residual-in_err-end.ensures.1
-    (λ inputs inputs' are. stopped_in_talk inputs inputs' c.args.words c.args.style c.args.start c.args.taken.now.tapes.items c.args.taken.now.lengths.items are c.open_world-world.result
+    (λ inputs inputs' are. stopped_in_talk inputs inputs' c.args.words c.args.style c.args.start c.args.taken.now.tapes.items c.args.taken.now.layouts.items are c.open_world-world.result
     (opens_dialogue c.args.words c.args.style c.args.start c.args.taken.now.tapes.items c.deref.result.now _ _ c.in_ok-odt.odt c.open_world-world.result _ c.deref.ensures.value are.tapes_are (c.starting.ensures.value ∙ ap (λ p. starting p c.args.start) c.in_ok-plan.ensures.plan) c.in_ok-odt.ensures.ok refl c.open_world-world.ensures.world)
     c.in_ok-odt.odt (g.W.Write.contents c.args.out.now) (g.W.Write.contents c.talk.new.out) _ c.in_ok-odt.ensures.ok c.in_ok-odt.ensures.machine c.open_world-world.ensures.host c.in_err-end.ensures.err c.in_err-end.ensures.front)
 
@@ -33,14 +33,14 @@ returns-in_err-write_report-clause-err g c =
     fault_is c.from_residual-in_err-write_report.result c.in_err-write_report.field-0.0
     (λ fault. OfTaken c.args.taken.now (λ inputs inputs'. IsDialogueFault inputs inputs' (g.W.Write.contents c.args.out.now) (g.W.Write.contents c.write_report.new.out) c.args.words c.args.style c.args.start fault))
     c.from_residual-in_err-write_report.ensures.1
-    (λ inputs inputs' are. report_failed inputs inputs' c.args.words c.args.style c.args.start c.args.taken.now.tapes.items c.args.taken.now.lengths.items are c.open_world-world.result
+    (λ inputs inputs' are. report_failed inputs inputs' c.args.words c.args.style c.args.start c.args.taken.now.tapes.items c.args.taken.now.layouts.items are c.open_world-world.result
     (opens_dialogue c.args.words c.args.style c.args.start c.args.taken.now.tapes.items c.deref.result.now _ _ c.in_ok-odt.odt c.open_world-world.result _ c.deref.ensures.value are.tapes_are (c.starting.ensures.value ∙ ap (λ p. starting p c.args.start) c.in_ok-plan.ensures.plan) c.in_ok-odt.ensures.ok refl c.open_world-world.ensures.world)
     c.talk.new.world c.in_ok-end.end (g.W.Write.contents c.args.out.now) (g.W.Write.contents c.talk.new.out) (g.W.Write.contents c.write_report.new.out) _
     c.in_ok-end.ensures.ok c.in_err-write_report.ensures.err)
 
 pub returns-clause-ok : goal.returns-clause-ok
 returns-clause-ok g c inputs inputs' are =
-    dialogue_made inputs inputs' c.args.words c.args.style c.args.start c.args.taken.now.tapes.items c.args.taken.now.lengths.items are c.open_world-world.result
+    dialogue_made inputs inputs' c.args.words c.args.style c.args.start c.args.taken.now.tapes.items c.args.taken.now.layouts.items are c.open_world-world.result
     (opens_dialogue c.args.words c.args.style c.args.start c.args.taken.now.tapes.items c.deref.result.now _ _ c.in_ok-odt.odt c.open_world-world.result _ c.deref.ensures.value are.tapes_are (c.starting.ensures.value ∙ ap (λ p. starting p c.args.start) c.in_ok-plan.ensures.plan) c.in_ok-odt.ensures.ok refl c.open_world-world.ensures.world)
     c.talk.new.world c.in_ok-end.end (g.W.Write.contents c.args.out.now) (g.W.Write.contents c.talk.new.out) (g.W.Write.contents c.write_report.new.out)
     c.in_ok-end.ensures.ok c.in_ok-write_report.ensures.ok

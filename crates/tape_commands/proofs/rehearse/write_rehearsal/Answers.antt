@@ -29,13 +29,13 @@ returns-in_err-write_whole-clause-err g c =
     (λ fault. OfTaken c.args.taken.now (λ inputs inputs'. IsRehearseFault inputs inputs' (g.S.Read.remaining c.args.script.now) (g.W.Write.contents c.args.out.now) (g.W.Write.contents c.write_whole.new.out) fault))
     c.from_residual-in_err-write_whole.ensures.1 (λ inputs inputs' are. (
       c.in_ok-text.text.items,
-      rehearsed _ _ _ c.args.taken.now.tapes.items c.deref.result.now c.args.taken.now.lengths.items _ _ are c.deref.ensures.value c.in_ok-script.ensures.ok c.in_ok-text.ensures.ok,
+      rehearsed _ _ _ c.args.taken.now.tapes.items c.deref.result.now c.args.taken.now.layouts.items _ _ are c.deref.ensures.value c.in_ok-script.ensures.ok c.in_ok-text.ensures.ok,
       subst (WritesProperPrefix (g.W.Write.contents c.args.out.now) (g.W.Write.contents c.write_whole.new.out)) c.deref-2.ensures.value c.in_err-write_whole.ensures.err,
     ))
 
 pub returns-clause-ok : goal.returns-clause-ok
 returns-clause-ok g c = (
   c.in_ok-text.text.items,
-  λ inputs inputs' are. rehearsed _ _ _ c.args.taken.now.tapes.items c.deref.result.now c.args.taken.now.lengths.items _ _ are c.deref.ensures.value c.in_ok-script.ensures.ok c.in_ok-text.ensures.ok,
+  λ inputs inputs' are. rehearsed _ _ _ c.args.taken.now.tapes.items c.deref.result.now c.args.taken.now.layouts.items _ _ are c.deref.ensures.value c.in_ok-script.ensures.ok c.in_ok-text.ensures.ok,
   subst (Appends (g.W.Write.contents c.args.out.now) (g.W.Write.contents c.write_whole.new.out)) c.deref-2.ensures.value c.in_ok-write_whole.ensures.ok,
 )

@@ -1,28 +1,29 @@
-use Rattle.std.proofs.Common.{Some, option_map}
-use Rattle.machine_look.specs.Beside.{room_of, IsFolderOpened}
+use Rattle.std.proofs.Common.{List, ℕ, option_map}
+use Rattle.machine_look.specs.Room.{room_of}
+use Rattle.machine_look.specs.Shelf.{NotReserved}
 use Rattle.machine_look.specs.ShelfDisk.{NameNotFree}
-use Rattle.machine_look.proofs.OnShelf.{has_room_on, no_room_on, refused_on, then_not_reserved}
+use Rattle.machine_look.specs.ShelfTold.{IsDone, ShelfTold}
+use Rattle.machine_look.proofs.Faults.{error_is}
+use Rattle.machine_look.proofs.OnShelf.{has_room_on, no_room_on, then_not_reserved}
 use Rattle.machine_look.proofs.new_file.NewFileShelf.reserve.Goals as goal
 
-pub returns-in_err-find_free-clause-disk : goal.returns-in_err-find_free-clause-disk
-returns-in_err-find_free-clause-disk g c =
-    let shelf = c.args.self.now in
-    let room = option_map (room_of g.D.File.Write.contents) shelf.beside in
+pub returns-in_err-find_free-clause-failed : goal.returns-in_err-find_free-clause-failed
+returns-in_err-find_free-clause-failed g c =
     let search = c.in_err-find_free.ensures.asked in
-    refused_on (IsFolderOpened g.D.Disk.is_opened_as shelf.beside) c.args.length (Some (record { asked = g.D.Disk.asked shelf.disk; name = shelf.name.now; room = room }))
-    (Some (record { asked = g.D.Disk.asked c.find_free.new.disk; name = shelf.name.now; room = room })) c.from_residual.result _ c.from_residual.ensures.1
-    (no_room_on shelf.name.now room _ (g.D.Disk.asked shelf.disk) (g.D.Disk.asked c.find_free.new.disk) (search.0, search.1, NameNotFree _ _ search.2))
+    error_is c.from_residual.result _ _ c.from_residual.ensures.1
+    (λ folder. (tt, no_room_on c.args.self.now.name.now (option_map (room_of g.D.File.Write.contents) c.args.self.now.part) _ _ _ (search.0, search.1, NameNotFree _ _ search.2)))
 
-pub returns-in_err-make_beside-clause-disk : goal.returns-in_err-make_beside-clause-disk
-returns-in_err-make_beside-clause-disk g c =
-    let shelf = c.args.self.now in
-    let room = option_map (room_of g.D.File.Write.contents) shelf.beside in
-    refused_on (IsFolderOpened g.D.Disk.is_opened_as shelf.beside) c.args.length (Some (record { asked = g.D.Disk.asked shelf.disk; name = shelf.name.now; room = room }))
-    (Some (record { asked = g.D.Disk.asked c.make_beside.new.disk; name = shelf.name.now; room = room })) c.from_residual-in_err-make_beside.result _ c.from_residual-in_err-make_beside.ensures.1
-    (no_room_on shelf.name.now room _ (g.D.Disk.asked shelf.disk) (g.D.Disk.asked c.make_beside.new.disk)
-    (then_not_reserved _ _ _ _ _ c.in_ok-find_free.ensures.asked c.in_err-make_beside.ensures.failed))
+pub returns-in_err-make_part-clause-failed : goal.returns-in_err-make_part-clause-failed
+returns-in_err-make_part-clause-failed g c =
+    error_is c.from_residual-in_err-make_part.result _ _ c.from_residual-in_err-make_part.ensures.1
+    (λ folder. (
+      tt,
+      no_room_on c.args.self.now.name.now (option_map (room_of g.D.File.Write.contents) c.args.self.now.part) _ _ _
+          (then_not_reserved _ _ _ _ _ c.in_ok-find_free.ensures.asked c.in_err-make_part.ensures.failed),
+    ))
 
-pub returns-clause-disk : goal.returns-clause-disk
-returns-clause-disk g c =
-    has_room_on g.D.Disk.is_opened_as c.args.length g.D.File.Write.contents _ _ c.in_ok-make_beside.field-0 _ _ _ c.in_ok-make_beside.ensures.named c.in_ok-make_beside.ensures.fresh c.in_ok-make_beside.ensures.filled
-    c.in_ok-find_free.ensures.asked c.in_ok-make_beside.ensures.asked
+pub returns-clause-done : goal.returns-clause-done
+returns-clause-done g c =
+    let h = has_room_on g.D.Disk.is_opened_as c.args.length g.D.File.Write.contents _ (option_map (room_of g.D.File.Write.contents) c.args.self.now.part) c.in_ok-make_part.field-0 _ _ _ c.in_ok-make_part.ensures.named c.in_ok-make_part.ensures.new
+    c.in_ok-make_part.ensures.fresh c.in_ok-make_part.ensures.filled c.in_ok-find_free.ensures.asked c.in_ok-make_part.ensures.asked in
+    (h.0, h.1, (tt, h.2))

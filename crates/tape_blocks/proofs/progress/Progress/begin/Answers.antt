@@ -1,4 +1,4 @@
-use Rattle.std.proofs.Common.{◌≡◌, ℕ, ◌+◌, ◌≤◌, List, [], ◌∷◌, ◌++◌, length, take, arith, ap, ◌∙◌, sym, subst}
+use Rattle.std.proofs.Common.{◌≡◌, ℕ, ◌+◌, ◌≤◌, List, [], ◌∷◌, ◌++◌, length, take, arith, ap, ◌∙◌, refl, sym, subst}
 use Rattle.std.proofs.lemmas.List.{take_all}
 use Rattle.std.proofs.lemmas.Result.{err_from_is_err_and}
 use Rattle.tape_values.specs.Block.{BlockValue, block_at, data_block, transfer_block}
@@ -8,8 +8,9 @@ use Rattle.tape_blocks.specs.Progress.{part_of}
 use Rattle.tape_values.proofs.Pieces.{length-framed}
 use Rattle.tape_blocks.proofs.Steps.{no_part, wants_nothing, step_blank, step_data, step_transfer, step_fault, front_is, front_fits, alone, first_byte, same_read}
 use Rattle.tape_blocks.proofs.Standings.{IsReadTo-grow}
+use Rattle.tape_blocks.proofs.Placings.{place_more, places_grow, same_placed}
 use Rattle.tape_blocks.proofs.progress.Progress.begin.Goals as goal
-use Rattle.tape_blocks.proofs.progress.Progress.begin.Goals.{After-head_of, In_ok-head_of}
+use Rattle.tape_blocks.proofs.progress.Progress.begin.Goals.{After-head_of, In_ok-head_of, In_ok-add-in-Data}
 
 none : (c : After-head_of) → part_of c.args.self.now ≡ []
 none c = no_part c.args.self.now.header.items c.args.self.now.body.items c.requires.part.split c.requires.between
@@ -65,24 +66,65 @@ returns-in_ok-put-in-Part-clause-step c =
           (IsReadTo-grow fed text _ c.args.self.now.place (part_of c.args.self.now) read),
     )
 
-pub returns-in_ok-push-in-Data-clause-step : goal.returns-in_ok-push-in-Data-clause-step
-returns-in_ok-push-in-Data-clause-step c =
+-- the block that was found
+abbrev block : In_ok-add-in-Data → BlockValue
+block c = block_at c.in-Data.address c.in-Data.data.now
+
+-- it stands first
+first_is : (c : In_ok-add-in-Data) → part_of c.args.self.now ++ take (7 + length c.in-Data.data.now) c.args.text.now ≡ data_block (block c)
+first_is c =
     let text : List ℕ = c.args.text.now in
-    let e = none ((goal.at.returns-in_ok-push-in-Data-clause-step c).After-head_of) in
-    let l : length (part_of c.args.self.now) ≡ 0 = ap length e in
-    let h = subst (IsHead c.args.self.now.place text) c.in-Data.is (found ((goal.at.returns-in_ok-push-in-Data-clause-step c).In_ok-head_of)) in
-    let b : BlockValue = block_at c.in-Data.address c.in-Data.data.now in
+    let e = none ((goal.at.In_ok-add-in-Data c).After-head_of) in
+    let h = subst (IsHead c.args.self.now.place text) c.in-Data.is (found ((goal.at.In_ok-add-in-Data c).In_ok-head_of)) in
     let n : ℕ = 7 + length c.in-Data.data.now in
-    let k : n ≡ length (data_block b) = sym (length-framed c.in-Data.address c.in-Data.data.now) in
-    let fits : n ≤ length text = front_fits n (data_block b) text h.2 k in (
+    let k : n ≡ length (data_block (block c)) = sym (length-framed c.in-Data.address c.in-Data.data.now) in
+    alone (part_of c.args.self.now) (take n text) e ∙ front_is n (data_block (block c)) text h.2 k
+
+blocks_are : (c : In_ok-add-in-Data) → c.add.new.self.blocks.items ≡ c.args.self.now.blocks.items ++ block c ∷ []
+blocks_are c =
+    c.in_ok-add-in-Data.ensures.blocks ∙ ap (λ x. c.args.self.now.blocks.items ++ block_at c.in-Data.address x ∷ []) c.in_ok-bytes-in-Data.ensures.items
+
+pub returns-in_ok-add-in-Data-clause-step : goal.returns-in_ok-add-in-Data-clause-step
+returns-in_ok-add-in-Data-clause-step c =
+    let o = (goal.at.returns-in_ok-add-in-Data-clause-step c).In_ok-add-in-Data in
+    let text : List ℕ = c.args.text.now in
+    let e = none ((goal.at.returns-in_ok-add-in-Data-clause-step c).After-head_of) in
+    let h = subst (IsHead c.args.self.now.place text) c.in-Data.is (found ((goal.at.returns-in_ok-add-in-Data-clause-step c).In_ok-head_of)) in
+    let n : ℕ = 7 + length c.in-Data.data.now in
+    let k : n ≡ length (data_block (block o)) = sym (length-framed c.in-Data.address c.in-Data.data.now) in
+    let fits : n ≤ length text = front_fits n (data_block (block o)) text h.2 k in
+    let a = c.in_ok-add-in-Data.ensures in
+    let place : c.add.new.self.place ≡ c.args.self.now.place + n = a.place ∙ ap (λ x. c.args.self.now.place + (7 + length x)) c.in_ok-bytes-in-Data.ensures.items in
+    let part : part_of c.add.new.self ≡ [] =
+    ap (λ x. x.items ++ c.add.new.self.body.items) a.header ∙ ap (λ x. c.args.self.now.header.items ++ x.items) a.body ∙ e in
+    let l : length (part_of c.add.new.self) ≡ 0 = ap length part in (
       fits,
-      record { split = c.requires.part.split; wanting = wants_nothing (c.args.self.now.place + n) (part_of c.args.self.now) e; within = omega arith },
+      record {
+        split = rw (a.header, a.body) c.requires.part.split;
+        wanting = wants_nothing c.add.new.self.place (part_of c.add.new.self) part;
+        within = omega arith;
+      },
       λ fed read.
-          rw (c.in_ok-push-in-Data.ensures.items, c.in_ok-bytes-in-Data.ensures.items)
-          (subst (IsReadTo (fed ++ take n text) (c.args.self.now.blocks.items ++ b ∷ []) (c.args.self.now.place + n)) (sym e)
-          (step_data fed (take n text) (part_of c.args.self.now) c.args.self.now.blocks.items c.args.self.now.place b read h.0 h.1
-          (alone (part_of c.args.self.now) (take n text) e ∙ front_is n (data_block b) text h.2 k))),
+          same_read _ _ _ _ _ _ _ _ refl (sym (blocks_are o)) (sym place) (sym part)
+          (step_data fed (take n text) (part_of c.args.self.now) c.args.self.now.blocks.items c.args.self.now.place (block o) read h.0 h.1 (first_is o)),
     )
+
+pub returns-in_ok-add-in-Data-clause-places : goal.returns-in_ok-add-in-Data-clause-places
+returns-in_ok-add-in-Data-clause-places c = λ fed read placed.
+    let o = (goal.at.returns-in_ok-add-in-Data-clause-places c).In_ok-add-in-Data in
+    same_placed _ _ _ _ _ (sym (blocks_are o)) (sym c.in_ok-add-in-Data.ensures.places)
+    (place_more fed (take (7 + length c.in-Data.data.now) c.args.text.now) (part_of c.args.self.now) _ _ c.args.self.now.place (block o) read placed (first_is o))
+
+pub returns-then-text-eq-BLANK-clause-places : goal.returns-then-text-eq-BLANK-clause-places
+returns-then-text-eq-BLANK-clause-places c = λ fed read placed. places_grow fed _ _ _ placed
+
+pub returns-in_ok-put-in-Part-clause-places : goal.returns-in_ok-put-in-Part-clause-places
+returns-in_ok-put-in-Part-clause-places c = λ fed read placed.
+    same_placed _ _ _ _ _ (ap (λ v. v.items) (sym c.in_ok-put-in-Part.ensures.kept)) (ap (λ v. v.items) (sym c.in_ok-put-in-Part.ensures.places))
+    (places_grow fed _ _ _ placed)
+
+pub returns-in-Transfer-clause-places : goal.returns-in-Transfer-clause-places
+returns-in-Transfer-clause-places c = λ fed read placed. places_grow fed _ _ _ placed
 
 pub returns-in-Transfer-clause-step : goal.returns-in-Transfer-clause-step
 returns-in-Transfer-clause-step c =

@@ -11,10 +11,11 @@ use Rattle.tape_blocks.specs.declared.fault.Why.TheVariants.{Cut}
 use Rattle.tape_values.proofs.Pieces.{length-framed}
 use Rattle.tape_blocks.proofs.Longer.{blank_before}
 use Rattle.tape_blocks.proofs.Parts.{GrowsTo, just_block, whole_body}
+use Rattle.tape_blocks.proofs.Placings.{place_more, places_grow, same_placed}
 use Rattle.tape_blocks.proofs.Standings.{IsReadTo-grow}
 use Rattle.tape_blocks.proofs.Steps.{no_part, wants_nothing, step_data, step_transfer, step_fault, good_longer, same_read, split_nothing}
 use Rattle.tape_blocks.proofs.progress.Progress.go_on.Goals as goal
-use Rattle.tape_blocks.proofs.progress.Progress.go_on.Goals.{After-deref, In_ok-head_of}
+use Rattle.tape_blocks.proofs.progress.Progress.go_on.Goals.{After-deref, In_ok-head_of, In_ok-end_block-in-Data}
 
 -- the bytes that are taken
 abbrev taken : After-deref → List ℕ
@@ -95,17 +96,48 @@ returns-in-Part-clause-step c =
           (IsReadTo-grow fed (taken a) _ c.args.self.now.place (part_of c.args.self.now) read),
     )
 
+pub returns-in-Part-clause-places : goal.returns-in-Part-clause-places
+returns-in-Part-clause-places c = λ fed read placed.
+    same_placed _ _ _ _ _ (ap (λ v. v.items) (sym c.in_ok-put.ensures.kept)) (ap (λ v. v.items) (sym c.in_ok-put.ensures.places)) (places_grow fed _ _ _ placed)
+
+-- the block that came whole
+abbrev block : In_ok-end_block-in-Data → BlockValue
+block c = block_at c.in-Data.address c.in-Data.field-1.now
+
+just : (c : In_ok-end_block-in-Data) → part_of c.args.self.now ++ taken ((goal.at.In_ok-end_block-in-Data c).After-deref) ≡ data_block (block c)
+just c =
+    let a = (goal.at.In_ok-end_block-in-Data c).After-deref in
+    let h = subst (IsHead c.args.self.now.place (part_of c.args.self.now ++ taken a)) c.in-Data.is (found ((goal.at.In_ok-end_block-in-Data c).In_ok-head_of)) in
+    just_block c.in-Data.address c.in-Data.field-1.now (part_of c.args.self.now) (taken a) (grows a) h.2
+
+blocks_are : (c : In_ok-end_block-in-Data) → c.end_block.new.self.blocks.items ≡ c.args.self.now.blocks.items ++ block c ∷ []
+blocks_are c =
+    let body = whole_body c.put.new.self.header.items c.put.new.self.body.items c.in-Data.address c.in-Data.field-1.now c.in_ok-put.ensures.split
+    (c.in_ok-put.ensures.added ∙ just c) in
+    c.in_ok-end_block-in-Data.ensures.added
+    ∙ ap (λ x. x ++ block_at c.in-Data.address (take (length c.put.new.self.body.items - 1) c.put.new.self.body.items) ∷ []) (ap (λ v. v.items) c.in_ok-put.ensures.kept)
+    ∙ ap (λ x. c.args.self.now.blocks.items ++ block_at c.in-Data.address x ∷ []) body.bytes
+
+places_are : (c : In_ok-end_block-in-Data) → c.end_block.new.self.places.items ≡ c.args.self.now.places.items ++ c.args.self.now.place ∷ []
+places_are c =
+    c.in_ok-end_block-in-Data.ensures.places ∙ ap (λ v. v.items ++ c.put.new.self.place ∷ []) c.in_ok-put.ensures.places
+    ∙ ap (λ n. c.args.self.now.places.items ++ n ∷ []) c.in_ok-put.ensures.place
+
+pub returns-in_ok-end_block-in-Data-clause-places : goal.returns-in_ok-end_block-in-Data-clause-places
+returns-in_ok-end_block-in-Data-clause-places c = λ fed read placed.
+    let o = (goal.at.returns-in_ok-end_block-in-Data-clause-places c).In_ok-end_block-in-Data in
+    same_placed _ _ _ _ _ (sym (blocks_are o)) (sym (places_are o))
+    (place_more fed _ (part_of c.args.self.now) _ _ c.args.self.now.place (block o) read placed (just o))
+
 pub returns-in_ok-end_block-in-Data-clause-step : goal.returns-in_ok-end_block-in-Data-clause-step
 returns-in_ok-end_block-in-Data-clause-step c =
     let a = (goal.at.returns-in_ok-end_block-in-Data-clause-step c).After-deref in
+    let o = (goal.at.returns-in_ok-end_block-in-Data-clause-step c).In_ok-end_block-in-Data in
     let bytes : List ℕ = c.in-Data.field-1.now in
     let address : ℕ = c.in-Data.address in
-    let b : BlockValue = block_at address bytes in
     let whole : List ℕ = part_of c.args.self.now ++ taken a in
     let h = subst (IsHead c.args.self.now.place whole) c.in-Data.is (found ((goal.at.returns-in_ok-end_block-in-Data-clause-step c).In_ok-head_of)) in
-    let just : whole ≡ data_block b = just_block address bytes (part_of c.args.self.now) (taken a) (grows a) h.2 in
-    let added : part_of c.put.new.self ≡ whole = c.in_ok-put.ensures.added in
-    let body = whole_body c.put.new.self.header.items c.put.new.self.body.items address bytes c.in_ok-put.ensures.split (added ∙ just) in
+    let body = whole_body c.put.new.self.header.items c.put.new.self.body.items address bytes c.in_ok-put.ensures.split (c.in_ok-put.ensures.added ∙ just o) in
     let e = c.in_ok-end_block-in-Data.ensures in
     let split = split_nothing c.end_block.new.self.header.items c.end_block.new.self.body.items e.header e.body in
     let none : part_of c.end_block.new.self ≡ [] = no_part c.end_block.new.self.header.items c.end_block.new.self.body.items split e.header in
@@ -114,17 +146,18 @@ returns-in_ok-end_block-in-Data-clause-step c =
     let here : c.put.new.self.place ≡ c.args.self.now.place = c.in_ok-put.ensures.place in
     let moved = e.place in
     let place : c.end_block.new.self.place ≡ c.args.self.now.place + (7 + length bytes) = omega arith in
-    let l : length whole ≡ 7 + length bytes = ap length just ∙ length-framed address bytes in
-    let w = within a in
-    let blocks : c.end_block.new.self.blocks.items ≡ c.args.self.now.blocks.items ++ b ∷ [] =
-    e.added ∙ ap (λ x. x ++ block_at address (take (length c.put.new.self.body.items - 1) c.put.new.self.body.items) ∷ []) (ap (λ v. v.items) c.in_ok-put.ensures.kept)
-    ∙ ap (λ x. c.args.self.now.blocks.items ++ block_at address x ∷ []) body.bytes in (
+    let l : length whole ≡ 7 + length bytes = ap length (just o) ∙ length-framed address bytes in
+    let w = within a in (
       fits a,
       record { split = split; wanting = wants_nothing c.end_block.new.self.place (part_of c.end_block.new.self) none; within = omega arith },
       λ fed read.
-          same_read _ _ _ _ _ _ _ _ refl (sym blocks) (sym place) (sym none)
-          (step_data fed (taken a) (part_of c.args.self.now) _ c.args.self.now.place b read h.0 h.1 just),
+          same_read _ _ _ _ _ _ _ _ refl (sym (blocks_are o)) (sym place) (sym none)
+          (step_data fed (taken a) (part_of c.args.self.now) _ c.args.self.now.place (block o) read h.0 h.1 (just o)),
     )
+
+pub returns-in-Transfer-clause-places : goal.returns-in-Transfer-clause-places
+returns-in-Transfer-clause-places c = λ fed read placed.
+    same_placed _ _ _ _ _ (ap (λ v. v.items) (sym c.in_ok-put.ensures.kept)) (ap (λ v. v.items) (sym c.in_ok-put.ensures.places)) (places_grow fed _ _ _ placed)
 
 pub returns-in-Transfer-clause-step : goal.returns-in-Transfer-clause-step
 returns-in-Transfer-clause-step c =

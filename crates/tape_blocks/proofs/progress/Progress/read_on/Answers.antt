@@ -4,7 +4,7 @@ use Rattle.std.proofs.lemmas.List.{get_or-drop}
 use Rattle.std.proofs.lemmas.Result.{err_from_is_err_and}
 use Rattle.std.proofs.Math.Seq.{take-add}
 use Rattle.tape_blocks.specs.Standing.{EndsTape, IsRefusedForGood}
-use Rattle.tape_blocks.specs.Progress.{IsStep, IsReadBy}
+use Rattle.tape_blocks.specs.Progress.{ArePlacedBy, IsStep, IsReadBy, PlacesOn}
 use Rattle.tape_blocks.specs.declared.fault.ReadError.{ReadError}
 use Rattle.tape_blocks.specs.declared.fault.ReadError.TheVariants.{Tape, Memory}
 use Rattle.tape_blocks.specs.declared.progress.Progress.{Progress}
@@ -51,15 +51,24 @@ returns-in_err-count-clause-step c =
 found : (c : In_ok-count) → IsStep c.loop-used.self (take (length c.args.piece.now - c.loop-used.used) (drop c.loop-used.used c.args.piece.now)) c.step.new.self (Ok c.in_ok-count.field-0)
 found c = c.in_ok-count.ensures.step
 
+-- what the step left of places
+placed_on : (c : In_ok-count) → PlacesOn c.loop-used.self (take (length c.args.piece.now - c.loop-used.used) (drop c.loop-used.used c.args.piece.now)) c.step.new.self (Ok c.in_ok-count.field-0)
+placed_on c = c.in_ok-count.ensures.places
+
 pub loop-used-preserved : goal.loop-used-preserved
 loop-used-preserved c =
     let s = subst (λ x. IsStep c.loop-used.self (take (length c.args.piece.now - c.loop-used.used) (drop c.loop-used.used c.args.piece.now)) c.step.new.self (Ok x))
     c.in-Took.is (found ((goal.at.loop-used-preserved c).In_ok-count)) in
+    let p = subst (λ x. PlacesOn c.loop-used.self (take (length c.args.piece.now - c.loop-used.used) (drop c.loop-used.used c.args.piece.now)) c.step.new.self (Ok x))
+    c.in-Took.is (placed_on ((goal.at.loop-used-preserved c).In_ok-count)) in
     let f = λ (fed : List ℕ). more_used fed c.args.piece.now c.loop-used.used c.in-Took.count c.loop-used.invariant.within s.0 in
     record {
       within = (f c.args.piece.now).0;
       part = s.1;
       read = λ fed read. subst (IsReadBy c.step.new.self) (f fed).1 (s.2 (fed ++ take c.loop-used.used c.args.piece.now) (c.loop-used.invariant.read fed read));
+      placed = λ fed read placed.
+          subst (ArePlacedBy c.step.new.self) (f fed).1
+          (p (fed ++ take c.loop-used.used c.args.piece.now) (c.loop-used.invariant.read fed read) (c.loop-used.invariant.placed fed read placed));
       blank = λ none zeros.
           c.in_ok-count.ensures.blank (c.loop-used.invariant.blank none zeros) (next_blank c.args.piece.now c.loop-used.used c.loop-used-test.true zeros);
     }
@@ -74,3 +83,13 @@ returns-in-Ended-clause-step c =
           subst (λ t. EndsTape t c.step.new.self.blocks.items c.step.new.self.place c.in-Ended.start) (f fed).1
           (s.1 (fed ++ take c.loop-used.used c.args.piece.now) (c.loop-used.invariant.read fed read)),
     )
+
+pub returns-in-Ended-clause-places : goal.returns-in-Ended-clause-places
+returns-in-Ended-clause-places c = λ fed read placed.
+    let o = (goal.at.returns-in-Ended-clause-places c).In_ok-count in
+    let s = subst (λ x. IsStep c.loop-used.self (take (length c.args.piece.now - c.loop-used.used) (drop c.loop-used.used c.args.piece.now)) c.step.new.self (Ok x))
+    c.in-Ended.is (found o) in
+    let p = subst (λ x. PlacesOn c.loop-used.self (take (length c.args.piece.now - c.loop-used.used) (drop c.loop-used.used c.args.piece.now)) c.step.new.self (Ok x))
+    c.in-Ended.is (placed_on o) in
+    subst (ArePlacedBy c.step.new.self) (more_used fed c.args.piece.now c.loop-used.used c.in-Ended.count c.loop-used.invariant.within s.0).1
+    (p (fed ++ take c.loop-used.used c.args.piece.now) (c.loop-used.invariant.read fed read) (c.loop-used.invariant.placed fed read placed))

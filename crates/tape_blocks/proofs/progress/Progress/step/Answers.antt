@@ -1,7 +1,7 @@
 use Rattle.std.proofs.Common.{◌≡◌, ℕ, ◌≤◌, List, ◌++◌, length, take, drop, arith, ap, ◌∙◌, sym, subst, take-append-drop, append_assoc, Result, Ok, Err}
 use Rattle.std.proofs.lemmas.List.{length-take, length-append}
 use Rattle.tape_blocks.specs.Standing.{EndsTape, IsRefusedForGood}
-use Rattle.tape_blocks.specs.Progress.{IsStep, IsReadBy, part_of}
+use Rattle.tape_blocks.specs.Progress.{ArePlacedBy, IsStep, IsReadBy, PlacesOn, part_of}
 use Rattle.tape_blocks.specs.declared.fault.ReadError.{ReadError}
 use Rattle.tape_blocks.specs.declared.fault.ReadError.TheVariants.{Tape, Memory}
 use Rattle.tape_blocks.specs.declared.progress.Progress.{Progress}
@@ -47,3 +47,20 @@ returns-then-is_empty-clause-step c = step_near c.args.self.now c.begin.new.self
 
 pub returns-else-is_empty-clause-step : goal.returns-else-is_empty-clause-step
 returns-else-is_empty-clause-step c = step_near c.args.self.now c.go_on.new.self c.min.result c.args.left.now c.go_on.result c.go_on.ensures.step
+
+-- the places after a step over a front of the bytes left
+places_near : (old new : Progress) (k : ℕ) (left : List ℕ) (r : Result Step ReadError) → IsStep old (take k left) new r → PlacesOn old (take k left) new r
+    → PlacesOn old left new r
+places_near old new k left (Ok (Took n)) s p =
+    λ fed read placed. subst (λ t. ArePlacedBy new (fed ++ t)) (front_of n k left s.0).1 (p fed read placed)
+places_near old new k left (Ok (Ended n start)) s p =
+    λ fed read placed. subst (λ t. ArePlacedBy new (fed ++ t)) (front_of n k left s.0).1 (p fed read placed)
+places_near old new k left (Err e) s p = tt
+
+pub returns-then-is_empty-clause-places : goal.returns-then-is_empty-clause-places
+returns-then-is_empty-clause-places c =
+    places_near c.args.self.now c.begin.new.self c.min.result c.args.left.now c.begin.result c.begin.ensures.step c.begin.ensures.places
+
+pub returns-else-is_empty-clause-places : goal.returns-else-is_empty-clause-places
+returns-else-is_empty-clause-places c =
+    places_near c.args.self.now c.go_on.new.self c.min.result c.args.left.now c.go_on.result c.go_on.ensures.step c.go_on.ensures.places

@@ -1,9 +1,11 @@
-use Rattle.std.proofs.Common.{◌≡◌, ◌++◌, subst, Ok, List, ℕ, length, refl}
+use Rattle.std.proofs.Common.{◌≡◌, ◌++◌, sym, subst, Ok, List, ℕ, length, refl}
 use Rattle.tape_blocks.specs.TapeReader.{StandsAt}
-use Rattle.tape_blocks.specs.Progress.{IsReadBy, IsStep, TakesAll}
+use Rattle.tape_blocks.specs.Layout.{ArePlaced}
+use Rattle.tape_blocks.specs.Progress.{ArePlacedBy, IsReadBy, IsStep, PlacesOn, TakesAll}
 use Rattle.tape_blocks.specs.declared.progress.Step.TheVariants.{Took, Ended}
 use Rattle.tape_blocks.specs.declared.outcome.Outcome.TheVariants.{Done, Failed}
 use Rattle.tape_blocks.proofs.Feeding.{value, done_answers, failed_stands, failed_answers, came_open, same_outcome, took_open, took_answers, read_whole, ended_stands, ended_answers, failure_stands, failure_answers}
+use Rattle.tape_blocks.proofs.Placings.{placed_in_piece, places_grow}
 use Rattle.tape_blocks.proofs.reader.TapeReader.feed.Goals as goal
 use Rattle.tape_blocks.proofs.reader.TapeReader.feed.Goals.{In-Open, In-Ok-Took, In-Ok-Ended}
 
@@ -100,3 +102,24 @@ pub returns-in-Err-clause-answered : goal.returns-in-Err-clause-answered
 returns-in-Err-clause-answered c = λ fed h.
     let o = (goal.at.returns-in-Err-clause-answered c).In-Open in
     failure_answers c.self.inside.progress c.read_on.new.self c.in-Err.error fed c.args.piece.now (read o fed h) c.in-Err.ensures.step
+
+pub returns-in-Done-clause-places : goal.returns-in-Done-clause-places
+returns-in-Done-clause-places c = λ fed h placed. places_grow fed c.args.piece.now _ _ placed
+
+-- the places of an open reader's blocks
+placed_before : (c : In-Open) (fed : List ℕ) → ArePlaced fed c.args.self.now.blocks c.args.self.now.places → ArePlacedBy c.self.inside.progress fed
+placed_before c fed placed = subst (λ r. ArePlaced fed r.blocks r.places) (sym c.self.view_is) placed
+
+pub returns-in-Ok-Ended-clause-places : goal.returns-in-Ok-Ended-clause-places
+returns-in-Ok-Ended-clause-places c = λ fed h placed.
+    let o = (goal.at.returns-in-Ok-Ended-clause-places c).In-Open in
+    let p = subst (λ x. PlacesOn c.self.inside.progress c.args.piece.now c.read_on.new.self (Ok x)) c.in-Ok-Ended.field-0-is c.in-Ok-Ended.ensures.places in
+    placed_in_piece fed c.args.piece.now c.in-Ok-Ended.used c.read_on.new.self.blocks.items c.read_on.new.self.places.items
+    (p fed (read o fed h) (placed_before o fed placed))
+
+pub returns-in-Ok-Took-clause-places : goal.returns-in-Ok-Took-clause-places
+returns-in-Ok-Took-clause-places c = λ fed h placed.
+    let o = (goal.at.returns-in-Ok-Took-clause-places c).In-Open in
+    let p = subst (λ x. PlacesOn c.self.inside.progress c.args.piece.now c.read_on.new.self (Ok x)) c.in-Ok-Took.field-0-is c.in-Ok-Took.ensures.places in
+    placed_in_piece fed c.args.piece.now c.in-Ok-Took.field-0-0 c.read_on.new.self.blocks.items c.read_on.new.self.places.items
+    (p fed (read o fed h) (placed_before o fed placed))

@@ -1,4 +1,0 @@
-mod Filled
-mod Hearing
-mod Whole
-mod Running

@@ -1,2 +1,0 @@
-pub mod Clean
-pub mod Cable

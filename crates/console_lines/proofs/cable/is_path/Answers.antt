@@ -1,5 +1,0 @@
-use Rattle.std.proofs.Common.{rules}
-use Rattle.console_lines.proofs.cable.is_path.Goals as goal
-
-pub returns : goal.returns
-returns c = search rules

@@ -1,0 +1,33 @@
+//! The bytes of a word of the plan.
+ghost use Rattle.std.specs.Prelude.{◌≡◌};
+ghost use Rattle.exchange_core.specs.Chunking.{bytes_of};
+
+use crate::stretch::Stretch;
+use tape_image::Word;
+
+/// The mask of the low byte alone.
+pub(crate) const LOW_BYTE: u16 = 0o377;
+
+/// The mask of the high byte alone.
+pub(crate) const HIGH_BYTE: u16 = 0o177400;
+
+/// The addresses of the word's bytes: one, or both.
+pub(crate) fn bytes_of(word: Word) -> Stretch
+    ensures { result ≡ bytes_of word }
+{
+    let address = word.address();
+    match word.mask() {
+        LOW_BYTE => Stretch {
+            from: address,
+            to: address + 1,
+        },
+        HIGH_BYTE => Stretch {
+            from: address + 1,
+            to: address + 2,
+        },
+        _ => Stretch {
+            from: address,
+            to: address + 2,
+        },
+    }
+}

@@ -1,4 +1,0 @@
-pub mod Belief
-pub mod Exchanged
-pub mod Failing
-pub mod Keeping

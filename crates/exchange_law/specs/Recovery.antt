@@ -1,0 +1,94 @@
+-- An ordinary host over a line on which a stub was at work, or still is.
+use Rattle.std.specs.Prelude.{◌≡◌, ℕ, ◌+◌, ◌-◌, ◌<◌, ◌≤◌, ◌⊎◌, true, false, List, [], length, Contains, None, IsSome}
+use Rattle.std.specs.FinMap.{get}
+use Rattle.tape_image.specs.Memory.{byte_of, top_of}
+use Rattle.tape_image.specs.Plan.{PlanValue}
+use Rattle.tape_image.specs.Word.{gives}
+use Rattle.odt_machine.specs.Machine.{IsMachine}
+use Rattle.odt_machine.specs.declared.mode.Mode.TheVariants.{Running}
+use Rattle.host_core.specs.declared.heard.Heard.{Heard}
+use Rattle.host_core.specs.declared.phase.End.TheVariants.{Started}
+use Rattle.host_core.specs.declared.phase.Phase.TheVariants.{Ended}
+use Rattle.host_core.specs.Console.{go}
+use Rattle.host_core.specs.Core.{Core, begun, start_of, word_nr}
+use Rattle.host_core.specs.Host.{IsHost}
+use Rattle.host_core.specs.Laws.{led}
+use Rattle.line_world.specs.Invariant.{IsKept}
+use Rattle.line_world.specs.Promises.{EndsAtGo, HasCause}
+use Rattle.line_world.specs.Safe.{FirstStand}
+use Rattle.line_world.specs.Scene.{over}
+use Rattle.load_devices.specs.Dialogue.{dialogue, keys_of}
+use Rattle.exchange_law.specs.Line.{Link, Passes}
+use Rattle.exchange_law.specs.Station.{Program, fresh}
+use Rattle.exchange_law.specs.Unsettled.{IsUnsettled}
+use Rattle.exchange_law.specs.Mirror.{IsJustAMachine, wire_at}
+
+-- a byte of the image that none of the first words gives, so many: a stub may change it
+pub record IsLater (tape : PlanValue) (verified : ℕ) (b : ℕ) : Type 0 where
+  pub inside : IsSome (get tape.image b)
+  pub later : (i : ℕ) → i < verified → gives (word_nr tape.words i) b ≡ true → ⊥
+
+-- a stub may change none of the first words of this plan, so many
+abbrev pub IsBeside : PlanValue → ℕ → PlanValue → ℕ → Type 0
+IsBeside tape verified plan first = (i : ℕ) → i < first → (b : ℕ) → gives (word_nr plan.words i) b ≡ true → IsLater tape verified b → ⊥
+
+-- an ordinary host, of the tape's plan or of another, may begin over such a line: what it counts as verified stands there, and no stub may change it
+pub record MayRecover (program : Program) (tape : PlanValue) (verified : ℕ) (core : Core) (x : Link) : Type 0 where
+  pub host : IsHost core
+  pub at_first : core ≡ begun core.plan core.verified false core.patience
+  pub stand : FirstStand core.plan.words core.verified x.station.machine.memory
+  pub beside : IsBeside tape verified core.plan core.verified
+  pub line : IsUnsettled program (IsLater tape verified) x
+
+-- what counts as verified stands; outside the host's own image each byte is what it was, but for those that a stub may change; and with the mark every
+-- word stands
+pub record IsSafeBut (tape : PlanValue) (count : ℕ) (before : List ℕ) (core : Core) (now : List ℕ) : Type 0 where
+  pub verified : FirstStand core.plan.words core.verified now
+  pub size : length now ≡ length before
+  pub outside : (b : ℕ) → b < top_of before → (IsLater tape count b → ⊥) → get core.plan.image b ≡ None → byte_of now b ≡ byte_of before b
+  pub going : core.going ≡ true → FirstStand core.plan.words (length core.plan.words) now
+
+-- a machine stands at the line, the host is in order there, and a program that runs was started by it
+pub record IsInOrder (program : Program) (core : Core) (y : Link) : Type 0 where
+  pub lost : ℕ
+  pub kept : IsKept (over core (wire_at y lost))
+  pub just : IsJustAMachine program y
+  pub from_start : (p : ℕ) → y.station.machine.mode ≡ Running p → p ≡ start_of core
+
+-- what a host leaves: a line that is still unsettled, where it verified nothing and marked nothing; or one at which a machine stands and it is in order
+abbrev pub Leaves : Program → PlanValue → ℕ → Core → Link → Type 0
+Leaves program tape verified core y =
+    (IsUnsettled program (IsLater tape verified) y × (core.going ≡ false) × IsBeside tape verified core.plan core.verified) ⊎ IsInOrder program core y
+
+-- the program was seen to start: every word stands, the machine runs it, nothing is under way, and where it is a stub it has taken nothing yet
+pub record HasStarted (program : Program) (core : Core) (y : Link) : Type 0 where
+  pub all : FirstStand core.plan.words (length core.plan.words) y.station.machine.memory
+  pub none_down : y.down ≡ []
+  pub silent : y.up ≡ []
+  pub console : IsMachine y.station.machine
+  pub runs : y.station.machine.mode ≡ Running (start_of core)
+  pub stub : y.station.stub ≡ fresh (program y.station.machine.memory (start_of core))
+
+-- so many losses pay for the mishaps of a host, and for its end
+pub record IsPaid (core : Core) (now : List ℕ) (lost : ℕ) : Type 0 where
+  pub spent : core.spent ≤ lost
+  pub cause : HasCause core.phase now core.patience core.spent lost
+
+-- what came of a host that began at one line, became a core and sent these keys
+pub record IsTrustedBehind (program : Program) (tape : PlanValue) (verified : ℕ) (x : Link) (core : Core) (keys : List ℕ) (y : Link) : Type 0 where
+  pub safe : IsSafeBut tape verified x.station.machine.memory core y.station.machine.memory
+  -- `G` is the last of its keys if it is one of them, and exactly then the mark is set
+  pub last : EndsAtGo keys
+  pub marked : Contains keys go → core.going ≡ true
+  pub typed : core.going ≡ true → Contains keys go
+  pub started : core.phase ≡ Ended Started → HasStarted program core y
+  pub leaves : Leaves program tape verified core y
+  -- its losses pay, and one more: a stub that it finds running halts at the first `Z`, which nobody answers
+  pub paid : IsPaid core y.station.machine.memory (y.lost + 1 - x.lost)
+
+-- an ordinary host may be trusted that begins over such a line, whatever the stub is in the middle of and whatever is under way
+abbrev pub HostsRecover : Type 0
+HostsRecover =
+    (program : Program) (tape : PlanValue) (verified : ℕ) (core : Core) (things : List Heard) (x y : Link) →
+    MayRecover program tape verified core x → Passes program x (dialogue core things) y →
+    IsTrustedBehind program tape verified x (led core things) (keys_of (dialogue core things)) y

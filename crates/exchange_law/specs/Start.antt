@@ -1,0 +1,55 @@
+-- From ODT's `G` on.
+use Rattle.std.specs.Prelude.{◌≡◌, ℕ, false, List, [], ◌∷◌, ◌++◌, Option, Some, None}
+use Rattle.odt_machine.specs.Machine.{Machine as OdtMachine, IsMachine}
+use Rattle.odt_machine.specs.KeyTable.{after_key}
+use Rattle.odt_machine.specs.Laws.{is_running}
+use Rattle.odt_machine.specs.declared.mode.Mode.TheVariants.{Running}
+use Rattle.processor.specs.Machine.{Machine, Runs}
+use Rattle.exchange_core.specs.declared.stretch.Stretch.{Stretch}
+use Rattle.exchange_core.specs.Stretch.{pieces}
+use Rattle.exchange_law.specs.Station.{Station, Program, IsHaltText, Each, after_odt}
+use Rattle.exchange_law.specs.Line.{Link as Line, Passes}
+use Rattle.stub.specs.Decoder.{stub_at}
+use Rattle.stub.specs.Law.{waiting}
+use Rattle.stub.specs.Seen.{Bench, Happening, Ran, Link, Shows, held}
+use Rattle.exchange_law.specs.StubStation.{as_line, items_of, IsSeven, SendsSeven}
+
+-- the chunks of a stub's stretches; a stub without any halts at once, and counts as none
+abbrev pub chunks_of : Option (List Stretch) → Option (List Stretch)
+chunks_of None = None
+chunks_of (Some []) = None
+chunks_of (Some (stretch ∷ stretches)) = Some (pieces (stretch ∷ stretches))
+
+-- which chunks a stub fills that stands in a memory at an address, where one stands there
+abbrev pub program : Program
+program memory address = chunks_of (stub_at memory address)
+
+-- a key by which ODT starts the program at an address, where a stub with stretches stands
+pub record StartsStub (odt : OdtMachine) (key place : ℕ) (stretch : Stretch) (stretches : List Stretch) : Type 0 where
+  pub console : IsMachine (after_key odt key)
+  pub still : is_running odt.mode ≡ false
+  pub goes : (after_key odt key).mode ≡ Running place
+  pub found : stub_at (after_key odt key).memory place ≡ Some (stretch ∷ stretches)
+
+-- how ODT's `G` leaves the processor: at that address, over memory as it is. The registers and the codes are whatever they are, and so is what the
+-- receiver and the transmitter hold; the notes of what was fetched and what has left begin here
+pub record IsStartedBy (odt : OdtMachine) (place : ℕ) (m : Machine) : Type 0 where
+  pub memory : m.memory ≡ odt.memory
+  pub pc : m.pc ≡ place
+  pub running : m.state ≡ Runs
+  pub fetched : m.console.fetched ≡ []
+  pub gone : m.console.gone ≡ []
+
+-- the line of a bench, with this station at its end: what the machine holds is under way
+abbrev pub line_of : Station → Bench → Line
+line_of station x =
+    record { station = station; down = held x.machine.console ++ x.down; up = x.up ++ waiting x.machine.console; lost = x.lost }
+
+-- from the key on that starts a stub, whatever happens between a host and the machine: what the host sends and hears passes over a line at whose end
+-- the station stands that ODT leaves at that key, and that line ends as the machine's looks
+abbrev pub StartedStubsAreStations : Type 0
+StartedStubsAreStations =
+    (odt : OdtMachine) (key place : ℕ) (stretch : Stretch) (stretches : List Stretch) (farewell : List ℕ) (x y : Bench) (what : List Happening) →
+    StartsStub odt key place stretch stretches → IsStartedBy (after_key odt key) place x.machine → IsHaltText farewell →
+    Each IsSeven (held x.machine.console ++ x.down) → SendsSeven what → Ran x what y →
+    (link : Link) × Passes program (line_of (after_odt program odt key) x) (items_of what) (as_line (after_key odt key) farewell link) × Shows y link

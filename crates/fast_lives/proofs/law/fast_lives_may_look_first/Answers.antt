@@ -1,5 +1,0 @@
-use Rattle.fast_lives.proofs.First.{come_first}
-use Rattle.fast_lives.proofs.law.fast_lives_may_look_first.Goals as goal
-
-pub returns : goal.returns
-returns c = come_first

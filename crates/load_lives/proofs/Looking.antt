@@ -1,0 +1,262 @@
+-- A host that only looks, at a line on which a stub was at work: first it waits, then a machine answers. It changes nothing.
+use Rattle.std.proofs.Common.{◌≡◌, ℕ, zero, suc, ◌+◌, ◌^◌, ◌<◌, ◌≤◌, Bool, true, false, List, [], ◌∷◌, ◌++◌, length, Option, Some, None, inl, inr, refl, arith, ap, sym, subst, ◌∙◌, append-nil}
+use Rattle.std.specs.Prelude.{◌⊎◌, option_to_list}
+use Rattle.odt_machine.specs.KeyTable.{after_key, take_of}
+use Rattle.odt_machine.specs.Laws.{is_running}
+use Rattle.odt_machine.specs.Machine.{Machine}
+use Rattle.odt_machine.specs.declared.mode.Mode.{Mode}
+use Rattle.host_core.specs.declared.heard.Heard.{Heard}
+use Rattle.host_core.specs.declared.heard.Heard.TheVariants.{Got, Quiet as Silence}
+use Rattle.host_core.specs.declared.phase.Phase.TheVariants.{Sync as LoadSync}
+use Rattle.host_core.specs.Core.{begun as load_begun, word_nr}
+use Rattle.host_core.specs.Host.{IsHost}
+use Rattle.host_core.specs.PhaseTable.{Move}
+use Rattle.host_core.proofs.Turns.{begun_kept}
+use Rattle.line_world.specs.declared.event.Event.TheVariants.{Take}
+use Rattle.line_world.specs.Invariant.{IsKept}
+use Rattle.line_world.specs.Scene.{over as load_over}
+use Rattle.line_world.specs.Wire.{Wire, sent}
+use Rattle.load_devices.specs.declared.item.Item.{Item}
+use Rattle.load_devices.specs.declared.item.Item.TheVariants.{Sent}
+use Rattle.tape_image.specs.Plan.{IsPlan}
+use Rattle.tape_image.specs.Word.{WordValue}
+use Rattle.reading_core.specs.declared.phase.Phase.{Phase}
+use Rattle.reading_core.specs.declared.phase.Phase.TheVariants.{Settle, Sync, Address, Slash, Before, Value, Close, Ended}
+use Rattle.reading_core.specs.declared.turn.Turn.{Turn}
+use Rattle.reading_core.specs.declared.turn.Turn.TheVariants.{Listen, Key, Read, Next, Stop, Stray, Timeout}
+use Rattle.reading_core.specs.Addresses.{AreAddresses}
+use Rattle.reading_core.specs.Laws.{led}
+use Rattle.reading_core.specs.Reader.{Reader, begun}
+use Rattle.reading_core.specs.ReadingTable.{Asked, ask, taken, turn_of, values_after}
+use Rattle.reading_core.proofs.Lives.{asked}
+use Rattle.looking_law.specs.Belief.{dialogue}
+use Rattle.looking_law.specs.Inquiry.{Inquiry, happens, over}
+use Rattle.looking_law.specs.Trying.{IsToldOf}
+use Rattle.looking_law.proofs.Believed.{run_mirrored, stopped_with}
+use Rattle.looking_law.proofs.Events.{dialogue_leads, gives_lead}
+use Rattle.looking_law.proofs.Loading.{HearsRight, ReadsWord, begun_for, core_for, move_is, phase_for}
+use Rattle.looking_law.proofs.Mirrors.{IsMirrored, mirrored_event}
+use Rattle.looking_law.proofs.Saying.{is_plan, plan_for, words_for}
+use Rattle.exchange_law.specs.Line.{Gives, Link, MovesTimes, Passes, sent as sent_on}
+use Rattle.exchange_law.specs.Station.{Each, Program, Stub, begins}
+use Rattle.exchange_law.specs.Unsettled.{IsForStub, IsLastKey, IsUnsettled, MayFill, Untouched}
+use Rattle.exchange_law.proofs.Links.{later, passes_unsent}
+use Rattle.exchange_law.proofs.Passing.{losses_aside}
+use Rattle.exchange_law.specs.Mirror.{IsJustAMachine, wire_at}
+use Rattle.exchange_law.proofs.Mirrors.{gives_just, gives_mirrored, none_begun, passes_said, times_mirrored}
+use Rattle.exchange_law.proofs.Recovering.{Next', Region, Settled, Waiting, Waits, heard_waiting, waiting_at_first, waiting_times}
+use Rattle.exchange_law.proofs.Resettling.{untouched_same, untouched_then}
+
+-- ---- while it waits it does what a loading host does
+
+not_reading : (phase : Phase) (patience paid spent used : ℕ) (x : Link) (c : ℕ) (word : WordValue) → Waits (phase_for phase) patience paid spent used x → ReadsWord phase c word
+not_reading (Value value place) patience paid spent used x c word w = absurd w
+not_reading Settle patience paid spent used x c word w = tt
+not_reading (Sync place) patience paid spent used x c word w = tt
+not_reading (Address place) patience paid spent used x c word w = tt
+not_reading Slash patience paid spent used x c word w = tt
+not_reading Before patience paid spent used x c word w = tt
+not_reading (Close place) patience paid spent used x c word w = tt
+not_reading (Ended end) patience paid spent used x c word w = tt
+
+hears_right : (memory : List ℕ) (r : Reader) (what : Heard) (x : Link) (paid : ℕ) → Waits (phase_for r.phase) r.patience paid r.spent r.sent x → HearsRight memory r what
+hears_right memory r (Got c) x paid w = not_reading r.phase r.patience paid r.spent r.sent x c (word_nr (words_for memory r.addresses) (length r.values)) w
+hears_right memory r Silence x paid w = tt
+
+-- what comes next
+abbrev Goes : Program → (ℕ → Type 0) → List ℕ → ℕ → Asked → Link → Type 0
+Goes program R before paid a v =
+    Waiting program R before paid (core_for before a.next) (sent_on v (option_to_list a.key)) ⊎ Settled program R before paid (core_for before a.next) (sent_on v (option_to_list a.key))
+
+heard_look : (program : Program) (R : ℕ → Type 0) (before : List ℕ) (paid : ℕ) (r : Reader) (what : Heard) (x v : Link) → Waiting program R before paid (core_for before r) x → Gives x what v → Goes program R before paid (ask r what) v
+heard_look program R before paid r what x v w gives =
+    subst (λ (m : Move). Next' program R before paid m v) (move_is before r what (hears_right before r what x paid w.stands)) (heard_waiting program R before paid (core_for before r) what x v w gives)
+
+-- nothing is read meanwhile
+none_read : (r : Reader) (turn : Turn) (patience paid spent used : ℕ) (x : Link) → Waits (phase_for (taken r turn).next.phase) patience paid spent used x ⊎ (phase_for (taken r turn).next.phase ≡ LoadSync 0) → values_after r.values turn ≡ r.values
+none_read r (Read value) patience paid spent used x (inl w) = absurd w
+none_read r (Read value) patience paid spent used x (inr is) = absurd (cc is)
+none_read r (Listen phase) patience paid spent used x h = refl
+none_read r (Key key phase) patience paid spent used x h = refl
+none_read r Next patience paid spent used x h = refl
+none_read r (Stop end) patience paid spent used x h = refl
+none_read r Stray patience paid spent used x h = refl
+none_read r Timeout patience paid spent used x h = refl
+
+still_none : (r : Reader) (what : Heard) (patience paid spent used : ℕ) (x : Link) → r.values ≡ [] → Waits (phase_for (ask r what).next.phase) patience paid spent used x ⊎ (phase_for (ask r what).next.phase ≡ LoadSync 0) → (ask r what).next.values ≡ []
+still_none r what patience paid spent used x none h = (asked r what).values ∙ (none_read r (turn_of r what) patience paid spent used x h ∙ none)
+
+-- ---- then a machine answers
+
+-- where the host stands at its line
+record AtMachine (program : Program) (memory : List ℕ) (r : Reader) (x : Link) : Type 0 where
+  pub lost : ℕ
+  pub mirror : IsMirrored memory (over r (wire_at x lost))
+  pub just : IsJustAMachine program x
+
+sync_is : (phase : Phase) → phase_for phase ≡ LoadSync 0 → phase ≡ Sync 0
+sync_is (Sync place) is = ap Sync (same is)
+  where
+    same : LoadSync place ≡ LoadSync 0 → place ≡ 0
+    same e = cc e
+sync_is Settle is = absurd (cc is)
+sync_is (Address place) is = absurd (cc is)
+sync_is Slash is = absurd (cc is)
+sync_is Before is = absurd (cc is)
+sync_is (Value value place) is = absurd (cc is)
+sync_is (Close place) is = absurd (cc is)
+sync_is (Ended end) is = absurd (cc is)
+
+-- a host that has read nothing and waits for the answer to `Z`
+abbrev syncing : List ℕ → (patience spent sent : ℕ) → Reader
+syncing addresses patience spent sent = record { addresses = addresses; values = []; patience = patience; spent = spent; sent = sent; phase = Sync 0 }
+
+same_reader : (r : Reader) → r.values ≡ [] → r.phase ≡ Sync 0 → r ≡ syncing r.addresses r.patience r.spent r.sent
+same_reader r none is =
+    ap (λ values. record r { values = values }) none ∙ ap (λ phase. record r { values = []; phase = phase }) is
+
+-- what memory is, the mirror's plan may say: nothing of it is under way
+answered : (before addresses : List ℕ) (patience spent count : ℕ) (w : Wire) → AreAddresses addresses → IsKept (load_over (core_for before (syncing addresses patience spent count)) w) →
+    IsMirrored w.machine.memory (over (syncing addresses patience spent count) w)
+answered before addresses patience spent count w are k = record {
+  same = refl;
+  kept = record {
+    machine = k.machine;
+    host = record {
+      image = is_plan w.machine.memory addresses k.machine.wide are;
+      within = omega arith;
+      patient = k.host.patient;
+      long = k.host.long;
+      fits = k.host.fits;
+      mark = k.host.mark;
+      paid = k.host.paid;
+    };
+    one_way = k.one_way;
+    few = k.few;
+    words = λ i below. absurd (omega (arith, below));
+    running = k.running;
+    spent = k.spent;
+    characters = k.characters;
+    phase = record { key = k.phase.key; rest = k.phase.rest; paid = k.phase.paid; facts = k.phase.facts };
+  };
+  holds = λ i low. absurd (omega (arith, low));
+}
+
+at_machine : (program : Program) (R : ℕ → Type 0) (before : List ℕ) (paid : ℕ) (r : Reader) (x : Link) → AreAddresses r.addresses → r.values ≡ [] → Settled program R before paid (core_for before r) x → AtMachine program x.station.machine.memory r x
+at_machine program R before paid r x are none s =
+    let is : r ≡ syncing r.addresses r.patience r.spent r.sent = same_reader r none (sync_is r.phase s.sync) in record {
+      lost = r.spent;
+      mirror = subst (λ one. IsMirrored x.station.machine.memory (over one (wire_at x r.spent))) (sym is)
+          (answered before r.addresses r.patience r.spent r.sent (wire_at x r.spent) are (subst (λ one. IsKept (load_over (core_for before one) (wire_at x r.spent))) is s.kept));
+      just = s.just;
+    }
+
+-- ---- what passes over the machine's line
+
+still_there : (program : Program) (memory : List ℕ) (r : Reader) (n : ℕ) (x y : Link) → AtMachine program memory r x → MovesTimes program n x y → AtMachine program memory r y
+still_there program memory r n x y a moves =
+    let m = times_mirrored program (core_for memory r) n x y a.lost a.mirror.kept a.just moves in record {
+      lost = m.0;
+      mirror = run_mirrored memory (over r (wire_at x a.lost)) (over r (wire_at y m.0)) [] a.mirror (dialogue_leads [] r (wire_at x a.lost) (wire_at y m.0) m.1);
+      just = m.2;
+    }
+
+not_both : (b : Bool) → b ≡ true → b ≡ false → ⊥
+not_both b e f = cc
+
+heard_there : (program : Program) (memory : List ℕ) (r : Reader) (what : Heard) (x v : Link) → AtMachine program memory r x → Gives x what v → AtMachine program memory (ask r what).next (sent_on v (option_to_list (ask r what).key))
+heard_there program memory r what x v a gives =
+    let keys : List ℕ = option_to_list (ask r what).key in
+    let next : IsMirrored memory (over (ask r what).next (sent (wire_at v a.lost) keys)) =
+    run_mirrored memory (over r (wire_at x a.lost)) (over (ask r what).next (sent (wire_at v a.lost) keys)) keys a.mirror (gives_lead r what (wire_at x a.lost) (wire_at v a.lost) (gives_mirrored what x v a.lost gives)) in record {
+      lost = a.lost;
+      mirror = next;
+      just = record { stub = (gives_just program what x v gives a.just).stub; quiet = λ runs. absurd (not_both (is_running v.station.machine.mode) runs (stopped_with v.station.machine.mode next.kept.running)) };
+    }
+
+all_there : (program : Program) (memory : List ℕ) (things : List Heard) (r : Reader) (x y : Link) → AtMachine program memory r x → Passes program x (dialogue r things) y → AtMachine program memory (led r things) y
+all_there program memory [] r x y a moves = still_there program memory r moves.0 x y a moves.1
+all_there program memory (what ∷ things) r x y a (z, v, moved, gives, passes) =
+    let key : Option ℕ = (ask r what).key in
+    let next : Reader = (ask r what).next in
+    all_there program memory things next (sent_on v (option_to_list key)) y (heard_there program memory r what z v (still_there program memory r moved.0 x z a moved.1) gives)
+    (passes_said program key (dialogue next things) v y passes)
+
+-- ---- what it leaves
+
+key_left : (program : Program) (R : ℕ → Type 0) (memory : List ℕ) (r : Reader) (m : Machine) (stub : Option Stub) (c : ℕ) (rest up : List ℕ) (lost own : ℕ) → IsMirrored memory (over r (record { machine = m; down = c ∷ rest; up = up; lost = lost })) → stub ≡ None →
+    IsLastKey program R (record { station = record { machine = m; stub = stub }; down = c ∷ rest; up = up; lost = own })
+key_left program R memory r m stub c rest up lost own k none =
+    let one : rest ≡ [] = k.kept.one_way.0 in
+    let stopped : is_running m.mode ≡ false = stopped_with m.mode k.kept.running in
+    let after = mirrored_event memory (over r (record { machine = m; down = c ∷ rest; up = up; lost = lost })) Take k in
+    let same : (after_key m c).memory ≡ m.memory = after.same ∙ sym k.same in
+    let rests : is_running (after_key m c).mode ≡ false = stopped_with (after_key m c).mode after.kept.running in record {
+      key = c;
+      down = ap (λ list. c ∷ list) one;
+      none = none;
+      untouched = subst (Untouched R m.memory) (sym same) (untouched_same R m.memory);
+      console = after.kept.machine;
+      stub = subst (λ test. MayFill R (after_key m c).mode (begins program test (after_key m c).memory (after_key m c).mode)) (sym stopped)
+          (subst (MayFill R (after_key m c).mode) (sym (none_begun program (after_key m c).memory (after_key m c).mode rests)) rests);
+    }
+
+down_left : (program : Program) (R : ℕ → Type 0) (memory : List ℕ) (r : Reader) (m : Machine) (stub : Option Stub) (down up : List ℕ) (lost own : ℕ) → IsMirrored memory (over r (record { machine = m; down = down; up = up; lost = lost })) → stub ≡ None →
+    Each IsForStub down ⊎ IsLastKey program R (record { station = record { machine = m; stub = stub }; down = down; up = up; lost = own })
+down_left program R memory r m stub [] up lost own k none = inl tt
+down_left program R memory r m stub (c ∷ rest) up lost own k none = inr (key_left program R memory r m stub c rest up lost own k none)
+
+machine_left : (program : Program) (R : ℕ → Type 0) (memory : List ℕ) (r : Reader) (y : Link) → AtMachine program memory r y → IsUnsettled program R y
+machine_left program R memory r y a =
+    let stopped : is_running y.station.machine.mode ≡ false = stopped_with y.station.machine.mode a.mirror.kept.running in
+    let none : y.station.stub ≡ None = a.just.stub ∙ none_begun program y.station.machine.memory y.station.machine.mode stopped in record {
+      console = a.mirror.kept.machine;
+      stub = subst (MayFill R y.station.machine.mode) (sym none) stopped;
+      down = down_left program R memory r y.station.machine y.station.stub y.down y.up a.lost y.lost a.mirror none;
+    }
+
+-- ---- all of it
+
+-- what looks leave: a line on which only such bytes may still change, of which a stub may have changed some
+pub record IsLeft (program : Program) (R : ℕ → Type 0) (before : List ℕ) (y : Link) : Type 0 where
+  pub line : IsUnsettled program R y
+  pub untouched : Untouched R before y.station.machine.memory
+
+came : (program : Program) (R : ℕ → Type 0) (before : List ℕ) (paid : ℕ) (things : List Heard) (r : Reader) (x y : Link) → AreAddresses r.addresses → r.values ≡ [] → Waiting program R before paid (core_for before r) x → Passes program x (dialogue r things) y → IsLeft program R before y
+came program R before paid [] r x y are none w moves =
+    let there : Waiting program R before paid (core_for before r) y = waiting_times program R before paid (core_for before r) moves.0 x y w moves.1 in record { line = there.settling.line; untouched = there.settling.untouched }
+came program R before paid (what ∷ things) r x y are none w (z, v, moved, gives, passes) =
+    let there : Waiting program R before paid (core_for before r) z = waiting_times program R before paid (core_for before r) moved.0 x z w moved.1 in
+    let key : Option ℕ = (ask r what).key in
+    let next : Reader = (ask r what).next in
+    let here : Link = sent_on v (option_to_list key) in
+    let rest : Passes program here (dialogue next things) y = passes_said program key (dialogue next things) v y passes in
+    let asks : AreAddresses next.addresses = subst AreAddresses (sym (asked r what).addresses) are in
+    elim (heard_look program R before paid r what z v there gives) [
+      | inl waits ↦ came program R before paid things next here y asks (still_none r what next.patience paid next.spent next.sent here none (inl waits.stands)) waits rest
+      | inr settled ↦
+          let a : AtMachine program here.station.machine.memory next here = at_machine program R before paid next here asks (still_none r what next.patience paid next.spent next.sent here none (inr settled.sync)) settled in
+          let end : AtMachine program here.station.machine.memory (led next things) y = all_there program here.station.machine.memory things next here y a rest in record {
+            line = machine_left program R here.station.machine.memory (led next things) y end;
+            untouched = subst (Untouched R before) (sym end.mirror.same) settled.untouched;
+          }
+    ]
+
+-- a host that begins to look there leaves it so, also where its last key was not sent
+pub looks_leave : (program : Program) (R : ℕ → Type 0) (addresses : List ℕ) (patience : ℕ) (things : List Heard) (looks : List Item) (x y : Link) → AreAddresses addresses → patience < 2 ^ 32 → IsToldOf (dialogue (begun addresses [] patience) things) looks → IsUnsettled program R x → Passes program x looks y →
+    IsLeft program R x.station.machine.memory y
+looks_leave program R addresses patience things looks x y are long told line passes =
+    let memory : List ℕ = x.station.machine.memory in
+    let plan : IsPlan (plan_for memory addresses) = is_plan memory addresses line.console.wide are in
+    let host : IsHost (load_begun (plan_for memory addresses) 0 false patience) = begun_kept (plan_for memory addresses) 0 false patience plan (omega arith) long (λ set. absurd (cc set)) in
+    let waits : Waiting program R memory x.lost (core_for memory (begun addresses [] patience)) x =
+    subst (λ core. Waiting program R memory x.lost core x) (begun_for memory addresses [] patience)
+    (waiting_at_first program R (plan_for memory addresses) 0 patience x host (record { others = λ i below. absurd (omega (arith, below)); first = record { lies = λ i below. absurd (omega (arith, below)); stands = λ i below. absurd (omega (arith, below)) } }) line) in
+    by waits told
+  where
+    by : Waiting program R x.station.machine.memory x.lost (core_for x.station.machine.memory (begun addresses [] patience)) x → IsToldOf (dialogue (begun addresses [] patience) things) looks → IsLeft program R x.station.machine.memory y
+    by waits (inl whole) = came program R x.station.machine.memory x.lost things (begun addresses [] patience) x y are refl waits (subst (λ items. Passes program x items y) whole passes)
+    by waits (inr (key, lacks)) =
+        let l : IsLeft program R x.station.machine.memory (later 1 y) =
+        came program R x.station.machine.memory x.lost things (begun addresses [] patience) x (later 1 y) are refl waits (subst (λ items. Passes program x items (later 1 y)) (sym lacks) (passes_unsent program (key ∷ []) looks x y passes)) in
+        record { line = losses_aside program R y (1 + y.lost) l.line; untouched = l.untouched }

@@ -1,0 +1,84 @@
+-- The looks of a load: at words that its record has, before it is believed.
+use Rattle.std.specs.Prelude.{◌≡◌, ℕ, ◌-◌, ◌≤◌, false, List, [], length, Option, Some, None}
+use Rattle.load_devices.specs.Devices.{LineTold}
+use Rattle.host_core.specs.declared.phase.End.TheVariants as host
+use Rattle.host_core.specs.Core.{Core, begun}
+use Rattle.load_devices.specs.Failures.{CountsFault, IsLastFault}
+use Rattle.load_devices.specs.Turns.{most_turns}
+use Rattle.load_engine.specs.declared.stop.Stop.TheVariants as drive
+use Rattle.machine_load.specs.declared.load_end.LoadEnd.{LoadEnd}
+use Rattle.machine_load.specs.declared.load_end.LoadEnd.TheVariants as load_end
+use Rattle.machine_load.specs.declared.looks.Looks.{Looks}
+use Rattle.reading_core.specs.declared.phase.End.TheVariants.{Complete, GaveUp, NoWord}
+use Rattle.reading_core.specs.Addresses.{AreAddresses, addresses_of}
+use Rattle.reading_core.specs.Bound.{reading_bound}
+use Rattle.reading_core.specs.Reader.{Reader, begun as reader_begun}
+use Rattle.reading_engine.specs.declared.stop.Stop.{Stop}
+use Rattle.reading_engine.specs.declared.stop.Stop.TheVariants.{Ended, LineFailed, TurnsOver}
+use Rattle.reading_engine.specs.Failing.{line_fault}
+use Rattle.reading_engine.specs.Inquired.{Inquired, TellsEnd}
+use Rattle.sample_looks.specs.declared.finding.Finding.{Finding}
+use Rattle.sample_looks.specs.declared.finding.Finding.TheVariants.{AllStand, Stale, Unfinished}
+use Rattle.sample_looks.specs.Finding.{IsFound}
+use Rattle.sample_looks.specs.Looked.{IsSoOver}
+use Rattle.sample_looks.specs.Samples.{AreSamples}
+use Rattle.tape_image.specs.Word.{WordValue}
+
+-- how a load ends whose looks stopped so: where each word was read they do not end it
+abbrev pub unfinished_at : Stop → Option LoadEnd
+unfinished_at (Ended Complete) = None
+unfinished_at (Ended GaveUp) = Some (load_end.Unfinished (drive.Ended host.GaveUp))
+unfinished_at (Ended (NoWord address)) = Some (load_end.Unfinished (drive.Ended (host.NoWord address)))
+unfinished_at (LineFailed fault) = Some (load_end.Unfinished (drive.LineFailed fault))
+unfinished_at TurnsOver = Some (load_end.Unfinished drive.TurnsOver)
+
+-- how a load ends that its looks do not let go on, by what they found and how they stopped
+abbrev pub ended_by : Finding → Stop → Option LoadEnd
+ended_by AllStand stop = unfinished_at stop
+ended_by (Stale address) stop = Some (load_end.Stale address)
+ended_by Unfinished stop = unfinished_at stop
+
+abbrev pub held_up_by : Looks → Option LoadEnd
+held_up_by looks = ended_by looks.finding looks.stop
+
+-- how many of the record's words count behind looks that found this: none, where one of them does not stand
+abbrev pub vouched_for : ℕ → Finding → ℕ
+vouched_for verified AllStand = verified
+vouched_for verified (Stale address) = 0
+vouched_for verified Unfinished = verified
+
+-- the host of a life behind its looks, as one that nothing came before: its patience is what they left of the life's
+abbrev pub behind_looks : Core → Looks → Core
+behind_looks first looks = begun first.plan (vouched_for first.verified looks.finding) false (first.patience - looks.spent)
+
+-- samples of the words that the record of a life has, and a host that is to look at them, with the life's patience
+pub record IsSampled (first : Core) (samples : List WordValue) (reader : Reader) : Type 0 where
+  pub of_record : AreSamples first.plan.words first.verified samples
+  pub asked : AreAddresses (addresses_of samples)
+  pub begins : reader ≡ reader_begun (addresses_of samples) [] first.patience
+
+-- a host of this patience has looked at words: what was heard and said; what it read says what it found, and over an honest line that is so in memory,
+-- which is what it was
+pub record AreLooksAt (samples : List WordValue) (patience : ℕ) (looks : Looks) (before after : LineTold) : Type 0 where
+  pub reader : Reader
+  pub turns : Inquired most_turns (Some looks.stop) (reader_begun (addresses_of samples) [] patience) reader before.said after.said
+  pub end : TellsEnd looks.stop reader
+  pub found : IsFound samples reader.values looks.stop looks.finding
+  pub honest : IsSoOver samples looks.finding before.said after.said
+  pub counted : CountsFault (line_fault (Some looks.stop)) before.failures after.failures
+  pub named : IsLastFault (line_fault (Some looks.stop)) after.fault
+  pub sent_is : looks.sent ≡ reader.sent
+  pub spent_is : looks.spent ≡ reader.spent
+  pub paid : looks.spent ≤ patience
+  pub bound : looks.sent ≤ reading_bound (length samples) patience
+
+-- a life has looked at samples of the words that its record has, with its own patience
+pub record AreLooks (first : Core) (looks : Looks) (before after : LineTold) : Type 0 where
+  pub samples : List WordValue
+  pub of_record : AreSamples first.plan.words first.verified samples
+  pub asked : AreAddresses (addresses_of samples)
+  pub looked : AreLooksAt samples first.patience looks before after
+
+-- so few characters that a sum has room for them
+abbrev pub AreFewLooks : Looks → Type 0
+AreFewLooks looks = looks.sent ≤ 38654935040

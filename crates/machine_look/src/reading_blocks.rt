@@ -1,0 +1,188 @@
+//! Reading, with each block on the shelf as soon as its last word was read.
+ghost use Rattle.std.specs.Prelude.{◌≡◌, ◌+◌, ◌*◌, ◌/◌, ◌<◌, ◌≤◌, ◌∷◌, ◌++◌, [], List, ℕ, None, Some, length, IfErr, IfOk, OnOk, ⊤};
+ghost use Rattle.tape_values.specs.Block.{data_block, top};
+ghost use Rattle.console_lines.specs.Dialling.{asked_once};
+ghost use Rattle.console_lines.specs.Console.{ConsoleTold};
+ghost use Rattle.load_devices.specs.Failures.{CountsFault, IsLastFault};
+ghost use Rattle.load_devices.specs.Told.{Gains};
+ghost use Rattle.load_devices.specs.Turns.{most_turns};
+ghost use Rattle.reading_core.specs.Bound.{reading_bound};
+ghost use Rattle.reading_core.specs.Invariant.{IsReader};
+ghost use Rattle.reading_core.specs.Reader.{ended};
+ghost use Rattle.reading_engine.specs.Failing.{line_fault};
+ghost use Rattle.reading_engine.specs.Inquired.{Inquired, TellsEnd};
+ghost use Rattle.machine_look.specs.Look.{IsLook};
+ghost use Rattle.machine_look.specs.LookFault.{IsReadFault};
+ghost use Rattle.machine_look.specs.SavedSteps.{adds, full};
+ghost use Rattle.machine_look.specs.SavedTape.{saved_block};
+ghost use Rattle.machine_look.specs.Shelf.{NotAdded};
+ghost use Rattle.machine_look.specs.ShelfTold.{AreDone, GoesOnTo};
+
+use crate::look_fault::LookFault;
+use crate::saved_tape::{BLOCK_WORDS, block_text};
+use crate::shelf::{Shelf, ShelfFault};
+use console_lines::Reach;
+use load_devices::{Line, MOST_TURNS, Onlooker};
+use reading_core::ReadingCore;
+use reading_engine::{Stop, inquire};
+
+// What a reading came to, and whether the blocks of what was read are on the shelf.
+#[derive(Drop)]
+struct Read {
+    core: ReadingCore,
+    stop: Stop,
+    added: Result<(), ShelfFault>,
+}
+
+/// Reaches the console and reads, and puts each block of what is read on the shelf, once its last word was
+/// read.
+///
+/// `Connect` comes where the console can't be reached, and nothing was sent; `WriteTape` where a block can't be
+/// added, and then nothing more is read.
+pub(crate) fn read_over<S: Shelf, R: Reach, O: Onlooker>(
+    core: ReadingCore,
+    from: u16,
+    shelf: &mut S,
+    console: &mut R,
+    onlooker: &O,
+) -> Result<(ReadingCore, Stop), LookFault>
+    requires below { from + 2 * length core.addresses ≤ top }
+    requires fresh { core.values ≡ [] }
+    requires goes_on { ended core.phase ≡ None }
+    ensures look { IfOk result (λ read. IsLook core read.0 read.1 (R.lines console.old) (R.lines console.new)) }
+    ensures asked { OnOk result (Gains (R.asked console.old) (R.asked console.new) (asked_once (R.call console.old))) }
+    ensures added { IfOk result (λ read. (folder : List ℕ) → S.is_opened_as shelf.old folder
+        → S.is_opened_as shelf.new folder × AreDone folder (adds from read.0.values (full read.0.values)) (S.told shelf.old) (S.told shelf.new)) }
+    ensures call { R.call console.new ≡ R.call console.old }
+    ensures fault { IfErr result (IsReadFault core from (S.is_opened_as shelf.old) (S.told shelf.old) (S.told shelf.new)
+        (record { asked = R.asked console.old; call = R.call console.old; lines = R.lines console.old; out = None })
+        (record { asked = R.asked console.new; call = R.call console.new; lines = R.lines console.new; out = None })) }
+{
+    let mut line = console.reach()?;
+    onlooker.begins(0, core.addresses().len() as u32);
+    let Read { core, stop, added } = read_blocks(core, from, shelf, &mut line, onlooker);
+    onlooker.ends();
+    console.let_go(line);
+    match added {
+        Ok(()) => Ok((core, stop)),
+        Err(_) => Err(LookFault::WriteTape),
+    }
+}
+
+// Lends the core to the line for at most 10,000,000 turns, as `inquire` does, and puts each full block on the
+// shelf behind the turn in which its last word was read. Where a block can't be added the turns are over. An
+// onlooker is told of each step.
+fn read_blocks<S: Shelf, L: Line, O: Onlooker>(
+    mut core: ReadingCore,
+    from: u16,
+    shelf: &mut S,
+    line: &mut L,
+    onlooker: &O,
+) -> Read
+    requires below { from + 2 * length core.addresses ≤ top }
+    requires fresh { core.values ≡ [] }
+    requires goes_on { ended core.phase ≡ None }
+    requires kept { IsReader core }
+    ensures turns { (turns : ℕ) × (turns ≤ most_turns) × OnOk result.added (turns ≡ most_turns)
+        × Inquired turns (Some result.stop) core result.core (L.told line.old) (L.told line.new) }
+    ensures end { TellsEnd result.stop result.core }
+    ensures counted { CountsFault (line_fault (Some result.stop)) (L.fault_count line.old) (L.fault_count line.new) }
+    ensures fault { IsLastFault (line_fault (Some result.stop)) (L.last_fault line.new) }
+    ensures same_addresses { result.core.addresses ≡ core.addresses }
+    ensures same_patience { result.core.patience ≡ core.patience }
+    ensures bound { result.core.sent ≤ reading_bound (length result.core.addresses) result.core.patience }
+    ensures kept { IsReader result.core }
+    ensures added { OnOk result.added (GoesOnTo (S.is_opened_as shelf.old) (S.is_opened_as shelf.new) []
+        (adds from result.core.values (full result.core.values)) (S.told shelf.old) (S.told shelf.new)) }
+    ensures not_added { IfErr result.added (λ fault. (fault ≡ ShelfFault.Write) × ((n : ℕ) × (n < full result.core.values)
+        × GoesOnTo (S.is_opened_as shelf.old) (λ _. ⊤) [] (adds from result.core.values n ++ NotAdded (data_block (saved_block from result.core.values n)) ∷ [])
+        (S.told shelf.old) (S.told shelf.new))) }
+{
+    for _ in 0..MOST_TURNS {
+        let Read {
+            core: next,
+            stop,
+            added,
+        } = turn(core, from, shelf, line, onlooker);
+        core = next;
+        if added.is_err() {
+            return Read { core, stop, added };
+        }
+        match stop {
+            Stop::TurnsOver => {}
+            Stop::Ended(end) => {
+                return Read {
+                    core,
+                    stop: Stop::Ended(end),
+                    added,
+                };
+            }
+            Stop::LineFailed(fault) => {
+                return Read {
+                    core,
+                    stop: Stop::LineFailed(fault),
+                    added,
+                };
+            }
+        }
+    }
+    Read {
+        core,
+        stop: Stop::TurnsOver,
+        added: Ok(()),
+    }
+}
+
+// One turn, and the blocks that it filled.
+fn turn<S: Shelf, L: Line, O: Onlooker>(
+    core: ReadingCore,
+    from: u16,
+    shelf: &mut S,
+    line: &mut L,
+    onlooker: &O,
+) -> Read
+    requires below { from + 2 * length core.addresses ≤ top }
+    ensures turns { Inquired 1 (Some result.stop) core result.core (L.told line.old) (L.told line.new) }
+    ensures end { TellsEnd result.stop result.core }
+    ensures counted { CountsFault (line_fault (Some result.stop)) (L.fault_count line.old) (L.fault_count line.new) }
+    ensures fault { IsLastFault (line_fault (Some result.stop)) (L.last_fault line.new) }
+    ensures same_addresses { result.core.addresses ≡ core.addresses }
+    ensures same_patience { result.core.patience ≡ core.patience }
+    ensures bound { result.core.sent ≤ reading_bound (length result.core.addresses) result.core.patience }
+    ensures kept { IsReader result.core }
+    ensures first { IsReader core }
+    ensures added { OnOk result.added (GoesOnTo (S.is_opened_as shelf.old) (S.is_opened_as shelf.new) (adds from core.values (full core.values))
+        (adds from result.core.values (full result.core.values)) (S.told shelf.old) (S.told shelf.new)) }
+    ensures not_added { IfErr result.added (λ fault. (fault ≡ ShelfFault.Write) × ((n : ℕ) × (n < full result.core.values)
+        × GoesOnTo (S.is_opened_as shelf.old) (λ _. ⊤) (adds from core.values (full core.values))
+        (adds from result.core.values n ++ NotAdded (data_block (saved_block from result.core.values n)) ∷ []) (S.told shelf.old) (S.told shelf.new))) }
+{
+    let before = core.values().len() / BLOCK_WORDS;
+    let (core, stop) = inquire(core, line, 1, onlooker);
+    let added = add_full(from, core.values(), before, shelf);
+    Read { core, stop, added }
+}
+
+// Adds the full blocks of numbers that stand in memory from an address on, from the block of this number on.
+fn add_full<S: Shelf>(
+    from: u16,
+    numbers: &[u16],
+    first: usize,
+    shelf: &mut S,
+) -> Result<(), ShelfFault>
+    requires below { from + 2 * length numbers.now ≤ top }
+    requires behind { first ≤ full numbers.now }
+    ensures added { OnOk result (GoesOnTo (S.is_opened_as shelf.old) (S.is_opened_as shelf.new) (adds from numbers.now first)
+        (adds from numbers.now (full numbers.now)) (S.told shelf.old) (S.told shelf.new)) }
+    ensures not_added { IfErr result (λ fault. (fault ≡ ShelfFault.Write) × ((n : ℕ) × (n < full numbers.now)
+        × GoesOnTo (S.is_opened_as shelf.old) (λ _. ⊤) (adds from numbers.now first)
+        (adds from numbers.now n ++ NotAdded (data_block (saved_block from numbers.now n)) ∷ []) (S.told shelf.old) (S.told shelf.new))) }
+{
+    for number in first..numbers.len() / BLOCK_WORDS {
+        let text = block_text(from, numbers, number);
+        if let Err(fault) = shelf.add(&text) {
+            return Err(fault);
+        }
+    }
+    Ok(())
+}

@@ -1,5 +1,0 @@
-use Rattle.recovery_law.proofs.Mirrors.{without_stub}
-use Rattle.recovery_law.proofs.law.stations_without_stub_are_machines.Goals as goal
-
-pub returns : goal.returns
-returns c = without_stub

@@ -1,0 +1,29 @@
+-- What a request came to, and what was told of it.
+use Rattle.std.proofs.Common.{◌≡◌, ◌∙◌, Bool, Result, Ok, Err, IfOk, IfErr, inl, inr, ap, sym, subst}
+use Rattle.endings.specs.declared.failure.Failure.{Failure}
+use Rattle.endings.specs.declared.status.Status.{Status}
+use Rattle.endings.specs.Failure.{is_unheard, IsToldUnless}
+use Rattle.endings.specs.FaultOutput.{StandardError}
+use Rattle.endings.specs.Held.{Held}
+use Rattle.request_values.specs.declared.request.Request.{Request}
+use Rattle.request_values.specs.Request.{only_prints}
+use Rattle.requests.specs.Asked.{SystemAsked}
+use Rattle.requests.specs.Attempt.{IsAttempted, IsDone, IsEndOf, IsFailed}
+use Rattle.requests.specs.Moment.{Moment, moment}
+use Rattle.requests.proofs.Whatever.{failed_whatever}
+
+pub attempted : (request : Request) (before : Moment) (asked : SystemAsked) (held last : Held) (outcome : Result Status Failure) (status : Status) (prints : Bool)
+    → prints ≡ only_prints request → IfOk outcome (IsDone request before (moment asked held)) → IfErr outcome (IsFailed request before (moment asked held))
+    → held.err ≡ before.held.err → IsEndOf prints outcome held last status → IsAttempted request before (moment asked last) status
+attempted request before asked held last (Ok ended) status prints p ok err quiet end = inl (record {
+  done = subst (λ h. IsDone request before (moment asked h) status) (sym end.0) (subst (IsDone request before (moment asked held)) (sym end.1) ok);
+  quiet = ap (λ (h : Held). h.err) end.0 ∙ quiet;
+})
+attempted request before asked held last (Err failure) status prints p ok err quiet end = inr (record {
+  failure = failure;
+  failed = subst (λ h. IsFailed request before (moment asked h) failure) (sym end.0) (failed_whatever before asked held last.err failure request err);
+  told = subst (λ b. IsToldUnless (is_unheard b last.unread failure) before.held.err last.err failure) p
+      (subst (λ b. IsToldUnless (is_unheard prints b failure) before.held.err last.err failure) (sym (ap (λ (h : Held). h.unread) end.0))
+      (subst (λ (e : StandardError). IsToldUnless (is_unheard prints held.unread failure) e last.err failure) quiet end.1));
+  status_is = end.2;
+})

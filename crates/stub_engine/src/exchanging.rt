@@ -1,0 +1,140 @@
+ghost use Rattle.std.specs.Prelude.{◌≡◌, ◌≤◌, ◌<◌, ◌^◌, None, Some, length, IfErr, OnOk, OnErr};
+ghost use Rattle.load_devices.specs.Failures.{count_after, fault_of};
+ghost use Rattle.load_devices.specs.Told.{Gains};
+ghost use Rattle.exchange_core.specs.Chunk.{AreChunks};
+ghost use Rattle.exchange_core.specs.Exchange.{IsExchange, begun, ended, exchange_bound};
+ghost use Rattle.exchange_law.specs.Law.{said_all};
+ghost use Rattle.load_engine.specs.Keeping.{KeepsEach};
+ghost use Rattle.stub_engine.specs.Belief.{IsBelievableOver};
+ghost use Rattle.stub_engine.specs.Exchanged.{Exchanged, GainsSome, IsFailure, TellsEnd};
+ghost use Rattle.stub_engine.specs.Failing.{Counts, NamesFault};
+ghost use Rattle.stub_engine.specs.Keeping.{GainsFront, KeepsFront, KeptBy, ToldBy, words_kept};
+
+use crate::exchange_stop::ExchangeStop;
+use exchange_core::{Chunk, Exchange};
+use load_devices::{Keep, KeepFault, Line, LineFault, Onlooker, Sight};
+use tape_image::{Plan, Word};
+
+/// Exchanges the chunks with the stub at the other end of the line, behind the plan's first `from`
+/// words, for at most so many turns.
+///
+/// Before each turn, and after the last, an end of the exchange stops the engine. In a turn one thing
+/// is heard, the exchange takes its step, the words that became verified are kept one after another,
+/// and last the characters that the step answered are sent. The first failure stops the engine, and
+/// nothing after it in that turn is done. The exchange that comes back has taken the step. The onlooker
+/// is told of each step, before anything comes of it, and of no key, since a step has many.
+pub fn exchange<L: Line, K: Keep, O: Onlooker>(
+    plan: &Plan,
+    chunks: &[Chunk],
+    from: u32,
+    line: &mut L,
+    keep: &mut K,
+    turns: u64,
+    onlooker: &O,
+) -> (Exchange, ExchangeStop)
+    requires chunks { AreChunks plan.now from chunks.now }
+    ensures turns { Exchanged plan.now chunks.now turns (Some result.1) (begun from) result.0 (L.told line.old) (L.told line.new) }
+    ensures end { TellsEnd result.1 result.0 }
+    ensures counted { Counts (Some result.1) (L.fault_count line.old) (L.fault_count line.new) (K.fault_count keep.old) (K.fault_count keep.new) }
+    ensures fault { NamesFault (Some result.1) (L.last_fault line.new) (K.last_fault keep.new) }
+    ensures told { ToldBy (Some result.1) (K.told keep.old) (K.told keep.new) (words_kept plan.now.words from result.0.verified) }
+    ensures kept_by { KeptBy K.keeps K.fails (Some result.1) keep.old (words_kept plan.now.words from result.0.verified) keep.new }
+    ensures honest { IsBelievableOver plan.now chunks.now result.0 (L.told line.old) (L.told line.new) }
+    ensures bound { result.0.sent ≤ exchange_bound (length chunks.now) }
+    ensures kept { IsExchange chunks.now result.0 }
+{
+    let mut state = Exchange::new(from);
+    let mut end = state.end();
+    for _ in 0..turns {
+        if let Some(end) = end {
+            return (state, ExchangeStop::Ended(end));
+        }
+        if let Err(stop) = turn(plan, chunks, &mut state, line, keep, onlooker) {
+            return (state, stop);
+        }
+        end = state.end();
+    }
+    let stop = match end {
+        Some(end) => ExchangeStop::Ended(end),
+        None => ExchangeStop::TurnsOver,
+    };
+    (state, stop)
+}
+
+// One turn of an exchange that has no end.
+fn turn<L: Line, K: Keep, O: Onlooker>(
+    plan: &Plan,
+    chunks: &[Chunk],
+    state: &mut Exchange,
+    line: &mut L,
+    keep: &mut K,
+    onlooker: &O,
+) -> Result<(), ExchangeStop>
+    requires chunks { AreChunks plan.now state.old.from chunks.now }
+    requires kept { IsExchange chunks.now state.old }
+    requires goes_on { ended state.old.phase ≡ None }
+    ensures turn { Exchanged plan.now chunks.now 1 (fault_of result) state.old state.new (L.told line.old) (L.told line.new) }
+    ensures failure { IfErr result IsFailure }
+    ensures counted { Counts (fault_of result) (L.fault_count line.old) (L.fault_count line.new) (K.fault_count keep.old) (K.fault_count keep.new) }
+    ensures fault { NamesFault (fault_of result) (L.last_fault line.new) (K.last_fault keep.new) }
+    ensures told { ToldBy (fault_of result) (K.told keep.old) (K.told keep.new) (words_kept plan.now.words state.old.verified state.new.verified) }
+    ensures kept_by { KeptBy K.keeps K.fails (fault_of result) keep.old (words_kept plan.now.words state.old.verified state.new.verified) keep.new }
+    ensures grows { state.old.verified ≤ state.new.verified }
+    ensures from { state.new.from ≡ state.old.from }
+    ensures kept { IsExchange chunks.now state.new }
+{
+    let heard = match line.hear() {
+        Ok(heard) => heard,
+        Err(fault) => return Err(ExchangeStop::LineFailed(fault)),
+    };
+    let before = state.verified;
+    let asked = state.step(plan, chunks, heard);
+    *state = asked.next;
+    onlooker.sees(Sight {
+        heard,
+        key: None,
+        done: state.verified,
+        spent: 0,
+    });
+    if let Err(fault) = keep_words(keep, plan.words(), before, state.verified) {
+        return Err(ExchangeStop::KeepFailed(fault));
+    }
+    match send_all(line, &asked.keys) {
+        Ok(()) => Ok(()),
+        Err(fault) => Err(ExchangeStop::LineFailed(fault)),
+    }
+}
+
+// Has words kept, from one number to another.
+fn keep_words<K: Keep>(keep: &mut K, words: &[Word], from: u32, to: u32) -> Result<(), KeepFault>
+    requires order { from ≤ to }
+    requires within { to ≤ length words.now }
+    ensures kept { OnOk result (Gains (K.told keep.old) (K.told keep.new) (words_kept words.now from to)) }
+    ensures not_kept { OnErr result (GainsFront (K.told keep.old) (K.told keep.new) (words_kept words.now from to)) }
+    ensures keeps { OnOk result (KeepsEach K.keeps keep.old (words_kept words.now from to) keep.new) }
+    ensures fails { OnErr result (KeepsFront K.keeps K.fails keep.old (words_kept words.now from to) keep.new) }
+    ensures counted { K.fault_count keep.new ≡ count_after (K.fault_count keep.old) result }
+    ensures fault { OnErr result (K.last_fault keep.new ≡ fault_of result) }
+{
+    for number in from..to {
+        if let Err(fault) = keep.add(words[number as usize]) {
+            return Err(fault);
+        }
+    }
+    Ok(())
+}
+
+// Sends all these characters, in their order.
+fn send_all<L: Line>(line: &mut L, keys: &[u8]) -> Result<(), LineFault>
+    ensures sent { OnOk result (Gains (L.told line.old) (L.told line.new) (said_all keys.now)) }
+    ensures not_sent { OnErr result (GainsSome (L.told line.old) (L.told line.new) keys.now) }
+    ensures counted { L.fault_count line.new ≡ count_after (L.fault_count line.old) result }
+    ensures fault { OnErr result (L.last_fault line.new ≡ fault_of result) }
+{
+    for key in keys {
+        if let Err(fault) = line.send(*key) {
+            return Err(fault);
+        }
+    }
+    Ok(())
+}

@@ -1,9 +1,0 @@
-use Rattle.std.proofs.Common.{◌-◌}
-use Rattle.stub_plan.proofs.Fronts.{AreFront}
-use Rattle.stub_plan.proofs.chunking.chunks_of.Given as goal
-
-abbrev pub invariant-loop-number : goal.invariant-loop-number
-invariant-loop-number l = AreFront l.fn.plan l.fn.from l.fn.to l.number l.chunks.items
-
-abbrev pub decreases-loop-number : goal.decreases-loop-number
-decreases-loop-number l = l.to - l.number

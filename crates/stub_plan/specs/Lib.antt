@@ -1,3 +1,0 @@
-pub mod Chunking
-pub mod StubPlan
-pub mod Window

@@ -1,6 +1,0 @@
-mod Zips
-mod Numbers
-mod Lines
-mod Laying
-mod Readings
-mod OneReading

@@ -1,5 +1,0 @@
-use Rattle.word_text.proofs.OneReading.{one_meaning}
-use Rattle.word_text.proofs.law.one_reading.Goals as goal
-
-pub returns : goal.returns
-returns c = λ text said other is also. one_meaning text said other is also

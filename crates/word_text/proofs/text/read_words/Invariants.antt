@@ -1,5 +1,0 @@
-use Rattle.word_text.proofs.Readings.{IsReadTo}
-use Rattle.word_text.proofs.text.read_words.Given as goal
-
-abbrev pub invariant-loop-index : goal.invariant-loop-index
-invariant-loop-index l = IsReadTo l.text l.index l.sheet

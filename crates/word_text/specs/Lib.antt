@@ -1,4 +1,0 @@
-pub mod Words
-pub mod Refusal
-pub mod Sheet
-pub mod Reading

@@ -1,0 +1,277 @@
+"""What a `save` leaves that does not come to its end: FILE.part, with each block of which the last word was read. And what it
+takes from the disk before the first key, and in which order the file of a tape comes about.
+"""
+import errno
+import os
+import signal
+import time
+import unittest
+from concurrent.futures import ThreadPoolExecutor
+
+from cases import Console
+from outside import bytes_of
+from test_looks import FAILED, Looks, as_memory, as_tape, numbers
+import traced
+
+# 300 words are one block of 512 bytes and a shorter one: 519 and 95 bytes, and 7 that end the tape.
+WORDS = numbers("part", 300)
+LAST = 0o1000 + 2 * len(WORDS) - 2
+SAVE = f"save a.lda LINE 1000 {LAST:o}"
+BLOCK, ROOM = 519, 519 + 95 + 7
+TAPE = as_tape(0o1000, WORDS)
+SAVED = "sent 2401 spent 0 read 300 of 300\nend Saved\n"
+
+# Calls that touch names and files, by name; some have no name in `traced`.
+ON_THE_DISK = ("openat", "write", "flock", "fsync", "ftruncate", "statx", "link", "unlink")
+
+
+class SlowEnd(Console):
+    """It takes its time for each key behind the first block."""
+
+    def take(self, key):
+        if len(self.typed) > 8 * 258:
+            time.sleep(0.02)
+        return super().take(key)
+
+
+class SlowBegin(Console):
+    """It takes its time for each key of the first words."""
+
+    def take(self, key):
+        if len(self.typed) < 8 * 30:
+            time.sleep(0.02)
+        return super().take(key)
+
+
+class Part(Looks):
+    """A machine with words, and the part of a save of them."""
+
+    def machine(self, kind=Console, **more):
+        return self.console_at(kind(memory=as_memory(0o1000, WORDS), **more))
+
+    def part(self):
+        return bytes_of(self.path("a.lda.part"))
+
+    def are_there(self):
+        return {it for it in os.listdir(self.room) if it.startswith("a.lda")}
+
+    def is_left(self, blocks):
+        """FILE.part is there, as long as the whole tape, with so many complete blocks in front, and no FILE."""
+        self.is_so(self.are_there(), {"a.lda.part"})
+        self.is_so(len(self.part()), ROOM)
+        self.is_so(self.part()[:BLOCK * blocks], TAPE[:BLOCK * blocks])
+
+
+class Left(Part):
+    """A save that somebody ends."""
+
+    def test_whatever_ends_it(self):
+        """Ctrl-C, a closed terminal, a kill: the block stays, memory is what it was, and the part is not taken away by the next."""
+        for number in (signal.SIGINT, signal.SIGHUP, signal.SIGTERM, signal.SIGKILL):
+            with self.subTest(number):
+                line = self.machine(SlowEnd)
+                before = list(line.machine.words)
+                process = self.begin(line, SAVE)
+                self.until(lambda: len(line.machine.typed) > 8 * 270)
+                process.send_signal(number)
+                self.is_so(process.wait(), -number)
+                line.settle()
+                self.has_looked(line, before)
+                self.is_left(1)
+                other = self.machine()
+                self.ends(self.look(other, SAVE), 4, "", "ldaodt: a.lda.part is there already\n")
+                self.is_so(other.connections, 0)
+                self.is_left(1)
+                os.remove(self.path("a.lda.part"))
+
+    def test_before_the_first_block(self):
+        """There is room, and nothing in it."""
+        line = self.machine(SlowBegin)
+        process = self.begin(line, SAVE)
+        self.until(lambda: len(line.machine.typed) > 8 * 20)
+        self.is_left(0)
+        self.is_so(self.part(), bytes(ROOM))
+        process.kill()
+        process.wait()
+        self.is_left(0)
+
+    def test_the_block_is_there_with_its_last_word(self):
+        """As soon as the next word is asked for."""
+        line = self.machine(SlowEnd)
+        self.begin(line, SAVE)
+        self.until(lambda: len(line.machine.typed) > 1 + 8 * 257)
+        self.is_so(self.part()[:BLOCK], TAPE[:BLOCK])
+
+    def test_a_part_of_any_kind_is_left(self):
+        """Nobody is connected to."""
+        for make in (lambda path: self.put("a.lda.part", b"hello"), os.mkdir, os.mkfifo, lambda path: os.symlink("nowhere", path)):
+            make(self.path("a.lda.part"))
+            is_file = os.path.isfile(self.path("a.lda.part"))
+            line = self.machine()
+            self.ends(self.look(line, SAVE), 4, "", "ldaodt: a.lda.part is there already\n")
+            self.is_so((line.connections, self.are_there()), (0, {"a.lda.part"}))
+            if is_file:
+                self.is_so(self.part(), b"hello")
+            (os.rmdir if os.path.isdir(self.path("a.lda.part")) else os.remove)(self.path("a.lda.part"))
+
+
+class Ended(Part):
+    """A save that ends by itself gives FILE, and leaves no part."""
+
+    def test_all_words(self):
+        self.ends(self.look(self.machine(), SAVE), 0, SAVED)
+        self.is_so((self.are_there(), bytes_of(self.path("a.lda"))), ({"a.lda"}, TAPE))
+
+    def test_memory_that_ends(self):
+        for words in (256, 270, 512, 513):
+            with self.subTest(words):
+                line = self.console_at(Console(words=words, memory=as_memory(0, numbers("ends", words))))
+                given = self.look(line, "save a.lda LINE 0 3776")
+                self.ends(given, 5, f"sent {8 * words + 8} spent 0 read {words} of 1024\nend NoWord {2 * words:06o}\n")
+                self.is_so((self.are_there(), bytes_of(self.path("a.lda"))), ({"a.lda"}, as_tape(0, numbers("ends", words))))
+                os.remove(self.path("a.lda"))
+
+    def test_a_line_that_fails(self):
+        """Behind the first block."""
+        line = self.device_at(SlowEnd(memory=as_memory(0o1000, WORDS)))
+        process = self.begin(line, SAVE)
+        self.until(lambda: len(line.machine.typed) > 8 * 270)
+        line.hang_up()
+        out, err = process.communicate(timeout=60)
+        count = int(out.split(" read ")[1].split()[0])
+        self.is_so((process.returncode, err, out.splitlines()[1], count >= 256), (4, FAILED, "end LineFailed", True))
+        self.is_so((self.are_there(), bytes_of(self.path("a.lda"))), ({"a.lda"}, as_tape(0o1000, WORDS[:count])))
+
+    def test_a_console_that_is_not_there(self):
+        """The part goes: nothing is in it."""
+        given = self.ldaodt(["save", "a.lda", self.taken_port(), "1000", f"{LAST:o}"])
+        self.is_so((given.status, self.are_there()), (4, set()))
+
+    def test_a_file_that_somebody_makes_meanwhile(self):
+        """It is as it was, and the part stays, with the whole tape in it."""
+        line = self.machine(SlowEnd)
+        process = self.begin(line, SAVE)
+        self.until(lambda: len(line.machine.typed) > 8 * 270)
+        self.put("a.lda", b"hello")
+        out, err = process.communicate(timeout=120)
+        self.is_so((process.returncode, out, err), (4, "", "ldaodt: a.lda is there already\n"))
+        self.is_so((bytes_of(self.path("a.lda")), self.part()), (b"hello", TAPE))
+
+    def test_two_saves_of_one_name(self):
+        line, other = self.machine(SlowBegin), self.machine()
+        process = self.begin(line, SAVE)
+        self.until(lambda: len(line.machine.typed) > 20)
+        self.ends(self.look(other, SAVE), 4, "", "ldaodt: a.lda.part is there already\n")
+        self.is_so(other.connections, 0)
+        out, err = process.communicate(timeout=120)
+        self.is_so((process.returncode, out, err), (0, SAVED, ""))
+        self.is_so((self.are_there(), bytes_of(self.path("a.lda"))), ({"a.lda"}, TAPE))
+
+    def test_a_disk_that_is_full(self):
+        """A file may have so many bytes. With fewer than the whole tape has, nothing is typed and nothing left."""
+        def trial(size):
+            line = self.machine()
+            given = self.look(line, SAVE.replace("a.lda", f"a.lda{size}"), file_size=size)
+            return size, given, line.machine.typed
+
+        with ThreadPoolExecutor(8) as pool:
+            for size, given, typed in pool.map(trial, (0, 1, 2, 511, 512, BLOCK, BLOCK + 7, ROOM - 2, ROOM - 1)):
+                self.ends(given, 4, "", f"ldaodt: cannot write a.lda{size}\n")
+                self.is_so((typed, self.are_there()), ("", set()))
+        self.ends(self.look(self.machine(), SAVE, file_size=ROOM), 0, SAVED)
+
+
+class AtEachCall(Part):
+    """A save that is killed right before a call, and calls that fail."""
+
+    def setUp(self):
+        super().setUp()
+        if not traced.is_possible():
+            self.skipTest("no process can be traced here")
+
+    def ask(self, before):
+        line = self.machine()
+        words = list(line.machine.words)
+        try:
+            given = traced.run([*SAVE.replace("LINE", line.address).split(), "--quiet", str(self.quiet)], before, cwd=self.room)
+        except ProcessLookupError:
+            given = None
+        line.settle()
+        self.has_looked(line, words)
+        return line, given
+
+    def on_the_disk(self):
+        """The calls of a save on the files of a tape, in their order."""
+        calls = []
+
+        def before(call):
+            if call.name in ON_THE_DISK and self.touches(call):
+                calls.append((call.name, call.file() if call.name in ("write", "flock", "fsync", "ftruncate") else None))
+        _, given = self.ask(before)
+        self.is_so(given.status, 0)
+        os.remove(self.path("a.lda"))
+        return calls
+
+    def touches(self, call):
+        """Whether a call is about a file of the tape, or its folder."""
+        if call.name == "openat":
+            return call.opened().startswith("a.lda")
+        if call.name == "statx":
+            return call.looked_at().startswith("a.lda")
+        if call.name in ("write", "flock", "fsync", "ftruncate"):
+            try:
+                return call.file().startswith("a.lda") or call.file() == os.path.basename(self.room)
+            except OSError:
+                return False
+        return call.name in ("link", "unlink")
+
+    def test_the_order(self):
+        """Room is on the disk before anything else, with its name; a block is written and synced; the tape is cut, synced and named, and
+        its folder synced, before its own name goes."""
+        names = [name for name, _ in self.on_the_disk() if name not in ("statx", "openat", "flock")]
+        self.is_so(names, ["write", "fsync", "fsync", "write", "fsync", "write", "ftruncate", "fsync", "link", "fsync", "unlink"])
+
+    def test_a_kill_before_each_call(self):
+        """FILE is whole or not there, and a block that was synced is in the part."""
+        count = len(self.on_the_disk())
+        self.assertGreater(count, 10)
+        for number in range(count):
+            with self.subTest(number):
+                seen, synced = [], []
+
+                def before(call, number=number):
+                    if call.name in ON_THE_DISK and self.touches(call):
+                        if len(seen) == number:
+                            os.kill(call.process, signal.SIGKILL)
+                        seen.append(call.name)
+                        if call.name == "fsync" and call.file() == "a.lda.part" and len(seen) <= number:
+                            synced.append(call.name)
+
+                self.is_so(self.ask(before)[1] is None, True)
+                there = self.are_there()
+                if "a.lda" in there:
+                    self.is_so(bytes_of(self.path("a.lda")), TAPE)
+                elif len(synced) > 1:
+                    self.is_so(self.part()[:BLOCK], TAPE[:BLOCK])
+                self.is_so(there <= {"a.lda", "a.lda.part"}, True)
+                for it in there:
+                    os.remove(self.path(it))
+
+    def test_a_block_that_can_not_be_synced(self):
+        """The save ends there, and the part stays."""
+        synced = []
+
+        def before(call):
+            if call.name == "fsync" and call.file() == "a.lda.part":
+                synced.append(call.name)
+                if len(synced) == 2:
+                    return call.fails(errno.EIO)
+
+        line, given = self.ask(before)
+        self.ends(given, 4, "", "ldaodt: cannot write a.lda\n")
+        self.is_so(len(line.machine.typed) in (1 + 8 * 256, 8 * 256), True)
+        self.is_left(1)
+
+
+if __name__ == "__main__":
+    unittest.main()

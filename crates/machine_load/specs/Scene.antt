@@ -7,6 +7,7 @@ use Rattle.load_devices.specs.Told.{Gains}
 use Rattle.load_devices.specs.Devices.{calls_of, line_told}
 use Rattle.machine_load.specs.declared.fault.LoadFault.{LoadFault}
 use Rattle.machine_load.specs.declared.fault.LoadFault.TheVariants.{WriteOutput}
+use Rattle.machine_load.specs.declared.lived.Lived.{Lived}
 use Rattle.machine_load.specs.declared.outcome.Outcome.{Outcome}
 use Rattle.machine_load.specs.declared.surroundings.Surroundings.{Ghosts as Surroundings}
 use Rattle.machine_load.specs.Called.{asked_by, IsAskedBefore}
@@ -16,7 +17,7 @@ use Rattle.machine_load.specs.RecordDisk.{RecordDisk, DiskAsked, disk_asked_by, 
 use Rattle.request_values.specs.declared.options.LoadOptions.{LoadOptions}
 use Rattle.console_lines.specs.Dialling.{LineRequest, Call}
 use Rattle.tape_image.specs.Plan.{PlanValue}
-use Rattle.machine_load.specs.Load.{SurroundingsTold, Ending, Setting, IsNeverBegun, IsReported}
+use Rattle.machine_load.specs.Load.{SurroundingsTold, Ending, Finish, Setting, IsNeverBegun, IsReported, finish_of}
 
 -- what surroundings tell
 abbrev pub around_of : {S L K : Type 0} → Surroundings S L K → S → SurroundingsTold
@@ -46,6 +47,10 @@ keeper_of around tell = record { calls = calls_of tell; begins = around.begins; 
 -- what a load gives back, and what its line tells then
 abbrev pub ending : {L : Type 0} → Line L → Outcome L → Ending
 ending tell outcome = record { end = outcome.end; marked = outcome.marked; line = option_map (line_told tell) outcome.line }
+
+-- what a life came to, and what its line tells
+abbrev pub finish_told : {L : Type 0} → Line L → Lived L → Finish
+finish_told tell lived = finish_of lived.looks lived.stubs lived.core lived.end (option_map (line_told tell) lived.line)
 
 -- a load was reported, and gives its line back to whoever would listen
 pub record IsLoaded {L K : Type 0} (keeper : KeeperTells K) (tell : Line L) (plan : PlanValue) (options : LoadOptions) (before after : Scene)

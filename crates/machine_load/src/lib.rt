@@ -16,6 +16,7 @@ mod around;
 mod fault;
 mod first_life;
 mod law;
+mod lived;
 mod load_end;
 mod loading;
 mod looks;

@@ -9,18 +9,19 @@ ghost use Rattle.machine_load.specs.Called.{asked_by, IsAskedBefore};
 ghost use Rattle.load_devices.specs.Devices.{calls_of, devices_of, line_told};
 ghost use Rattle.machine_load.specs.Driving.{IsDrivenOn, IsLived};
 ghost use Rattle.machine_load.specs.GivenBack.{IsGivenBack};
-ghost use Rattle.machine_load.specs.Load.{finish_of, IsOpened, words_taken};
+ghost use Rattle.machine_load.specs.Load.{IsOpened, words_taken};
 ghost use Rattle.machine_load.specs.LoadFault.{IsOpeningFault, IsDrivingFault, IsUnbegunFault, gone};
 ghost use Rattle.machine_load.specs.LoadReport.{load_report};
 ghost use Rattle.machine_load.specs.Looks.{AreFewLooks};
 ghost use Rattle.machine_load.specs.Parts.{IsDrivenWhere, IsKeptWhere};
 ghost use Rattle.machine_load.specs.RecordDisk.{DiskAsked, disk_asked_before, IsBegunOn, IsNotBegunOn, IsOnlyRead, IsLivedOn, IsNotLivedOn};
-ghost use Rattle.machine_load.specs.Scene.{around_of, keeper_of, scene, IsLoaded, IsNotLoaded};
+ghost use Rattle.machine_load.specs.Scene.{around_of, finish_told, keeper_of, scene, IsLoaded, IsNotLoaded};
 ghost use Rattle.machine_load.specs.Stubs.{AreFew, counting, hindrance, host_behind};
 ghost use Rattle.record_file.specs.OldRecord.{HoldsNoRecord};
 
 use crate::fault::LoadFault;
 use crate::first_life::FirstLife;
+use crate::lived::Lived;
 use crate::load_end::LoadEnd;
 use crate::looks::{Looks, look, sampled};
 use crate::outcome::Outcome;
@@ -99,40 +100,6 @@ fn give_back<S: Surroundings>(around: &mut S, line: Option<S::Line>)
     }
 }
 
-// A life that is over: its host, how it ended, its looks and its stubs where there were some, and the line that
-// it had.
-#[derive(Drop)]
-struct Lived<L> {
-    core: HostCore,
-    end: LoadEnd,
-    looks: Option<Looks>,
-    stubs: Option<Stubs>,
-    line: Option<L>,
-}
-
-impl<L> Lived<L> {
-    fn outcome(self) -> Outcome<L>
-        ensures end { result.end ≡ self.end }
-        ensures marked { result.marked ≡ self.core.going }
-        ensures stubs { result.stubs ≡ self.stubs }
-        ensures line { result.line ≡ self.line }
-    {
-        let Lived {
-            core,
-            end,
-            stubs,
-            line,
-            ..
-        } = self;
-        Outcome {
-            end,
-            marked: core.progress().going,
-            stubs,
-            line,
-        }
-    }
-}
-
 // The life that begins with what the record says, and whether its own record may be begun over that one.
 fn first_core<S: Surroundings>(
     alloc: Global,
@@ -199,7 +166,7 @@ fn live<S: Surroundings, O: Onlooker>(
 ) -> Result<Lived<S::Line>, LoadFault>
     ensures lived { IfOk result (λ lived. IsLived (keeper_of S.Surroundings S.Keeper.Keep) fast writable first
         (around_of S.Surroundings around.old) (around_of S.Surroundings around.new)
-        (finish_of lived.looks lived.stubs lived.core lived.end (option_map (line_told S.Line.Line) lived.line))) }
+        (finish_told S.Line.Line lived)) }
     ensures few { IfOk result (λ lived. IfSome lived.looks AreFewLooks × IfSome lived.stubs AreFew) }
     ensures fault { IfErr result (IsDrivingFault writable first (gone (around_of S.Surroundings around.old) (S.lines around.old))
         (gone (around_of S.Surroundings around.new) (S.lines around.new))) }
@@ -261,7 +228,7 @@ fn go_on<S: Surroundings, O: Onlooker>(
 ) -> Result<Lived<S::Line>, LoadFault>
     ensures driven { IfOk result (λ lived. IsDrivenOn (keeper_of S.Surroundings S.Keeper.Keep) fast first (line_told S.Line.Line line)
         (around_of S.Surroundings around.old) (around_of S.Surroundings around.new)
-        (finish_of lived.looks lived.stubs lived.core lived.end (option_map (line_told S.Line.Line) lived.line))) }
+        (finish_told S.Line.Line lived)) }
     ensures looks { IfOk result (λ lived. lived.looks ≡ Some looks) }
     ensures few { IfOk result (λ lived. IfSome lived.stubs AreFew) }
     ensures fault { IfErr result (IsUnbegunFault (around_of S.Surroundings around.old) (around_of S.Surroundings around.new)) }

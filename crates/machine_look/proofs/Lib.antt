@@ -5,6 +5,7 @@ mod OnShelf
 mod SavedBlocks
 mod SavedMemory
 mod SavedWords
+mod Shown
 mod Steps
 mod Turning
 mod Verified

@@ -1,12 +1,14 @@
 -- Turns one after another, each of which may be the last.
-use Rattle.std.proofs.Common.{◌≡◌, true, ℕ, ◌+◌, ◌≤◌, List, [], Option, None, Some, Result, Ok, Err, OnOk, refl, arith, subst}
+use Rattle.std.proofs.Common.{◌≡◌, true, ℕ, ◌≤◌, List, [], Option, None, Some, Result, Ok, Err, OnOk, refl, arith, subst}
 use Rattle.std.specs.Prelude.{IfErr, is_err}
 use Rattle.load_devices.proofs.Told.{gains_none}
 use Rattle.load_devices.specs.declared.item.Item.{Item}
 use Rattle.reading_core.specs.declared.phase.End.{End}
 use Rattle.reading_core.specs.Reader.{Reader}
-use Rattle.reading_engine.specs.declared.stop.Stop.TheVariants.{Ended, TurnsOver}
+use Rattle.reading_engine.specs.declared.stop.Stop.{Stop}
+use Rattle.reading_engine.specs.declared.stop.Stop.TheVariants.{Ended, LineFailed, TurnsOver}
 use Rattle.reading_engine.specs.Inquired.{Inquired}
+use Rattle.reading_engine.proofs.Stretches.{inquired_wider}
 
 -- turns that are over may go on
 pub inquired_open : (turns : ℕ) (a b : Reader) (line line' : Option (List Item)) → Inquired turns (Some TurnsOver) a b line line' → Inquired turns None a b line line'
@@ -17,6 +19,12 @@ inquired_open turns a b line line' s =
 pub ended_wider : (end : End) (turns all : ℕ) (a b : Reader) (line line' : Option (List Item)) → turns ≤ all → Inquired turns (Some (Ended end)) a b line line' → Inquired all (Some (Ended end)) a b line line'
 ended_wider end turns all a b line line' le s =
     record { heard = s.heard; said = s.said; reader = s.reader; goes_on = s.goes_on; within = omega (arith, s.within, le); items = s.items; on_line = s.on_line }
+
+-- so it is of a failure, and of whatever else is no end of the turns
+pub inquired_stopped : (stop : Stop) (turns all : ℕ) (a b : Reader) (line line' : Option (List Item)) → (stop ≡ TurnsOver → ⊥) → turns ≤ all → Inquired turns (Some stop) a b line line' → Inquired all (Some stop) a b line line'
+inquired_stopped (Ended end) turns all a b line line' other le s = ended_wider end turns all a b line line' le s
+inquired_stopped (LineFailed fault) turns all a b line line' other le s = inquired_wider fault turns all a b line line' le s
+inquired_stopped TurnsOver turns all a b line line' other le s = absurd (other refl)
 
 -- no turn
 pub no_turn : (a : Reader) (line : Option (List Item)) → Inquired 0 None a a line line

@@ -1,5 +1,5 @@
 -- A verification that ends as `Same` over an honest line.
-use Rattle.std.proofs.Common.{◌≡◌, ℕ, ◌<◌, true, false, cond, eqb, List, [], ◌++◌, length, get_or, Option, Some, refl, arith, ap, sym, subst, ◌∙◌}
+use Rattle.std.proofs.Common.{◌≡◌, ℕ, ◌<◌, true, false, cond, eqb, List, [], length, get_or, Option, Some, refl, arith, ap, sym, subst, ◌∙◌}
 use Rattle.std.proofs.lemmas.Bool.{eqb-true}
 use Rattle.std.proofs.lemmas.List.{get_or-map, length-map}
 use Rattle.tape_image.specs.Plan.{PlanValue}
@@ -16,14 +16,16 @@ use Rattle.load_devices.specs.Devices.{LineTold}
 use Rattle.reading_engine.specs.Inquired.{TellsEnd}
 use Rattle.reading_engine.specs.declared.stop.Stop.{Stop}
 use Rattle.reading_engine.specs.declared.stop.Stop.TheVariants.{Ended, LineFailed as LineHasFailed, TurnsOver as TurnsAreOver}
-use Rattle.machine_look.specs.declared.difference.Difference.{Difference}
+use Rattle.machine_look.specs.declared.look_fault.LookFault.{LookFault}
+use Rattle.machine_look.specs.declared.look_fault.LookFault.TheVariants.{Connect, IsThere, Memory, PartIsThere, WriteOutput, WriteTape}
 use Rattle.machine_look.specs.declared.verify_end.VerifyEnd.{VerifyEnd}
 use Rattle.machine_look.specs.declared.verify_end.VerifyEnd.TheVariants.{Same, Differs}
 use Rattle.machine_look.specs.Differences.{differences}
 use Rattle.console_lines.specs.Console.{ConsoleTold}
 use Rattle.machine_look.specs.Look.{AsksOnce, IsLook, OverHonestLine}
+use Rattle.machine_look.specs.LookFault.{IsCompareFault, IsVerifyFault}
 use Rattle.machine_look.specs.Verify.{IsSameWith, IsVerified}
-use Rattle.machine_look.specs.VerifyReport.{report_text, verify_end, verify_report}
+use Rattle.machine_look.specs.VerifyReport.{last_lines, verify_end}
 use Rattle.machine_look.proofs.Found.{none_differ}
 use Rattle.machine_look.proofs.Looks.{all_read, is_true}
 
@@ -81,12 +83,28 @@ verified_of plan patience before after first last stop end is look asks ends =
 pub words_count : (words : List WordValue) (last : Reader) → last.addresses ≡ addresses_of words → length last.addresses ≡ length words
 words_count words last are = ap length are ∙ length-map words (λ (w : WordValue). w.address)
 
-pub report_is : (words : List WordValue) (last : Reader) (stop : Stop) (found : List Difference) (start text : List ℕ) → last.addresses ≡ addresses_of words → found ≡ differences words last.values
-    → start ≡ [] → text ≡ start ++ report_text found (length last.addresses) last stop → text ≡ verify_report words last stop
-report_is words last stop found start text are finds none is =
-    is ∙ (ap (λ s. s ++ report_text found (length last.addresses) last stop) none
-    ∙ (ap (λ f. report_text f (length last.addresses) last stop) finds ∙ ap (λ n. report_text (differences words last.values) n last stop) (words_count words last are)))
+-- how many differ
+pub differ_is : (words words' : List WordValue) (last : Reader) (numbers : List ℕ) (differ : ℕ) → words' ≡ words → numbers ≡ last.values → differ ≡ length (differences words' numbers) → differ ≡ length (differences words last.values)
+differ_is words words' last numbers differ w n count = count ∙ (ap (λ list. length (differences list numbers)) w ∙ ap (λ list. length (differences words list)) n)
 
-pub found_is : (words words' : List WordValue) (numbers numbers' : List ℕ) (start found : List Difference) → words' ≡ words → numbers' ≡ numbers → start ≡ [] → found ≡ start ++ differences words' numbers' → found ≡ differences words numbers
-found_is words words' numbers numbers' start found w n none is =
-    is ∙ (ap (λ s. s ++ differences words' numbers') none ∙ (ap (λ list. differences list numbers') w ∙ ap (differences words) n))
+-- the last lines of a report are those of the words
+pub last_is : (words words' : List WordValue) (last : Reader) (numbers : List ℕ) (differ : ℕ) (stop : Stop) (text : List ℕ) → words' ≡ words → numbers ≡ last.values → last.addresses ≡ addresses_of words → differ ≡ length (differences words' numbers)
+    → text ≡ last_lines (length last.addresses) last differ stop → text ≡ last_lines (length words) last (length (differences words last.values)) stop
+last_is words words' last numbers differ stop text w n are count is =
+    is
+    ∙ (ap (λ k. last_lines k last differ stop) (words_count words last are)
+    ∙ ap (λ k. last_lines (length words) last k stop) (differ_is words words' last numbers differ w n count))
+
+-- a comparison of a plan's words that comes to nothing
+pub compare_fault : (plan : PlanValue) (patience : ℕ) (words : List WordValue) (first : Reader) (before after : ConsoleTold) (fault : LookFault) → words ≡ plan.words → first ≡ begun (addresses_of plan.words) [] patience
+    → IsCompareFault words first before after fault → IsVerifyFault plan patience before after fault
+compare_fault plan patience words first before after fault w r fails =
+    same fault (subst (λ list. IsCompareFault list (begun (addresses_of plan.words) [] patience) before after fault) w (subst (λ reader. IsCompareFault words reader before after fault) r fails))
+  where
+    same : (fault : LookFault) → IsCompareFault plan.words (begun (addresses_of plan.words) [] patience) before after fault → IsVerifyFault plan patience before after fault
+    same Connect h = h
+    same WriteOutput h = h
+    same IsThere h = absurd h
+    same PartIsThere h = absurd h
+    same WriteTape h = absurd h
+    same Memory h = absurd h

@@ -9,5 +9,6 @@ pub mod SaveReport
 pub mod Shelf
 pub mod ShelfDisk
 pub mod ShelfTold
+pub mod Shown
 pub mod Verify
 pub mod VerifyReport

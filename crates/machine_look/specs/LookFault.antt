@@ -3,6 +3,7 @@ use Rattle.std.specs.Prelude.{◌≡◌, ◌⊎◌, ℕ, ◌<◌, ◌≤◌, Lis
 use Rattle.std.specs.Io.KnownBytes.{Keeps}
 use Rattle.tape_values.specs.Block.{data_block}
 use Rattle.tape_image.specs.Plan.{PlanValue}
+use Rattle.tape_image.specs.Word.{WordValue}
 use Rattle.load_devices.specs.Told.{Gains}
 use Rattle.load_devices.specs.Turns.{most_turns}
 use Rattle.console_lines.specs.Dialling.{IsAskedInVain, asked_once}
@@ -21,7 +22,7 @@ use Rattle.machine_look.specs.SavedSteps.{adds, full}
 use Rattle.machine_look.specs.SavedTape.{last_text, room_for, saved_block}
 use Rattle.machine_look.specs.Shelf.{Reserve, NotReserved, NotAdded, NotPut}
 use Rattle.machine_look.specs.ShelfTold.{AreDone, HasDone, ShelfTold}
-use Rattle.machine_look.specs.Verify.{IsVerifyCutShort}
+use Rattle.machine_look.specs.Verify.{IsCutShort}
 
 -- what a place that takes no tape makes of the save
 abbrev pub fault_of_shelf : ShelfFault → LookFault
@@ -30,15 +31,18 @@ fault_of_shelf shelf_fault.PartIsThere = PartIsThere
 fault_of_shelf shelf_fault.Write = WriteTape
 fault_of_shelf shelf_fault.Memory = Memory
 
--- how `verify` comes to nothing: want of memory before the console is reached, a console that can't be reached before anything is written,
--- a report that can't be written whole last
+-- a comparison of words comes to nothing: the console can't be reached before anything is written; or a line can't be written whole, which is
+-- the last thing
+abbrev pub IsCompareFault : List WordValue → Reader → ConsoleTold → ConsoleTold → LookFault → Type 0
+IsCompareFault words first before after Connect =
+    (ended first.phase ≡ None) × IsAskedInVain before.call before.asked after.asked × (after.lines ≡ before.lines) × Keeps before.out after.out
+IsCompareFault words first before after WriteOutput = IsCutShort words first before after
+IsCompareFault words first before after other = ⊥
+
+-- how `verify` comes to nothing: want of memory before the console is reached, or so
 abbrev pub IsVerifyFault : PlanValue → ℕ → ConsoleTold → ConsoleTold → LookFault → Type 0
-IsVerifyFault plan patience before after Connect =
-    (ended (begun (addresses_of plan.words) [] patience).phase ≡ None) × IsAskedInVain before.call before.asked after.asked
-    × (after.lines ≡ before.lines) × Keeps before.out after.out
-IsVerifyFault plan patience before after WriteOutput = IsVerifyCutShort plan patience before after
 IsVerifyFault plan patience before after Memory = (after.asked ≡ before.asked) × (after.lines ≡ before.lines) × Keeps before.out after.out
-IsVerifyFault plan patience before after other = ⊥
+IsVerifyFault plan patience before after other = IsCompareFault plan.words (begun (addresses_of plan.words) [] patience) before after other
 
 -- room for the tape was refused, and nothing else was done
 pub record IsSaveNotBegun (fault : ShelfFault) (options : SaveOptions) (before after : SaveTold) : Type 0 where

@@ -1,11 +1,12 @@
 -- What `verify` does (this project's own).
-use Rattle.std.specs.Prelude.{◌≡◌, ℕ, List, [], length}
+use Rattle.std.specs.Prelude.{◌≡◌, ℕ, ◌≤◌, List, [], length}
 use Rattle.std.specs.Io.KnownBytes.{Appends}
 use Rattle.tape_image.specs.Plan.{PlanValue}
 use Rattle.tape_image.specs.Word.{WordValue}
 use Rattle.odt_machine.specs.Machine.{Machine}
 use Rattle.line_world.specs.Safe.{FirstStand}
 use Rattle.byte_io.specs.Output.{WritesAllBut}
+use Rattle.load_devices.specs.Turns.{most_turns}
 use Rattle.reading_core.specs.Addresses.{addresses_of}
 use Rattle.reading_core.specs.Reader.{Reader, begun, ended}
 use Rattle.reading_engine.specs.declared.stop.Stop.{Stop}
@@ -13,7 +14,7 @@ use Rattle.machine_look.specs.declared.verify_end.VerifyEnd.{VerifyEnd}
 use Rattle.machine_look.specs.declared.verify_end.VerifyEnd.TheVariants.{Same}
 use Rattle.machine_look.specs.Differences.{differences}
 use Rattle.console_lines.specs.Console.{ConsoleTold}
-use Rattle.machine_look.specs.Look.{AsksOnce, IsLook, OverHonestLine}
+use Rattle.machine_look.specs.Look.{AsksOnce, IsLook, IsLookOf, OverHonestLine}
 use Rattle.machine_look.specs.VerifyReport.{verify_end, verify_report}
 
 -- a memory is what it was, and every word stands in it
@@ -34,9 +35,17 @@ pub record IsVerifyReported (plan : PlanValue) (patience : ℕ) (before after : 
   pub verified : IsVerified plan patience before after end
   pub reported : Appends before.out after.out (verify_report plan.words verified.last verified.stop)
 
--- the same, with a report that may be cut short
-pub record IsVerifyCutShort (plan : PlanValue) (patience : ℕ) (before after : ConsoleTold) : Type 0 where
-  pub end : VerifyEnd
-  pub verified : IsVerified plan patience before after end
+-- a front of the report of what was read by then was written, and nothing else: words were looked at for so many turns, a reader behind another
+pub record IsCutShort (words : List WordValue) (first : Reader) (before after : ConsoleTold) : Type 0 where
+  pub turns : ℕ
+  pub few : turns ≤ most_turns
+  pub last : Reader
+  pub stop : Stop
+  pub look : IsLookOf turns first last stop before.lines after.lines
+  pub asked : AsksOnce (ended first.phase) before.call before.asked after.asked
   pub missing : List ℕ
-  pub reported : WritesAllBut before.out after.out (verify_report plan.words verified.last verified.stop) missing
+  pub reported : WritesAllBut before.out after.out (verify_report words last stop) missing
+
+-- so it is of a plan's words
+abbrev pub IsVerifyCutShort : PlanValue → ℕ → ConsoleTold → ConsoleTold → Type 0
+IsVerifyCutShort plan patience = IsCutShort plan.words (begun (addresses_of plan.words) [] patience)

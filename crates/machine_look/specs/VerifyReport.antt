@@ -43,12 +43,20 @@ abbrev pub verify_counts_text : ℕ → Reader → ℕ → List ℕ
 verify_counts_text words reader differ =
     life_text reader ++ codes " looked " ++ decimal (length reader.values) ++ codes " of " ++ decimal words ++ codes " differ " ++ decimal differ
 
--- a line for each difference, the counts, and the end
-abbrev pub report_text : List Difference → ℕ → Reader → Stop → List ℕ
-report_text found words reader stop =
-    flat_map (λ d. line (difference_text d)) found ++ line (verify_counts_text words reader (length found))
-    ++ line (codes "end " ++ verify_end_name (verify_end (length found) stop))
+-- a line for each of these differences
+abbrev pub lines_of : List Difference → List ℕ
+lines_of found = flat_map (λ d. line (difference_text d)) found
+
+-- a line for each difference between words and the numbers that were read at the first of their addresses
+abbrev pub difference_lines : List WordValue → List ℕ → List ℕ
+difference_lines words numbers = lines_of (differences words numbers)
+
+-- the counts, and the end
+abbrev pub last_lines : ℕ → Reader → ℕ → Stop → List ℕ
+last_lines words reader differ stop =
+    line (verify_counts_text words reader differ) ++ line (codes "end " ++ verify_end_name (verify_end differ stop))
 
 -- what `verify` prints of a reading of words
 abbrev pub verify_report : List WordValue → Reader → Stop → List ℕ
-verify_report words reader stop = report_text (differences words reader.values) (length words) reader stop
+verify_report words reader stop =
+    difference_lines words reader.values ++ last_lines (length words) reader (length (differences words reader.values)) stop

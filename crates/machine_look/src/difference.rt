@@ -1,8 +1,14 @@
 //! Where memory differs from a plan.
-ghost use Rattle.std.specs.Prelude.{◌≡◌, ◌++◌, ◌+◌, ◌<◌, ◌≤◌, length};
-ghost use Rattle.std.specs.Vec.{vec_len, vec_capacity};
+ghost use Rattle.std.specs.Prelude.{◌≡◌, ◌≤◌, length, take, OnErr, OnOk};
+ghost use Rattle.std.specs.Io.KnownBytes.{Appends};
+ghost use Rattle.byte_io.specs.Output.{WritesPrefix};
 ghost use Rattle.machine_look.specs.Differences.{difference, differences};
+ghost use Rattle.machine_look.specs.Shown.{ShowsPart, ShowsTo};
+ghost use Rattle.machine_look.specs.VerifyReport.{difference_lines, lines_of};
 
+use crate::verify_report::difference_line;
+use byte_io::{WriteFault, write_and_flush};
+use std::io::Write;
 use tape_image::{Word, stands};
 
 /// A word that memory does not have.
@@ -15,29 +21,54 @@ pub(crate) struct Difference {
     pub(crate) now: u16,
 }
 
-/// Puts the differences between the words of a plan and the numbers that were read at the first of
-/// their addresses, in this order, where there is room for as many. A number that has the word's bits
-/// under its mask is no difference.
-pub(crate) fn differences(found: &mut Vec<Difference>, words: &[Word], numbers: &[u16])
-    requires few { length numbers.now ≤ length words.now }
-    requires room { vec_len found.old + length numbers.now ≤ vec_capacity found.old }
-    ensures items { found.new.items ≡ found.old.items ++ differences words.now numbers.now }
-    ensures length { vec_len found.new ≤ vec_len found.old + length numbers.now }
+/// How many words of a plan differ from the numbers that were read at the first of their addresses. A
+/// number that has the word's bits under its mask is no difference.
+pub(crate) fn count_differences(words: &[Word], numbers: &[u16]) -> usize
+    requires { length numbers.now ≤ length words.now }
+    ensures { result ≡ length (differences words.now numbers.now) }
 {
+    let mut count = 0;
     for (place, number) in numbers.iter().enumerate() {
-        put_difference(found, words[place], *number);
+        count += count_difference(words[place], *number);
     }
+    count
 }
 
-// Puts the difference between a word and the number that was read at its address, if there is one.
-fn put_difference(found: &mut Vec<Difference>, word: Word, now: u16)
-    requires { vec_len found.old < vec_capacity found.old }
-    ensures items { found.new.items ≡ found.old.items ++ difference word now }
-    ensures length { vec_len found.new ≤ vec_len found.old + 1 }
-    ensures room { vec_capacity found.old ≤ vec_capacity found.new }
+// Whether a word differs from the number that was read at its address, as a number: 0 or 1.
+fn count_difference(word: Word, now: u16) -> usize
+    ensures { result ≡ length (difference word now) }
+{
+    usize::from(!stands(word, now))
+}
+
+/// Writes a line for each difference between the words of a plan and the numbers that were read at the first
+/// of their addresses, from the number at this place on, each as soon as it is found.
+pub(crate) fn show_differences<W: Write>(
+    words: &[Word],
+    numbers: &[u16],
+    first: usize,
+    out: &mut W,
+) -> Result<(), WriteFault>
+    requires few { length numbers.now ≤ length words.now }
+    requires behind { first ≤ length numbers.now }
+    ensures shown { OnOk result (ShowsTo (difference_lines words.now (take first numbers.now)) (difference_lines words.now numbers.now)
+        (W.contents out.old) (W.contents out.new)) }
+    ensures cut_short { OnErr result (ShowsPart (difference_lines words.now (take first numbers.now)) (difference_lines words.now numbers.now)
+        (W.contents out.old) (W.contents out.new)) }
+{
+    for place in first..numbers.len() {
+        show_difference(words[place], numbers[place], out)?;
+    }
+    Ok(())
+}
+
+// Writes the line of the difference between a word and the number that was read at its address, if there is one.
+fn show_difference<W: Write>(word: Word, now: u16, out: &mut W) -> Result<(), WriteFault>
+    ensures shown { OnOk result (Appends (W.contents out.old) (W.contents out.new) (lines_of (difference word now))) }
+    ensures cut_short { OnErr result (WritesPrefix (W.contents out.old) (W.contents out.new) (lines_of (difference word now))) }
 {
     if stands(word, now) {
-        return;
+        return Ok(());
     }
-    found.push(Difference { word, now }).unwrap();
+    write_and_flush(out, &difference_line(Difference { word, now }))
 }

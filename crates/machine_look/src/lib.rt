@@ -10,6 +10,7 @@
 //! `command_tests`.
 #![tactic(auto)]
 
+mod comparing;
 mod difference;
 mod look_fault;
 mod looking;

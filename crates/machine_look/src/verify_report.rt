@@ -1,17 +1,14 @@
 //! The report of `verify`.
-ghost use Rattle.std.specs.Prelude.{◌≡◌, ◌+◌, ◌*◌, ◌≤◌, ◌++◌, [], length, codes};
-ghost use Rattle.std.specs.List.{flat_map};
-ghost use Rattle.std.specs.Vec.{vec_len, vec_capacity};
+ghost use Rattle.std.specs.Prelude.{◌≡◌, ◌+◌, ◌≤◌, ◌++◌, [], length, codes};
 ghost use Rattle.arrayvec.specs.ArrayVec.{array_vec_len};
 ghost use Rattle.octal.specs.Octal.{octal_text};
-ghost use Rattle.tape_image.specs.Memory.{most_words};
 ghost use Rattle.byte_io.specs.Text.{line};
-ghost use Rattle.machine_look.specs.VerifyReport.{verify_counts_text, difference_text, verify_end_name, life_text, report_text, verify_end};
+ghost use Rattle.machine_look.specs.VerifyReport.{verify_counts_text, difference_text, verify_end_name, life_text, last_lines, verify_end};
 
 use crate::difference::Difference;
 use crate::verify_end::VerifyEnd;
 use arrayvec::ArrayVec;
-use byte_io::{push_bytes, push_decimal, push_octal, put_into_room};
+use byte_io::{push_bytes, push_decimal, push_octal};
 use reading_core::{End, ReadingCore};
 use reading_engine::Stop;
 
@@ -24,34 +21,8 @@ const LAST_ROOM: usize = 151;
 /// The last two lines of a report, in room of their own.
 pub(crate) type LastLines = ArrayVec<u8, LAST_ROOM>;
 
-/// How many bytes the report of so many words has at most.
-pub(crate) fn longest_report(words: usize) -> usize
-    requires { words ≤ most_words }
-    ensures { result ≡ 36 * words + 151 }
-{
-    LINE_ROOM * words + LAST_ROOM
-}
-
-/// Puts the report of a reading that found these differences at the end of a text that has room for it: a
-/// line for each, the counts of the host's life, and how it ended, which is answered.
-pub(crate) fn put_verify_report(
-    text: &mut Vec<u8>,
-    found: &[Difference],
-    core: &ReadingCore,
-    stop: Stop,
-) -> VerifyEnd
-    requires room { vec_len text.old + 36 * length found.now + 151 ≤ vec_capacity text.old }
-    ensures text { text.new.items ≡ text.old.items ++ report_text found.now (length core.now.addresses) core.now stop }
-    ensures end { result ≡ verify_end (length found.now) stop }
-{
-    put_differences(text, found);
-    let end = verify_end(found.len(), stop);
-    put_into_room(text, &last_lines(core, found.len(), end));
-    end
-}
-
-// How a reading ends with which so many words differ.
-fn verify_end(differ: usize, stop: Stop) -> VerifyEnd
+/// How a reading ends with which so many words differ.
+pub(crate) fn verify_end(differ: usize, stop: Stop) -> VerifyEnd
     ensures { result ≡ verify_end differ stop }
 {
     match stop {
@@ -64,17 +35,8 @@ fn verify_end(differ: usize, stop: Stop) -> VerifyEnd
     }
 }
 
-fn put_differences(text: &mut Vec<u8>, found: &[Difference])
-    requires room { vec_len text.old + 36 * length found.now + 151 ≤ vec_capacity text.old }
-    ensures text { text.new.items ≡ text.old.items ++ flat_map (λ d. line (difference_text d)) found.now }
-    ensures room { vec_len text.new + 151 ≤ vec_capacity text.new }
-{
-    for difference in found {
-        put_into_room(text, &difference_line(*difference));
-    }
-}
-
-fn difference_line(difference: Difference) -> ArrayVec<u8, LINE_ROOM>
+/// The line of a difference: the word's address, mask and value, and what memory holds there.
+pub(crate) fn difference_line(difference: Difference) -> ArrayVec<u8, LINE_ROOM>
     ensures items { result.items ≡ line (difference_text difference) }
     ensures length { array_vec_len result ≡ 36 }
 {
@@ -91,14 +53,13 @@ fn difference_line(difference: Difference) -> ArrayVec<u8, LINE_ROOM>
     text
 }
 
-// The counts of the host's life, and how it ended.
-fn last_lines(core: &ReadingCore, differ: usize, end: VerifyEnd) -> LastLines
-    ensures items { result.items ≡ line (verify_counts_text (length core.now.addresses) core.now differ) ++ line (codes "end " ++ verify_end_name end) }
-    ensures length { array_vec_len result ≤ 151 }
+/// The last lines of a report: the counts of the host's life, with so many words that differ, and how it ended.
+pub(crate) fn last_lines(core: &ReadingCore, differ: usize, stop: Stop) -> LastLines
+    ensures { result.items ≡ last_lines (length core.now.addresses) core.now differ stop }
 {
     let mut text = LastLines::new();
     push_counts(&mut text, core, differ);
-    push_end(&mut text, end);
+    push_end(&mut text, verify_end(differ, stop));
     text
 }
 

@@ -4,11 +4,11 @@ ghost use Rattle.console_lines.specs.Console.{console_told};
 ghost use Rattle.machine_look.specs.LookFault.{IsVerifyFault};
 ghost use Rattle.machine_look.specs.Verify.{IsVerifyReported};
 
-use crate::difference::differences;
+use crate::comparing::compare_over;
+use crate::difference::count_differences;
 use crate::look_fault::LookFault;
-use crate::looking::look_over;
 use crate::verify_end::VerifyEnd;
-use crate::verify_report::{longest_report, put_verify_report};
+use crate::verify_report::{last_lines, verify_end};
 use byte_io::write_and_flush;
 use console_lines::Reach;
 use load_devices::Onlooker;
@@ -18,12 +18,13 @@ use std::io::Write;
 use tape_image::Plan;
 
 /// Looks at every word of a plan, in the order of their addresses, changes none, and reports each one that
-/// was read and differs, how far that came, and how it ended.
+/// differs, as soon as it was read, and in the end how far that came and how it ended.
 ///
 /// A plan without words needs no console: it ends as `Same`.
 ///
-/// `Connect` comes before anything was sent. `WriteOutput` is a report that could not be written whole.
-/// `Memory` comes only where a growth was refused, before the console is reached, with nothing reported.
+/// `Connect` comes before anything was sent. `WriteOutput` is a report that could not be written whole: a front
+/// of it was, and nothing more is read. `Memory` comes only where a growth was refused, before the console is
+/// reached, with nothing reported.
 pub fn verify<R: Reach, W: Write, O: Onlooker>(
     alloc: Global,
     plan: &Plan,
@@ -42,12 +43,8 @@ pub fn verify<R: Reach, W: Write, O: Onlooker>(
 {
     let core = ReadingCore::of_plan(alloc, plan, patience)?;
     let words = plan.words();
-    // A look that is over needs no memory to say so.
-    let mut found = Vec::with_capacity(alloc, words.len())?;
-    let mut report = Vec::with_capacity(alloc, longest_report(words.len()))?;
-    let (core, stop) = look_over(core, console, onlooker)?;
-    differences(&mut found, words, core.values());
-    let end = put_verify_report(&mut report, &found, &core, stop);
-    write_and_flush(out, &report)?;
-    Ok(end)
+    let (core, stop) = compare_over(core, words, console, out, onlooker)?;
+    let differ = count_differences(words, core.values());
+    write_and_flush(out, &last_lines(&core, differ, stop))?;
+    Ok(verify_end(differ, stop))
 }

@@ -1,0 +1,42 @@
+ghost use Rattle.std.specs.Prelude.{◌≡◌};
+
+use crate::load_end::LoadEnd;
+use crate::looks::Looks;
+use crate::outcome::Outcome;
+use crate::stubs::Stubs;
+use host_core::HostCore;
+
+/// A life that is over: its host, how it ended, its looks and its stubs where there were some, and the line that
+/// it had.
+#[derive(Drop)]
+pub(crate) struct Lived<L> {
+    pub(crate) core: HostCore,
+    pub(crate) end: LoadEnd,
+    pub(crate) looks: Option<Looks>,
+    pub(crate) stubs: Option<Stubs>,
+    pub(crate) line: Option<L>,
+}
+
+impl<L> Lived<L> {
+    /// What the load gives back.
+    pub(crate) fn outcome(self) -> Outcome<L>
+        ensures end { result.end ≡ self.end }
+        ensures marked { result.marked ≡ self.core.going }
+        ensures stubs { result.stubs ≡ self.stubs }
+        ensures line { result.line ≡ self.line }
+    {
+        let Lived {
+            core,
+            end,
+            stubs,
+            line,
+            ..
+        } = self;
+        Outcome {
+            end,
+            marked: core.progress().going,
+            stubs,
+            line,
+        }
+    }
+}

@@ -26,6 +26,4 @@ mod loads_in_a_row;
 #[cfg(test)]
 mod memory_reach;
 #[cfg(test)]
-mod probe_reports;
-#[cfg(test)]
 mod trials;

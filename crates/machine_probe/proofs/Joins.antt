@@ -1,5 +1,5 @@
 -- How the runs of a probe come to stand one behind another.
-use Rattle.std.proofs.Common.{◌≡◌, ℕ, ◌+◌, ◌-◌, ◌*◌, ◌/◌, true, false, Bool, List, [], ◌∷◌, ◌++◌, Option, Some, None, inl, inr, refl, arith, ap, sym, subst, ◌∙◌, append_assoc, append-nil}
+use Rattle.std.proofs.Common.{◌≡◌, ℕ, ◌+◌, ◌-◌, ◌*◌, ◌/◌, true, false, Bool, List, [], ◌∷◌, ◌++◌, Option, Some, None, inr, refl, arith, ap, sym, subst, ◌∙◌, append_assoc, append-nil}
 use Rattle.load_devices.specs.declared.item.Item.{Item}
 use Rattle.load_devices.specs.Told.{Gains, SaysNothing}
 use Rattle.load_devices.proofs.Told.{gains_join, gains_kept, gains_none}
@@ -185,7 +185,7 @@ unsearched options f put_back verdict l0 l1 l2 l3 l4 l5 a b c d judged is kept =
     let rest = gains_join l3 l4 l5 [] [] (nothing_made _ _ put_back l3 l4 (forgets_not_stores (verdict_of f) same) d) (gains_kept l4 l5 kept) in
     record {
       parts = a.parts ++ (b.parts ++ c.parts);
-      are = inr (inl (record {
+      are = inr (record {
         f = f;
         same = same;
         in_first = a.parts;
@@ -195,7 +195,7 @@ unsearched options f put_back verdict l0 l1 l2 l3 l4 l5 a b c d judged is kept =
         looked = a.are;
         tried = b.are;
         looked_again = c.are;
-      }));
+      });
       on_line = rows_join l0 l1 l5 a.parts (b.parts ++ c.parts) a.on_line (rows_join l1 l2 l5 b.parts c.parts b.on_line
           (subst (Gains l2 l5) (append-nil (in_a_row c.parts)) (gains_join l2 l3 l5 (in_a_row c.parts) [] c.on_line rest)));
     }

@@ -1,5 +1,5 @@
 -- How the report of a probe comes to be.
-use Rattle.std.proofs.Common.{◌≡◌, ℕ, ◌^◌, ◌<◌, List, [], ◌++◌, Option, Result, Ok, Err, IfOk, OnOk, inl, inr, ap, sym, subst, ◌∙◌}
+use Rattle.std.proofs.Common.{◌≡◌, ℕ, ◌^◌, ◌<◌, List, [], Option, inl, inr, sym, subst}
 use Rattle.std.specs.Io.KnownBytes.{Appends, Keeps}
 use Rattle.std.proofs.KnownBytes.{Keeps-refl}
 use Rattle.byte_io.specs.Output.{WritesAllBut, WritesPrefix}
@@ -16,7 +16,7 @@ use Rattle.probe_report.specs.ProbeText.{probe_text}
 use Rattle.reading_core.specs.Addresses.{IsAddress}
 use Rattle.tape_values.specs.Told.{IsAsTold}
 use Rattle.machine_probe.specs.declared.probe_options.ProbeOptions.{ProbeOptions}
-use Rattle.machine_probe.specs.Follow.{IsBrokenOff, IsProbe}
+use Rattle.machine_probe.specs.Follow.{IsProbe}
 use Rattle.machine_probe.specs.Noted.{AreNotesSince}
 use Rattle.console_lines.specs.Console.{ConsoleTold}
 use Rattle.load_devices.specs.Devices.{line_told}
@@ -28,10 +28,10 @@ use Rattle.machine_probe.specs.Runs.{OnLine}
 use Rattle.machine_probe.proofs.Believed.{believes}
 use Rattle.machine_probe.proofs.OneLine.{believes_over}
 
-report_is : (options : ProbeOptions) (line line' : Option (List Item)) (f : Findings) (notes : Noted) (pace : Pace) (before text : List ℕ) (end : ProbeEnd) →
+report_is : (options : ProbeOptions) (line line' : Option (List Item)) (f : Findings) (notes : Noted) (pace : Pace) (text : List ℕ) (end : ProbeEnd) →
     IsAddress options.address → options.patience < 2 ^ 32 → IsAsTold line [] → OnLine (IsProbe options f) line line' → AreNotesSince line line' notes →
-    before ≡ [] → text ≡ before ++ probe_text f notes pace → end ≡ probe_end f notes.prompt → IsReport options line line' text end
-report_is options line line' f notes pace before text end address long fresh runs are empty put is = record {
+    text ≡ probe_text f notes pace → end ≡ probe_end f notes.prompt → IsReport options line line' text end
+report_is options line line' f notes pace text end address long fresh runs are put is = record {
   f = f;
   notes = notes;
   pace = pace;
@@ -44,18 +44,17 @@ report_is options line line' f notes pace before text end address long fresh run
     believed_over = believes_over options f runs.parts address long runs.are;
     notes_are = are;
   };
-  text_is = put ∙ ap (λ list. list ++ probe_text f notes pace) empty;
+  text_is = put;
   end_is = is;
 }
 
--- the same of a line that was noted, where the report could be put
-pub report_from : {E : Type 0} (options : ProbeOptions) (line line' first : Option (List Item)) (f : Findings) (notes : Noted) (pace : Pace) (before text : List ℕ) (r : Result ProbeEnd E) →
+-- the same of a line that was noted
+pub report_from : (options : ProbeOptions) (line line' first : Option (List Item)) (f : Findings) (notes : Noted) (pace : Pace) (text : List ℕ) (end : ProbeEnd) →
     IsAddress options.address → options.patience < 2 ^ 32 → IsAsTold line [] → line ≡ first → OnLine (IsProbe options f) line line' → AreNotesSince first line' notes →
-    before ≡ [] → OnOk r (text ≡ before ++ probe_text f notes pace) → IfOk r (λ end. end ≡ probe_end f notes.prompt) → IfOk r (IsReport options line line' text)
-report_from {E} options line line' first f notes pace before text (Err e) address long fresh opening runs are empty put is = tt
-report_from {E} options line line' first f notes pace before text (Ok end) address long fresh opening runs are empty put is =
-    report_is options line line' f notes pace before text end address long fresh runs
-    (subst (λ (o : Option (List Item)). AreNotesSince o line' notes) (sym opening) are) empty put is
+    text ≡ probe_text f notes pace → end ≡ probe_end f notes.prompt → IsReport options line line' text end
+report_from options line line' first f notes pace text end address long fresh opening runs are put is =
+    report_is options line line' f notes pace text end address long fresh runs
+    (subst (λ (o : Option (List Item)). AreNotesSince o line' notes) (sym opening) are) put is
 
 -- ---- what is written of it
 
@@ -96,7 +95,3 @@ pub wanting_is : {L : Type 0} (tell : Line L) (options : ProbeOptions) (before a
 wanting_is {L} tell options before after Memory is same = is
 wanting_is {L} tell options before after Connect is same = absurd (cc same)
 wanting_is {L} tell options before after other is same = absurd is
-
--- a probe that made all of its runs was broken off where its report has no room
-pub broken_off_behind : (options : ProbeOptions) (f : Findings) (line line' : Option (List Item)) → OnLine (IsProbe options f) line line' → OnLine (IsBrokenOff options) line line'
-broken_off_behind options f line line' runs = record { parts = runs.parts; are = inr (inr (f, runs.are)); on_line = runs.on_line }

@@ -80,8 +80,6 @@ pub record IsUnsearched (options : ProbeOptions) (parts : List (List Item)) : Ty
   pub tried : Made (is_number f.first) (λ attempt. One (IsTrialOf options (number_in f.first) attempt)) f.trial in_trial
   pub looked_again : Made (goes_on f.trial) (λ sighting. One (LooksAt options sighting)) f.second in_second
 
--- where a probe may be broken off: behind its first look, with no digit typed; behind a second look that read the same number; or
--- behind all of its runs
+-- where a probe may be broken off: behind its first look, with no digit typed, or behind a second look that read the same number
 abbrev pub IsBrokenOff : ProbeOptions → List (List Item) → Type 0
-IsBrokenOff options parts =
-    ((sighting : Sighting) × One (LooksAt options sighting) parts) ⊎ (IsUnsearched options parts ⊎ ((f : Findings) × IsProbe options f parts))
+IsBrokenOff options parts = ((sighting : Sighting) × One (LooksAt options sighting) parts) ⊎ IsUnsearched options parts

@@ -1,10 +1,9 @@
 //! The command `probe`.
-ghost use Rattle.std.specs.Prelude.{◌≡◌, ◌≤◌, [], vec_capacity, IfErr, IfOk, OnErr, OnOk};
+ghost use Rattle.std.specs.Prelude.{◌≡◌, [], IfErr, IfOk, OnErr, OnOk};
 ghost use Rattle.load_devices.specs.Told.{Gains};
 ghost use Rattle.console_lines.specs.Dialling.{asked_once};
 ghost use Rattle.tape_values.specs.Told.{IsAsTold};
 ghost use Rattle.reading_core.specs.Addresses.{IsAddress};
-ghost use Rattle.probe_report.specs.ProbeText.{longest_report};
 ghost use Rattle.console_lines.specs.Console.{console_told};
 ghost use Rattle.machine_probe.specs.Follow.{IsBrokenOff};
 ghost use Rattle.machine_probe.specs.Probe.{IsReport, IsReportOver, IsProbeReported, IsProbeReportedOver};
@@ -19,7 +18,7 @@ use crate::runs::{Lookers, make_runs};
 use byte_io::write_and_flush;
 use console_lines::Reach;
 use load_devices::Line;
-use probe_report::{LONGEST_REPORT, ProbeEnd, put_report};
+use probe_report::{ProbeEnd, Report, put_report};
 use std::alloc::{AllocError, Global};
 use std::io::Write;
 use std::marker::Brand;
@@ -58,24 +57,23 @@ pub fn probe<R: Reach, W: Write, C: Clock>(
     ensures wanting { IfErr result (λ fault. fault ≡ ProbeFault.Memory →
         IsWanting R.Line.Line options (way_told R.Reach console.old) (way_told R.Reach console.new)) }
 {
-    let mut report = Vec::with_capacity(alloc, LONGEST_REPORT)?;
+    let mut report = Report::new();
     let end = gather(alloc, options, console, clock, &mut report)?;
     write_and_flush(out, &report)?;
     Ok(end)
 }
 
-// Reaches the console, makes the probe, and puts its report into an empty text that has room for it. Everything that fails
+// Reaches the console, makes the probe, and puts its report into an empty text. Everything that fails
 // here comes before anything was reported.
 fn gather<R: Reach, C: Clock>(
     alloc: Global,
     options: ProbeOptions,
     console: &mut R,
     clock: &C,
-    report: &mut Vec<u8>,
+    report: &mut Report,
 ) -> Result<ProbeEnd, ProbeFault>
     requires address { IsAddress options.address }
     requires empty { report.old.items ≡ [] }
-    requires room { longest_report ≤ vec_capacity report.old }
     ensures report { IfOk result (IsReportOver R.Line.Line options (R.lines console.old) (R.lines console.new) report.new.items) }
     ensures asked { OnOk result (Gains (R.asked console.old) (R.asked console.new) (asked_once (R.call console.old))) }
     ensures call { R.call console.new ≡ R.call console.old }
@@ -101,14 +99,13 @@ fn report_noted<L: Line, C: Clock, E: FirstTold>(
     options: ProbeOptions,
     line: L,
     clock: &C,
-    report: &mut Vec<u8>,
+    report: &mut Report,
 ) -> (Result<ProbeEnd, AllocError>, L)
     requires address { IsAddress options.address }
     requires lookers { AreLookers options lookers }
     requires opening { L.told line ≡ E.told }
     requires fresh { IsAsTold (L.told line) [] }
     requires empty { report.old.items ≡ [] }
-    requires room { longest_report ≤ vec_capacity report.old }
     ensures report { IfOk result.0 (IsReport options (L.told line) (L.told result.1) report.new.items) }
     ensures wanting { OnErr result.0 (OnLine (IsBrokenOff options) (L.told line) (L.told result.1)) }
 {
@@ -123,17 +120,16 @@ fn report_runs<L: Line, C: Clock, E: FirstTold>(
     lookers: Lookers,
     options: ProbeOptions,
     line: &mut NotedLine<'_, L, C, E>,
-    report: &mut Vec<u8>,
+    report: &mut Report,
 ) -> Result<ProbeEnd, AllocError>
     requires address { IsAddress options.address }
     requires lookers { AreLookers options lookers }
     requires opening { L.told line.old ≡ E.told }
     requires fresh { IsAsTold (L.told line.old) [] }
     requires empty { report.old.items ≡ [] }
-    requires room { longest_report ≤ vec_capacity report.old }
     ensures report { IfOk result (IsReport options (L.told line.old) (L.told line.new) report.new.items) }
     ensures wanting { OnErr result (OnLine (IsBrokenOff options) (L.told line.old) (L.told line.new)) }
 {
     let findings = make_runs(alloc, lookers, options, line)?;
-    put_report(report, &findings, line.notes(), line.pace())
+    Ok(put_report(report, &findings, line.notes(), line.pace()))
 }

@@ -77,7 +77,3 @@ probe_text f notes pace =
     ++ trust_lines f f.first
     ++ memory_lines f.search pace
     ++ line (codes "end " ++ end_name (probe_end f notes.prompt))
-
--- more bytes than that has
-abbrev pub longest_report : ℕ
-longest_report = 1000

@@ -1,53 +1,66 @@
 //! What a probe prints of what it heard, where no answer fitted.
-ghost use Rattle.std.specs.Prelude.{◌≡◌, ◌++◌, OnOk};
+ghost use Rattle.std.specs.Prelude.{◌≡◌, ◌+◌, ◌*◌, ◌≤◌, ◌++◌, length};
 ghost use Rattle.std.specs.List.{flat_map};
+ghost use Rattle.arrayvec.specs.ArrayVec.{array_vec_len};
 ghost use Rattle.byte_io.specs.Text.{line};
 ghost use Rattle.probe_report.specs.HeardText.{heard_heading, heard_lines, heard_text, help_text, lines_with, octal_escape, quoted, readable};
 
 use crate::notes::Notes;
 use crate::probe_end::ProbeEnd;
-use std::alloc::AllocError;
+use crate::report::Report;
+use byte_io::push_bytes;
 
-/// Puts what was heard last and which heading helps, where a probe ended without an answer that fits. The
-/// error is want of memory.
-pub(crate) fn put_heard(text: &mut Vec<u8>, end: ProbeEnd, notes: &Notes) -> Result<(), AllocError>
-    ensures { OnOk result (text.new.items ≡ text.old.items ++ heard_lines end notes.now) }
+/// Puts what was heard last and which heading helps, where a probe ended without an answer that fits.
+pub(crate) fn push_heard(text: &mut Report, end: ProbeEnd, notes: &Notes)
+    requires { array_vec_len text.old ≤ 100 }
+    ensures items { text.new.items ≡ text.old.items ++ heard_lines end notes.now }
+    ensures length { array_vec_len text.new ≤ array_vec_len text.old + 249 }
 {
     match end {
-        ProbeEnd::NoPrompt | ProbeEnd::GaveUp => put_lines(text, heading(notes), notes),
-        ProbeEnd::TurnsOver => put_lines(text, b"It never falls silent", notes),
+        ProbeEnd::NoPrompt | ProbeEnd::GaveUp => push_lines(text, heading(notes), notes),
+        ProbeEnd::TurnsOver => push_lines(text, b"It never falls silent", notes),
         ProbeEnd::Probed | ProbeEnd::NotTrusted | ProbeEnd::NoWord(_) | ProbeEnd::LineFailed(_) =>
-            Ok(()),
+            {}
     }
 }
 
-fn put_lines(text: &mut Vec<u8>, heading: &[u8], notes: &Notes) -> Result<(), AllocError>
-    ensures { OnOk result (text.new.items ≡ text.old.items ++ lines_with heading.now notes.now) }
+fn push_lines(text: &mut Report, heading: &[u8], notes: &Notes)
+    requires room { array_vec_len text.old ≤ 100 }
+    requires heading { length heading.now ≤ 30 }
+    ensures items { text.new.items ≡ text.old.items ++ lines_with heading.now notes.now }
+    ensures length { array_vec_len text.new ≤ array_vec_len text.old + 249 }
 {
-    put_heard_text(text, notes)?;
-    text.extend_from_slice(b"\n")?;
-    put_help(text, heading)
+    push_heard_text(text, notes);
+    push_bytes(text, b"\n");
+    push_help(text, heading);
 }
 
-fn put_help(text: &mut Vec<u8>, heading: &[u8]) -> Result<(), AllocError>
-    ensures { OnOk result (text.new.items ≡ text.old.items ++ line (help_text heading.now)) }
+fn push_help(text: &mut Report, heading: &[u8])
+    requires room { array_vec_len text.old ≤ 300 }
+    requires heading { length heading.now ≤ 30 }
+    ensures items { text.new.items ≡ text.old.items ++ line (help_text heading.now) }
+    ensures length { array_vec_len text.new ≤ array_vec_len text.old + 61 }
 {
-    text.extend_from_slice(b"help: docs/REAL-MACHINE.md, ")?;
-    put_quoted(text, heading)?;
-    text.extend_from_slice(b"\n")
+    push_bytes(text, b"help: docs/REAL-MACHINE.md, ");
+    push_quoted(text, heading);
+    push_bytes(text, b"\n");
 }
 
-fn put_quoted(text: &mut Vec<u8>, heading: &[u8]) -> Result<(), AllocError>
-    ensures { OnOk result (text.new.items ≡ text.old.items ++ quoted heading.now) }
+fn push_quoted(text: &mut Report, heading: &[u8])
+    requires room { array_vec_len text.old ≤ 400 }
+    requires heading { length heading.now ≤ 30 }
+    ensures items { text.new.items ≡ text.old.items ++ quoted heading.now }
+    ensures length { array_vec_len text.new ≤ array_vec_len text.old + 32 }
 {
-    text.extend_from_slice(b"\"")?;
-    text.extend_from_slice(heading)?;
-    text.extend_from_slice(b"\"")
+    push_bytes(text, b"\"");
+    push_bytes(text, heading);
+    push_bytes(text, b"\"");
 }
 
 // The heading that helps, where the line fell silent.
 fn heading(notes: &Notes) -> &'static [u8]
-    ensures { result.now ≡ heard_heading notes.now }
+    ensures is { result.now ≡ heard_heading notes.now }
+    ensures length { length result.now ≤ 30 }
 {
     if notes.tail().is_empty() {
         b"Nothing answers"
@@ -60,43 +73,50 @@ fn heading(notes: &Notes) -> &'static [u8]
     }
 }
 
-fn put_heard_text(text: &mut Vec<u8>, notes: &Notes) -> Result<(), AllocError>
-    ensures { OnOk result (text.new.items ≡ text.old.items ++ heard_text notes.now) }
+fn push_heard_text(text: &mut Report, notes: &Notes)
+    requires { array_vec_len text.old ≤ 100 }
+    ensures items { text.new.items ≡ text.old.items ++ heard_text notes.now }
+    ensures length { array_vec_len text.new ≤ array_vec_len text.old + 187 }
 {
     if notes.tail().is_empty() {
-        return text.extend_from_slice(b"heard nothing");
+        push_bytes(text, b"heard nothing");
+        return;
     }
     if notes.only_echoes() {
-        text.extend_from_slice(b"heard only what was typed: ")?;
+        push_bytes(text, b"heard only what was typed: ");
     } else {
-        text.extend_from_slice(b"heard ")?;
+        push_bytes(text, b"heard ");
     }
-    put_readable(text, notes.tail())
+    push_readable(text, notes.tail());
 }
 
-fn put_readable(text: &mut Vec<u8>, characters: &[u8]) -> Result<(), AllocError>
-    ensures { OnOk result (text.new.items ≡ text.old.items ++ flat_map readable characters.now) }
+fn push_readable(text: &mut Report, characters: &[u8])
+    requires room { array_vec_len text.old ≤ 200 }
+    requires few { length characters.now ≤ 40 }
+    ensures items { text.new.items ≡ text.old.items ++ flat_map readable characters.now }
+    ensures length { array_vec_len text.new ≤ array_vec_len text.old + 160 }
 {
     for character in characters {
-        put_character(text, *character)?;
+        push_character(text, *character);
     }
-    Ok(())
 }
 
 // Puts a character as it is shown.
-fn put_character(text: &mut Vec<u8>, c: u8) -> Result<(), AllocError>
-    ensures { OnOk result (text.new.items ≡ text.old.items ++ readable c) }
+fn push_character(text: &mut Report, c: u8)
+    requires { array_vec_len text.old ≤ 400 }
+    ensures items { text.new.items ≡ text.old.items ++ readable c }
+    ensures length { array_vec_len text.new ≤ array_vec_len text.old + 4 }
 {
     if c == b'\r' {
-        text.extend_from_slice(b"\\r")
+        push_bytes(text, b"\\r");
     } else if c == b'\n' {
-        text.extend_from_slice(b"\\n")
+        push_bytes(text, b"\\n");
     } else if c == b'\\' {
-        text.extend_from_slice(b"\\\\")
+        push_bytes(text, b"\\\\");
     } else if c < 32 || c >= 127 {
-        text.extend_from_slice(&octal_escape(c))
+        push_bytes(text, &octal_escape(c));
     } else {
-        text.extend_from_slice(&[c])
+        push_bytes(text, &[c]);
     }
 }
 

@@ -1,5 +1,5 @@
 //! What is noted of what is said on a line.
-ghost use Rattle.std.specs.Prelude.{◌≡◌, ℕ, ◌==◌, ◌&&◌, ◌||◌, List, [], ◌∷◌, ◌++◌};
+ghost use Rattle.std.specs.Prelude.{◌≡◌, ◌≤◌, ℕ, ◌==◌, ◌&&◌, ◌||◌, List, [], ◌∷◌, ◌++◌, length};
 ghost use Rattle.host_core.specs.Console.{prompt};
 ghost use Rattle.load_devices.specs.declared.item.Item.{Item};
 ghost use Rattle.probe_report.specs.Notes.{echoes, last_of, notes_of, tail_length};
@@ -80,7 +80,8 @@ impl Notes {
 
     /// The last 40 characters that were heard, the oldest first.
     pub(crate) fn tail(&self) -> &[u8]
-        ensures { result.now ≡ self.now.tail }
+        ensures is { result.now ≡ self.now.tail }
+        ensures few { length result.now ≤ 40 }
     {
         &self.tail
     }

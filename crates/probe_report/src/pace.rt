@@ -1,9 +1,10 @@
 //! How fast a probe went, and how long a load would take.
-ghost use Rattle.std.specs.Prelude.{◌≡◌, ◌<◌, ◌^◌, ◌++◌, OnOk};
+ghost use Rattle.std.specs.Prelude.{◌≡◌, ◌+◌, ◌<◌, ◌≤◌, ◌^◌, ◌++◌};
+ghost use Rattle.arrayvec.specs.ArrayVec.{array_vec_len};
 ghost use Rattle.probe_report.specs.Pace.{duration_text, key_lines, load_lines, nearest};
 
-use std::alloc::AllocError;
-use std::io::Write;
+use crate::report::Report;
+use byte_io::{push_bytes, push_decimal};
 
 /// How fast the looks of a probe went, where a clock had the time.
 #[derive(Clone, Copy, Debug, PartialEq, Eq)]
@@ -22,53 +23,56 @@ const MINUTE: u64 = 60 * SECOND;
 
 const HOUR: u64 = 60 * MINUTE;
 
-/// Puts the line of the time that a key takes, where it is known. The error is want of memory.
-pub(crate) fn put_key(text: &mut Vec<u8>, pace: Pace) -> Result<(), AllocError>
-    ensures { OnOk result (text.new.items ≡ text.old.items ++ key_lines pace.key) }
+/// Puts the line of the time that a key takes, where it is known.
+pub(crate) fn push_key(text: &mut Report, pace: Pace)
+    requires { array_vec_len text.old ≤ 750 }
+    ensures items { text.new.items ≡ text.old.items ++ key_lines pace.key }
+    ensures length { array_vec_len text.new ≤ array_vec_len text.old + 49 }
 {
     let Some(key) = pace.key else {
-        return Ok(());
+        return;
     };
     let tenths = nearest(u64::from(key), 100);
-    let (whole, tenth) = (tenths / 10, tenths % 10);
-    match writeln!(text, "key {whole}.{tenth} ms") {
-        Ok(()) => Ok(()),
-        Err(_) => Err(AllocError),
-    }
+    push_bytes(text, b"key ");
+    push_decimal(text, tenths / 10);
+    push_bytes(text, b".");
+    push_decimal(text, tenths % 10);
+    push_bytes(text, b" ms\n");
 }
 
-/// Puts the line of the time that a load of so many words takes, where it is known. The error is want of
-/// memory.
-pub(crate) fn put_load(text: &mut Vec<u8>, pace: Pace, words: u16) -> Result<(), AllocError>
-    ensures { OnOk result (text.new.items ≡ text.old.items ++ load_lines pace.look words) }
+/// Puts the line of the time that a load of so many words takes, where it is known.
+pub(crate) fn push_load(text: &mut Report, pace: Pace, words: u16)
+    requires { array_vec_len text.old ≤ 800 }
+    ensures items { text.new.items ≡ text.old.items ++ load_lines pace.look words }
+    ensures length { array_vec_len text.new ≤ array_vec_len text.old + 85 }
 {
     let Some(look) = pace.look else {
-        return Ok(());
+        return;
     };
     let time = u64::from(look) * 62 * u64::from(words);
-    match write!(text, "a load of {words} words takes ") {
-        Ok(()) => (),
-        Err(_) => return Err(AllocError),
-    }
-    put_duration(text, time)?;
-    text.extend_from_slice(b" at this pace\n")
+    push_bytes(text, b"a load of ");
+    push_decimal(text, words.into());
+    push_bytes(text, b" words takes ");
+    push_duration(text, time);
+    push_bytes(text, b" at this pace\n");
 }
 
 // Puts a time that is given in twenty-fifths of a microsecond.
-fn put_duration(text: &mut Vec<u8>, time: u64) -> Result<(), AllocError>
-    requires { time < 2 ^ 63 }
-    ensures { OnOk result (text.new.items ≡ text.old.items ++ duration_text time) }
+fn push_duration(text: &mut Report, time: u64)
+    requires room { array_vec_len text.old ≤ 900 }
+    requires time { time < 2 ^ 63 }
+    ensures items { text.new.items ≡ text.old.items ++ duration_text time }
+    ensures length { array_vec_len text.new ≤ array_vec_len text.old + 28 }
 {
-    let (count, unit) = if time < 120 * SECOND {
-        (nearest(time, SECOND), "seconds")
+    if time < 120 * SECOND {
+        push_decimal(text, nearest(time, SECOND));
+        push_bytes(text, b" seconds");
     } else if time < 120 * MINUTE {
-        (nearest(time, MINUTE), "minutes")
+        push_decimal(text, nearest(time, MINUTE));
+        push_bytes(text, b" minutes");
     } else {
-        (nearest(time, HOUR), "hours")
-    };
-    match write!(text, "{count} {unit}") {
-        Ok(()) => Ok(()),
-        Err(_) => Err(AllocError),
+        push_decimal(text, nearest(time, HOUR));
+        push_bytes(text, b" hours");
     }
 }
 

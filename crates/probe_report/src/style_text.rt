@@ -1,61 +1,67 @@
 //! What a probe prints of a console's style.
-ghost use Rattle.std.specs.Prelude.{◌≡◌, ◌++◌, codes, decimal, OnOk};
+ghost use Rattle.std.specs.Prelude.{◌≡◌, ◌+◌, ◌≤◌, ◌++◌, length, codes, decimal};
+ghost use Rattle.arrayvec.specs.ArrayVec.{array_vec_len};
 ghost use Rattle.byte_io.specs.Text.{line};
 ghost use Rattle.probe_report.specs.StyleText.{is_done, is_seen, mishap_text, mixed_lines, number_lines, seen_lines, style_lines, style_of};
 
 use crate::findings::Attempt;
+use crate::report::Report;
+use byte_io::{push_bytes, push_decimal};
 use odt_machine::Style;
-use std::alloc::AllocError;
-use std::io::Write;
 use trial_core::{Seen, Sight};
 
-/// Puts the lines of the style that a trial saw, if there was one. The error is want of memory.
-pub(crate) fn put_style(text: &mut Vec<u8>, trial: Option<Attempt>) -> Result<(), AllocError>
-    ensures { OnOk result (text.new.items ≡ text.old.items ++ style_lines trial) }
+/// Puts the lines of the style that a trial saw, if there was one.
+pub(crate) fn push_style(text: &mut Report, trial: Option<Attempt>)
+    requires { array_vec_len text.old ≤ 300 }
+    ensures items { text.new.items ≡ text.old.items ++ style_lines trial }
+    ensures length { array_vec_len text.new ≤ array_vec_len text.old + 314 }
 {
     match trial {
-        Some(attempt) => put_seen(text, attempt.seen, attempt.had_mishap),
-        None => Ok(()),
+        Some(attempt) => push_seen(text, attempt.seen, attempt.had_mishap),
+        None => {}
     }
 }
 
-fn put_seen(text: &mut Vec<u8>, seen: Seen, had_mishap: bool) -> Result<(), AllocError>
-    ensures { OnOk result (text.new.items ≡ text.old.items ++ seen_lines seen had_mishap) }
+fn push_seen(text: &mut Report, seen: Seen, had_mishap: bool)
+    requires { array_vec_len text.old ≤ 300 }
+    ensures items { text.new.items ≡ text.old.items ++ seen_lines seen had_mishap }
+    ensures length { array_vec_len text.new ≤ array_vec_len text.old + 314 }
 {
-    put_number(text, seen)?;
-    put_mixed(text, b"the second CR", seen.two_returns, had_mishap)?;
-    put_mixed(
+    push_number(text, seen);
+    push_mixed(text, b"the second CR", seen.two_returns, had_mishap);
+    push_mixed(
         text,
         b"the space before a word",
         seen.space_before,
         had_mishap,
-    )?;
-    put_mixed(
+    );
+    push_mixed(
         text,
         b"the echo of an illegal key",
         seen.echo_illegal,
         had_mishap,
-    )
+    );
 }
 
 // Puts the style's number, where all of it was seen.
-fn put_number(text: &mut Vec<u8>, seen: Seen) -> Result<(), AllocError>
-    ensures { OnOk result (text.new.items ≡ text.old.items ++ number_lines seen) }
+fn push_number(text: &mut Report, seen: Seen)
+    requires { array_vec_len text.old ≤ 300 }
+    ensures items { text.new.items ≡ text.old.items ++ number_lines seen }
+    ensures length { array_vec_len text.new ≤ array_vec_len text.old + 27 }
 {
     if is_seen(seen.space_before) && is_seen(seen.two_returns) && is_seen(seen.echo_illegal) {
-        put_style_number(text, style_of(seen).number())
-    } else {
-        Ok(())
+        push_style_number(text, style_of(seen).number());
     }
 }
 
-fn put_style_number(text: &mut Vec<u8>, number: u8) -> Result<(), AllocError>
-    ensures { OnOk result (text.new.items ≡ text.old.items ++ line (codes "style " ++ decimal number)) }
+fn push_style_number(text: &mut Report, number: u8)
+    requires { array_vec_len text.old ≤ 300 }
+    ensures items { text.new.items ≡ text.old.items ++ line (codes "style " ++ decimal number) }
+    ensures length { array_vec_len text.new ≤ array_vec_len text.old + 27 }
 {
-    match writeln!(text, "style {number}") {
-        Ok(()) => Ok(()),
-        Err(_) => Err(AllocError),
-    }
+    push_bytes(text, b"style ");
+    push_decimal(text, number.into());
+    push_bytes(text, b"\n");
 }
 
 // The style that was seen. What comes from time to time counts as there.
@@ -88,29 +94,27 @@ fn is_done(sight: Sight) -> bool
 }
 
 // Puts the line of a thing that was seen both ways.
-fn put_mixed(
-    text: &mut Vec<u8>,
-    name: &[u8],
-    sight: Sight,
-    had_mishap: bool,
-) -> Result<(), AllocError>
-    ensures { OnOk result (text.new.items ≡ text.old.items ++ mixed_lines name.now sight had_mishap) }
+fn push_mixed(text: &mut Report, name: &[u8], sight: Sight, had_mishap: bool)
+    requires room { array_vec_len text.old ≤ 600 }
+    requires name { length name.now ≤ 26 }
+    ensures items { text.new.items ≡ text.old.items ++ mixed_lines name.now sight had_mishap }
+    ensures length { array_vec_len text.new ≤ array_vec_len text.old + length name.now + 75 }
 {
     let Sight::Mixed = sight else {
-        return Ok(());
+        return;
     };
-    text.extend_from_slice(name)?;
-    text.extend_from_slice(b" comes from time to time")?;
-    put_mishap(text, had_mishap)?;
-    text.extend_from_slice(b"\n")
+    push_bytes(text, name);
+    push_bytes(text, b" comes from time to time");
+    push_mishap(text, had_mishap);
+    push_bytes(text, b"\n");
 }
 
-fn put_mishap(text: &mut Vec<u8>, had_mishap: bool) -> Result<(), AllocError>
-    ensures { OnOk result (text.new.items ≡ text.old.items ++ mishap_text had_mishap) }
+fn push_mishap(text: &mut Report, had_mishap: bool)
+    requires { array_vec_len text.old ≤ 700 }
+    ensures items { text.new.items ≡ text.old.items ++ mishap_text had_mishap }
+    ensures length { array_vec_len text.new ≤ array_vec_len text.old + 50 }
 {
     if had_mishap {
-        text.extend_from_slice(b", which says nothing of the console after a mishap")
-    } else {
-        Ok(())
+        push_bytes(text, b", which says nothing of the console after a mishap");
     }
 }

@@ -4,6 +4,7 @@ ghost use Rattle.record_file.specs.DiskStep.{Look, LookAtName, FindSoleFile, Fin
 ghost use Rattle.load_devices.specs.Told.{Tells};
 ghost use Rattle.record_file.specs.DiskStep.{DiskStep, answered, resolved, step_by};
 
+use crate::file_id::FileId;
 use crate::locks::Locks;
 use std::alloc::Global;
 use std::fs::{File, Metadata, OpenFile, OpenOptions};
@@ -139,7 +140,7 @@ impl<F: Locks> Disk for &F {
 
     fn has_name(&mut self, name: &str, file: &F::File) -> bool {
         match (fs::symlink_metadata(*self, name), file.metadata()) {
-            (Ok(named), Ok(metadata)) => is_same(&named, &metadata),
+            (Ok(named), Ok(metadata)) => FileId::from(&named) == FileId::from(&metadata),
             _ => false,
         }
     }
@@ -179,11 +180,6 @@ impl<F: Locks> Disk for &F {
     fn sync_file(&mut self, file: &F::File) -> io::Result<()> {
         sync(file)
     }
-}
-
-// No two files that are there have the same device and inode.
-fn is_same(one: &Metadata, other: &Metadata) -> bool {
-    one.dev() == other.dev() && one.ino() == other.ino()
 }
 
 // A pipe, a terminal or a device has no disk behind it, and says so.

@@ -11,6 +11,7 @@ ghost use Rattle.record_file.specs.Reading.{IsWayFound, kind_after};
 ghost use Rattle.record_file.specs.RecordFault.{IsUnread};
 
 use crate::disk::{Access, Disk};
+use crate::file_id::FileId;
 use crate::in_place::changes_no_byte;
 use crate::made::Made;
 use crate::old_record::Writable;
@@ -20,26 +21,10 @@ use load_record::RECORD_LIMIT;
 use std::alloc::Global;
 use std::fs::{Metadata, OpenFile};
 use std::io::{ErrorKind, Read, Seek, SeekFrom};
-use std::os::unix::fs::{FileTypeExt, MetadataExt};
+use std::os::unix::fs::FileTypeExt;
 
 // How often a file is opened again that somebody replaces between its opening and its lock.
 const ATTEMPTS: u32 = 8;
-
-// Which file it is, whatever its names: no two files that are there have the same numbers.
-#[derive(Clone, Copy, PartialEq, Eq)]
-struct FileId {
-    device: u64,
-    inode: u64,
-}
-
-impl FileId {
-    fn of(metadata: &Metadata) -> FileId {
-        FileId {
-            device: metadata.dev(),
-            inode: metadata.ino(),
-        }
-    }
-}
 
 /// A file that was opened and is not held yet.
 #[derive(Drop)]
@@ -185,9 +170,9 @@ fn hold_opened<D: Disk>(
     if !is_free(disk, name, &opened.file, device) {
         return Err(RecordFault::InUse);
     }
-    let id = FileId::of(&metadata);
+    let id = FileId::from(&metadata);
     match disk.look(name) {
-        Ok(named) if FileId::of(&named) == id => Ok(Try::Held(HeldFile {
+        Ok(named) if FileId::from(&named) == id => Ok(Try::Held(HeldFile {
             file: opened.file,
             id,
             device,
@@ -215,7 +200,7 @@ pub(crate) fn is_named<D: Disk>(disk: &mut D, name: &str, held: &HeldFile<D::Fil
     ensures asked { HasAsked (D.asked disk.old) (D.asked disk.new) (IsNameSeen name.now result) }
 {
     match disk.look(name) {
-        Ok(metadata) => FileId::of(&metadata) == held.id,
+        Ok(metadata) => FileId::from(&metadata) == held.id,
         Err(_) => false,
     }
 }

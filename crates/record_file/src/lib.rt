@@ -15,6 +15,7 @@ mod beside;
 mod disk;
 mod disk_record;
 mod durable;
+mod file_id;
 mod held_file;
 mod in_place;
 mod locks;

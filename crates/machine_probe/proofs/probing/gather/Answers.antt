@@ -1,4 +1,4 @@
-use Rattle.std.proofs.Common.{◌≡◌, IfOk, OnErr, [], ◌∷◌, inl, inr, refl, sym, subst}
+use Rattle.std.proofs.Common.{IfOk, OnErr, [], ◌∷◌, inl, inr, refl, sym, subst}
 use Rattle.load_devices.specs.Devices.{line_told}
 use Rattle.load_devices.specs.Told.{Gains}
 use Rattle.console_lines.specs.Dialling.{asked_once}

@@ -1,8 +1,0 @@
--- What is put so far shows the characters so far.
-use Rattle.std.proofs.Common.{◌≡◌, ◌++◌, take}
-use Rattle.std.specs.List.{flat_map}
-use Rattle.probe_report.specs.HeardText.{readable}
-use Rattle.probe_report.proofs.heard_text.put_readable.Given as goal
-
-abbrev pub invariant-loop-character : goal.invariant-loop-character
-invariant-loop-character l = l.text.items ≡ l.initial.text.items ++ flat_map readable (take l.character-index l.characters)

@@ -7,6 +7,7 @@ import pty
 import re
 import shutil
 import socket
+import subprocess
 import sys
 import tempfile
 import time
@@ -16,7 +17,7 @@ from concurrent.futures import ProcessPoolExecutor
 sys.path.insert(0, os.path.join(os.path.dirname(os.path.dirname(os.path.realpath(__file__))), "tools"))
 import odt_peer
 from lsi11 import RunningMachine
-from outside import FIRST, TOP, Answer, HeldUp, bytes_of, run, run_often
+from outside import FIRST, PROGRAM, TOP, Answer, HeldUp, bytes_of, run, run_often
 
 # The tapes that the tests name, by the names that they have in a test's folder.
 TAPES = {
@@ -241,6 +242,27 @@ class Case(unittest.TestCase):
         words = words.split() if isinstance(words, str) else words
         return run(words, keys, cwd=self.room, seconds=300, **more)
 
+    def begin(self, words):
+        """Begins a run of the program in the test's folder, which the test then meets on its way, and which ends with it."""
+        process = subprocess.Popen([PROGRAM, *words], cwd=self.room, stdin=subprocess.DEVNULL, stdout=subprocess.PIPE, stderr=subprocess.PIPE, text=True)
+        self.addCleanup(self.let_go, process)
+        return process
+
+    def let_go(self, process):
+        """Ends a run that has not ended."""
+        process.kill()
+        process.wait()
+        for end in (process.stdout, process.stderr):
+            if end:
+                end.close()
+
+    def until(self, is_so):
+        """Waits until something is so."""
+        end = time.monotonic() + 60
+        while not is_so():
+            self.assertLess(time.monotonic(), end, "it never came to that")
+            time.sleep(0.002)
+
     def is_so(self, given, wanted):
         """Asserts that what came is what was wanted, and shows no more of either than a person would read: unittest
         would look for what differs in a mebibyte, too, and not come to an end."""
@@ -253,11 +275,7 @@ class Case(unittest.TestCase):
 
     def console_at(self, machine, **named):
         """Puts a machine behind a port; `named` says after how many characters the line breaks."""
-        peer = odt_peer.Peer(machine, **named)
-        self.addCleanup(peer.close)
-        self.addCleanup(peer.settle)
-        peer.address = peer.name
-        return peer
+        return self.until_the_end(odt_peer.Peer(machine, **named))
 
     def at_a_terminal(self, load):
         """Does a load whose standard error is a terminal, which it is given; returns the answer, and all that came to
@@ -278,11 +296,14 @@ class Case(unittest.TestCase):
 
     def device_at(self, machine, **named):
         """Puts a machine at a serial device; `named` says how it is set, and after how many characters it hangs up."""
-        device = odt_peer.Device(machine, **named)
-        self.addCleanup(device.close)
-        self.addCleanup(device.settle)
-        device.address = device.name
-        return device
+        return self.until_the_end(odt_peer.Device(machine, **named))
+
+    def until_the_end(self, line):
+        """Closes a line to a machine once the test is over."""
+        self.addCleanup(line.close)
+        self.addCleanup(line.settle)
+        line.address = line.name
+        return line
 
     def lines(self, machine, **named):
         """The two kinds of line to such a machine, each with one of its own."""
@@ -300,6 +321,20 @@ class Case(unittest.TestCase):
         """Asserts that the test's folder has these files, and no others but tapes."""
         there = {name: bytes_of(self.path(name)).decode() for name in os.listdir(self.room) if name not in TAPES}
         self.is_so(there, files)
+
+    def leaves_what_is_there(self, refuses, *more):
+        """Asserts that no file that is there becomes another one, whatever it is: `refuses` tries a name, and is told what
+        has to be said of it."""
+        self.put("plain", b"hello")
+        self.put("empty", b"")
+        os.mkdir(self.path("folder"))
+        os.mkfifo(self.path("pipe"))
+        os.symlink("nowhere", self.path("link"))
+        there = set(os.listdir(self.room))
+        for name in ("plain", "empty", "folder", "pipe", "link", "/dev/null", ".", *more):
+            with self.subTest(name):
+                refuses(name, f"{name} is there already")
+        self.is_so((bytes_of(self.path("plain")), bytes_of(self.path("empty")), set(os.listdir(self.room))), (b"hello", b"", there))
 
 
 PROCESSES = 4

@@ -5,14 +5,13 @@ import os
 import select
 import shutil
 import signal
-import subprocess
 import termios
 import time
 import unittest
 from concurrent.futures import ThreadPoolExecutor
 
 from cases import Case, Console, DeafConsole
-from outside import HELLO, NO_OUTPUT, PROGRAM, Answer, bytes_of
+from outside import HELLO, NO_OUTPUT, Answer, bytes_of
 
 # All that is typed at a machine of zeroed memory to load and start first.lda, what is reported, and the record.
 WHOLE = "Z001000/011064\r001000/\r001000G"
@@ -53,34 +52,12 @@ class Devices(Case):
         self.assertLessEqual(device.machine.typed.count("G"), 1)
         return given
 
-    def begin(self, device, words="first.lda", quiet=None):
-        """Begins a load, which a test then meets on its way."""
-        process = subprocess.Popen([PROGRAM, *self.words_of(device, words, quiet)], cwd=self.room, stdin=subprocess.DEVNULL,
-                                   stdout=subprocess.PIPE, stderr=subprocess.PIPE, text=True)
-        self.addCleanup(self.let_go, process)
-        return process
-
-    def let_go(self, process):
-        """Ends a load that has not ended."""
-        process.kill()
-        process.wait()
-        for end in (process.stdout, process.stderr):
-            if end:
-                end.close()
-
     def finish(self, process, seconds=60):
         out, err = process.communicate(timeout=seconds)
         return Answer(process.returncode, out, err)
 
     def was_typed(self, device, keys):
         self.is_so(device.machine.typed, keys)
-
-    def until(self, is_so, seconds=60):
-        """Waits until something is so."""
-        end = time.monotonic() + seconds
-        while not is_so():
-            self.assertLess(time.monotonic(), end, "it never came to that")
-            time.sleep(0.01)
 
 
 class Loads(Devices):
@@ -139,7 +116,7 @@ class Loads(Devices):
         28 words takes some three seconds."""
         shutil.copyfile(HELLO, self.path("hello.lda"))
         device = self.device_at(Console(), baud=9600)
-        process = self.begin(device, "hello.lda", quiet=max(1000, self.quiet))
+        process = self.begin(self.words_of(device, "hello.lda", quiet=max(1000, self.quiet)))
         for keys in (20, 150, 400):
             self.until(lambda keys=keys: len(device.machine.typed) >= keys)
             process.send_signal(signal.SIGSTOP)
@@ -203,7 +180,7 @@ class Refusals(Devices):
     def test_a_second_load(self):
         """It is refused, and the first goes on."""
         device = self.device_at(Console())
-        first = self.begin(device)
+        first = self.begin(self.words_of(device))
         self.until(lambda: is_locked(device))
         self.is_refused(device.name)
         self.ends(self.finish(first), 0, STARTED)
@@ -257,7 +234,7 @@ class Failures(Devices):
     def test_a_hang_up_while_it_listens(self):
         """The quiet time is a minute, and the load is over long before."""
         device = self.device_at(Console())
-        process = self.begin(device, quiet=60000)
+        process = self.begin(self.words_of(device, quiet=60000))
         self.until(lambda: is_locked(device))
         device.hang_up()
         self.ends(self.finish(process, seconds=30), 4, "sent 0 spent 0 verified 0 of 1\nend LineFailed\n", FAILED)
@@ -275,7 +252,7 @@ class Failures(Devices):
         """What the machine prints is typed back at it, for ever: the load types nothing that could change memory, and
         says that it listens."""
         device = self.device_at(Console(), settings="raw echo")
-        process = self.begin(device)
+        process = self.begin(self.words_of(device))
         time.sleep(3)
         self.assertIsNone(process.poll())
         process.kill()
@@ -337,7 +314,7 @@ class Listening(Devices):
     def test_a_hang_up(self):
         """A machine that prints for ever is heard until it hangs up, and that is no fault of the load."""
         device = self.device_at(Console(says=[(0.1, "END PASS\r\n")] * 1000))
-        process = self.begin(device, "first.lda --listen 60")
+        process = self.begin(self.words_of(device, "first.lda --listen 60"))
         self.read(process, STARTED + "END PASS\r\n" * 3)
         device.hang_up()
         rest, err = process.communicate(timeout=60)
@@ -347,7 +324,7 @@ class Listening(Devices):
     def test_each_character_comes_at_once(self):
         """What is said is read before listening is over, and a reader that goes then is told of."""
         device = self.device_at(Console(says=[(0, HELLO_TEXT), (1, HELLO_TEXT)]))
-        process = self.begin(device, "first.lda --listen 60")
+        process = self.begin(self.words_of(device, "first.lda --listen 60"))
         self.read(process, STARTED + HELLO_TEXT)
         process.stdout.close()
         process.stdout = None

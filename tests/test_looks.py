@@ -72,27 +72,6 @@ class Looks(Case):
         self.assertIsNone(re.search(r"/[0-7]|[^0-7/\rZ]", typed), repr(typed))
         self.is_so((line.machine.words == before, line.machine.starts), (True, []))
 
-    def begin(self, line, command):
-        """Begins a look, which a test then meets on its way."""
-        process = subprocess.Popen([PROGRAM, *self.words_of(line, command)], cwd=self.room, stdin=subprocess.DEVNULL,
-                                   stdout=subprocess.PIPE, stderr=subprocess.PIPE, text=True)
-        self.addCleanup(self.let_go, process)
-        return process
-
-    def let_go(self, process):
-        """Ends a look that has not ended."""
-        process.kill()
-        process.wait()
-        process.stdout.close()
-        process.stderr.close()
-
-    def until(self, is_so, seconds=60):
-        """Waits until something is so."""
-        end = time.monotonic() + seconds
-        while not is_so():
-            self.assertLess(time.monotonic(), end, "it never came to that")
-            time.sleep(0.005)
-
     def was_typed(self, line, keys):
         self.is_so(line.machine.typed, keys)
 
@@ -273,16 +252,7 @@ class Files(Looks):
 
     def test_a_file_that_is_there(self):
         """Whatever it is, it is as it was, and nobody is connected to."""
-        self.put("plain", b"hello")
-        self.put("empty", b"")
-        os.mkdir(self.path("folder"))
-        os.mkfifo(self.path("pipe"))
-        os.symlink("nowhere", self.path("link"))
-        there = set(os.listdir(self.room))
-        for name in ("plain", "empty", "folder", "pipe", "link", "first.lda", "/dev/null", "."):
-            with self.subTest(name):
-                self.is_refused(name, f"{name} is there already")
-        self.is_so((bytes_of(self.path("plain")), bytes_of(self.path("empty")), set(os.listdir(self.room))), (b"hello", b"", there))
+        self.leaves_what_is_there(self.is_refused, "first.lda")
 
     def test_it_comes_before_the_connection(self):
         self.put("plain", b"hello")
@@ -321,7 +291,7 @@ class Files(Looks):
     def test_a_file_that_somebody_makes_meanwhile(self):
         """It is as it was, and nothing is reported; the tape stays beside it."""
         line = self.console_at(SlowConsole())
-        process = self.begin(line, "save a.lda LINE 1000 1100")
+        process = self.begin(self.words_of(line, "save a.lda LINE 1000 1100"))
         self.until(lambda: len(line.machine.typed) > 20)
         self.put("a.lda", b"hello")
         out, err = process.communicate(timeout=60)
@@ -331,7 +301,7 @@ class Files(Looks):
     def test_two_saves_of_one_name(self):
         """The second is refused, and the first goes on."""
         line, other = self.console_at(SlowConsole()), self.console_at(Console())
-        process = self.begin(line, "save a.lda LINE 1000 1100")
+        process = self.begin(self.words_of(line, "save a.lda LINE 1000 1100"))
         self.until(lambda: len(line.machine.typed) > 20)
         self.ends(self.look(other, "save a.lda LINE 1000 1000"), 4, "", "ldaodt: a.lda.part is there already\n")
         self.is_so(other.connections, 0)
@@ -450,7 +420,7 @@ class Failures(Looks):
         def trial(keys):
             line = self.device_at(SlowConsole(memory=as_memory(0o1000, words)))
             before = list(line.machine.words)
-            process = self.begin(line, f"save {keys}.lda LINE 1000 1100")
+            process = self.begin(self.words_of(line, f"save {keys}.lda LINE 1000 1100"))
             self.until(lambda: len(line.machine.typed) >= keys)
             process.send_signal(signal.SIGKILL)
             process.wait()
@@ -474,7 +444,7 @@ class Failures(Looks):
         """A device that sends back what it hears never falls silent: nothing is typed but one `Z`."""
         line = self.device_at(Console(), settings="raw echo")
         before = list(line.machine.words)
-        process = self.begin(line, "verify first.lda LINE")
+        process = self.begin(self.words_of(line, "verify first.lda LINE"))
         time.sleep(2)
         self.assertIsNone(process.poll())
         process.kill()
@@ -483,7 +453,7 @@ class Failures(Looks):
 
     def test_a_device_that_a_load_has(self):
         line = self.device_at(SlowConsole())
-        load = self.begin(line, "load first.lda LINE")
+        load = self.begin(self.words_of(line, "load first.lda LINE"))
         self.until(lambda: len(line.machine.typed) > 3)
         given = self.ldaodt(self.words_of(line, "verify first.lda LINE"))
         self.ends(given, 4, "", f"ldaodt: cannot connect to {line.address}\n")

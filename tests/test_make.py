@@ -339,16 +339,10 @@ class Files(Makes):
 
     def test_a_file_that_is_there(self):
         """Whatever it is, it is as it was."""
-        self.put("plain", b"hello")
-        self.put("empty", b"")
-        os.mkdir(self.path("folder"))
-        os.mkfifo(self.path("pipe"))
-        os.symlink("nowhere", self.path("link"))
-        there = set(os.listdir(self.room))
-        for name in ("plain", "empty", "folder", "pipe", "link", "/dev/null", "."):
-            with self.subTest(name):
-                self.ends(self.ldaodt(["make", name], b"1000 1\n"), 4, "", f"ldaodt: {name} is there already\n")
-        self.is_so((bytes_of(self.path("plain")), bytes_of(self.path("empty")), set(os.listdir(self.room))), (b"hello", b"", there))
+        def refuses(name, text):
+            self.ends(self.ldaodt(["make", name], b"1000 1\n"), 4, "", f"ldaodt: {text}\n")
+
+        self.leaves_what_is_there(refuses)
 
     def test_words_are_refused_before_the_file_is_looked_at(self):
         self.put("plain", b"hello")

@@ -205,18 +205,11 @@ class SecondLoads(Shared):
         """While a load waits for silence, and while it connects, which a port that is full makes it do."""
         it = Round(self, "absent", "quiet")
         under_way = it.begin("the same name", ["--quiet", "3000"])
-        self.waits_until(lambda: it.files().get("a.record"))
+        self.until(lambda: it.files().get("a.record"))
         self.is_so(it.load(), it.in_use("the same name"))
         self.is_so(it.files(), {"a.record": "LDAODT 2\n"})
         self.is_so(it.answer(under_way).status, 0)
         self.is_loaded_once(it)
-
-    def waits_until(self, is_so):
-        for _ in range(600):
-            if is_so():
-                return
-            time.sleep(0.1)
-        self.fail("it did not come about within a minute")
 
     def test_while_it_connects(self):
         """A port whose callers nobody takes keeps further ones waiting. Killed there, a first load leaves an empty record."""
@@ -230,7 +223,7 @@ class SecondLoads(Shared):
                     caller.connect_ex(full.getsockname())
                 ours, it.peer.address = it.peer.address, f"127.0.0.1:{full.getsockname()[1]}"
                 under_way = it.begin("the same name", setup=lambda: signal.signal(how, signal.SIG_DFL) if how == signal.SIGINT else None)
-                self.waits_until(lambda: "a.record" in it.files())
+                self.until(lambda: "a.record" in it.files())
                 time.sleep(0.3)
                 for kind in ("the same name", "a link"):
                     self.is_so(it.load(kind), it.in_use(kind))

@@ -8,7 +8,6 @@ import os
 import re
 import signal
 import subprocess
-import time
 import unittest
 from concurrent.futures import ThreadPoolExecutor
 
@@ -98,54 +97,52 @@ class Causes(Stale):
         self.values = numbered(12)
         self.put("a.lda", tape_at(self.values))
 
-    def broken_off(self, peer):
-        """Breaks a load off behind its fifth word."""
+    def broken_off(self):
+        """A console at which a load was broken off behind its fifth word."""
+        peer = self.console_at(Console())
         peer.close_after = PROMPT + 5 * 62
         given = self.load(peer)
         self.is_so((given.status, given.err, self.recorded()), (4, FAILED, text_of(self.values[:5])))
         peer.close_after = None
         peer.keys = peer.answered = 0
         peer.machine.typed = ""
+        return peer
 
-    def is_got_over(self, peer):
-        """Looks at each word again: the whole tape is in memory, and the program is started."""
-        given = self.load(peer, "a.lda --record a.record --recheck")
+    def is_got_over(self, line, address):
+        """A load finds that memory does not hold the word at this address, and one that looks at each word again loads them
+        all, and starts the program."""
+        self.is_stale(line, address, 12, looks=1 + 8 * 5)
+        line.machine.typed = ""
+        given = self.load(line, "a.lda --record a.record --recheck")
         self.is_so((given.status, given.out.splitlines()[-1], given.err), (0, "end Started", ""))
-        self.is_so([peer.machine.word(it) for it in memory_of(self.values)], self.values)
-        self.is_so((peer.machine.starts, self.recorded()), ([0o1000], text_of(self.values) + "\nG\n"))
+        self.is_so([line.machine.word(it) for it in memory_of(self.values)], self.values)
+        self.is_so((line.machine.starts, self.recorded()), ([0o1000], text_of(self.values) + "\nG\n"))
 
     def test_at_another_machine(self):
-        self.broken_off(self.console_at(Console()))
+        self.broken_off()
         for line in self.lines(Console):
             self.is_stale(line, 0o1000, 12, looks=1 + 8 * 5)
             self.is_stale(line, 0o1000, 12, looks=1 + 8 * 5)
-        self.is_got_over(line)
+        self.is_got_over(line, 0o1000)
 
     def test_behind_a_loss_of_power(self):
-        peer = self.console_at(Console())
-        self.broken_off(peer)
+        peer = self.broken_off()
         # What memory holds then is anything.
         peer.machine.words = [0o125252] * len(peer.machine.words)
-        self.is_stale(peer, 0o1000, 12, looks=1 + 8 * 5)
-        peer.machine.typed = ""
-        self.is_got_over(peer)
+        self.is_got_over(peer, 0o1000)
 
     def test_behind_another_tape(self):
-        peer = self.console_at(Console())
-        self.broken_off(peer)
+        peer = self.broken_off()
         others = [*self.values[:3], *(it ^ 1 for it in self.values[3:])]
         self.put("b.lda", tape_at(others))
         self.is_so(self.load(peer, "b.lda --no-start").status, 0)
         os.remove(self.path("b.lda"))
         peer.machine.typed = ""
-        self.is_stale(peer, 0o1006, 12, looks=1 + 8 * 5)
-        peer.machine.typed = ""
-        self.is_got_over(peer)
+        self.is_got_over(peer, 0o1006)
 
     def test_what_memory_holds_is_gone_on_with(self):
         """The looks cost a `Z` and 25 characters a word, and then the load goes on where it was."""
-        peer = self.console_at(Console())
-        self.broken_off(peer)
+        peer = self.broken_off()
         given = self.load(peer)
         self.ends(given, 0, f"sent {1 + 8 * 5 + 1 + 22 * 7 + 7} spent 0 verified 12 of 12\nend Started\n")
         self.is_so(peer.keys + peer.answered, PROMPT + 5 * LOOKED + PROMPT + 7 * 62 + 14)
@@ -381,24 +378,6 @@ class Mishaps(Stale):
 class Kills(Stale):
     """A load that is killed in its looks, and one that comes meanwhile."""
 
-    def begin(self, line):
-        process = subprocess.Popen([PROGRAM, *self.words_of(line)], cwd=self.room, stdin=subprocess.DEVNULL, stdout=subprocess.PIPE,
-                                   stderr=subprocess.PIPE, text=True)
-        self.addCleanup(self.let_go, process)
-        return process
-
-    def let_go(self, process):
-        process.kill()
-        process.wait()
-        process.stdout.close()
-        process.stderr.close()
-
-    def until(self, is_so):
-        end = time.monotonic() + 60
-        while not is_so():
-            self.assertLess(time.monotonic(), end, "it never came to that")
-            time.sleep(0.002)
-
     def test_killed_in_the_looks(self):
         """Wherever it is killed: memory and the record are what they were, and the next load says the same."""
         values = numbered(5)
@@ -409,7 +388,7 @@ class Kills(Stale):
                 self.put_words(values, 4)
                 peer = self.console_at(SlowConsole(memory=memory))
                 before = list(peer.machine.words)
-                process = self.begin(peer)
+                process = self.begin(self.words_of(peer))
                 self.until(lambda: len(peer.machine.typed) >= keys)
                 process.send_signal(signal.SIGKILL)
                 self.is_so(process.wait(60), -signal.SIGKILL)
@@ -425,7 +404,7 @@ class Kills(Stale):
         values = numbered(8)
         self.put_words(values, 8)
         peer = self.console_at(SlowConsole())
-        process = self.begin(peer)
+        process = self.begin(self.words_of(peer))
         self.until(lambda: len(peer.machine.typed) >= 3)
         other = self.console_at(Console())
         self.ends(self.load(other), 4, "", "ldaodt: record in use: a.record\n")

@@ -13,7 +13,6 @@
 mod comparing;
 mod difference;
 mod look_fault;
-mod looking;
 mod new_file;
 mod reading_blocks;
 mod save_end;
@@ -26,7 +25,6 @@ mod verify_report;
 mod verifying;
 
 pub use look_fault::LookFault;
-pub use looking::look;
 pub use new_file::{NewFile, PART};
 pub use save_end::SaveEnd;
 pub use saving::{SaveOptions, save};

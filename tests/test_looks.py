@@ -142,8 +142,24 @@ class Verify(Looks):
         self.holds({})
 
     def test_an_output_that_is_full(self):
+        """Behind the first line that can't be written no word is read."""
         line = self.console_at(Console())
-        self.ends(self.look(line, "verify first.lda LINE", before="> /dev/full"), 4, "", NO_OUTPUT)
+        self.ends(self.look(line, "verify two-words.lda LINE", before="> /dev/full"), 4, "", NO_OUTPUT)
+        self.was_typed(line, "Z001000/\r")
+        line = self.console_at(Console(memory={0o1000: 0o031421, 0o1002: 0o104}))
+        self.ends(self.look(line, "verify two-words.lda LINE", before="> /dev/full"), 4, "", NO_OUTPUT)
+        self.was_typed(line, "Z001000/\r001002/\r")
+
+    def test_a_word_that_differs_is_shown_as_soon_as_it_was_read(self):
+        """Long before the look is over; and one that is killed leaves what it has found."""
+        self.put("many.lda", as_tape(0o1000, [1] * 33))
+        line = self.console_at(SlowConsole(memory=as_memory(0o1000, [0, 1, 0] + [1] * 30)))
+        process = self.begin(self.words_of(line, "verify many.lda LINE"))
+        for address in (0o1000, 0o1004):
+            self.is_so(process.stdout.readline(), f"{address:06o} 177777 000001 differs 000000\n")
+            self.assertLess(len(line.machine.typed), 8 * 33)
+        process.kill()
+        self.is_so(process.communicate(timeout=60), ("", ""))
 
     def test_a_tape_is_refused_before_all(self):
         self.put("stray.lda", b"A")

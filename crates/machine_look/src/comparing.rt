@@ -141,6 +141,6 @@ fn turn<L: Line, W: Write, O: Onlooker>(
 {
     let before = core.values().len();
     let (core, stop) = inquire(core, line, 1, onlooker);
-    let shown = show_differences(words, core.values(), before, out);
+    let shown = show_differences(words, core.values(), before, out, onlooker);
     Compared { core, stop, shown }
 }

@@ -8,6 +8,7 @@ ghost use Rattle.machine_look.specs.VerifyReport.{difference_lines, lines_of};
 
 use crate::verify_report::difference_line;
 use byte_io::{WriteFault, write_and_flush};
+use load_devices::Onlooker;
 use std::io::Write;
 use tape_image::{Word, stands};
 
@@ -42,12 +43,13 @@ fn count_difference(word: Word, now: u16) -> usize
 }
 
 /// Writes a line for each difference between the words of a plan and the numbers that were read at the first
-/// of their addresses, from the number at this place on, each as soon as it is found.
-pub(crate) fn show_differences<W: Write>(
+/// of their addresses, from the number at this place on. What an onlooker shows makes room for it.
+pub(crate) fn show_differences<W: Write, O: Onlooker>(
     words: &[Word],
     numbers: &[u16],
     first: usize,
     out: &mut W,
+    onlooker: &O,
 ) -> Result<(), WriteFault>
     requires few { length numbers.now ≤ length words.now }
     requires behind { first ≤ length numbers.now }
@@ -57,18 +59,24 @@ pub(crate) fn show_differences<W: Write>(
         (W.contents out.old) (W.contents out.new)) }
 {
     for place in first..numbers.len() {
-        show_difference(words[place], numbers[place], out)?;
+        show_difference(words[place], numbers[place], out, onlooker)?;
     }
     Ok(())
 }
 
 // Writes the line of the difference between a word and the number that was read at its address, if there is one.
-fn show_difference<W: Write>(word: Word, now: u16, out: &mut W) -> Result<(), WriteFault>
+fn show_difference<W: Write, O: Onlooker>(
+    word: Word,
+    now: u16,
+    out: &mut W,
+    onlooker: &O,
+) -> Result<(), WriteFault>
     ensures shown { OnOk result (Appends (W.contents out.old) (W.contents out.new) (lines_of (difference word now))) }
     ensures cut_short { OnErr result (WritesPrefix (W.contents out.old) (W.contents out.new) (lines_of (difference word now))) }
 {
     if stands(word, now) {
         return Ok(());
     }
+    onlooker.ends();
     write_and_flush(out, &difference_line(Difference { word, now }))
 }

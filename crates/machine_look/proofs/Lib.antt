@@ -1,3 +1,5 @@
+mod BehindLooks
+mod Courses
 mod Faults
 mod Found
 mod Looks
@@ -6,5 +8,6 @@ mod SavedBlocks
 mod SavedMemory
 mod SavedWords
 mod Steps
+mod Taking
 mod Turning
 mod Verified

@@ -1,0 +1,32 @@
+-- How a shelf is taken up.
+use Rattle.std.proofs.Common.{◌≡◌, ℕ, ◌*◌, ◌≤◌, List, [], ◌∷◌, Result, Ok, Err, IfErr, IfOk, refl, arith}
+use Rattle.std.proofs.lemmas.List.Elements.{All-nil}
+use Rattle.request_values.specs.declared.range.AddressRange.{AddressRange}
+use Rattle.machine_look.specs.declared.shelf.ShelfFault.{ShelfFault}
+use Rattle.machine_look.specs.declared.shelf.ShelfFault.TheVariants.{PartIsThere}
+use Rattle.machine_look.specs.FoundPart.{FillBlocks}
+use Rattle.machine_look.specs.LookFault.{NoPart, NoRoom, TakesUpNothing}
+use Rattle.machine_look.specs.Save.{BehindPart, TakesUp}
+use Rattle.machine_look.specs.SavedTape.{room_for}
+use Rattle.machine_look.specs.Shelf.{ShelfStep, NotReserved, NotResumed, Resume}
+use Rattle.machine_look.specs.ShelfTold.{AreDone, HasDone, IsDone, ShelfTold}
+
+pub fill_nothing : (range : AddressRange) → FillBlocks range []
+fill_nothing range = record { whole = refl; within = omega arith; small = All-nil _ }
+
+pub took_part : {V : Type 0} (items : V → List ℕ) (range : AddressRange) (opened : List ℕ → Type 0) (a b c : ShelfTold) (result : Result V ShelfFault)
+    → ((folder : List ℕ) → IsDone folder (NotReserved (room_for range) PartIsThere) a b) → IfOk result (λ v. FillBlocks range (items v))
+    → IfOk result (λ v. (folder : List ℕ) × opened folder × IsDone folder (Resume (items v)) b c)
+    → IfOk result (λ v. (taking : List ShelfStep) × TakesUp range (items v) taking × (folder : List ℕ) × opened folder × AreDone folder taking a c)
+took_part items range opened a b c (Ok v) there fill done =
+    (NotReserved (room_for range) PartIsThere ∷ Resume (items v) ∷ [], BehindPart (items v) fill, done.0, done.1, (b, there done.0, (c, done.2, refl)))
+took_part items range opened a b c (Err fault) there fill done = tt
+
+pub took_no_part : {V : Type 0} (range : AddressRange) (a b c : ShelfTold) (result : Result V ShelfFault) → ((folder : List ℕ) → IsDone folder (NotReserved (room_for range) PartIsThere) a b)
+    → IfErr result (λ fault. (folder : List ℕ) → IsDone folder (NotResumed fault) b c) → IfErr result (λ fault. (steps : List ShelfStep) × TakesUpNothing range fault steps × HasDone steps a c)
+took_no_part range a b c (Ok v) there failed = tt
+took_no_part range a b c (Err fault) there failed = (NotReserved (room_for range) PartIsThere ∷ NotResumed fault ∷ [], NoPart, ([], (b, there [], (c, failed [], refl))))
+
+pub took_no_room : (range : AddressRange) (fault : ShelfFault) (a b : ShelfTold) → ((folder : List ℕ) → IsDone folder (NotReserved (room_for range) fault) a b)
+    → (steps : List ShelfStep) × TakesUpNothing range fault steps × HasDone steps a b
+took_no_room range fault a b failed = (NotReserved (room_for range) fault ∷ [], NoRoom, ([], (b, failed [], refl)))

@@ -78,8 +78,8 @@ reading_holds samples patience looks finding line mid are long s kept turns stop
     let second : Reader = begun addresses [] left in
     let reads = fresh_kept (addresses_of samples) patience are long in
     let reads' = fresh_kept addresses left are' long' in
-    let told : IsToldOf (dialogue first s.inquired.heard) s.inquired.said = said_told (Ended Complete) _ _ s.inquired.said s.inquired.items in
-    let told' : IsToldOf (dialogue second t.heard) t.said = said_told stop _ _ t.said t.items in
+    let told : IsToldOf (dialogue first s.inquired.heard) s.inquired.said = said_told (Ended Complete) (most_turns - length s.inquired.heard) (dialogue first s.inquired.heard) s.inquired.said s.inquired.items in
+    let told' : IsToldOf (dialogue second t.heard) t.said = said_told stop (turns - length t.heard) (dialogue second t.heard) t.said t.items in
     let parts = lines_split machine now s.inquired.said t.said lost (run_tidy one s.inquired.said machine ready (are, long) told) (told_begins (dialogue second t.heard) t.said told' (run_begins two)) honest in
     let found = looks_hold samples patience looks (Ended Complete) finding line mid are long s kept machine parts.between parts.lost_before ready parts.before in
     let ready' : IsReadyMachine parts.between = leave_ready first s.inquired.heard machine parts.between parts.lost_before reads (may_begin (addresses_of samples) patience machine ready)

@@ -7,9 +7,9 @@ use Rattle.std.specs.Prelude.{OnSome, option_map, is_err, replicate, IfErr, ⊤}
 use Rattle.std.specs.String.{string_bytes}
 use Rattle.load_devices.specs.Failures.{fault_of}
 use Rattle.load_devices.specs.Told.{HasAsked, Tells}
-use Rattle.record_file.specs.DiskStep.{DiskStep, Did, Failed, LedTo, answered, step_by, LookAtName, FindFile, Open, Hold, Link, Rename, Remove, Cut, SyncFile, SyncFolder}
+use Rattle.record_file.specs.DiskStep.{DiskStep, Did, Failed, LedTo, answered, step_by, LookAtName, FindSoleFile, FindFile, Open, Hold, Link, Rename, Remove, Cut, SyncFile, SyncFolder}
 use Rattle.record_file.specs.Folder.{IsFolderOf}
-use Rattle.record_file.specs.declared.disk.Access.TheVariants.{ReadOnly}
+use Rattle.record_file.specs.declared.disk.Access.TheVariants.{ReadOnly, ReadWrite}
 use Rattle.load_devices.proofs.Told.{tells_join, tells_none}
 use Rattle.machine_look.specs.Room.{room_of, IsFolderOpened}
 use Rattle.machine_look.specs.ShelfDisk.{Room, ShelfDisk, ShelfAsked, HasNoPart, HasNoRoom, HasPart, HasRoom, LeaveAll, resuming, IsPutOn, IsPut, Written, IsNoFileName, IsSearch, Free, IsNotReserved, NoRoom, IsReserved, Reserved, IsMakingHeld, IsTaking, IsTakingHeld, Unmade, Taken, NotTaken, IsGone, Goes, IsLeftBehind, IsOnDisk, Synced, IsNaming, Renamed, NotRenamed, IsTakenBack, IsSettling, IsNamed, Named, Unnamed, IsClosed, part_name, IsAdded, IsNotAdded, IsUnadded, NoFile, Unwritten, Unsure}
@@ -46,8 +46,9 @@ no_name : (name : List ℕ) → true ≡ eqb (length name) 0 → IsNoFileName na
 no_name [] is = inl refl
 no_name (byte ∷ name) is = absurd (omega (arith, eqb-true (length (byte ∷ name)) 0 (sym is)))
 
-pub empty_name : (name : List ℕ) → true ≡ eqb (length name) 0 → (IsTrue true → IsNoFileName name) × (IsNoFileName name → IsTrue true)
-empty_name name is = (λ _. no_name name is, λ _. refl)
+pub empty_name : (name : List ℕ) (empty : Bool) → empty ≡ eqb (length name) 0 → true ≡ eqb (length name) 0 → (IsTrue empty → IsNoFileName name) × (IsNoFileName name → IsTrue empty)
+empty_name name true same is = (λ _. no_name name is, λ _. refl)
+empty_name name false same is = absurd (cc (same, is))
 
 -- a name that is not empty is a folder's where it ends in a slash
 pub folder_name : (name : List ℕ) (ends : Bool) → false ≡ eqb (length name) 0
@@ -312,6 +313,16 @@ idle_join (LedTo name target ∷ one) two i j = absurd i
 
 pub still_idle : (a b c : Option (List DiskStep)) (steps : List DiskStep) → Tells a b steps → LeaveAll steps → HasAsked b c LeaveAll → HasAsked a c LeaveAll
 still_idle a b c steps g idle h = (steps ++ h.0, tells_join a b c steps h.0 g h.1, idle_join steps h.0 idle h.2)
+
+-- the folder is opened, and the part is taken up
+pub resumed : (name own folder : List ℕ) (held : Option (List ℕ)) (a b c : Option (List DiskStep)) → own ≡ part_name name → Tells a b (Did (Open ReadOnly folder) ∷ [])
+    → HasAsked b c (λ steps. steps ≡ Did (FindSoleFile own) ∷ Did (Open ReadWrite own) ∷ Did (Hold own) ∷ Did (Open ReadOnly own) ∷ Did (Open ReadWrite own) ∷ Did (FindFile own held) ∷ [])
+    → HasAsked a c (λ steps. steps ≡ resuming (part_name name) folder held)
+resumed name own folder held a b c is opened taken = (
+  Did (Open ReadOnly folder) ∷ taken.0,
+  tells_join a b c (Did (Open ReadOnly folder) ∷ []) taken.0 opened taken.1,
+  ap (λ steps. Did (Open ReadOnly folder) ∷ steps) taken.2 ∙ ap (λ n. resuming n folder held) is,
+)
 
 -- how a part that was taken up is called of a shelf
 pub has_part_on : {T : Type 0} (opened : T → List ℕ → Type 0) (contents : T → Option (List ℕ)) (name numbers : List ℕ) (room : Option Room) (part : Part T) (a b : Option (List DiskStep))

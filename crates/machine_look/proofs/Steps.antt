@@ -263,6 +263,10 @@ not_added_behind known known' from behind found read k a b c whole is low first 
       (tt, subst (λ s. AreDone folder s begin c) steps (done_join folder (adds from found (full found)) (not_all_added behind read k) begin b c one.1 two.1)),
 )
 
+-- before any block is added nothing is
+pub from_nothing : (known known' : List ℕ → Type 0) (from : ℕ) (numbers : List ℕ) (steps : List ShelfStep) (a b : ShelfTold) → GoesOnTo known known' (adds from numbers 0) steps a b → GoesOnTo known known' [] steps a b
+from_nothing known known' from numbers steps a b h = subst (λ s. GoesOnTo known known' s steps a b) (no_adds from numbers) h
+
 -- nothing was read behind them
 pub added_alone : (known known' : List ℕ → Type 0) (from : ℕ) (found read : List ℕ) (a b : ShelfTold) → read ≡ []
     → GoesOnTo known known' [] (adds from found (full found)) a b → GoesOnTo known known' [] (adds from (found ++ read) (full (found ++ read))) a b

@@ -128,7 +128,7 @@ fn read_behind<S: Shelf, L: Line, O: Onlooker>(
         × Inquired turns (Some result.stop) core result.core (L.told line.old) (L.told line.new) }
     ensures end { OnOk result.added (TellsEnd result.stop result.core) }
     ensures counted { CountsFault (line_fault (Some result.stop)) (L.fault_count line.old) (L.fault_count line.new) }
-    ensures fault { L.last_fault line.old ≡ None → IsLastFault (line_fault (Some result.stop)) (L.last_fault line.new) }
+    ensures fault { IsLastFault (line_fault (Some result.stop)) (L.last_fault line.new) }
     ensures same_addresses { result.core.addresses ≡ core.addresses }
     ensures same_patience { result.core.patience ≡ core.patience }
     ensures bound { result.core.sent ≤ reading_bound (length result.core.addresses) result.core.patience }

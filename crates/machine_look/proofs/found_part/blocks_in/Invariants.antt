@@ -8,5 +8,5 @@ abbrev pub invariant-loop-number : goal.invariant-loop-number
 invariant-loop-number l = record {
   small : All (λ n. n < 65536) l.numbers.items;
   whole : length l.numbers.items ≡ 256 * l.number;
-  begins : BeginsWith l.fn.range.from l.numbers.items l.fn.text.now;
+  begins : BeginsWith l.fn.range.from l.numbers.items l.fn.text;
 }

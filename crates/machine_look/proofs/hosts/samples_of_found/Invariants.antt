@@ -6,4 +6,4 @@ use Rattle.machine_look.specs.SavedTape.{words_read}
 use Rattle.machine_look.proofs.hosts.samples_of_found.Given as goal
 
 abbrev pub invariant-loop-i : goal.invariant-loop-i
-invariant-loop-i l = l.samples.items ≡ words_at (words_read (addresses_in l.fn.range) l.fn.found.now) (length l.fn.found.now) l.i
+invariant-loop-i l = l.samples.items ≡ words_at (words_read (addresses_in l.fn.range) l.fn.found) (length l.fn.found) l.i

@@ -88,6 +88,7 @@ is_read turns options found before after looks last first stop looked_stop findi
       read = read;
       asked = asked;
       given = given;
+      addresses = there;
       patience = left;
       bound = subst (λ n. last.sent ≤ reading_bound (length (addresses_behind options.range found)) n) left (subst (λ (list : List ℕ). last.sent ≤ reading_bound (length list) last.patience) there bound);
       kept = kept';

@@ -1,5 +1,5 @@
 -- Looks that come to nothing.
-use Rattle.std.proofs.Common.{◌≡◌, ℕ, true, false, eqb, List, [], ◌∷◌, ◌++◌, length, Option, None, Result, Ok, Err, IfErr, IfOk, IsErrAnd, refl, arith, sym, subst, inl, inr, OnErr, OnOk}
+use Rattle.std.proofs.Common.{◌≡◌, ◌<◌, ℕ, true, false, eqb, List, [], ◌∷◌, ◌++◌, length, Option, None, Result, Ok, Err, IfErr, IfOk, IsErrAnd, refl, arith, sym, subst, inl, inr, OnErr, OnOk}
 use Rattle.std.proofs.lemmas.Bool.{eqb-true}
 use Rattle.std.specs.Io.KnownBytes.{Keeps}
 use Rattle.load_devices.specs.Turns.{most_turns}
@@ -81,6 +81,10 @@ closes_none from (n ∷ numbers) start none = absurd (omega (arith, eqb-true (le
 pub closes_some : (from : ℕ) (numbers : List ℕ) (start : ℕ) → eqb (length numbers) 0 ≡ false → closes from numbers start ≡ Put (last_text from numbers start) ∷ []
 closes_some from [] start some = absurd (cc some)
 closes_some from (n ∷ numbers) start some = refl
+
+pub closes_long : (from : ℕ) (numbers : List ℕ) (start : ℕ) → 0 < length numbers → closes from numbers start ≡ Put (last_text from numbers start) ∷ []
+closes_long from [] start some = absurd (omega arith)
+closes_long from (n ∷ numbers) start some = refl
 
 pub not_put : (opened : List ℕ → Type 0) (from : ℕ) (numbers : List ℕ) (start : ℕ) (text : List ℕ) (fault : ShelfFault) (a b : ShelfTold) → text ≡ last_text from numbers start → IsPutFault fault
     → ((folder : List ℕ) → opened folder → IsDone folder (put_step text (Err fault)) a b) → IsKeepFault opened from numbers start a b (fault_of_shelf fault)

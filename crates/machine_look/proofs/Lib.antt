@@ -8,6 +8,7 @@ mod OnShelf
 mod SavedBlocks
 mod SavedMemory
 mod SavedWords
+mod Saves
 mod Steps
 mod Taking
 mod Turning

@@ -1,5 +1,5 @@
 -- What was read over an honest line is what memory holds.
-use Rattle.std.proofs.Common.{◌≡◌, ℕ, zero, suc, ◌+◌, ◌-◌, ◌*◌, ◌/◌, ◌%◌, ◌<◌, ◌≤◌, List, [], ◌∷◌, ◌++◌, length, get_or, map, take, refl, arith, ap, sym, subst, ◌∙◌, inl, inr, append-nil, append_assoc, length-append}
+use Rattle.std.proofs.Common.{◌≡◌, ℕ, zero, suc, ◌+◌, ◌-◌, ◌*◌, ◌/◌, ◌%◌, ◌<◌, ◌≤◌, List, [], ◌∷◌, ◌++◌, length, get_or, map, min, take, refl, arith, ap, sym, subst, ◌∙◌, inl, inr, append-nil, append_assoc, length-append}
 use Rattle.std.specs.Prelude.{All}
 use Rattle.std.proofs.lemmas.List.Elements.{All-append, All-nil}
 use Rattle.std.proofs.lemmas.Bool.{cases_lt}
@@ -23,8 +23,12 @@ use Rattle.machine_look.specs.FoundPart.{FillBlocks, words_in}
 use Rattle.machine_look.specs.Save.{IsTapeOf}
 use Rattle.machine_look.specs.SavedTape.{HoldsWhatWasRead, room_for, words_read, StandFrom}
 use Rattle.machine_look.proofs.SavedBlocks.{room_enough}
-use Rattle.machine_look.proofs.SavedWords.{holds_what_was_read}
+use Rattle.machine_look.proofs.SavedWords.{holds_what_was_read, read_plan, stand_behind}
 use Rattle.machine_look.proofs.Steps.{whole}
+use Rattle.machine_look.specs.SavedTape.{saved_tape}
+use Rattle.reading_core.specs.Addresses.{addresses_of}
+use Rattle.sample_looks.proofs.Spread.{asked, samples, words_at}
+use Rattle.tape_image.specs.Plan.{plan_of}
 
 -- ---- the addresses of a range
 
@@ -144,3 +148,41 @@ memory_behind options found samples last before now range begins fill are kept r
           ∙ ap (λ words. words_read (addresses_in options.range) found ++ words)
           (words_are now.memory behind last.values inside (λ i low. read.holds i low ∙ ap (λ (list : List ℕ). word_at now.memory (get_or list i 0)) are)));
     }
+
+-- ---- samples of what was found
+
+nr_read : (from : ℕ) (addresses numbers : List ℕ) (p : ℕ) (d : WordValue) → StandFrom from addresses → length numbers ≤ length addresses → p < length numbers → get_or (words_read addresses numbers) p d ≡ whole_word (from + 2 * p) (get_or numbers p 0)
+nr_read from addresses [] p d stand few low = absurd (omega (arith, low))
+nr_read from [] (n ∷ numbers) p d stand few low = absurd (omega (arith, few))
+nr_read from (a ∷ addresses) (n ∷ numbers) zero d stand few low = ap (λ k. whole_word k n) (stand 0 (omega arith))
+nr_read from (a ∷ addresses) (n ∷ numbers) (suc p) d stand few low =
+    nr_read (from + 2) addresses numbers p d (stand_behind from a addresses stand) (omega (arith, few)) (omega (arith, low)) ∙ (let there : from + 2 + 2 * p ≡ from + 2 * suc p = omega arith in ap (λ k. whole_word k (get_or numbers p 0)) there)
+
+length_read : (addresses numbers : List ℕ) → length numbers ≤ length addresses → length (words_read addresses numbers) ≡ length numbers
+length_read [] [] few = refl
+length_read [] (n ∷ numbers) few = absurd (omega (arith, few))
+length_read (a ∷ addresses) [] few = refl
+length_read (a ∷ addresses) (n ∷ numbers) few = ap suc (length_read addresses numbers (omega (arith, few)))
+
+few_found : (range : AddressRange) (found : List ℕ) → FillBlocks range found → length found ≤ length (addresses_in range)
+few_found range found fill = omega (arith, fill.within, range_length range.from range.to)
+
+-- the word of a place that was found
+pub word_found : (range : AddressRange) (found : List ℕ) (p : ℕ) (d : WordValue) → FillBlocks range found → p < length found → get_or (words_read (addresses_in range) found) p d ≡ whole_word (range.from + 2 * p) (get_or found p 0)
+word_found range found p d fill low = nr_read range.from (addresses_in range) found p d (range_stands range.from range.to) (few_found range found fill) low
+
+pub many_found : (range : AddressRange) (found : List ℕ) → FillBlocks range found → length (words_read (addresses_in range) found) ≡ length found
+many_found range found fill = length_read (addresses_in range) found (few_found range found fill)
+
+pub of_found : (range : AddressRange) (found : List ℕ) (number : ℕ) (items : List WordValue) → IsRange range.from range.to → FillBlocks range found → number ≡ min (length found) 8 → items ≡ words_at (words_read (addresses_in range) found) (length found) number
+    → AreOfFound range found items
+of_found range found number items is fill few all =
+    let low : range.from + 2 * length found ≤ top = omega (arith, fill.within, range_low range is) in
+    let holds = holds_what_was_read range.from (addresses_in range) found 1 is.from_is.even low fill.small (omega arith) (range_stands range.from range.to) (few_found range found fill) in
+    let plan = plan_of (saved_tape range.from found 1) in
+    let rising : AreAddresses (addresses_of (words_at plan.words (length found) number)) =
+    asked plan (length found) number (read_plan range.from (addresses_in range) found 1 low fill.small (omega arith)) (omega (arith, ap length holds.words, many_found range found fill)) few in
+    subst (AreOfFound range found) (sym all) (record {
+      spread = samples (words_read (addresses_in range) found) (length found) number few;
+      asked = subst (λ words. AreAddresses (addresses_of (words_at words (length found) number))) holds.words rising;
+    })

@@ -206,7 +206,7 @@ turned known known' from old new more shown shown' steps a b is is' grown h = go
 
 -- ---- blocks behind others
 
-drop_behind : (found read : List ℕ) (j : ℕ) → drop (length found + j) (found ++ read) ≡ drop j read
+pub drop_behind : (found read : List ℕ) (j : ℕ) → drop (length found + j) (found ++ read) ≡ drop j read
 drop_behind [] read j = let none : length {A = ℕ} [] + j ≡ j = omega arith in ap (λ k. drop k read) none
 drop_behind (n ∷ found) read j = (let next : suc (length found) + j ≡ suc (length found + j) = omega arith in ap (λ k. drop k ((n ∷ found) ++ read)) next) ∙ drop_behind found read j
 

@@ -92,6 +92,7 @@ pub record IsRead (turns : ℕ) (options : SaveOptions) (found : List ℕ) (befo
   pub read : Inquired turns (Some stop) (begun (addresses_behind options.range found) [] (options.patience - looks.spent)) last between line'
   pub asked : Gains before.asked after.asked (asked_once before.call)
   pub given : IsGivenBack stop line line' before.lines after.lines
+  pub addresses : last.addresses ≡ addresses_behind options.range found
   pub patience : last.patience ≡ options.patience - looks.spent
   pub bound : last.sent ≤ reading_bound (length (addresses_behind options.range found)) (options.patience - looks.spent)
   pub kept : IsReader last

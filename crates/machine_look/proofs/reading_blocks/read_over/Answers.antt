@@ -18,6 +18,7 @@ use Rattle.reading_engine.specs.declared.stop.Stop.TheVariants.{Ended}
 use Rattle.sample_looks.specs.Finding.{IsFound}
 use Rattle.sample_looks.specs.declared.finding.Finding.TheVariants.{AllStand}
 use Rattle.machine_look.specs.Behind.{addresses_behind}
+use Rattle.machine_look.specs.FoundPart.{words_in}
 use Rattle.machine_look.specs.SavedSteps.{adds, full, not_all_added}
 use Rattle.machine_look.specs.ShelfTold.{AreDone}
 use Rattle.machine_look.proofs.Courses.{are_looked_at, given_back, held_up, is_read}
@@ -37,7 +38,7 @@ returns-then-not-all_stand-clause-course g c =
           (subst (λ (list : List WordValue). IsFound list looked.result.reader.values looked.result.stop looked.result.finding) c.deref.ensures.value looked.ensures.found)
           (subst (λ (list : List WordValue). looked.result.reader.sent ≤ reading_bound (length list) c.args.hosts.looker.patience) c.deref.ensures.value looked.ensures.bound)
           looked.ensures.same_patience looked.ensures.kept)
-          looked.ensures.kept (let long = hosts.looks.long in omega (arith, long, whose)) (λ all. c.all_stand.ensures.1 all c.if-not-all_stand)
+          looked.ensures.kept (let long = hosts.looks.long in omega (arith, long, whose)) (λ all. absurd (cc (c.all_stand.ensures.1 all, c.if-not-all_stand.true)))
           (subst (λ asked. Gains (g.R.Reach.asked c.args.console.now) asked (asked_once (g.R.Reach.call c.args.console.now))) (sym c.let_go.ensures.asked) c.in_ok-line.ensures.asked)
           (given_back looked.result.stop _ _ (g.R.Reach.lines c.args.console.now) (g.R.Reach.lines c.reach.new.self) lines' _ _ _ (told looked.new.line) c.in_ok-line.ensures.fresh.none_failed refl looked.ensures.counted refl
           c.in_ok-line.ensures.fresh.nothing_said refl looked.ensures.fault c.in_ok-line.ensures.lines c.let_go.ensures.lines),
@@ -48,7 +49,7 @@ pub read_behind-read-requires-clause-below : goal.read_behind-read-requires-clau
 read_behind-read-requires-clause-below g c =
     let there : c.in_room-core.result.addresses ≡ c.args.hosts.addresses.items = ap (λ (r : Reader). r.addresses) c.in_room-core.ensures.begun in
     let fill = c.requires.fill.within in
-    omega (arith, c.from.ensures.value, ap length there, ap length c.requires.hosts.addresses, length_from (c.args.options.range.from + 2 * length c.args.found.now) (c.words_of.result - length c.args.found.now), c.words_of.ensures.below, c.words_of.ensures.words, fill)
+    omega (arith, c.from.ensures.value, ap length there, ap length c.requires.hosts.addresses, length_from (c.args.options.range.from + 2 * length c.args.found.now) (words_in c.args.options.range - length c.args.found.now), c.words_of.ensures.below, c.words_of.ensures.words, fill)
 
 pub returns-in-Ok-clause-course : goal.returns-in-Ok-clause-course
 returns-in-Ok-clause-course g c =

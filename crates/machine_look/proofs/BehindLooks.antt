@@ -1,10 +1,9 @@
 -- Looks and a reading behind them, over one honest line.
-use Rattle.std.proofs.Common.{◌≡◌, ℕ, ◌+◌, ◌-◌, ◌^◌, ◌<◌, ◌≤◌, List, [], ◌∷◌, ◌++◌, length, get_or, map, take, Option, Some, None, refl, arith, ap, sym, subst, ◌∙◌, inl, inr}
+use Rattle.std.proofs.Common.{◌≡◌, ℕ, ◌-◌, ◌^◌, ◌<◌, List, [], ◌∷◌, ◌++◌, length, get_or, Option, Some, refl, ap, sym, subst, ◌∙◌, inl, inr}
 use Rattle.odt_machine.specs.Machine.{Machine, word_at}
-use Rattle.tape_image.specs.Word.{WordValue, whole_word}
+use Rattle.tape_image.specs.Word.{WordValue}
 use Rattle.host_core.specs.declared.heard.Heard.{Heard}
 use Rattle.load_devices.specs.declared.item.Item.{Item}
-use Rattle.load_devices.specs.Dialogue.{keys_of}
 use Rattle.load_devices.specs.Turns.{most_turns}
 use Rattle.reading_core.specs.Addresses.{AreAddresses, addresses_of}
 use Rattle.reading_core.specs.Invariant.{IsReader}
@@ -22,8 +21,7 @@ use Rattle.looking_law.proofs.Runs.{may_begin, run_begins, run_tidy}
 use Rattle.looking_law.proofs.Splits.{lines_split}
 use Rattle.looking_law.proofs.Told.{told_begins, told_honest}
 use Rattle.reading_engine.specs.Belief.{IsBelievableOver}
-use Rattle.reading_engine.specs.Honest.{IsHonest}
-use Rattle.reading_engine.specs.Inquired.{Inquired, IsSaid, TellsEnd}
+use Rattle.reading_engine.specs.Inquired.{Inquired, IsSaid}
 use Rattle.reading_engine.specs.declared.stop.Stop.{Stop}
 use Rattle.reading_engine.specs.declared.stop.Stop.TheVariants.{Ended, LineFailed, TurnsOver}
 use Rattle.reading_engine.proofs.Beliefs.{inquired_believable}

@@ -1,5 +1,5 @@
 -- What looks and a reading behind them come to.
-use Rattle.std.proofs.Common.{◌≡◌, ℕ, ◌+◌, ◌-◌, ◌*◌, ◌^◌, ◌<◌, ◌≤◌, List, [], ◌∷◌, ◌++◌, length, Option, Some, None, refl, arith, ap, sym, subst, ◌∙◌}
+use Rattle.std.proofs.Common.{◌≡◌, ℕ, ◌-◌, ◌^◌, ◌<◌, ◌≤◌, List, [], ◌∷◌, length, Option, Some, arith, ap, sym, subst, ◌∙◌}
 use Rattle.tape_values.specs.Told.{IsAsTold}
 use Rattle.tape_image.specs.Word.{WordValue}
 use Rattle.console_lines.specs.Console.{ConsoleTold}

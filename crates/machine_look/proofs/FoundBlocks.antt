@@ -1,9 +1,9 @@
 -- Blocks that are found at the front of a text.
-use Rattle.std.proofs.Common.{◌≡◌, ℕ, zero, suc, ◌+◌, ◌-◌, ◌*◌, ◌/◌, ◌<◌, ◌≤◌, List, [], ◌∷◌, ◌++◌, length, take, drop, refl, arith, ap, sym, subst, ◌∙◌, append_assoc, append-nil, length-append, length-drop, take-append-drop}
+use Rattle.std.proofs.Common.{◌≡◌, ℕ, zero, suc, ◌+◌, ◌*◌, ◌≤◌, List, [], ◌∷◌, ◌++◌, length, take, drop, arith, ap, sym, subst, ◌∙◌, append_assoc, append-nil, length-append, length-drop, take-append-drop}
 use Rattle.std.specs.List.{flat_map}
 use Rattle.std.proofs.lemmas.List.{length-take-le}
 use Rattle.request_values.specs.declared.range.AddressRange.{AddressRange}
-use Rattle.tape_values.specs.Block.{data_block, framed, low_first}
+use Rattle.tape_values.specs.Block.{checksum, counted, data_block, framed, low_first}
 use Rattle.machine_look.specs.FoundPart.{AreFoundIn, BeginsWith, IsOneMore}
 use Rattle.machine_look.specs.SavedSteps.{adds, full}
 use Rattle.machine_look.specs.SavedTape.{saved_block}
@@ -25,7 +25,10 @@ block_length from numbers n low =
     framed_length (from + 2 * 256 * n) (flat_map low_first these) ∙ omega (arith, bytes_length these, all)
   where
     framed_length : (a : ℕ) (bytes : List ℕ) → length (framed a bytes) ≡ length bytes + 7
-    framed_length a bytes = omega (arith, length-append bytes (checksum_of a bytes ∷ []))
+    framed_length a bytes = omega (arith, length-append (counted a bytes) (checksum (counted a bytes) ∷ []))
+
+append_length : (xs : List ℕ) → length (xs ++ []) ≡ length xs
+append_length xs = ap length (append-nil xs)
 
 pub adds_length : (from : ℕ) (numbers : List ℕ) (n : ℕ) → 256 * n ≤ length numbers → length (written (adds from numbers n)) ≡ 519 * n
 adds_length from numbers zero low = ap (λ steps. length (written steps)) (no_adds from numbers)
@@ -35,7 +38,7 @@ adds_length from numbers (suc n) low =
     ap (λ k. length (written (adds from numbers k))) (sym next)
     ∙ (ap (λ steps. length (written steps)) (one_more_add from numbers n)
     ∙ (ap length (written_append (adds from numbers n) (Add block ∷ []))
-    ∙ omega (arith, length-append (written (adds from numbers n)) (block ++ []), length-append block ([] : List ℕ), adds_length from numbers n (omega (arith, low)), block_length from numbers n (omega (arith, low)))))
+    ∙ omega (arith, length-append (written (adds from numbers n)) (block ++ []), append_length block, adds_length from numbers n (omega (arith, low)), block_length from numbers n (omega (arith, low)))))
 
 -- a text that begins with some blocks begins with the next one, too
 pub next_block : (from : ℕ) (text before after block : List ℕ) (n : ℕ) → length before ≡ 256 * n → BeginsWith from before text → block ≡ take 519 (drop (519 * n) text) → IsOneMore from n before block after

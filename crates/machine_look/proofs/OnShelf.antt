@@ -1,5 +1,5 @@
 -- What the disk of a shelf was asked, by what came of a call.
-use Rattle.std.proofs.Common.{◌≡◌, ℕ, ◌+◌, ◌-◌, List, [], ◌∷◌, ◌++◌, length, take, Bool, true, false, Option, Some, None, Result, Ok, Err, IsErrAnd, refl, sym, subst, ap, ◌∙◌, arith, inl, inr, OnOk, eqb}
+use Rattle.std.proofs.Common.{◌≡◌, ℕ, ◌+◌, ◌-◌, List, [], ◌∷◌, ◌++◌, length, take, Bool, true, false, Option, Some, None, Result, Ok, Err, refl, sym, subst, ap, ◌∙◌, arith, inl, inr, OnOk, eqb}
 use Rattle.std.proofs.lemmas.Bool.{eqb-false, eqb-true}
 use Rattle.std.specs.Bool.{IsTrue}
 use Rattle.std.specs.Io.KnownBytes.{Appends}
@@ -7,12 +7,12 @@ use Rattle.std.specs.Prelude.{OnSome, option_map, is_err, replicate, IfErr, ⊤}
 use Rattle.std.specs.String.{string_bytes}
 use Rattle.load_devices.specs.Failures.{fault_of}
 use Rattle.load_devices.specs.Told.{HasAsked, Tells}
-use Rattle.record_file.specs.DiskStep.{DiskStep, Did, Failed, LedTo, answered, step_by, LookAtName, FindSoleFile, FindFile, Open, Hold, Link, Rename, Remove, Cut, SyncFile, SyncFolder}
+use Rattle.record_file.specs.DiskStep.{DiskStep, Did, Failed, LedTo, answered, step_by, LookAtName, FindSoleFile, FindFile, Open, Hold, Link, Rename, Remove, Cut, SyncFile}
 use Rattle.record_file.specs.Folder.{IsFolderOf}
 use Rattle.record_file.specs.declared.disk.Access.TheVariants.{ReadOnly, ReadWrite}
 use Rattle.load_devices.proofs.Told.{tells_join, tells_none}
 use Rattle.machine_look.specs.Room.{room_of, IsFolderOpened}
-use Rattle.machine_look.specs.ShelfDisk.{Room, ShelfDisk, ShelfAsked, HasNoPart, HasNoRoom, HasPart, HasRoom, LeaveAll, resuming, IsPutOn, IsPut, Written, IsNoFileName, IsSearch, Free, IsNotReserved, NoRoom, IsReserved, Reserved, IsMakingHeld, IsTaking, IsTakingHeld, Unmade, Taken, NotTaken, IsGone, Goes, IsLeftBehind, IsOnDisk, Synced, IsNaming, Renamed, NotRenamed, IsTakenBack, IsSettling, IsNamed, Named, Unnamed, IsClosed, part_name, IsAdded, IsNotAdded, IsUnadded, NoFile, Unwritten, Unsure}
+use Rattle.machine_look.specs.ShelfDisk.{Room, ShelfDisk, HasNoPart, HasNoRoom, HasPart, HasRoom, LeaveAll, resuming, IsPutOn, IsPut, Written, IsNoFileName, IsSearch, Free, IsNotReserved, NoRoom, IsReserved, Reserved, IsMakingHeld, IsTaking, IsTakingHeld, Unmade, Taken, NotTaken, IsGone, Goes, IsLeftBehind, IsOnDisk, Synced, IsNaming, Renamed, NotRenamed, IsSettling, IsNamed, Named, Unnamed, IsClosed, part_name, IsAdded, IsNotAdded, IsUnadded, NoFile}
 use Rattle.machine_look.specs.Shelf.{add_step, put_step}
 use Rattle.machine_look.specs.ShelfTold.{AsksFor}
 use Rattle.machine_look.specs.declared.new_file.Part.{Part}

@@ -7,7 +7,6 @@ use Rattle.std.proofs.lemmas.List.{get_or_append_left}
 use Rattle.std.proofs.Math.Seq.{get_or-append_seam}
 use Rattle.tape_image.specs.Word.{WordValue, whole_word}
 use Rattle.tape_values.specs.Block.{top}
-use Rattle.tape_values.specs.Tape.{plain_text}
 use Rattle.odt_machine.specs.Machine.{Machine, word_at}
 use Rattle.reading_core.specs.Invariant.{IsReader}
 use Rattle.sample_looks.specs.declared.finding.Finding.TheVariants.{AllStand}
@@ -18,10 +17,10 @@ use Rattle.reading_core.proofs.Asking.{none_from, one_more, length_from, range_a
 use Rattle.reading_core.specs.Addresses.{AreAddresses}
 use Rattle.request_values.specs.declared.range.AddressRange.{AddressRange}
 use Rattle.machine_look.specs.declared.saving.SaveOptions.{SaveOptions}
-use Rattle.machine_look.specs.Behind.{AreOfFound, IsMemoryBehind, IsRead, addresses_behind, addresses_in, tape_to_save}
+use Rattle.machine_look.specs.Behind.{AreOfFound, IsMemoryBehind, addresses_behind, addresses_in, tape_to_save}
 use Rattle.machine_look.specs.FoundPart.{FillBlocks, words_in}
 use Rattle.machine_look.specs.Save.{IsTapeOf}
-use Rattle.machine_look.specs.SavedTape.{HoldsWhatWasRead, room_for, words_read, StandFrom}
+use Rattle.machine_look.specs.SavedTape.{HoldsWhatWasRead, words_read, StandFrom}
 use Rattle.machine_look.proofs.SavedBlocks.{room_enough}
 use Rattle.machine_look.proofs.SavedWords.{holds_what_was_read, read_plan, stand_behind}
 use Rattle.machine_look.proofs.Steps.{whole}

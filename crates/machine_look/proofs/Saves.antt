@@ -1,10 +1,7 @@
 -- What a save comes to, by its course.
-use Rattle.std.proofs.Common.{◌≡◌, ℕ, ◌+◌, ◌-◌, ◌*◌, ◌<◌, ◌≤◌, List, ◌++◌, length, arith, ap, sym, subst, ◌∙◌, length-append}
-use Rattle.std.specs.Prelude.{All}
+use Rattle.std.proofs.Common.{ℕ, ◌<◌, List, ◌++◌, arith, sym, subst, ◌∙◌, length-append}
 use Rattle.std.proofs.lemmas.List.Elements.{All-append}
 use Rattle.std.specs.Io.KnownBytes.{Keeps}
-use Rattle.tape_values.specs.Block.{top}
-use Rattle.load_devices.specs.Turns.{most_turns}
 use Rattle.console_lines.specs.Console.{ConsoleTold}
 use Rattle.reading_core.specs.Addresses.{IsRange}
 use Rattle.machine_look.specs.declared.look_fault.LookFault.{LookFault}
@@ -14,10 +11,9 @@ use Rattle.machine_look.specs.declared.save_end.SaveEnd.{SaveEnd}
 use Rattle.machine_look.specs.declared.save_report.SaveCounts.{SaveCounts}
 use Rattle.machine_look.specs.declared.saving.SaveOptions.{SaveOptions}
 use Rattle.machine_look.specs.Course.{HasRoomForCounts, IsConcluded, IsCourse, IsUnclosed}
-use Rattle.machine_look.specs.FoundPart.{FillBlocks, words_in}
+use Rattle.machine_look.specs.FoundPart.{FillBlocks}
 use Rattle.machine_look.specs.LookFault.{IsSaveFault}
 use Rattle.machine_look.specs.Save.{HeldUp, IsOver, SaveTold, Shelved, TakesUp, console_of, counts_held, counts_read}
-use Rattle.machine_look.specs.SaveReport.{held_end, save_end}
 use Rattle.machine_look.specs.Shelf.{ShelfStep}
 use Rattle.machine_look.specs.ShelfTold.{AreDone, ShelfTold}
 use Rattle.machine_look.proofs.Faults.{not_closed, saved_steps}

@@ -15,7 +15,7 @@ use Rattle.tape_values.specs.Block.{BlockValue, block_at, data_block, low_first,
 use Rattle.tape_values.specs.Tape.{plain_text, text_of}
 use Rattle.tape_values.specs.Tape.Piece.{block}
 use Rattle.tape_values.proofs.Pieces.{text_of-append}
-use Rattle.machine_look.specs.SavedSteps.{adds, closes, full, not_all_added, puts}
+use Rattle.machine_look.specs.SavedSteps.{adds, full, not_all_added, puts}
 use Rattle.machine_look.specs.SavedTape.{last_text, rest_block, saved_block, saved_blocks, saved_tape}
 use Rattle.machine_look.specs.Shelf.{ShelfStep, Reserve, NotReserved, Resume, NotResumed, Add, NotAdded, Put, NotPut, written}
 use Rattle.machine_look.specs.ShelfTold.{AreDone, GoesOnTo, IsDone, ShelfTold}

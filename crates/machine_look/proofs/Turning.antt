@@ -1,5 +1,5 @@
 -- Turns one after another, each of which may be the last.
-use Rattle.std.proofs.Common.{◌≡◌, true, ℕ, ◌+◌, ◌≤◌, List, [], Option, None, Some, Result, Ok, Err, OnOk, refl, arith, subst}
+use Rattle.std.proofs.Common.{◌≡◌, true, ℕ, ◌≤◌, List, [], Option, None, Some, Result, Ok, Err, OnOk, refl, arith, subst}
 use Rattle.std.specs.Prelude.{IfErr, is_err}
 use Rattle.load_devices.proofs.Told.{gains_none}
 use Rattle.load_devices.specs.declared.item.Item.{Item}

@@ -1,10 +1,9 @@
 -- Looks at samples of what was found, and a reading of the words behind it, over one line.
-use Rattle.std.specs.Prelude.{◌≡◌, ℕ, ◌+◌, ◌-◌, ◌*◌, ◌≤◌, Some, List, [], ◌∷◌, ◌++◌, length, map, take, Option}
+use Rattle.std.specs.Prelude.{◌≡◌, ℕ, ◌+◌, ◌-◌, ◌*◌, ◌≤◌, Some, List, [], ◌++◌, length, map, take, Option}
 use Rattle.tape_image.specs.Plan.{plan_of}
 use Rattle.tape_image.specs.Word.{WordValue, whole_word}
 use Rattle.tape_values.specs.Tape.{TapeValue}
 use Rattle.odt_machine.specs.Machine.{Machine, word_at}
-use Rattle.load_devices.specs.Devices.{LineTold}
 use Rattle.load_devices.specs.Told.{Gains}
 use Rattle.load_devices.specs.Turns.{most_turns}
 use Rattle.load_devices.specs.declared.item.Item.{Item}

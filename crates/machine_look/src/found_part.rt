@@ -29,11 +29,7 @@ pub(crate) struct Found {
 /// complete. What stands behind them was not brought to its end, and counts as not read.
 ///
 /// `NotOfSave` where no such save left it, `Memory` where a growth was refused.
-pub(crate) fn found_in(
-    alloc: Global,
-    range: AddressRange,
-    text: &[u8],
-) -> Result<Found, ShelfFault>
+pub(crate) fn found_in(alloc: Global, range: AddressRange, text: &[u8]) -> Result<Found, ShelfFault>
     ensures of_save { IfOk result (λ found. IsPartOf range text.now) }
     ensures found { IfOk result (λ found. AreFoundIn range text.now found.numbers.items) }
     ensures kept { IfOk result (λ found. found.kept ≡ false → found.numbers.items ≡ []) }

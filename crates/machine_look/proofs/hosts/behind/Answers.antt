@@ -1,5 +1,5 @@
-use Rattle.std.proofs.Common.{◌≡◌, ◌∙◌, ℕ, ◌+◌, ◌*◌, ◌∷◌, ◌++◌, [], List, ap, subst, sym, arith}
-use Rattle.reading_core.specs.Addresses.{AreAddresses, addresses_from}
+use Rattle.std.proofs.Common.{◌∙◌, ℕ, ◌+◌, ◌*◌, ◌∷◌, ◌++◌, [], List, ap, subst, sym, arith}
+use Rattle.reading_core.specs.Addresses.{AreAddresses}
 use Rattle.reading_core.proofs.Asking.{none_from, one_more_from}
 use Rattle.machine_look.proofs.SavedMemory.{few_asked}
 use Rattle.machine_look.proofs.hosts.behind.Goals as goal

@@ -1,4 +1,4 @@
-use Rattle.std.proofs.Common.{◌≡◌, ◌+◌, ◌*◌, ◌<◌, ℕ, List, length, min, get_or, ap, sym, subst, ◌∙◌, arith, refl}
+use Rattle.std.proofs.Common.{◌+◌, ◌*◌, ◌<◌, List, length, get_or, ap, sym, ◌∙◌, arith, refl}
 use Rattle.tape_image.specs.Word.{WordValue, whole_word}
 use Rattle.sample_looks.proofs.Spread.{ended, next_sample, within}
 use Rattle.machine_look.specs.Behind.{addresses_in}

@@ -1,4 +1,4 @@
-use Rattle.std.proofs.Common.{◌∙◌, [], ◌∷◌}
+use Rattle.std.proofs.Common.{◌∙◌}
 use Rattle.machine_look.proofs.OnShelf.{resumed, still_idle}
 use Rattle.machine_look.proofs.left_part.take_left.Goals as goal
 

@@ -1,10 +1,9 @@
-use Rattle.std.proofs.Common.{◌≡◌, ◌∙◌, ℕ, ◌+◌, ◌*◌, ◌≤◌, ◌-◌, ◌∷◌, ◌++◌, [], List, length, Some, None, refl, subst, sym, ap, arith}
-use Rattle.std.specs.Prelude.{OnOk}
+use Rattle.std.proofs.Common.{◌≡◌, ◌∙◌, ℕ, ◌+◌, ◌*◌, ◌≤◌, ◌-◌, ◌++◌, [], List, length, Some, refl, subst, sym, ap, arith}
 use Rattle.tape_image.specs.Word.{WordValue}
 use Rattle.reading_core.specs.Bound.{reading_bound}
 use Rattle.console_lines.specs.Dialling.{asked_once}
 use Rattle.load_devices.specs.Devices.{line_told}
-use Rattle.load_devices.specs.Failures.{CountsFault, IsLastFault}
+use Rattle.load_devices.specs.Failures.{CountsFault}
 use Rattle.load_devices.specs.Told.{Gains}
 use Rattle.load_devices.specs.Turns.{most_turns}
 use Rattle.reading_core.specs.Addresses.{AreAddresses}

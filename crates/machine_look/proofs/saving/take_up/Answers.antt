@@ -1,4 +1,4 @@
-use Rattle.std.proofs.Common.{ℕ, List, subst}
+use Rattle.std.proofs.Common.{subst}
 use Rattle.machine_look.specs.declared.shelf.ShelfFault.TheVariants.{PartIsThere}
 use Rattle.machine_look.specs.Shelf.{NotReserved}
 use Rattle.machine_look.specs.ShelfTold.{IsDone}

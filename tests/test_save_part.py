@@ -1,5 +1,5 @@
-"""What a `save` leaves that does not come to its end: FILE.part, with each block of which the last word was read. And what it
-takes from the disk before the first key, and in which order the file of a tape comes about.
+"""What a `save` leaves that does not come to its end: FILE.part, with each block of which the last word was read; and how the same
+line goes on behind it. And what it takes from the disk before the first key, and in which order the file of a tape comes about.
 """
 import errno
 import os
@@ -8,7 +8,7 @@ import time
 import unittest
 from concurrent.futures import ThreadPoolExecutor
 
-from cases import Console
+from cases import Console, LossyConsole
 from outside import bytes_of
 from test_looks import FAILED, Looks, as_memory, as_tape, numbers
 import traced
@@ -20,6 +20,14 @@ SAVE = f"save a.lda LINE 1000 {LAST:o}"
 BLOCK, ROOM = 519, 519 + 95 + 7
 TAPE = as_tape(0o1000, WORDS)
 SAVED = "sent 2401 spent 0 read 300 of 300\nend Saved\n"
+
+# What is looked at of the 256 words of its block: the first, the last, and others spread evenly between, eight in all.
+SAMPLES = [0o1000 + 2 * (number * 255 // 7) for number in range(8)]
+LOOKS = "Z" + "".join(f"{address:06o}/\r" for address in SAMPLES)
+REST = "Z" + "".join(f"{0o1000 + 2 * number:06o}/\r" for number in range(256, 300))
+WENT_ON = f"sent {len(LOOKS) + len(REST)} spent 0 read 300 of 300\nend Saved\n"
+STALE = "ldaodt: memory does not hold what a.lda.part says: remove a.lda.part to begin again\n"
+ANOTHERS = "ldaodt: a.lda.part is not of this save\n"
 
 # Calls that touch names and files, by name; some have no name in `traced`.
 ON_THE_DISK = ("openat", "write", "flock", "fsync", "ftruncate", "statx", "link", "unlink")
@@ -55,6 +63,14 @@ class Part(Looks):
     def are_there(self):
         return {it for it in os.listdir(self.room) if it.startswith("a.lda")}
 
+    def leave(self, text=TAPE[:BLOCK]):
+        """What a save has left: a block, or another text, as long as the whole tape."""
+        self.put("a.lda.part", text + bytes(ROOM - len(text)))
+
+    def is_saved(self, given, report=WENT_ON):
+        self.ends(given, 0, report)
+        self.is_so((self.are_there(), bytes_of(self.path("a.lda"))), ({"a.lda"}, TAPE))
+
     def is_left(self, blocks):
         """FILE.part is there, as long as the whole tape, with so many complete blocks in front, and no FILE."""
         self.is_so(self.are_there(), {"a.lda.part"})
@@ -66,7 +82,7 @@ class Left(Part):
     """A save that somebody ends."""
 
     def test_whatever_ends_it(self):
-        """Ctrl-C, a closed terminal, a kill: the block stays, memory is what it was, and the part is not taken away by the next."""
+        """Ctrl-C, a closed terminal, a kill: the block stays, memory is what it was, and the same line goes on."""
         for number in (signal.SIGINT, signal.SIGHUP, signal.SIGTERM, signal.SIGKILL):
             with self.subTest(number):
                 line = self.machine(SlowEnd)
@@ -79,10 +95,9 @@ class Left(Part):
                 self.has_looked(line, before)
                 self.is_left(1)
                 other = self.machine()
-                self.ends(self.look(other, SAVE), 4, "", "ldaodt: a.lda.part is there already\n")
-                self.is_so(other.connections, 0)
-                self.is_left(1)
-                os.remove(self.path("a.lda.part"))
+                self.is_saved(self.look(other, SAVE))
+                self.is_so(other.machine.typed, LOOKS + REST)
+                os.remove(self.path("a.lda"))
 
     def test_before_the_first_block(self):
         """There is room, and nothing in it."""
@@ -104,15 +119,172 @@ class Left(Part):
 
     def test_a_part_of_any_kind_is_left(self):
         """Nobody is connected to."""
-        for make in (lambda path: self.put("a.lda.part", b"hello"), os.mkdir, os.mkfifo, lambda path: os.symlink("nowhere", path)):
+        def linked(path):
+            self.leave()
+            os.link(path, self.path("second"))
+
+        for make in (linked, os.mkdir, os.mkfifo, lambda path: os.symlink("nowhere", path)):
             make(self.path("a.lda.part"))
-            is_file = os.path.isfile(self.path("a.lda.part"))
             line = self.machine()
             self.ends(self.look(line, SAVE), 4, "", "ldaodt: a.lda.part is there already\n")
             self.is_so((line.connections, self.are_there()), (0, {"a.lda.part"}))
-            if is_file:
-                self.is_so(self.part(), b"hello")
             (os.rmdir if os.path.isdir(self.path("a.lda.part")) else os.remove)(self.path("a.lda.part"))
+
+
+class GoesOn(Part):
+    """A save of which an earlier one has left something."""
+
+    def test_behind_its_block(self):
+        """Samples of it are looked at, and the words behind it are read."""
+        self.leave()
+        line = self.machine()
+        self.is_saved(self.look(line, SAVE))
+        self.is_so((line.machine.typed, line.connections), (LOOKS + REST, 1))
+
+    def test_behind_a_block_that_is_torn(self):
+        """What stands behind the last complete block counts as not read."""
+        for behind in (TAPE[BLOCK:BLOCK + 40], TAPE[BLOCK:], b"\xff" * 90):
+            self.leave(TAPE[:BLOCK] + behind)
+            self.is_saved(self.look(self.machine(), SAVE))
+            os.remove(self.path("a.lda"))
+
+    def test_behind_all_of_its_blocks(self):
+        """Nothing is left to be read."""
+        for blocks in (1, 2):
+            words = numbers("all", 256 * blocks)
+            tape = as_tape(0o1000, words)
+            self.put("a.lda.part", tape[:-7] + bytes(7))
+            line = self.console_at(Console(memory=as_memory(0o1000, words)))
+            given = self.look(line, f"save a.lda LINE 1000 {0o1000 + 2 * len(words) - 2:o}")
+            self.ends(given, 0, f"sent {len(LOOKS)} spent 0 read {len(words)} of {len(words)}\nend Saved\n")
+            self.is_so((self.are_there(), bytes_of(self.path("a.lda"))), ({"a.lda"}, tape))
+            os.remove(self.path("a.lda"))
+
+    def test_with_another_start(self):
+        self.leave()
+        given = self.look(self.machine(), SAVE + " --start 1000")
+        self.ends(given, 0, WENT_ON)
+        self.is_so(bytes_of(self.path("a.lda")), as_tape(0o1000, WORDS, 0o1000))
+
+    def test_a_part_without_a_block(self):
+        """One that was filled, and one with less than a block: every word is read, and none looked at before."""
+        for text in (b"", TAPE[:6], TAPE[:BLOCK - 1], TAPE[:100] + b"\xff" + TAPE[101:BLOCK]):
+            self.leave(text)
+            line = self.machine()
+            self.is_saved(self.look(line, SAVE), SAVED)
+            os.remove(self.path("a.lda"))
+
+    def test_a_small_tape_that_was_not_named(self):
+        """Killed once it was whole."""
+        tape = as_tape(0o1000, WORDS[:20])
+        self.put("a.lda.part", tape)
+        given = self.look(self.machine(), "save a.lda LINE 1000 1046")
+        self.ends(given, 0, "sent 161 spent 0 read 20 of 20\nend Saved\n")
+        self.is_so((self.are_there(), bytes_of(self.path("a.lda"))), ({"a.lda"}, tape))
+
+    def test_a_word_that_memory_does_not_hold(self):
+        """Each of those that are looked at; the first that differs is told. Nothing else is looked at, and nothing becomes of the part."""
+        for places in ([0], [1], [4], [7], [2, 5]):
+            with self.subTest(places):
+                self.leave()
+                memory = as_memory(0o1000, WORDS)
+                for place in places:
+                    memory[SAMPLES[place]] ^= 0o400
+                line = self.console_at(Console(memory=memory))
+                given = self.look(line, SAVE)
+                self.ends(given, 5, f"sent {len(LOOKS)} spent 0 read 0 of 300\nend Stale {SAMPLES[places[0]]:06o}\n", STALE)
+                self.is_so(line.machine.typed, LOOKS)
+                self.is_so((self.are_there(), self.part()), ({"a.lda.part"}, TAPE[:BLOCK] + bytes(ROOM - BLOCK)))
+
+    def test_a_word_that_is_not_looked_at(self):
+        """Samples are no proof: the tape has what was read first."""
+        self.leave()
+        memory = as_memory(0o1000, WORDS)
+        memory[0o1002] ^= 1
+        self.is_saved(self.look(self.console_at(Console(memory=memory)), SAVE))
+
+    def test_another_range(self):
+        for words in ("1000 2126", "1000 2132", "1002 2132", "776 2126", "1000 1000"):
+            self.leave()
+            line = self.machine()
+            self.ends(self.look(line, f"save a.lda LINE {words}"), 3, "", ANOTHERS)
+            self.is_so((line.connections, self.are_there(), self.part()), (0, {"a.lda.part"}, TAPE[:BLOCK] + bytes(ROOM - BLOCK)))
+
+    def test_what_is_no_front_of_a_tape(self):
+        for text in (b"", b"hello", bytes(ROOM - 1), bytes(ROOM + 1), TAPE + b"x", b"\0" * 9 + TAPE[9:], b"x" * ROOM, bytes(ROOM - 1) + b"x", TAPE[:BLOCK]):
+            self.put("a.lda.part", text)
+            line = self.machine()
+            self.ends(self.look(line, SAVE), 3, "", ANOTHERS)
+            self.is_so((line.connections, self.are_there(), self.part()), (0, {"a.lda.part"}, text))
+
+    def test_a_file_is_told_first(self):
+        self.leave()
+        self.put("a.lda", b"hello")
+        self.ends(self.look(self.machine(), SAVE), 4, "", "ldaodt: a.lda is there already\n")
+        self.is_so(bytes_of(self.path("a.lda")), b"hello")
+
+    def test_two_that_go_on(self):
+        """The second is refused, and takes nothing."""
+        self.leave()
+        line, other = self.machine(SlowBegin), self.machine()
+        process = self.begin(line, SAVE)
+        self.until(lambda: len(line.machine.typed) > 20)
+        self.ends(self.look(other, SAVE), 4, "", "ldaodt: a.lda.part is there already\n")
+        self.is_so(other.connections, 0)
+        out, err = process.communicate(timeout=120)
+        self.is_so((process.returncode, out, err), (0, WENT_ON, ""))
+        self.is_so((self.are_there(), bytes_of(self.path("a.lda"))), ({"a.lda"}, TAPE))
+
+    def test_a_console_that_is_not_there(self):
+        """The part stays, where there is a block in it."""
+        self.leave()
+        given = self.ldaodt(["save", "a.lda", self.taken_port(), "1000", f"{LAST:o}"])
+        self.is_so(given.status, 4)
+        self.is_left(1)
+
+    def test_each_lost_key_and_character_of_the_looks(self):
+        """Each costs a mishap, and nothing else."""
+        def trial(row):
+            number, lost = row
+            room = f"lost{number}.lda"
+            self.put(room + ".part", TAPE[:BLOCK] + bytes(ROOM - BLOCK))
+            line = self.machine(LossyConsole, **lost)
+            given = self.look(line, SAVE.replace("a.lda", room))
+            counts = given.out.split()
+            return (given.status, counts[3], given.out.splitlines()[1], bytes_of(self.path(room)))
+
+        rows = [{"lost_key": place} for place in range(1, 26, 3)] + [{"lost_answer": place} for place in range(4, 50, 5)]
+        with ThreadPoolExecutor(8) as pool:
+            for status, spent, end, text in pool.map(trial, enumerate(rows)):
+                self.is_so((status, spent, end, text), (0, "1", "end Saved", TAPE))
+
+    def test_patience_is_that_of_looks_and_reading_together(self):
+        """A console that falls silent in the looks: no word counts, and the part is as it was."""
+        class Falling(Console):
+            def take(self, key):
+                return "" if len(self.typed) > 30 else super().take(key)
+
+        self.leave()
+        given = self.look(self.machine(Falling), SAVE + " --patience 2")
+        self.is_so((given.status, given.out.splitlines()[0].split()[2:], given.out.splitlines()[1]), (5, "spent 2 read 0 of 300".split(), "end GaveUp"))
+        self.is_left(1)
+
+    def test_memory_that_ends_in_the_looks(self):
+        self.leave()
+        given = self.look(self.machine(words=0o1000 // 2 + 40), SAVE)
+        self.is_so((given.status, given.out.splitlines()[1]), (5, f"end NoWord {SAMPLES[2]:06o}"))
+        self.is_left(1)
+
+    def test_a_line_that_fails_in_the_looks(self):
+        self.leave()
+        line = self.device_at(SlowBegin(memory=as_memory(0o1000, WORDS)))
+        process = self.begin(line, SAVE)
+        self.until(lambda: len(line.machine.typed) > 20)
+        line.hang_up()
+        out, err = process.communicate(timeout=60)
+        self.is_so((process.returncode, err, out.splitlines()[1]), (4, FAILED, "end LineFailed"))
+        self.is_so(" read 0 of 300" in out, True)
+        self.is_left(1)
 
 
 class Ended(Part):
@@ -254,8 +426,40 @@ class AtEachCall(Part):
                 elif len(synced) > 1:
                     self.is_so(self.part()[:BLOCK], TAPE[:BLOCK])
                 self.is_so(there <= {"a.lda", "a.lda.part"}, True)
-                for it in there:
-                    os.remove(self.path(it))
+                self.goes_on_to_the_tape(there)
+
+    def goes_on_to_the_tape(self, there):
+        """Where there is no FILE, the same line comes to the tape of a save that nobody killed. One that was killed before it had its room
+        has left a part that no save goes on with."""
+        if "a.lda" not in there:
+            if "a.lda.part" in there and len(self.part()) < ROOM:
+                self.ends(self.look(self.machine(), SAVE), 3, "", ANOTHERS)
+                os.remove(self.path("a.lda.part"))
+            self.is_so(self.look(self.machine(), SAVE).status, 0)
+        self.is_so(bytes_of(self.path("a.lda")), TAPE)
+        for it in self.are_there():
+            os.remove(self.path(it))
+
+    def test_a_kill_before_each_call_of_one_that_goes_on(self):
+        """The block that was found is never lost."""
+        self.leave()
+        count = len(self.on_the_disk())
+        for number in range(count):
+            with self.subTest(number):
+                self.leave()
+                seen = []
+
+                def before(call, number=number):
+                    if call.name in ON_THE_DISK and self.touches(call):
+                        if len(seen) == number:
+                            os.kill(call.process, signal.SIGKILL)
+                        seen.append(call.name)
+
+                self.is_so(self.ask(before)[1] is None, True)
+                there = self.are_there()
+                if "a.lda" not in there:
+                    self.is_so(self.part()[:BLOCK], TAPE[:BLOCK])
+                self.goes_on_to_the_tape(there)
 
     def test_a_block_that_can_not_be_synced(self):
         """The save ends there, and the part stays."""

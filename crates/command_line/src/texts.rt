@@ -76,14 +76,16 @@ pub(crate) const SAVE: &str = "\
 The words from FROM to TO, both included, are looked at and written as one
 tape. A file that is there is never overwritten. Where the machine has no such
 word, the line fails or patience ends, the tape has the words that were read,
-and without any there is no file. Nothing is typed that changes memory or
-starts anything.
+and without any there is no file. Where it is broken off, FILE.part keeps the
+words that were read, and the same line goes on behind them, once it has looked
+at 8 of them. Nothing is typed that changes memory or starts anything.
 
 Exit status:
   0  the look ended Saved
+  3  FILE.part is of another save
   4  the file is there already or could not be written, the output could not
      be written, there was no connection, or the line failed
-  5  the look ended GaveUp, NoWord or TurnsOver
+  5  the look ended GaveUp, NoWord, Stale or TurnsOver
 
 Example, what is at the bottom of memory, before anything is loaded:
   ldaodt save before.lda /dev/ttyUSB0 0 7776";

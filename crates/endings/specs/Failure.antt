@@ -11,7 +11,7 @@ use Rattle.tape_blocks.specs.Fault.{fault_text, refused_tape_text}
 use Rattle.tape_blocks.specs.OutOfMemory.{memory_text}
 use Rattle.endings.specs.FaultOutput.{StandardError, IsSaidOnError}
 use Rattle.endings.specs.declared.failure.Failure.{Failure}
-use Rattle.endings.specs.declared.failure.Failure.TheVariants.{CannotRead, CannotWrite, CannotWriteFile, FileIsThere, PartIsThere, RecordInUse, CannotConnect}
+use Rattle.endings.specs.declared.failure.Failure.TheVariants.{CannotRead, CannotWrite, CannotWriteFile, FileIsThere, PartIsThere, PartNotOfSave, PartStale, RecordInUse, CannotConnect}
 use Rattle.endings.specs.declared.failure.Failure.TheVariants.{LineFailed, StartInDoubt, TapeRefused, OneTapeRefused, ScriptRefused, WordsRefused, RecordRefused}
 use Rattle.endings.specs.declared.failure.Failure.TheVariants.{RecordStale, TooLarge, Misplaced, BadWord, NoMemory}
 use Rattle.endings.specs.declared.place.Place.{Place}
@@ -30,6 +30,8 @@ status_of CannotWrite = DeviceFailed
 status_of (CannotWriteFile name) = DeviceFailed
 status_of (FileIsThere name) = DeviceFailed
 status_of (PartIsThere name) = DeviceFailed
+status_of (PartNotOfSave name) = Refused
+status_of (PartStale name) = NotLoaded
 status_of (RecordInUse name) = DeviceFailed
 status_of (CannotConnect address) = DeviceFailed
 status_of LineFailed = DeviceFailed
@@ -74,6 +76,8 @@ failure_words (CannotWriteFile name) = codes "cannot write "
 failure_words (CannotConnect address) = codes "cannot connect to "
 failure_words (FileIsThere name) = []
 failure_words (PartIsThere name) = []
+failure_words (PartNotOfSave name) = []
+failure_words (PartStale name) = codes "memory does not hold what "
 failure_words (Misplaced name place) = []
 failure_words (RecordInUse name) = codes "record in use: "
 failure_words LineFailed = line_failed
@@ -89,12 +93,18 @@ failure_words TooLarge = codes "machine too large"
 failure_words BadWord = codes "a word of the command line is not UTF-8"
 failure_words NoMemory = memory_text
 
+-- the name of a file, that the part beside it says something, and the name again
+abbrev pub stale_names : List ℕ → List ℕ
+stale_names name = shown_name name ++ (codes ".part says: remove " ++ shown_name name)
+
 -- the name in a failure's line, where it has one
 abbrev pub failure_name : Failure → List ℕ
 failure_name (CannotRead name) = shown_name name.now
 failure_name (CannotWriteFile name) = shown_name name.now
 failure_name (FileIsThere name) = shown_name name.now
 failure_name (PartIsThere name) = shown_name name.now
+failure_name (PartNotOfSave name) = shown_name name.now
+failure_name (PartStale name) = stale_names name.now
 failure_name (RecordInUse name) = shown_name name.now
 failure_name (Misplaced name place) = shown_name name.now
 failure_name (CannotConnect address) = shown_name address.now
@@ -116,6 +126,8 @@ misplaced_end Record = codes " is a terminal, no record\n"
 abbrev pub failure_end : Failure → List ℕ
 failure_end (FileIsThere name) = codes " is there already\n"
 failure_end (PartIsThere name) = codes ".part is there already\n"
+failure_end (PartNotOfSave name) = codes ".part is not of this save\n"
+failure_end (PartStale name) = codes ".part to begin again\n"
 failure_end (Misplaced name place) = misplaced_end place
 failure_end StartInDoubt = codes "\nldaodt: the start may have gone out: look at the machine first\n"
 failure_end other = codes "\n"

@@ -23,6 +23,13 @@ pub enum Failure<'a> {
     /// What a save read that did not come to its end is beside the file of this name: its name has `.part` more.
     PartIsThere(&'a str),
 
+    /// What is there under the name of what a save left, beside the file of this name, is nothing that a save of these
+    /// words left.
+    PartNotOfSave(&'a str),
+
+    /// Memory does not hold what a save left beside the file of this name.
+    PartStale(&'a str),
+
     /// Another load holds the record's file of this name.
     RecordInUse(&'a str),
 
@@ -122,8 +129,9 @@ impl<'a> Failure<'a> {
             | Failure::OneTapeRefused(..)
             | Failure::ScriptRefused(_)
             | Failure::WordsRefused(_)
+            | Failure::PartNotOfSave(_)
             | Failure::RecordRefused(_) => Status::Refused,
-            Failure::RecordStale => Status::NotLoaded,
+            Failure::PartStale(_) | Failure::RecordStale => Status::NotLoaded,
             Failure::TooLarge | Failure::BadWord | Failure::Misplaced(..) => Status::BadCommandLine,
             Failure::NoMemory => Status::NoMemory,
         }

@@ -36,7 +36,11 @@ fn push_words(words: &mut LineWords, failure: Failure<'_>)
         Failure::CannotRead(_) => push_bytes(words, b"cannot read "),
         Failure::CannotWrite => push_bytes(words, b"cannot write output"),
         Failure::CannotWriteFile(_) => push_bytes(words, b"cannot write "),
-        Failure::FileIsThere(_) | Failure::PartIsThere(_) | Failure::Misplaced(..) => {}
+        Failure::FileIsThere(_)
+        | Failure::PartIsThere(_)
+        | Failure::PartNotOfSave(_)
+        | Failure::Misplaced(..) => {}
+        Failure::PartStale(_) => push_bytes(words, b"memory does not hold what "),
         Failure::CannotConnect(_) => push_bytes(words, b"cannot connect to "),
         Failure::RecordInUse(_) => push_bytes(words, b"record in use: "),
         Failure::LineFailed | Failure::StartInDoubt => push_bytes(words, b"line failed"),

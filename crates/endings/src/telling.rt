@@ -5,7 +5,7 @@ ghost use Rattle.std.specs.Prelude.{◌≡◌, ◌<◌, OnOk, OnErr, IsTrue};
 ghost use Rattle.std.specs.Char.{is_control, digit_char};
 ghost use Rattle.std.specs.Char.Escape.{escape_default};
 ghost use Rattle.endings.specs.FaultOutput.{IsSaidInPart, IsSaidWhole};
-ghost use Rattle.endings.specs.Failure.{status_of, failure_end, failure_name, fault_line, misplaced_end, shown_char, shown_name};
+ghost use Rattle.endings.specs.Failure.{status_of, failure_end, failure_name, fault_line, misplaced_end, shown_char, shown_name, stale_names};
 ghost use Rattle.endings.specs.Failure.{is_unheard, IsTold, IsToldUnless};
 
 use crate::failure::Failure;
@@ -107,6 +107,8 @@ fn line_end(failure: Failure<'_>) -> &'static [u8]
     match failure {
         Failure::FileIsThere(_) => b" is there already\n",
         Failure::PartIsThere(_) => b".part is there already\n",
+        Failure::PartNotOfSave(_) => b".part is not of this save\n",
+        Failure::PartStale(_) => b".part to begin again\n",
         Failure::Misplaced(_, place) => misplaced_end(place),
         Failure::StartInDoubt => {
             b"\nldaodt: the start may have gone out: look at the machine first\n"
@@ -141,11 +143,23 @@ fn write_shown_name<E: FaultOutput>(err: &mut E, failure: Failure<'_>) -> Result
         | Failure::CannotWriteFile(name)
         | Failure::FileIsThere(name)
         | Failure::PartIsThere(name)
+        | Failure::PartNotOfSave(name)
         | Failure::RecordInUse(name)
         | Failure::Misplaced(name, _)
         | Failure::CannotConnect(name) => write_name(err, name),
+        Failure::PartStale(name) => write_twice(err, name),
         _ => Ok(()),
     }
+}
+
+// Writes a name, that its part says something, and the name again, to be removed.
+fn write_twice<E: FaultOutput>(err: &mut E, name: &str) -> Result<(), WriteFault>
+    ensures ok { OnOk result (IsSaidWhole (E.said err.old) (E.said err.new) (stale_names name.now)) }
+    ensures err { OnErr result (IsSaidInPart (E.said err.old) (E.said err.new) (stale_names name.now)) }
+{
+    write_name(err, name)?;
+    say(err, b".part says: remove ")?;
+    write_name(err, name)
 }
 
 // Writes a name as a fault shows it.

@@ -1,54 +1,61 @@
 -- What a save asks of its shelf, whatever becomes of it.
-use Rattle.std.proofs.Common.{◌≡◌, ℕ, List, [], ◌∷◌, ◌++◌, Result, Ok, Err, IfErr, IfOk, OnOk, inl, inr}
-use Rattle.tape_values.specs.Block.{data_block}
+use Rattle.std.proofs.Common.{◌≡◌, ℕ, List, [], ◌++◌, Result, Ok, Err, IfErr, IfOk, OnOk, inl, inr, refl, subst, sym, append-nil}
+use Rattle.std.specs.Prelude.{◌⊎◌}
 use Rattle.machine_look.specs.declared.look_fault.LookFault.{LookFault}
-use Rattle.machine_look.specs.declared.look_fault.LookFault.TheVariants.{IsThere, PartIsThere, WriteTape, Connect, WriteOutput, Memory}
+use Rattle.machine_look.specs.declared.look_fault.LookFault.TheVariants.{IsThere, PartIsThere, NotOfSave, WriteTape, Connect, WriteOutput, Memory}
 use Rattle.machine_look.specs.declared.save_end.SaveEnd.{SaveEnd}
+use Rattle.machine_look.specs.declared.save_report.SaveCounts.{SaveCounts}
 use Rattle.machine_look.specs.declared.saving.SaveOptions.{SaveOptions}
 use Rattle.machine_look.specs.declared.shelf.ShelfFault.{ShelfFault}
 use Rattle.machine_look.specs.declared.shelf.ShelfFault.TheVariants as shelf_fault
 use Rattle.machine_look.specs.LookFault.{IsSaveFault, IsSaveNotBegun}
-use Rattle.machine_look.specs.Save.{IsSavedAndReported, IsUnadded, IsUnput, SaveTold}
-use Rattle.machine_look.specs.SavedSteps.{adds, full, puts}
-use Rattle.machine_look.specs.SavedTape.{last_text, room_for, saved_block}
-use Rattle.machine_look.specs.Shelf.{NotAdded, NotPut, NotReserved, Reserve, ShelfStep}
+use Rattle.machine_look.specs.Save.{HeldUp, IsOver, IsSavedAndReported, IsUnadded, IsUnput, SaveTold, Shelved, TakesUp, numbers_of}
+use Rattle.machine_look.specs.SavedSteps.{not_all_added, not_put, puts}
+use Rattle.machine_look.specs.Shelf.{ShelfStep}
 use Rattle.machine_look.specs.ShelfTold.{HasDone}
 
+-- the shelf was taken up, and then nothing, or all of the tape, was put there
+abbrev IsDone : SaveOptions → SaveTold → SaveTold → Type 0
+IsDone options before after =
+    (found numbers : List ℕ) × (taking : List ShelfStep) × TakesUp options.range found taking
+    × (steps : List ShelfStep) × ((steps ≡ []) ⊎ (steps ≡ puts options.range.from (found ++ numbers) options.start)) × HasDone (taking ++ steps) before.shelf after.shelf
+
+over : (options : SaveOptions) (before after : SaveTold) (counts : SaveCounts) (end : SaveEnd) → IsOver options before after counts end → IsDone options before after
+over options before after _ _ (Shelved s) = (s.read.found, s.read.last.values, s.read.taking, s.read.taken_up, puts options.range.from (numbers_of s.read) options.start, inr refl, s.is_put)
+over options before after _ _ (HeldUp h) =
+    (h.found, [], h.taking, h.taken_up, [], inl refl, subst (λ steps. HasDone steps before.shelf after.shelf) (sym (append-nil h.taking)) h.untouched)
+
 pub saved : (result : Result SaveEnd LookFault) (options : SaveOptions) (before after : SaveTold) → IfOk result (IsSavedAndReported options before after)
-    → OnOk result ((numbers : List ℕ) × HasDone (Reserve (room_for options.range) ∷ puts options.range.from numbers options.start) before.shelf after.shelf)
-saved (Ok end) options before after h = (h.saved.read.last.values, h.saved.is_put)
+    → OnOk result (IsDone options before after)
+saved (Ok end) options before after h = over options before after h.counts end h.over
 saved (Err fault) options before after h = tt
 
 not_begun : (fault : ShelfFault) (options : SaveOptions) (before after : SaveTold) → IsSaveNotBegun fault options before after
     → (steps : List ShelfStep) × HasDone steps before.shelf after.shelf
-not_begun fault options before after h = (NotReserved (room_for options.range) fault ∷ [], h.refused)
+not_begun fault options before after h = (h.steps, h.refused)
 
 unput : (fault : ShelfFault) (options : SaveOptions) (before after : SaveTold) → IsUnput fault options before after
     → (steps : List ShelfStep) × HasDone steps before.shelf after.shelf
-unput fault options before after h = (
-  Reserve (room_for options.range) ∷ adds options.range.from h.read.last.values (full h.read.last.values)
-      ++ NotPut (last_text options.range.from h.read.last.values options.start) fault ∷ [],
-  h.refused,
-)
+unput fault options before after h = (h.read.taking ++ not_put options.range.from (numbers_of h.read) options.start fault, h.refused)
 
 unadded : (options : SaveOptions) (before after : SaveTold) → IsUnadded options before after → (steps : List ShelfStep) × HasDone steps before.shelf after.shelf
-unadded options before after h = (
-  Reserve (room_for options.range) ∷ adds options.range.from h.last.values h.number
-      ++ NotAdded (data_block (saved_block options.range.from h.last.values h.number)) ∷ [],
-  h.refused,
-)
+unadded options before after h = (h.read.taking ++ not_all_added options.range.from (numbers_of h.read) h.number, h.refused)
+
+cut_short : (options : SaveOptions) (before after : SaveTold) → IsDone options before after → (steps : List ShelfStep) × HasDone steps before.shelf after.shelf
+cut_short options before after h = (h.2 ++ h.4, h.6)
 
 in_vain : (fault : LookFault) (options : SaveOptions) (before after : SaveTold) → IsSaveFault options before after fault → (steps : List ShelfStep) × HasDone steps before.shelf after.shelf
 in_vain IsThere options before after (inl h) = not_begun shelf_fault.IsThere options before after h
 in_vain IsThere options before after (inr h) = unput shelf_fault.IsThere options before after h
 in_vain PartIsThere options before after h = not_begun shelf_fault.PartIsThere options before after h
+in_vain NotOfSave options before after h = not_begun shelf_fault.NotOfSave options before after h
 in_vain WriteTape options before after (inl h) = not_begun shelf_fault.Write options before after h
 in_vain WriteTape options before after (inr (inl h)) = unadded options before after h
 in_vain WriteTape options before after (inr (inr h)) = unput shelf_fault.Write options before after h
-in_vain Connect options before after h = (Reserve (room_for options.range) ∷ [], h.0)
-in_vain WriteOutput options before after h = (Reserve (room_for options.range) ∷ puts options.range.from h.saved.read.last.values options.start, h.saved.is_put)
-in_vain Memory options before after (inl h) = ([], ([], h.nothing_put))
-in_vain Memory options before after (inr h) = not_begun shelf_fault.Memory options before after h
+in_vain Connect options before after h = (h.0.taking, h.0.untouched)
+in_vain WriteOutput options before after h = cut_short options before after (over options before after h.counts h.end h.over)
+in_vain Memory options before after (inl h) = not_begun shelf_fault.Memory options before after h
+in_vain Memory options before after (inr h) = (h.0.taking, h.0.untouched)
 
 pub not_saved : (result : Result SaveEnd LookFault) (options : SaveOptions) (before after : SaveTold) → IfErr result (IsSaveFault options before after)
     → IfErr result (λ _. (steps : List ShelfStep) × HasDone steps before.shelf after.shelf)

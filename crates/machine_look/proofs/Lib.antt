@@ -1,11 +1,16 @@
+mod BehindLooks
+mod Courses
 mod Faults
 mod Found
+mod FoundBlocks
 mod Looks
 mod OnShelf
 mod SavedBlocks
 mod SavedMemory
 mod SavedWords
+mod Saves
 mod Shown
 mod Steps
+mod Taking
 mod Turning
 mod Verified

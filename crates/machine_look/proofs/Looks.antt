@@ -25,7 +25,7 @@ use Rattle.machine_look.specs.Look.{IsLineOf, IsLook, IsLookOf}
 -- ---- how a look comes to be
 
 -- what was said may be believed, also where the line doesn't tell it
-believed_said : (turns : ℕ) (stop : Stop) (first last : Reader) (line line' : Option (List Item)) (s : Inquired turns (Some stop) first last line line') → IsReader first → IsBelievableAt stop first last s.said
+pub believed_said : (turns : ℕ) (stop : Stop) (first last : Reader) (line line' : Option (List Item)) (s : Inquired turns (Some stop) first last line line') → IsReader first → IsBelievableAt stop first last s.said
 believed_said turns stop first last line line' s reads =
     let told : Inquired turns (Some stop) first last (Some []) (Some s.said) = record {
       heard = s.heard;

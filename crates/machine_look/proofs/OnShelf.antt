@@ -1,18 +1,18 @@
 -- What the disk of a shelf was asked, by what came of a call.
-use Rattle.std.proofs.Common.{◌≡◌, ℕ, ◌+◌, ◌-◌, List, [], ◌∷◌, ◌++◌, length, take, Bool, true, false, Option, Some, None, Result, Ok, Err, IsErrAnd, refl, sym, subst, ap, ◌∙◌, arith, inl, inr, OnOk, eqb}
-use Rattle.std.proofs.lemmas.Bool.{eqb-true}
-use Rattle.std.specs.Bool.{OnTrue}
+use Rattle.std.proofs.Common.{◌≡◌, ℕ, ◌+◌, ◌-◌, List, [], ◌∷◌, ◌++◌, length, take, Bool, true, false, Option, Some, None, Result, Ok, Err, refl, sym, subst, ap, ◌∙◌, arith, inl, inr, OnOk, eqb}
+use Rattle.std.proofs.lemmas.Bool.{eqb-false, eqb-true}
+use Rattle.std.specs.Bool.{IsTrue}
 use Rattle.std.specs.Io.KnownBytes.{Appends}
 use Rattle.std.specs.Prelude.{OnSome, option_map, is_err, replicate, IfErr, ⊤}
 use Rattle.std.specs.String.{string_bytes}
 use Rattle.load_devices.specs.Failures.{fault_of}
 use Rattle.load_devices.specs.Told.{HasAsked, Tells}
-use Rattle.record_file.specs.DiskStep.{DiskStep, Did, Failed, answered, step_by, LookAtName, FindFile, Open, Hold, Link, Rename, Remove, Cut, SyncFile, SyncFolder}
+use Rattle.record_file.specs.DiskStep.{DiskStep, Did, Failed, LedTo, answered, step_by, LookAtName, FindSoleFile, FindFile, Open, Hold, Link, Rename, Remove, Cut, SyncFile}
 use Rattle.record_file.specs.Folder.{IsFolderOf}
-use Rattle.record_file.specs.declared.disk.Access.TheVariants.{ReadOnly}
+use Rattle.record_file.specs.declared.disk.Access.TheVariants.{ReadOnly, ReadWrite}
 use Rattle.load_devices.proofs.Told.{tells_join, tells_none}
 use Rattle.machine_look.specs.Room.{room_of, IsFolderOpened}
-use Rattle.machine_look.specs.ShelfDisk.{Room, ShelfDisk, ShelfAsked, HasNoRoom, HasRoom, IsPutOn, IsPut, Written, IsNoFileName, IsSearch, Free, IsNotReserved, NoRoom, IsReserved, Reserved, IsMakingHeld, IsTaking, IsTakingHeld, Unmade, Taken, NotTaken, IsGone, Goes, IsLeftBehind, IsOnDisk, Synced, IsNaming, Renamed, NotRenamed, IsTakenBack, IsSettling, IsNamed, Named, Unnamed, IsClosed, part_name, IsAdded, IsNotAdded, IsUnadded, NoFile, Unwritten, Unsure}
+use Rattle.machine_look.specs.ShelfDisk.{Room, ShelfDisk, HasNoPart, HasNoRoom, HasPart, HasRoom, LeaveAll, resuming, IsPutOn, IsPut, Written, IsNoFileName, IsSearch, Free, IsNotReserved, NoRoom, IsReserved, Reserved, IsMakingHeld, IsTaking, IsTakingHeld, Unmade, Taken, NotTaken, IsGone, Goes, IsLeftBehind, IsOnDisk, Synced, IsNaming, Renamed, NotRenamed, IsSettling, IsNamed, Named, Unnamed, IsClosed, part_name, IsAdded, IsNotAdded, IsUnadded, NoFile}
 use Rattle.machine_look.specs.Shelf.{add_step, put_step}
 use Rattle.machine_look.specs.ShelfTold.{AsksFor}
 use Rattle.machine_look.specs.declared.new_file.Part.{Part}
@@ -46,13 +46,19 @@ no_name : (name : List ℕ) → true ≡ eqb (length name) 0 → IsNoFileName na
 no_name [] is = inl refl
 no_name (byte ∷ name) is = absurd (omega (arith, eqb-true (length (byte ∷ name)) 0 (sym is)))
 
-pub empty_name : (name : List ℕ) (empty : Bool) → true ≡ eqb (length name) 0 → OnTrue empty (IsNoFileName name)
-empty_name name true is = no_name name is
-empty_name name false is = tt
+pub empty_name : (name : List ℕ) (empty : Bool) → empty ≡ eqb (length name) 0 → true ≡ eqb (length name) 0 → (IsTrue empty → IsNoFileName name) × (IsNoFileName name → IsTrue empty)
+empty_name name true same is = (λ _. no_name name is, λ _. refl)
+empty_name name false same is = absurd (cc (same, is))
 
-pub folder_name : (name : List ℕ) (ends : Bool) → (ends ≡ true → name ≡ take (length name - 1) name ++ (47 ∷ [])) → OnTrue ends (IsNoFileName name)
-folder_name name true h = inr (take (length name - 1) name, h refl)
-folder_name name false h = tt
+-- a name that is not empty is a folder's where it ends in a slash
+pub folder_name : (name : List ℕ) (ends : Bool) → false ≡ eqb (length name) 0
+    → (ends ≡ true → name ≡ take (length name - 1) name ++ (47 ∷ [])) × ((front : List ℕ) → name ≡ front ++ (47 ∷ []) → ends ≡ true)
+    → (IsTrue ends → IsNoFileName name) × (IsNoFileName name → IsTrue ends)
+folder_name name true some h = (λ _. inr (take (length name - 1) name, h.0 refl), λ _. refl)
+folder_name name false some h = (λ e. absurd (cc e), either) where
+  either : IsNoFileName name → IsTrue false
+  either (inl none) = absurd (omega (arith, ap length none, eqb-false (length name) 0 (sym some)))
+  either (inr folder) = absurd (cc (h.1 folder.0 folder.1))
 
 pub renamed : (own name : List ℕ) (steps : List DiskStep) → IsSearch name None steps
     → IsNaming own name None (Failed (Link own name) ∷ (steps ++ Did (Rename own name) ∷ []))
@@ -295,3 +301,56 @@ pub add_answer : {T : Type 0} (contents : T → Option (List ℕ)) (folder name 
     → HasAsked a b (AsksFor folder (add_step text answer) (record { asked = a; name = name; room = option_map (room_of contents) before }) (record { asked = b; name = name; room = Some (room_of contents part') }))
 add_answer contents folder name text before part part' (Ok done) a b is own appends longer kept synced unadded = added_on contents name text before part part' a b is own appends longer kept synced
 add_answer contents folder name text before part part' (Err fault) a b is own appends longer kept synced unadded = not_added_on contents name before part part' a b is unadded
+
+-- ---- a part that was left
+
+-- nothing was changed
+idle_join : (one two : List DiskStep) → LeaveAll one → LeaveAll two → LeaveAll (one ++ two)
+idle_join [] two i j = j
+idle_join (Did request ∷ one) two i j = (i.0, idle_join one two i.1 j)
+idle_join (Failed request ∷ one) two i j = (i.0, idle_join one two i.1 j)
+idle_join (LedTo name target ∷ one) two i j = absurd i
+
+pub still_idle : (a b c : Option (List DiskStep)) (steps : List DiskStep) → Tells a b steps → LeaveAll steps → HasAsked b c LeaveAll → HasAsked a c LeaveAll
+still_idle a b c steps g idle h = (steps ++ h.0, tells_join a b c steps h.0 g h.1, idle_join steps h.0 idle h.2)
+
+-- the folder is opened, and the part is taken up
+pub resumed : (name own folder : List ℕ) (held : Option (List ℕ)) (a b c : Option (List DiskStep)) → own ≡ part_name name → Tells a b (Did (Open ReadOnly folder) ∷ [])
+    → HasAsked b c (λ steps. steps ≡ Did (FindSoleFile own) ∷ Did (Open ReadWrite own) ∷ Did (Hold own) ∷ Did (Open ReadOnly own) ∷ Did (Open ReadWrite own) ∷ Did (FindFile own held) ∷ [])
+    → HasAsked a c (λ steps. steps ≡ resuming (part_name name) folder held)
+resumed name own folder held a b c is opened taken = (
+  Did (Open ReadOnly folder) ∷ taken.0,
+  tells_join a b c (Did (Open ReadOnly folder) ∷ []) taken.0 opened taken.1,
+  ap (λ steps. Did (Open ReadOnly folder) ∷ steps) taken.2 ∙ ap (λ n. resuming n folder held) is,
+)
+
+-- how a part that was taken up is called of a shelf
+pub has_part_on : {T : Type 0} (opened : T → List ℕ → Type 0) (contents : T → Option (List ℕ)) (name numbers : List ℕ) (room : Option Room) (part : Part T) (a b : Option (List DiskStep))
+    → string_bytes part.name ≡ part_name name → part.length ≡ 0 → (part.kept ≡ false → numbers ≡ []) → OnSome b (contents part.file ≡ Some []) → OnSome b (contents part.held ≡ Some [])
+    → (folder : List ℕ) × opened part.folder folder × IsFolderOf name folder × HasAsked a b (λ steps. steps ≡ resuming (part_name name) folder (contents part.held))
+    → (folder : List ℕ) × IsFolderOpened opened (Some part) folder
+    × HasAsked a b (HasPart folder numbers (record { asked = a; name = name; room = room }) (record { asked = b; name = name; room = Some (room_of contents part) }))
+has_part_on opened contents name numbers room part a b own empty stays fresh untouched taken = (
+  taken.0,
+  taken.1,
+  (
+    taken.3.0,
+    taken.3.1,
+    record {
+      folder_of = taken.2;
+      held = contents part.held;
+      untouched = untouched;
+      resumed = taken.3.2;
+      written = contents part.file;
+      kept = part.kept;
+      stays = stays;
+      room = λ i. Some (record { name = own i; written = contents part.file; length = empty i; kept = part.kept });
+      fresh = fresh;
+      name = refl;
+    },
+  ),
+)
+
+pub no_part_on : (name : List ℕ) (room : Option Room) (a b : Option (List DiskStep)) → HasAsked a b LeaveAll
+    → HasAsked a b (HasNoPart (record { asked = a; name = name; room = room }) (record { asked = b; name = name; room = room }))
+no_part_on name room a b h = (h.0, h.1, record { idle = h.2; room = refl; name = refl })

@@ -55,7 +55,7 @@ one_more_block from numbers n = ap (saved_blocks from numbers) (next n) ∙ one_
 
 -- ---- their bytes
 
-bytes_length : (numbers : List ℕ) → length (flat_map low_first numbers) ≡ 2 * length numbers
+pub bytes_length : (numbers : List ℕ) → length (flat_map low_first numbers) ≡ 2 * length numbers
 bytes_length [] = refl
 bytes_length (n ∷ numbers) = omega (arith, bytes_length numbers)
 

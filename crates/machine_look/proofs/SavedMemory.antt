@@ -1,29 +1,33 @@
 -- What was read over an honest line is what memory holds.
-use Rattle.std.proofs.Common.{◌≡◌, ℕ, zero, suc, ◌+◌, ◌-◌, ◌*◌, ◌/◌, ◌<◌, ◌≤◌, List, [], ◌∷◌, ◌++◌, length, get_or, map, take, cond, Option, None, refl, arith, ap, subst, ◌∙◌, inl, inr}
-use Rattle.std.proofs.lemmas.Bool.{cases_lt, ne_eqb}
+use Rattle.std.proofs.Common.{◌≡◌, ℕ, zero, suc, ◌+◌, ◌-◌, ◌*◌, ◌/◌, ◌%◌, ◌<◌, ◌≤◌, List, [], ◌∷◌, ◌++◌, length, get_or, map, min, take, refl, arith, ap, sym, subst, ◌∙◌, inl, inr, append-nil, append_assoc, length-append}
+use Rattle.std.specs.Prelude.{All}
+use Rattle.std.proofs.lemmas.List.Elements.{All-append, All-nil}
+use Rattle.std.proofs.lemmas.Bool.{cases_lt}
 use Rattle.std.proofs.lemmas.List.{get_or_append_left}
 use Rattle.std.proofs.Math.Seq.{get_or-append_seam}
-use Rattle.tape_image.specs.Word.{whole_word}
+use Rattle.tape_image.specs.Word.{WordValue, whole_word}
 use Rattle.tape_values.specs.Block.{top}
-use Rattle.tape_values.specs.Tape.{plain_text}
-use Rattle.odt_machine.specs.Machine.{word_at}
+use Rattle.odt_machine.specs.Machine.{Machine, word_at}
+use Rattle.reading_core.specs.Invariant.{IsReader}
+use Rattle.sample_looks.specs.declared.finding.Finding.TheVariants.{AllStand}
+use Rattle.machine_look.proofs.BehindLooks.{IsReadBehind}
 use Rattle.reading_core.specs.Addresses.{IsRange, addresses_from, addresses_between}
-use Rattle.reading_core.specs.declared.phase.End.TheVariants.{Complete}
-use Rattle.reading_core.specs.declared.phase.Phase.TheVariants.{Settle, Ended as Over}
-use Rattle.reading_core.specs.Reader.{Reader, begun, ended}
-use Rattle.reading_core.proofs.Asking.{one_more, length_from}
-use Rattle.console_lines.specs.Dialling.{asked_once}
-use Rattle.load_devices.specs.Devices.{LineTold}
-use Rattle.load_devices.specs.Told.{Gains}
-use Rattle.reading_engine.specs.declared.stop.Stop.{Stop}
+use Rattle.reading_core.specs.Reader.{Reader}
+use Rattle.reading_core.proofs.Asking.{none_from, one_more, length_from, range_asked}
+use Rattle.reading_core.specs.Addresses.{AreAddresses}
+use Rattle.request_values.specs.declared.range.AddressRange.{AddressRange}
 use Rattle.machine_look.specs.declared.saving.SaveOptions.{SaveOptions}
-use Rattle.machine_look.specs.Look.{IsLook, OverHonestLine}
-use Rattle.machine_look.specs.Save.{IsMemoryAt, IsRead, SaveTold, addresses_in, tape_to_save}
-use Rattle.machine_look.specs.SavedTape.{HoldsWhatWasRead, room_for, words_read, StandFrom}
-use Rattle.machine_look.proofs.Looks.{is_true}
+use Rattle.machine_look.specs.Behind.{AreOfFound, IsMemoryBehind, addresses_behind, addresses_in, tape_to_save}
+use Rattle.machine_look.specs.FoundPart.{FillBlocks, words_in}
+use Rattle.machine_look.specs.Save.{IsTapeOf}
+use Rattle.machine_look.specs.SavedTape.{HoldsWhatWasRead, words_read, StandFrom}
 use Rattle.machine_look.proofs.SavedBlocks.{room_enough}
-use Rattle.machine_look.proofs.SavedWords.{holds_what_was_read}
+use Rattle.machine_look.proofs.SavedWords.{holds_what_was_read, read_plan, stand_behind}
 use Rattle.machine_look.proofs.Steps.{whole}
+use Rattle.machine_look.specs.SavedTape.{saved_tape}
+use Rattle.reading_core.specs.Addresses.{addresses_of}
+use Rattle.sample_looks.proofs.Spread.{asked, samples, words_at}
+use Rattle.tape_image.specs.Plan.{plan_of}
 
 -- ---- the addresses of a range
 
@@ -38,10 +42,10 @@ nr_from from (suc n) i low =
           ∙ (get_or-append_seam (addresses_from from n) (from + 2 * n) [] 0 ∙ (let same : from + 2 * n ≡ from + 2 * i = omega arith in same))
     ]
 
-range_stands : (from to : ℕ) → StandFrom from (addresses_between from to)
+pub range_stands : (from to : ℕ) → StandFrom from (addresses_between from to)
 range_stands from to i low = nr_from from ((to - from) / 2 + 1) i (omega (arith, length_from from ((to - from) / 2 + 1)))
 
-range_length : (from to : ℕ) → length (addresses_between from to) ≡ (to - from) / 2 + 1
+pub range_length : (from to : ℕ) → length (addresses_between from to) ≡ (to - from) / 2 + 1
 range_length from to = length_from from ((to - from) / 2 + 1)
 
 -- ---- the words
@@ -56,68 +60,128 @@ words_are memory (a ∷ addresses) (n ∷ numbers) few holds =
     let rest = words_are memory addresses numbers (omega arith) (λ i low. holds (suc i) (omega arith)) in
     λ i. whole_word a (first i) ∷ rest i
 
--- ---- a reading of a range
+-- ---- addresses behind others
 
--- there is something to read
-range_goes_on : (from to patience : ℕ) → ended (begun (addresses_between from to) [] patience).phase ≡ None
-range_goes_on from to patience =
-    ap (λ t. ended (cond t (Over Complete) Settle)) (ne_eqb 0 (length (addresses_between from to)) (λ none. omega (arith, none, range_length from to)))
+pub addresses_join : (from n m : ℕ) → addresses_from from (n + m) ≡ addresses_from from n ++ addresses_from (from + 2 * n) m
+addresses_join from n zero =
+    (let none : n + 0 ≡ n = omega arith in ap (addresses_from from) none) ∙ (sym (append-nil (addresses_from from n)) ∙ ap (λ more. addresses_from from n ++ more) (sym (none_from (from + 2 * n))))
+addresses_join from n (suc m) =
+    let there : from + 2 * (n + m) ≡ from + 2 * n + 2 * m = omega arith in
+    (let next : n + suc m ≡ suc (n + m) = omega arith in ap (addresses_from from) next)
+    ∙ (one_more from (n + m)
+    ∙ (ap (λ front. front ++ (from + 2 * (n + m)) ∷ []) (addresses_join from n m)
+    ∙ (ap (λ a. (addresses_from from n ++ addresses_from (from + 2 * n) m) ++ a ∷ []) there
+    ∙ (append_assoc (addresses_from from n) (addresses_from (from + 2 * n) m) ((from + 2 * n + 2 * m) ∷ [])
+    ∙ ap (λ more. addresses_from from n ++ more) (sym (one_more (from + 2 * n) m))))))
 
-few_read : (options : SaveOptions) (last : Reader) (stop : Stop) {lines lines' : Option (List LineTold)} → IsLook (begun (addresses_in options.range) [] options.patience) last stop lines lines' → length last.values ≤ length (addresses_in options.range)
-few_read options last stop look = subst (λ (list : List ℕ). length last.values ≤ length list) look.addresses look.kept.within
+words_join : (addresses more numbers next : List ℕ) → length addresses ≡ length numbers → words_read (addresses ++ more) (numbers ++ next) ≡ words_read addresses numbers ++ words_read more next
+words_join [] more [] next same = refl
+words_join [] more (n ∷ numbers) next same = absurd (omega (arith, same))
+words_join (a ∷ addresses) more [] next same = absurd (omega (arith, same))
+words_join (a ∷ addresses) more (n ∷ numbers) next same = ap (λ words. whole_word a n ∷ words) (words_join addresses more numbers next (omega (arith, same)))
 
-pub holds_read : (options : SaveOptions) (last : Reader) (stop : Stop) {lines lines' : Option (List LineTold)} → IsRange options.range.from options.range.to → options.start < 65536
-    → IsLook (begun (addresses_in options.range) [] options.patience) last stop lines lines' → HoldsWhatWasRead (addresses_in options.range) last.values (tape_to_save options last.values)
-holds_read options last stop range begins look =
+no_words : (more : List ℕ) → words_read more [] ≡ []
+no_words [] = refl
+no_words (a ∷ more) = refl
+
+-- the addresses that may be read are ones
+pub few_asked : (from n : ℕ) → from % 2 ≡ 0 → from + 2 * n ≤ top → AreAddresses (addresses_from from n)
+few_asked from zero even low = subst AreAddresses (sym (none_from from)) (record { each = All-nil _; rising = λ i j d before low. absurd (omega (arith, low)); few = omega arith })
+few_asked from (suc n) even low =
+    let count : (from + 2 * n - from) / 2 + 1 ≡ suc n = omega arith in
+    subst (λ k. AreAddresses (addresses_from from k)) count
+    (range_asked from (from + 2 * n) (record { from_is = record { even = even; below = omega (arith, low) }; to_is = record { even = omega (arith, even); below = omega (arith, low) }; order = omega arith }))
+
+-- ---- what a save has
+
+pub range_low : (range : AddressRange) → IsRange range.from range.to → range.from + 2 * words_in range ≤ top
+range_low range is = omega (arith, is.from_is.even, is.to_is.even, is.to_is.below, is.order)
+
+all_addresses : (range : AddressRange) (found : List ℕ) → length found ≤ words_in range → addresses_in range ≡ addresses_from range.from (length found) ++ addresses_behind range found
+all_addresses range found low =
+    (let all : words_in range ≡ length found + (words_in range - length found) = omega (arith, low) in ap (addresses_from range.from) all) ∙ addresses_join range.from (length found) (words_in range - length found)
+
+words_of_both : (range : AddressRange) (found read : List ℕ) → length found ≤ words_in range
+    → words_read (addresses_in range) (found ++ read) ≡ words_read (addresses_in range) found ++ words_read (addresses_behind range found) read
+words_of_both range found read low =
+    let front : List ℕ = addresses_from range.from (length found) in
+    let behind : List ℕ = addresses_behind range found in
+    let all = all_addresses range found low in
+    ap (λ addresses. words_read addresses (found ++ read)) all
+    ∙ (words_join front behind found read (length_from range.from (length found))
+    ∙ ap (λ words. words ++ words_read behind read)
+    (sym (ap (λ addresses. words_read addresses found) all ∙ (ap (words_read (front ++ behind)) (sym (append-nil found))
+    ∙ (words_join front behind found [] (length_from range.from (length found)) ∙ (ap (λ words. words_read front found ++ words) (no_words behind) ∙ append-nil (words_read front found)))))))
+
+holds_numbers : (options : SaveOptions) (numbers : List ℕ) → IsRange options.range.from options.range.to → options.start < 65536 → length numbers ≤ words_in options.range → All (λ n. n < 65536) numbers
+    → HoldsWhatWasRead (addresses_in options.range) numbers (tape_to_save options numbers)
+holds_numbers options numbers range begins few small =
     let from = options.range.from in
     let to = options.range.to in
-    let few = few_read options last stop look in
-    let low : from + 2 * length last.values ≤ top = omega (arith, few, range_length from to, range.from_is.even, range.to_is.even, range.to_is.below, range.order) in
-    holds_what_was_read from (addresses_between from to) last.values options.start range.from_is.even low look.kept.numbers begins (range_stands from to) few
+    holds_what_was_read from (addresses_between from to) numbers options.start range.from_is.even (omega (arith, few, range_low options.range range)) small begins (range_stands from to)
+    (omega (arith, few, range_length from to))
 
--- the tape of what was read needs no more room than the tape of the range
-pub fits_room : (options : SaveOptions) (last : Reader) (stop : Stop) {lines lines' : Option (List LineTold)} → IsLook (begun (addresses_in options.range) [] options.patience) last stop lines lines'
-    → length (plain_text (tape_to_save options last.values)) ≤ room_for options.range
-fits_room options last stop look =
-    let from = options.range.from in
-    let to = options.range.to in
-    room_enough from last.values options.start ((to - from) / 2 + 1) (omega (arith, few_read options last stop look, range_length from to))
+-- the tape of as many numbers as the range has words, or fewer
+pub tape_of : (options : SaveOptions) (numbers : List ℕ) → IsRange options.range.from options.range.to → options.start < 65536 → length numbers ≤ words_in options.range → All (λ n. n < 65536) numbers
+    → IsTapeOf options numbers
+tape_of options numbers range begins few small = record {
+  holds = holds_numbers options numbers range begins few small;
+  whole = whole options.range.from numbers options.start;
+  fits = room_enough options.range.from numbers options.start (words_in options.range) few;
+}
 
-pub memory_read : (options : SaveOptions) (last : Reader) (stop : Stop) {lines lines' : Option (List LineTold)} → IsRange options.range.from options.range.to → options.start < 65536
-    → (look : IsLook (begun (addresses_in options.range) [] options.patience) last stop lines lines')
-    → OverHonestLine look (IsMemoryAt (take (length last.values) (addresses_in options.range)) (tape_to_save options last.values))
-memory_read options last stop range begins look machine now lost may honest =
-    let true = is_true stop _ last look.inquired.said machine now lost look.believed may honest in (
-      true.1.same,
-      (holds_read options last stop range begins look).words
-          ∙ words_are now.memory (addresses_in options.range) last.values (few_read options last stop look)
-          (λ i low. true.1.read.holds i low ∙ ap (λ (list : List ℕ). word_at now.memory (get_or list i 0)) look.addresses),
-    )
+pub few_numbers : (range : AddressRange) (found : List ℕ) (last : Reader) → length found ≤ words_in range → last.addresses ≡ addresses_behind range found → IsReader last → length (found ++ last.values) ≤ words_in range
+few_numbers range found last low are kept =
+    omega (arith, low, length-append found last.values, kept.within, ap length are, length_from (range.from + 2 * length found) (words_in range - length found))
 
--- so it is of the reader that begins
-pub range_begins : (from to patience : ℕ) (first : Reader) → first ≡ begun (addresses_between from to) [] patience → ended first.phase ≡ None
-range_begins from to patience first is = ap (λ r. ended r.phase) is ∙ range_goes_on from to patience
-
-pub range_low : (from to : ℕ) → IsRange from to → from + 2 * length (addresses_between from to) ≤ top
-range_low from to range = omega (arith, range_length from to, range.from_is.even, range.to_is.even, range.to_is.below, range.order)
-
-abbrev pub read_of : (options : SaveOptions) (before after : SaveTold) (first last : Reader) (stop : Stop) → IsRange options.range.from options.range.to → options.start < 65536
-    → first ≡ begun (addresses_in options.range) [] options.patience → IsLook first last stop before.lines after.lines → Gains before.asked after.asked (asked_once before.call) → IsRead options before after
-read_of options before after first last stop range begins is look asks =
-    let moved : IsLook (begun (addresses_in options.range) [] options.patience) last stop before.lines after.lines = subst (λ r. IsLook r last stop before.lines after.lines) is look in
+pub memory_behind : (options : SaveOptions) (found : List ℕ) (samples : List WordValue) (last : Reader) (before now : Machine) → IsRange options.range.from options.range.to → options.start < 65536
+    → FillBlocks options.range found → last.addresses ≡ addresses_behind options.range found → IsReader last → IsReadBehind samples AllStand last before now → IsMemoryBehind options found last.values samples before now
+memory_behind options found samples last before now range begins fill are kept read =
+    let few = few_numbers options.range found last fill.within are kept in
+    let behind : List ℕ = addresses_behind options.range found in
+    let inside : length last.values ≤ length behind = subst (λ (list : List ℕ). length last.values ≤ length list) are kept.within in
     record {
-      last = last;
-      stop = stop;
-      look = moved;
-      asked = asks;
-      holds = holds_read options last stop range begins moved;
-      whole = whole options.range.from last.values options.start;
-      fits = fits_room options last stop moved;
-      is_memory = memory_read options last stop range begins moved;
+      as_found = read.as_found;
+      words = (holds_numbers options (found ++ last.values) range begins few (All-append (λ n. n < 65536) found last.values fill.small kept.numbers)).words
+          ∙ (words_of_both options.range found last.values fill.within
+          ∙ ap (λ words. words_read (addresses_in options.range) found ++ words)
+          (words_are now.memory behind last.values inside (λ i low. read.holds i low ∙ ap (λ (list : List ℕ). word_at now.memory (get_or list i 0)) are)));
     }
 
--- the numbers that were read end at or below the top
-pub reads_low : (from to patience : ℕ) (first last : Reader) (stop : Stop) {lines lines' : Option (List LineTold)} → IsRange from to → first ≡ begun (addresses_between from to) [] patience → IsLook first last stop lines lines' → from + 2 * length last.values ≤ top
-reads_low from to patience first last stop range is look =
-    let as_many : length last.addresses ≡ (to - from) / 2 + 1 = ap length (look.addresses ∙ ap (λ r. r.addresses) is) ∙ range_length from to in
-    omega (arith, look.kept.within, as_many, range.from_is.even, range.to_is.even, range.to_is.below, range.order)
+-- ---- samples of what was found
+
+nr_read : (from : ℕ) (addresses numbers : List ℕ) (p : ℕ) (d : WordValue) → StandFrom from addresses → length numbers ≤ length addresses → p < length numbers → get_or (words_read addresses numbers) p d ≡ whole_word (from + 2 * p) (get_or numbers p 0)
+nr_read from addresses [] p d stand few low = absurd (omega (arith, low))
+nr_read from [] (n ∷ numbers) p d stand few low = absurd (omega (arith, few))
+nr_read from (a ∷ addresses) (n ∷ numbers) zero d stand few low = ap (λ k. whole_word k n) (stand 0 (omega arith))
+nr_read from (a ∷ addresses) (n ∷ numbers) (suc p) d stand few low =
+    nr_read (from + 2) addresses numbers p d (stand_behind from a addresses stand) (omega (arith, few)) (omega (arith, low)) ∙ (let there : from + 2 + 2 * p ≡ from + 2 * suc p = omega arith in ap (λ k. whole_word k (get_or numbers p 0)) there)
+
+length_read : (addresses numbers : List ℕ) → length numbers ≤ length addresses → length (words_read addresses numbers) ≡ length numbers
+length_read [] [] few = refl
+length_read [] (n ∷ numbers) few = absurd (omega (arith, few))
+length_read (a ∷ addresses) [] few = refl
+length_read (a ∷ addresses) (n ∷ numbers) few = ap suc (length_read addresses numbers (omega (arith, few)))
+
+few_found : (range : AddressRange) (found : List ℕ) → FillBlocks range found → length found ≤ length (addresses_in range)
+few_found range found fill = omega (arith, fill.within, range_length range.from range.to)
+
+-- the word of a place that was found
+pub word_found : (range : AddressRange) (found : List ℕ) (p : ℕ) (d : WordValue) → FillBlocks range found → p < length found → get_or (words_read (addresses_in range) found) p d ≡ whole_word (range.from + 2 * p) (get_or found p 0)
+word_found range found p d fill low = nr_read range.from (addresses_in range) found p d (range_stands range.from range.to) (few_found range found fill) low
+
+pub many_found : (range : AddressRange) (found : List ℕ) → FillBlocks range found → length (words_read (addresses_in range) found) ≡ length found
+many_found range found fill = length_read (addresses_in range) found (few_found range found fill)
+
+pub of_found : (range : AddressRange) (found : List ℕ) (number : ℕ) (items : List WordValue) → IsRange range.from range.to → FillBlocks range found → number ≡ min (length found) 8 → items ≡ words_at (words_read (addresses_in range) found) (length found) number
+    → AreOfFound range found items
+of_found range found number items is fill few all =
+    let low : range.from + 2 * length found ≤ top = omega (arith, fill.within, range_low range is) in
+    let holds = holds_what_was_read range.from (addresses_in range) found 1 is.from_is.even low fill.small (omega arith) (range_stands range.from range.to) (few_found range found fill) in
+    let plan = plan_of (saved_tape range.from found 1) in
+    let rising : AreAddresses (addresses_of (words_at plan.words (length found) number)) =
+    asked plan (length found) number (read_plan range.from (addresses_in range) found 1 low fill.small (omega arith)) (omega (arith, ap length holds.words, many_found range found fill)) few in
+    subst (AreOfFound range found) (sym all) (record {
+      spread = samples (words_read (addresses_in range) found) (length found) number few;
+      asked = subst (λ words. AreAddresses (addresses_of (words_at words (length found) number))) holds.words rising;
+    })

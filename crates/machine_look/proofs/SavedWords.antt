@@ -68,7 +68,7 @@ word_before a n b rest even above =
 
 -- ---- the bytes of all of them
 
-stand_behind : (from a : ℕ) (addresses : List ℕ) → StandFrom from (a ∷ addresses) → StandFrom (from + 2) addresses
+pub stand_behind : (from a : ℕ) (addresses : List ℕ) → StandFrom from (a ∷ addresses) → StandFrom (from + 2) addresses
 stand_behind from a addresses stand i low = let this : get_or (a ∷ addresses) (suc i) 0 ≡ from + 2 * suc i = stand (suc i) (omega arith) in omega (arith, this)
 
 read_bytes : (from : ℕ) (addresses numbers : List ℕ) (b : ℕ) → from % 2 ≡ 0 → StandFrom from addresses → length numbers ≤ length addresses
@@ -126,6 +126,11 @@ rising_read from (a ∷ addresses) (n ∷ numbers) stand =
     (rising_read (from + 2) addresses numbers (stand_behind from a addresses stand))
 
 -- ---- the plan
+
+pub read_plan : (from : ℕ) (addresses numbers : List ℕ) (start : ℕ) → from + 2 * length numbers ≤ top → All (λ n. n < 65536) numbers → start < 65536 → IsPlan (plan_of (saved_tape from numbers start))
+read_plan from addresses numbers start low small begins =
+    let tape : TapeValue = saved_tape from numbers start in
+    IsPlan-of_blocks tape.blocks (program_start start) (good_blocks from numbers ((length numbers + 255) / 256) low (omega arith)) (holds_bytes from numbers ((length numbers + 255) / 256) small) (program_start-even start begins)
 
 pub holds_what_was_read : (from : ℕ) (addresses numbers : List ℕ) (start : ℕ) → from % 2 ≡ 0 → from + 2 * length numbers ≤ top → All (λ n. n < 65536) numbers → start < 65536
     → StandFrom from addresses → length numbers ≤ length addresses → HoldsWhatWasRead addresses numbers (saved_tape from numbers start)

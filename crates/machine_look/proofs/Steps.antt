@@ -15,9 +15,9 @@ use Rattle.tape_values.specs.Block.{BlockValue, block_at, data_block, low_first,
 use Rattle.tape_values.specs.Tape.{plain_text, text_of}
 use Rattle.tape_values.specs.Tape.Piece.{block}
 use Rattle.tape_values.proofs.Pieces.{text_of-append}
-use Rattle.machine_look.specs.SavedSteps.{adds, closes, full, puts}
+use Rattle.machine_look.specs.SavedSteps.{adds, full, not_all_added, puts}
 use Rattle.machine_look.specs.SavedTape.{last_text, rest_block, saved_block, saved_blocks, saved_tape}
-use Rattle.machine_look.specs.Shelf.{ShelfStep, Reserve, NotReserved, Add, NotAdded, Put, NotPut, written}
+use Rattle.machine_look.specs.Shelf.{ShelfStep, Reserve, NotReserved, Resume, NotResumed, Add, NotAdded, Put, NotPut, written}
 use Rattle.machine_look.specs.ShelfTold.{AreDone, GoesOnTo, IsDone, ShelfTold}
 use Rattle.machine_look.proofs.SavedBlocks.{no_blocks, one_more_block}
 
@@ -107,6 +107,8 @@ pub written_append : (one two : List ShelfStep) → written (one ++ two) ≡ wri
 written_append [] two = refl
 written_append (Reserve n ∷ one) two = written_append one two
 written_append (NotReserved n fault ∷ one) two = written_append one two
+written_append (Resume found ∷ one) two = written_append one two
+written_append (NotResumed fault ∷ one) two = written_append one two
 written_append (Add text ∷ one) two = ap (λ t. text ++ t) (written_append one two) ∙ sym (append_assoc text (written one) (written two))
 written_append (NotAdded text ∷ one) two = written_append one two
 written_append (Put text ∷ one) two = ap (λ t. text ++ t) (written_append one two) ∙ sym (append_assoc text (written one) (written two))
@@ -201,3 +203,102 @@ pub turned : (known known' : List ℕ → Type 0) (from : ℕ) (old new more sho
     → GoesOnTo known known' (adds from shown' (length shown / 256)) (steps shown') a b → GoesOnTo known known' (adds from old (full old)) (steps new) a b
 turned known known' from old new more shown shown' steps a b is is' grown h = goes_on_read known known' from old new more (steps new) a b grown
     (subst (λ v. GoesOnTo known known' (adds from new (length v / 256)) (steps new) a b) is (subst (λ v. GoesOnTo known known' (adds from v (length shown / 256)) (steps v) a b) is' h))
+
+-- ---- blocks behind others
+
+pub drop_behind : (found read : List ℕ) (j : ℕ) → drop (length found + j) (found ++ read) ≡ drop j read
+drop_behind [] read j = let none : length {A = ℕ} [] + j ≡ j = omega arith in ap (λ k. drop k read) none
+drop_behind (n ∷ found) read j = (let next : suc (length found) + j ≡ suc (length found + j) = omega arith in ap (λ k. drop k ((n ∷ found) ++ read)) next) ∙ drop_behind found read j
+
+-- a block of the numbers behind others, which fill blocks, is that of all of them
+block_behind : (from : ℕ) (found read : List ℕ) (n k : ℕ) → length found ≡ 256 * n → saved_block from (found ++ read) (n + k) ≡ saved_block (from + 2 * length found) read k
+block_behind from found read n k whole =
+    let there : from + 2 * 256 * (n + k) ≡ from + 2 * length found + 2 * 256 * k = omega (arith, whole) in
+    let at : 256 * (n + k) ≡ length found + 256 * k = omega (arith, whole) in
+    ap (λ a. block_at a (flat_map low_first (take 256 (drop (256 * (n + k)) (found ++ read))))) there
+    ∙ ap (λ these. block_at (from + 2 * length found + 2 * 256 * k) (flat_map low_first (take 256 these))) (ap (λ j. drop j (found ++ read)) at ∙ drop_behind found read (256 * k))
+
+adds_behind : (from : ℕ) (found read : List ℕ) (n m : ℕ) → length found ≡ 256 * n → adds from (found ++ read) (n + m) ≡ adds from found n ++ adds (from + 2 * length found) read m
+adds_behind from found read n zero whole =
+    (let none : n + 0 ≡ n = omega arith in ap (adds from (found ++ read)) none)
+    ∙ (same_adds from found read n (omega (arith, whole)) ∙ (sym (append-nil (adds from found n)) ∙ ap (λ more. adds from found n ++ more) (sym (no_adds (from + 2 * length found) read))))
+adds_behind from found read n (suc m) whole =
+    let behind : ℕ = from + 2 * length found in
+    (let next : n + suc m ≡ suc (n + m) = omega arith in ap (adds from (found ++ read)) next)
+    ∙ (one_more from (found ++ read) (n + m)
+    ∙ (ap (λ steps. steps ++ Add (data_block (saved_block from (found ++ read) (n + m))) ∷ []) (adds_behind from found read n m whole)
+    ∙ (ap (λ b. (adds from found n ++ adds behind read m) ++ Add (data_block b) ∷ []) (block_behind from found read n m whole)
+    ∙ (append_assoc (adds from found n) (adds behind read m) (Add (data_block (saved_block behind read m)) ∷ [])
+    ∙ ap (λ more. adds from found n ++ more) (sym (one_more behind read m))))))
+
+full_behind : (found read : List ℕ) → length found ≡ 256 * full found → full (found ++ read) ≡ full found + full read
+full_behind found read whole = omega (arith, whole, length-append found read)
+
+-- the blocks that were found were added, and then those behind them
+pub added_behind : (known known' known'' : List ℕ → Type 0) (from behind : ℕ) (found read : List ℕ) (a b c : ShelfTold) → length found ≡ 256 * full found → behind ≡ from + 2 * length found
+    → GoesOnTo known known' [] (adds from found (full found)) a b → GoesOnTo known' known'' [] (adds behind read (full read)) b c
+    → GoesOnTo known known'' [] (adds from (found ++ read) (full (found ++ read))) a c
+added_behind known known' known'' from behind found read a b c whole is first second = λ folder begin known_so done.
+    let one = first folder begin known_so done in
+    let two = second folder b one.0 refl in
+    let steps : adds from found (full found) ++ adds behind read (full read) ≡ adds from (found ++ read) (full (found ++ read)) =
+    ap (λ at. adds from found (full found) ++ adds at read (full read)) is ∙ (sym (adds_behind from found read (full found) (full read) whole) ∙ ap (adds from (found ++ read)) (sym (full_behind found read whole))) in
+    (two.0, subst (λ s. AreDone folder s begin c) steps (done_join folder (adds from found (full found)) (adds behind read (full read)) begin b c one.1 two.1))
+
+-- or one of those could not be
+pub not_added_behind : (known known' : List ℕ → Type 0) (from behind : ℕ) (found read : List ℕ) (k : ℕ) (a b c : ShelfTold) → length found ≡ 256 * full found → behind ≡ from + 2 * length found
+    → k < full read → GoesOnTo known known' [] (adds from found (full found)) a b → GoesOnTo known' (λ _. ⊤) [] (not_all_added behind read k) b c
+    → (n : ℕ) × (n < full (found ++ read)) × GoesOnTo known (λ _. ⊤) [] (not_all_added from (found ++ read) n) a c
+not_added_behind known known' from behind found read k a b c whole is low first second = (
+  full found + k,
+  omega (arith, low, full_behind found read whole),
+  λ folder begin known_so done.
+      let one = first folder begin known_so done in
+      let two = second folder b one.0 refl in
+      let steps : adds from found (full found) ++ not_all_added behind read k ≡ not_all_added from (found ++ read) (full found + k) =
+      ap (λ at. adds from found (full found) ++ not_all_added at read k) is
+      ∙ (sym (append_assoc (adds from found (full found)) (adds (from + 2 * length found) read k) (NotAdded (data_block (saved_block (from + 2 * length found) read k)) ∷ []))
+      ∙ (ap (λ s. s ++ NotAdded (data_block (saved_block (from + 2 * length found) read k)) ∷ []) (sym (adds_behind from found read (full found) k whole))
+      ∙ ap (λ b. adds from (found ++ read) (full found + k) ++ NotAdded (data_block b) ∷ []) (sym (block_behind from found read (full found) k whole)))) in
+      (tt, subst (λ s. AreDone folder s begin c) steps (done_join folder (adds from found (full found)) (not_all_added behind read k) begin b c one.1 two.1)),
+)
+
+-- before any block is added nothing is
+pub from_nothing : (known known' : List ℕ → Type 0) (from : ℕ) (numbers : List ℕ) (steps : List ShelfStep) (a b : ShelfTold) → GoesOnTo known known' (adds from numbers 0) steps a b → GoesOnTo known known' [] steps a b
+from_nothing known known' from numbers steps a b h = subst (λ s. GoesOnTo known known' s steps a b) (no_adds from numbers) h
+
+-- nothing was read behind them
+pub added_alone : (known known' : List ℕ → Type 0) (from : ℕ) (found read : List ℕ) (a b : ShelfTold) → read ≡ []
+    → GoesOnTo known known' [] (adds from found (full found)) a b → GoesOnTo known known' [] (adds from (found ++ read) (full (found ++ read))) a b
+added_alone known known' from found read a b none h =
+    subst (λ numbers. GoesOnTo known known' [] (adds from numbers (full numbers)) a b) (sym (append-nil found) ∙ ap (λ more. found ++ more) (sym none)) h
+
+pub not_added_alone : (known : List ℕ → Type 0) (from : ℕ) (found read : List ℕ) (n : ℕ) (a b : ShelfTold) → read ≡ [] → n < full found
+    → GoesOnTo known (λ _. ⊤) [] (not_all_added from found n) a b
+    → (n : ℕ) × (n < full (found ++ read)) × GoesOnTo known (λ _. ⊤) [] (not_all_added from (found ++ read) n) a b
+not_added_alone known from found read n a b none low h =
+    subst (λ numbers. (n : ℕ) × (n < full numbers) × GoesOnTo known (λ _. ⊤) [] (not_all_added from numbers n) a b) (sym (append-nil found) ∙ ap (λ more. found ++ more) (sym none)) (n, low, h)
+
+-- ---- the last text behind others
+
+rest_behind : (from : ℕ) (found read : List ℕ) → length found ≡ 256 * full found → rest_block from (found ++ read) ≡ rest_block (from + 2 * length found) read
+rest_behind from found read whole =
+    let test : nat_lt (256 * full (found ++ read)) (length (found ++ read)) ≡ nat_lt (256 * full read) (length read) =
+    same_test (256 * full (found ++ read)) (length (found ++ read)) (256 * full read) (length read) (length found)
+    (omega (arith, whole, full_behind found read whole)) (length-append found read) in
+    ap (λ t. if t then data_block (saved_block from (found ++ read) (full (found ++ read))) else []) test
+    ∙ ap (λ b. if nat_lt (256 * full read) (length read) then data_block b else [])
+    (ap (saved_block from (found ++ read)) (full_behind found read whole) ∙ block_behind from found read (full found) (full read) whole)
+  where
+    same_test : (a b a' b' k : ℕ) → a ≡ k + a' → b ≡ k + b' → nat_lt a b ≡ nat_lt a' b'
+    same_test a b a' b' k is is' = by (nat_lt a b) (nat_lt a' b') refl refl
+      where
+        by : (t t' : Bool) → nat_lt a b ≡ t → nat_lt a' b' ≡ t' → nat_lt a b ≡ nat_lt a' b'
+        by true true e e' = e ∙ sym e'
+        by false false e e' = e ∙ sym e'
+        by true false e e' = absurd (let low = is_less a b e in let high = is_not_less a' b' e' in omega (arith, low, high, is, is'))
+        by false true e e' = absurd (let high = is_not_less a b e in let low = is_less a' b' e' in omega (arith, low, high, is, is'))
+
+pub last_behind : (from behind : ℕ) (found read : List ℕ) (start : ℕ) → length found ≡ 256 * full found → behind ≡ from + 2 * length found → last_text behind read start ≡ last_text from (found ++ read) start
+last_behind from behind found read start whole is =
+    ap (λ at. rest_block at read ++ transfer_block start) is ∙ ap (λ front. front ++ transfer_block start) (sym (rest_behind from found read whole))

@@ -17,7 +17,7 @@ use Rattle.reading_engine.specs.Inquired.{TellsEnd}
 use Rattle.reading_engine.specs.declared.stop.Stop.{Stop}
 use Rattle.reading_engine.specs.declared.stop.Stop.TheVariants.{Ended, LineFailed as LineHasFailed, TurnsOver as TurnsAreOver}
 use Rattle.machine_look.specs.declared.look_fault.LookFault.{LookFault}
-use Rattle.machine_look.specs.declared.look_fault.LookFault.TheVariants.{Connect, IsThere, Memory, PartIsThere, WriteOutput, WriteTape}
+use Rattle.machine_look.specs.declared.look_fault.LookFault.TheVariants.{Connect, IsThere, Memory, NotOfSave, PartIsThere, WriteOutput, WriteTape}
 use Rattle.machine_look.specs.declared.verify_end.VerifyEnd.{VerifyEnd}
 use Rattle.machine_look.specs.declared.verify_end.VerifyEnd.TheVariants.{Same, Differs}
 use Rattle.machine_look.specs.Differences.{differences}
@@ -106,5 +106,6 @@ compare_fault plan patience words first before after fault w r fails =
     same WriteOutput h = h
     same IsThere h = absurd h
     same PartIsThere h = absurd h
+    same NotOfSave h = absurd h
     same WriteTape h = absurd h
     same Memory h = absurd h

@@ -1,4 +1,8 @@
+pub mod Behind
+pub mod Course
 pub mod Differences
+pub mod FoundPart
+pub mod Hosts
 pub mod Look
 pub mod LookFault
 pub mod Room

@@ -1,37 +1,32 @@
 -- What `save` does (this project's own).
-use Rattle.std.specs.Prelude.{◌≡◌, ℕ, ◌<◌, ◌≤◌, List, [], ◌∷◌, ◌++◌, length, map, take, Option}
+use Rattle.std.specs.Prelude.{◌≡◌, ℕ, ◌+◌, ◌<◌, ◌≤◌, List, [], ◌∷◌, ◌++◌, length, Option, None}
 use Rattle.std.specs.Io.KnownBytes.{Appends, Keeps}
 use Rattle.std.specs.declared.io.Write.{Ghosts as Write}
-use Rattle.tape_values.specs.Block.{data_block}
-use Rattle.tape_values.specs.Tape.{TapeValue, plain_text}
-use Rattle.tape_image.specs.Plan.{plan_of}
-use Rattle.tape_image.specs.Word.{whole_word}
-use Rattle.odt_machine.specs.Machine.{Machine, word_at}
-use Rattle.load_devices.specs.Told.{Gains}
+use Rattle.tape_values.specs.Tape.{plain_text}
 use Rattle.load_devices.specs.Turns.{most_turns}
+use Rattle.console_lines.specs.Console.{ConsoleTold}
 use Rattle.console_lines.specs.declared.reach.Reach.{Ghosts as Reach}
 use Rattle.load_devices.specs.Devices.{LineTold}
-use Rattle.console_lines.specs.Dialling.{Call, LineRequest, asked_once}
+use Rattle.console_lines.specs.Dialling.{Call, LineRequest}
 use Rattle.byte_io.specs.Output.{WritesAllBut}
-use Rattle.reading_core.specs.Addresses.{addresses_between}
-use Rattle.reading_core.specs.Reader.{Reader, begun}
+use Rattle.reading_core.specs.Reader.{Reader}
+use Rattle.reading_engine.specs.Inquired.{TellsEnd}
 use Rattle.reading_engine.specs.declared.stop.Stop.{Stop}
 use Rattle.request_values.specs.declared.range.AddressRange.{AddressRange}
+use Rattle.sample_looks.specs.declared.finding.Finding.{Finding}
+use Rattle.machine_look.specs.Behind.{IsHeldUp, IsRead, addresses_in, tape_to_save}
+use Rattle.machine_look.specs.FoundPart.{FillBlocks, words_in}
 use Rattle.machine_look.specs.declared.save_end.SaveEnd.{SaveEnd}
+use Rattle.machine_look.specs.declared.save_report.SaveCounts.{SaveCounts}
 use Rattle.machine_look.specs.declared.saving.SaveOptions.{SaveOptions}
 use Rattle.machine_look.specs.declared.shelf.Shelf.{Ghosts as Shelf}
 use Rattle.machine_look.specs.declared.shelf.ShelfFault.{ShelfFault}
-use Rattle.machine_look.specs.Look.{IsLook, IsLookOf, OverHonestLine}
-use Rattle.machine_look.specs.SavedSteps.{adds, full, puts}
-use Rattle.machine_look.specs.SavedTape.{last_text, room_for, saved_block, saved_tape, HoldsWhatWasRead}
-use Rattle.machine_look.specs.SaveReport.{save_end, save_report}
-use Rattle.machine_look.specs.Shelf.{Reserve, NotAdded, NotPut, written}
+use Rattle.machine_look.specs.declared.shelf.ShelfFault.TheVariants.{PartIsThere}
+use Rattle.machine_look.specs.SavedSteps.{full, not_all_added, not_put, puts}
+use Rattle.machine_look.specs.SavedTape.{room_for, HoldsWhatWasRead}
+use Rattle.machine_look.specs.SaveReport.{save_end, held_end, save_report}
+use Rattle.machine_look.specs.Shelf.{ShelfStep, Reserve, NotReserved, Resume, written}
 use Rattle.machine_look.specs.ShelfTold.{ShelfTold, HasDone}
-
--- a memory is what it was, and the tape's plan has of it the words at these addresses, whole ones, and no others
-abbrev pub IsMemoryAt : List ℕ → TapeValue → Machine → Machine → Type 0
-IsMemoryAt addresses tape before now =
-    (now.memory ≡ before.memory) × ((plan_of tape).words ≡ map (λ address. whole_word address (word_at now.memory address)) addresses)
 
 -- what a save's shelf, console and output tell: the first what was done on it; what was asked for a line, where the second leads and what its
 -- lines tell that were given back, and what the third holds
@@ -52,66 +47,105 @@ save_told shelf_tell tell write shelf console out = record {
   out = write.contents out;
 }
 
--- the addresses of a range, both ends included
-abbrev pub addresses_in : AddressRange → List ℕ
-addresses_in range = addresses_between range.from range.to
+-- what its console alone tells
+abbrev pub console_of : SaveTold → ConsoleTold
+console_of told = record { asked = told.asked; call = told.call; lines = told.lines; out = None }
 
--- the tape of the numbers that a save has read
-abbrev pub tape_to_save : SaveOptions → List ℕ → TapeValue
-tape_to_save options numbers = saved_tape options.range.from numbers options.start
+-- a shelf is taken up for a save of a range, and these numbers are found there: none, in room that is new; or those of the blocks that an earlier
+-- save left
+pub data TakesUp (range : AddressRange) : List ℕ → List ShelfStep → Type 0 where
+  InNewRoom : TakesUp range [] (Reserve (room_for range) ∷ [])
+  BehindPart : (found : List ℕ) → FillBlocks range found
+      → TakesUp range found (NotReserved (room_for range) PartIsThere ∷ Resume found ∷ [])
 
--- the words of a save were looked at, once there was room for their tape
-pub record IsRead (options : SaveOptions) (before after : SaveTold) : Type 0 where
+-- the tape of numbers is what the words of the range say, and what is put on the shelf is that tape, byte for byte, and needs no more room than was
+-- taken
+pub record IsTapeOf (options : SaveOptions) (numbers : List ℕ) : Type 0 where
+  pub holds : HoldsWhatWasRead (addresses_in options.range) numbers (tape_to_save options numbers)
+  pub whole : 0 < length numbers → written (puts options.range.from numbers options.start) ≡ plain_text (tape_to_save options numbers)
+  pub fits : length (plain_text (tape_to_save options numbers)) ≤ room_for options.range
+
+-- what a save counts whose words were read behind those that were found: what looks and reading sent and met together
+abbrev pub counts_read : SaveOptions → List ℕ → Reader → Reader → SaveCounts
+counts_read options found looks last = record {
+  sent = looks.sent + last.sent;
+  spent = looks.spent + last.spent;
+  read = length found + length last.values;
+  words = words_in options.range;
+}
+
+-- what it counts that its looks held up: no word
+abbrev pub counts_held : SaveOptions → Reader → SaveCounts
+counts_held options looks = record { sent = looks.sent; spent = looks.spent; read = 0; words = words_in options.range }
+
+-- a shelf was taken up, what was found there stood, and the words behind it were read
+pub record IsSaveRead (turns : ℕ) (options : SaveOptions) (before after : SaveTold) : Type 0 where
+  pub found : List ℕ
+  pub taking : List ShelfStep
+  pub taken_up : TakesUp options.range found taking
+  pub looks : Reader
   pub last : Reader
   pub stop : Stop
-  pub look : IsLook (begun (addresses_in options.range) [] options.patience) last stop before.lines after.lines
-  pub asked : Gains before.asked after.asked (asked_once before.call)
-  -- the tape of what was read is memory, where the line was honest
-  pub holds : HoldsWhatWasRead (addresses_in options.range) last.values (tape_to_save options last.values)
-  -- what is added and put on the shelf is that tape, byte for byte
-  pub whole : 0 < length last.values → written (puts options.range.from last.values options.start) ≡ plain_text (tape_to_save options last.values)
-  -- and needs no more room than was taken
-  pub fits : length (plain_text (tape_to_save options last.values)) ≤ room_for options.range
-  pub is_memory : OverHonestLine look (IsMemoryAt (take (length last.values) (addresses_in options.range)) (tape_to_save options last.values))
+  pub read : IsRead turns options found (console_of before) (console_of after) looks last stop
 
--- what was read was put where the tape goes
+-- the numbers that it has then
+abbrev pub numbers_of : {turns : ℕ} {options : SaveOptions} {before after : SaveTold} → IsSaveRead turns options before after → List ℕ
+numbers_of read = read.found ++ read.last.values
+
+-- what was found and what was read was put where the tape goes
 pub record IsShelved (options : SaveOptions) (before after : SaveTold) : Type 0 where
-  pub read : IsRead options before after
-  pub is_put : HasDone (Reserve (room_for options.range) ∷ puts options.range.from read.last.values options.start) before.shelf after.shelf
+  pub read : IsSaveRead most_turns options before after
+  pub end : TellsEnd read.stop read.last
+  pub tape : IsTapeOf options (numbers_of read)
+  pub is_put : HasDone (read.taking ++ puts options.range.from (numbers_of read) options.start) before.shelf after.shelf
+
+-- looks held it up, and what is on the shelf is as it was
+pub record IsHeld (options : SaveOptions) (before after : SaveTold) : Type 0 where
+  pub found : List ℕ
+  pub taking : List ShelfStep
+  pub taken_up : TakesUp options.range found taking
+  pub looks : Reader
+  pub stop : Stop
+  pub finding : Finding
+  pub held : IsHeldUp options found (console_of before) (console_of after) looks stop finding
+  pub untouched : HasDone taking before.shelf after.shelf
+
+-- a save is over, with these counts and this end
+pub data IsOver (options : SaveOptions) (before after : SaveTold) : SaveCounts → SaveEnd → Type 0 where
+  Shelved : (s : IsShelved options before after)
+      → IsOver options before after (counts_read options s.read.found s.read.looks s.read.last) (save_end s.read.stop)
+  HeldUp : (h : IsHeld options before after) → IsOver options before after (counts_held options h.looks) (held_end h.finding h.stop)
 
 -- it was reported, too
 pub record IsSavedAndReported (options : SaveOptions) (before after : SaveTold) (end : SaveEnd) : Type 0 where
-  pub saved : IsShelved options before after
-  pub end_is : end ≡ save_end saved.read.stop
-  pub reported : Appends before.out after.out (save_report saved.read.last saved.read.stop)
+  pub counts : SaveCounts
+  pub over : IsOver options before after counts end
+  pub reported : Appends before.out after.out (save_report counts end)
 
 -- the same, with a report that may be cut short
 pub record IsSavedUnreported (options : SaveOptions) (before after : SaveTold) : Type 0 where
-  pub saved : IsShelved options before after
+  pub counts : SaveCounts
+  pub end : SaveEnd
+  pub over : IsOver options before after counts end
   pub missing : List ℕ
-  pub reported : WritesAllBut before.out after.out (save_report saved.read.last saved.read.stop) missing
+  pub reported : WritesAllBut before.out after.out (save_report counts end) missing
 
--- what was read could not have its place there, and nothing was reported
+-- what was found and read could not have its place there, and nothing was reported
 pub record IsUnput (fault : ShelfFault) (options : SaveOptions) (before after : SaveTold) : Type 0 where
-  pub read : IsRead options before after
+  pub read : IsSaveRead most_turns options before after
   pub refused : HasDone
-      (Reserve (room_for options.range) ∷ adds options.range.from read.last.values (full read.last.values)
-      ++ NotPut (last_text options.range.from read.last.values options.start) fault ∷ [])
+      (read.taking ++ not_put options.range.from (numbers_of read) options.start fault)
       before.shelf after.shelf
   pub nothing_reported : Keeps before.out after.out
 
 -- a block could not be added: nothing more was read, and nothing reported, and the blocks before it had been added
 pub record IsUnadded (options : SaveOptions) (before after : SaveTold) : Type 0 where
-  pub last : Reader
-  pub stop : Stop
   pub turns : ℕ
   pub few : turns ≤ most_turns
-  pub look : IsLookOf turns (begun (addresses_in options.range) [] options.patience) last stop before.lines after.lines
-  pub asked : Gains before.asked after.asked (asked_once before.call)
+  pub read : IsSaveRead turns options before after
   pub number : ℕ
-  pub within : number < full last.values
+  pub within : number < full (numbers_of read)
   pub refused : HasDone
-      (Reserve (room_for options.range) ∷ adds options.range.from last.values number
-      ++ NotAdded (data_block (saved_block options.range.from last.values number)) ∷ [])
+      (read.taking ++ not_all_added options.range.from (numbers_of read) number)
       before.shelf after.shelf
   pub nothing_reported : Keeps before.out after.out

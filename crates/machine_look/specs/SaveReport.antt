@@ -1,14 +1,15 @@
 -- What `save` prints (this project's own).
-use Rattle.std.specs.Prelude.{ℕ, List, ◌++◌, length, codes, decimal}
+use Rattle.std.specs.Prelude.{ℕ, List, ◌++◌, codes, decimal}
 use Rattle.octal.specs.Octal.{octal_text}
 use Rattle.byte_io.specs.Text.{line}
 use Rattle.reading_core.specs.declared.phase.End.TheVariants.{Complete, GaveUp as HostGaveUp, NoWord as HostFoundNoWord}
-use Rattle.reading_core.specs.Reader.{Reader}
 use Rattle.reading_engine.specs.declared.stop.Stop.{Stop}
 use Rattle.reading_engine.specs.declared.stop.Stop.TheVariants.{Ended, LineFailed as LineHasFailed, TurnsOver as TurnsAreOver}
+use Rattle.sample_looks.specs.declared.finding.Finding.{Finding}
+use Rattle.sample_looks.specs.declared.finding.Finding.TheVariants.{AllStand, Stale as HasStaleWord, Unfinished}
 use Rattle.machine_look.specs.declared.save_end.SaveEnd.{SaveEnd}
-use Rattle.machine_look.specs.VerifyReport.{life_text}
-use Rattle.machine_look.specs.declared.save_end.SaveEnd.TheVariants.{Saved, NoWord, GaveUp, TurnsOver, LineFailed}
+use Rattle.machine_look.specs.declared.save_end.SaveEnd.TheVariants.{Saved, NoWord, GaveUp, TurnsOver, LineFailed, Stale}
+use Rattle.machine_look.specs.declared.save_report.SaveCounts.{SaveCounts}
 
 -- how it ends, by how the reading stopped: memory is saved only where every word was read
 abbrev pub save_end : Stop → SaveEnd
@@ -18,6 +19,12 @@ save_end (Ended (HostFoundNoWord address)) = NoWord address
 save_end (LineHasFailed fault) = LineFailed fault
 save_end TurnsAreOver = TurnsOver
 
+-- how it ends that its looks held up, by what they found and how they stopped
+abbrev pub held_end : Finding → Stop → SaveEnd
+held_end (HasStaleWord address) stop = Stale address
+held_end AllStand stop = save_end stop
+held_end Unfinished stop = save_end stop
+
 -- the name of an end
 abbrev pub save_end_name : SaveEnd → List ℕ
 save_end_name Saved = codes "Saved"
@@ -25,11 +32,13 @@ save_end_name (NoWord address) = codes "NoWord " ++ octal_text address
 save_end_name GaveUp = codes "GaveUp"
 save_end_name TurnsOver = codes "TurnsOver"
 save_end_name (LineFailed fault) = codes "LineFailed"
+save_end_name (Stale address) = codes "Stale " ++ octal_text address
 
--- the characters sent, the mishaps, and how many of the words were read
-abbrev pub save_counts_text : Reader → List ℕ
-save_counts_text reader = life_text reader ++ codes " read " ++ decimal (length reader.values) ++ codes " of " ++ decimal (length reader.addresses)
+-- the characters sent, the mishaps, and how many of the words the tape has
+abbrev pub save_counts_text : SaveCounts → List ℕ
+save_counts_text counts =
+    codes "sent " ++ decimal counts.sent ++ codes " spent " ++ decimal counts.spent ++ codes " read " ++ decimal counts.read ++ codes " of " ++ decimal counts.words
 
 -- the counts, and the end
-abbrev pub save_report : Reader → Stop → List ℕ
-save_report reader stop = line (save_counts_text reader) ++ line (codes "end " ++ save_end_name (save_end stop))
+abbrev pub save_report : SaveCounts → SaveEnd → List ℕ
+save_report counts end = line (save_counts_text counts) ++ line (codes "end " ++ save_end_name end)

@@ -3,10 +3,13 @@ use Rattle.std.specs.Prelude.{ℕ, List, [], ◌∷◌, ◌++◌, Result, Ok, Er
 use Rattle.machine_look.specs.declared.shelf.ShelfFault.{ShelfFault}
 use Rattle.machine_look.specs.declared.shelf.ShelfFault.TheVariants.{IsThere, Write}
 
--- the room of so many bytes was asked for, or a text was to be added there, or the last one of a tape, and what came of it
+-- the room of so many bytes was asked for; or what an earlier save left there was to be gone on with, in which these numbers were found; or a
+-- text was to be added there, or the last one of a tape; and what came of it
 pub data ShelfStep : Type 0 where
   Reserve : ℕ → ShelfStep
   NotReserved : ℕ → ShelfFault → ShelfStep
+  Resume : List ℕ → ShelfStep
+  NotResumed : ShelfFault → ShelfStep
   Add : List ℕ → ShelfStep
   NotAdded : List ℕ → ShelfStep
   Put : List ℕ → ShelfStep

@@ -3,8 +3,8 @@ use Rattle.std.specs.Prelude.{◌≡◌, ◌⊎◌, ℕ, ◌+◌, List, [], ◌�
 use Rattle.std.specs.Io.KnownBytes.{Appends}
 use Rattle.byte_io.specs.Text.{name_slash}
 use Rattle.load_devices.specs.Told.{HasAsked}
-use Rattle.record_file.specs.DiskStep.{DiskStep, Did, Failed, step_by}
-use Rattle.record_file.specs.DiskStep.{LookAtName, FindFile, Open, Hold, Link, Rename, Remove, SyncFolder, Cut, SyncFile}
+use Rattle.record_file.specs.DiskStep.{DiskStep, Did, Failed, LedTo, step_by}
+use Rattle.record_file.specs.DiskStep.{DiskRequest, LookAtName, FindSoleFile, FindFile, Open, Hold, Link, Rename, Remove, SyncFolder, Cut, SyncFile}
 use Rattle.record_file.specs.Folder.{IsFolderOf}
 use Rattle.record_file.specs.declared.disk.Access.TheVariants.{ReadOnly, ReadWrite, New}
 use Rattle.machine_look.specs.declared.shelf.ShelfFault.{ShelfFault}
@@ -72,6 +72,29 @@ pub data IsNotReserved (name : List ℕ) : ShelfFault → List DiskStep → Type
   NoRoom : (folder : List ℕ) (filled : Option (List ℕ)) (fault : ShelfFault) (making : List DiskStep) → IsFolderOf name folder
       → IsTakingHeld (part_name name) folder filled (Some fault) making
       → IsNotReserved name fault (Failed (LookAtName name) ∷ Did (Open ReadOnly folder) ∷ making)
+
+-- a file beside that an earlier save left is gone on with: it is a plain one without another name, it is held, and read, and opened once more to
+-- be written from its front on, and it still has its name
+abbrev pub resuming : List ℕ → List ℕ → Option (List ℕ) → List DiskStep
+resuming own folder held =
+    Did (Open ReadOnly folder) ∷ Did (FindSoleFile own) ∷ Did (Open ReadWrite own) ∷ Did (Hold own) ∷ Did (Open ReadOnly own) ∷ Did (Open ReadWrite own)
+    ∷ Did (FindFile own held) ∷ []
+
+-- what is asked of a disk and leaves each file as it is: names are looked at, and files that are there are opened and held
+abbrev pub LeavesAll : DiskRequest → Type 0
+LeavesAll (FindSoleFile name) = ⊤
+LeavesAll (FindFile name written) = ⊤
+LeavesAll (Open ReadOnly name) = ⊤
+LeavesAll (Open ReadWrite name) = ⊤
+LeavesAll (Hold name) = ⊤
+LeavesAll other = ⊥
+
+-- nothing else was asked
+abbrev pub LeaveAll : List DiskStep → Type 0
+LeaveAll [] = ⊤
+LeaveAll (Did request ∷ more) = LeavesAll request × LeaveAll more
+LeaveAll (Failed request ∷ more) = LeavesAll request × LeaveAll more
+LeaveAll (LedTo name target ∷ more) = ⊥
 
 -- the file beside, where the blocks of a tape are: its name, what was written to it, how many bytes that is, and whether there is a block in it
 pub record Room : Type 0 where
@@ -169,6 +192,25 @@ pub record HasRoom (folder : List ℕ) (length : ℕ) (disk disk' : ShelfDisk) (
 -- there is none, for this reason, and what room there was is as it was
 pub record HasNoRoom (fault : ShelfFault) (disk disk' : ShelfDisk) (steps : List DiskStep) : Type 0 where
   pub refused : IsNotReserved disk.name fault steps
+  pub room : disk'.room ≡ disk.room
+  pub name : disk'.name ≡ disk.name
+
+-- a file beside that was left there is gone on with, in this folder: nothing was written to it yet. It stays, where there is a block in it
+pub record HasPart (folder numbers : List ℕ) (disk disk' : ShelfDisk) (steps : List DiskStep) : Type 0 where
+  pub folder_of : IsFolderOf disk.name folder
+  pub held : Option (List ℕ)
+  pub untouched : OnSome disk'.asked (held ≡ Some [])
+  pub resumed : steps ≡ resuming (part_name disk.name) folder held
+  pub written : Option (List ℕ)
+  pub kept : Bool
+  pub stays : kept ≡ false → numbers ≡ []
+  pub room : disk'.room ≡ Some (record { name = part_name disk.name; written = written; length = 0; kept = kept })
+  pub fresh : OnSome disk'.asked (written ≡ Some [])
+  pub name : disk'.name ≡ disk.name
+
+-- it is not: each file is left as it is, and what room there was is as it was
+pub record HasNoPart (disk disk' : ShelfDisk) (steps : List DiskStep) : Type 0 where
+  pub idle : LeaveAll steps
   pub room : disk'.room ≡ disk.room
   pub name : disk'.name ≡ disk.name
 

@@ -2,8 +2,8 @@
 use Rattle.std.specs.Prelude.{◌≡◌, ℕ, List, [], ◌∷◌, Option, Some, None}
 use Rattle.load_devices.specs.Told.{Gains}
 use Rattle.record_file.specs.DiskStep.{DiskStep}
-use Rattle.machine_look.specs.Shelf.{ShelfStep, Reserve, NotReserved, Add, NotAdded, Put, NotPut}
-use Rattle.machine_look.specs.ShelfDisk.{ShelfDisk, ShelfAsked, HasRoom, HasNoRoom, IsAdded, IsNotAdded, IsPutOn}
+use Rattle.machine_look.specs.Shelf.{ShelfStep, Reserve, NotReserved, Resume, NotResumed, Add, NotAdded, Put, NotPut}
+use Rattle.machine_look.specs.ShelfDisk.{ShelfDisk, ShelfAsked, HasRoom, HasNoRoom, HasPart, HasNoPart, IsAdded, IsNotAdded, IsPutOn}
 
 -- what was asked of it so far, in its order; None where its type doesn't tell. And the disk on which its tape goes; None where it goes on none,
 -- or the type doesn't say
@@ -19,6 +19,8 @@ untold_shelf = record { steps = None; disk = None }
 abbrev pub AsksFor : List ℕ → ShelfStep → ShelfDisk → ShelfDisk → List DiskStep → Type 0
 AsksFor folder (Reserve length) = HasRoom folder length
 AsksFor folder (NotReserved length fault) = HasNoRoom fault
+AsksFor folder (Resume numbers) = HasPart folder numbers
+AsksFor folder (NotResumed fault) = HasNoPart
 AsksFor folder (Add text) = IsAdded text
 AsksFor folder (NotAdded text) = IsNotAdded
 AsksFor folder (Put text) = IsPutOn folder text None

@@ -12,6 +12,9 @@ pub enum LookFault {
     /// What a save read that did not come to its end is beside it. Both are as they were.
     PartIsThere,
 
+    /// What is beside it is nothing that a save of these words left. Both are as they were.
+    NotOfSave,
+
     /// The tape can't be written. There is no file of that name; the blocks that were read before stay beside it.
     WriteTape,
 
@@ -35,6 +38,7 @@ impl From<ShelfFault> for LookFault {
         match why {
             ShelfFault::IsThere => LookFault::IsThere,
             ShelfFault::PartIsThere => LookFault::PartIsThere,
+            ShelfFault::NotOfSave => LookFault::NotOfSave,
             ShelfFault::Write => LookFault::WriteTape,
             ShelfFault::Memory => LookFault::Memory,
         }

@@ -1,7 +1,6 @@
 //! The file of a saved tape, which comes to its name whole and replaces nothing.
 ghost use Rattle.std.specs.Prelude.{◌≡◌, ◌+◌, ◌∷◌, List, ℕ, Option, None, Some, [], IfErr, IfOk, IfSome, OnOk, OnSome, length, is_some, option_map};
-ghost use Rattle.std.specs.Prelude.{false, replicate, true};
-ghost use Rattle.std.specs.Bool.{OnTrue};
+ghost use Rattle.std.specs.Prelude.{◌↔◌, IsTrue, false, replicate, true};
 ghost use Rattle.std.specs.Io.KnownBytes.{Appends};
 ghost use Rattle.std.specs.String.{string_bytes};
 ghost use Rattle.load_devices.specs.Failures.{fault_of};
@@ -13,9 +12,11 @@ ghost use Rattle.machine_look.specs.Shelf.{IsPutFault};
 ghost use Rattle.machine_look.specs.ShelfDisk.{part_name, IsReserved, IsNotReserved, IsNoFileName, IsSearch, IsMakingHeld, IsTaking, IsTakingHeld};
 ghost use Rattle.machine_look.specs.ShelfDisk.{IsClosed, IsGone, IsLeftBehind, IsNamed, IsNaming, IsOnDisk, IsPut, IsSettling, IsTakenBack, IsUnadded};
 
+use crate::left_part::take_left;
 use crate::shelf::{Shelf, ShelfFault};
 use byte_io::write_and_flush;
 use record_file::{Access, Disk, folder_of};
+use request_values::AddressRange;
 use std::alloc::Global;
 use std::io::ErrorKind;
 
@@ -28,23 +29,34 @@ pub const PART: &str = ".part";
 /// The tape is written to a file beside it, `PART`, which is made before anything is read, held, and filled
 /// with as many bytes 00 as the tape may have, so that a full disk is told then. Each block that is added is on
 /// the disk, and from then on that file stays, whatever comes, until it is given the tape's name, whole, and
-/// only where nothing has that. One that is there before is left as it is.
+/// only where nothing has that. One that is there before is left as it is, or gone on with, where an earlier save of
+/// the same words left it.
 pub struct NewFile<'a, D: Disk> {
     disk: D,
     name: &'a str,
     part: Option<Part<D::File>>,
 }
 
-// The file beside the one of a name, the same once more, through which it was filled and is held, and the
-// folder of both; how many bytes were written to it, and whether there is a block in it.
+/// The file beside the one of a name.
 #[derive(Drop)]
-struct Part<T: Drop> {
-    name: String,
-    file: T,
-    held: T,
-    folder: T,
-    length: u64,
-    kept: bool,
+pub(crate) struct Part<T: Drop> {
+    /// Its own name.
+    pub(crate) name: String,
+
+    /// The file, through which its blocks are written.
+    pub(crate) file: T,
+
+    /// The same once more, through which it was filled and is held.
+    pub(crate) held: T,
+
+    /// The folder of both names.
+    pub(crate) folder: T,
+
+    /// How many bytes were written to it.
+    pub(crate) length: u64,
+
+    /// Whether it stays: there is a block in it.
+    pub(crate) kept: bool,
 }
 
 impl<'a, D: Disk> NewFile<'a, D> {
@@ -96,6 +108,16 @@ impl<D: Disk> Shelf for NewFile<'_, D> {
         find_free(&mut self.disk, self.name)?;
         self.part = Some(make_part(&mut self.disk, alloc, self.name, length)?);
         Ok(())
+    }
+
+    fn resume(&mut self, alloc: Global, range: AddressRange) -> Result<Vec<u16>, ShelfFault> {
+        match take_left(&mut self.disk, alloc, self.name, range) {
+            Ok((part, numbers)) => {
+                self.part = Some(part);
+                Ok(numbers)
+            }
+            Err(fault) => Err(fault),
+        }
     }
 
     fn add(&mut self, text: &[u8]) -> Result<(), ShelfFault> {
@@ -418,7 +440,7 @@ fn find_free<D: Disk>(disk: &mut D, name: &str) -> Result<(), ShelfFault>
 
 // Whether no file can have this name: it is empty, or a folder's.
 fn names_no_file(name: &str) -> bool
-    ensures { OnTrue result (IsNoFileName name.now) }
+    ensures { IsTrue result ↔ IsNoFileName name.now }
 {
     name.is_empty() || name.ends_with('/')
 }

@@ -1,30 +1,44 @@
 //! Reading, with each block on the shelf as soon as its last word was read.
-ghost use Rattle.std.specs.Prelude.{◌≡◌, ◌+◌, ◌*◌, ◌/◌, ◌<◌, ◌≤◌, ◌∷◌, ◌++◌, [], List, ℕ, None, Some, length, IfErr, IfOk, OnOk, ⊤};
+ghost use Rattle.std.specs.Prelude.{◌≡◌, ◌+◌, ◌*◌, ◌/◌, ◌<◌, ◌≤◌, ◌↔◌, ◌∷◌, ◌++◌, [], List, ℕ, None, Some, length, IfErr, IfOk, IsTrue, OnOk, ⊤};
 ghost use Rattle.tape_values.specs.Block.{data_block, top};
-ghost use Rattle.console_lines.specs.Dialling.{asked_once};
 ghost use Rattle.console_lines.specs.Console.{ConsoleTold};
 ghost use Rattle.load_devices.specs.Failures.{CountsFault, IsLastFault};
-ghost use Rattle.load_devices.specs.Told.{Gains};
 ghost use Rattle.load_devices.specs.Turns.{most_turns};
 ghost use Rattle.reading_core.specs.Bound.{reading_bound};
 ghost use Rattle.reading_core.specs.Invariant.{IsReader};
 ghost use Rattle.reading_core.specs.Reader.{ended};
 ghost use Rattle.reading_engine.specs.Failing.{line_fault};
 ghost use Rattle.reading_engine.specs.Inquired.{Inquired, TellsEnd};
-ghost use Rattle.machine_look.specs.Look.{IsLook};
+ghost use Rattle.machine_look.specs.Course.{IsCourse};
+ghost use Rattle.machine_look.specs.FoundPart.{FillBlocks};
+ghost use Rattle.machine_look.specs.Hosts.{AreHosts};
 ghost use Rattle.machine_look.specs.LookFault.{IsReadFault};
-ghost use Rattle.machine_look.specs.SavedSteps.{adds, full};
+ghost use Rattle.machine_look.specs.SavedSteps.{adds, full, not_all_added};
 ghost use Rattle.machine_look.specs.SavedTape.{saved_block};
 ghost use Rattle.machine_look.specs.Shelf.{NotAdded};
 ghost use Rattle.machine_look.specs.ShelfTold.{AreDone, GoesOnTo};
 
+use crate::behind::Behind;
+use crate::hosts::Hosts;
 use crate::look_fault::LookFault;
-use crate::saved_tape::{BLOCK_WORDS, block_text};
+use crate::saved_tape::{BLOCK_WORDS, block_text, words_of};
+use crate::saving::SaveOptions;
 use crate::shelf::{Shelf, ShelfFault};
 use console_lines::Reach;
-use load_devices::{Line, MOST_TURNS, Onlooker};
+use load_devices::{Line, MOST_TURNS, Onlooker, Unwatched};
 use reading_core::ReadingCore;
 use reading_engine::{Stop, inquire};
+use sample_looks::{Finding, Looked, look_at_samples};
+
+/// What came of looks and reading.
+#[derive(Drop)]
+pub(crate) enum Course {
+    /// The looks held it up.
+    HeldUp(Looked),
+
+    /// What was found stands, as far as this host looked, and this one read behind it, and stopped so.
+    Read(ReadingCore, ReadingCore, Stop),
+}
 
 // What a reading came to, and whether the blocks of what was read are on the shelf.
 #[derive(Drop)]
@@ -34,38 +48,110 @@ struct Read {
     added: Result<(), ShelfFault>,
 }
 
-/// Reaches the console and reads, and puts each block of what is read on the shelf, once its last word was
-/// read.
+/// Reaches the console and looks at samples of what was found; where they stand, puts its blocks on the shelf,
+/// and reads the words behind it, and puts each block of what is read there, too, once its last word was read.
+/// An onlooker is told of no look.
 ///
 /// `Connect` comes where the console can't be reached, and nothing was sent; `WriteTape` where a block can't be
 /// added, and then nothing more is read.
 pub(crate) fn read_over<S: Shelf, R: Reach, O: Onlooker>(
-    core: ReadingCore,
-    from: u16,
+    options: SaveOptions,
+    hosts: Hosts,
+    found: &[u16],
     shelf: &mut S,
     console: &mut R,
     onlooker: &O,
-) -> Result<(ReadingCore, Stop), LookFault>
-    requires below { from + 2 * length core.addresses ≤ top }
-    requires fresh { core.values ≡ [] }
-    requires goes_on { ended core.phase ≡ None }
-    ensures look { IfOk result (λ read. IsLook core read.0 read.1 (R.lines console.old) (R.lines console.new)) }
-    ensures asked { OnOk result (Gains (R.asked console.old) (R.asked console.new) (asked_once (R.call console.old))) }
-    ensures added { IfOk result (λ read. (folder : List ℕ) → S.is_opened_as shelf.old folder
-        → S.is_opened_as shelf.new folder × AreDone folder (adds from read.0.values (full read.0.values)) (S.told shelf.old) (S.told shelf.new)) }
+) -> Result<Course, LookFault>
+    requires fill { FillBlocks options.range found.now }
+    requires hosts { AreHosts options found.now hosts }
+    requires begins { options.start < 65536 }
+    ensures course { IfOk result (IsCourse options found.now (S.is_opened_as shelf.old) (S.is_opened_as shelf.new) (S.told shelf.old) (S.told shelf.new)
+        (record { asked = R.asked console.old; call = R.call console.old; lines = R.lines console.old; out = None })
+        (record { asked = R.asked console.new; call = R.call console.new; lines = R.lines console.new; out = None })) }
     ensures call { R.call console.new ≡ R.call console.old }
-    ensures fault { IfErr result (IsReadFault core from (S.is_opened_as shelf.old) (S.told shelf.old) (S.told shelf.new)
+    ensures fault { IfErr result (IsReadFault options found.now (S.is_opened_as shelf.old) (S.told shelf.old) (S.told shelf.new)
         (record { asked = R.asked console.old; call = R.call console.old; lines = R.lines console.old; out = None })
         (record { asked = R.asked console.new; call = R.call console.new; lines = R.lines console.new; out = None })) }
 {
+    let Hosts {
+        samples,
+        looker,
+        addresses,
+        room,
+    } = hosts;
     let mut line = console.reach()?;
-    onlooker.begins(0, core.addresses().len() as u32);
-    let Read { core, stop, added } = read_blocks(core, from, shelf, &mut line, onlooker);
+    onlooker.begins(found.len() as u32, words_of(options.range) as u32);
+    let looked = look_at_samples(looker, &samples, &mut line, &Unwatched);
+    if !all_stand(looked.finding) {
+        onlooker.ends();
+        console.let_go(line);
+        return Ok(Course::HeldUp(looked));
+    }
+    let looks = looked.reader;
+    let core = ReadingCore::in_room(addresses, room, options.patience - looks.spent());
+    let behind = Behind::new(onlooker, found.len() as u32, looks.spent());
+    let read = read_behind(core, options.range.from(), found, shelf, &mut line, &behind);
     onlooker.ends();
     console.let_go(line);
+    let Read { core, stop, added } = read;
     match added {
-        Ok(()) => Ok((core, stop)),
+        Ok(()) => Ok(Course::Read(looks, core, stop)),
         Err(_) => Err(LookFault::WriteTape),
+    }
+}
+
+// Whether each sample stands.
+fn all_stand(finding: Finding) -> bool
+    ensures { IsTrue result ↔ (finding ≡ Finding.AllStand) }
+{
+    match finding {
+        Finding::AllStand => true,
+        Finding::Stale(_) | Finding::Unfinished => false,
+    }
+}
+
+// Adds the blocks of what was found, once more, and then lends the core to the line, as `read_blocks` does, for
+// the words behind them.
+fn read_behind<S: Shelf, L: Line, O: Onlooker>(
+    core: ReadingCore,
+    from: u16,
+    found: &[u16],
+    shelf: &mut S,
+    line: &mut L,
+    onlooker: &O,
+) -> Read
+    requires whole { length found.now ≡ 256 * full found.now }
+    requires below { from + 2 * (length found.now + length core.addresses) ≤ top }
+    requires fresh { core.values ≡ [] }
+    requires kept { IsReader core }
+    ensures turns { (turns : ℕ) × (turns ≤ most_turns) × OnOk result.added (turns ≡ most_turns)
+        × Inquired turns (Some result.stop) core result.core (L.told line.old) (L.told line.new) }
+    ensures end { OnOk result.added (TellsEnd result.stop result.core) }
+    ensures counted { CountsFault (line_fault (Some result.stop)) (L.fault_count line.old) (L.fault_count line.new) }
+    ensures fault { IsLastFault (line_fault (Some result.stop)) (L.last_fault line.new) }
+    ensures same_addresses { result.core.addresses ≡ core.addresses }
+    ensures same_patience { result.core.patience ≡ core.patience }
+    ensures bound { result.core.sent ≤ reading_bound (length result.core.addresses) result.core.patience }
+    ensures kept { IsReader result.core }
+    ensures added { OnOk result.added (GoesOnTo (S.is_opened_as shelf.old) (S.is_opened_as shelf.new) []
+        (adds from (found.now ++ result.core.values) (full (found.now ++ result.core.values))) (S.told shelf.old) (S.told shelf.new)) }
+    ensures not_added { IfErr result.added (λ fault. (n : ℕ) × (n < full (found.now ++ result.core.values))
+        × GoesOnTo (S.is_opened_as shelf.old) (λ _. ⊤) [] (not_all_added from (found.now ++ result.core.values) n) (S.told shelf.old) (S.told shelf.new)) }
+{
+    if let Err(fault) = add_full(from, found, 0, shelf) {
+        return Read {
+            core,
+            stop: Stop::TurnsOver,
+            added: Err(fault),
+        };
+    }
+    match core.end() {
+        Some(end) => Read {
+            core,
+            stop: Stop::Ended(end),
+            added: Ok(()),
+        },
+        None => read_blocks(core, from + 2 * found.len() as u16, shelf, line, onlooker),
     }
 }
 

@@ -17,4 +17,7 @@ pub enum SaveEnd {
 
     /// The line failed.
     LineFailed(LineFault),
+
+    /// Memory does not hold the word at this address that an earlier save read there, and nothing was read.
+    Stale(u16),
 }

@@ -1,22 +1,40 @@
 //! The report of `save`.
 ghost use Rattle.std.specs.Prelude.{◌≡◌, ◌+◌, ◌≤◌, ◌++◌, [], codes};
 ghost use Rattle.arrayvec.specs.ArrayVec.{array_vec_len};
+ghost use Rattle.octal.specs.Octal.{octal_text};
 ghost use Rattle.byte_io.specs.Text.{line};
-ghost use Rattle.machine_look.specs.SaveReport.{save_counts_text, save_end_name, save_end, save_report};
+ghost use Rattle.machine_look.specs.SaveReport.{held_end, save_counts_text, save_end_name, save_end, save_report};
 
 use crate::save_end::SaveEnd;
-use crate::verify_report::{LastLines, push_life, push_no_word};
-use byte_io::{push_bytes, push_decimal};
-use reading_core::{End, ReadingCore};
+use crate::verify_report::{LastLines, push_no_word};
+use byte_io::{push_bytes, push_decimal, push_octal};
+use reading_core::End;
 use reading_engine::Stop;
+use sample_looks::Finding;
 
-/// The report of a reading: the counts of the host's life, and how the reading ended.
-pub(crate) fn save_report(core: &ReadingCore, stop: Stop) -> LastLines
-    ensures { result.items ≡ save_report core.now stop }
+/// What a save counts.
+#[derive(Clone, Copy, Debug, PartialEq, Eq)]
+pub struct SaveCounts {
+    /// The characters that were sent.
+    pub sent: u64,
+
+    /// The mishaps.
+    pub spent: u32,
+
+    /// How many words the tape has.
+    pub read: usize,
+
+    /// How many words were to be saved.
+    pub words: usize,
+}
+
+/// The report of a save: its counts, and how it ended.
+pub(crate) fn save_report(counts: SaveCounts, end: SaveEnd) -> LastLines
+    ensures { result.items ≡ save_report counts end }
 {
     let mut text = LastLines::new();
-    push_counts(&mut text, core);
-    push_end(&mut text, save_end(stop));
+    push_counts(&mut text, counts);
+    push_end(&mut text, end);
     text
 }
 
@@ -33,16 +51,29 @@ pub(crate) fn save_end(stop: Stop) -> SaveEnd
     }
 }
 
-fn push_counts(text: &mut LastLines, core: &ReadingCore)
+/// How a save ends that its looks held up.
+pub(crate) fn held_end(finding: Finding, stop: Stop) -> SaveEnd
+    ensures { result ≡ held_end finding stop }
+{
+    match finding {
+        Finding::Stale(address) => SaveEnd::Stale(address),
+        _ => save_end(stop),
+    }
+}
+
+fn push_counts(text: &mut LastLines, counts: SaveCounts)
     requires { text.old.items ≡ [] }
-    ensures items { text.new.items ≡ line (save_counts_text core.now) }
+    ensures items { text.new.items ≡ line (save_counts_text counts) }
     ensures length { array_vec_len text.new ≤ 103 }
 {
-    push_life(text, core);
+    push_bytes(text, b"sent ");
+    push_decimal(text, counts.sent);
+    push_bytes(text, b" spent ");
+    push_decimal(text, counts.spent.into());
     push_bytes(text, b" read ");
-    push_decimal(text, core.values().len() as u64);
+    push_decimal(text, counts.read as u64);
     push_bytes(text, b" of ");
-    push_decimal(text, core.addresses().len() as u64);
+    push_decimal(text, counts.words as u64);
     push_bytes(text, b"\n");
 }
 
@@ -66,5 +97,15 @@ fn push_end_name(text: &mut LastLines, end: SaveEnd)
         SaveEnd::GaveUp => push_bytes(text, b"GaveUp"),
         SaveEnd::TurnsOver => push_bytes(text, b"TurnsOver"),
         SaveEnd::LineFailed(_) => push_bytes(text, b"LineFailed"),
+        SaveEnd::Stale(address) => push_stale(text, address),
     }
+}
+
+fn push_stale(text: &mut LastLines, address: u16)
+    requires { array_vec_len text.old ≤ 107 }
+    ensures items { text.new.items ≡ text.old.items ++ (codes "Stale " ++ octal_text address) }
+    ensures length { array_vec_len text.new ≡ array_vec_len text.old + 12 }
+{
+    push_bytes(text, b"Stale ");
+    push_octal(text, address);
 }

@@ -3,6 +3,9 @@ ghost use Rattle.std.specs.Prelude.{◌≡◌, [], ◌++◌, ◌+◌, ◌*◌, �
 ghost use Rattle.std.specs.List.{flat_map};
 ghost use Rattle.arrayvec.specs.ArrayVec.{array_vec_len};
 ghost use Rattle.tape_values.specs.Block.{data_block, low_first, top};
+ghost use Rattle.host_core.specs.Memory.{most_words};
+ghost use Rattle.reading_core.specs.Addresses.{IsRange};
+ghost use Rattle.machine_look.specs.FoundPart.{words_in};
 ghost use Rattle.machine_look.specs.SavedTape.{last_text, room_for, saved_block};
 
 use arrayvec::ArrayVec;
@@ -22,11 +25,21 @@ const TEXT_ROOM: usize = 526;
 /// A text that is added to a tape.
 pub(crate) type TapeText = ArrayVec<u8, TEXT_ROOM>;
 
+/// How many words a range has, both ends included.
+pub(crate) fn words_of(range: AddressRange) -> usize
+    ensures words { result ≡ words_in range }
+    ensures few { result ≤ most_words }
+    ensures below { range.from + 2 * result ≤ top }
+    ensures in_order { IsRange range.from range.to }
+{
+    usize::from((range.to() - range.from()) / 2 + 1)
+}
+
 /// The room that the tape of the words of a range needs, in bytes.
 pub(crate) fn tape_room(range: AddressRange) -> usize
     ensures { result ≡ room_for range }
 {
-    let words = usize::from((range.to() - range.from()) / 2 + 1);
+    let words = words_of(range);
     let frames = 1 + words.div_ceil(BLOCK_WORDS);
     FRAME * frames + 2 * words
 }

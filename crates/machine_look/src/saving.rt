@@ -1,21 +1,24 @@
 //! The command `save`: what memory holds, as a tape.
-ghost use Rattle.std.specs.Prelude.{◌≡◌, ◌*◌, ◌+◌, ◌<◌, ◌≤◌, List, ℕ, [], length, IfErr, IfOk, OnOk};
+ghost use Rattle.std.specs.Prelude.{◌≡◌, ◌*◌, ◌+◌, ◌++◌, ◌<◌, ◌≤◌, List, ℕ, length, IfErr, IfOk, OnOk};
 ghost use Rattle.tape_values.specs.Block.{top};
-ghost use Rattle.machine_look.specs.LookFault.{IsKeepFault, IsSaveFault};
-ghost use Rattle.machine_look.specs.Save.{IsSavedAndReported, save_told};
-ghost use Rattle.machine_look.specs.SavedSteps.{closes};
-ghost use Rattle.machine_look.specs.ShelfTold.{AreDone};
+ghost use Rattle.machine_look.specs.Course.{IsConcluded, IsUnclosed, HasRoomForCounts};
+ghost use Rattle.machine_look.specs.FoundPart.{FillBlocks};
+ghost use Rattle.machine_look.specs.LookFault.{IsKeepFault, IsSaveFault, TakesUpNothing};
+ghost use Rattle.machine_look.specs.Save.{IsSavedAndReported, TakesUp, save_told};
+ghost use Rattle.machine_look.specs.SavedSteps.{closes, full};
+ghost use Rattle.machine_look.specs.Shelf.{ShelfStep};
+ghost use Rattle.machine_look.specs.ShelfTold.{AreDone, HasDone};
 
+use crate::hosts::Hosts;
 use crate::look_fault::LookFault;
-use crate::reading_blocks::read_over;
+use crate::reading_blocks::{Course, read_over};
 use crate::save_end::SaveEnd;
-use crate::save_report::{save_end, save_report};
-use crate::saved_tape::{last_text, tape_room};
-use crate::shelf::Shelf;
+use crate::save_report::{SaveCounts, held_end, save_end, save_report};
+use crate::saved_tape::{last_text, tape_room, words_of};
+use crate::shelf::{Shelf, ShelfFault};
 use byte_io::write_and_flush;
 use console_lines::Reach;
 use load_devices::Onlooker;
-use reading_core::ReadingCore;
 use request_values::AddressRange;
 use std::alloc::Global;
 use std::io::Write;
@@ -37,11 +40,13 @@ pub struct SaveOptions {
 /// as its last word was read, and reports how far that came and how it ended.
 ///
 /// The room of the whole tape is taken there before the console is reached, so that want of it is told with
-/// nothing typed. The tape is closed, and has its place there, once the host has ended, with every word that was
+/// nothing typed. Where an earlier save of the same words left blocks there, samples of their words are looked at
+/// first: where they stand, these blocks are added once more, and the words behind them are read; where one does
+/// not, or the looks do not come to their end, no word counts as read, and the shelf is as it was. The tape is closed, and has its place there, once the host has ended, with every word that was
 /// read by then, also where the machine has no more memory, the line failed or the host gave up; where no word
 /// was read, there is none.
 ///
-/// `IsThere`, `PartIsThere` and `WriteTape` come before the console is reached; `IsThere` and `WriteTape` also
+/// `IsThere`, `PartIsThere`, `NotOfSave` and `WriteTape` come before the console is reached; `IsThere` and `WriteTape` also
 /// where the tape can't have its place at the end, and `WriteTape` where a block can't be added: then the blocks
 /// that were added stay on the shelf. `Connect` comes before anything was sent. `WriteOutput` is a report that
 /// could not be written whole; the tape is where it belongs. `Memory` comes only where a growth was refused, for
@@ -62,26 +67,91 @@ pub fn save<S: Shelf, R: Reach, W: Write, O: Onlooker>(
         (save_told S.Shelf R.Reach W.Write shelf.old console.old out.old)
         (save_told S.Shelf R.Reach W.Write shelf.new console.new out.new)) }
 {
-    let (from, to) = (options.range.from(), options.range.to());
-    let core = ReadingCore::of_range(alloc, from, to, options.patience)?;
-    shelf.reserve(alloc, tape_room(options.range))?;
-    let (core, stop) = read_over(core, from, shelf, console, onlooker)?;
-    close(from, core.values(), options.start, shelf)?;
-    write_and_flush(out, &save_report(&core, stop))?;
-    Ok(save_end(stop))
+    let found = take_up(alloc, options.range, shelf)?;
+    let hosts = Hosts::new(alloc, options, &found)?;
+    let course = read_over(options, hosts, &found, shelf, console, onlooker)?;
+    let (counts, end) = conclude(options, &found, course, shelf)?;
+    write_and_flush(out, &save_report(counts, end))?;
+    Ok(end)
 }
 
-// Adds the last text of the tape of the numbers that were read from an address on, if there are any.
-fn close<S: Shelf>(from: u16, numbers: &[u16], start: u16, shelf: &mut S) -> Result<(), LookFault>
-    requires below { from + 2 * length numbers.now ≤ top }
-    ensures ok { OnOk result ((folder : List ℕ) → S.is_opened_as shelf.old folder
-        → AreDone folder (closes from numbers.now start) (S.told shelf.old) (S.told shelf.new)) }
-    ensures fits { start < 65536 }
-    ensures fault { IfErr result (IsKeepFault (S.is_opened_as shelf.old) from numbers.now start (S.told shelf.old) (S.told shelf.new)) }
+// Takes room for the tape of a range; where what an earlier save left is there, goes on with that. What is found
+// there is answered.
+fn take_up<S: Shelf>(
+    alloc: Global,
+    range: AddressRange,
+    shelf: &mut S,
+) -> Result<Vec<u16>, ShelfFault>
+    ensures found { IfOk result (λ found. FillBlocks range found.items) }
+    ensures taken { IfOk result (λ found. (taking : List ShelfStep) × TakesUp range found.items taking
+        × (folder : List ℕ) × S.is_opened_as shelf.new folder × AreDone folder taking (S.told shelf.old) (S.told shelf.new)) }
+    ensures failed { IfErr result (λ fault. (steps : List ShelfStep) × TakesUpNothing range fault steps × HasDone steps (S.told shelf.old) (S.told shelf.new)) }
 {
-    if numbers.is_empty() {
+    match shelf.reserve(alloc, tape_room(range)) {
+        Ok(()) => Ok(Vec::new(alloc)),
+        Err(ShelfFault::PartIsThere) => shelf.resume(alloc, range),
+        Err(fault) => Err(fault),
+    }
+}
+
+// What a course comes to, once its tape is closed.
+fn conclude<S: Shelf>(
+    options: SaveOptions,
+    found: &[u16],
+    course: Course,
+    shelf: &mut S,
+) -> Result<(SaveCounts, SaveEnd), LookFault>
+    requires whole { length found.now ≡ 256 * full found.now }
+    requires room { HasRoomForCounts options found.now course }
+    ensures ok { IfOk result (λ done. IsConcluded options found.now (S.is_opened_as shelf.old) (S.told shelf.old) (S.told shelf.new) course done.0 done.1) }
+    ensures fits { options.start < 65536 }
+    ensures fault { IfErr result (IsUnclosed options found.now (S.is_opened_as shelf.old) (S.told shelf.old) (S.told shelf.new) course) }
+{
+    let words = words_of(options.range);
+    match course {
+        Course::HeldUp(looked) => {
+            let counts = SaveCounts {
+                sent: looked.reader.sent_count(),
+                spent: looked.reader.spent(),
+                read: 0,
+                words,
+            };
+            Ok((counts, held_end(looked.finding, looked.stop)))
+        }
+        Course::Read(looks, core, stop) => {
+            let numbers = core.values();
+            close(options, found, numbers, shelf)?;
+            let counts = SaveCounts {
+                sent: looks.sent_count() + core.sent_count(),
+                spent: looks.spent() + core.spent(),
+                read: found.len() + numbers.len(),
+                words,
+            };
+            Ok((counts, save_end(stop)))
+        }
+    }
+}
+
+// Adds the last text of the tape of the numbers that were found and of those that were read behind them, if there
+// are any.
+fn close<S: Shelf>(
+    options: SaveOptions,
+    found: &[u16],
+    numbers: &[u16],
+    shelf: &mut S,
+) -> Result<(), LookFault>
+    requires whole { length found.now ≡ 256 * full found.now }
+    requires below { options.range.from + 2 * (length found.now + length numbers.now) ≤ top }
+    ensures ok { OnOk result ((folder : List ℕ) → S.is_opened_as shelf.old folder
+        → AreDone folder (closes options.range.from (found.now ++ numbers.now) options.start) (S.told shelf.old) (S.told shelf.new)) }
+    ensures fits { options.start < 65536 }
+    ensures fault { IfErr result (IsKeepFault (S.is_opened_as shelf.old) options.range.from (found.now ++ numbers.now) options.start
+        (S.told shelf.old) (S.told shelf.new)) }
+{
+    if found.len() + numbers.len() == 0 {
         return Ok(());
     }
-    shelf.put(&last_text(from, numbers, start))?;
+    let from = options.range.from() + 2 * found.len() as u16;
+    shelf.put(&last_text(from, numbers, options.start))?;
     Ok(())
 }

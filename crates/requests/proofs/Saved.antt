@@ -1,5 +1,5 @@
 -- What becomes of a save, by what is said of its shelf.
-use Rattle.std.proofs.Common.{◌≡◌, ℕ, List, Option, None, Some, Result, Ok, Err, IfOk, IfErr, inr, sym}
+use Rattle.std.proofs.Common.{◌≡◌, ℕ, List, Option, None, Some, Result, Ok, Err, IfOk, IfErr, inr}
 use Rattle.record_file.specs.DiskStep.{DiskStep}
 use Rattle.machine_look.specs.Save.{IsSavedAndReported}
 use Rattle.machine_look.specs.ShelfDisk.{Room}
@@ -9,7 +9,7 @@ use Rattle.endings.specs.declared.failure.Failure.{Failure}
 use Rattle.endings.specs.declared.status.Status.{Status}
 use Rattle.input_files.specs.Opening.{Name}
 use Rattle.request_values.specs.declared.machine.Save.{Save}
-use Rattle.requests.specs.Ending.{after_save}
+use Rattle.requests.specs.Ending.{IsSaveEndFailure, IsSaveEndStatus}
 use Rattle.requests.specs.Looking.{console_at}
 use Rattle.requests.specs.Moment.{Moment}
 use Rattle.requests.specs.Saving.{AreWordsSaved, AreWordsUnsaved, IsLetGo, new_shelf, options_of, save_told_by, save_told_first}
@@ -26,18 +26,18 @@ module _ (save : Save) (before after : Moment) (no_file : after.asked.inputs ≡
     (end : SaveEnd) (shelf : ShelfTold)
     (reported : IsSavedAndReported (options_of save) (save_told_first save before) (save_told_by shelf (console_at save.look after)) end)
     (gone : IsLetGo shelf.disk after.asked.outside.disk) where
-  pub saved : (result : Result Status Failure) → result ≡ after_save end → IfOk result (AreWordsSaved save before after)
+  pub saved : (result : Result Status Failure) → IfOk result (IsSaveEndStatus end) → IfOk result (AreWordsSaved save before after)
   saved (Ok status) is = record {
-    saved = record { end = end; shelf = shelf; reported = reported; status_is = sym is; let_go = gone };
+    saved = record { end = end; shelf = shelf; reported = reported; status_is = is; let_go = gone };
     no_file = no_file;
     nothing_read = nothing_read;
   }
   saved (Err failure) is = tt
 
-  pub unsaved : (result : Result Status Failure) → result ≡ after_save end → IfErr result (AreWordsUnsaved save before after)
+  pub unsaved : (result : Result Status Failure) → IfErr result (IsSaveEndFailure end save.file.now) → IfErr result (AreWordsUnsaved save before after)
   unsaved (Ok status) is = tt
   unsaved (Err failure) is = record {
-    failed = inr (record { end = end; shelf = shelf; reported = reported; failed = sym is; let_go = gone });
+    failed = inr (record { end = end; shelf = shelf; reported = reported; failed = is; let_go = gone });
     no_file = no_file;
     nothing_read = nothing_read;
   }

@@ -14,7 +14,7 @@ use Rattle.machine_probe.specs.declared.probe_fault.ProbeFault.TheVariants as pr
 use Rattle.probe_report.specs.declared.probe_end.ProbeEnd.{ProbeEnd}
 use Rattle.probe_report.specs.declared.probe_end.ProbeEnd.TheVariants as probe
 use Rattle.endings.specs.declared.failure.Failure.{Failure}
-use Rattle.endings.specs.declared.failure.Failure.TheVariants.{CannotWrite, CannotWriteFile, FileIsThere, PartIsThere, RecordInUse, CannotConnect}
+use Rattle.endings.specs.declared.failure.Failure.TheVariants.{CannotWrite, CannotWriteFile, FileIsThere, PartIsThere, PartNotOfSave, PartStale, RecordInUse, CannotConnect}
 use Rattle.endings.specs.declared.failure.Failure.TheVariants.{LineFailed, StartInDoubt, RecordRefused, RecordStale, NoMemory}
 use Rattle.endings.specs.declared.status.Status.{Status}
 use Rattle.endings.specs.declared.status.Status.TheVariants.{Done, Differs, NotLoaded}
@@ -48,6 +48,16 @@ abbrev pub NamesPartThere : List ℕ → Failure → Type 0
 NamesPartThere text (PartIsThere name) = name.now ≡ text
 NamesPartThere text other = ⊥
 
+-- the failure is that what is beside this name is not of the save
+abbrev pub NamesPartOfAnother : List ℕ → Failure → Type 0
+NamesPartOfAnother text (PartNotOfSave name) = name.now ≡ text
+NamesPartOfAnother text other = ⊥
+
+-- the failure is that memory does not hold what is beside this name
+abbrev pub NamesStalePart : List ℕ → Failure → Type 0
+NamesStalePart text (PartStale name) = name.now ≡ text
+NamesStalePart text other = ⊥
+
 -- the failure that a fault at a machine is, where its console has this name, and its record or its new file that one
 abbrev pub IsFailureOf : MachineFault → List ℕ → List ℕ → Failure → Type 0
 IsFailureOf (Load load.ReadRecord) console file failure = NamesFile file failure
@@ -56,6 +66,7 @@ IsFailureOf (Load (load.Record reason)) console file failure = failure ≡ Recor
 IsFailureOf (Load load.WriteRecord) console file failure = NamesWrittenFile file failure
 IsFailureOf (Look look.IsThere) console file failure = NamesFileThere file failure
 IsFailureOf (Look look.PartIsThere) console file failure = NamesPartThere file failure
+IsFailureOf (Look look.NotOfSave) console file failure = NamesPartOfAnother file failure
 IsFailureOf (Look look.WriteTape) console file failure = NamesWrittenFile file failure
 IsFailureOf (Load load.Connect) console file failure = NamesAddress console failure
 IsFailureOf (Look look.Connect) console file failure = NamesAddress console failure
@@ -104,13 +115,19 @@ after_verify verify.GaveUp = Ok NotLoaded
 after_verify verify.TurnsOver = Ok NotLoaded
 after_verify (verify.LineFailed fault) = Err LineFailed
 
--- how the program ends after a `save` that ended so: where its line failed, that is a failure and no ending
-abbrev pub after_save : SaveEnd → Result Status Failure
-after_save save.Saved = Ok Done
-after_save (save.NoWord address) = Ok NotLoaded
-after_save save.GaveUp = Ok NotLoaded
-after_save save.TurnsOver = Ok NotLoaded
-after_save (save.LineFailed fault) = Err LineFailed
+-- how the program ended where a `save` ended so
+abbrev pub IsSaveEndStatus : SaveEnd → Status → Type 0
+IsSaveEndStatus save.Saved status = status ≡ Done
+IsSaveEndStatus (save.NoWord address) status = status ≡ NotLoaded
+IsSaveEndStatus save.GaveUp status = status ≡ NotLoaded
+IsSaveEndStatus save.TurnsOver status = status ≡ NotLoaded
+IsSaveEndStatus other status = ⊥
+
+-- how a `save` to a file of this name fails that ended so: its line failed, or memory does not hold what is beside the file
+abbrev pub IsSaveEndFailure : SaveEnd → List ℕ → Failure → Type 0
+IsSaveEndFailure (save.LineFailed fault) file failure = failure ≡ LineFailed
+IsSaveEndFailure (save.Stale address) file failure = NamesStalePart file failure
+IsSaveEndFailure other file failure = ⊥
 
 -- how the program ends after a `probe` that ended so: where its line failed, that is a failure and no ending
 abbrev pub after_probe : ProbeEnd → Result Status Failure

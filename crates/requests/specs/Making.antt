@@ -13,7 +13,7 @@ use Rattle.request_values.specs.declared.request.Make.{Make}
 use Rattle.tape_commands.specs.TapeOfWords.{IsTapeMade, IsTapeUnmade}
 use Rattle.input_files.specs.Opening.{Name}
 use Rattle.requests.specs.Asked.{OutsideAsked}
-use Rattle.requests.specs.Ending.{NamesFileThere, NamesPartThere, NamesWrittenFile}
+use Rattle.requests.specs.Ending.{NamesFileThere, NamesPartOfAnother, NamesPartThere, NamesWrittenFile}
 use Rattle.requests.specs.Moment.{Moment, intake_at}
 use Rattle.requests.specs.Saving.{IsLetGo, new_shelf}
 
@@ -26,6 +26,7 @@ IsNotPutWhole text fault before after =
 abbrev pub IsShelfFailure : ShelfFault → List ℕ → Failure → Type 0
 IsShelfFailure shelf.IsThere file failure = NamesFileThere file failure
 IsShelfFailure shelf.PartIsThere file failure = NamesPartThere file failure
+IsShelfFailure shelf.NotOfSave file failure = NamesPartOfAnother file failure
 IsShelfFailure shelf.Write file failure = NamesWrittenFile file failure
 IsShelfFailure shelf.Memory file failure = failure ≡ NoMemory
 

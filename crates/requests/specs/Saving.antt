@@ -1,5 +1,5 @@
 -- What becomes of a request to save what a real machine holds.
-use Rattle.std.specs.Prelude.{◌≡◌, ◌⊎◌, List, Option, None, Some, Ok, Err}
+use Rattle.std.specs.Prelude.{◌≡◌, ◌⊎◌, List, Option, None, Some}
 use Rattle.console_lines.specs.Console.{ConsoleTold}
 use Rattle.load_devices.specs.Told.{HasAsked}
 use Rattle.record_file.specs.DiskStep.{DiskStep}
@@ -12,7 +12,7 @@ use Rattle.machine_look.specs.declared.save_end.SaveEnd.{SaveEnd}
 use Rattle.machine_look.specs.declared.saving.SaveOptions.{SaveOptions}
 use Rattle.endings.specs.declared.failure.Failure.{Failure}
 use Rattle.endings.specs.declared.status.Status.{Status}
-use Rattle.requests.specs.Ending.{IsFailureOf, after_save}
+use Rattle.requests.specs.Ending.{IsFailureOf, IsSaveEndFailure, IsSaveEndStatus}
 use Rattle.requests.specs.declared.machine_fault.MachineFault.TheVariants as machine
 use Rattle.input_files.specs.Opening.{Name}
 use Rattle.request_values.specs.declared.machine.Look.{Look}
@@ -46,15 +46,15 @@ pub record IsSaveOver (save : Save) (before after : Moment) (status : Status) : 
   pub end : SaveEnd
   pub shelf : ShelfTold
   pub reported : IsSavedAndReported (options_of save) (save_told_first save before) (save_told_by shelf (console_at save.look after)) end
-  pub status_is : after_save end ≡ Ok status
+  pub status_is : IsSaveEndStatus end status
   pub let_go : IsLetGo shelf.disk after.asked.outside.disk
 
--- the same, and its line had failed
+-- the same, and its line had failed, or memory does not hold what was left beside the file
 pub record IsSaveBroken (save : Save) (before after : Moment) (failure : Failure) : Type 0 where
   pub end : SaveEnd
   pub shelf : ShelfTold
   pub reported : IsSavedAndReported (options_of save) (save_told_first save before) (save_told_by shelf (console_at save.look after)) end
-  pub failed : after_save end ≡ Err failure
+  pub failed : IsSaveEndFailure end save.file.now failure
   pub let_go : IsLetGo shelf.disk after.asked.outside.disk
 
 -- a save came to nothing

@@ -1,6 +1,6 @@
 //! What a load, a look or a probe comes to that was reported: the exit status, or the failure that names what was at fault.
 ghost use Rattle.std.specs.Prelude.{◌≡◌, IfOk, IfErr};
-ghost use Rattle.requests.specs.Ending.{IsEndedFailure, IsEndedStatus, IsStopFailure, IsStopStatus, after_probe, after_save, after_verify};
+ghost use Rattle.requests.specs.Ending.{IsEndedFailure, IsEndedStatus, IsSaveEndFailure, IsSaveEndStatus, IsStopFailure, IsStopStatus, after_probe, after_verify};
 
 use endings::{Failure, Status};
 use load_engine::Stop;
@@ -48,14 +48,17 @@ pub(crate) fn after_verify(end: VerifyEnd) -> Result<Status, Failure<'static>>
     }
 }
 
-/// The status after a `save` that ended so, or the failure that it is where its line failed.
-pub(crate) fn after_save(end: SaveEnd) -> Result<Status, Failure<'static>>
-    ensures { result ≡ after_save end }
+/// The status after a `save` to a file of this name that ended so, or the failure that it is where its line failed, or
+/// memory does not hold what was left beside the file.
+pub(crate) fn after_save(end: SaveEnd, file: &str) -> Result<Status, Failure<'_>>
+    ensures status { IfOk result (IsSaveEndStatus end) }
+    ensures failure { IfErr result (IsSaveEndFailure end file.entry.now) }
 {
     match end {
         SaveEnd::Saved => Ok(Status::Done),
         SaveEnd::NoWord(_) | SaveEnd::GaveUp | SaveEnd::TurnsOver => Ok(Status::NotLoaded),
         SaveEnd::LineFailed(_) => Err(Failure::LineFailed),
+        SaveEnd::Stale(_) => Err(Failure::PartStale(file)),
     }
 }
 

@@ -29,6 +29,7 @@ impl MachineFault {
             MachineFault::Load(LoadFault::Record(why)) => Failure::RecordRefused(why),
             MachineFault::Look(LookFault::IsThere) => Failure::FileIsThere(file),
             MachineFault::Look(LookFault::PartIsThere) => Failure::PartIsThere(file),
+            MachineFault::Look(LookFault::NotOfSave) => Failure::PartNotOfSave(file),
             MachineFault::Load(LoadFault::WriteRecord) | MachineFault::Look(LookFault::WriteTape) =>
                 { Failure::CannotWriteFile(file) }
             MachineFault::Load(LoadFault::Connect)

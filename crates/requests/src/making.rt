@@ -89,6 +89,7 @@ fn shelf_failure(fault: ShelfFault, file: &str) -> Failure<'_>
     match fault {
         ShelfFault::IsThere => Failure::FileIsThere(file),
         ShelfFault::PartIsThere => Failure::PartIsThere(file),
+        ShelfFault::NotOfSave => Failure::PartNotOfSave(file),
         ShelfFault::Write => Failure::CannotWriteFile(file),
         ShelfFault::Memory => Failure::NoMemory,
     }

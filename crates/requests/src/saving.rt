@@ -21,8 +21,9 @@ use std::io::{Print, Read};
 /// save is.
 ///
 /// `FileIsThere` and `CannotWriteFile` come before the console is reached, or where the tape can't be put there at
-/// the end; `CannotConnect` before anything was sent. `LineFailed` comes behind the report, with the words that
-/// were read by then in the file. `CannotWrite` is a report that could not be written whole; the tape is where it
+/// the end; `PartIsThere` and `PartNotOfSave` before the console is reached, with what is beside the file as it was;
+/// `CannotConnect` before anything was sent. `PartStale` comes behind the report, with what is beside the file as it was;
+/// `LineFailed` too, with the words that were read by then in the file, if any were. `CannotWrite` is a report that could not be written whole; the tape is where it
 /// belongs. `NoMemory` comes only where a growth was refused, with no tape put there and nothing reported.
 pub(crate) fn save_words<'a, K: Kinds, R: Read, W: Output, E: FaultOutput, T: Print>(
     system: System<K>,
@@ -54,7 +55,7 @@ pub(crate) fn save_words<'a, K: Kinds, R: Read, W: Output, E: FaultOutput, T: Pr
     let saved = save(alloc, options, &mut shelf, &mut console, out, &shown);
     let system = System::new(inputs, shelf.close(), console.back(), clock);
     match saved {
-        Ok(end) => (system, after_save(end)),
+        Ok(end) => (system, after_save(end, request.file)),
         Err(fault) => {
             let failure = MachineFault::Look(fault).failure(look.line, request.file);
             (system, Err(failure))

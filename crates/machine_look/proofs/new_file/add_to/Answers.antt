@@ -2,7 +2,6 @@ use Rattle.load_devices.proofs.Told.{tells_none}
 use Rattle.std.proofs.Common.{refl}
 use Rattle.record_file.proofs.Asking.{asked_one, tells_failed, tells_done}
 use Rattle.machine_look.specs.ShelfDisk.{Unwritten, Unsure}
-use Rattle.machine_look.specs.Room.{room_of}
 use Rattle.machine_look.proofs.new_file.add_to.Goals as goal
 
 pub returns-in_default-clause-not_added : goal.returns-in_default-clause-not_added

@@ -4,7 +4,7 @@ use Rattle.machine_look.proofs.OnShelf.{empty_name, folder_name}
 use Rattle.machine_look.proofs.new_file.names_no_file.Goals as goal
 
 pub returns-then-is_empty : goal.returns-then-is_empty
-returns-then-is_empty c = empty_name _ _ c.if-is_empty.ensures
+returns-then-is_empty c = empty_name _ _ c.is_empty.ensures c.if-is_empty.ensures
 
 pub returns-else-is_empty : goal.returns-else-is_empty
-returns-else-is_empty c = folder_name _ _ ((ends_char 47 _ _ c.ends_with.ensures.cases (omega arith)).0)
+returns-else-is_empty c = folder_name _ _ c.if-is_empty.ensures (ends_char 47 _ _ c.ends_with.ensures.cases (omega arith))

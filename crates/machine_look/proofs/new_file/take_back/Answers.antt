@@ -1,6 +1,6 @@
 use Rattle.load_devices.proofs.Told.{tells_join}
 use Rattle.record_file.proofs.Asking.{asked_one}
-use Rattle.std.proofs.Common.{Result, Ok, Err, true, false, ◌≡◌, ℕ, List, [], ◌∷◌}
+use Rattle.std.proofs.Common.{Result, Ok, Err, true, false, ℕ, List, [], ◌∷◌}
 use Rattle.std.specs.Prelude.{Option}
 use Rattle.record_file.specs.DiskStep.{answered, Failed, FindFile, Rename}
 use Rattle.machine_look.specs.ShelfDisk.{HasItsOwn, IsTakenBack, RenamedBack}

@@ -1,61 +1,129 @@
-use Rattle.std.proofs.Common.{◌≡◌, ◌∷◌, [], ℕ, List, Some, refl, subst, sym}
+use Rattle.std.proofs.Common.{◌≡◌, ◌∙◌, ℕ, ◌+◌, ◌*◌, ◌≤◌, ◌-◌, ◌++◌, [], List, length, Some, refl, subst, sym, ap, arith}
+use Rattle.tape_image.specs.Word.{WordValue}
+use Rattle.reading_core.specs.Bound.{reading_bound}
 use Rattle.console_lines.specs.Dialling.{asked_once}
 use Rattle.load_devices.specs.Devices.{line_told}
 use Rattle.load_devices.specs.Failures.{CountsFault}
 use Rattle.load_devices.specs.Told.{Gains}
 use Rattle.load_devices.specs.Turns.{most_turns}
+use Rattle.reading_core.specs.Addresses.{AreAddresses}
+use Rattle.reading_core.specs.Reader.{Reader, begun}
+use Rattle.reading_core.specs.declared.phase.End.TheVariants.{Complete}
+use Rattle.reading_core.proofs.Asking.{length_from}
 use Rattle.reading_engine.specs.Failing.{line_fault}
 use Rattle.reading_engine.specs.Inquired.{Inquired}
-use Rattle.machine_look.specs.Look.{IsLineOf, IsLookOf}
-use Rattle.machine_look.proofs.Looks.{is_look_of}
+use Rattle.reading_engine.specs.declared.stop.Stop.{Stop}
+use Rattle.reading_engine.specs.declared.stop.Stop.TheVariants.{Ended}
+use Rattle.sample_looks.specs.Finding.{IsFound}
+use Rattle.sample_looks.specs.declared.finding.Finding.TheVariants.{AllStand}
+use Rattle.machine_look.specs.Behind.{addresses_behind}
+use Rattle.machine_look.specs.FoundPart.{words_in}
+use Rattle.machine_look.specs.SavedSteps.{adds, full, not_all_added}
+use Rattle.machine_look.specs.ShelfTold.{AreDone}
+use Rattle.machine_look.proofs.Courses.{are_looked_at, given_back, held_up, is_read}
 use Rattle.machine_look.proofs.Turning.{done_known, error_known}
 use Rattle.machine_look.proofs.reading_blocks.read_over.Goals as goal
 
-pub returns-in-Ok-clause-look : goal.returns-in-Ok-clause-look
-returns-in-Ok-clause-look g c =
+pub returns-then-not-all_stand-clause-course : goal.returns-then-not-all_stand-clause-course
+returns-then-not-all_stand-clause-course g c =
     let told = line_told g.R.Line.Line in
-    let read = c.read_blocks-core.ensures in
-    let stop = c.read_blocks-core.result.stop in
+    let looked = c.look_at_samples-looked in
+    let hosts = c.requires.hosts in
+    let samples = c.args.hosts.samples.items in
     let lines' = g.R.Reach.lines c.let_go.new.self in
-    let all : read.turns.0 ≡ most_turns = done_known _ c.read_blocks-core.result.added _ c.in-Ok.is read.turns.2 in
-    is_look_of most_turns _ _ _ (told c.in_ok-line.line).said (told c.read_blocks-core.new.line).said (g.R.Reach.lines c.args.console.now) lines' c.addresses.ensures.kept
-    (subst (λ n. Inquired n (Some stop) c.args.core c.read_blocks-core.result.core (told c.in_ok-line.line).said (told c.read_blocks-core.new.line).said) all read.turns.3)
-    (subst (λ over. IsLineOf over stop (told c.in_ok-line.line).said (told c.read_blocks-core.new.line).said (g.R.Reach.lines c.args.console.now) lines') (sym c.requires.goes_on) (record {
-      fresh = c.in_ok-line.ensures.fresh.nothing_said;
-      last = told c.read_blocks-core.new.line;
-      said = refl;
-      counted = subst (λ n. CountsFault (line_fault (Some stop)) n (told c.read_blocks-core.new.line).failures) c.in_ok-line.ensures.fresh.none_failed read.counted;
-      named = read.fault;
-      given = subst (λ lines. Gains lines lines' (told c.read_blocks-core.new.line ∷ [])) c.in_ok-line.ensures.lines c.let_go.ensures.lines;
-    }))
-    read.end read.same_addresses read.same_patience read.bound read.kept
+    let whose = ap (λ (r : Reader). r.patience) hosts.looker in (
+      held_up c.args.options c.args.found.now _ _ looked.result.reader looked.result.stop looked.result.finding samples (told c.in_ok-line.line).said (told looked.new.line).said hosts.of_found
+          (are_looked_at samples c.args.options.patience c.args.hosts.looker looked.result.reader looked.result.stop looked.result.finding _ _ hosts.looker looked.ensures.turns looked.ensures.end
+          (subst (λ (list : List WordValue). IsFound list looked.result.reader.values looked.result.stop looked.result.finding) c.deref.ensures.value looked.ensures.found)
+          (subst (λ (list : List WordValue). looked.result.reader.sent ≤ reading_bound (length list) c.args.hosts.looker.patience) c.deref.ensures.value looked.ensures.bound)
+          looked.ensures.same_patience looked.ensures.kept)
+          looked.ensures.kept (let long = hosts.looks.long in omega (arith, long, whose)) (λ all. absurd (cc (c.all_stand.ensures.1 all, c.if-not-all_stand.true)))
+          (subst (λ asked. Gains (g.R.Reach.asked c.args.console.now) asked (asked_once (g.R.Reach.call c.args.console.now))) (sym c.let_go.ensures.asked) c.in_ok-line.ensures.asked)
+          (given_back looked.result.stop _ _ (g.R.Reach.lines c.args.console.now) (g.R.Reach.lines c.reach.new.self) lines' _ _ _ (told looked.new.line) c.in_ok-line.ensures.fresh.none_failed refl looked.ensures.counted refl
+          c.in_ok-line.ensures.fresh.nothing_said refl looked.ensures.fault c.in_ok-line.ensures.lines c.let_go.ensures.lines),
+      refl,
+    )
 
-pub returns-in-Ok-clause-added : goal.returns-in-Ok-clause-added
-returns-in-Ok-clause-added g c folder known_so = done_known _ c.read_blocks-core.result.added _ c.in-Ok.is c.read_blocks-core.ensures.added folder (g.S.Shelf.told c.args.shelf.now) known_so refl
+pub read_behind-read-requires-clause-below : goal.read_behind-read-requires-clause-below
+read_behind-read-requires-clause-below g c =
+    let there : c.in_room-core.result.addresses ≡ c.args.hosts.addresses.items = ap (λ (r : Reader). r.addresses) c.in_room-core.ensures.begun in
+    let fill = c.requires.fill.within in
+    omega (arith, c.from.ensures.value, ap length there, ap length c.requires.hosts.addresses, length_from (c.args.options.range.from + 2 * length c.args.found.now) (words_in c.args.options.range - length c.args.found.now), c.words_of.ensures.below, c.words_of.ensures.words, fill)
 
-pub returns-in-Err-clause-fault : goal.returns-in-Err-clause-fault
-returns-in-Err-clause-fault g c =
+pub returns-in-Ok-clause-course : goal.returns-in-Ok-clause-course
+returns-in-Ok-clause-course g c =
     let told = line_told g.R.Line.Line in
-    let read = c.read_blocks-core.ensures in
-    let stop = c.read_blocks-core.result.stop in
-    let lines' = g.R.Reach.lines c.let_go.new.self in
-    let failed = error_known _ c.read_blocks-core.result.added _ c.in-Err.is read.not_added in (
-      c.read_blocks-core.result.core,
-      stop,
-      read.turns.0,
-      read.turns.1,
-      is_look_of read.turns.0 _ _ _ (told c.in_ok-line.line).said (told c.read_blocks-core.new.line).said (g.R.Reach.lines c.args.console.now) lines' c.addresses.ensures.kept read.turns.3
-          (subst (λ over. IsLineOf over stop (told c.in_ok-line.line).said (told c.read_blocks-core.new.line).said (g.R.Reach.lines c.args.console.now) lines') (sym c.requires.goes_on) (record {
-            fresh = c.in_ok-line.ensures.fresh.nothing_said;
-            last = told c.read_blocks-core.new.line;
-            said = refl;
-            counted = subst (λ n. CountsFault (line_fault (Some stop)) n (told c.read_blocks-core.new.line).failures) c.in_ok-line.ensures.fresh.none_failed read.counted;
-            named = read.fault;
-            given = subst (λ lines. Gains lines lines' (told c.read_blocks-core.new.line ∷ [])) c.in_ok-line.ensures.lines c.let_go.ensures.lines;
-          }))
-          read.end read.same_addresses read.same_patience read.bound read.kept,
-      subst (λ asked. Gains (g.R.Reach.asked c.args.console.now) asked (asked_once (g.R.Reach.call c.args.console.now))) (sym c.let_go.ensures.asked) c.in_ok-line.ensures.asked,
-      failed.1.0,
-      failed.1.1,
-      λ folder known_so. (failed.1.2 folder (g.S.Shelf.told c.args.shelf.now) known_so refl).1,
+    let looked = c.look_at_samples-looked in
+    let read = c.read_behind-read in
+    let hosts = c.requires.hosts in
+    let options = c.args.options in
+    let found = c.args.found.now in
+    let samples = c.args.hosts.samples.items in
+    let lines = g.R.Reach.lines c.args.console.now in
+    let lines' = g.R.Reach.lines c.let_go-2.new.self in
+    let line = (told c.in_ok-line.line).said in
+    let mid = (told looked.new.line).said in
+    let line' = (told read.new.line).said in
+    let whose = ap (λ (r : Reader). r.patience) hosts.looker in
+    let all : looked.result.finding ≡ AllStand = c.all_stand.ensures.0 c.if-not-all_stand.false in
+    let seen = subst (λ (list : List WordValue). IsFound list looked.result.reader.values looked.result.stop looked.result.finding) c.deref.ensures.value looked.ensures.found in
+    let stop_is : looked.result.stop ≡ Ended Complete = (subst (λ f. IsFound samples looked.result.reader.values looked.result.stop f) all seen).0 in
+    let s = are_looked_at samples options.patience c.args.hosts.looker looked.result.reader looked.result.stop looked.result.finding line mid hosts.looker looked.ensures.turns looked.ensures.end seen
+    (subst (λ (list : List WordValue). looked.result.reader.sent ≤ reading_bound (length list) c.args.hosts.looker.patience) c.deref.ensures.value looked.ensures.bound) looked.ensures.same_patience looked.ensures.kept in
+    let begins : c.in_room-core.result ≡ begun (addresses_behind options.range found) [] (options.patience - looked.result.reader.spent) =
+    c.in_room-core.ensures.begun ∙ (ap (λ (list : List ℕ). begun list [] (options.patience - c.spent.result)) hosts.addresses ∙ ap (λ n. begun (addresses_behind options.range found) [] (options.patience - n)) c.spent.ensures.value) in
+    let over : read.ensures.turns.0 ≡ most_turns = done_known _ read.result.added _ c.in-Ok.is read.ensures.turns.2 in
+    let none : g.R.Line.Line.fault_count looked.new.line ≡ g.R.Line.Line.fault_count c.in_ok-line.line =
+    subst (λ (t : Stop). CountsFault (line_fault (Some t)) (g.R.Line.Line.fault_count c.in_ok-line.line) (g.R.Line.Line.fault_count looked.new.line)) stop_is looked.ensures.counted in (
+      is_read most_turns options found _ _ looked.result.reader read.result.core c.in_room-core.result read.result.stop looked.result.stop looked.result.finding samples line mid line' c.words_of.ensures.in_order c.requires.begins c.requires.fill
+          (subst AreAddresses hosts.addresses hosts.asked) hosts.of_found all s looked.ensures.kept (let long = hosts.looks.long in omega (arith, long, whose)) begins
+          (subst (λ n. Inquired n (Some read.result.stop) c.in_room-core.result read.result.core mid line') over read.ensures.turns.3) read.ensures.same_addresses read.ensures.same_patience read.ensures.bound read.ensures.kept
+          (subst (λ asked. Gains (g.R.Reach.asked c.args.console.now) asked (asked_once (g.R.Reach.call c.args.console.now))) (sym c.let_go-2.ensures.asked) c.in_ok-line.ensures.asked)
+          (given_back read.result.stop line line' lines (g.R.Reach.lines c.reach.new.self) lines' _ _ _ (told read.new.line) c.in_ok-line.ensures.fresh.none_failed none read.ensures.counted refl
+          c.in_ok-line.ensures.fresh.nothing_said refl read.ensures.fault c.in_ok-line.ensures.lines c.let_go-2.ensures.lines),
+      done_known _ read.result.added _ c.in-Ok.is read.ensures.end,
+      λ folder known. let h = done_known _ read.result.added _ c.in-Ok.is read.ensures.added folder (g.S.Shelf.told c.args.shelf.now) known refl in
+          (h.0, subst (λ f. AreDone folder (adds f (found ++ read.result.core.values) (full (found ++ read.result.core.values))) (g.S.Shelf.told c.args.shelf.now) (g.S.Shelf.told read.new.shelf)) c.from.ensures.value h.1),
+    )
+
+pub returns-clause-fault : goal.returns-clause-fault
+returns-clause-fault g c =
+    let told = line_told g.R.Line.Line in
+    let looked = c.look_at_samples-looked in
+    let read = c.read_behind-read in
+    let hosts = c.requires.hosts in
+    let options = c.args.options in
+    let found = c.args.found.now in
+    let samples = c.args.hosts.samples.items in
+    let lines = g.R.Reach.lines c.args.console.now in
+    let lines' = g.R.Reach.lines c.let_go-2.new.self in
+    let line = (told c.in_ok-line.line).said in
+    let mid = (told looked.new.line).said in
+    let line' = (told read.new.line).said in
+    let whose = ap (λ (r : Reader). r.patience) hosts.looker in
+    let all : looked.result.finding ≡ AllStand = c.all_stand.ensures.0 c.if-not-all_stand.false in
+    let seen = subst (λ (list : List WordValue). IsFound list looked.result.reader.values looked.result.stop looked.result.finding) c.deref.ensures.value looked.ensures.found in
+    let stop_is : looked.result.stop ≡ Ended Complete = (subst (λ f. IsFound samples looked.result.reader.values looked.result.stop f) all seen).0 in
+    let s = are_looked_at samples options.patience c.args.hosts.looker looked.result.reader looked.result.stop looked.result.finding line mid hosts.looker looked.ensures.turns looked.ensures.end seen
+    (subst (λ (list : List WordValue). looked.result.reader.sent ≤ reading_bound (length list) c.args.hosts.looker.patience) c.deref.ensures.value looked.ensures.bound) looked.ensures.same_patience looked.ensures.kept in
+    let begins : c.in_room-core.result ≡ begun (addresses_behind options.range found) [] (options.patience - looked.result.reader.spent) =
+    c.in_room-core.ensures.begun ∙ (ap (λ (list : List ℕ). begun list [] (options.patience - c.spent.result)) hosts.addresses ∙ ap (λ n. begun (addresses_behind options.range found) [] (options.patience - n)) c.spent.ensures.value) in
+    let none : g.R.Line.Line.fault_count looked.new.line ≡ g.R.Line.Line.fault_count c.in_ok-line.line =
+    subst (λ (t : Stop). CountsFault (line_fault (Some t)) (g.R.Line.Line.fault_count c.in_ok-line.line) (g.R.Line.Line.fault_count looked.new.line)) stop_is looked.ensures.counted in
+    let failed = error_known _ read.result.added _ c.in-Err.is read.ensures.not_added in (
+      looked.result.reader,
+      read.result.core,
+      read.result.stop,
+      read.ensures.turns.0,
+      read.ensures.turns.1,
+      is_read read.ensures.turns.0 options found _ _ looked.result.reader read.result.core c.in_room-core.result read.result.stop looked.result.stop looked.result.finding samples line mid line' c.words_of.ensures.in_order c.requires.begins c.requires.fill
+          (subst AreAddresses hosts.addresses hosts.asked) hosts.of_found all s looked.ensures.kept (let long = hosts.looks.long in omega (arith, long, whose)) begins
+          read.ensures.turns.3 read.ensures.same_addresses read.ensures.same_patience read.ensures.bound read.ensures.kept
+          (subst (λ asked. Gains (g.R.Reach.asked c.args.console.now) asked (asked_once (g.R.Reach.call c.args.console.now))) (sym c.let_go-2.ensures.asked) c.in_ok-line.ensures.asked)
+          (given_back read.result.stop line line' lines (g.R.Reach.lines c.reach.new.self) lines' _ _ _ (told read.new.line) c.in_ok-line.ensures.fresh.none_failed none read.ensures.counted refl
+          c.in_ok-line.ensures.fresh.nothing_said refl read.ensures.fault c.in_ok-line.ensures.lines c.let_go-2.ensures.lines),
+      failed.0,
+      failed.1,
+      λ folder known. subst (λ f. AreDone folder (not_all_added f (found ++ read.result.core.values) failed.0) (g.S.Shelf.told c.args.shelf.now) (g.S.Shelf.told read.new.shelf)) c.from.ensures.value
+          (failed.2 folder (g.S.Shelf.told c.args.shelf.now) known refl).1,
     )

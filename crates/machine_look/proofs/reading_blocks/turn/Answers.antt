@@ -1,4 +1,4 @@
-use Rattle.std.proofs.Common.{◌≡◌, ◌<◌, ◌∙◌, ℕ, List, ◌++◌, ◌∷◌, [], length, subst, ap, arith}
+use Rattle.std.proofs.Common.{◌<◌, ◌∙◌, ℕ, List, ◌++◌, ◌∷◌, [], length, subst, ap, arith}
 use Rattle.std.specs.Prelude.{⊤}
 use Rattle.tape_values.specs.Block.{data_block}
 use Rattle.machine_look.specs.Shelf.{NotAdded}

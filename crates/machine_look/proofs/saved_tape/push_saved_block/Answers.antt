@@ -1,4 +1,4 @@
-use Rattle.std.proofs.Common.{◌≡◌, ◌+◌, ◌*◌, ◌++◌, ◌∙◌, [], ap, arith}
+use Rattle.std.proofs.Common.{◌≡◌, ◌+◌, ◌*◌, ◌++◌, ◌∙◌, ap, arith}
 use Rattle.std.specs.List.{flat_map}
 use Rattle.tape_values.specs.Block.{framed, low_first}
 use Rattle.machine_look.proofs.SavedBlocks.{part_is}

@@ -52,7 +52,7 @@ returns-clause-ok g c =
       | in-Ok w ↦ rw (w.result-is) (subst (λ s. IfOk w.after_save.result (AreWordsSaved save before (moment s held))) (sym c.new-system.ensures)
           (saved save before after refl read w.in-Ok.end shelf (told_as (λ x y. IsSavedAndReported (options_of save) (save_told_by (new_shelf save.file (disk inside.disk)) x) (save_told_by shelf y) w.in-Ok.end) b (console_at look before) a (console_at look after) p q
           (subst (λ s. IsSavedAndReported (options_of save) (save_told_by s b) (save_told_by shelf a) w.in-Ok.end) is_new w.in-Ok.ensures.reported))
-          c.close.ensures.asked w.after_save.result w.after_save.ensures))
+          c.close.ensures.asked w.after_save.result w.after_save.ensures.status))
       | in-Err w ↦ rw (w.result-is) tt
     ])
 
@@ -93,7 +93,7 @@ returns-clause-err g c =
       | in-Ok w ↦ rw (w.result-is) (subst (λ s. IfErr w.after_save.result (AreWordsUnsaved save before (moment s held))) (sym c.new-system.ensures)
           (unsaved save before after refl read w.in-Ok.end shelf (told_as (λ x y. IsSavedAndReported (options_of save) (save_told_by (new_shelf save.file (disk inside.disk)) x) (save_told_by shelf y) w.in-Ok.end) b (console_at look before) a (console_at look after) p q
           (subst (λ s. IsSavedAndReported (options_of save) (save_told_by s b) (save_told_by shelf a) w.in-Ok.end) is_new w.in-Ok.ensures.reported))
-          c.close.ensures.asked w.after_save.result w.after_save.ensures))
+          c.close.ensures.asked w.after_save.result w.after_save.ensures.failure))
       | in-Err w ↦ rw (w.result-is) (subst (λ s. AreWordsUnsaved save before (moment s held) w.failure-failure.result) (sym c.new-system.ensures) (record {
         failed = inl (record {
           fault = w.in-Err.fault;

@@ -1,8 +1,6 @@
-use Rattle.std.proofs.Common.{List, ℕ, option_map}
+use Rattle.std.proofs.Common.{option_map}
 use Rattle.machine_look.specs.Room.{room_of}
-use Rattle.machine_look.specs.Shelf.{NotReserved}
 use Rattle.machine_look.specs.ShelfDisk.{NameNotFree}
-use Rattle.machine_look.specs.ShelfTold.{IsDone, ShelfTold}
 use Rattle.machine_look.proofs.Faults.{error_is}
 use Rattle.machine_look.proofs.OnShelf.{has_room_on, no_room_on, then_not_reserved}
 use Rattle.machine_look.proofs.new_file.NewFileShelf.reserve.Goals as goal

@@ -1,0 +1,89 @@
+-- Looks and a reading behind them, over one honest line.
+use Rattle.std.proofs.Common.{◌≡◌, ℕ, ◌-◌, ◌^◌, ◌<◌, List, [], ◌∷◌, ◌++◌, length, get_or, Option, Some, refl, ap, sym, subst, ◌∙◌, inl, inr}
+use Rattle.odt_machine.specs.Machine.{Machine, word_at}
+use Rattle.tape_image.specs.Word.{WordValue}
+use Rattle.host_core.specs.declared.heard.Heard.{Heard}
+use Rattle.load_devices.specs.declared.item.Item.{Item}
+use Rattle.load_devices.specs.Turns.{most_turns}
+use Rattle.reading_core.specs.Addresses.{AreAddresses, addresses_of}
+use Rattle.reading_core.specs.Invariant.{IsReader}
+use Rattle.reading_core.specs.Laws.{led}
+use Rattle.reading_core.specs.Reader.{Reader, begun}
+use Rattle.reading_core.specs.ReadingTable.{ask}
+use Rattle.reading_core.specs.declared.phase.End.TheVariants.{Complete}
+use Rattle.reading_core.proofs.Lives.{asked}
+use Rattle.reading_core.proofs.Turns.{fresh_kept}
+use Rattle.looking_law.specs.Belief.{IsReadyMachine, dialogue}
+use Rattle.looking_law.specs.Runs.{Look}
+use Rattle.looking_law.specs.Trying.{IsToldOf}
+use Rattle.looking_law.proofs.Believed.{leave_ready}
+use Rattle.looking_law.proofs.Runs.{may_begin, run_begins, run_tidy}
+use Rattle.looking_law.proofs.Splits.{lines_split}
+use Rattle.looking_law.proofs.Told.{told_begins, told_honest}
+use Rattle.reading_engine.specs.Belief.{IsBelievableOver}
+use Rattle.reading_engine.specs.Inquired.{Inquired, IsSaid}
+use Rattle.reading_engine.specs.declared.stop.Stop.{Stop}
+use Rattle.reading_engine.specs.declared.stop.Stop.TheVariants.{Ended, LineFailed, TurnsOver}
+use Rattle.reading_engine.proofs.Beliefs.{inquired_believable}
+use Rattle.sample_looks.specs.Finding.{IsSoIn}
+use Rattle.sample_looks.specs.Looked.{IsSeen}
+use Rattle.sample_looks.specs.declared.finding.Finding.{Finding}
+use Rattle.sample_looks.proofs.Seen.{so_over}
+use Rattle.machine_look.specs.Behind.{AreLookedAt, IsAsFound, WhereHonest}
+use Rattle.machine_look.proofs.Looks.{believed_said, is_true}
+
+led_addresses : (r : Reader) (things : List Heard) → (led r things).addresses ≡ r.addresses
+led_addresses r [] = refl
+led_addresses r (what ∷ things) = led_addresses (ask r what).next things ∙ (asked r what).addresses
+
+said_told : (stop : Stop) (left : ℕ) (all said : List Item) → IsSaid (Some stop) left all said → IsToldOf all said
+said_told (Ended end) left all said s = inl s
+said_told TurnsOver left all said s = inl s.0
+said_told (LineFailed fault) left all said (inl s) = inl s.0
+said_told (LineFailed fault) left all said (inr lacks) = inr lacks
+
+-- the same, as of a line that tells what was said there alone
+told_by_itself : (turns : ℕ) (stop : Stop) (first last : Reader) (line line' : Option (List Item)) (s : Inquired turns (Some stop) first last line line') → Inquired turns (Some stop) first last (Some []) (Some s.said)
+told_by_itself turns stop first last line line' s =
+    record { heard = s.heard; said = s.said; reader = s.reader; goes_on = s.goes_on; within = s.within; items = s.items; on_line = refl }
+
+-- what looks found is so in memory, which is what it was
+pub looks_hold : (samples : List WordValue) (patience : ℕ) (looks : Reader) (stop : Stop) (finding : Finding) (line line' : Option (List Item)) → AreAddresses (addresses_of samples) → patience < 2 ^ 32
+    → (s : AreLookedAt samples patience looks stop finding line line') → IsReader looks → WhereHonest s.inquired.said (IsAsFound samples finding)
+looks_hold samples patience looks stop finding line line' are long s kept machine now lost ready honest =
+    let first : Reader = begun (addresses_of samples) [] patience in
+    let reads = fresh_kept (addresses_of samples) patience are long in
+    let same : looks.addresses ≡ first.addresses = ap (λ (r : Reader). r.addresses) s.inquired.reader ∙ led_addresses first s.inquired.heard in
+    let over : IsBelievableOver stop first looks (Some []) (Some s.inquired.said) =
+    inquired_believable most_turns stop first looks (Some []) (Some s.inquired.said) reads (told_by_itself most_turns stop first looks line line' s.inquired) in
+    let seen : IsSeen samples finding machine now =
+    so_over samples first looks stop finding (Some []) (Some s.inquired.said) refl kept same s.end s.found over s.inquired.said ([], refl, refl) machine now lost ready honest in
+    (seen.memory, seen.so)
+
+-- what was read behind looks that came to their end is what memory holds, and that is what it was
+pub record IsReadBehind (samples : List WordValue) (finding : Finding) (last : Reader) (machine now : Machine) : Type 0 where
+  pub as_found : IsAsFound samples finding machine now
+  pub holds : (i : ℕ) → i < length last.values → get_or last.values i 0 ≡ word_at now.memory (get_or last.addresses i 0)
+
+pub reading_holds : (samples : List WordValue) (patience : ℕ) (looks : Reader) (finding : Finding) (line mid : Option (List Item)) → AreAddresses (addresses_of samples) → patience < 2 ^ 32
+    → (s : AreLookedAt samples patience looks (Ended Complete) finding line mid) → IsReader looks
+    → (turns : ℕ) (stop : Stop) (addresses : List ℕ) (left : ℕ) (last : Reader) (line' : Option (List Item)) → AreAddresses addresses → left < 2 ^ 32
+    → (t : Inquired turns (Some stop) (begun addresses [] left) last mid line') → WhereHonest (s.inquired.said ++ t.said) (IsReadBehind samples finding last)
+reading_holds samples patience looks finding line mid are long s kept turns stop addresses left last line' are' long' t machine now lost ready honest =
+    let one = Look (addresses_of samples) patience s.inquired.heard in
+    let two = Look addresses left t.heard in
+    let first : Reader = begun (addresses_of samples) [] patience in
+    let second : Reader = begun addresses [] left in
+    let reads = fresh_kept (addresses_of samples) patience are long in
+    let reads' = fresh_kept addresses left are' long' in
+    let told : IsToldOf (dialogue first s.inquired.heard) s.inquired.said = said_told (Ended Complete) (most_turns - length s.inquired.heard) (dialogue first s.inquired.heard) s.inquired.said s.inquired.items in
+    let told' : IsToldOf (dialogue second t.heard) t.said = said_told stop (turns - length t.heard) (dialogue second t.heard) t.said t.items in
+    let parts = lines_split machine now s.inquired.said t.said lost (run_tidy one s.inquired.said machine ready (are, long) told) (told_begins (dialogue second t.heard) t.said told' (run_begins two)) honest in
+    let found = looks_hold samples patience looks (Ended Complete) finding line mid are long s kept machine parts.between parts.lost_before ready parts.before in
+    let ready' : IsReadyMachine parts.between = leave_ready first s.inquired.heard machine parts.between parts.lost_before reads (may_begin (addresses_of samples) patience machine ready)
+    (told_honest (dialogue first s.inquired.heard) s.inquired.said machine parts.between parts.lost_before told parts.before) in
+    let read = is_true stop second last t.said parts.between now parts.lost_after (believed_said turns stop second last mid line' t reads') (may_begin addresses left parts.between ready') parts.after in
+    record {
+      as_found = (read.1.same ∙ found.0, subst (λ memory. IsSoIn memory samples finding) (sym read.1.same) found.1);
+      holds = read.1.read.holds;
+    }

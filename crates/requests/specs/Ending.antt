@@ -1,5 +1,6 @@
 -- What a load, a look or a probe of a real machine comes to: the exit status, or the failure that names what was at fault.
 use Rattle.std.specs.Prelude.{◌≡◌, ℕ, Bool, if◌then◌else◌, List, Result, Ok, Err}
+use Rattle.load_devices.specs.declared.fault.LineFault.{LineFault}
 use Rattle.load_engine.specs.declared.stop.Stop.{Stop}
 use Rattle.load_engine.specs.declared.stop.Stop.TheVariants as stop
 use Rattle.machine_load.specs.declared.fault.LoadFault.TheVariants as load
@@ -68,12 +69,12 @@ IsFailureOf (Look look.Memory) console file failure = failure ≡ NoMemory
 IsFailureOf (Probe probe_fault.Memory) console file failure = failure ≡ NoMemory
 
 -- how a load fails whose line did: once the start was typed, or may have been, it says so
-abbrev pub line_failure : Bool → Failure
-line_failure marked = if marked then StartInDoubt else LineFailed
+abbrev pub line_failure : Bool → LineFault → Failure
+line_failure marked fault = if marked then StartInDoubt fault else LineFailed fault
 
 -- how a load fails all the same whose engine stopped so: the line failed, or the record's keeper
 abbrev pub IsStopFailure : Stop → Bool → List ℕ → Failure → Type 0
-IsStopFailure (stop.LineFailed fault) marked file failure = failure ≡ line_failure marked
+IsStopFailure (stop.LineFailed fault) marked file failure = failure ≡ line_failure marked fault
 IsStopFailure (stop.KeepFailed fault) marked file failure = NamesWrittenFile file failure
 IsStopFailure other marked file failure = ⊥
 
@@ -102,7 +103,7 @@ after_verify verify.Differs = Ok Differs
 after_verify (verify.NoWord address) = Ok NotLoaded
 after_verify verify.GaveUp = Ok NotLoaded
 after_verify verify.TurnsOver = Ok NotLoaded
-after_verify (verify.LineFailed fault) = Err LineFailed
+after_verify (verify.LineFailed fault) = Err (LineFailed fault)
 
 -- how the program ends after a `save` that ended so: where its line failed, that is a failure and no ending
 abbrev pub after_save : SaveEnd → Result Status Failure
@@ -110,7 +111,7 @@ after_save save.Saved = Ok Done
 after_save (save.NoWord address) = Ok NotLoaded
 after_save save.GaveUp = Ok NotLoaded
 after_save save.TurnsOver = Ok NotLoaded
-after_save (save.LineFailed fault) = Err LineFailed
+after_save (save.LineFailed fault) = Err (LineFailed fault)
 
 -- how the program ends after a `probe` that ended so: where its line failed, that is a failure and no ending
 abbrev pub after_probe : ProbeEnd → Result Status Failure
@@ -120,4 +121,4 @@ after_probe probe.NoPrompt = Ok NotLoaded
 after_probe probe.GaveUp = Ok NotLoaded
 after_probe (probe.NoWord address) = Ok NotLoaded
 after_probe probe.TurnsOver = Ok NotLoaded
-after_probe (probe.LineFailed fault) = Err LineFailed
+after_probe (probe.LineFailed fault) = Err (LineFailed fault)

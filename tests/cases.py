@@ -273,6 +273,11 @@ class Case(unittest.TestCase):
         """Asserts how a run ended."""
         self.is_so(given, Answer(status, out, err))
 
+    def leads_nowhere(self, given, address):
+        """Asserts that a run could not connect to an address, and says why: what a resolver says of a name is its own."""
+        first, why, *rest = given.err.split("\n")
+        self.is_so((given.status, given.out, first, why[:8], rest), (4, "", f"ldaodt: cannot connect to {address}", "ldaodt: ", [""]))
+
     def console_at(self, machine, **named):
         """Puts a machine behind a port; `named` says after how many characters the line breaks."""
         return self.until_the_end(odt_peer.Peer(machine, **named))

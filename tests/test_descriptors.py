@@ -4,13 +4,14 @@ The files that the words name are opened in the order of the words, before any i
 those that are open are read and closed, and the next is opened then. Nobody sees that: neither in which file a fault
 names, nor in which fault comes first, nor in how much is taken of a pipe.
 """
+import errno
 import os
 import resource
 import threading
 import unittest
 
 from cases import Case, Console
-from outside import Answer, tape_of
+from outside import Answer, fault, tape_of
 
 TAPES = 40
 
@@ -60,17 +61,18 @@ class Many(Case):
             self.is_so((limit, self.ldaodt(words, setup=limited(limit), **more)), (limit, ample))
         return ample
 
-    def told(self, words, status, fault):
+    def told(self, words, status, text):
         """Asserts that a fault is told, whatever the limit."""
-        self.is_so((words, self.answers(words)), (words, Answer(status, "", f"ldaodt: {fault}\n")))
+        why = None if "refused" in text else errno.EISDIR if text.endswith("folder") else errno.ENOENT
+        self.is_so((words, self.answers(words)), (words, Answer(status, "", fault(text, why))))
 
-    def tell(self, names, status, fault):
+    def tell(self, names, status, text):
         """Asserts that each command tells a fault of tapes of these names. A console that is named is not looked for."""
         first, *more = names
-        self.told(["check", *names], status, fault)
-        self.told(["dialogue", *names], status, fault)
-        self.told(["load", first, "127.0.0.1:1", *more, "--record", "a.record"], status, fault)
-        self.told(["verify", first, "127.0.0.1:1", *more], status, fault)
+        self.told(["check", *names], status, text)
+        self.told(["dialogue", *names], status, text)
+        self.told(["load", first, "127.0.0.1:1", *more, "--record", "a.record"], status, text)
+        self.told(["verify", first, "127.0.0.1:1", *more], status, text)
         self.assertFalse(os.path.exists(self.path("a.record")))
 
 
@@ -186,7 +188,7 @@ class Scripts(Many):
         self.is_so(given, Answer(0, report + stand, ""))
 
     def test_faults_in_their_order(self):
-        for script, names, status, fault in (
+        for script, names, status, text in (
             ("none.script", {}, 4, "cannot read none.script"),
             ("none.script", {30: "none.lda"}, 4, "cannot read none.script"),
             ("none.script", {0: "none.lda"}, 4, "cannot read none.lda"),
@@ -198,7 +200,7 @@ class Scripts(Many):
             ("bad.script", {}, 3, "script refused at line 1"),
             ("/dev/zero", {}, 3, "script refused at line 0"),
         ):
-            self.told(self.words(script, self.with_names(names)), status, fault)
+            self.told(self.words(script, self.with_names(names)), status, text)
 
 
 class Machines(Many):

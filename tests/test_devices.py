@@ -1,5 +1,6 @@
 """Loads of a machine at a serial device, which is a pseudo-terminal here: how it may be set, which names are refused,
 what a hang-up, a stopped output and a process that was held for a while are heard as, and listening."""
+import errno
 import fcntl
 import os
 import select
@@ -11,13 +12,13 @@ import unittest
 from concurrent.futures import ThreadPoolExecutor
 
 from cases import Case, Console, DeafConsole
-from outside import HELLO, NO_OUTPUT, Answer, bytes_of
+from outside import HELLO, NO_OUTPUT, NO_TERMINAL, Answer, bytes_of, fault, line_failed
 
 # All that is typed at a machine of zeroed memory to load and start first.lda, what is reported, and the record.
 WHOLE = "Z001000/011064\r001000/\r001000G"
 STARTED = "sent 30 spent 0 verified 1 of 1\nend Started\n"
 MARKED = "LDAODT 2\n001000 011064\nG\n"
-FAILED = "ldaodt: line failed\n"
+FAILED = line_failed("closed")
 
 # How a person may have set the device: by the line of docs/REAL-MACHINE.md, with less, and for readers that wait.
 SETTINGS = (
@@ -129,14 +130,14 @@ class Loads(Devices):
 class Refusals(Devices):
     """Names that are no serial device, or none that may be used."""
 
-    def is_refused(self, name, is_none=False):
+    def is_refused(self, name, is_none=False, why=None):
         """A name that is there and no character device is refused as such, before anything is read."""
         self.put("a.record", b"LDAODT 2\n")
         given = self.ldaodt(["load", "first.lda", name, "--quiet", str(self.quiet), "--record", "a.record"])
         if is_none:
             self.ends(given, 2, "", f"ldaodt: {name} is no serial device: load TAPE LINE [MORE]..\n")
         else:
-            self.ends(given, 4, "", f"ldaodt: cannot connect to {name}\n")
+            self.ends(given, 4, "", fault(f"cannot connect to {name}", why))
         self.is_so(bytes_of(self.path("a.record")), b"LDAODT 2\n")
 
     def test_names_that_are_no_device(self):
@@ -145,9 +146,12 @@ class Refusals(Devices):
         for name in ("./plain", "./pipe", "./", "/", "/dev"):
             with self.subTest(name):
                 self.is_refused(name, is_none=True)
-        for name in ("./nothing", "./nothing/device", "/dev/null", "/dev/zero", "/dev/full"):
+        for name in ("./nothing", "./nothing/device"):
             with self.subTest(name):
-                self.is_refused(name)
+                self.is_refused(name, why=errno.ENOENT)
+        for name in ("/dev/null", "/dev/zero", "/dev/full"):
+            with self.subTest(name):
+                self.is_refused(name, why=NO_TERMINAL)
 
     def test_a_pipe_is_not_even_opened(self):
         """Who reads it would find out that somebody had come and gone."""
@@ -166,7 +170,7 @@ class Refusals(Devices):
         os.chmod(device.name, 0o600 if is_root else 0)
         os.chmod(self.room, 0o755)
         given = self.ldaodt(["load", "first.lda", device.name], setup=(lambda: os.setuid(65534)) if is_root else None)
-        self.ends(given, 4, "", f"ldaodt: cannot connect to {device.name}\n")
+        self.ends(given, 4, "", fault(f"cannot connect to {device.name}", errno.EACCES))
         device.settle()
         self.was_typed(device, "")
 

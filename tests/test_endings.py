@@ -5,12 +5,13 @@ A mishap is here a `Z` that is not answered: it costs one key and one quiet time
 the keys that docs/MAP.md counts ("The life of one word"), and one more for each mishap. `MaybeStarted` comes before any
 key and has no mishaps (tests/test_loads.py), `TurnsOver` comes behind ten million characters (tests/test_large.py).
 """
+import errno
 import time
 import unittest
 from concurrent.futures import ThreadPoolExecutor
 
 from cases import Case, Console, DeafConsole
-from outside import Answer, bytes_of, tape_of
+from outside import Answer, bytes_of, fault, line_failed, tape_of
 
 # What a probe says of a console that answers nothing.
 NO_PROMPT = 'prompt no\nheard nothing\nhelp: docs/REAL-MACHINE.md, "Nothing answers"\nend NoPrompt\n'
@@ -18,7 +19,7 @@ NO_PROMPT = 'prompt no\nheard nothing\nhelp: docs/REAL-MACHINE.md, "Nothing answ
 # The tape that `save` makes of the word at 001000: it starts nothing.
 SAVED = tape_of([(0o1000, b"\x34\x12")])
 
-LINE_FAILED = "ldaodt: line failed\n"
+LINE_FAILED = line_failed("closed")
 START_IN_DOUBT = f"{LINE_FAILED}ldaodt: the start may have gone out: look at the machine first\n"
 
 # The fewest characters behind which a line breaks: `Z` and its answer; and all up to the echo of the last digit of the
@@ -111,7 +112,7 @@ class Mishaps(Case):
                 yield f"load first.lda LINE {options} {record}", machine, close_after, wanted
         # A record with room for its header alone: the key behind the word that was read back is counted, and does not go out.
         name = f"{mishaps}.{quiet}.short.record"
-        wanted = Answer(4, f"sent {23 + mishaps} spent {mishaps} verified 1 of 1\nend KeepFailed\n", f"ldaodt: cannot write {name}\n")
+        wanted = Answer(4, f"sent {23 + mishaps} spent {mishaps} verified 1 of 1\nend KeepFailed\n", fault(f"cannot write {name}", errno.EFBIG))
         yield f"load first.lda LINE --record {name}", FalteringConsole, None, wanted
 
     def looks(self, mishaps, quiet):

@@ -1,6 +1,7 @@
 """`ldaodt load --fast` where something happens: bad memory, the HALT switch, lost characters, kills, losses of power, a full disk, a
 second load. After each life it is judged at the machine: each word of the record stands, outside the image memory is what it was,
 and the program was started once at most, over the whole image."""
+import errno
 import subprocess
 import threading
 import time
@@ -10,7 +11,7 @@ from concurrent.futures import ThreadPoolExecutor
 from cases import DeafConsole
 from fast_cases import (ALL, BACKGROUND, EXCHANGED, GAIN, HALTED, IMAGE, ONE_STRETCH, PLACE, START, STARTED, WHOLE, WORDS, FastCase,
                         FastConsole, Model, StuckWords, WatchedPeer, memory_with)
-from outside import PROGRAM, Answer, kept_in, text_of
+from outside import PROGRAM, Answer, fault, kept_in, line_failed, text_of
 
 # Loads at a time, in each of the tests that do many.
 AT_ONCE = 4
@@ -304,7 +305,7 @@ class Lines(SmallLoads):
         for close_after, verified in ((100, 0), (STARTED + 64 * 3, 24), (STARTED + 64 * 3 + 40, 24), (HALTED + 200, None)):
             peer = self.console_at(FastConsole(IMAGE), close_after=close_after)
             given = self.load(peer, "a.lda --fast --record a.record")
-            self.is_so((given.status, given.out.split("\n")[1:], given.err), (4, ["end LineFailed", ""], "ldaodt: line failed\n"))
+            self.is_so((given.status, given.out.split("\n")[1:], given.err), (4, ["end LineFailed", ""], line_failed("closed")))
             kept, _ = kept_in(self.path("a.record"))
             self.is_so(f" verified {len(kept)} of {len(WORDS)}\n" in given.out, True)
             self.is_so(len(kept) if verified is not None else len(kept) > GAIN, verified if verified is not None else True)
@@ -325,7 +326,7 @@ class Records(SmallLoads):
             peer = self.console_at(FastConsole(IMAGE))
             with self.subTest(size):
                 given = self.load(peer, "a.lda --fast --record a.record", file_size=size)
-                self.is_so((given.status, given.out.split("\n")[1:], given.err), (4, ["end KeepFailed", ""], "ldaodt: cannot write a.record\n"))
+                self.is_so((given.status, given.out.split("\n")[1:], given.err), (4, ["end KeepFailed", ""], fault("cannot write a.record", errno.EFBIG)))
                 self.is_so((peer.machine.starts, len(self.recorded())), ([PLACE], size))
                 sent, verified = int(given.out.split()[1]), int(given.out.split()[5])
                 kept, _ = kept_in(self.path("a.record"))
@@ -340,7 +341,7 @@ class Records(SmallLoads):
     def test_a_disk_that_is_full(self):
         """No key is typed."""
         peer = self.console_at(FastConsole(IMAGE))
-        self.ends(self.load(peer, "a.lda --fast --record a.record", file_size=0), 4, "", "ldaodt: cannot write a.record\n")
+        self.ends(self.load(peer, "a.lda --fast --record a.record", file_size=0), 4, "", fault("cannot write a.record", errno.EFBIG))
         self.is_so(peer.machine.typed, "")
 
     def test_a_second_load(self):

@@ -3,11 +3,12 @@
 All files that the words name are opened in the order of the words, before any is read; then the tapes are read in
 their order, and last a script. The first fault of this row is the one that is told.
 """
+import errno
 import os
 import unittest
 
 from cases import Case
-from outside import Answer
+from outside import Answer, fault
 
 GOOD, OTHER, BAD = "first.lda", "no-word.lda", "bad-sum.lda"
 BAD_SUM = "refused at 9: BadSum"
@@ -55,10 +56,11 @@ class Several(Case):
         self.put("bad.script", b"what is this\n")
         os.mkdir(self.path("folder"))
 
-    def told(self, words, fault):
+    def told(self, words, told):
         given = self.ldaodt(words)
-        status = 3 if "refused" in fault else 4
-        self.is_so((words, given), (words, Answer(status, "", f"ldaodt: {fault}\n")))
+        is_refused = "refused" in told
+        why = None if is_refused else errno.EISDIR if told.endswith("folder") else errno.ENOENT
+        self.is_so((words, given), (words, Answer(3 if is_refused else 4, "", fault(told, why))))
 
 
 class Files(Several):
@@ -66,20 +68,20 @@ class Files(Several):
 
     def test_tapes(self):
         for command in ("check", "dialogue"):
-            for words, fault in TAPES:
-                self.told(f"{command} {words}", fault)
+            for words, told in TAPES:
+                self.told(f"{command} {words}", told)
 
     def test_tapes_of_a_machine(self):
         """LINE stands behind the first tape. Nothing is dialled: nobody listens there, and that is not told."""
         for command in ("load", "load --record a.record", "verify"):
-            for words, fault in TAPES:
+            for words, told in TAPES:
                 first, *more = words.split()
-                self.told(f"{command} {first} 127.0.0.1:1 {' '.join(more)}", fault)
+                self.told(f"{command} {first} 127.0.0.1:1 {' '.join(more)}", told)
         self.assertFalse(os.path.exists(self.path("a.record")))
 
     def test_rehearsals(self):
-        for words, fault in REHEARSALS:
-            self.told(f"rehearse {words}", fault)
+        for words, told in REHEARSALS:
+            self.told(f"rehearse {words}", told)
 
 
 if __name__ == "__main__":

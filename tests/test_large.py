@@ -7,7 +7,7 @@ import unittest
 from concurrent.futures import ProcessPoolExecutor, ThreadPoolExecutor
 
 from cases import BabblingPeer, Case, Console
-from outside import Answer, block, bytes_of, run, tape_of
+from outside import Answer, block, bytes_of, line_failed, run, tape_of
 
 import odt_peer
 from fast_cases import FastCase
@@ -82,7 +82,7 @@ class FullImage(Case):
         for unmarked in whole.values():
             peer = self.console_at(Console(memory=dict(IMAGE)), close_after=5 + 8 * 25)
             given, left = self.recorded("starting.lda", unmarked, peer)
-            self.ends(given, 4, "sent 65 spent 0 verified 28672 of 28672\nend LineFailed\n", "ldaodt: line failed\n")
+            self.ends(given, 4, "sent 65 spent 0 verified 28672 of 28672\nend LineFailed\n", line_failed("closed"))
             self.is_so(left, whole[2])
 
     def test_a_load_goes_on_behind_a_long_record(self):

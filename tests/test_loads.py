@@ -4,6 +4,7 @@ How many characters a load sends is counted from what it types (docs/MAP.md, "Th
 which is answered by four characters; for a word that has to be deposited 22 keys, answered by 40 characters;
 for one that stands already 8, answered by 17; and 7 for the start, each echoed.
 """
+import errno
 import os
 import socket
 import stat
@@ -12,7 +13,7 @@ import unittest
 from concurrent.futures import ThreadPoolExecutor
 
 from cases import Case, Console, DeafConsole, LateConsole
-from outside import NO_OUTPUT, Answer, bytes_of, tape_of
+from outside import NO_OUTPUT, Answer, bytes_of, fault, line_failed, tape_of
 
 # Records of first.lda: whole, as it is written today and as it was written once, and without the mark.
 MARKED = "LDAODT 2\n001000 011064\nG\n"
@@ -108,7 +109,7 @@ class Endings(Loads):
         """The first `Z` and the first word are 1 + 4 + 22 + 40 = 67 characters, and one key more is sent."""
         peer = self.console_at(Console(), close_after=67)
         hung_up = self.recorded(peer, "two-words.lda")
-        self.ends(hung_up, 4, "sent 24 spent 0 verified 1 of 2\nend LineFailed\n", "ldaodt: line failed\n")
+        self.ends(hung_up, 4, "sent 24 spent 0 verified 1 of 2\nend LineFailed\n", line_failed("closed"))
         self.holds({"a.record": "LDAODT 2\n001000 031421"})
         # The word that it has is looked at first; the one that it lacks stands, but for a byte that is not the tape's.
         peer.close_after, peer.machine = None, Console(memory={0o1000: 0o031421, 0o1002: 0o125504})
@@ -139,7 +140,7 @@ class Endings(Loads):
             for record in (VERIFIED, OLD_VERIFIED):
                 self.put("a.record", record.encode())
                 given = self.ldaodt(f"load first.lda {address} --record a.record")
-                self.ends(given, 4, "", f"ldaodt: cannot connect to {address}\n")
+                self.ends(given, 4, "", fault(f"cannot connect to {address}", errno.ECONNREFUSED))
                 self.holds({"a.record": record})
 
     def test_a_refused_tape_comes_before_all(self):
@@ -247,7 +248,7 @@ class Words(Loads):
         given = self.load(peer, "-", keys=b"A")
         self.ends(given, 3, "", "ldaodt: tape refused at 0: Stray\n")
         given = self.load(peer, "-", before="<&-")
-        self.ends(given, 4, "", "ldaodt: cannot read standard input\n")
+        self.ends(given, 4, "", fault("cannot read standard input", errno.EBADF))
 
 
 class Silence(Loads):
@@ -325,7 +326,7 @@ class Records(Loads):
         for record in (VERIFIED, OLD_VERIFIED):
             peer = self.console_at(Console(memory={0o1000: 0o011064}))
             self.put("a.record", record.encode())
-            self.ends(self.recorded(peer, file_size=0), 4, "", "ldaodt: cannot write a.record\n")
+            self.ends(self.recorded(peer, file_size=0), 4, "", fault("cannot write a.record", errno.EFBIG))
             self.holds({"a.record": record})
             self.was_typed(peer, "Z001000/\r")
 
@@ -340,7 +341,7 @@ class Records(Loads):
             with self.subTest(size):
                 given = self.recorded(peer, file_size=size)
                 report = f"sent {keys + 1} spent 0 verified 1 of 1\nend KeepFailed\n"
-                self.ends(given, 4, report, "ldaodt: cannot write a.record\n")
+                self.ends(given, 4, report, fault("cannot write a.record", errno.EFBIG))
                 self.holds({"a.record": record})
                 self.was_typed(peer, WHOLE[:keys])
             os.remove(self.path("a.record"))

@@ -4,6 +4,7 @@ memory is what it was, whatever becomes of them.
 A look types `Z` first, which is answered by four characters, and then eight keys for each word, answered by seventeen
 (docs/MAP.md, "The life of one word"): its address and `/`, which is answered by its number, and CR.
 """
+import errno
 import os
 import random
 import re
@@ -15,9 +16,9 @@ import unittest
 from concurrent.futures import ThreadPoolExecutor
 
 from cases import Case, Console, DeafConsole, LossyConsole, SlowConsole
-from outside import NO_OUTPUT, PROGRAM, bytes_of, tape_of
+from outside import IN_USE, NO_OUTPUT, NO_TERMINAL, PROGRAM, bytes_of, fault, line_failed, tape_of
 
-FAILED = "ldaodt: line failed\n"
+FAILED = line_failed("closed")
 
 # Runs a command where this folder is the root, with the system's libraries in it.
 IN_A_ROOT = 'for it in lib lib64 usr; do [ -e /$it ] && mkdir -p $it && mount --rbind /$it $it || exit; done; exec chroot . "$@"'
@@ -168,8 +169,8 @@ class Verify(Looks):
         self.is_so(line.connections, 0)
 
     def test_a_console_that_is_not_there(self):
-        for name in (self.taken_port(), "./nothing", "/dev/null"):
-            self.ends(self.ldaodt(["verify", "first.lda", name]), 4, "", f"ldaodt: cannot connect to {name}\n")
+        for name, why in ((self.taken_port(), errno.ECONNREFUSED), ("./nothing", errno.ENOENT), ("/dev/null", NO_TERMINAL)):
+            self.ends(self.ldaodt(["verify", "first.lda", name]), 4, "", fault(f"cannot connect to {name}", why))
 
     def test_a_terminal_is_shown_how_far_it_is(self):
         line = self.console_at(Console(memory={0o1000: 0o011064}))
@@ -261,9 +262,9 @@ class Save(Looks):
 class Files(Looks):
     """Which file `save` makes, and which it leaves alone."""
 
-    def is_refused(self, name, text):
+    def is_refused(self, name, text, why=None):
         line = self.console_at(Console())
-        self.ends(self.look(line, f"save {name} LINE 1000 1000"), 4, "", f"ldaodt: {text}\n")
+        self.ends(self.look(line, f"save {name} LINE 1000 1000"), 4, "", fault(text, why))
         self.is_so(line.connections, 0)
 
     def test_a_file_that_is_there(self):
@@ -277,12 +278,12 @@ class Files(Looks):
 
     def test_a_file_that_can_not_be_made(self):
         self.put("plain", b"hello")
-        for name in ("nowhere/a.lda", "plain/a.lda", "new/"):
+        for name, why in (("nowhere/a.lda", errno.ENOENT), ("plain/a.lda", errno.ENOTDIR), ("new/", errno.ENOENT)):
             with self.subTest(name):
-                self.is_refused(name, f"cannot write {name}")
+                self.is_refused(name, f"cannot write {name}", why)
         line = self.console_at(Console())
         given = self.ldaodt(["save", "", line.address, "1000", "1000"])
-        self.ends(given, 4, "", "ldaodt: cannot write ''\n")
+        self.ends(given, 4, "", fault("cannot write ''"))
         self.is_so(line.connections, 0)
 
     def test_a_file_in_the_root_folder(self):
@@ -299,9 +300,9 @@ class Files(Looks):
 
     def test_a_console_that_is_not_there(self):
         """No file is left."""
-        for name in (self.taken_port(), "./nothing", "/dev/null"):
+        for name, why in ((self.taken_port(), errno.ECONNREFUSED), ("./nothing", errno.ENOENT), ("/dev/null", NO_TERMINAL)):
             given = self.ldaodt(["save", "a.lda", name, "1000", "1000"])
-            self.ends(given, 4, "", f"ldaodt: cannot connect to {name}\n")
+            self.ends(given, 4, "", fault(f"cannot connect to {name}", why))
         self.holds({})
 
     def test_a_file_that_somebody_makes_meanwhile(self):
@@ -343,12 +344,12 @@ class Files(Looks):
             line = self.console_at(Console())
             given = self.look(line, f"save {size}.lda LINE 1000 1000", file_size=size)
             if size < 16:
-                self.ends(given, 4, "", f"ldaodt: cannot write {size}.lda\n")
+                self.ends(given, 4, "", fault(f"cannot write {size}.lda", errno.EFBIG))
                 self.is_so((line.connections, line.machine.typed), (0, ""))
             else:
                 self.ends(given, 0, "sent 9 spent 0 read 1 of 1\nend Saved\n")
         line = self.console_at(Console(words=64))
-        self.ends(self.look(line, "save a.lda LINE 176 200", file_size=17), 4, "", "ldaodt: cannot write a.lda\n")
+        self.ends(self.look(line, "save a.lda LINE 176 200", file_size=17), 4, "", fault("cannot write a.lda", errno.EFBIG))
         self.is_so(line.machine.typed, "")
         self.ends(self.look(line, "save a.lda LINE 176 200", file_size=18), 5, "sent 16 spent 0 read 1 of 2\nend NoWord 000200\n")
         self.holds_in_room({"16.lda": as_tape(0o1000, [0]), "17.lda": as_tape(0o1000, [0]), "a.lda": as_tape(0o176, [0])})
@@ -472,7 +473,7 @@ class Failures(Looks):
         load = self.begin(self.words_of(line, "load first.lda LINE"))
         self.until(lambda: len(line.machine.typed) > 3)
         given = self.ldaodt(self.words_of(line, "verify first.lda LINE"))
-        self.ends(given, 4, "", f"ldaodt: cannot connect to {line.address}\n")
+        self.ends(given, 4, "", fault(f"cannot connect to {line.address}", IN_USE))
         out, err = load.communicate(timeout=60)
         self.is_so((load.returncode, out, err), (0, "sent 30 spent 0 verified 1 of 1\nend Started\n", ""))
 

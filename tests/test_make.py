@@ -3,6 +3,7 @@
 Which texts are words, and which line of others is named, stands in docs/TAPE.md. A second reader, written from that page,
 says what the tape of thousands of texts is; what is easily misread stands in tables by hand.
 """
+import errno
 import os
 import pty
 import random
@@ -14,7 +15,7 @@ import unittest
 from concurrent.futures import ThreadPoolExecutor
 
 from cases import Case
-from outside import FIRST, HELLO, PROGRAM, TOP, block, bytes_of, run, run_often, tape_of
+from outside import FIRST, HELLO, PROGRAM, TOP, block, bytes_of, fault, run, run_often, tape_of
 
 MEMORY_END = 0o160000
 MOST = 4194304
@@ -299,11 +300,11 @@ class Inputs(Makes):
 
     def test_words_that_can_not_be_read(self):
         os.mkdir(self.path("folder"))
-        for name in ("nowhere", "folder", "nowhere/words"):
-            self.ends(self.ldaodt(["make", "a.lda", name]), 4, "", f"ldaodt: cannot read {name}\n")
-        self.ends(self.ldaodt(["make", "a.lda", ""]), 4, "", "ldaodt: cannot read ''\n")
-        self.ends(self.make(b"", before="<&-"), 4, "", "ldaodt: cannot read standard input\n")
-        self.ends(self.make(b"", before="< ."), 4, "", "ldaodt: cannot read standard input\n")
+        for name, why in (("nowhere", errno.ENOENT), ("folder", errno.EISDIR), ("nowhere/words", errno.ENOENT)):
+            self.ends(self.ldaodt(["make", "a.lda", name]), 4, "", fault(f"cannot read {name}", why))
+        self.ends(self.ldaodt(["make", "a.lda", ""]), 4, "", fault("cannot read ''", errno.ENOENT))
+        self.ends(self.make(b"", before="<&-"), 4, "", fault("cannot read standard input", errno.EBADF))
+        self.ends(self.make(b"", before="< ."), 4, "", fault("cannot read standard input", errno.EISDIR))
         self.is_so(os.listdir(self.room), ["folder"])
 
     def test_words_that_come_in_pieces(self):
@@ -348,7 +349,7 @@ class Files(Makes):
         self.put("plain", b"hello")
         for name in ("plain", "nowhere/a.lda"):
             self.ends(self.ldaodt(["make", name], b"1001 1\n"), 3, "", "ldaodt: words refused at line 1: OddAddress\n")
-            self.ends(self.ldaodt(["make", name, "nowhere"]), 4, "", "ldaodt: cannot read nowhere\n")
+            self.ends(self.ldaodt(["make", name, "nowhere"]), 4, "", fault("cannot read nowhere", errno.ENOENT))
         self.holds({"plain": b"hello"})
 
     def test_a_file_of_words_is_not_replaced(self):
@@ -358,9 +359,9 @@ class Files(Makes):
 
     def test_a_file_that_can_not_be_made(self):
         self.put("plain", b"hello")
-        for name in ("nowhere/a.lda", "plain/a.lda", "new/"):
-            self.ends(self.ldaodt(["make", name], b"1000 1\n"), 4, "", f"ldaodt: cannot write {name}\n")
-        self.ends(self.ldaodt(["make", ""], b"1000 1\n"), 4, "", "ldaodt: cannot write ''\n")
+        for name, why in (("nowhere/a.lda", errno.ENOENT), ("plain/a.lda", errno.ENOTDIR), ("new/", errno.ENOENT)):
+            self.ends(self.ldaodt(["make", name], b"1000 1\n"), 4, "", fault(f"cannot write {name}", why))
+        self.ends(self.ldaodt(["make", ""], b"1000 1\n"), 4, "", fault("cannot write ''"))
         self.holds({"plain": b"hello"})
 
     def test_what_stands_beside(self):
@@ -380,7 +381,7 @@ class Files(Makes):
         for size in range(len(tape) + 2):
             given = self.ldaodt(["make", f"{size}.lda"], text, file_size=size)
             if size < len(tape):
-                self.ends(given, 4, "", f"ldaodt: cannot write {size}.lda\n")
+                self.ends(given, 4, "", fault(f"cannot write {size}.lda", errno.EFBIG))
             else:
                 self.ends(given, 0)
         self.holds({f"{size}.lda": tape for size in (len(tape), len(tape) + 1)})
@@ -390,7 +391,7 @@ class Files(Makes):
         os.chmod(self.path("folder"), stat.S_IRUSR | stat.S_IXUSR)
         if os.access(self.path("folder"), os.W_OK):
             self.skipTest("who runs this may write everywhere")
-        self.ends(self.ldaodt("make folder/a.lda", b"1000 1\n"), 4, "", "ldaodt: cannot write folder/a.lda\n")
+        self.ends(self.ldaodt("make folder/a.lda", b"1000 1\n"), 4, "", fault("cannot write folder/a.lda", errno.EACCES))
 
 
 # ---------------------------------------------------------------- the list of blocks

@@ -1,10 +1,11 @@
 """Names of every length that the system takes, for each word that names a file, a device or a port: none is too long for the program
 before it is too long for the system."""
+import errno
 import os
 import unittest
 
 from cases import Case, Console
-from outside import bytes_of
+from outside import bytes_of, fault
 
 # The system's limits, in bytes: of a name in a folder, and of a path.
 LONGEST_NAME, LONGEST_PATH = 255, 4095
@@ -62,13 +63,13 @@ class Names(Case):
         name = "t" * LONGEST_NAME
         os.link(self.path("first.lda"), self.path(name))
         self.is_so(self.ldaodt(["check", name]), self.checked())
-        self.ends(self.ldaodt(["check", name + "t"]), 4, "", f"ldaodt: cannot read {name}t\n")
+        self.ends(self.ldaodt(["check", name + "t"]), 4, "", fault(f"cannot read {name}t", errno.ENAMETOOLONG))
 
     def test_longer_than_the_system_takes(self):
         path = path_to("first.lda", LONGEST_PATH + 1)
-        self.ends(self.ldaodt(["check", path]), 4, "", f"ldaodt: cannot read {path}\n")
+        self.ends(self.ldaodt(["check", path]), 4, "", fault(f"cannot read {path}", errno.ENAMETOOLONG))
         path = path_to("ttyUSB0", LONGEST_PATH + 1)
-        self.ends(self.ldaodt(["probe", path]), 4, "", f"ldaodt: cannot connect to {path}\n")
+        self.ends(self.ldaodt(["probe", path]), 4, "", fault(f"cannot connect to {path}", errno.ENAMETOOLONG))
 
     def test_tapes_at_a_machine(self):
         line = self.console_at(Console(memory={0o1000: 0o011064}))
@@ -100,13 +101,13 @@ class Names(Case):
         for length in LENGTHS:
             address = f"{'h' * length}.invalid:1"
             with self.subTest(length=len(address)):
-                self.ends(self.ldaodt(["probe", address]), 4, "", f"ldaodt: cannot connect to {address}\n")
+                self.leads_nowhere(self.ldaodt(["probe", address]), address)
 
     def test_no_space_belongs_to_an_address(self):
         """What stands before or behind it is no part of one that is left out."""
         line = self.console_at(Console())
         for address in (f" {line.address}", f"{line.address} "):
-            self.ends(self.ldaodt(["probe", address]), 4, "", f"ldaodt: cannot connect to {address}\n")
+            self.leads_nowhere(self.ldaodt(["probe", address]), address)
         self.is_so(line.connections, 0)
 
     def test_records(self):

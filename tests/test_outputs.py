@@ -1,5 +1,6 @@
 """Outputs that are full, closed, or read by nobody; answers that have to be one write; when keys are answered; and
 input that can't be read."""
+import errno
 import os
 import select
 import socket
@@ -7,9 +8,9 @@ import subprocess
 import unittest
 
 from cases import Case, Console
-from outside import HELLO, LOST_DIGIT, NO_OUTPUT, PROGRAM, Answer, bytes_of, tape_of, text_of
+from outside import HELLO, LOST_DIGIT, NO_OUTPUT, NO_PORT, PROGRAM, Answer, bytes_of, fault, tape_of, text_of
 
-NO_INPUT = "ldaodt: cannot read standard input\n"
+NO_INPUT = fault("cannot read standard input", errno.EBADF)
 
 # Command lines that have something printed, and what stands on standard input. A load stands for itself below.
 PRINTING = {
@@ -27,8 +28,8 @@ PRINTING = {
 # Command lines that have something told on standard error alone: the status and the text.
 TOLD = {
     "check bad-sum.lda": (3, "ldaodt: tape refused at 9: BadSum\n"),
-    "check no-such.lda": (4, "ldaodt: cannot read no-such.lda\n"),
-    "load first.lda x:y": (4, "ldaodt: cannot connect to x:y\n"),
+    "check no-such.lda": (4, fault("cannot read no-such.lda", errno.ENOENT)),
+    "load first.lda x:y": (4, fault("cannot connect to x:y", NO_PORT)),
     "check first.lda first.lda long": (3, "ldaodt: tape 3 refused at 1048576: TooLong\n"),
     "make new.lda long": (3, "ldaodt: words refused at line 1: BadNumber\n"),
     "rehearse first.lda long": (3, "ldaodt: script refused at line 0\n"),
@@ -199,13 +200,13 @@ class Writes(Case):
         put_files(self)
         for words, (_, text) in TOLD.items():
             with self.subTest(words):
-                self.is_so(self.written(words.split(), "stderr"), [text.encode()])
+                self.is_so(self.written(words.split(), "stderr"), [line.encode() for line in text.splitlines(True)])
                 self.is_so(self.written(words.split(), "stdout"), [])
 
     def test_a_long_name(self):
         """Each pair of an escape character and a letter of two bytes is shown in eight bytes."""
         told = self.written(["check", "\x1b\xe9" * 20000], "stderr")
-        self.is_so(told, [b"ldaodt: cannot read " + b"\\u{1b}\xc3\xa9" * 20000 + b"\n"])
+        self.is_so(told, [b"ldaodt: cannot read " + b"\\u{1b}\xc3\xa9" * 20000 + b"\n", f"ldaodt: {os.strerror(errno.ENAMETOOLONG)}\n".encode()])
 
 
 class Keys(Case):

@@ -1,12 +1,13 @@
 """Names in each other's places on the command line: a tape where the line belongs, a device where a tape does. Each is refused
 before anything is read, since who reads a device waits for what it says.
 """
+import errno
 import os
 import pty
 import unittest
 
 from cases import Case, Console
-from outside import run
+from outside import NO_TERMINAL, fault, run
 
 ORDERS = {"load": "load TAPE LINE [MORE]..", "verify": "verify TAPE LINE [MORE]..", "save": "save FILE LINE FROM TO", "probe": "probe LINE"}
 
@@ -63,9 +64,9 @@ class Places(Case):
     def test_what_is_left_to_who_opens_it(self):
         """What is not there, and a line that is another device; standard input may be a terminal, and is read to its end."""
         os.symlink("/dev/null", self.path("null"))
-        for line in ("./nowhere", "./null"):
-            self.ends(run(["load", "first.lda", line], cwd=self.room, seconds=10), 4, "", f"ldaodt: cannot connect to {line}\n")
-        self.ends(run(["check", "./nowhere"], cwd=self.room, seconds=10), 4, "", "ldaodt: cannot read ./nowhere\n")
+        for line, why in (("./nowhere", errno.ENOENT), ("./null", NO_TERMINAL)):
+            self.ends(run(["load", "first.lda", line], cwd=self.room, seconds=10), 4, "", fault(f"cannot connect to {line}", why))
+        self.ends(run(["check", "./nowhere"], cwd=self.room, seconds=10), 4, "", fault("cannot read ./nowhere", errno.ENOENT))
         ours, theirs = pty.openpty()
         os.write(ours, b"\x04")
         given = run(["check", "-"], cwd=self.room, seconds=10, stdin=theirs)

@@ -8,7 +8,7 @@ import os
 import unittest
 
 from cases import Case, Console
-from outside import NO_OUTPUT
+from outside import NO_OUTPUT, line_failed
 
 # The tape's words, a whole one and a byte, and its records.
 MEMORY = {0o1000: 0o031421, 0o1002: 0o104}
@@ -18,7 +18,7 @@ WHOLE = BOTH_WORDS + "G\n"
 # `Z` and its answer, the first word, and a key of the second.
 BEHIND_ONE_WORD = 1 + 4 + 22 + 40
 
-FAILED = "ldaodt: line failed\n"
+FAILED = line_failed("closed")
 STALE = "ldaodt: memory does not hold what the record says: load with --recheck\n"
 LOOK_FIRST = "ldaodt: the start may have gone out: look at the machine first\n"
 GOING_ON = "going on behind 1 of 2 words, listening; power lost? use --recheck"

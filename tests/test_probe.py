@@ -5,6 +5,7 @@ On a line that loses nothing a probe types `Z001000/` and CR, which is 9 keys an
 `Z001000/123Z`, 12 keys and 25 characters; and the first again. So the first look is over behind 30 characters, the trial
 behind 67, the second look behind 97. Behind these the search begins, or the old number is put back.
 """
+import errno
 import functools
 import random
 import re
@@ -17,10 +18,10 @@ import unittest
 from concurrent.futures import ThreadPoolExecutor
 
 from cases import BabblingPeer, Case, Console, DeafConsole, Keeping, LossyConsole, SlowConsole, StoringConsole, pace, timeless
-from outside import NO_OUTPUT, PROGRAM
+from outside import NO_OUTPUT, NO_TERMINAL, PROGRAM, fault, line_failed
 import odt_peer
 
-FAILED = "ldaodt: line failed\n"
+FAILED = line_failed("closed")
 WORD, HELD = 0o1000, 0o123456
 LOOK_OVER, TRIAL_OVER, SECOND_OVER = 30, 67, 97
 
@@ -612,8 +613,8 @@ class Failures(Probes):
                 self.ends(given._replace(out=timeless(given.out)), 0, found(words=1024))
 
     def test_a_console_that_is_not_there(self):
-        for name in (self.taken_port(), "./nothing", "/dev/null"):
-            self.ends(self.ldaodt(["probe", name]), 4, "", f"ldaodt: cannot connect to {name}\n")
+        for name, why in ((self.taken_port(), errno.ECONNREFUSED), ("./nothing", errno.ENOENT), ("/dev/null", NO_TERMINAL)):
+            self.ends(self.ldaodt(["probe", name]), 4, "", fault(f"cannot connect to {name}", why))
 
 
 class Words(Probes):

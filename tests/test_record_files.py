@@ -1,6 +1,7 @@
 """Which files are a record, from outside: nothing but a record is replaced, nothing that is protected is written, and what
 can be no record is refused at once. And what a load makes for its record, and takes away again.
 """
+import errno
 import os
 import re
 import shutil
@@ -10,7 +11,7 @@ import tempfile
 import unittest
 
 from cases import Case, Console
-from outside import PROGRAM, Answer, bytes_of, run, tape_of
+from outside import PROGRAM, Answer, bytes_of, fault, run, tape_of
 
 MARKED = "LDAODT 2\n001000 011064\nG\n"
 VERIFIED = "LDAODT 2\n001000 011064\n"
@@ -105,7 +106,7 @@ class NoRecords(Files):
         os.mkdir(self.path("folder"))
         os.symlink("folder", self.path("a.link"))
         for name in (".", "folder", "folder/", "a.link", "/"):
-            self.ends(self.load(name), 4, "", f"ldaodt: cannot read {name}\n")
+            self.ends(self.load(name), 4, "", fault(f"cannot read {name}"))
         self.is_so(os.listdir(self.path("folder")), [])
         self.was_nothing_typed()
 
@@ -115,11 +116,11 @@ class NoRecords(Files):
         os.mkfifo(self.path("pipe"))
         os.symlink("pipe", self.path("a.link"))
         for name in ("pipe", "a.link"):
-            self.ends(self.load(name), 4, "", f"ldaodt: cannot read {name}\n")
+            self.ends(self.load(name), 4, "", fault(f"cannot read {name}"))
         ours = os.open(self.path("pipe"), os.O_RDWR | os.O_NONBLOCK)
         self.addCleanup(os.close, ours)
         os.write(ours, b"LDAODT 2\n")
-        self.ends(self.load("pipe"), 4, "", "ldaodt: cannot read pipe\n")
+        self.ends(self.load("pipe"), 4, "", fault("cannot read pipe"))
         self.is_so(os.read(ours, 100), b"LDAODT 2\n")
         self.assertTrue(stat.S_ISFIFO(os.lstat(self.path("pipe")).st_mode))
         self.was_nothing_typed()
@@ -130,15 +131,16 @@ class NoRecords(Files):
             self.addCleanup(os.remove, shorter)
             it.bind(f"{shorter}/socket")
             os.symlink("round", self.path("round"))
-            for name in ("socket", "round", "first.lda/a.record", "x" * 300):
-                self.ends(self.load(name), 4, "", f"ldaodt: cannot read {name}\n")
+            reasons = {"socket": None, "round": errno.ELOOP, "first.lda/a.record": errno.ENOTDIR, "x" * 300: errno.ENAMETOOLONG}
+            for name, why in reasons.items():
+                self.ends(self.load(name), 4, "", fault(f"cannot read {name}", why))
         self.was_nothing_typed()
 
     def test_a_folder_that_is_not_there(self):
         """The record can't be made, which is seen before there is a connection; so with a link that leads there."""
         os.symlink("no-such/a.record", self.path("a.link"))
         for name in ("no-such/a.record", "a.link"):
-            self.ends(self.load(name), 4, "", f"ldaodt: cannot write {name}\n")
+            self.ends(self.load(name), 4, "", fault(f"cannot write {name}", errno.ENOENT))
         self.was_nothing_typed()
         self.is_so(sorted(os.listdir(self.room)), sorted(["a.link", "bad-sum.lda", "first.lda", "no-word.lda", "two-words.lda"]))
 
@@ -170,10 +172,10 @@ class Protected(Files):
         """In a folder that may be written, where the record could be replaced."""
         for text in ("", VERIFIED, "LDAODT 2\n", "LDAODT 1\n001000 177777 011064\n"):
             before = self.protect(text)
-            self.ends(self.load("a.record"), 4, "", "ldaodt: cannot write a.record\n")
+            self.ends(self.load("a.record"), 4, "", fault("cannot write a.record", errno.EACCES))
             self.is_untouched("a.record", before)
         before = self.protect(VERIFIED)
-        self.ends(self.load("a.record", more="--recheck"), 4, "", "ldaodt: cannot write a.record\n")
+        self.ends(self.load("a.record", more="--recheck"), 4, "", fault("cannot write a.record", errno.EACCES))
         self.is_untouched("a.record", before)
         self.holds({"a.record": VERIFIED})
         self.was_nothing_typed()
@@ -181,7 +183,7 @@ class Protected(Files):
     def test_behind_a_link(self):
         before = self.protect(VERIFIED)
         os.symlink("a.record", self.path("a.link"))
-        self.ends(self.load("a.link"), 4, "", "ldaodt: cannot write a.link\n")
+        self.ends(self.load("a.link"), 4, "", fault("cannot write a.link", errno.EACCES))
         self.is_untouched("a.record", before)
         self.was_nothing_typed()
 
@@ -198,7 +200,7 @@ class Protected(Files):
 
     def test_a_file_that_may_not_be_read(self):
         before = self.protect(VERIFIED, 0)
-        self.ends(self.load("a.record"), 4, "", "ldaodt: cannot read a.record\n")
+        self.ends(self.load("a.record"), 4, "", fault("cannot read a.record", errno.EACCES))
         self.is_untouched("a.record", before)
         self.was_nothing_typed()
 
@@ -212,7 +214,7 @@ class Protected(Files):
         self.ends(self.load("shut/a.record"), 0, STARTED)
         self.is_so(bytes_of(self.path("shut/a.record")).decode(), MARKED)
         self.is_so(os.lstat(self.path("shut/a.record")).st_ino, before.st_ino)
-        self.ends(self.load("shut/b.record"), 4, "", "ldaodt: cannot write shut/b.record\n")
+        self.ends(self.load("shut/b.record"), 4, "", fault("cannot write shut/b.record", errno.EACCES))
         self.is_so(os.listdir(self.path("shut")), ["a.record"])
         os.chmod(self.path("shut"), 0o755)
 
@@ -243,7 +245,7 @@ class OutOfReach(Files):
     def refuses(self, text, more=""):
         """Asserts that a load makes no connection, and that the record is byte for byte what it was."""
         before = os.lstat(self.path("b.record"))
-        self.ends(self.load("a.record", tape="row.lda", more=more), 4, "", "ldaodt: cannot write a.record\n")
+        self.ends(self.load("a.record", tape="row.lda", more=more), 4, "", fault("cannot write a.record"))
         self.is_untouched("b.record", before)
         self.is_so(bytes_of(self.path("b.record")), text)
         self.was_nothing_typed(connections=0)
@@ -268,7 +270,7 @@ class OutOfReach(Files):
             with self.subTest(text=text):
                 self.put("a.record", text)
                 before = os.lstat(self.path("a.record"))
-                self.ends(self.load("a.record", tape="row.lda"), 4, "", "ldaodt: cannot write a.record\n")
+                self.ends(self.load("a.record", tape="row.lda"), 4, "", fault("cannot write a.record"))
                 self.is_untouched("a.record", before)
                 self.is_so(bytes_of(self.path("a.record")), text)
                 self.assertIsNone(re.search(r"/[0-7]|[^0-7/\rZ]", self.peer.machine.typed))
@@ -320,7 +322,7 @@ class Made(Files):
             self.peer.address, ours = address, self.peer.address
             given = self.load(record, **named)
             self.peer.address = ours
-        self.is_so(given, Answer(4, "", f"ldaodt: cannot connect to {address}\n"))
+        self.is_so(given, Answer(4, "", fault(f"cannot connect to {address}", errno.ECONNREFUSED)))
 
     def test_no_connection(self):
         self.to_nobody("a.record")
@@ -346,7 +348,7 @@ class Made(Files):
 
     def test_a_tape_that_is_refused(self):
         self.ends(self.load("a.record", "bad-sum.lda"), 3, "", "ldaodt: tape refused at 9: BadSum\n")
-        self.ends(self.load("a.record", "no-such.lda"), 4, "", "ldaodt: cannot read no-such.lda\n")
+        self.ends(self.load("a.record", "no-such.lda"), 4, "", fault("cannot read no-such.lda", errno.ENOENT))
         self.holds({})
 
     def test_a_link_that_leads_nowhere(self):
@@ -359,13 +361,13 @@ class Made(Files):
     def test_a_full_disk_before_the_record_is_begun(self):
         """A record that was made for this load is gone, or is empty; one that stood is as it was."""
         given = self.load("a.record", file_size=0)
-        self.ends(given, 4, "", "ldaodt: cannot write a.record\n")
+        self.ends(given, 4, "", fault("cannot write a.record", errno.EFBIG))
         self.assertIn(bytes_of(self.path("a.record")), (b"",))
         self.is_so(self.peer.machine.typed, "")
         self.put("a.record", VERIFIED.encode())
         before = os.lstat(self.path("a.record"))
         self.peer.machine = Console(memory={0o1000: 0o011064})
-        self.ends(self.load("a.record", file_size=0), 4, "", "ldaodt: cannot write a.record\n")
+        self.ends(self.load("a.record", file_size=0), 4, "", fault("cannot write a.record", errno.EFBIG))
         self.is_untouched("a.record", before)
         self.is_so(self.peer.machine.typed, "Z001000/\r")
 

@@ -10,7 +10,7 @@ import os
 import unittest
 
 from cases import Case, Console, changes, each_file
-from outside import Answer, bytes_of, tape_of
+from outside import Answer, bytes_of, line_failed, tape_of
 
 # Three words with both bytes, the low byte of a word, the high byte of another, and two words more.
 PIECES = ((0o1000, b"\x34\x12\x56\x9a\x00\x00"), (0o1006, b"\x41"), (0o1011, b"\xc1"), (0o1020, b"\x00\xff\xff\x00"))
@@ -132,7 +132,7 @@ class Records(Case):
         if count == len(words) and not has_start:
             return Answer(0, f"{report}end Loaded\n", ""), record, 1
         left = record if count else written([]).encode()
-        return Answer(4, f"{report}end LineFailed\n", "ldaodt: line failed\n"), left, 2
+        return Answer(4, f"{report}end LineFailed\n", line_failed("closed")), left, 2
 
     def test_it_is_written_anew_behind_the_looks(self):
         """Of any number of words, in each version; the line breaks right behind the looks, of 25 characters for each word."""

@@ -9,7 +9,7 @@ import unittest
 from concurrent.futures import ThreadPoolExecutor
 
 from cases import Console, LossyConsole
-from outside import bytes_of
+from outside import bytes_of, fault
 from test_looks import FAILED, Looks, as_memory, as_tape, numbers
 import traced
 
@@ -348,7 +348,7 @@ class Ended(Part):
 
         with ThreadPoolExecutor(8) as pool:
             for size, given, typed in pool.map(trial, (0, 1, 2, 511, 512, BLOCK, BLOCK + 7, ROOM - 2, ROOM - 1)):
-                self.ends(given, 4, "", f"ldaodt: cannot write a.lda{size}\n")
+                self.ends(given, 4, "", fault(f"cannot write a.lda{size}", errno.EFBIG))
                 self.is_so((typed, self.are_there()), ("", set()))
         self.ends(self.look(self.machine(), SAVE, file_size=ROOM), 0, SAVED)
 
@@ -472,7 +472,7 @@ class AtEachCall(Part):
                     return call.fails(errno.EIO)
 
         line, given = self.ask(before)
-        self.ends(given, 4, "", "ldaodt: cannot write a.lda\n")
+        self.ends(given, 4, "", fault("cannot write a.lda", errno.EIO))
         self.is_so(len(line.machine.typed) in (1 + 8 * 256, 8 * 256), True)
         self.is_left(1)
 

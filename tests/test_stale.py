@@ -4,6 +4,7 @@ the looks themselves: losses at each of their characters, hang-ups, kills, and a
 A look types `Z` first, which is answered by four characters, and then eight keys for each word, answered by seventeen. Behind it
 the load begins as every load: `Z`, 62 characters for a word that has to be deposited, and seven keys for the start.
 """
+import errno
 import os
 import re
 import signal
@@ -13,10 +14,10 @@ from concurrent.futures import ThreadPoolExecutor
 
 from cases import Case, Console, DeafConsole, LossyConsole, SlowConsole
 from fast_cases import IMAGE, START, WORDS, FastCase, FastConsole, Model, memory_with, record_of
-from outside import PROGRAM, bytes_of, tape_of
+from outside import PROGRAM, bytes_of, fault, line_failed, tape_of
 
 STALE = "ldaodt: memory does not hold what the record says: load with --recheck\n"
-FAILED = "ldaodt: line failed\n"
+FAILED = line_failed("closed")
 
 # What passes of looks at so many words: the answer to a `Z` and to each word's keys, with them.
 PROMPT, LOOKED = 5, 25
@@ -420,7 +421,7 @@ class Kills(Stale):
         values = numbered(3)
         self.put_words(values, 3)
         peer = self.console_at(Console(memory=memory_of(values)))
-        self.ends(self.load(peer, file_size=0), 4, "", "ldaodt: cannot write a.record\n")
+        self.ends(self.load(peer, file_size=0), 4, "", fault("cannot write a.record", errno.EFBIG))
         self.has_only_looked(peer, list(peer.machine.words))
         self.is_so((looked_at(peer.machine.typed), self.recorded()), ([*memory_of(values)], text_of(values)))
 

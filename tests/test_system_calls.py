@@ -7,7 +7,7 @@ import stat
 import unittest
 
 from cases import Case, Console
-from outside import Answer, bytes_of, tape_of
+from outside import Answer, bytes_of, fault, tape_of
 import traced
 
 VERIFIED, MARKED = "LDAODT 2\n001000 011064\n", "LDAODT 2\n001000 011064\nG\n"
@@ -17,7 +17,7 @@ STOOD = "sent 17 spent 0 verified 1 of 1\nend Started\n"
 LOOKED = "Z001000/\r"
 # A memory that holds it.
 HELD = {0o1000: 0o011064}
-NO_RECORD = "ldaodt: cannot write a.record\n"
+NO_RECORD = fault("cannot write a.record")
 
 WRITES, SYNCS, RENAMES = ("write", "sendto"), ("fsync", "fdatasync"), ("rename", "renameat", "renameat2")
 
@@ -107,7 +107,7 @@ class Between(Calls):
             if call.opened() in left:
                 os.remove(self.path(left.pop()))
 
-        self.ends(self.load(line, before), 4, "", f"ldaodt: cannot connect to {line.address}\n")
+        self.ends(self.load(line, before), 4, "", fault(f"cannot connect to {line.address}", errno.ECONNREFUSED))
         self.is_so(left, [])
         self.holds({})
         line.address = ours
@@ -122,7 +122,7 @@ class Between(Calls):
                 os.remove(self.path("a.record"))
                 os.mkfifo(self.path("a.record"))
 
-        self.ends(self.load(line, before), 4, "", "ldaodt: cannot read a.record\n")
+        self.ends(self.load(line, before), 4, "", fault("cannot read a.record"))
         self.is_so(line.machine.typed, "")
         os.remove(self.path("a.record"))
 
@@ -155,7 +155,7 @@ class Between(Calls):
                 with self.subTest(place, behind=behind):
                     line = self.console_at(Console())
                     given = self.ask(line, "save a.lda LINE 1000 1000", self.led_elsewhere("a.lda.part", behind, place))
-                    self.ends(given, 4, "", "ldaodt: cannot write a.lda\n")
+                    self.ends(given, 4, "", fault("cannot write a.lda"))
                     self.is_so((len(line.machine.typed), sorted(os.listdir(self.room))), (keys, ["a.lda.part", "first.lda"]))
                     os.remove(self.path("a.lda.part"))
 
@@ -168,7 +168,7 @@ class Between(Calls):
                     os.symlink("b.lda", self.path("a.lda.part"))
 
             line = self.console_at(Console())
-            self.ends(self.ask(line, "save a.lda LINE 1000 1000", before), 4, "", "ldaodt: cannot write a.lda\n")
+            self.ends(self.ask(line, "save a.lda LINE 1000 1000", before), 4, "", fault("cannot write a.lda"))
             self.assertFalse(os.path.lexists(self.path("a.lda")))
             self.is_so((len(line.machine.typed), os.readlink(self.path("a.lda.part"))), (keys, "b.lda"))
             os.remove(self.path("a.lda.part"))
@@ -195,7 +195,7 @@ class Between(Calls):
                 self.put("new.record", text)
             words = ["load", "first.lda", line.address, "--record", "a.record"]
             given = traced.run(words, self.meddling("connect"), cwd=self.room)
-            self.ends(given, 4, "", f"ldaodt: cannot connect to {line.address}\n")
+            self.ends(given, 4, "", fault(f"cannot connect to {line.address}", errno.ECONNREFUSED))
             self.holds(left)
             for name in left:
                 os.remove(self.path(name))
@@ -243,17 +243,18 @@ class Answers(Calls):
         self.put("b.record", VERIFIED.encode())
         os.symlink("b.record", self.path("a.record"))
         given = self.load(line, lambda call: call.fails(errno.EIO) if call.name == "lseek" and call.file() == "b.record" else None)
-        self.ends(given, 4, "", NO_RECORD)
+        self.ends(given, 4, "", fault("cannot write a.record", errno.EIO))
         self.is_so((bytes_of(self.path("b.record")).decode(), line.machine.typed), (VERIFIED, LOOKED))
 
     def test_a_system_without_a_descriptor(self):
         """The process has too many files open, or the whole system has: the tape that is open is read and closed, and the next is
         tried once more. Behind another error it is not."""
         self.put_tapes("two-words.lda")
-        good, bad = self.ldaodt("check first.lda two-words.lda"), Answer(4, "", "ldaodt: cannot read two-words.lda\n")
+        good = self.ldaodt("check first.lda two-words.lda")
+        bad = lambda error: Answer(4, "", fault("cannot read two-words.lda", error))
         self.is_so(good.status, 0)
-        for error, fails, tries, wanted in ((errno.EMFILE, 1, 2, good), (errno.ENFILE, 1, 2, good), (errno.EMFILE, 2, 2, bad),
-                                            (errno.ENFILE, 2, 2, bad), (errno.EACCES, 1, 1, bad)):
+        for error, fails, tries, wanted in ((errno.EMFILE, 1, 2, good), (errno.ENFILE, 1, 2, good), *((error, 2, 2, bad(error)) for error in (errno.EMFILE, errno.ENFILE)),
+                                            (errno.EACCES, 1, 1, bad(errno.EACCES))):
             asked = []
 
             def before(call, error=error, fails=fails, asked=asked):
@@ -271,8 +272,8 @@ class Answers(Calls):
         for ever, and does not begin."""
         unlimited = lambda call: call.fails(errno.EINVAL) if call.name == "setsockopt" and tuple(call.arguments[1:3]) in TIME_LIMITS else None
         waiting = lambda call: call.fails(errno.EIO) if (call.name, call.arguments[1]) in NO_WAITING else None
-        for line, before in ((self.console_at(Console()), unlimited), (self.device_at(Console()), waiting)):
-            self.ends(self.load(line, before), 4, "", f"ldaodt: cannot connect to {line.address}\n")
+        for line, before, why in ((self.console_at(Console()), unlimited, errno.EINVAL), (self.device_at(Console()), waiting, errno.EIO)):
+            self.ends(self.load(line, before), 4, "", fault(f"cannot connect to {line.address}", why))
             self.holds({})
             self.is_so(line.machine.typed, "")
 
@@ -318,7 +319,7 @@ class Steps(Calls):
         """It is as good as any. Written over it would say a third word, up to the cut: it stays as it is, and nothing is typed."""
         text, calls = "LDAODT 2\n001000 011064\n001002 000000\n", []
         given, line = self.load_over(text, lambda call: calls.append(call.name))
-        self.ends(given, 4, "", NO_RECORD)
+        self.ends(given, 4, "", fault("cannot write a.record", errno.EIO))
         self.is_so((bytes_of(self.path("b.record")).decode(), line.machine.typed, line.connections), (text, "", 0))
         self.is_so([it for it in calls if it in ("connect", "ftruncate", *SYNCS, *RENAMES)], [])
 

@@ -1,8 +1,9 @@
 """Words of the command line that are no text, empty or odd."""
+import errno
 import unittest
 
 from cases import Case, Console
-from outside import FIRST, LOST_DIGIT, bytes_of
+from outside import FIRST, LOST_DIGIT, NO_PORT, bytes_of, fault
 
 NO_TEXT = "ldaodt: a word of the command line is not UTF-8\n"
 NO_LINE = "a line is HOST:PORT, or the path of a serial device, which has a '/'"
@@ -37,19 +38,19 @@ class Words(Case):
     def test_a_name_stands_in_its_fault_as_one_line(self):
         for name, shown in SHOWN:
             with self.subTest(shown):
-                self.ends(self.ldaodt(["check", "--", name]), 4, "", f"ldaodt: cannot read {shown}\n")
+                self.ends(self.ldaodt(["check", "--", name]), 4, "", fault(f"cannot read {shown}", errno.ENAMETOOLONG if len(name) > 255 else errno.ENOENT))
 
     def test_so_does_an_address(self):
         self.put_tapes("first.lda")
         for name, shown in SHOWN[1:-1]:
             with self.subTest(shown):
-                self.ends(self.ldaodt(["load", "first.lda", "--", f"{name}:"]), 4, "", f"ldaodt: cannot connect to {shown}:\n")
+                self.ends(self.ldaodt(["load", "first.lda", "--", f"{name}:"]), 4, "", fault(f"cannot connect to {shown}:", NO_PORT))
 
     def test_so_does_a_device(self):
         self.put_tapes("first.lda")
         for name, shown in SHOWN[1:-1]:
             with self.subTest(shown):
-                self.ends(self.ldaodt(["load", "first.lda", f"./{name}"]), 4, "", f"ldaodt: cannot connect to ./{shown}\n")
+                self.ends(self.ldaodt(["load", "first.lda", f"./{name}"]), 4, "", fault(f"cannot connect to ./{shown}", errno.ENOENT))
 
     def test_a_word_that_is_refused_breaks_no_line(self):
         """Here the empty word is shown as it is, between quotes."""
@@ -66,7 +67,7 @@ class Words(Case):
         for name, shown in SHOWN[1:-1]:
             with self.subTest(shown):
                 given = self.ldaodt(["load", "first.lda", peer.address, "--record", f"no-such/{name}"])
-                self.ends(given, 4, "", f"ldaodt: cannot write no-such/{shown}\n")
+                self.ends(given, 4, "", fault(f"cannot write no-such/{shown}", errno.ENOENT))
         peer.settle()
         self.is_so((peer.connections, peer.machine.typed), (0, ""))
 
@@ -81,18 +82,18 @@ class Words(Case):
         for words in (["check", "-"], ["check", "--", "-"]):
             self.ends(self.ldaodt(words, bytes_of(FIRST)), 0, CHECKED)
         self.ends(self.ldaodt(["check", "-"], b"A"), 3, "", "ldaodt: tape refused at 0: Stray\n")
-        self.ends(self.ldaodt(["check", "-"], before="<&-"), 4, "", "ldaodt: cannot read standard input\n")
+        self.ends(self.ldaodt(["check", "-"], before="<&-"), 4, "", fault("cannot read standard input", errno.EBADF))
         given = self.ldaodt(["rehearse", "-", LOST_DIGIT], bytes_of(FIRST))
         self.ends(given, 0, "sent 34 lost 1 spent 1 verified 1 of 1\nend Started\nodt Running 001000\n001000 011064 stands\n")
         given = self.ldaodt(["dialogue", "-"], bytes_of(FIRST))
         self.is_so((given.status, given.err, given.out.split("\n")[-4]), (0, "", "end Started"))
-        self.ends(self.ldaodt(["check", FIRST, "-"], bytes_of(FIRST)), 4, "", "ldaodt: cannot read -\n")
+        self.ends(self.ldaodt(["check", FIRST, "-"], bytes_of(FIRST)), 4, "", fault("cannot read -", errno.ENOENT))
         self.put("-", bytes_of(FIRST))
         given = self.ldaodt(["check", FIRST, "-"], b"A")
         self.ends(given, 0, "".join(CHECKED.splitlines(True)[:3]) * 2 + "words 1\n001000 177777 011064\n")
 
     def test_a_word_that_is_empty_is_a_word(self):
-        self.ends(self.ldaodt(["check", ""]), 4, "", "ldaodt: cannot read ''\n")
+        self.ends(self.ldaodt(["check", ""]), 4, "", fault("cannot read ''", errno.ENOENT))
         given = self.ldaodt([""])
         self.is_so((given.status, given.out), (2, ""))
         self.assertTrue(given.err.startswith("error: "), given)

@@ -1,5 +1,6 @@
 """The built program, run from outside: what tests/ and tools/hostile share."""
 import collections
+import errno
 import glob
 import os
 import select
@@ -18,6 +19,37 @@ HELLO = f"{TOP}/examples/hello.lda"
 BAD_TAPE = f"{TOP}/examples/refused/bad-sum.lda"
 LOST_DIGIT = f"{TOP}/examples/losses/third-digit-lost.script"
 NO_OUTPUT = "ldaodt: cannot write output\n"
+
+# Why a line failed, and what stands behind the system's words where there is no connection.
+LINE_FAILED = {
+    "send": "a key could not be sent: is its output stopped, or the other end gone?",
+    "closed": "the other end closed it, or the adapter was pulled",
+    "receive": "nothing more could be read: was the adapter pulled?",
+    "noise": "nothing but zeroes came: are speed and parity the console's?",
+}
+HINTS = {
+    errno.ENOENT: ": 'ls /dev/tty*' shows what is there",
+    errno.EACCES: ": you may lack the group dialout",
+    errno.ECONNREFUSED: ": nobody listens there",
+    errno.EINVAL: ": LINE is HOST:PORT or a path with a slash",
+}
+NO_TERMINAL, IN_USE = "no terminal", "in use by another program: 'fuser -v' shows which"
+NO_ADDRESS, NO_PORT = (f"invalid {it}{HINTS[errno.EINVAL]}" for it in ("socket address", "port value"))
+
+
+def fault(text, why=None):
+    """What standard error has of a fault, and where there is a reason a second line: the program's words, or a number of
+    the system's errors."""
+    if isinstance(why, int):
+        why = os.strerror(why) + (HINTS.get(why, "") if text.startswith("cannot connect") else "")
+    return f"ldaodt: {text}\n" + (f"ldaodt: {why}\n" if why else "")
+
+
+def line_failed(why):
+    """The same of a line that failed."""
+    return fault("line failed", LINE_FAILED[why])
+
+
 NO_MEMORY = "ldaodt: out of memory\n"
 
 Answer = collections.namedtuple("Answer", "status out err")

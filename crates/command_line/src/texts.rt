@@ -19,8 +19,9 @@ Exit status:
      TurnsOver, NoPrompt or NotTrusted
   6  a load ended Uncertain or MaybeStarted: the program may be running
   7  no memory left
-Each fault but a refused command line is one line on standard error; a line
-that failed with the start in doubt has a second one.
+Each fault but a refused command line is one line on standard error; another
+one behind it says why, where the system or the line did, and a last one where
+the start is in doubt.
 
 Example, the tape on standard input:
   ldaodt < first.lda
@@ -45,7 +46,7 @@ Exit status:
   3  a tape or the record was refused
   4  a file could not be read or something not be written, the record is
      another load's at the time, there was no connection, or the line failed;
-     with the start in doubt a second line says so: look at the machine first
+     with the start in doubt a last line says so: look at the machine first
   5  the load ended GaveUp, NoWord, WontHold, Stale or TurnsOver
   6  it ended Uncertain or MaybeStarted: look at the machine before all else
 
@@ -137,7 +138,10 @@ one, 177777 both.
 
 Exit status:
   0  each is a tape
-  3  one is refused: the line on standard error says at which byte, from 0
+  3  one is refused: the line on standard error says at which byte, from 0, and
+     in one word why: Stray (there is no block), BadMark, BadCount (its head is
+     none), Cut (it is not all there), BadSum (a wrong checksum), PastTop (data
+     above 157777), NoTransfer (no block with a start comes last) or TooLong
   4  a file could not be read, or the output not be written
 
 Example:

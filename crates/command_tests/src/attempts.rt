@@ -12,6 +12,7 @@ use std::mem;
 use std::net::Net;
 use std::time::Clock;
 use tape_image::Start;
+use witness::Witness;
 
 /// No terminal looks on.
 pub const NOBODY: Option<&Stderr> = None;
@@ -61,7 +62,14 @@ pub(crate) fn run<F: Locks + Devices + Net + Clock>(
     streams.out.clear();
     streams.err.clear();
     let system = SharedSystem::of(system);
-    let (_, status) = attempt(system, alloc, &request, &mut streams, NOBODY);
+    let (_, status) = attempt(
+        system,
+        alloc,
+        &request,
+        &mut streams,
+        NOBODY,
+        &Witness::new(),
+    );
     ended.status = status;
     ended.out = streams.out;
     ended.err = streams.err;

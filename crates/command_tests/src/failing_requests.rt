@@ -12,6 +12,7 @@ use simulated_system::{
 use std::alloc::{AllocError, Global};
 use std::fs;
 use std::test::Fail;
+use witness::Witness;
 
 // What is asked for.
 #[derive(Clone, Copy)]
@@ -58,7 +59,14 @@ fn is_told_alone<W: Output>(
     };
     let system = System::new(rt, Setting { reads, ..AMPLE });
     let system = SharedSystem::of(&system);
-    let (_, status) = attempt(system, rt.alloc(), &request, streams, NOBODY);
+    let (_, status) = attempt(
+        system,
+        rt.alloc(),
+        &request,
+        streams,
+        NOBODY,
+        &Witness::new(),
+    );
     status == Status::DeviceFailed && streams.err.as_slice() == line
 }
 

@@ -14,6 +14,7 @@ use Rattle.endings.specs.declared.failure.Failure.{Failure}
 use Rattle.endings.specs.declared.failure.Failure.TheVariants.{CannotRead, CannotWrite, CannotWriteFile, FileIsThere, PartIsThere, PartNotOfSave, PartStale, RecordInUse, CannotConnect}
 use Rattle.endings.specs.declared.failure.Failure.TheVariants.{LineFailed, StartInDoubt, TapeRefused, OneTapeRefused, ScriptRefused, WordsRefused, RecordRefused}
 use Rattle.endings.specs.declared.failure.Failure.TheVariants.{RecordStale, TooLarge, Misplaced, BadWord, NoMemory}
+use Rattle.endings.specs.LineReason.{line_failed}
 use Rattle.endings.specs.declared.place.Place.{Place}
 use Rattle.endings.specs.declared.place.Place.TheVariants.{LineOfLoad, LineOfVerify, LineOfSave, LineOfProbe, Tape, Script, Words, Record}
 use Rattle.command_io.specs.declared.fault.CommandFault.{CommandFault}
@@ -34,8 +35,8 @@ status_of (PartNotOfSave name) = Refused
 status_of (PartStale name) = NotLoaded
 status_of (RecordInUse name) = DeviceFailed
 status_of (CannotConnect address) = DeviceFailed
-status_of LineFailed = DeviceFailed
-status_of StartInDoubt = DeviceFailed
+status_of (LineFailed fault) = DeviceFailed
+status_of (StartInDoubt fault) = DeviceFailed
 status_of (TapeRefused refusal) = Refused
 status_of (OneTapeRefused number refusal) = Refused
 status_of (ScriptRefused number) = Refused
@@ -64,10 +65,6 @@ abbrev pub shown_name : List ℕ → List ℕ
 shown_name [] = codes "''"
 shown_name (b ∷ bs) = flat_map shown_char (chars (b ∷ bs))
 
--- that the line failed
-abbrev pub line_failed : List ℕ
-line_failed = codes "line failed"
-
 -- what a failure's line says after the program's name, up to the name in it where it has one
 abbrev pub failure_words : Failure → List ℕ
 failure_words (CannotRead name) = codes "cannot read "
@@ -80,8 +77,8 @@ failure_words (PartNotOfSave name) = []
 failure_words (PartStale name) = codes "memory does not hold what "
 failure_words (Misplaced name place) = []
 failure_words (RecordInUse name) = codes "record in use: "
-failure_words LineFailed = line_failed
-failure_words StartInDoubt = line_failed
+failure_words (LineFailed fault) = line_failed fault
+failure_words (StartInDoubt fault) = line_failed fault
 failure_words (TapeRefused refusal) = refused_tape_text refusal
 failure_words (OneTapeRefused number refusal) = codes "tape " ++ one_tape_text number refusal
 failure_words (ScriptRefused number) = codes "script " ++ refused_line_text number
@@ -129,7 +126,7 @@ failure_end (PartIsThere name) = codes ".part is there already\n"
 failure_end (PartNotOfSave name) = codes ".part is not of this save\n"
 failure_end (PartStale name) = codes ".part to begin again\n"
 failure_end (Misplaced name place) = misplaced_end place
-failure_end StartInDoubt = codes "\nldaodt: the start may have gone out: look at the machine first\n"
+failure_end (StartInDoubt fault) = codes "\nldaodt: the start may have gone out: look at the machine first\n"
 failure_end other = codes "\n"
 
 -- the line of a failure on standard error

@@ -1,6 +1,7 @@
 use crate::place::Place;
 use crate::status::Status;
 use command_io::CommandFault;
+use load_devices::LineFault;
 use load_record::RecordError;
 use tape_blocks::Fault;
 use tape_making::Refusal;
@@ -36,11 +37,11 @@ pub enum Failure<'a> {
     /// The console at this HOST:PORT or device can't be reached.
     CannotConnect(&'a str),
 
-    /// The line failed during a load, a look or a probe, before a start was typed.
-    LineFailed,
+    /// The line failed so during a load, a look or a probe, before a start was typed.
+    LineFailed(LineFault),
 
-    /// The line failed once the start was typed or may have been: the program may be running.
-    StartInDoubt,
+    /// The line failed so once the start was typed or may have been: the program may be running.
+    StartInDoubt(LineFault),
 
     /// The only tape is refused.
     TapeRefused(Fault),
@@ -123,8 +124,8 @@ impl<'a> Failure<'a> {
             | Failure::PartIsThere(_)
             | Failure::RecordInUse(_)
             | Failure::CannotConnect(_)
-            | Failure::LineFailed
-            | Failure::StartInDoubt => Status::DeviceFailed,
+            | Failure::LineFailed(_)
+            | Failure::StartInDoubt(_) => Status::DeviceFailed,
             Failure::TapeRefused(_)
             | Failure::OneTapeRefused(..)
             | Failure::ScriptRefused(_)

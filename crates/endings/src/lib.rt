@@ -16,6 +16,7 @@ mod output;
 mod place;
 mod status;
 mod streams;
+mod system_reason;
 mod telling;
 
 pub use explaining::{refuse, show};
@@ -25,4 +26,5 @@ pub use output::{Output, PipedOutput};
 pub use place::Place;
 pub use status::Status;
 pub use streams::Streams;
-pub use telling::{tell, tell_unless_unheard};
+pub use system_reason::tell_with_reason;
+pub use telling::tell;

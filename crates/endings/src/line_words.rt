@@ -2,12 +2,14 @@
 ghost use Rattle.std.specs.Prelude.{◌≡◌, ◌≤◌, ◌++◌, ◌+◌, codes, length};
 ghost use Rattle.arrayvec.specs.ArrayVec.{array_vec_len};
 ghost use Rattle.endings.specs.Failure.{failure_words, one_tape_text, refused_line_text};
+ghost use Rattle.endings.specs.LineReason.{line_failed};
 ghost use Rattle.tape_blocks.specs.Fault.{fault_text};
 ghost use Rattle.tape_making.specs.Refusal.{refusal_text};
 
 use crate::failure::Failure;
 use arrayvec::ArrayVec;
 use byte_io::{push_bytes, push_decimal};
+use load_devices::LineFault;
 use load_record::RecordError;
 use tape_blocks::{Fault, OUT_OF_MEMORY, REFUSED_AT, TAPE};
 use tape_making::{REFUSED_WORDS, Refusal};
@@ -43,7 +45,10 @@ fn push_words(words: &mut LineWords, failure: Failure<'_>)
         Failure::PartStale(_) => push_bytes(words, b"memory does not hold what "),
         Failure::CannotConnect(_) => push_bytes(words, b"cannot connect to "),
         Failure::RecordInUse(_) => push_bytes(words, b"record in use: "),
-        Failure::LineFailed | Failure::StartInDoubt => push_bytes(words, b"line failed"),
+        Failure::LineFailed(fault) | Failure::StartInDoubt(fault) => push_bytes(
+            words,
+            line_failed(fault),
+        ),
         Failure::TapeRefused(fault) => {
             push_bytes(words, TAPE.as_bytes());
             push_fault(words, fault);
@@ -66,6 +71,29 @@ fn push_words(words: &mut LineWords, failure: Failure<'_>)
         Failure::TooLarge => push_bytes(words, b"machine too large"),
         Failure::BadWord => push_bytes(words, b"a word of the command line is not UTF-8"),
         Failure::NoMemory => push_bytes(words, OUT_OF_MEMORY.as_bytes()),
+    }
+}
+
+// That the line failed, and on a line of its own how, and what to look at.
+fn line_failed(fault: LineFault) -> &'static [u8]
+    ensures text { result.now ≡ line_failed fault }
+    ensures short { length result.now ≤ 100 }
+{
+    match fault {
+        LineFault::Connect => b"line failed\nldaodt: there was no connection",
+        LineFault::Send => {
+            b"line failed\nldaodt: a key could not be sent: is its output stopped, or the other end gone?"
+        }
+        LineFault::Closed => {
+            b"line failed\nldaodt: the other end closed it, or the adapter was pulled"
+        }
+        LineFault::Receive => {
+            b"line failed\nldaodt: nothing more could be read: was the adapter pulled?"
+        }
+        LineFault::Full => b"line failed\nldaodt: it has no room for more",
+        LineFault::Noise => {
+            b"line failed\nldaodt: nothing but zeroes came: are speed and parity the console's?"
+        }
     }
 }
 

@@ -52,7 +52,7 @@ pub(crate) fn tell_unwritten<W: Output, E: FaultOutput>(
 
 /// Tells a failure of what does nothing but print, or of what does more. That the output can't be written is
 /// not told of the former where nobody reads any more.
-pub fn tell_unless_unheard<W: Output, E: FaultOutput>(
+pub(crate) fn tell_unless_unheard<W: Output, E: FaultOutput>(
     alloc: Global,
     only_prints: bool,
     failure: Failure<'_>,
@@ -68,9 +68,9 @@ pub fn tell_unless_unheard<W: Output, E: FaultOutput>(
     }
 }
 
-// Writes a failure's line, in one write where there is memory to gather it in. The line that says there
-// is none needs none.
-fn write_at_once<E: FaultOutput>(
+/// Writes a failure's line, in one write where there is memory to gather it in. The line that says there
+/// is none needs none.
+pub(crate) fn write_at_once<E: FaultOutput>(
     alloc: Global,
     failure: Failure<'_>,
     err: &mut E,
@@ -110,7 +110,7 @@ fn line_end(failure: Failure<'_>) -> &'static [u8]
         Failure::PartNotOfSave(_) => b".part is not of this save\n",
         Failure::PartStale(_) => b".part to begin again\n",
         Failure::Misplaced(_, place) => misplaced_end(place),
-        Failure::StartInDoubt => {
+        Failure::StartInDoubt(_) => {
             b"\nldaodt: the start may have gone out: look at the machine first\n"
         }
         _ => b"\n",

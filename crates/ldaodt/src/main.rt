@@ -7,19 +7,23 @@ mod program;
 
 use command_line::{parse, words_of};
 use endings::{Failure, PipedOutput, Streams, tell};
-use requests::SharedSystem;
+use requests::WatchedSystem;
 use std::alloc::Global;
 use std::fs;
 use std::fs::File;
 use std::io::{Eprint, IsTerminal};
 use std::os::fd::{AsRawFd, IntoRawFd, RawFd};
 use std::process::ExitCode;
+use witness::{WatchedFile, Witness};
 
 fn main(rt: HostRuntime) -> ExitCode {
     fill_standard_descriptors(&rt);
     let alloc = rt.alloc();
+    let witness = Witness::new();
+    let input = rt.stdin();
+    let is_typed = input.is_terminal();
     let mut streams = Streams {
-        input: rt.stdin(),
+        input: WatchedFile::new(input, &witness),
         out: PipedOutput::new(rt.stdout()),
         err: rt.stderr(),
     };
@@ -27,7 +31,7 @@ fn main(rt: HostRuntime) -> ExitCode {
         Ok(words) => words,
         Err(failure) => return ExitCode::from(tell(alloc, failure, &mut streams.err).code()),
     };
-    if words.is_empty() && streams.input.is_terminal() {
+    if words.is_empty() && is_typed {
         say_what_is_read(&rt);
     }
     if let Some(failure) = misplaced_in(&rt, alloc, &words) {
@@ -35,8 +39,8 @@ fn main(rt: HostRuntime) -> ExitCode {
     }
     let screen = rt.stderr();
     let terminal = screen.is_terminal().then_some(&screen);
-    let system = SharedSystem::of(&rt);
-    let (_, code) = program::program(system, alloc, &words, &mut streams, terminal);
+    let system = WatchedSystem::watching(&rt, &witness);
+    let (_, code) = program::program(system, alloc, &words, &mut streams, terminal, &witness);
     ExitCode::from(code)
 }
 

@@ -14,19 +14,22 @@ use endings::{FaultOutput, Output, Streams};
 use requests::{Kinds, System, attempt};
 use std::alloc::Global;
 use std::io::{Print, Read};
+use witness::Witness;
 
 /// Does what the words after the program's name ask for, in a system that comes back, and answers the exit
 /// status.
 ///
 /// Reports and help go to standard output, which is flushed; refused command lines and faults go to
-/// standard error, a fault as one line. What can't be written there is not told, nor that nobody reads
-/// any more what only prints. A load shows on the terminal, where there is one, how far it is.
+/// standard error, a fault as one line, and behind it the system's reason, as the witness has it. What can't be written
+/// there is not told, nor that nobody reads any more what only prints. A load shows on the terminal, where there is
+/// one, how far it is.
 pub(crate) fn program<K: Kinds, R: Read, W: Output, E: FaultOutput, T: Print>(
     system: System<K>,
     alloc: Global,
     words: &[String],
     streams: &mut Streams<R, W, E>,
     terminal: Option<&T>,
+    witness: &Witness,
 ) -> (System<K>, u8)
     requires { FitsInMemory R.row }
     // With no words, the tape on the input is checked.
@@ -40,7 +43,7 @@ pub(crate) fn program<K: Kinds, R: Read, W: Output, E: FaultOutput, T: Print>(
 {
     match parse(alloc, words) {
         Ok(request) => {
-            let (system, status) = attempt(system, alloc, &request, streams, terminal);
+            let (system, status) = attempt(system, alloc, &request, streams, terminal, witness);
             (system, status.code())
         }
         Err(answer) => {

@@ -2,7 +2,8 @@
 use Rattle.std.proofs.Common.{◌≡◌, ◌∙◌, Bool, Result, Ok, Err, IfOk, IfErr, inl, inr, ap, sym, subst}
 use Rattle.endings.specs.declared.failure.Failure.{Failure}
 use Rattle.endings.specs.declared.status.Status.{Status}
-use Rattle.endings.specs.Failure.{is_unheard, IsToldUnless}
+use Rattle.endings.specs.Failure.{is_unheard}
+use Rattle.endings.specs.SystemReason.{IsToldWithReason}
 use Rattle.endings.specs.FaultOutput.{StandardError}
 use Rattle.endings.specs.Held.{Held}
 use Rattle.request_values.specs.declared.request.Request.{Request}
@@ -22,8 +23,8 @@ attempted request before asked held last (Ok ended) status prints p ok err quiet
 attempted request before asked held last (Err failure) status prints p ok err quiet end = inr (record {
   failure = failure;
   failed = subst (λ h. IsFailed request before (moment asked h) failure) (sym end.0) (failed_whatever before asked held last.err failure request err);
-  told = subst (λ b. IsToldUnless (is_unheard b last.unread failure) before.held.err last.err failure) p
-      (subst (λ b. IsToldUnless (is_unheard prints b failure) before.held.err last.err failure) (sym (ap (λ (h : Held). h.unread) end.0))
-      (subst (λ (e : StandardError). IsToldUnless (is_unheard prints held.unread failure) e last.err failure) quiet end.1));
+  told = subst (λ b. IsToldWithReason (is_unheard b last.unread failure) before.held.err last.err failure) p
+      (subst (λ b. IsToldWithReason (is_unheard prints b failure) before.held.err last.err failure) (sym (ap (λ (h : Held). h.unread) end.0))
+      (subst (λ (e : StandardError). IsToldWithReason (is_unheard prints held.unread failure) e last.err failure) quiet end.1));
   status_is = end.2;
 })

@@ -4,7 +4,8 @@ use Rattle.std.specs.Prelude.{◌≡◌, ◌⊎◌, Bool, Result, Ok, Err}
 use Rattle.endings.specs.declared.failure.Failure.{Failure}
 use Rattle.endings.specs.declared.status.Status.{Status}
 use Rattle.endings.specs.Held.{Held}
-use Rattle.endings.specs.Failure.{status_of, is_unheard, IsToldUnless}
+use Rattle.endings.specs.Failure.{status_of, is_unheard}
+use Rattle.endings.specs.SystemReason.{IsToldWithReason}
 use Rattle.requests.specs.Loading.{AreLoaded, AreUnloaded}
 use Rattle.requests.specs.Looking.{AreVerified, AreUnverified}
 use Rattle.requests.specs.Probing.{IsConsoleProbed, IsConsoleUnprobed}
@@ -44,11 +45,11 @@ pub record IsDoneQuietly (request : Request) (before after : Moment) (status : S
   pub done : IsDone request before after status
   pub quiet : after.held.err ≡ before.held.err
 
--- it failed, standard error tells why where somebody is to hear of it, and the status says so
+-- it failed, standard error tells of it where somebody is to hear of it, and of the system's reason, and the status says so
 pub record IsFailedAloud (request : Request) (before after : Moment) (status : Status) : Type 0 where
   pub failure : Failure
   pub failed : IsFailed request before after failure
-  pub told : IsToldUnless (is_unheard (only_prints request) after.held.unread failure) before.held.err after.held.err failure
+  pub told : IsToldWithReason (is_unheard (only_prints request) after.held.unread failure) before.held.err after.held.err failure
   pub status_is : status ≡ status_of failure
 
 -- a request was attempted from one moment to another, and the program ends so
@@ -60,4 +61,4 @@ IsAttempted request before after status = IsDoneQuietly request before after sta
 abbrev pub IsEndOf : Bool → Result Status Failure → Held → Held → Status → Type 0
 IsEndOf prints (Ok done) held held' status = (held' ≡ held) × (status ≡ done)
 IsEndOf prints (Err failure) held held' status =
-    (held' ≡ record held { err = held'.err }) × IsToldUnless (is_unheard prints held.unread failure) held.err held'.err failure × (status ≡ status_of failure)
+    (held' ≡ record held { err = held'.err }) × IsToldWithReason (is_unheard prints held.unread failure) held.err held'.err failure × (status ≡ status_of failure)

@@ -1,5 +1,6 @@
 -- What a load, a look or a probe of a real machine comes to: the exit status, or the failure that names what was at fault.
 use Rattle.std.specs.Prelude.{◌≡◌, ℕ, Bool, if◌then◌else◌, List, Result, Ok, Err}
+use Rattle.load_devices.specs.declared.fault.LineFault.{LineFault}
 use Rattle.load_engine.specs.declared.stop.Stop.{Stop}
 use Rattle.load_engine.specs.declared.stop.Stop.TheVariants as stop
 use Rattle.machine_load.specs.declared.fault.LoadFault.TheVariants as load
@@ -79,12 +80,12 @@ IsFailureOf (Look look.Memory) console file failure = failure ≡ NoMemory
 IsFailureOf (Probe probe_fault.Memory) console file failure = failure ≡ NoMemory
 
 -- how a load fails whose line did: once the start was typed, or may have been, it says so
-abbrev pub line_failure : Bool → Failure
-line_failure marked = if marked then StartInDoubt else LineFailed
+abbrev pub line_failure : Bool → LineFault → Failure
+line_failure marked fault = if marked then StartInDoubt fault else LineFailed fault
 
 -- how a load fails all the same whose engine stopped so: the line failed, or the record's keeper
 abbrev pub IsStopFailure : Stop → Bool → List ℕ → Failure → Type 0
-IsStopFailure (stop.LineFailed fault) marked file failure = failure ≡ line_failure marked
+IsStopFailure (stop.LineFailed fault) marked file failure = failure ≡ line_failure marked fault
 IsStopFailure (stop.KeepFailed fault) marked file failure = NamesWrittenFile file failure
 IsStopFailure other marked file failure = ⊥
 
@@ -113,7 +114,7 @@ after_verify verify.Differs = Ok Differs
 after_verify (verify.NoWord address) = Ok NotLoaded
 after_verify verify.GaveUp = Ok NotLoaded
 after_verify verify.TurnsOver = Ok NotLoaded
-after_verify (verify.LineFailed fault) = Err LineFailed
+after_verify (verify.LineFailed fault) = Err (LineFailed fault)
 
 -- how the program ended where a `save` ended so
 abbrev pub IsSaveEndStatus : SaveEnd → Status → Type 0
@@ -125,7 +126,7 @@ IsSaveEndStatus other status = ⊥
 
 -- how a `save` to a file of this name fails that ended so: its line failed, or memory does not hold what is beside the file
 abbrev pub IsSaveEndFailure : SaveEnd → List ℕ → Failure → Type 0
-IsSaveEndFailure (save.LineFailed fault) file failure = failure ≡ LineFailed
+IsSaveEndFailure (save.LineFailed fault) file failure = failure ≡ LineFailed fault
 IsSaveEndFailure (save.Stale address) file failure = NamesStalePart file failure
 IsSaveEndFailure other file failure = ⊥
 
@@ -137,4 +138,4 @@ after_probe probe.NoPrompt = Ok NotLoaded
 after_probe probe.GaveUp = Ok NotLoaded
 after_probe (probe.NoWord address) = Ok NotLoaded
 after_probe probe.TurnsOver = Ok NotLoaded
-after_probe (probe.LineFailed fault) = Err LineFailed
+after_probe (probe.LineFailed fault) = Err (LineFailed fault)

@@ -1,6 +1,7 @@
 pub mod Asked
 pub mod Attempt
 pub mod Ending
+pub mod Instead
 pub mod Listening
 pub mod Loading
 pub mod Looking

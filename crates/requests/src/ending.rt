@@ -29,8 +29,8 @@ fn after_stop(stop: Stop, marked: bool, file: &str) -> Result<Status, Failure<'_
 {
     match stop {
         Stop::Ended(end) => Ok(Status::of_end(end)),
-        Stop::LineFailed(_) if marked => Err(Failure::StartInDoubt),
-        Stop::LineFailed(_) => Err(Failure::LineFailed),
+        Stop::LineFailed(fault) if marked => Err(Failure::StartInDoubt(fault)),
+        Stop::LineFailed(fault) => Err(Failure::LineFailed(fault)),
         Stop::KeepFailed(_) => Err(Failure::CannotWriteFile(file)),
         Stop::TurnsOver => Ok(Status::NotLoaded),
     }
@@ -44,7 +44,7 @@ pub(crate) fn after_verify(end: VerifyEnd) -> Result<Status, Failure<'static>>
         VerifyEnd::Same => Ok(Status::Done),
         VerifyEnd::Differs => Ok(Status::Differs),
         VerifyEnd::NoWord(_) | VerifyEnd::GaveUp | VerifyEnd::TurnsOver => Ok(Status::NotLoaded),
-        VerifyEnd::LineFailed(_) => Err(Failure::LineFailed),
+        VerifyEnd::LineFailed(fault) => Err(Failure::LineFailed(fault)),
     }
 }
 
@@ -57,7 +57,7 @@ pub(crate) fn after_save(end: SaveEnd, file: &str) -> Result<Status, Failure<'_>
     match end {
         SaveEnd::Saved => Ok(Status::Done),
         SaveEnd::NoWord(_) | SaveEnd::GaveUp | SaveEnd::TurnsOver => Ok(Status::NotLoaded),
-        SaveEnd::LineFailed(_) => Err(Failure::LineFailed),
+        SaveEnd::LineFailed(fault) => Err(Failure::LineFailed(fault)),
         SaveEnd::Stale(_) => Err(Failure::PartStale(file)),
     }
 }
@@ -73,6 +73,6 @@ pub(crate) fn after_probe(end: ProbeEnd) -> Result<Status, Failure<'static>>
         | ProbeEnd::GaveUp
         | ProbeEnd::NoWord(_)
         | ProbeEnd::TurnsOver => Ok(Status::NotLoaded),
-        ProbeEnd::LineFailed(_) => Err(Failure::LineFailed),
+        ProbeEnd::LineFailed(fault) => Err(Failure::LineFailed(fault)),
     }
 }

@@ -4,25 +4,28 @@ ghost use Rattle.requests.specs.Moment.{moment};
 ghost use Rattle.requests.specs.Attempt.{IsAttempted, IsEndOf};
 
 use crate::advice::say_probing;
+use crate::instead::say_instead;
 use crate::loading::load_tapes;
 use crate::making::make_words;
 use crate::probing::probe_console;
 use crate::saving::save_words;
 use crate::system::{Kinds, System};
 use crate::verifying::verify_tapes;
-use endings::{Failure, FaultOutput, Output, Status, Streams, tell_unless_unheard};
+use endings::{Failure, FaultOutput, Output, Status, Streams, tell_with_reason};
 use request_values::{MachineRequest, Request};
 use std::alloc::Global;
 use std::io::{Print, Read};
 use tape_commands::print_answer;
+use witness::Witness;
 
 /// Does a request in a system, which comes back, and answers the exit status, or tells why not, with the
 /// status that says so.
 ///
 /// Reports go to standard output, which is flushed; a fault goes to standard error as one line, in one
-/// write. What can't be written there is not told. Nor is that standard output can't be written, where
+/// write, and behind it, where the system could not read, write or connect to something, its reason, as the witness
+/// of its parts has it. What can't be written there is not told. Nor is that standard output can't be written, where
 /// the request does nothing but print and nobody reads any more. A load of a machine and a look at it show
-/// on the terminal, where there is one, how far they are.
+/// on the terminal, where there is one, how far they are; and what a refused tape is instead is told there.
 ///
 /// Part by part, where the system tells: the files that are named are opened in their order; the console that is
 /// named is asked for once, and no other; its line is given back, with what was said on it and no more; the disk is
@@ -37,6 +40,7 @@ pub fn attempt<K: Kinds, R: Read, W: Output, E: FaultOutput, T: Print>(
     request: &Request<'_>,
     streams: &mut Streams<R, W, E>,
     terminal: Option<&T>,
+    witness: &Witness,
 ) -> (System<K>, Status)
     requires { FitsInMemory R.row }
     ensures { IsAttempted request.now (moment system streams.old) (moment result.0 streams.new) result.1 }
@@ -45,39 +49,59 @@ pub fn attempt<K: Kinds, R: Read, W: Output, E: FaultOutput, T: Print>(
     match request {
         Request::Tape(request) => {
             let outcome = print_answer(&mut system.inputs, alloc, request, streams);
-            (system, end(alloc, only_prints, outcome, streams))
+            (
+                system,
+                end(alloc, only_prints, outcome, streams, terminal, witness),
+            )
         }
         Request::Make(make) => {
             let (system, outcome) = make_words(system, alloc, *make, streams);
-            (system, end(alloc, only_prints, outcome, streams))
+            (
+                system,
+                end(alloc, only_prints, outcome, streams, terminal, witness),
+            )
         }
         Request::Machine(MachineRequest::Load(names, load)) => {
             let (system, outcome) = load_tapes(system, alloc, names, *load, streams, terminal);
-            (system, end(alloc, only_prints, outcome, streams))
+            (
+                system,
+                end(alloc, only_prints, outcome, streams, terminal, witness),
+            )
         }
         Request::Machine(MachineRequest::Verify(names, look)) => {
             let (system, outcome) = verify_tapes(system, alloc, names, *look, streams, terminal);
-            (system, end(alloc, only_prints, outcome, streams))
+            (
+                system,
+                end(alloc, only_prints, outcome, streams, terminal, witness),
+            )
         }
         Request::Machine(MachineRequest::Save(save)) => {
             let (system, outcome) = save_words(system, alloc, *save, streams, terminal);
-            (system, end(alloc, only_prints, outcome, streams))
+            (
+                system,
+                end(alloc, only_prints, outcome, streams, terminal, witness),
+            )
         }
         Request::Machine(MachineRequest::Probe(probe)) => {
             say_probing(terminal);
             let (system, outcome) = probe_console(system, alloc, *probe, streams);
-            (system, end(alloc, only_prints, outcome, streams))
+            (
+                system,
+                end(alloc, only_prints, outcome, streams, terminal, witness),
+            )
         }
     }
 }
 
 // The status that a request ends with which came to this: where it failed, that is told on standard error, if
 // somebody is to hear of it.
-fn end<R: Read, W: Output, E: FaultOutput>(
+fn end<R: Read, W: Output, E: FaultOutput, T: Print>(
     alloc: Global,
     only_prints: bool,
     outcome: Result<Status, Failure<'_>>,
     streams: &mut Streams<R, W, E>,
+    terminal: Option<&T>,
+    witness: &Witness,
 ) -> Status
     ensures { IsEndOf only_prints outcome.entry streams.old streams.new result }
 {
@@ -85,7 +109,9 @@ fn end<R: Read, W: Output, E: FaultOutput>(
         Ok(status) => status,
         Err(failure) => {
             let (out, err) = (&streams.out, &mut streams.err);
-            tell_unless_unheard(alloc, only_prints, failure, out, err)
+            let status = tell_with_reason(alloc, only_prints, failure, witness.error(), out, err);
+            say_instead(terminal, failure, witness.front());
+            status
         }
     }
 }

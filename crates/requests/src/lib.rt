@@ -13,6 +13,7 @@
 mod advice;
 mod ending;
 mod handling;
+mod instead;
 mod listening;
 mod loading;
 mod machine_fault;
@@ -24,4 +25,4 @@ mod system;
 mod verifying;
 
 pub use handling::attempt;
-pub use system::{Kinds, SharedSystem, System};
+pub use system::{Kinds, SharedSystem, System, WatchedSystem};

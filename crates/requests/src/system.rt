@@ -7,6 +7,7 @@ use std::marker::Model;
 use std::net::Net;
 use std::rt::Files;
 use std::time::Clock;
+use witness::{Watched, Witness};
 
 /// Of which types the parts of a system are.
 pub trait Kinds {
@@ -102,5 +103,44 @@ impl<'c, S: TimedStream + Drop, F: Files + Locks + Net<Stream = S> + Devices + C
             clock: system,
         };
         System::new(system, system, consoles, system)
+    }
+}
+
+/// The same parts, each of which is watched.
+impl<'c, S: TimedStream + Drop, F: Files + Locks + Net<Stream = S> + Devices + Clock> Kinds
+    for Watched<'c, &'c F> {
+    type Inputs = Watched<'c, &'c F>;
+
+    type Disk = Watched<'c, &'c F>;
+
+    type Consoles = SystemConsoles<'c, Watched<'c, &'c F>, F>;
+
+    type Clock = &'c F;
+}
+
+/// A system of which one value is every part, and which is watched.
+pub type WatchedSystem<'c, F> = System<Watched<'c, &'c F>>;
+
+impl<'c, S: TimedStream + Drop, F: Files + Locks + Net<Stream = S> + Devices + Clock> WatchedSystem<
+    'c,
+    F,
+> {
+    ghost use Rattle.std.specs.Prelude.{◌≡◌};
+    ghost use Rattle.requests.specs.Asked.{untold};
+
+    /// All parts of a system, of which none tells what is asked of it. How one of them fails is remembered.
+    pub fn watching(system: &'c F, witness: &'c Witness) -> WatchedSystem<'c, F>
+        ensures { result ≡ untold }
+    {
+        let consoles = SystemConsoles {
+            outlets: Watched::new(system, witness),
+            clock: system,
+        };
+        System::new(
+            Watched::new(system, witness),
+            Watched::new(system, witness),
+            consoles,
+            system,
+        )
     }
 }

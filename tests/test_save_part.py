@@ -204,7 +204,7 @@ class GoesOn(Part):
         self.is_saved(self.look(self.console_at(Console(memory=memory)), SAVE))
 
     def test_another_range(self):
-        for words in ("1000 2126", "1000 2132", "1002 2132", "776 2126", "1000 1000"):
+        for words in ("1000 2124", "1000 2130", "1002 2130", "776 2124", "1000 1000"):
             self.leave()
             line = self.machine()
             self.ends(self.look(line, f"save a.lda LINE {words}"), 3, "", ANOTHERS)
@@ -271,7 +271,7 @@ class GoesOn(Part):
 
     def test_memory_that_ends_in_the_looks(self):
         self.leave()
-        given = self.look(self.machine(words=0o1000 // 2 + 40), SAVE)
+        given = self.look(self.console_at(Console(words=0o1000 // 2 + 40, memory=as_memory(0o1000, WORDS[:40]))), SAVE)
         self.is_so((given.status, given.out.splitlines()[1]), (5, f"end NoWord {SAMPLES[2]:06o}"))
         self.is_left(1)
 

@@ -12,7 +12,7 @@ import unittest
 from concurrent.futures import ThreadPoolExecutor
 
 from cases import Case, Console, DeafConsole
-from outside import HELLO, NO_OUTPUT, NO_TERMINAL, Answer, bytes_of, fault, line_failed
+from outside import HELLO, IN_USE, NO_OUTPUT, NO_TERMINAL, Answer, bytes_of, fault, line_failed
 
 # All that is typed at a machine of zeroed memory to load and start first.lda, what is reported, and the record.
 WHOLE = "Z001000/011064\r001000/\r001000G"
@@ -177,7 +177,7 @@ class Refusals(Devices):
     def test_a_device_that_somebody_has(self):
         device = self.device_at(Console())
         fcntl.flock(device.theirs, fcntl.LOCK_EX)
-        self.is_refused(device.name)
+        self.is_refused(device.name, why=IN_USE)
         fcntl.flock(device.theirs, fcntl.LOCK_UN)
         self.ends(self.load(device), 0, STARTED)
 
@@ -186,7 +186,7 @@ class Refusals(Devices):
         device = self.device_at(Console())
         first = self.begin(self.words_of(device))
         self.until(lambda: is_locked(device))
-        self.is_refused(device.name)
+        self.is_refused(device.name, why=IN_USE)
         self.ends(self.finish(first), 0, STARTED)
         self.was_typed(device, WHOLE)
 

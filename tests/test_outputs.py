@@ -200,7 +200,7 @@ class Writes(Case):
         put_files(self)
         for words, (_, text) in TOLD.items():
             with self.subTest(words):
-                self.is_so(self.written(words.split(), "stderr"), [line.encode() for line in text.splitlines(True)])
+                self.is_so(self.written(words.split(), "stderr"), [line.encode() for line in (text.splitlines(True) if text.startswith("ldaodt: ") else [text])])
                 self.is_so(self.written(words.split(), "stdout"), [])
 
     def test_a_long_name(self):

@@ -25,6 +25,7 @@ use std::process::Abort;
 use std::test::Fail;
 use std::{fs, io};
 use tape_image::Start;
+use witness::Witness;
 
 /// Files that are opened to be read, and by which names they were, or were not.
 #[derive(Drop)]
@@ -87,7 +88,7 @@ fn attempt_told<'a, R: Abort>(
     ensures told { Tells system.entry }
 {
     let _ = &system.inputs;
-    attempt(system, alloc, &request, streams, NOBODY)
+    attempt(system, alloc, &request, streams, NOBODY, &Witness::new())
 }
 
 // A system of which nothing was asked, with a console of this machine, or with none.

@@ -1,5 +1,5 @@
 -- What looks and reading came to, and what is closed behind them.
-use Rattle.std.specs.Prelude.{◌≡◌, ℕ, ◌+◌, ◌*◌, ◌≤◌, List, ◌++◌, length, ⊤}
+use Rattle.std.specs.Prelude.{◌≡◌, ℕ, ◌+◌, ◌*◌, ◌<◌, ◌≤◌, List, ◌++◌, length, ⊤}
 use Rattle.tape_values.specs.Block.{top}
 use Rattle.load_devices.specs.Turns.{most_turns}
 use Rattle.console_lines.specs.Console.{ConsoleTold}
@@ -10,12 +10,15 @@ use Rattle.machine_look.specs.declared.save_end.SaveEnd.{SaveEnd}
 use Rattle.machine_look.specs.declared.save_report.SaveCounts.{SaveCounts}
 use Rattle.machine_look.specs.declared.saving.SaveOptions.{SaveOptions}
 use Rattle.machine_look.specs.declared.look_fault.LookFault.{LookFault}
+use Rattle.machine_look.specs.declared.shelf.ShelfFault.{ShelfFault}
+use Rattle.machine_look.specs.declared.shelf.ShelfFault.TheVariants.{Write}
 use Rattle.machine_look.specs.Behind.{IsHeldUp, IsRead}
 use Rattle.machine_look.specs.LookFault.{IsKeepFault}
 use Rattle.machine_look.specs.Save.{counts_held, counts_read}
-use Rattle.machine_look.specs.SavedSteps.{adds, closes, full}
+use Rattle.machine_look.specs.SavedSteps.{adds, closes, full, not_all_added}
 use Rattle.machine_look.specs.SaveReport.{held_end, save_end}
-use Rattle.machine_look.specs.ShelfTold.{AreDone, ShelfTold}
+use Rattle.machine_look.specs.Shelf.{ShelfStep}
+use Rattle.machine_look.specs.ShelfTold.{AreDone, GoesOnTo, ShelfTold}
 
 -- looks held a save up, and the shelf is as it was; or what was found stood, and the words behind it were read, and each full block of both is on the
 -- shelf, in the same folder
@@ -46,3 +49,8 @@ abbrev pub HasRoomForCounts : SaveOptions → List ℕ → Course → Type 0
 HasRoomForCounts options found (HeldUp looked) = ⊤
 HasRoomForCounts options found (Read looks last stop) =
     (looks.spent + last.patience ≤ options.patience) × (options.range.from + 2 * (length found + length last.values) ≤ top)
+
+-- a block could not be written behind those that were on the shelf: the blocks before it are, and what was read has more
+abbrev pub IsNotAllAdded : (List ℕ → Type 0) → List ShelfStep → ℕ → List ℕ → ShelfTold → ShelfTold → ShelfFault → Type 0
+IsNotAllAdded known before from numbers shelf shelf' fault =
+    (fault ≡ Write) × ((n : ℕ) × (n < full numbers) × GoesOnTo known (λ _. ⊤) before (not_all_added from numbers n) shelf shelf')

@@ -37,6 +37,10 @@ pub record SaveTold : Type 0 where
   pub lines : Option (List LineTold)
   pub out : Option (List ℕ)
 
+-- what this console tells, where nothing is written
+abbrev pub reach_told : {R L : Type 0} → Reach R L → R → ConsoleTold
+reach_told tell console = record { asked = tell.asked console; call = tell.call console; lines = tell.lines console; out = None }
+
 -- what this shelf, this console and this output tell
 abbrev pub save_told : {S R L W : Type 0} → Shelf S → Reach R L → Write W → S → R → W → SaveTold
 save_told shelf_tell tell write shelf console out = record {

@@ -73,12 +73,15 @@ pub data IsNotReserved (name : List ℕ) : ShelfFault → List DiskStep → Type
       → IsTakingHeld (part_name name) folder filled (Some fault) making
       → IsNotReserved name fault (Failed (LookAtName name) ∷ Did (Open ReadOnly folder) ∷ making)
 
--- a file beside that an earlier save left is gone on with: it is a plain one without another name, it is held, and read, and opened once more to
--- be written from its front on, and it still has its name
+-- a file that an earlier save left is held, a plain one without another name, and read, and opened once more to be written from its front on, and
+-- it still has its name
+abbrev pub taking_left : List ℕ → Option (List ℕ) → List DiskStep
+taking_left own held =
+    Did (FindSoleFile own) ∷ Did (Open ReadWrite own) ∷ Did (Hold own) ∷ Did (Open ReadOnly own) ∷ Did (Open ReadWrite own) ∷ Did (FindFile own held) ∷ []
+
+-- so one beside is gone on with, once its folder is opened
 abbrev pub resuming : List ℕ → List ℕ → Option (List ℕ) → List DiskStep
-resuming own folder held =
-    Did (Open ReadOnly folder) ∷ Did (FindSoleFile own) ∷ Did (Open ReadWrite own) ∷ Did (Hold own) ∷ Did (Open ReadOnly own) ∷ Did (Open ReadWrite own)
-    ∷ Did (FindFile own held) ∷ []
+resuming own folder held = Did (Open ReadOnly folder) ∷ taking_left own held
 
 -- what is asked of a disk and leaves each file as it is: names are looked at, and files that are there are opened and held
 abbrev pub LeavesAll : DiskRequest → Type 0

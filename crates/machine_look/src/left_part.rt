@@ -6,7 +6,7 @@ ghost use Rattle.record_file.specs.DiskStep.{Did, FindFile, FindSoleFile, Hold, 
 ghost use Rattle.record_file.specs.Folder.{IsFolderOf};
 ghost use Rattle.record_file.specs.declared.disk.Access.TheVariants.{ReadOnly, ReadWrite};
 ghost use Rattle.machine_look.specs.FoundPart.{FillBlocks};
-ghost use Rattle.machine_look.specs.ShelfDisk.{LeaveAll, part_name, resuming};
+ghost use Rattle.machine_look.specs.ShelfDisk.{LeaveAll, part_name, resuming, taking_left};
 
 use crate::found_part::{Found, found_in};
 use crate::new_file::{PART, Part};
@@ -69,9 +69,7 @@ fn take_named<D: Disk>(
     ensures found { IfOk result (λ left. FillBlocks range left.2.numbers.items) }
     ensures fresh { IfOk result (λ left. OnSome (D.asked disk.new) (D.File.contents left.1 ≡ Some [])) }
     ensures untouched { IfOk result (λ left. OnSome (D.asked disk.new) (D.File.contents left.0 ≡ Some [])) }
-    ensures asked { IfOk result (λ left. HasAsked (D.asked disk.old) (D.asked disk.new) (λ steps. steps ≡
-        Did (FindSoleFile name.now) ∷ Did (Open ReadWrite name.now) ∷ Did (Hold name.now) ∷ Did (Open ReadOnly name.now) ∷ Did (Open ReadWrite name.now)
-        ∷ Did (FindFile name.now (D.File.contents left.0)) ∷ [])) }
+    ensures asked { IfOk result (λ left. HasAsked (D.asked disk.old) (D.asked disk.new) (λ steps. steps ≡ taking_left name.now (D.File.contents left.0))) }
     ensures failed { OnErr result (HasAsked (D.asked disk.old) (D.asked disk.new) LeaveAll) }
 {
     let held = match hold_left(disk, name) {

@@ -1,7 +1,6 @@
 //! Reading, with each block on the shelf as soon as its last word was read.
-ghost use Rattle.std.specs.Prelude.{◌≡◌, ◌+◌, ◌*◌, ◌/◌, ◌<◌, ◌≤◌, ◌↔◌, ◌∷◌, ◌++◌, [], List, ℕ, None, Some, length, IfErr, IfOk, IsTrue, OnOk, ⊤};
-ghost use Rattle.tape_values.specs.Block.{data_block, top};
-ghost use Rattle.console_lines.specs.Console.{ConsoleTold};
+ghost use Rattle.std.specs.Prelude.{◌≡◌, ◌+◌, ◌*◌, ◌/◌, ◌<◌, ◌≤◌, ◌↔◌, ◌++◌, [], List, ℕ, None, Some, length, IfErr, IfOk, IsTrue, OnOk, ⊤};
+ghost use Rattle.tape_values.specs.Block.{top};
 ghost use Rattle.load_devices.specs.Failures.{CountsFault, IsLastFault};
 ghost use Rattle.load_devices.specs.Turns.{most_turns};
 ghost use Rattle.reading_core.specs.Bound.{reading_bound};
@@ -9,13 +8,12 @@ ghost use Rattle.reading_core.specs.Invariant.{IsReader};
 ghost use Rattle.reading_core.specs.Reader.{ended};
 ghost use Rattle.reading_engine.specs.Failing.{line_fault};
 ghost use Rattle.reading_engine.specs.Inquired.{Inquired, TellsEnd};
-ghost use Rattle.machine_look.specs.Course.{IsCourse};
+ghost use Rattle.machine_look.specs.Course.{IsCourse, IsNotAllAdded};
 ghost use Rattle.machine_look.specs.FoundPart.{FillBlocks};
 ghost use Rattle.machine_look.specs.Hosts.{AreHosts};
 ghost use Rattle.machine_look.specs.LookFault.{IsReadFault};
+ghost use Rattle.machine_look.specs.Save.{reach_told};
 ghost use Rattle.machine_look.specs.SavedSteps.{adds, full, not_all_added};
-ghost use Rattle.machine_look.specs.SavedTape.{saved_block};
-ghost use Rattle.machine_look.specs.Shelf.{NotAdded};
 ghost use Rattle.machine_look.specs.ShelfTold.{AreDone, GoesOnTo};
 
 use crate::behind::Behind;
@@ -66,12 +64,10 @@ pub(crate) fn read_over<S: Shelf, R: Reach, O: Onlooker>(
     requires hosts { AreHosts options found.now hosts }
     requires begins { options.start < 65536 }
     ensures course { IfOk result (IsCourse options found.now (S.is_opened_as shelf.old) (S.is_opened_as shelf.new) (S.told shelf.old) (S.told shelf.new)
-        (record { asked = R.asked console.old; call = R.call console.old; lines = R.lines console.old; out = None })
-        (record { asked = R.asked console.new; call = R.call console.new; lines = R.lines console.new; out = None })) }
+        (reach_told R.Reach console.old) (reach_told R.Reach console.new)) }
     ensures call { R.call console.new ≡ R.call console.old }
     ensures fault { IfErr result (IsReadFault options found.now (S.is_opened_as shelf.old) (S.told shelf.old) (S.told shelf.new)
-        (record { asked = R.asked console.old; call = R.call console.old; lines = R.lines console.old; out = None })
-        (record { asked = R.asked console.new; call = R.call console.new; lines = R.lines console.new; out = None })) }
+        (reach_told R.Reach console.old) (reach_told R.Reach console.new)) }
 {
     let Hosts {
         samples,
@@ -180,9 +176,7 @@ fn read_blocks<S: Shelf, L: Line, O: Onlooker>(
     ensures kept { IsReader result.core }
     ensures added { OnOk result.added (GoesOnTo (S.is_opened_as shelf.old) (S.is_opened_as shelf.new) []
         (adds from result.core.values (full result.core.values)) (S.told shelf.old) (S.told shelf.new)) }
-    ensures not_added { IfErr result.added (λ fault. (fault ≡ ShelfFault.Write) × ((n : ℕ) × (n < full result.core.values)
-        × GoesOnTo (S.is_opened_as shelf.old) (λ _. ⊤) [] (adds from result.core.values n ++ NotAdded (data_block (saved_block from result.core.values n)) ∷ [])
-        (S.told shelf.old) (S.told shelf.new))) }
+    ensures not_added { IfErr result.added (IsNotAllAdded (S.is_opened_as shelf.old) [] from result.core.values (S.told shelf.old) (S.told shelf.new)) }
 {
     for _ in 0..MOST_TURNS {
         let Read {
@@ -239,9 +233,8 @@ fn turn<S: Shelf, L: Line, O: Onlooker>(
     ensures first { IsReader core }
     ensures added { OnOk result.added (GoesOnTo (S.is_opened_as shelf.old) (S.is_opened_as shelf.new) (adds from core.values (full core.values))
         (adds from result.core.values (full result.core.values)) (S.told shelf.old) (S.told shelf.new)) }
-    ensures not_added { IfErr result.added (λ fault. (fault ≡ ShelfFault.Write) × ((n : ℕ) × (n < full result.core.values)
-        × GoesOnTo (S.is_opened_as shelf.old) (λ _. ⊤) (adds from core.values (full core.values))
-        (adds from result.core.values n ++ NotAdded (data_block (saved_block from result.core.values n)) ∷ []) (S.told shelf.old) (S.told shelf.new))) }
+    ensures not_added { IfErr result.added (IsNotAllAdded (S.is_opened_as shelf.old) (adds from core.values (full core.values)) from result.core.values
+        (S.told shelf.old) (S.told shelf.new)) }
 {
     let before = core.values().len() / BLOCK_WORDS;
     let (core, stop) = inquire(core, line, 1, onlooker);
@@ -260,9 +253,7 @@ fn add_full<S: Shelf>(
     requires behind { first ≤ full numbers.now }
     ensures added { OnOk result (GoesOnTo (S.is_opened_as shelf.old) (S.is_opened_as shelf.new) (adds from numbers.now first)
         (adds from numbers.now (full numbers.now)) (S.told shelf.old) (S.told shelf.new)) }
-    ensures not_added { IfErr result (λ fault. (fault ≡ ShelfFault.Write) × ((n : ℕ) × (n < full numbers.now)
-        × GoesOnTo (S.is_opened_as shelf.old) (λ _. ⊤) (adds from numbers.now first)
-        (adds from numbers.now n ++ NotAdded (data_block (saved_block from numbers.now n)) ∷ []) (S.told shelf.old) (S.told shelf.new))) }
+    ensures not_added { IfErr result (IsNotAllAdded (S.is_opened_as shelf.old) (adds from numbers.now first) from numbers.now (S.told shelf.old) (S.told shelf.new)) }
 {
     for number in first..numbers.len() / BLOCK_WORDS {
         let text = block_text(from, numbers, number);

@@ -1,5 +1,5 @@
 -- What a save asks of its shelf, whatever becomes of it.
-use Rattle.std.proofs.Common.{◌≡◌, ℕ, List, [], ◌++◌, Result, Ok, Err, IfErr, IfOk, OnOk, inl, inr, refl, subst, sym, append-nil}
+use Rattle.std.proofs.Common.{◌≡◌, ℕ, List, [], ◌++◌, Result, Ok, Err, IfErr, IfOk, OnErr, OnOk, inl, inr, refl, subst, sym, append-nil}
 use Rattle.std.specs.Prelude.{◌⊎◌}
 use Rattle.machine_look.specs.declared.look_fault.LookFault.{LookFault}
 use Rattle.machine_look.specs.declared.look_fault.LookFault.TheVariants.{IsThere, PartIsThere, NotOfSave, WriteTape, Connect, WriteOutput, Memory}
@@ -58,6 +58,6 @@ in_vain Memory options before after (inl h) = not_begun shelf_fault.Memory optio
 in_vain Memory options before after (inr h) = (h.0.taking, h.0.untouched)
 
 pub not_saved : (result : Result SaveEnd LookFault) (options : SaveOptions) (before after : SaveTold) → IfErr result (IsSaveFault options before after)
-    → IfErr result (λ _. (steps : List ShelfStep) × HasDone steps before.shelf after.shelf)
+    → OnErr result ((steps : List ShelfStep) × HasDone steps before.shelf after.shelf)
 not_saved (Ok end) options before after h = tt
 not_saved (Err fault) options before after h = in_vain fault options before after h

@@ -1,10 +1,11 @@
 //! Surroundings of a load that tell what they are.
-ghost use Rattle.std.specs.Prelude.{IfErr, IfOk, None, Some};
+ghost use Rattle.std.specs.Prelude.{IfErr, IfOk};
 ghost use Rattle.load_record.specs.Keeper.{HoldsRecord};
 ghost use Rattle.machine_load.specs.Driving.{IsLoadReported};
 ghost use Rattle.machine_load.specs.Lives.{of_file};
 ghost use Rattle.machine_load.specs.Scene.{ending};
 ghost use Rattle.record_file.specs.RecordFault.{IsUnbegun};
+ghost use Rattle.load_tests.specs.Told.{bench_told};
 
 use crate::disk_text::DiskText;
 use crate::memory_reach::MemoryReach;
@@ -119,10 +120,8 @@ pub(crate) fn load_once(
     bench: &mut Bench,
     report: &mut Vec<u8>,
 ) -> Result<Outcome<MemoryLine>, LoadFault>
-    ensures lived { IfOk result (λ outcome. IsLoadReported of_file plan options
-        (record { around = record { steps = None; record_text = bench.old.keeper.text }; lines = None; out = Some report.old.items })
-        (record { around = record { steps = None; record_text = bench.new.keeper.text }; lines = None; out = Some report.new.items })
-        (ending (record { told = λ line. Some line.items; fault_count = λ line. line.failures; last_fault = λ line. line.fault }) outcome)) }
+    ensures lived { IfOk result (λ outcome. IsLoadReported of_file plan options (bench_told bench.old.keeper.text report.old.items)
+        (bench_told bench.new.keeper.text report.new.items) (ending MemoryLine.Line outcome)) }
 {
     load(alloc, plan, options, bench, report, &Unwatched)
 }

@@ -1,11 +1,8 @@
 //! Saves of a machine in memory, with the tape on a disk that tells what it was asked.
-ghost use Rattle.std.specs.Prelude.{◌≡◌, ◌⊎◌, ◌++◌, [], List, ℕ, None, Some, IfErr, OnOk, option_map};
+ghost use Rattle.std.specs.Prelude.{OnErr, OnOk, option_map};
 ghost use Rattle.machine_look.specs.Room.{room_of};
-ghost use Rattle.machine_look.specs.Save.{TakesUp};
-ghost use Rattle.machine_look.specs.SavedSteps.{puts};
-ghost use Rattle.machine_look.specs.Shelf.{ShelfStep};
-ghost use Rattle.machine_look.specs.ShelfTold.{HasDone};
 ghost use Rattle.simulated_system.specs.ToldSteps.{steps_of, written_to};
+ghost use Rattle.load_tests.specs.Told.{shelf_told, IsTapeNotPut, IsTapePut};
 
 use crate::memory_reach::MemoryReach;
 use load_devices::Unwatched;
@@ -23,13 +20,12 @@ pub(crate) fn save_on_disk<W: Write>(
     console: &mut MemoryReach,
     out: &mut W,
 ) -> Result<SaveEnd, LookFault>
-    ensures disk { OnOk result ((found numbers : List ℕ) × (taking : List ShelfStep) × TakesUp options.range found taking
-        × (steps : List ShelfStep) × ((steps ≡ []) ⊎ (steps ≡ puts options.range.from (found ++ numbers) options.start)) × HasDone (taking ++ steps)
-        (record { steps = None; disk = Some (record { asked = steps_of shelf.old.disk.asked; name = shelf.old.name.now; room = option_map (room_of written_to) shelf.old.part }) })
-        (record { steps = None; disk = Some (record { asked = steps_of shelf.new.disk.asked; name = shelf.new.name.now; room = option_map (room_of written_to) shelf.new.part }) })) }
-    ensures disk_in_vain { IfErr result (λ _. (steps : List ShelfStep) × HasDone steps
-        (record { steps = None; disk = Some (record { asked = steps_of shelf.old.disk.asked; name = shelf.old.name.now; room = option_map (room_of written_to) shelf.old.part }) })
-        (record { steps = None; disk = Some (record { asked = steps_of shelf.new.disk.asked; name = shelf.new.name.now; room = option_map (room_of written_to) shelf.new.part }) })) }
+    ensures disk { OnOk result (IsTapePut options
+        (shelf_told (steps_of shelf.old.disk.asked) shelf.old.name.now (option_map (room_of written_to) shelf.old.part))
+        (shelf_told (steps_of shelf.new.disk.asked) shelf.new.name.now (option_map (room_of written_to) shelf.new.part))) }
+    ensures disk_in_vain { OnErr result (IsTapeNotPut
+        (shelf_told (steps_of shelf.old.disk.asked) shelf.old.name.now (option_map (room_of written_to) shelf.old.part))
+        (shelf_told (steps_of shelf.new.disk.asked) shelf.new.name.now (option_map (room_of written_to) shelf.new.part))) }
 {
     save(alloc, options, shelf, console, out, &Unwatched)
 }

@@ -1,0 +1,38 @@
+-- What a bench, a record and a tape tell of which the disk tells what it was asked.
+use Rattle.std.specs.Prelude.{◌≡◌, ◌⊎◌, ℕ, List, [], ◌++◌, Option, Some, None}
+use Rattle.machine_load.specs.Load.{Setting}
+use Rattle.load_devices.specs.Told.{HasAsked}
+use Rattle.machine_load.specs.RecordDisk.{RecordDisk, FileKnown, IsClosedAfter}
+use Rattle.machine_look.specs.declared.saving.SaveOptions.{SaveOptions}
+use Rattle.machine_look.specs.Save.{TakesUp}
+use Rattle.machine_look.specs.SavedSteps.{puts}
+use Rattle.machine_look.specs.Shelf.{ShelfStep}
+use Rattle.machine_look.specs.ShelfDisk.{Room}
+use Rattle.machine_look.specs.ShelfTold.{HasDone, ShelfTold}
+use Rattle.record_file.specs.DiskStep.{DiskStep}
+
+-- a bench with this record, and a report
+abbrev pub bench_told : Option (List ℕ) → List ℕ → Setting
+bench_told text report = record { around = record { steps = None; record_text = text }; lines = None; out = Some report }
+
+-- a record of this name on a disk, and what is known of it
+abbrev pub record_told : Option (List DiskStep) → List ℕ → FileKnown → RecordDisk
+record_told asked name known = record { asked = asked; name = name; known = known }
+
+-- so much was asked of the disk on which it is, and then it was closed
+abbrev pub IsAskedAndClosed : (RecordDisk → FileKnown → List DiskStep → Type 0) → RecordDisk → Option (List DiskStep) → Type 0
+IsAskedAndClosed said disk asked = HasAsked disk.asked asked (IsClosedAfter said disk)
+
+-- a shelf on a disk, for a tape of this name, and its room
+abbrev pub shelf_told : Option (List DiskStep) → List ℕ → Option Room → ShelfTold
+shelf_told asked name room = record { steps = None; disk = Some (record { asked = asked; name = name; room = room }) }
+
+-- a shelf was taken up, and the tape of what was found and read put there, or nothing
+abbrev pub IsTapePut : SaveOptions → ShelfTold → ShelfTold → Type 0
+IsTapePut options shelf shelf' =
+    (found numbers : List ℕ) × (taking : List ShelfStep) × TakesUp options.range found taking
+    × (steps : List ShelfStep) × ((steps ≡ []) ⊎ (steps ≡ puts options.range.from (found ++ numbers) options.start)) × HasDone (taking ++ steps) shelf shelf'
+
+-- or it came to nothing, whatever was done there
+abbrev pub IsTapeNotPut : ShelfTold → ShelfTold → Type 0
+IsTapeNotPut shelf shelf' = (steps : List ShelfStep) × HasDone steps shelf shelf'

@@ -248,7 +248,7 @@ class Failures(Devices):
         device = self.device_at(Console())
         termios.tcflow(device.theirs, termios.TCOOFF)
         began = time.monotonic()
-        self.ends(self.load(device), 4, "sent 1 spent 0 verified 0 of 1\nend LineFailed\n", FAILED)
+        self.ends(self.load(device), 4, "sent 1 spent 0 verified 0 of 1\nend LineFailed\n", line_failed("send"))
         self.assertGreaterEqual(time.monotonic() - began, 2 * self.quiet / 1000)
         termios.tcflow(device.theirs, termios.TCOON)
 

@@ -1,5 +1,6 @@
 """Standard error on a terminal: one line says how far a load is, and nothing of it is left. Standard input at one: it is
 said what is read."""
+import errno
 import os
 import pty
 import re
@@ -10,7 +11,7 @@ import unittest
 from concurrent.futures import ThreadPoolExecutor
 
 from cases import Case, Console, DeafConsole
-from outside import PROGRAM
+from outside import PROGRAM, fault, line_failed
 
 # Each line that is shown: the terminal is asked to cut what it has no column for, and behind the text to take away what
 # is left of the line before it and to wrap again.
@@ -27,6 +28,14 @@ BOTH_WORDS = {0o1000: 0o031421, 0o1002: 0o104}
 
 # What a person is told behind the report.
 ASK_PROBE = "'ldaodt probe LINE' says what is wrong\r\n"
+
+
+def shown_as(text):
+    """A text as a terminal is given it."""
+    return text.replace("\n", "\r\n")
+
+
+FAILED = shown_as(line_failed("closed"))
 GOES_ON = "the same line goes on where it was; power lost? add --recheck\r\n"
 
 
@@ -145,7 +154,7 @@ class Terminal(Case):
         given, shown = self.load_at_a_terminal(close_after=3)
         self.is_so((given.status, given.out), (4, "sent 1 spent 0 verified 0 of 1\nend LineFailed\n"))
         self.assertTrue(shown.startswith(LISTENING), repr(shown))
-        self.assertTrue(shown.endswith(f"{CLEARED}ldaodt: line failed\r\n"), repr(shown))
+        self.assertTrue(shown.endswith(CLEARED + FAILED), repr(shown))
 
     def test_mishaps_are_counted(self):
         """Each key waits for the quiet time, so that a line is shown with each: at the beginning, with the first key,
@@ -183,11 +192,11 @@ class Terminal(Case):
             (both, None, "", "Started", "2 of 2 by the record\r\n"),
             (f"{both}G\n", None, "", "MaybeStarted", "2 of 2 by the record\r\n"),
             (both, None, "--no-start", "Loaded", "2 of 2 by the record\r\n"),
-            (one, 4, "", "LineFailed", f"1 of 2 by the record\r\n{GOES_ON}ldaodt: line failed\r\n"),
-            ("", 4, "", "LineFailed", f"{GOES_ON}ldaodt: line failed\r\n"),
-            (None, 4, "", "LineFailed", "ldaodt: line failed\r\n"),
+            (one, 4, "", "LineFailed", f"1 of 2 by the record\r\n{GOES_ON}{FAILED}"),
+            ("", 4, "", "LineFailed", f"{GOES_ON}{FAILED}"),
+            (None, 4, "", "LineFailed", FAILED),
             (both, 5 + 2 * 25 + 4 + 2 * 6 + 1, "", "LineFailed",
-             "2 of 2 by the record\r\nldaodt: line failed\r\nldaodt: the start may have gone out: look at the machine first\r\n"),
+             f"2 of 2 by the record\r\n{FAILED}ldaodt: the start may have gone out: look at the machine first\r\n"),
         ):
             with self.subTest(record=record, close_after=close_after, more=more):
                 if record is not None:
@@ -208,7 +217,7 @@ class Terminal(Case):
         are slow."""
         given, shown = self.load_at_a_terminal(SlowConsole(19), "first.lda --record a.record", quiet=1000, file_size=9)
         self.is_so((given.status, given.out), (4, "sent 23 spent 0 verified 1 of 1\nend KeepFailed\n"))
-        self.assertTrue(shown.endswith(f"{CLEARED}ldaodt: cannot write a.record\r\n"), repr(shown))
+        self.assertTrue(shown.endswith(CLEARED + shown_as(fault("cannot write a.record", errno.EFBIG))), repr(shown))
         verified = SHOWN.format("1 of 1 words, 100%, 0:00 left")
         self.is_so(set(shown[:shown.index(CLEARED)].split("\r")), {"", LISTENING[1:], NO_WORD[1:], verified[1:]})
 
@@ -292,6 +301,21 @@ class Input(Case):
         given = self.type_at([], b"\x04")
         said = "ldaodt: reading a tape from standard input ('ldaodt --help' says more)\n"
         self.is_so((given.returncode, given.stdout, given.stderr), (3, "", f"{said}ldaodt: tape refused at 0: NoTransfer\n"))
+
+    def test_what_a_refused_tape_is_instead(self):
+        """By its first bytes, and only at a terminal."""
+        last = b"\1\0\7\0\0\2\0" + bytes([-10 & 255])
+        for data, told in ((b":1000", "this is Intel HEX"), (b"S1130", "these are S-records"), (b"S4130", "this is text"), (b"\x1f\x8b\b\0", "this is compressed"),
+                           (b"1000 1\n", "this is text"), (b"\x1f\x8c\b\0", ""), (b"text\xff", "this is text"), (b"tex\xff", ""), (last, "it lacks a block with a start")):
+            with self.subTest(data):
+                self.put("a.lda", data)
+                given, shown = self.at_a_terminal(lambda it: self.ldaodt("check a.lda", stderr=it))
+                why = "NoTransfer" if data == last else "Stray"
+                self.is_so((given.status, given.out), (3, ""))
+                refused, *advice = shown.split("\r\n")
+                self.is_so(refused, f"ldaodt: tape refused at {len(data) if data == last else 0}: {why}")
+                self.is_so((advice[0].startswith(told), len(advice) > 1), (True, bool(told)))
+                self.ends(self.ldaodt("check a.lda"), 3, "", f"{refused}\n")
 
     def test_nothing_is_said_where_the_input_was_asked_for(self):
         given = self.type_at(["check", "-"], b"\x04")

@@ -128,10 +128,11 @@ fn a_full_disk_leaves_the_old_record_or_more(rt: HostRuntime) -> Result<(), Fail
 }
 
 // What is said of a line that failed before the start, and behind it.
-const FAILED: &str = "ldaodt: line failed\n";
+const FAILED: &str =
+    "ldaodt: line failed\nldaodt: the other end closed it, or the adapter was pulled\n";
 
 const IN_DOUBT: &str =
-    "ldaodt: line failed\nldaodt: the start may have gone out: look at the machine first\n";
+    "ldaodt: line failed\nldaodt: the other end closed it, or the adapter was pulled\nldaodt: the start may have gone out: look at the machine first\n";
 
 // Whether a line failed behind the mark, as the record has it and the load says; None where one says otherwise, or
 // the line did not fail.

@@ -175,7 +175,7 @@ static LOADS: [Row; 7] = [
         Setting { reads: 12, ..AMPLE },
         Status::DeviceFailed,
         "sent 0 spent 0 verified 0 of 1\nend LineFailed\n",
-        "ldaodt: line failed\n",
+        "ldaodt: line failed\nldaodt: the other end closed it, or the adapter was pulled\n",
         1,
     ),
 ];
@@ -300,7 +300,7 @@ static PROBES: [Row; 6] = [
         Setting { reads: 12, ..AMPLE },
         Status::DeviceFailed,
         "prompt yes\nend LineFailed\n",
-        "ldaodt: line failed\n",
+        "ldaodt: line failed\nldaodt: the other end closed it, or the adapter was pulled\n",
         1,
     ),
     (

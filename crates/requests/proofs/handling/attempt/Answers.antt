@@ -4,6 +4,7 @@ use Rattle.std.proofs.lemmas.Result.{IfOk-weaker, IfErr-weaker}
 use Rattle.requests.specs.Asked.{asked_of}
 use Rattle.requests.specs.Attempt.{IsDone, IsFailed}
 use Rattle.requests.specs.Looking.{AreUnverified}
+use Rattle.requests.specs.Loading.{AreUnloaded}
 use Rattle.requests.specs.Moment.{moment}
 use Rattle.requests.proofs.Attempted.{attempted}
 use Rattle.requests.proofs.handling.attempt.Goals as goal
@@ -29,8 +30,11 @@ pub returns-in-Machine-Load : goal.returns-in-Machine-Load
 returns-in-Machine-Load g c =
     let ok : IfOk c.load_tapes-system.result.1 (IsDone c.args.request.now (moment c.args.system c.args.streams.now) (moment c.load_tapes-system.result.0 c.load_tapes-system.new.streams)) =
     search rules in
+    let due : IfErr c.load_tapes-system.result.1 (AreUnloaded c.in-Machine-Load.names.items c.in-Machine-Load.load (moment c.args.system c.args.streams.now) (moment c.load_tapes-system.result.0 c.load_tapes-system.new.streams)) =
+    subst (λ items. IfErr c.load_tapes-system.result.1 (AreUnloaded items c.in-Machine-Load.load (moment c.args.system c.args.streams.now) (moment c.load_tapes-system.result.0 c.load_tapes-system.new.streams)))
+    c.deref.ensures.value c.load_tapes-system.ensures.err in
     let err : IfErr c.load_tapes-system.result.1 (IsFailed c.args.request.now (moment c.args.system c.args.streams.now) (moment c.load_tapes-system.result.0 c.load_tapes-system.new.streams)) =
-    search rules in
+    grind rules steps 20000000 in
     attempted c.args.request.now (moment c.args.system c.args.streams.now) c.load_tapes-system.result.0 c.load_tapes-system.new.streams c.end-in-Machine-Load.new.streams
     c.load_tapes-system.result.1 c.end-in-Machine-Load.result c.only_prints-only_prints.result c.only_prints-only_prints.ensures ok err c.load_tapes-system.ensures.quiet
     c.end-in-Machine-Load.ensures

@@ -5,6 +5,7 @@ use Rattle.requests.specs.Asked.{asked_of}
 use Rattle.requests.specs.Attempt.{IsDone, IsFailed}
 use Rattle.requests.specs.Loading.{AreUnloaded}
 use Rattle.requests.specs.Looking.{AreUnverified}
+use Rattle.requests.specs.Loading.{AreUnloaded}
 use Rattle.requests.specs.Moment.{moment}
 use Rattle.requests.proofs.Attempted.{attempted}
 use Rattle.requests.proofs.handling.attempt.Goals as goal

@@ -29,7 +29,7 @@ connect_hint PermissionDenied = codes ": you may lack the group dialout"
 connect_hint NotFound = codes ": 'ls /dev/tty*' shows what is there"
 connect_hint ConnectionRefused = codes ": nobody listens there"
 connect_hint InvalidInput = codes ": LINE is HOST:PORT or a path with a slash"
-connect_hint other = []
+connect_hint _ = []
 
 -- what may help
 abbrev pub reason_hint : Failure → ErrorKind → List ℕ

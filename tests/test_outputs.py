@@ -257,7 +257,7 @@ class Input(Case):
         folder = os.open(self.room, os.O_RDONLY)
         self.addCleanup(os.close, folder)
         for words in ("", "type"):
-            self.ends(self.ldaodt(words, stdin=folder), 4, "", NO_INPUT)
+            self.ends(self.ldaodt(words, stdin=folder), 4, "", fault("cannot read standard input", errno.EISDIR))
 
     def test_no_standard_input(self):
         for words in ("", "type"):

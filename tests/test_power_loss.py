@@ -159,7 +159,7 @@ class BehindTheStart(Loads):
                 peer = self.console_at(Console(), close_after=5 + 2 * 62 + 13, takes_last=takes_last)
                 given = self.load(peer, "two-words.lda" + option)
                 self.is_so((given.status, given.out), (4, "sent 52 spent 0 verified 2 of 2\nend LineFailed\n"))
-                self.is_so(sorted(given.err.splitlines(True)), sorted([FAILED, LOOK_FIRST]))
+                self.is_so(given.err, FAILED + LOOK_FIRST)
                 self.is_so(peer.machine.starts, [0o1000] if takes_last else [])
                 self.holds(files)
                 if files:

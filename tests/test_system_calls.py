@@ -319,7 +319,7 @@ class Steps(Calls):
         """It is as good as any. Written over it would say a third word, up to the cut: it stays as it is, and nothing is typed."""
         text, calls = "LDAODT 2\n001000 011064\n001002 000000\n", []
         given, line = self.load_over(text, lambda call: calls.append(call.name))
-        self.ends(given, 4, "", fault("cannot write a.record", errno.EIO))
+        self.ends(given, 4, "", NO_RECORD)
         self.is_so((bytes_of(self.path("b.record")).decode(), line.machine.typed, line.connections), (text, "", 0))
         self.is_so([it for it in calls if it in ("connect", "ftruncate", *SYNCS, *RENAMES)], [])
 

@@ -87,7 +87,7 @@ class Left(Part):
             with self.subTest(number):
                 line = self.machine(SlowEnd)
                 before = list(line.machine.words)
-                process = self.begin(line, SAVE)
+                process = self.begin(self.words_of(line, SAVE))
                 self.until(lambda: len(line.machine.typed) > 8 * 270)
                 process.send_signal(number)
                 self.is_so(process.wait(), -number)
@@ -102,7 +102,7 @@ class Left(Part):
     def test_before_the_first_block(self):
         """There is room, and nothing in it."""
         line = self.machine(SlowBegin)
-        process = self.begin(line, SAVE)
+        process = self.begin(self.words_of(line, SAVE))
         self.until(lambda: len(line.machine.typed) > 8 * 20)
         self.is_left(0)
         self.is_so(self.part(), bytes(ROOM))
@@ -113,7 +113,7 @@ class Left(Part):
     def test_the_block_is_there_with_its_last_word(self):
         """As soon as the next word is asked for."""
         line = self.machine(SlowEnd)
-        self.begin(line, SAVE)
+        self.begin(self.words_of(line, SAVE))
         self.until(lambda: len(line.machine.typed) > 1 + 8 * 257)
         self.is_so(self.part()[:BLOCK], TAPE[:BLOCK])
 
@@ -227,7 +227,7 @@ class GoesOn(Part):
         """The second is refused, and takes nothing."""
         self.leave()
         line, other = self.machine(SlowBegin), self.machine()
-        process = self.begin(line, SAVE)
+        process = self.begin(self.words_of(line, SAVE))
         self.until(lambda: len(line.machine.typed) > 20)
         self.ends(self.look(other, SAVE), 4, "", "ldaodt: a.lda.part is there already\n")
         self.is_so(other.connections, 0)
@@ -278,7 +278,7 @@ class GoesOn(Part):
     def test_a_line_that_fails_in_the_looks(self):
         self.leave()
         line = self.device_at(SlowBegin(memory=as_memory(0o1000, WORDS)))
-        process = self.begin(line, SAVE)
+        process = self.begin(self.words_of(line, SAVE))
         self.until(lambda: len(line.machine.typed) > 20)
         line.hang_up()
         out, err = process.communicate(timeout=60)
@@ -306,7 +306,7 @@ class Ended(Part):
     def test_a_line_that_fails(self):
         """Behind the first block."""
         line = self.device_at(SlowEnd(memory=as_memory(0o1000, WORDS)))
-        process = self.begin(line, SAVE)
+        process = self.begin(self.words_of(line, SAVE))
         self.until(lambda: len(line.machine.typed) > 8 * 270)
         line.hang_up()
         out, err = process.communicate(timeout=60)
@@ -322,7 +322,7 @@ class Ended(Part):
     def test_a_file_that_somebody_makes_meanwhile(self):
         """It is as it was, and the part stays, with the whole tape in it."""
         line = self.machine(SlowEnd)
-        process = self.begin(line, SAVE)
+        process = self.begin(self.words_of(line, SAVE))
         self.until(lambda: len(line.machine.typed) > 8 * 270)
         self.put("a.lda", b"hello")
         out, err = process.communicate(timeout=120)
@@ -331,7 +331,7 @@ class Ended(Part):
 
     def test_two_saves_of_one_name(self):
         line, other = self.machine(SlowBegin), self.machine()
-        process = self.begin(line, SAVE)
+        process = self.begin(self.words_of(line, SAVE))
         self.until(lambda: len(line.machine.typed) > 20)
         self.ends(self.look(other, SAVE), 4, "", "ldaodt: a.lda.part is there already\n")
         self.is_so(other.connections, 0)
@@ -344,12 +344,13 @@ class Ended(Part):
         def trial(size):
             line = self.machine()
             given = self.look(line, SAVE.replace("a.lda", f"a.lda{size}"), file_size=size)
-            return size, given, line.machine.typed
+            left = self.are_there() & {f"a.lda{size}", f"a.lda{size}.part"}
+            return size, given, line.machine.typed, left
 
         with ThreadPoolExecutor(8) as pool:
-            for size, given, typed in pool.map(trial, (0, 1, 2, 511, 512, BLOCK, BLOCK + 7, ROOM - 2, ROOM - 1)):
+            for size, given, typed, left in pool.map(trial, (0, 1, 2, 511, 512, BLOCK, BLOCK + 7, ROOM - 2, ROOM - 1)):
                 self.ends(given, 4, "", fault(f"cannot write a.lda{size}", errno.EFBIG))
-                self.is_so((typed, self.are_there()), ("", set()))
+                self.is_so((typed, left), ("", set()))
         self.ends(self.look(self.machine(), SAVE, file_size=ROOM), 0, SAVED)
 
 

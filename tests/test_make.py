@@ -225,7 +225,8 @@ class Words(Makes):
             self.is_made(b"\n".join(b"%06o/%06o" % (0o1000 + 2 * number, it) for number, it in enumerate(words)))
 
     def test_all_of_memory(self):
-        self.is_made(b"0 " + b"177777 " * 28672)
+        for behind in (b" ", b"/"):
+            self.is_made(b"0" + behind + b"177777 " * 28672)
         self.is_made(b"".join(b"%o %o\n" % (address, address) for address in range(0, MEMORY_END, 2)))
         self.is_made(b"".join(b"%o 1\n" % address for address in range(0, MEMORY_END, 4)))
 

@@ -33,7 +33,3 @@ mod scarce_calls;
 mod scarce_loads;
 #[cfg(test)]
 mod scarce_requests;
-#[cfg(test)]
-mod told_consoles;
-#[cfg(test)]
-mod told_system;

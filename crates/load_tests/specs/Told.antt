@@ -1,6 +1,8 @@
 -- What a bench, a record and a tape tell of which the disk tells what it was asked.
 use Rattle.std.specs.Prelude.{◌≡◌, ◌⊎◌, ℕ, List, [], ◌++◌, Option, Some, None}
 use Rattle.machine_load.specs.Load.{Setting}
+use Rattle.honest_line.specs.LineTable.{LineValue}
+use Rattle.load_devices.specs.declared.line.Line.{Ghosts as Line}
 use Rattle.load_devices.specs.Told.{HasAsked}
 use Rattle.machine_load.specs.RecordDisk.{RecordDisk, FileKnown, IsClosedAfter}
 use Rattle.machine_look.specs.declared.saving.SaveOptions.{SaveOptions}
@@ -14,6 +16,10 @@ use Rattle.record_file.specs.DiskStep.{DiskStep}
 -- a bench with this record, and a report
 abbrev pub bench_told : Option (List ℕ) → List ℕ → Setting
 bench_told text report = record { around = record { steps = None; record_text = text }; lines = None; out = Some report }
+
+-- what a line in memory tells
+abbrev pub memory_line : Line LineValue
+memory_line = record { told = λ line. Some line.items; fault_count = λ line. line.failures; last_fault = λ line. line.fault }
 
 -- a record of this name on a disk, and what is known of it
 abbrev pub record_told : Option (List DiskStep) → List ℕ → FileKnown → RecordDisk

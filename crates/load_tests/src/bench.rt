@@ -5,7 +5,7 @@ ghost use Rattle.machine_load.specs.Driving.{IsLoadReported};
 ghost use Rattle.machine_load.specs.Lives.{of_file};
 ghost use Rattle.machine_load.specs.Scene.{ending};
 ghost use Rattle.record_file.specs.RecordFault.{IsUnbegun};
-ghost use Rattle.load_tests.specs.Told.{bench_told};
+ghost use Rattle.load_tests.specs.Told.{bench_told, memory_line};
 
 use crate::disk_text::DiskText;
 use crate::memory_reach::MemoryReach;
@@ -121,7 +121,7 @@ pub(crate) fn load_once(
     report: &mut Vec<u8>,
 ) -> Result<Outcome<MemoryLine>, LoadFault>
     ensures lived { IfOk result (λ outcome. IsLoadReported of_file plan options (bench_told bench.old.keeper.text report.old.items)
-        (bench_told bench.new.keeper.text report.new.items) (ending MemoryLine.Line outcome)) }
+        (bench_told bench.new.keeper.text report.new.items) (ending memory_line outcome)) }
 {
     load(alloc, plan, options, bench, report, &Unwatched)
 }

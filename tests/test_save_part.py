@@ -417,7 +417,7 @@ class AtEachCall(Part):
                         if len(seen) == number:
                             os.kill(call.process, signal.SIGKILL)
                         seen.append(call.name)
-                        if call.name == "fsync" and call.file() == "a.lda.part" and len(seen) <= number:
+                        if len(seen) <= number and call.name == "fsync" and call.file() == "a.lda.part":
                             synced.append(call.name)
 
                 self.is_so(self.ask(before)[1] is None, True)

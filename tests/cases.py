@@ -344,8 +344,8 @@ class Case(unittest.TestCase):
 
 
 def as_closed(given):
-    """What came, with a line that was broken taken for one that was closed."""
-    return repr(given).replace(LINE_FAILED["receive"], LINE_FAILED["closed"])
+    """What came, with a line that was broken, or took no key any more, taken for one that was closed."""
+    return repr(given).replace(LINE_FAILED["receive"], LINE_FAILED["closed"]).replace(LINE_FAILED["send"], LINE_FAILED["closed"])
 
 
 PROCESSES = 4

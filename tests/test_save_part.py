@@ -88,7 +88,7 @@ class Left(Part):
                 line = self.machine(SlowEnd)
                 before = list(line.machine.words)
                 process = self.begin(self.words_of(line, SAVE))
-                self.until(lambda: len(line.machine.typed) > 8 * 270)
+                self.until(lambda: len(line.machine.typed) > 8 * 260)
                 process.send_signal(number)
                 self.is_so(process.wait(), -number)
                 line.settle()

@@ -6,6 +6,7 @@ import os
 import pty
 import re
 import shutil
+import signal
 import socket
 import subprocess
 import sys
@@ -243,8 +244,10 @@ class Case(unittest.TestCase):
         return run(words, keys, cwd=self.room, seconds=300, **more)
 
     def begin(self, words):
-        """Begins a run of the program in the test's folder, which the test then meets on its way, and which ends with it."""
-        process = subprocess.Popen([PROGRAM, *words], cwd=self.room, stdin=subprocess.DEVNULL, stdout=subprocess.PIPE, stderr=subprocess.PIPE, text=True)
+        """Begins a run of the program in the test's folder, which the test then meets on its way, and which ends with it. It heeds
+        Ctrl-C, which a gate in the background does not."""
+        process = subprocess.Popen([PROGRAM, *words], cwd=self.room, stdin=subprocess.DEVNULL, stdout=subprocess.PIPE, stderr=subprocess.PIPE, text=True,
+                                   preexec_fn=lambda: signal.signal(signal.SIGINT, signal.SIG_DFL))
         self.addCleanup(self.let_go, process)
         return process
 

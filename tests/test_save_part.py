@@ -71,6 +71,17 @@ class Part(Looks):
         self.ends(given, 0, report)
         self.is_so((self.are_there(), bytes_of(self.path("a.lda"))), ({"a.lda"}, TAPE))
 
+    def refuses_a_second(self, report):
+        """A save goes to its end and reports this, while a second one of the same name is refused."""
+        line, other = self.machine(SlowBegin), self.machine()
+        process = self.begin(self.words_of(line, SAVE))
+        self.until(lambda: len(line.machine.typed) > 20)
+        self.ends(self.look(other, SAVE), 4, "", "ldaodt: a.lda.part is there already\n")
+        self.is_so(other.connections, 0)
+        out, err = process.communicate(timeout=120)
+        self.is_so((process.returncode, out, err), (0, report, ""))
+        self.is_so((self.are_there(), bytes_of(self.path("a.lda"))), ({"a.lda"}, TAPE))
+
     def is_left(self, blocks):
         """FILE.part is there, as long as the whole tape, with so many complete blocks in front, and no FILE."""
         self.is_so(self.are_there(), {"a.lda.part"})
@@ -226,14 +237,7 @@ class GoesOn(Part):
     def test_two_that_go_on(self):
         """The second is refused, and takes nothing."""
         self.leave()
-        line, other = self.machine(SlowBegin), self.machine()
-        process = self.begin(self.words_of(line, SAVE))
-        self.until(lambda: len(line.machine.typed) > 20)
-        self.ends(self.look(other, SAVE), 4, "", "ldaodt: a.lda.part is there already\n")
-        self.is_so(other.connections, 0)
-        out, err = process.communicate(timeout=120)
-        self.is_so((process.returncode, out, err), (0, WENT_ON, ""))
-        self.is_so((self.are_there(), bytes_of(self.path("a.lda"))), ({"a.lda"}, TAPE))
+        self.refuses_a_second(WENT_ON)
 
     def test_a_console_that_is_not_there(self):
         """The part stays, where there is a block in it."""
@@ -330,14 +334,7 @@ class Ended(Part):
         self.is_so((bytes_of(self.path("a.lda")), self.part()), (b"hello", TAPE))
 
     def test_two_saves_of_one_name(self):
-        line, other = self.machine(SlowBegin), self.machine()
-        process = self.begin(self.words_of(line, SAVE))
-        self.until(lambda: len(line.machine.typed) > 20)
-        self.ends(self.look(other, SAVE), 4, "", "ldaodt: a.lda.part is there already\n")
-        self.is_so(other.connections, 0)
-        out, err = process.communicate(timeout=120)
-        self.is_so((process.returncode, out, err), (0, SAVED, ""))
-        self.is_so((self.are_there(), bytes_of(self.path("a.lda"))), ({"a.lda"}, TAPE))
+        self.refuses_a_second(SAVED)
 
     def test_a_disk_that_is_full(self):
         """A file may have so many bytes. With fewer than the whole tape has, nothing is typed and nothing left."""

@@ -28,3 +28,19 @@ attempted request before asked held last (Err failure) status prints p ok err qu
       (subst (λ (e : StandardError). IsToldWithReason (is_unheard prints held.unread failure) e last.err failure) quiet end.1));
   status_is = end.2;
 })
+
+-- what a request came to, before it is told of
+pub record CameTo (request : Request) (before : Moment) (came : SystemAsked × Result Status Failure) (held : Held) : Type 0 where
+  pub ok : IfOk came.1 (IsDone request before (moment came.0 held))
+  pub err : IfErr came.1 (IsFailed request before (moment came.0 held))
+  pub quiet : held.err ≡ before.held.err
+
+-- so it did where a command came to it
+pub came_to : (request : Request) (before : Moment) (came command : SystemAsked × Result Status Failure) (held streams : Held) → came ≡ command → held ≡ streams
+    → CameTo request before command streams → CameTo request before came held
+came_to request before came command held streams same is so =
+    subst (λ c. CameTo request before c held) (sym same) (subst (CameTo request before command) (sym is) so)
+
+pub told : (request : Request) (before : Moment) (came : SystemAsked × Result Status Failure) (held last : Held) (status : Status) (prints : Bool)
+    → prints ≡ only_prints request → CameTo request before came held → IsEndOf prints came.1 held last status → IsAttempted request before (moment came.0 last) status
+told request before came held last status prints p so end = attempted request before came.0 held last came.1 status prints p so.ok so.err so.quiet end

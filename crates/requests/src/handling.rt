@@ -46,51 +46,28 @@ pub fn attempt<K: Kinds, R: Read, W: Output, E: FaultOutput, T: Print>(
     ensures { IsAttempted request.now (moment system streams.old) (moment result.0 streams.new) result.1 }
 {
     let only_prints = request.only_prints();
-    match request {
+    let (system, outcome) = match request {
         Request::Tape(request) => {
             let outcome = print_answer(&mut system.inputs, alloc, request, streams);
-            (
-                system,
-                end(alloc, only_prints, outcome, streams, terminal, witness),
-            )
+            (system, outcome)
         }
-        Request::Make(make) => {
-            let (system, outcome) = make_words(system, alloc, *make, streams);
-            (
-                system,
-                end(alloc, only_prints, outcome, streams, terminal, witness),
-            )
-        }
+        Request::Make(make) => make_words(system, alloc, *make, streams),
         Request::Machine(MachineRequest::Load(names, load)) => {
-            let (system, outcome) = load_tapes(system, alloc, names, *load, streams, terminal);
-            (
-                system,
-                end(alloc, only_prints, outcome, streams, terminal, witness),
-            )
+            load_tapes(system, alloc, names, *load, streams, terminal)
         }
         Request::Machine(MachineRequest::Verify(names, look)) => {
-            let (system, outcome) = verify_tapes(system, alloc, names, *look, streams, terminal);
-            (
-                system,
-                end(alloc, only_prints, outcome, streams, terminal, witness),
-            )
+            verify_tapes(system, alloc, names, *look, streams, terminal)
         }
         Request::Machine(MachineRequest::Save(save)) => {
-            let (system, outcome) = save_words(system, alloc, *save, streams, terminal);
-            (
-                system,
-                end(alloc, only_prints, outcome, streams, terminal, witness),
-            )
+            save_words(system, alloc, *save, streams, terminal)
         }
         Request::Machine(MachineRequest::Probe(probe)) => {
             say_probing(terminal);
-            let (system, outcome) = probe_console(system, alloc, *probe, streams);
-            (
-                system,
-                end(alloc, only_prints, outcome, streams, terminal, witness),
-            )
+            probe_console(system, alloc, *probe, streams)
         }
-    }
+    };
+    let status = end(alloc, only_prints, outcome, streams, terminal, witness);
+    (system, status)
 }
 
 // The status that a request ends with which came to this: where it failed, that is told on standard error, if

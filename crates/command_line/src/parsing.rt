@@ -1,7 +1,7 @@
 //! Words become a request, as the plain values say where one is not given.
-ghost use Rattle.std.specs.Prelude.{◌≡◌, ◌≢◌, [], IfOk};
+ghost use Rattle.std.specs.Prelude.{◌≡◌, [], IfOk};
 ghost use Rattle.clap.specs.Matches.{found_of};
-ghost use Rattle.command_line.specs.Options.{SaysLoad, IsLookOf, IsMachineRequestOf, IsMakeOf, IsTapeRequestOf};
+ghost use Rattle.command_line.specs.Options.{SaysLoad, IsAskedBy, IsFound, IsLookOf, IsMachineRequestOf, IsMakeOf, IsTapeRequestOf};
 
 use crate::addresses::{probed_of, range_of, saved_start_of, start_of};
 use crate::commands::known_words;
@@ -30,7 +30,7 @@ const PLAIN_QUIET: u16 = 2000;
 /// Reads the words after the program's name. Without any the tape on standard input is to be checked.
 pub fn parse<'a>(alloc: Global, words: &'a [String]) -> Result<Request<'a>, NoRequest>
     ensures none { words.now ≡ [] → result ≡ Ok (Request.Tape TapeRequest.CheckInput) }
-    ensures some { IfOk result (λ request. request ≡ Request.Tape TapeRequest.CheckInput → words.now ≡ []) }
+    ensures some { IfOk result (IsAskedBy (words.now ≡ [])) }
 {
     let Some(first) = words.first() else {
         return Ok(Request::Tape(TapeRequest::CheckInput));
@@ -60,7 +60,7 @@ fn refusal_of(alloc: Global, words: &[String]) -> Option<NoRequest> {
 
 // What words ask for, of which this is the first.
 fn read<'a>(alloc: Global, first: &str, words: &'a [String]) -> Result<Request<'a>, NoRequest>
-    ensures { IfOk result (λ request. request ≢ Request.Tape TapeRequest.CheckInput) }
+    ensures { IfOk result IsFound }
 {
     match known_words(alloc)?.try_get_matches_from(words) {
         Ok(matches) => request_of(alloc, &matches),
@@ -70,7 +70,7 @@ fn read<'a>(alloc: Global, first: &str, words: &'a [String]) -> Result<Request<'
 
 // What the parsed words ask for, where there were any.
 fn request_of<'a>(alloc: Global, matches: &ArgMatches<'a>) -> Result<Request<'a>, NoRequest>
-    ensures { IfOk result (λ request. request ≢ Request.Tape TapeRequest.CheckInput) }
+    ensures { IfOk result IsFound }
 {
     match matches.subcommand() {
         Some(("load", found)) => Ok(Request::Machine(loading_of(alloc, found)?)),
@@ -169,8 +169,7 @@ fn making_of<'a>(alloc: Global, found: &ArgMatches<'a>) -> Result<Make<'a>, NoRe
 
 // The check of tapes.
 fn checking_of<'a>(alloc: Global, found: &ArgMatches<'a>) -> Result<TapeRequest<'a>, NoRequest>
-    ensures value { IfOk result (IsTapeRequestOf (found_of found.now)) }
-    ensures some { IfOk result (λ request. request ≢ TapeRequest.CheckInput) }
+    ensures { IfOk result (IsTapeRequestOf (found_of found.now)) }
 {
     let blocks = found.get_flag(BLOCKS);
     Ok(TapeRequest::Check(tapes_of(alloc, found)?, CheckOptions { blocks }))
@@ -178,8 +177,7 @@ fn checking_of<'a>(alloc: Global, found: &ArgMatches<'a>) -> Result<TapeRequest<
 
 // The dialogue of tapes with a console.
 fn dialogue_of<'a>(alloc: Global, found: &ArgMatches<'a>) -> Result<TapeRequest<'a>, NoRequest>
-    ensures value { IfOk result (IsTapeRequestOf (found_of found.now)) }
-    ensures some { IfOk result (λ request. request ≢ TapeRequest.CheckInput) }
+    ensures { IfOk result (IsTapeRequestOf (found_of found.now)) }
 {
     let console = console_of(found)?;
     let start = start_of(alloc, found)?;
@@ -189,8 +187,7 @@ fn dialogue_of<'a>(alloc: Global, found: &ArgMatches<'a>) -> Result<TapeRequest<
 
 // The rehearsal of a tape, its script and further tapes.
 fn rehearsal_of<'a>(alloc: Global, found: &ArgMatches<'a>) -> Result<TapeRequest<'a>, NoRequest>
-    ensures value { IfOk result (IsTapeRequestOf (found_of found.now)) }
-    ensures some { IfOk result (λ request. request ≢ TapeRequest.CheckInput) }
+    ensures { IfOk result (IsTapeRequestOf (found_of found.now)) }
 {
     let tape = text_of(found, TAPE)?;
     let script = text_of(found, SCRIPT)?;

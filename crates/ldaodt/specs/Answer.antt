@@ -3,15 +3,13 @@ use Rattle.std.specs.Prelude.{◌≡◌, ◌⊎◌}
 use Rattle.requests.specs.Attempt.{IsAttempted}
 use Rattle.requests.specs.Moment.{Moment}
 use Rattle.request_values.specs.declared.request.Request.{Request}
-use Rattle.request_values.specs.declared.request.Request.TheVariants.{Tape}
-use Rattle.request_values.specs.declared.request.TapeRequest.TheVariants.{CheckInput}
 use Rattle.endings.specs.declared.status.Status.{Status}
 use Rattle.command_line.specs.declared.no_request.NoRequest.{NoRequest}
 use Rattle.command_line.specs.Explanation.{IsExplained}
+use Rattle.command_line.specs.Options.{IsAskedBy}
 
--- something was asked for and attempted, the check of the input only where there were no words; or the words were explained, and nothing was
--- asked of the system
+-- what the words ask for was attempted; or the words were explained, and nothing was asked of the system
 abbrev pub IsAnswered : Type 0 → Moment → Moment → Status → Type 0
 IsAnswered no_words before after ended =
-    ((request : Request) × ((request ≡ Tape CheckInput → no_words) × IsAttempted request before after ended))
+    ((request : Request) × IsAskedBy no_words request × IsAttempted request before after ended)
     ⊎ ((answer : NoRequest) × IsExplained answer before.held after.held ended × (after.asked ≡ before.asked))

@@ -36,8 +36,7 @@ pub(crate) fn program<K: Kinds, R: Read, W: Output, E: FaultOutput, T: Print>(
     ensures checked { words.now ≡ [] → (status : Status)
         × IsAttempted (Request.Tape TapeRequest.CheckInput) (moment system streams.old) (moment result.0 streams.new) status
         × (result.1 ≡ status_code status) }
-    // Whatever the words are, they ask for something that is then attempted, or they are explained. Only where
-    // there are none, the input is checked.
+    // Whatever the words are, what they ask for is attempted, or they are explained.
     ensures answered { (status : Status)
         × IsAnswered (words.now ≡ []) (moment system streams.old) (moment result.0 streams.new) status × (result.1 ≡ status_code status) }
 {

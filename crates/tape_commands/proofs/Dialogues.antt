@@ -1,4 +1,5 @@
 -- A load on a line that loses nothing, event by event, and what is written of it.
+use Rattle.command_io.specs.Change.{◌⇒◌}
 use Rattle.std.proofs.Common.{◌≡◌, ◌<◌, List, [], ◌∷◌, ◌++◌, ℕ, Option, Some, None, IsSome, replicate, false, refl, sym, ap, ◌∙◌, subst, inl, inr, arith, codes, append_assoc, append-nil}
 use Rattle.std.specs.Prelude.{slice_get, length, is_some}
 use Rattle.std.specs.List.{slice_range, flat_map}
@@ -8,9 +9,8 @@ use Rattle.std.proofs.Math.Seq.{drop-append_seam}
 use Rattle.std.proofs.KnownBytes.{Appends-nil, Appends-trans}
 use Rattle.std.specs.Io.KnownBytes.{Appends, Keeps}
 use Rattle.tape_values.specs.Tape.{TapeValue}
-use Rattle.tape_image.specs.declared.start.Start.{Start}
+use Rattle.request_values.specs.declared.request.Stage.{Stage}
 use Rattle.tape_image.specs.Plan.{PlanValue, plan_of_all, starting}
-use Rattle.odt_machine.specs.declared.style.Style.{Style}
 use Rattle.odt_machine.specs.Machine.{Machine, IsMachine}
 use Rattle.odt_machine.specs.KeyTable.{take_of}
 use Rattle.host_core.specs.declared.phase.End.{End}
@@ -76,7 +76,7 @@ clean_none w end (event ∷ more) is clean = absurd (let none = clean.0 in cc)
 
 -- the next event of a clean line, told
 pub conversation_more : (start w next : Scene) (exchange noted : Exchange) (before between now : Option (List ℕ)) → ended w.core.phase ≡ None → next ≡ happens w (first_event w)
-    → ((gathered : List Answered) → Gathers gathered exchange → Notes gathered (answered_in w (first_event w)) noted between now)
+    → ((gathered : List Answered) → Gathers gathered exchange → Notes gathered (answered_in w (first_event w)) noted (between ⇒ now))
     → Conversation start w exchange before between → Conversation start next noted before now
 conversation_more start w next exchange noted before between now on is notes so =
     let more = notes so.gathered so.gathers in
@@ -129,7 +129,7 @@ conversation_unfinished start w end exchange before between now so is front all 
 
 -- the end, and the line under way with it
 pub conversation_ends : (start w : Scene) (end : End) (exchange : Exchange) (before between now : Option (List ℕ)) → Conversation start w exchange before between → ended w.core.phase ≡ Some end
-    → ((held : List Answered) → Holds held exchange → Appends between now (last_line held)) → Talks start w end before now
+    → ((held : List Answered) → Holds held exchange → Appends between now (last_line held)) → Talks (start ⇒ w) end (before ⇒ now)
 conversation_ends start w end exchange before between now so is finished =
     let all = so.goes [] (subst (λ o. IsSome o) (sym is) refl) in
     let text : key_text (answered_keys start all.0) ≡ so.told ++ last_line so.gathered =
@@ -176,28 +176,28 @@ answered_next w next key waiting up answer first is waiting_is up_is answer_is =
     one.1 ∙ ap (λ a. a ∷ []) (answered_is one.0 key answer one.2 (sym behind ∙ sym answer_is))
 
 -- the world of a dialogue, from its parts
-pub opens_dialogue : (words : ℕ) (style : Style) (start : Start) (tapes opened_tapes known : List TapeValue) (plan : PlanValue) (odt : Machine) (world : Scene) (waiting : List ℕ)
-    → opened_tapes ≡ tapes → tapes ≡ known → plan ≡ starting (plan_of_all opened_tapes) start → odt ≡ machine_of style (replicate words 0) → waiting ≡ []
-    → world ≡ opened odt (begun plan 0 false dialogue_patience) waiting → world ≡ dialogue_opening known words style start
-opens_dialogue words style start tapes opened_tapes known plan odt world waiting same is plan_is odt_is waits world_is =
+pub opens_dialogue : (stage : Stage) (tapes opened_tapes known : List TapeValue) (plan : PlanValue) (odt : Machine) (world : Scene) (waiting : List ℕ)
+    → opened_tapes ≡ tapes → tapes ≡ known → plan ≡ starting (plan_of_all opened_tapes) stage.start → odt ≡ machine_of stage.console.style (replicate stage.console.words 0) → waiting ≡ []
+    → world ≡ opened odt (begun plan 0 false dialogue_patience) waiting → world ≡ dialogue_opening known stage
+opens_dialogue stage tapes opened_tapes known plan odt world waiting same is plan_is odt_is waits world_is =
     world_is ∙ ap (λ m. opened m (begun plan 0 false dialogue_patience) waiting) odt_is
-    ∙ ap (λ ws. opened (machine_of style (replicate words 0)) (begun plan 0 false dialogue_patience) ws) waits
-    ∙ ap (λ p. opened (machine_of style (replicate words 0)) (begun p 0 false dialogue_patience) []) plan_is
-    ∙ ap (λ ts. dialogue_opening ts words style start) (same ∙ is)
+    ∙ ap (λ ws. opened (machine_of stage.console.style (replicate stage.console.words 0)) (begun plan 0 false dialogue_patience) ws) waits
+    ∙ ap (λ p. opened (machine_of stage.console.style (replicate stage.console.words 0)) (begun p 0 false dialogue_patience) []) plan_is
+    ∙ ap (λ ts. dialogue_opening ts stage) (same ∙ is)
 
 -- no tapes were taken
-pub tapes_fault : (inputs rests : List (Option (List ℕ))) (out : Option (List ℕ)) (words : ℕ) (style : Style) (start : Start) (why : CommandFault) → Keeps out out → AreTapesFault inputs rests why → IsDialogueFault inputs rests out out words style start why
-tapes_fault inputs rests out words style start (fault.Tape number refusal) keeps failed = (failed, keeps)
-tapes_fault inputs rests out words style start (fault.ReadTape number) keeps failed = (failed, keeps)
-tapes_fault inputs rests out words style start fault.Memory keeps failed = inl keeps
-tapes_fault inputs rests out words style start other keeps failed = absurd failed
+pub tapes_fault : (inputs rests : List (Option (List ℕ))) (out : Option (List ℕ)) (stage : Stage) (why : CommandFault) → Keeps out out → AreTapesFault inputs rests why → IsDialogueFault (inputs ⇒ rests) stage (out ⇒ out) why
+tapes_fault inputs rests out stage (fault.Tape number refusal) keeps failed = (failed, keeps)
+tapes_fault inputs rests out stage (fault.ReadTape number) keeps failed = (failed, keeps)
+tapes_fault inputs rests out stage fault.Memory keeps failed = inl keeps
+tapes_fault inputs rests out stage other keeps failed = absurd failed
 
 -- no machine was made
-pub machine_fault : (inputs rests : List (Option (List ℕ))) (out : Option (List ℕ)) (words : ℕ) (style : Style) (start : Start) (why : CommandFault) → AreAllTaken inputs rests → Keeps out out → IsMachineFault words why
-    → IsDialogueFault inputs rests out out words style start why
-machine_fault inputs rests out words style start fault.TooLarge taken keeps failed = (taken, failed, keeps)
-machine_fault inputs rests out words style start fault.Memory taken keeps failed = inl keeps
-machine_fault inputs rests out words style start other taken keeps failed = absurd failed
+pub machine_fault : (inputs rests : List (Option (List ℕ))) (out : Option (List ℕ)) (stage : Stage) (why : CommandFault) → AreAllTaken inputs rests → Keeps out out → IsMachineFault stage.console.words why
+    → IsDialogueFault (inputs ⇒ rests) stage (out ⇒ out) why
+machine_fault inputs rests out stage fault.TooLarge taken keeps failed = (taken, failed, keeps)
+machine_fault inputs rests out stage fault.Memory taken keeps failed = inl keeps
+machine_fault inputs rests out stage other taken keeps failed = absurd failed
 
 some_report : (counts end mode words : List ℕ) → 0 < length (((line counts ++ end) ++ mode) ++ words)
 some_report counts end mode words = omega (arith, length-append ((line counts ++ end) ++ mode) words, length-append (line counts ++ end) mode, length-append (line counts) end, length-append counts (10 ∷ []))
@@ -208,28 +208,28 @@ report_some w =
     some_report (life_text w) (line (codes "end " ++ end_text (ended w.core.phase))) (line (codes "odt " ++ mode_name w.machine.mode))
     (flat_map (λ word. line (held_word_text w.machine.memory word)) w.core.plan.words)
 
-module _ (inputs rests : List (Option (List ℕ))) (words : ℕ) (style : Style) (start : Start) (tapes : List TapeValue) (layouts : List Layout) (are : AreTapes inputs rests tapes layouts) (world : Scene)
-    (opens : world ≡ dialogue_opening (tapes_of are.texts) words style start) where
+module _ (inputs rests : List (Option (List ℕ))) (stage : Stage) (tapes : List TapeValue) (layouts : List Layout) (are : AreTapes inputs rests tapes layouts) (world : Scene)
+    (opens : world ≡ dialogue_opening (tapes_of are.texts) stage) where
   -- the text of a run from there
-  text_is : (last : Scene) (end : End) (run : RunsTo world last end) → IsDialogueText inputs rests words style start end (key_text (answered_keys world run.events) ++ report last)
+  text_is : (last : Scene) (end : End) (run : RunsTo world last end) → IsDialogueText (inputs ⇒ rests) stage end (key_text (answered_keys world run.events) ++ report last)
   text_is last end run =
-      subst (λ v. (r : RunsTo v last end) → IsDialogueText inputs rests words style start end (key_text (answered_keys v r.events) ++ report last)) (sym opens)
+      subst (λ v. (r : RunsTo v last end) → IsDialogueText (inputs ⇒ rests) stage end (key_text (answered_keys v r.events) ++ report last)) (sym opens)
       (λ r. record { texts = are.texts; taken = are.taken; last = last; run = r; told = refl }) run
 
-  kept : IsMachine (machine_of style (replicate words 0)) → IsHost world.core → IsKept world
+  kept : IsMachine (machine_of stage.console.style (replicate stage.console.words 0)) → IsHost world.core → IsKept world
   kept machine host =
       subst IsKept (sym opens)
-      (opening_kept (machine_of style (replicate words 0)) (starting (plan_of_all (tapes_of are.texts)) start) 0 dialogue_patience [] machine (subst (λ (w : Scene). IsHost w.core) opens host) (omega arith) refl (λ i below. absurd (omega arith)))
+      (opening_kept (machine_of stage.console.style (replicate stage.console.words 0)) (starting (plan_of_all (tapes_of are.texts)) stage.start) 0 dialogue_patience [] machine (subst (λ (w : Scene). IsHost w.core) opens host) (omega arith) refl (λ i below. absurd (omega arith)))
 
   -- the conversation stopped
-  pub stopped_in_talk : (odt : Machine) (before now : Option (List ℕ)) (why : CommandFault) → odt ≡ machine_of style (replicate words 0) → IsMachine odt → IsHost world.core → IsTalkFault why
-      → ((events : List Event) → IsCleanRun world events → WritesPrefix before now (key_text (answered_keys world events))) → IsDialogueFault inputs rests before now words style start why
+  pub stopped_in_talk : (odt : Machine) (before now : Option (List ℕ)) (why : CommandFault) → odt ≡ machine_of stage.console.style (replicate stage.console.words 0) → IsMachine odt → IsHost world.core → IsTalkFault why
+      → ((events : List Event) → IsCleanRun world events → WritesPrefix before now (key_text (answered_keys world events))) → IsDialogueFault (inputs ⇒ rests) stage (before ⇒ now) why
   stopped_in_talk odt before now why odt_is machine host talk front = told why talk
     where
       ends : ComesToEnd world
       ends = comes_to_end world (kept (subst IsMachine odt_is machine) host)
 
-      part : IsDialogueInPart inputs rests before now words style start
+      part : IsDialogueInPart (inputs ⇒ rests) stage (before ⇒ now)
       part = record {
         end = ends.end;
         text = key_text (answered_keys world ends.run.events) ++ report ends.last;
@@ -237,13 +237,13 @@ module _ (inputs rests : List (Option (List ℕ))) (words : ℕ) (style : Style)
         written = prefix_longer before now (key_text (answered_keys world ends.run.events)) (report ends.last) (report_some ends.last) (front ends.run.events ends.run.clean);
       }
 
-      told : (other : CommandFault) → IsTalkFault other → IsDialogueFault inputs rests before now words style start other
+      told : (other : CommandFault) → IsTalkFault other → IsDialogueFault (inputs ⇒ rests) stage (before ⇒ now) other
       told fault.Write talk = part
       told fault.Memory talk = inr part
       told other talk = absurd talk
 
   -- the report was not made
-  no_report : (last : Scene) (end : End) (before now : Option (List ℕ)) → Talks world last end before now → IsDialogueInPart inputs rests before now words style start
+  no_report : (last : Scene) (end : End) (before now : Option (List ℕ)) → Talks (world ⇒ last) end (before ⇒ now) → IsDialogueInPart (inputs ⇒ rests) stage (before ⇒ now)
   no_report last end before now talks = record {
     end = end;
     text = key_text (answered_keys world talks.run.events) ++ report last;
@@ -252,7 +252,7 @@ module _ (inputs rests : List (Option (List ℕ))) (words : ℕ) (style : Style)
   }
 
   -- the report was written in part
-  report_in_part : (last : Scene) (end : End) (before between now : Option (List ℕ)) → Talks world last end before between → WritesProperPrefix between now (report last) → IsDialogueInPart inputs rests before now words style start
+  report_in_part : (last : Scene) (end : End) (before between now : Option (List ℕ)) → Talks (world ⇒ last) end (before ⇒ between) → WritesProperPrefix between now (report last) → IsDialogueInPart (inputs ⇒ rests) stage (before ⇒ now)
   report_in_part last end before between now talks written = record {
     end = end;
     text = key_text (answered_keys world talks.run.events) ++ report last;
@@ -261,13 +261,13 @@ module _ (inputs rests : List (Option (List ℕ))) (words : ℕ) (style : Style)
   }
 
   -- the report was not written whole
-  pub report_failed : (last : Scene) (end : End) (before between now : Option (List ℕ)) (why : CommandFault) → Talks world last end before between → IsReportFault between now (report last) why → IsDialogueFault inputs rests before now words style start why
+  pub report_failed : (last : Scene) (end : End) (before between now : Option (List ℕ)) (why : CommandFault) → Talks (world ⇒ last) end (before ⇒ between) → IsReportFault between now (report last) why → IsDialogueFault (inputs ⇒ rests) stage (before ⇒ now) why
   report_failed last end before between now fault.Write talks failed = report_in_part last end before between now talks failed
-  report_failed last end before between now fault.Memory talks failed = inr (no_report last end before now (subst (Talks world last end before) (sym failed) talks))
+  report_failed last end before between now fault.Memory talks failed = inr (no_report last end before now (subst (λ between. Talks (world ⇒ last) end (before ⇒ between)) (sym failed) talks))
   report_failed last end before between now other talks failed = absurd failed
 
   -- all was written
-  pub dialogue_made : (last : Scene) (end : End) (before between now : Option (List ℕ)) → Talks world last end before between → Appends between now (report last) → IsDialogue inputs rests before now words style start end
+  pub dialogue_made : (last : Scene) (end : End) (before between now : Option (List ℕ)) → Talks (world ⇒ last) end (before ⇒ between) → Appends between now (report last) → IsDialogue (inputs ⇒ rests) stage (before ⇒ now) end
   dialogue_made last end before between now talks written = record {
     text = key_text (answered_keys world talks.run.events) ++ report last;
     is_text = text_is last end talks.run;

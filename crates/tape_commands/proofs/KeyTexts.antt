@@ -1,4 +1,5 @@
 -- Lines of keys: what is gathered, what ends a line, and what one more key adds.
+use Rattle.command_io.specs.Change.{◌⇒◌}
 use Rattle.std.proofs.Common.{◌≡◌, ℕ, ◌==◌, Bool, true, false, if◌then◌else◌, List, [], ◌∷◌, ◌++◌, length, map, Option, arith, refl, sym, ap, ◌∙◌, subst, append_assoc, append-nil, codes}
 use Rattle.std.proofs.Common.{Result, Ok, Err, OnOk, OnErr}
 use Rattle.std.specs.List.{flat_map, AllByRecursion}
@@ -73,14 +74,14 @@ some_more : (g : List Answered) (a : Answered) → g ++ a ∷ [] ≡ [] → ⊥
 some_more [] a none = cc
 some_more (x ∷ g) a none = cc
 
-pub none_noted : (g : List Answered) (now : Exchange) (before : Option (List ℕ)) → Gathers g now → Notes g [] now before before
+pub none_noted : (g : List Answered) (now : Exchange) (before : Option (List ℕ)) → Gathers g now → Notes g [] now (before ⇒ before)
 none_noted g now before gathers = record { told = []; left = g; gathers = gathers; written = Appends-nil before; text = λ more. refl }
 
 echoes_more : (g : List Answered) (a : Answered) → Echoes g → is_echo a ≡ true → Echoes (g ++ a ∷ [])
 echoes_more [] a echoes on = (on, tt)
 echoes_more (x ∷ g) a echoes on = (echoes.0, echoes_more g a echoes.1 on)
 
-pub echo_noted : (g : List Answered) (a : Answered) (now : Exchange) (before : Option (List ℕ)) → Holds (g ++ a ∷ []) now → Echoes g → is_echo a ≡ true → Notes g (a ∷ []) now before before
+pub echo_noted : (g : List Answered) (a : Answered) (now : Exchange) (before : Option (List ℕ)) → Holds (g ++ a ∷ []) now → Echoes g → is_echo a ≡ true → Notes g (a ∷ []) now (before ⇒ before)
 echo_noted g a now before holds echoes on = record {
   told = [];
   left = g ++ a ∷ [];
@@ -89,7 +90,7 @@ echo_noted g a now before holds echoes on = record {
   text = λ more. ap key_text (sym (append_assoc g (a ∷ []) more));
 }
 
-line_noted : (g : List Answered) (a : Answered) (now : Exchange) (before after : Option (List ℕ)) → Echoes g → is_echo a ≡ false → Appends before after (last_line (g ++ a ∷ [])) → Holds [] now → Notes g (a ∷ []) now before after
+line_noted : (g : List Answered) (a : Answered) (now : Exchange) (before after : Option (List ℕ)) → Echoes g → is_echo a ≡ false → Appends before after (last_line (g ++ a ∷ [])) → Holds [] now → Notes g (a ∷ []) now (before ⇒ after)
 line_noted g a now before after echoes off written holds = record {
   told = key_line (g ++ a ∷ []);
   left = [];
@@ -102,7 +103,7 @@ line_noted g a now before after echoes off written holds = record {
 pub line_ends : {T E : Type 0} (r : Result T E) (a : Answered) (old mid now : Exchange) (before after : Option (List ℕ))
     → OnOk r ((held : List Answered) → Holds held mid → Appends before after (last_line held) × Holds [] now)
     → mid.keys.items ≡ old.keys.items ++ shown (a.key ∷ []) → mid.answers.items ≡ old.answers.items ++ shown a.answer → is_echo a ≡ false
-    → OnOk r ((gathered : List Answered) → Gathers gathered old → Notes gathered (a ∷ []) now before after)
+    → OnOk r ((gathered : List Answered) → Gathers gathered old → Notes gathered (a ∷ []) now (before ⇒ after))
 line_ends (Err e) a old mid now before after finished keys answers off = tt
 line_ends (Ok x) a old mid now before after finished keys answers off = λ gathered gathers.
     let line = finished (gathered ++ a ∷ []) (holds_more gathered a old mid gathers.holds keys answers) in

@@ -1,4 +1,5 @@
 -- What a script's input says, by the bytes that were taken of it.
+use Rattle.command_io.specs.Change.{◌⇒◌}
 use Rattle.std.proofs.Common.{◌≡◌, ℕ, ◌<◌, ◌≤◌, ◌+◌, inl, inr, ⊎_elim, List, [], ◌++◌, length, Option, [], replicate, false, arith, ap, ◌∙◌, subst, append-nil}
 use Rattle.std.specs.Io.KnownBytes.{Keeps}
 use Rattle.std.proofs.lemmas.List.{length-append}
@@ -40,7 +41,7 @@ refused_input before after bytes read number taken same refused =
 
 -- what a rehearsal that was not played says of the inputs
 pub play_fault : (inputs rests : List (Option (List ℕ))) (script out : Option (List ℕ)) (played : Script) (why : CommandFault) → AreAllTaken inputs rests → IsScriptInput script played → Keeps out out
-    → IsPlayFault (replicate played.words 0) played.puts.items why → IsRehearseFault inputs rests script out out why
+    → IsPlayFault (replicate played.words 0) played.puts.items why → IsRehearseFault (inputs ⇒ rests) script (out ⇒ out) why
 play_fault inputs rests script out played (fault.Script number) taken is keeps refused =
     (taken, record { text = is.text; is_input = is.is_input; refused = inr (played, is.is_script, refused) }, keeps)
 play_fault inputs rests script out played fault.Memory taken is keeps refused = keeps
@@ -48,7 +49,7 @@ play_fault inputs rests script out played other taken is keeps refused = absurd 
 
 -- what a script that was not taken says of the inputs
 pub script_fault : (inputs rests : List (Option (List ℕ))) (script out : Option (List ℕ)) (why : CommandFault) → AreAllTaken inputs rests → Keeps out out → IsScriptInputFault script why
-    → IsRehearseFault inputs rests script out out why
+    → IsRehearseFault (inputs ⇒ rests) script (out ⇒ out) why
 script_fault inputs rests script out (fault.Script number) taken keeps refused = (taken, record { text = refused.0; is_input = refused.1; refused = inl refused.2 }, keeps)
 script_fault inputs rests script out fault.ReadScript taken keeps refused = (taken, keeps)
 script_fault inputs rests script out fault.Memory taken keeps refused = keeps
@@ -87,7 +88,7 @@ rehearsal_made tapes script plan odt put world last puts steps waiting start tol
 
 -- what the inputs say, and the text of it
 pub rehearsed : (inputs rests : List (Option (List ℕ))) (script_input : Option (List ℕ)) (tapes played : List TapeValue) (layouts : List Layout) (text : List ℕ) (script : Script)
-    → AreTapes inputs rests tapes layouts → played ≡ tapes → IsScriptInput script_input script → IsRehearsal played script text → IsRehearsed inputs rests script_input text
+    → AreTapes inputs rests tapes layouts → played ≡ tapes → IsScriptInput script_input script → IsRehearsal played script text → IsRehearsed (inputs ⇒ rests) script_input text
 rehearsed inputs rests script_input tapes played layouts text script are same is_script rehearsal = record {
   texts = are.texts;
   taken = are.taken;

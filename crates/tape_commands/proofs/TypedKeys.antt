@@ -1,4 +1,5 @@
 -- Typing goes on where it stopped.
+use Rattle.command_io.specs.Change.{◌⇒◌}
 use Rattle.std.proofs.Common.{◌≡◌, ◌≤◌, ◌+◌, ℕ, List, [], ◌∷◌, ◌++◌, Option, length, take, refl, sym, ap, subst, ◌∙◌, append_assoc, arith}
 use Rattle.std.proofs.lemmas.List.{length-append, take-append-le}
 use Rattle.std.proofs.KnownBytes.{Appends-trans, Consumes-kept, Consumes-trans}
@@ -19,8 +20,8 @@ answers_of-append (x ∷ xs) ys m =
     ∙ sym (append_assoc (take_of m (typed_key x)).answer (answers_of (after_key m (typed_key x)) xs) (answers_of (after_typing (after_key m (typed_key x)) xs) ys))
 
 -- a read that failed gave nothing
-pub so_far_kept : (input rest next : Option (List ℕ)) (machine after : Machine) (before written : Option (List ℕ)) (count : ℕ) → IsTypedSoFar input rest machine after before written count → Keeps rest next
-    → IsTypedSoFar input next machine after before written count
+pub so_far_kept : (input rest next : Option (List ℕ)) (machine after : Machine) (before written : Option (List ℕ)) (count : ℕ) → IsTypedSoFar (input ⇒ rest) (machine ⇒ after) (before ⇒ written) count → Keeps rest next
+    → IsTypedSoFar (input ⇒ next) (machine ⇒ after) (before ⇒ written) count
 so_far_kept input rest next machine after before written count so_far kept = record {
   keys = so_far.keys;
   typed = record {
@@ -44,7 +45,7 @@ module _ (input rest next : Option (List ℕ)) (machine mid after : Machine) (be
   is_given : Typed → take n given ≡ more
   is_given typed = sym (take-append-le n given tail typed.0)
 
-  typed_more : (keys : List ℕ) → length keys ≡ count → IsTyped input rest machine mid keys → Typed → IsTyped input next machine after (keys ++ more)
+  typed_more : (keys : List ℕ) → length keys ≡ count → IsTyped (input ⇒ rest) (machine ⇒ mid) keys → Typed → IsTyped (input ⇒ next) (machine ⇒ after) (keys ++ more)
   typed_more keys counted so_far typed = record {
     consumed = Consumes-trans input rest next keys more so_far.consumed (subst (Consumes rest next) (is_given typed) typed.2);
     within = let fits = typed.4 in let long = typed.1 ∙ ap length (is_given typed) in omega (arith, length-append keys more, long);
@@ -52,8 +53,8 @@ module _ (input rest next : Option (List ℕ)) (machine mid after : Machine) (be
   }
 
   -- the next characters typed and answered
-  pub so_far_more : IsTypedSoFar input rest machine mid before written count → Typed → Appends written now (answers_of mid more)
-      → IsTypedSoFar input next machine after before now (count + n)
+  pub so_far_more : IsTypedSoFar (input ⇒ rest) (machine ⇒ mid) (before ⇒ written) count → Typed → Appends written now (answers_of mid more)
+      → IsTypedSoFar (input ⇒ next) (machine ⇒ after) (before ⇒ now) (count + n)
   so_far_more so_far typed answered = record {
     keys = so_far.keys ++ more;
     typed = typed_more so_far.keys so_far.counted so_far.typed typed;
@@ -65,8 +66,8 @@ module _ (input rest next : Option (List ℕ)) (machine mid after : Machine) (be
       joined keys e = answers_of-append keys more machine ∙ ap (λ m. answers_of machine keys ++ answers_of m more) (sym e)
 
   -- the next characters typed, and answered in part
-  pub in_part : IsTypedSoFar input rest machine mid before written count → Typed → WritesProperPrefix written now (answers_of mid more)
-      → IsTypedInPart input next machine after before now
+  pub in_part : IsTypedSoFar (input ⇒ rest) (machine ⇒ mid) (before ⇒ written) count → Typed → WritesProperPrefix written now (answers_of mid more)
+      → IsTypedInPart (input ⇒ next) (machine ⇒ after) (before ⇒ now)
   in_part so_far typed (left, missing, part) = record {
     keys = so_far.keys ++ more;
     typed = typed_more so_far.keys so_far.counted so_far.typed typed;

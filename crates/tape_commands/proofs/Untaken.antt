@@ -1,4 +1,5 @@
 -- Commands whose tapes were not taken, and what was written of others.
+use Rattle.command_io.specs.Change.{◌⇒◌}
 use Rattle.std.proofs.Common.{◌≡◌, ℕ, Bool, List, inl, sym, subst}
 use Rattle.std.proofs.KnownBytes.{Appends-kept, Keeps-refl}
 use Rattle.std.specs.Io.KnownBytes.{Keeps}
@@ -19,28 +20,28 @@ use Rattle.input_files.specs.Opening.{Name}
 
 module _ (inputs rests : List Known) (before after : Known) where
   -- nothing was written
-  pub check_untaken : (blocks : Bool) → after ≡ before → (why : CommandFault) → AreTapesFault inputs rests why → IsCheckFault blocks inputs rests before after why
+  pub check_untaken : (blocks : Bool) → after ≡ before → (why : CommandFault) → AreTapesFault inputs rests why → IsCheckFault blocks (inputs ⇒ rests) (before ⇒ after) why
   check_untaken blocks same (fault.Tape number refusal) failed = (failed, subst (Keeps before) (sym same) (Keeps-refl before))
   check_untaken blocks same (fault.ReadTape number) failed = (failed, subst (Keeps before) (sym same) (Keeps-refl before))
   check_untaken blocks same fault.Memory failed = subst (Keeps before) (sym same) (Keeps-refl before)
   check_untaken blocks same other failed = absurd failed
 
   pub dialogue_untaken : (stage : Stage) → after ≡ before → (why : CommandFault) → AreTapesFault inputs rests why
-      → IsDialogueFault inputs rests before after stage.console.words stage.console.style stage.start why
+      → IsDialogueFault (inputs ⇒ rests) stage (before ⇒ after) why
   dialogue_untaken stage same (fault.Tape number refusal) failed = (failed, subst (Keeps before) (sym same) (Keeps-refl before))
   dialogue_untaken stage same (fault.ReadTape number) failed = (failed, subst (Keeps before) (sym same) (Keeps-refl before))
   dialogue_untaken stage same fault.Memory failed = inl (subst (Keeps before) (sym same) (Keeps-refl before))
   dialogue_untaken stage same other failed = absurd failed
 
   -- what was written is passed on
-  pub checked_on : (blocks : Bool) (between : Known) → Keeps between after → IsChecked blocks inputs rests before between → IsChecked blocks inputs rests before after
+  pub checked_on : (blocks : Bool) (between : Known) → Keeps between after → IsChecked blocks (inputs ⇒ rests) (before ⇒ between) → IsChecked blocks (inputs ⇒ rests) (before ⇒ after)
   checked_on blocks between kept is = record { texts = is.texts; taken = is.taken; text = is.text; is_text = is.is_text; written = Appends-kept before between after _ is.written kept }
 
   pub dialogue_on : (between : Known) (stage : Stage) (end : End) → Keeps between after
-      → IsDialogue inputs rests before between stage.console.words stage.console.style stage.start end → IsDialogue inputs rests before after stage.console.words stage.console.style stage.start end
+      → IsDialogue (inputs ⇒ rests) stage (before ⇒ between) end → IsDialogue (inputs ⇒ rests) stage (before ⇒ after) end
   dialogue_on between stage end kept is = record { text = is.text; is_text = is.is_text; written = Appends-kept before between after _ is.written kept }
 
-  pub rehearsal_untaken : (script : Known) → after ≡ before → (why : CommandFault) → AreTapesFault inputs rests why → IsRehearseFault inputs rests script before after why
+  pub rehearsal_untaken : (script : Known) → after ≡ before → (why : CommandFault) → AreTapesFault inputs rests why → IsRehearseFault (inputs ⇒ rests) script (before ⇒ after) why
   rehearsal_untaken script same (fault.Tape number refusal) failed = (failed, subst (Keeps before) (sym same) (Keeps-refl before))
   rehearsal_untaken script same (fault.ReadTape number) failed = (failed, subst (Keeps before) (sym same) (Keeps-refl before))
   rehearsal_untaken script same fault.Memory failed = subst (Keeps before) (sym same) (Keeps-refl before)

@@ -10,6 +10,7 @@ use Rattle.tape_image.specs.Word.{WordValue, word_fields}
 use Rattle.tape_image.specs.Plan.{plan_of_all}
 use Rattle.byte_io.specs.Text.{line}
 use Rattle.byte_io.specs.Output.{WritesProperPrefix}
+use Rattle.command_io.specs.Change.{Change}
 use Rattle.command_io.specs.Tapes.{TapeText, AreTaken, AreLaidOut, tapes_of}
 use Rattle.tape_blocks.specs.declared.layout.Layout.{Layout}
 use Rattle.tape_commands.specs.BlockList.{IsBlockList}
@@ -54,20 +55,20 @@ IsCheckText false texts text = text ≡ check_text texts
 IsCheckText true texts text = (blocks : List ℕ) × IsBlockList texts blocks × (text ≡ blocks ++ check_text texts)
 
 -- tapes were taken of the inputs, and their text for `check` was written, with a list of the blocks or without, and nothing else
-pub record IsChecked (blocks : Bool) (inputs inputs' : List (Option (List ℕ))) (out out' : Option (List ℕ)) : Type 0 where
+pub record IsChecked (blocks : Bool) (inputs : Change (List (Option (List ℕ)))) (out : Change (Option (List ℕ))) : Type 0 where
   pub texts : List TapeText
-  pub taken : AreTaken inputs inputs' texts
+  pub taken : AreTaken inputs.before inputs.after texts
   pub text : List ℕ
   pub is_text : IsCheckText blocks texts text
-  pub written : Appends out out' text
+  pub written : Appends out.before out.after text
 
 -- the same, but a proper prefix of the text was written
-pub record IsCheckedInPart (blocks : Bool) (inputs inputs' : List (Option (List ℕ))) (out out' : Option (List ℕ)) : Type 0 where
+pub record IsCheckedInPart (blocks : Bool) (inputs : Change (List (Option (List ℕ)))) (out : Change (Option (List ℕ))) : Type 0 where
   pub texts : List TapeText
-  pub taken : AreTaken inputs inputs' texts
+  pub taken : AreTaken inputs.before inputs.after texts
   pub text : List ℕ
   pub is_text : IsCheckText blocks texts text
-  pub written : WritesProperPrefix out out' text
+  pub written : WritesProperPrefix out.before out.after text
 
 -- tapes of these texts, which lie so in them
 pub record AreTexts (tapes : List TapeValue) (layouts : List Layout) (texts : List TapeText) : Type 0 where

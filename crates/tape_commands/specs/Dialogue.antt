@@ -6,11 +6,13 @@ use Rattle.tape_image.specs.declared.start.Start.{Start}
 use Rattle.tape_image.specs.Plan.{plan_of_all, starting}
 use Rattle.odt_machine.specs.declared.style.Style.{Style}
 use Rattle.odt_machine.specs.Machine.{largest_words}
+use Rattle.request_values.specs.declared.request.Stage.{Stage}
 use Rattle.host_core.specs.declared.phase.End.{End}
 use Rattle.host_core.specs.Core.{begun, plain_patience}
 use Rattle.line_world.specs.Scene.{Scene}
 use Rattle.line_world.specs.Opening.{opened}
 use Rattle.line_world.specs.Runs.{RunsTo}
+use Rattle.command_io.specs.Change.{Change, ◌⇒◌}
 use Rattle.command_io.specs.declared.fault.CommandFault.{CommandFault}
 use Rattle.command_io.specs.declared.fault.CommandFault.TheVariants as fault
 use Rattle.tape_commands.specs.KeyLines.{answered_keys, key_text}
@@ -23,49 +25,52 @@ use Rattle.command_io.specs.Tapes.{TapeText, AreTaken, AreAllTaken, AreTapesFaul
 abbrev pub dialogue_patience : ℕ
 dialogue_patience = plain_patience
 
+-- the stage of a dialogue: a machine of so many words that answers in this style, and where the program begins
+abbrev pub staged : ℕ → Style → Start → Stage
+staged words style start = record { console = record { words = words; style = style }; start = start }
+
 -- the world of a dialogue at its opening: a zeroed machine, and a host that has done nothing yet
-abbrev pub dialogue_opening : List TapeValue → ℕ → Style → Start → Scene
-dialogue_opening tapes words style start =
-    opened (machine_of style (replicate words 0)) (begun (starting (plan_of_all tapes) start) 0 false dialogue_patience) []
+abbrev pub dialogue_opening : List TapeValue → Stage → Scene
+dialogue_opening tapes stage =
+    opened (machine_of stage.console.style (replicate stage.console.words 0)) (begun (starting (plan_of_all tapes) stage.start) 0 false dialogue_patience) []
 
 -- on a line that loses nothing one world leads to another, which has this end, and the lines of all keys on the way were written
-pub record Talks (w w' : Scene) (end : End) (out out' : Option (List ℕ)) : Type 0 where
-  pub run : RunsTo w w' end
-  pub told : Appends out out' (key_text (answered_keys w run.events))
+pub record Talks (world : Change Scene) (end : End) (out : Change (Option (List ℕ))) : Type 0 where
+  pub run : RunsTo world.before world.after end
+  pub told : Appends out.before out.after (key_text (answered_keys world.before run.events))
 
 -- tapes were taken of the inputs, their load on a line that loses nothing comes to this end, and the text is the lines of all keys
 -- on the way and then the report of the last world
-pub record IsDialogueText (inputs inputs' : List (Option (List ℕ))) (words : ℕ) (style : Style) (start : Start) (end : End) (text : List ℕ) : Type 0 where
+pub record IsDialogueText (inputs : Change (List (Option (List ℕ)))) (stage : Stage) (end : End) (text : List ℕ) : Type 0 where
   pub texts : List TapeText
-  pub taken : AreTaken inputs inputs' texts
+  pub taken : AreTaken inputs.before inputs.after texts
   pub last : Scene
-  pub run : RunsTo (dialogue_opening (tapes_of texts) words style start) last end
-  pub told : text ≡ key_text (answered_keys (dialogue_opening (tapes_of texts) words style start) run.events) ++ report last
+  pub run : RunsTo (dialogue_opening (tapes_of texts) stage) last end
+  pub told : text ≡ key_text (answered_keys (dialogue_opening (tapes_of texts) stage) run.events) ++ report last
 
 -- the dialogue came to this end, and its text was written, and nothing else
-pub record IsDialogue (inputs inputs' : List (Option (List ℕ))) (out out' : Option (List ℕ)) (words : ℕ) (style : Style) (start : Start)
-    (end : End) : Type 0 where
+pub record IsDialogue (inputs : Change (List (Option (List ℕ)))) (stage : Stage) (out : Change (Option (List ℕ))) (end : End) : Type 0 where
   pub text : List ℕ
-  pub is_text : IsDialogueText inputs inputs' words style start end text
-  pub written : Appends out out' text
+  pub is_text : IsDialogueText inputs stage end text
+  pub written : Appends out.before out.after text
 
 -- a proper prefix of the dialogue's text was written, and nothing else
-pub record IsDialogueInPart (inputs inputs' : List (Option (List ℕ))) (out out' : Option (List ℕ)) (words : ℕ) (style : Style) (start : Start) : Type 0 where
+pub record IsDialogueInPart (inputs : Change (List (Option (List ℕ)))) (stage : Stage) (out : Change (Option (List ℕ))) : Type 0 where
   pub end : End
   pub text : List ℕ
-  pub is_text : IsDialogueText inputs inputs' words style start end text
-  pub written : WritesProperPrefix out out' text
+  pub is_text : IsDialogueText inputs stage end text
+  pub written : WritesProperPrefix out.before out.after text
 
 -- how a dialogue fails: a refusal or a failed read of a tape's input, by its number; or, where tapes were taken, a machine of more than 28,672 words; all
 -- before anything is written. A failed write leaves a proper prefix of the text written, and so does want of memory, where anything is written by then
-abbrev pub IsDialogueFault : List (Option (List ℕ)) → List (Option (List ℕ)) → Option (List ℕ) → Option (List ℕ) → ℕ → Style → Start → CommandFault → Type 0
-IsDialogueFault inputs inputs' out out' words style start (fault.Tape number refusal) =
-    AreTapesFault inputs inputs' (fault.Tape number refusal) × Keeps out out'
-IsDialogueFault inputs inputs' out out' words style start (fault.ReadTape number) = AreTapesFault inputs inputs' (fault.ReadTape number) × Keeps out out'
-IsDialogueFault inputs inputs' out out' words style start fault.TooLarge = AreAllTaken inputs inputs' × (largest_words < words) × Keeps out out'
-IsDialogueFault inputs inputs' out out' words style start fault.Write = IsDialogueInPart inputs inputs' out out' words style start
-IsDialogueFault inputs inputs' out out' words style start fault.Memory = Keeps out out' ⊎ IsDialogueInPart inputs inputs' out out' words style start
-IsDialogueFault inputs inputs' out out' words style start other = ⊥
+abbrev pub IsDialogueFault : Change (List (Option (List ℕ))) → Stage → Change (Option (List ℕ)) → CommandFault → Type 0
+IsDialogueFault inputs stage out (fault.Tape number refusal) = AreTapesFault inputs.before inputs.after (fault.Tape number refusal) × Keeps out.before out.after
+IsDialogueFault inputs stage out (fault.ReadTape number) = AreTapesFault inputs.before inputs.after (fault.ReadTape number) × Keeps out.before out.after
+IsDialogueFault inputs stage out fault.TooLarge =
+    AreAllTaken inputs.before inputs.after × (largest_words < stage.console.words) × Keeps out.before out.after
+IsDialogueFault inputs stage out fault.Write = IsDialogueInPart inputs stage out
+IsDialogueFault inputs stage out fault.Memory = Keeps out.before out.after ⊎ IsDialogueInPart inputs stage out
+IsDialogueFault inputs stage out other = ⊥
 
 -- a conversation stops: a failed write or want of memory
 abbrev pub IsTalkFault : CommandFault → Type 0

@@ -10,6 +10,7 @@ use Rattle.line_world.specs.declared.event.Event.{Event}
 use Rattle.line_world.specs.declared.event.Event.TheVariants.{Take}
 use Rattle.line_world.specs.Scene.{Scene}
 use Rattle.line_world.specs.World.{happens}
+use Rattle.command_io.specs.Change.{Change}
 use Rattle.byte_io.specs.Text.{line}
 use Rattle.tape_commands.specs.declared.exchange.Exchange.{Exchange}
 
@@ -87,9 +88,9 @@ pub record Gathers (gathered : List Answered) (exchange : Exchange) : Type 0 whe
   pub echoes : AllByRecursion (λ a. is_echo a ≡ true) gathered
 
 -- behind gathered keys come the next ones: the lines that they end were written, and what is left is gathered
-pub record Notes (gathered next : List Answered) (exchange' : Exchange) (out out' : Option (List ℕ)) : Type 0 where
+pub record Notes (gathered next : List Answered) (exchange' : Exchange) (out : Change (Option (List ℕ))) : Type 0 where
   pub told : List ℕ
   pub left : List Answered
   pub gathers : Gathers left exchange'
-  pub written : Appends out out' told
+  pub written : Appends out.before out.after told
   pub text : (more : List Answered) → key_text (gathered ++ (next ++ more)) ≡ told ++ key_text (left ++ more)

@@ -12,6 +12,7 @@ use Rattle.line_world.specs.Scene.{Scene}
 use Rattle.line_world.specs.Opening.{opened}
 use Rattle.loss_scripts.specs.declared.script.PutLine.{PutLine}
 use Rattle.loss_scripts.specs.declared.script.Script.{Script}
+use Rattle.command_io.specs.Change.{Change}
 use Rattle.command_io.specs.declared.fault.CommandFault.{CommandFault}
 use Rattle.command_io.specs.declared.fault.CommandFault.TheVariants as fault
 use Rattle.byte_io.specs.Output.{WritesProperPrefix}
@@ -71,23 +72,25 @@ pub record IsRefusedScriptInput (known : Option (List ℕ)) (number : ℕ) : Typ
   pub refused : IsRefusedScript text number ⊎ ((script : Script) × IsScript text script × IsRefusedPut (replicate script.words 0) script.puts.items number)
 
 -- tapes were taken of the inputs, the other input is a script, and this is the text of their rehearsal
-pub record IsRehearsed (inputs inputs' : List (Option (List ℕ))) (script_input : Option (List ℕ)) (text : List ℕ) : Type 0 where
+pub record IsRehearsed (inputs : Change (List (Option (List ℕ)))) (script_input : Option (List ℕ)) (text : List ℕ) : Type 0 where
   pub texts : List TapeText
-  pub taken : AreTaken inputs inputs' texts
+  pub taken : AreTaken inputs.before inputs.after texts
   pub script : Script
   pub is_script : IsScriptInput script_input script
   pub rehearsal : IsRehearsal (tapes_of texts) script text
 
 -- how a rehearsal fails: a refusal or a failed read of a tape's input, by its number; the script's only where the tapes were taken first; or want of
 -- memory, all before anything is written; or a failed write, with a proper prefix of the text written
-abbrev pub IsRehearseFault : List (Option (List ℕ)) → List (Option (List ℕ)) → Option (List ℕ) → Option (List ℕ) → Option (List ℕ) → CommandFault → Type 0
-IsRehearseFault inputs inputs' script out out' (fault.Tape number refusal) = AreTapesFault inputs inputs' (fault.Tape number refusal) × Keeps out out'
-IsRehearseFault inputs inputs' script out out' (fault.ReadTape number) = AreTapesFault inputs inputs' (fault.ReadTape number) × Keeps out out'
-IsRehearseFault inputs inputs' script out out' (fault.Script number) = AreAllTaken inputs inputs' × IsRefusedScriptInput script number × Keeps out out'
-IsRehearseFault inputs inputs' script out out' fault.ReadScript = AreAllTaken inputs inputs' × Keeps out out'
-IsRehearseFault inputs inputs' script out out' fault.Memory = Keeps out out'
-IsRehearseFault inputs inputs' script out out' fault.Write = (text : List ℕ) × IsRehearsed inputs inputs' script text × WritesProperPrefix out out' text
-IsRehearseFault inputs inputs' script out out' other = ⊥
+abbrev pub IsRehearseFault : Change (List (Option (List ℕ))) → Option (List ℕ) → Change (Option (List ℕ)) → CommandFault → Type 0
+IsRehearseFault inputs script out (fault.Tape number refusal) =
+    AreTapesFault inputs.before inputs.after (fault.Tape number refusal) × Keeps out.before out.after
+IsRehearseFault inputs script out (fault.ReadTape number) = AreTapesFault inputs.before inputs.after (fault.ReadTape number) × Keeps out.before out.after
+IsRehearseFault inputs script out (fault.Script number) =
+    AreAllTaken inputs.before inputs.after × IsRefusedScriptInput script number × Keeps out.before out.after
+IsRehearseFault inputs script out fault.ReadScript = AreAllTaken inputs.before inputs.after × Keeps out.before out.after
+IsRehearseFault inputs script out fault.Memory = Keeps out.before out.after
+IsRehearseFault inputs script out fault.Write = (text : List ℕ) × IsRehearsed inputs script text × WritesProperPrefix out.before out.after text
+IsRehearseFault inputs script out other = ⊥
 
 -- a machine was not made: it would be too large, or want of memory
 abbrev pub IsMachineFault : ℕ → CommandFault → Type 0

@@ -1,6 +1,7 @@
 -- What becomes of a request to rehearse a load.
 use Rattle.std.specs.Prelude.{◌≡◌, ◌⊎◌, ℕ, List}
 use Rattle.std.specs.Io.KnownBytes.{Appends}
+use Rattle.command_io.specs.Change.{Change, ◌⇒◌}
 use Rattle.tape_commands.specs.Rehearsal.{IsRehearsed, IsRehearseFault}
 use Rattle.endings.specs.declared.failure.Failure.{Failure}
 use Rattle.endings.specs.declared.status.Status.{Status}
@@ -15,14 +16,14 @@ use Rattle.tape_commands.specs.Output.{FailsAtFlush}
 pub record IsRehearsedInto (inputs : Inputs) (out out' : Known) : Type 0 where
   pub script_held : Known
   pub text : List ℕ
-  pub rehearsed : IsRehearsed inputs.held inputs.rests script_held text
+  pub rehearsed : IsRehearsed (inputs.held ⇒ inputs.rests) script_held text
   pub written : Appends out out' text
 
 -- a rehearsal failed, with something in the script's file of this name; or its text was not passed on
-abbrev pub IsRehearsalFailure : List ℕ → Inputs → Known → Known → Failure → Type 0
-IsRehearsalFailure script inputs out out' failure =
-    ((script_held : Known) × HasFault (IsRehearseFault inputs.held inputs.rests script_held out out') inputs.names script failure)
-    ⊎ FailsAtFlush (IsRehearsedInto inputs out out') failure
+abbrev pub IsRehearsalFailure : List ℕ → Inputs → Change Known → Failure → Type 0
+IsRehearsalFailure script inputs out failure =
+    ((script_held : Known) × HasFault (IsRehearseFault (inputs.held ⇒ inputs.rests) script_held out) inputs.names script failure)
+    ⊎ FailsAtFlush (IsRehearsedInto inputs out.before out.after) failure
 
 -- the load of its tapes was rehearsed with a script in a file
 pub record AreRehearsed (rehearsal : Rehearsal) (before after : Intake) (status : Status) : Type 0 where
@@ -33,4 +34,4 @@ pub record AreRehearsed (rehearsal : Rehearsal) (before after : Intake) (status 
 abbrev pub AreUnrehearsed : Rehearsal → Intake → Intake → Failure → Type 0
 AreUnrehearsed rehearsal before after failure =
     FailsUnopened (rehearsed_files rehearsal) before after failure
-    ⊎ OfRehearsed rehearsal before after (λ inputs. IsRehearsalFailure rehearsal.script.now inputs before.held.out after.held.out failure)
+    ⊎ OfRehearsed rehearsal before after (λ inputs. IsRehearsalFailure rehearsal.script.now inputs (before.held.out ⇒ after.held.out) failure)

@@ -1,6 +1,7 @@
 -- What becomes of a request to show the load of tapes into a simulated console.
 use Rattle.std.specs.Prelude.{◌≡◌, ◌⊎◌, List}
 use Rattle.host_core.specs.declared.phase.End.{End}
+use Rattle.command_io.specs.Change.{Change, ◌⇒◌}
 use Rattle.tape_commands.specs.Dialogue.{IsDialogue, IsDialogueFault}
 use Rattle.endings.specs.declared.failure.Failure.{Failure}
 use Rattle.endings.specs.declared.status.Status.{Status}
@@ -12,22 +13,20 @@ use Rattle.request_values.specs.declared.request.Stage.{Stage}
 use Rattle.tape_commands.specs.Output.{FailsOver}
 
 -- the load of the tapes of some inputs came to an end, and was shown
-abbrev pub IsShownTo : Stage → Inputs → Known → Known → Status → Type 0
-IsShownTo stage inputs out out' status =
-    (end : End) × IsDialogue inputs.held inputs.rests out out' stage.console.words stage.console.style stage.start end × (status ≡ end_status end)
+abbrev pub IsShownTo : Stage → Inputs → Change Known → Status → Type 0
+IsShownTo stage inputs out status = (end : End) × IsDialogue (inputs.held ⇒ inputs.rests) stage out end × (status ≡ end_status end)
 
 -- the load of the tapes of some inputs was not shown, or not passed on
-abbrev pub IsShowingFailure : Stage → Inputs → Known → Known → Failure → Type 0
-IsShowingFailure stage inputs out out' failure =
-    FailsOver inputs (IsDialogueFault inputs.held inputs.rests out out' stage.console.words stage.console.style stage.start)
-    ((status : Status) × IsShownTo stage inputs out out' status) failure
+abbrev pub IsShowingFailure : Stage → Inputs → Change Known → Failure → Type 0
+IsShowingFailure stage inputs out failure =
+    FailsOver inputs (IsDialogueFault (inputs.held ⇒ inputs.rests) stage out) ((status : Status) × IsShownTo stage inputs out status) failure
 
 -- the load of the tapes of these names was shown
 abbrev pub AreShown : List Name → Stage → Intake → Intake → Status → Type 0
-AreShown names stage before after status = OfTapes names before after (λ inputs. IsShownTo stage inputs before.held.out after.held.out status)
+AreShown names stage before after status = OfTapes names before after (λ inputs. IsShownTo stage inputs (before.held.out ⇒ after.held.out) status)
 
 -- it was not: a file can't be opened, or what the inputs hold is to blame
 abbrev pub AreUnshown : List Name → Stage → Intake → Intake → Failure → Type 0
 AreUnshown names stage before after failure =
     FailsUnopened (files_of names) before after failure
-    ⊎ OfTapes names before after (λ inputs. IsShowingFailure stage inputs before.held.out after.held.out failure)
+    ⊎ OfTapes names before after (λ inputs. IsShowingFailure stage inputs (before.held.out ⇒ after.held.out) failure)

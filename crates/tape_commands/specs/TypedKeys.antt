@@ -5,6 +5,7 @@ use Rattle.odt_machine.specs.Machine.{Machine}
 use Rattle.odt_machine.specs.KeyTable.{take_of, after_key}
 use Rattle.odt_machine.specs.Character.{carriage_return, line_feed}
 use Rattle.byte_io.specs.Output.{WritesProperPrefix}
+use Rattle.command_io.specs.Change.{Change}
 use Rattle.command_io.specs.declared.fault.CommandFault.{CommandFault}
 use Rattle.command_io.specs.declared.fault.CommandFault.TheVariants.{ReadKeys, Write}
 
@@ -28,31 +29,31 @@ answers_of m [] = []
 answers_of m (c ∷ cs) = (take_of m (typed_key c)).answer ++ answers_of (after_key m (typed_key c)) cs
 
 -- these characters were taken of the input and typed
-pub record IsTyped (input input' : Option (List ℕ)) (machine machine' : Machine) (keys : List ℕ) : Type 0 where
-  pub consumed : Consumes input input' keys
+pub record IsTyped (input : Change (Option (List ℕ))) (machine : Change Machine) (keys : List ℕ) : Type 0 where
+  pub consumed : Consumes input.before input.after keys
   pub within : length keys ≤ key_limit
-  pub typed : machine' ≡ after_typing machine keys
+  pub typed : machine.after ≡ after_typing machine.before keys
 
 -- so many characters were typed, and the answers to them were written and nothing else
-pub record IsTypedSoFar (input input' : Option (List ℕ)) (machine machine' : Machine) (out out' : Option (List ℕ)) (count : ℕ) : Type 0 where
+pub record IsTypedSoFar (input : Change (Option (List ℕ))) (machine : Change Machine) (out : Change (Option (List ℕ))) (count : ℕ) : Type 0 where
   pub keys : List ℕ
-  pub typed : IsTyped input input' machine machine' keys
-  pub answered : Appends out out' (answers_of machine keys)
+  pub typed : IsTyped input machine keys
+  pub answered : Appends out.before out.after (answers_of machine.before keys)
   pub counted : length keys ≡ count
 
 -- the same, with no character left in the input or as many typed as may be
-pub record IsTypedToEnd (input input' : Option (List ℕ)) (machine machine' : Machine) (out out' : Option (List ℕ)) (count : ℕ) : Type 0 where
-  pub so_far : IsTypedSoFar input input' machine machine' out out' count
-  pub to_end : count < key_limit → IsAtEnd input'
+pub record IsTypedToEnd (input : Change (Option (List ℕ))) (machine : Change Machine) (out : Change (Option (List ℕ))) (count : ℕ) : Type 0 where
+  pub so_far : IsTypedSoFar input machine out count
+  pub to_end : count < key_limit → IsAtEnd input.after
 
 -- some characters were typed, and a proper prefix of the answers to them was written and nothing else
-pub record IsTypedInPart (input input' : Option (List ℕ)) (machine machine' : Machine) (out out' : Option (List ℕ)) : Type 0 where
+pub record IsTypedInPart (input : Change (Option (List ℕ))) (machine : Change Machine) (out : Change (Option (List ℕ))) : Type 0 where
   pub keys : List ℕ
-  pub typed : IsTyped input input' machine machine' keys
-  pub answered : WritesProperPrefix out out' (answers_of machine keys)
+  pub typed : IsTyped input machine keys
+  pub answered : WritesProperPrefix out.before out.after (answers_of machine.before keys)
 
 -- how typing fails: by a failed read, with all that was read typed and answered, or by a failed write
-abbrev pub IsTypeFault : Option (List ℕ) → Option (List ℕ) → Machine → Machine → Option (List ℕ) → Option (List ℕ) → CommandFault → Type 0
-IsTypeFault input input' machine machine' out out' ReadKeys = (count : ℕ) × IsTypedSoFar input input' machine machine' out out' count
-IsTypeFault input input' machine machine' out out' Write = IsTypedInPart input input' machine machine' out out'
-IsTypeFault input input' machine machine' out out' other = ⊥
+abbrev pub IsTypeFault : Change (Option (List ℕ)) → Change Machine → Change (Option (List ℕ)) → CommandFault → Type 0
+IsTypeFault input machine out ReadKeys = (count : ℕ) × IsTypedSoFar input machine out count
+IsTypeFault input machine out Write = IsTypedInPart input machine out
+IsTypeFault input machine out other = ⊥

@@ -1,5 +1,6 @@
 -- What becomes of a request to type standard input into a simulated console.
 use Rattle.std.specs.Prelude.{◌≡◌, ◌⊎◌, ℕ, ◌<◌, ◌≤◌, [], replicate, codes}
+use Rattle.command_io.specs.Change.{◌⇒◌}
 use Rattle.odt_machine.specs.Machine.{Machine, largest_words}
 use Rattle.tape_commands.specs.TypedKeys.{IsTypedToEnd, IsTypeFault}
 use Rattle.tape_commands.specs.Rehearsal.{machine_of}
@@ -18,7 +19,7 @@ zeroed console = machine_of console.style (replicate console.words 0)
 pub record IsTypedThrough (console : Console) (before after : Held) : Type 0 where
   pub last : Machine
   pub count : ℕ
-  pub typed : IsTypedToEnd before.input after.input (zeroed console) last before.out after.out count
+  pub typed : IsTypedToEnd (before.input ⇒ after.input) (zeroed console ⇒ last) (before.out ⇒ after.out) count
 
 -- there is no such machine: it is too large, which it is above 28,672 words alone, or want of memory, up to there; and no key was read
 pub record IsUntyped (console : Console) (before after : Held) (failure : Failure) : Type 0 where
@@ -29,7 +30,7 @@ pub record IsUntyped (console : Console) (before after : Held) (failure : Failur
 -- the keys or the answers to them failed
 abbrev pub IsTypedAmiss : Console → Held → Held → Failure → Type 0
 IsTypedAmiss console before after failure =
-    (last : Machine) × HasFault (IsTypeFault before.input after.input (zeroed console) last before.out after.out) [] (codes "standard input") failure
+    (last : Machine) × HasFault (IsTypeFault (before.input ⇒ after.input) (zeroed console ⇒ last) (before.out ⇒ after.out)) [] (codes "standard input") failure
 
 -- typing failed, or the answers were not passed on
 abbrev pub IsTypingFailure : Console → Held → Held → Failure → Type 0

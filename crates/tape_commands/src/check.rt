@@ -1,5 +1,6 @@
 //! The command `check`: what tapes hold.
 ghost use Rattle.std.specs.Prelude.{◌≡◌, List, false, length, map, OnOk, IfOk, IfErr};
+ghost use Rattle.command_io.specs.Change.{◌⇒◌};
 ghost use Rattle.command_io.specs.Tapes.{BlamesNoTape, OfTaken, TakeAtMost, TapeText};
 ghost use Rattle.tape_image.specs.Plan.{IsPlan, plan_of_all};
 ghost use Rattle.tape_commands.specs.CheckText.{AreTexts, IsChecked, IsCheckText};
@@ -36,16 +37,16 @@ pub fn check_to<R: Read, W: Write>(
     tapes: &mut [R],
     out: &mut W,
 ) -> Result<(), CommandFault>
-    ensures ok { OnOk result (IsChecked false (map R.remaining tapes.old) (map R.remaining tapes.new) (W.contents out.old) (W.contents out.new)) }
-    ensures err { IfErr result (IsCheckFault false (map R.remaining tapes.old) (map R.remaining tapes.new) (W.contents out.old) (W.contents out.new)) }
+    ensures ok { OnOk result (IsChecked false (map R.remaining tapes.old ⇒ map R.remaining tapes.new) (W.contents out.old ⇒ W.contents out.new)) }
+    ensures err { IfErr result (IsCheckFault false (map R.remaining tapes.old ⇒ map R.remaining tapes.new) (W.contents out.old ⇒ W.contents out.new)) }
     ensures at_most { TakeAtMost (map R.remaining tapes.old) (map R.remaining tapes.new) }
 {
     let taken = take_tapes(alloc, tapes)?;
     write_check(alloc, &taken, USUAL, out)
 }
 
-/// Prints of tapes that were taken what `check_to` prints, with a list of their blocks before it where that is asked for. `Write` is a failed write, `Memory` a growth that was
-/// refused, before anything is written.
+/// Prints of tapes that were taken what `check_to` prints, with a list of their blocks before it where that is asked
+/// for. `Write` is a failed write, `Memory` a growth that was refused, before anything is written.
 pub(crate) fn write_check<W: Write>(
     alloc: Global,
     taken: &Tapes,
@@ -53,8 +54,9 @@ pub(crate) fn write_check<W: Write>(
     out: &mut W,
 ) -> Result<(), CommandFault>
     requires { length taken.now.layouts.items ≡ length taken.now.tapes.items }
-    ensures ok { OnOk result (OfTaken taken.now (λ inputs inputs'. IsChecked options.blocks inputs inputs' (W.contents out.old) (W.contents out.new))) }
-    ensures err { IfErr result (λ fault. OfTaken taken.now (λ inputs inputs'. IsCheckFault options.blocks inputs inputs' (W.contents out.old) (W.contents out.new) fault)) }
+    ensures ok { OnOk result (OfTaken taken.now (λ inputs inputs'. IsChecked options.blocks (inputs ⇒ inputs') (W.contents out.old ⇒ W.contents out.new))) }
+    ensures err { IfErr result (λ fault. OfTaken taken.now (λ inputs inputs'. IsCheckFault options.blocks (inputs ⇒ inputs')
+        (W.contents out.old ⇒ W.contents out.new) fault)) }
     ensures blames { IfErr result BlamesNoTape }
 {
     let plan = Plan::of_all(alloc, &taken.tapes)?;
@@ -124,8 +126,10 @@ fn print_check<W: Write>(
     out: &mut W,
 ) -> Result<Status, Failure<'static>>
     requires { length taken.now.layouts.items ≡ length taken.now.tapes.items }
-    ensures ok { IfOk result (λ status. OfTakenInputs taken.now (λ inputs. IsCheckedTo options.blocks inputs (W.contents out.old) (W.contents out.new) status)) }
-    ensures err { IfErr result (λ failure. OfTakenInputs taken.now (λ inputs. IsCheckFailure options.blocks inputs (W.contents out.old) (W.contents out.new) failure)) }
+    ensures ok { IfOk result (λ status. OfTakenInputs taken.now (λ inputs. IsCheckedTo options.blocks inputs
+        (W.contents out.old ⇒ W.contents out.new) status)) }
+    ensures err { IfErr result (λ failure. OfTakenInputs taken.now (λ inputs. IsCheckFailure options.blocks inputs
+        (W.contents out.old ⇒ W.contents out.new) failure)) }
 {
     match write_check(alloc, taken, options, out) {
         Ok(()) => flushed(out, Status::Done),

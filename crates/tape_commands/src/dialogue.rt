@@ -2,12 +2,13 @@
 ghost use Rattle.std.specs.Prelude.{◌≡◌, ◌<◌, ◌++◌, List, map, OnOk, OnErr, IfOk, IfErr};
 ghost use Rattle.std.specs.Io.KnownBytes.{Appends};
 ghost use Rattle.byte_io.specs.Output.{WritesPrefix};
+ghost use Rattle.command_io.specs.Change.{◌⇒◌};
 ghost use Rattle.command_io.specs.Tapes.{BlamesNoTape, OfTaken, TakeAtMost};
 ghost use Rattle.host_core.specs.Core.{ended};
 ghost use Rattle.line_world.specs.declared.event.Event.{Event};
 ghost use Rattle.line_world.specs.World.{happens, first_event, work_left, IsCleanRun};
 ghost use Rattle.tape_commands.specs.Report.{report};
-ghost use Rattle.tape_commands.specs.Dialogue.{IsDialogue, IsDialogueFault, IsReportFault, Talks, IsTalkFault};
+ghost use Rattle.tape_commands.specs.Dialogue.{IsDialogue, IsDialogueFault, IsReportFault, Talks, IsTalkFault, staged};
 ghost use Rattle.tape_commands.specs.KeyLines.{Answered, Gathers, Notes, answered_in, answered_keys, key_text};
 ghost use Rattle.std.specs.Mem.{FitsInMemory};
 ghost use Rattle.input_files.specs.Intake.{intake};
@@ -25,7 +26,7 @@ use host_core::{End, PLAIN_PATIENCE};
 use input_files::{InputFiles, take};
 use line_world::World;
 use odt_machine::Style;
-use request_values::Stage;
+use request_values::{Console, Stage};
 use std::alloc::Global;
 use std::io::{Read, Write};
 use tape_image::{Plan, Start};
@@ -46,31 +47,31 @@ pub fn dialogue_to<R: Read, W: Write>(
     start: Start,
     out: &mut W,
 ) -> Result<End, CommandFault>
-    ensures ok { IfOk result (IsDialogue (map R.remaining tapes.old) (map R.remaining tapes.new) (W.contents out.old) (W.contents out.new) words style start) }
-    ensures err { IfErr result (IsDialogueFault (map R.remaining tapes.old) (map R.remaining tapes.new)
-        (W.contents out.old) (W.contents out.new) words style start) }
+    ensures ok { IfOk result (IsDialogue (map R.remaining tapes.old ⇒ map R.remaining tapes.new) (staged words style start)
+        (W.contents out.old ⇒ W.contents out.new)) }
+    ensures err { IfErr result (IsDialogueFault (map R.remaining tapes.old ⇒ map R.remaining tapes.new) (staged words style start)
+        (W.contents out.old ⇒ W.contents out.new)) }
     ensures at_most { TakeAtMost (map R.remaining tapes.old) (map R.remaining tapes.new) }
 {
     let taken = take_tapes(alloc, tapes)?;
-    write_dialogue(alloc, &taken, words, style, start, out)
+    let console = Console { words, style };
+    write_dialogue(alloc, &taken, Stage { console, start }, out)
 }
 
 /// Loads tapes that were taken, and prints what `dialogue_to` prints, with its faults but for those of a tape.
 pub(crate) fn write_dialogue<W: Write>(
     alloc: Global,
     taken: &Tapes,
-    words: u16,
-    style: Style,
-    start: Start,
+    stage: Stage,
     out: &mut W,
 ) -> Result<End, CommandFault>
-    ensures ok { IfOk result (λ end. OfTaken taken.now (λ inputs inputs'. IsDialogue inputs inputs' (W.contents out.old) (W.contents out.new)
-        words style start end)) }
-    ensures err { IfErr result (λ fault. OfTaken taken.now (λ inputs inputs'. IsDialogueFault inputs inputs' (W.contents out.old) (W.contents out.new)
-        words style start fault)) }
+    ensures ok { IfOk result (λ end. OfTaken taken.now (λ inputs inputs'. IsDialogue (inputs ⇒ inputs') stage (W.contents out.old ⇒ W.contents out.new) end)) }
+    ensures err { IfErr result (λ fault. OfTaken taken.now (λ inputs inputs'. IsDialogueFault (inputs ⇒ inputs') stage
+        (W.contents out.old ⇒ W.contents out.new) fault)) }
     ensures blames { IfErr result BlamesNoTape }
 {
-    let odt = zeroed(alloc, words, style)?;
+    let Stage { console, start } = stage;
+    let odt = zeroed(alloc, console.words, console.style)?;
     let plan = Plan::of_all(alloc, &taken.tapes)?;
     let mut world = open_world(plan.starting(start), odt, PLAIN_PATIENCE, &[]);
     let end = talk(alloc, &mut world, out)?;
@@ -91,7 +92,7 @@ fn write_report<W: Write>(alloc: Global, world: &World, out: &mut W) -> Result<(
 
 // A clean line up to the first end, each exchange written when it is over.
 fn talk<W: Write>(alloc: Global, world: &mut World, out: &mut W) -> Result<End, CommandFault>
-    ensures ok { IfOk result (λ end. Talks world.old world.new end (W.contents out.old) (W.contents out.new)) }
+    ensures ok { IfOk result (λ end. Talks (world.old ⇒ world.new) end (W.contents out.old ⇒ W.contents out.new)) }
     ensures front { OnErr result ((events : List Event) → IsCleanRun world.old events →
         WritesPrefix (W.contents out.old) (W.contents out.new) (key_text (answered_keys world.old events))) }
     ensures err { IfErr result IsTalkFault }
@@ -114,7 +115,7 @@ fn turn<W: Write>(
 ) -> Result<(), CommandFault>
     ensures world { world.new ≡ happens world.old (first_event world.old) }
     ensures ok { OnOk result ((gathered : List Answered) → Gathers gathered exchange.old →
-        Notes gathered (answered_in world.old (first_event world.old)) exchange.new (W.contents out.old) (W.contents out.new)) }
+        Notes gathered (answered_in world.old (first_event world.old)) exchange.new (W.contents out.old ⇒ W.contents out.new)) }
     ensures work { ended world.old.core.phase ≡ None → work_left world.new < work_left world.old }
     ensures front { OnErr result ((gathered : List Answered) → Gathers gathered exchange.old → (more : List Answered) →
         WritesPrefix (W.contents out.old) (W.contents out.new) (key_text (gathered ++ (answered_in world.old (first_event world.old) ++ more)))) }
@@ -158,12 +159,11 @@ fn show<W: Write>(
     stage: Stage,
     out: &mut W,
 ) -> Result<Status, Failure<'static>>
-    ensures ok { IfOk result (λ status. OfTakenInputs taken.now (λ inputs. IsShownTo stage inputs (W.contents out.old) (W.contents out.new) status)) }
+    ensures ok { IfOk result (λ status. OfTakenInputs taken.now (λ inputs. IsShownTo stage inputs (W.contents out.old ⇒ W.contents out.new) status)) }
     ensures err { IfErr result (λ failure. OfTakenInputs taken.now (λ inputs.
-        IsShowingFailure stage inputs (W.contents out.old) (W.contents out.new) failure)) }
+        IsShowingFailure stage inputs (W.contents out.old ⇒ W.contents out.new) failure)) }
 {
-    let Stage { console, start } = stage;
-    match write_dialogue(alloc, taken, console.words, console.style, start, out) {
+    match write_dialogue(alloc, taken, stage, out) {
         Ok(end) => flushed(out, Status::of_end(end)),
         Err(fault) => Err(Failure::of(fault, &[], STANDARD_INPUT)),
     }

@@ -3,6 +3,7 @@ ghost use Rattle.std.specs.Prelude.{◌≡◌, ◌++◌, ◌∷◌, [], List, co
 ghost use Rattle.std.specs.Io.KnownBytes.{Appends};
 ghost use Rattle.byte_io.specs.Output.{WritesPrefix};
 ghost use Rattle.byte_io.specs.Text.{line};
+ghost use Rattle.command_io.specs.Change.{◌⇒◌};
 ghost use Rattle.tape_commands.specs.Dialogue.{IsTalkFault};
 ghost use Rattle.tape_commands.specs.KeyLines.{Answered, Gathers, Holds, Notes, key_text, last_line, shown};
 
@@ -40,7 +41,7 @@ impl Exchange {
         out: &mut W,
     ) -> Result<(), CommandFault>
         ensures ok { OnOk result ((gathered : List Answered) → Gathers gathered self.old →
-            Notes gathered (record { key = key; answer = answer.now } ∷ []) self.new (W.contents out.old) (W.contents out.new)) }
+            Notes gathered (record { key = key; answer = answer.now } ∷ []) self.new (W.contents out.old ⇒ W.contents out.new)) }
         ensures front { OnErr result ((gathered : List Answered) → Gathers gathered self.old → (more : List Answered) →
             WritesPrefix (W.contents out.old) (W.contents out.new) (key_text (gathered ++ (record { key = key; answer = answer.now } ∷ more)))) }
         ensures err { IfErr result IsTalkFault }

@@ -5,6 +5,7 @@ ghost use Rattle.odt_machine.specs.Machine.{largest_words};
 ghost use Rattle.loss_scripts.specs.Script.{script_limit};
 ghost use Rattle.byte_io.specs.Input.{TakesAtMost};
 ghost use Rattle.tape_commands.specs.Rehearsal.{IsRehearsal, IsRehearsed, IsRehearseFault, IsScriptInput, IsScriptInputFault, IsPlayFault};
+ghost use Rattle.command_io.specs.Change.{◌⇒◌};
 ghost use Rattle.command_io.specs.Tapes.{BlamesNoTape, OfTaken, TakeAtMost};
 ghost use Rattle.std.specs.Mem.{FitsInMemory};
 ghost use Rattle.input_files.specs.Intake.{intake};
@@ -41,10 +42,10 @@ pub fn rehearse_to<R: Read, S: Read, W: Write>(
     script: &mut S,
     out: &mut W,
 ) -> Result<(), CommandFault>
-    ensures ok { OnOk result ((text : List ℕ) × IsRehearsed (map R.remaining tapes.old) (map R.remaining tapes.new) (S.remaining script.old) text ×
+    ensures ok { OnOk result ((text : List ℕ) × IsRehearsed (map R.remaining tapes.old ⇒ map R.remaining tapes.new) (S.remaining script.old) text ×
         Appends (W.contents out.old) (W.contents out.new) text) }
-    ensures err { IfErr result (IsRehearseFault (map R.remaining tapes.old) (map R.remaining tapes.new)
-        (S.remaining script.old) (W.contents out.old) (W.contents out.new)) }
+    ensures err { IfErr result (IsRehearseFault (map R.remaining tapes.old ⇒ map R.remaining tapes.new)
+        (S.remaining script.old) (W.contents out.old ⇒ W.contents out.new)) }
     ensures taken { TakesAtMost (S.remaining script.old) (S.remaining script.new) (script_limit + 1) }
     ensures at_most { TakeAtMost (map R.remaining tapes.old) (map R.remaining tapes.new) }
 {
@@ -59,10 +60,10 @@ pub(crate) fn write_rehearsal<S: Read, W: Write>(
     script: &mut S,
     out: &mut W,
 ) -> Result<(), CommandFault>
-    ensures ok { OnOk result ((text : List ℕ) × OfTaken taken.now (λ inputs inputs'. IsRehearsed inputs inputs' (S.remaining script.old) text)
+    ensures ok { OnOk result ((text : List ℕ) × OfTaken taken.now (λ inputs inputs'. IsRehearsed (inputs ⇒ inputs') (S.remaining script.old) text)
         × Appends (W.contents out.old) (W.contents out.new) text) }
-    ensures err { IfErr result (λ fault. OfTaken taken.now (λ inputs inputs'. IsRehearseFault inputs inputs'
-        (S.remaining script.old) (W.contents out.old) (W.contents out.new) fault)) }
+    ensures err { IfErr result (λ fault. OfTaken taken.now (λ inputs inputs'. IsRehearseFault (inputs ⇒ inputs')
+        (S.remaining script.old) (W.contents out.old ⇒ W.contents out.new) fault)) }
     ensures blames { IfErr result BlamesNoTape }
     ensures taken { TakesAtMost (S.remaining script.old) (S.remaining script.new) (script_limit + 1) }
 {
@@ -143,7 +144,7 @@ fn print_rehearsal<'a, S: Read, W: Write>(
     ensures ok { IfOk result (λ status. OfTakenInputs taken.now (λ inputs. IsRehearsedInto inputs (W.contents out.old) (W.contents out.new))
         × (status ≡ Status.Done)) }
     ensures err { IfErr result (λ failure. OfTakenInputs taken.now (λ inputs.
-        IsRehearsalFailure name.now inputs (W.contents out.old) (W.contents out.new) failure)) }
+        IsRehearsalFailure name.now inputs (W.contents out.old ⇒ W.contents out.new) failure)) }
 {
     match write_rehearsal(alloc, taken, script, out) {
         Ok(()) => flushed(out, Status::Done),

@@ -2,6 +2,7 @@
 ghost use Rattle.std.specs.Prelude.{◌≡◌, ◌≤◌, length, OnOk, OnErr, IfOk, IfErr};
 ghost use Rattle.std.specs.Io.KnownBytes.{Appends};
 ghost use Rattle.byte_io.specs.Output.{WritesProperPrefix};
+ghost use Rattle.command_io.specs.Change.{◌⇒◌};
 ghost use Rattle.tape_commands.specs.TypedKeys.{typed_key as key_of_character, after_typing, answers_of, IsTypedToEnd, IsTypeFault};
 ghost use Rattle.tape_commands.specs.Typing.{IsTypedThrough, IsTypingFailure};
 
@@ -35,8 +36,8 @@ pub fn type_to<R: Read, W: Write>(
     keys: &mut R,
     out: &mut W,
 ) -> Result<u32, CommandFault>
-    ensures ok { IfOk result (IsTypedToEnd (R.remaining keys.old) (R.remaining keys.new) odt.old odt.new (W.contents out.old) (W.contents out.new)) }
-    ensures err { IfErr result (IsTypeFault (R.remaining keys.old) (R.remaining keys.new) odt.old odt.new (W.contents out.old) (W.contents out.new)) }
+    ensures ok { IfOk result (IsTypedToEnd (R.remaining keys.old ⇒ R.remaining keys.new) (odt.old ⇒ odt.new) (W.contents out.old ⇒ W.contents out.new)) }
+    ensures err { IfErr result (IsTypeFault (R.remaining keys.old ⇒ R.remaining keys.new) (odt.old ⇒ odt.new) (W.contents out.old ⇒ W.contents out.new)) }
 {
     let mut count = 0;
     let mut piece = [0u8; PIECE];

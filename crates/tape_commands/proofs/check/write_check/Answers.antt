@@ -1,3 +1,4 @@
+use Rattle.command_io.specs.Change.{◌⇒◌}
 use Rattle.std.proofs.Common.{subst}
 use Rattle.std.specs.Io.KnownBytes.{Appends}
 use Rattle.byte_io.specs.Output.{WritesProperPrefix}
@@ -11,7 +12,7 @@ use Rattle.tape_commands.proofs.check.write_check.Goals as goal
 pub returns-in_err-write_whole-clause-err : goal.returns-in_err-write_whole-clause-err
 returns-in_err-write_whole-clause-err g c =
     fault_is c.from_residual-in_err-write_whole.result Write
-    (λ fault. OfTaken c.args.taken.now (λ inputs inputs'. IsCheckFault c.args.options.blocks inputs inputs' (g.W.Write.contents c.args.out.now) (g.W.Write.contents c.write_whole.new.out) fault))
+    (λ fault. OfTaken c.args.taken.now (λ inputs inputs'. IsCheckFault c.args.options.blocks (inputs ⇒ inputs') (g.W.Write.contents c.args.out.now ⇒ g.W.Write.contents c.write_whole.new.out) fault))
     c.from_residual-in_err-write_whole.ensures.1
     (λ inputs inputs' are. record {
       texts = are.texts;

@@ -1,3 +1,4 @@
+use Rattle.command_io.specs.Change.{◌⇒◌}
 use Rattle.std.proofs.Common.{◌∙◌, None, inl, inr, ap, refl, codes}
 use Rattle.std.proofs.lemmas.Result.{IfErr-weaker, IfOk-weaker}
 use Rattle.endings.specs.Held.{Held}
@@ -24,7 +25,7 @@ pub returns-clause-err : goal.returns-clause-err
 returns-clause-err g c =
     IfErr-weaker c.print_rehearsal.result _ _
     (λ failure of. inr (rehearsed_taken c.args.rehearsal.now _ (intake (g.F.InputFiles.opened c.take_with_script.new.files) c.take_with_script.new.streams) _ c.in_ok-taken.taken
-    (λ out inputs. IsRehearsalFailure c.args.rehearsal.now.script.now inputs out (g.W.Write.contents c.print_rehearsal.new.out) failure)
+    (λ out inputs. IsRehearsalFailure c.args.rehearsal.now.script.now inputs (out ⇒ g.W.Write.contents c.print_rehearsal.new.out) failure)
     (g.W.Write.contents c.streams.inside.out) (ap (λ (held : Held). held.out) c.streams.view_is ∙ c.take_with_script.ensures.same_out)
     refl (ap (λ (held : Held). held.input) c.streams.view_is) c.in_ok-taken.ensures.ok of))
     c.print_rehearsal.ensures.err
@@ -33,7 +34,7 @@ pub returns-in_err-taken-clause-err : goal.returns-in_err-taken-clause-err
 returns-in_err-taken-clause-err g c =
     error_is c.from_residual.result c.in_err-taken.field-0.0 _ c.from_residual.ensures.1
     (not_rehearsed c.args.rehearsal.now _ _ _
-    (λ inputs. IsRehearsalFailure c.args.rehearsal.now.script.now inputs c.args.streams.now.out c.take_with_script.new.streams.out c.in_err-taken.field-0.0)
+    (λ inputs. IsRehearsalFailure c.args.rehearsal.now.script.now inputs (c.args.streams.now.out ⇒ c.take_with_script.new.streams.out) c.in_err-taken.field-0.0)
     (λ inputs has. inl (
       None,
       record {

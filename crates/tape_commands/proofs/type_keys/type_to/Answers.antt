@@ -1,3 +1,4 @@
+use Rattle.command_io.specs.Change.{◌⇒◌}
 use Rattle.std.proofs.Common.{rules}
 use Rattle.tape_commands.specs.TypedKeys.{IsTypeFault}
 use Rattle.command_io.specs.declared.fault.CommandFault.TheVariants.{Write}
@@ -8,7 +9,7 @@ use Rattle.tape_commands.proofs.type_keys.type_to.Goals as goal
 pub returns-in_err-type_piece-clause-err : goal.returns-in_err-type_piece-clause-err
 returns-in_err-type_piece-clause-err g c =
     fault_is c.from_residual.result Write
-    (IsTypeFault (g.R.Read.remaining c.args.keys.now) (g.R.Read.remaining c.read.new.self) c.args.odt.now c.type_piece.new.odt (g.W.Write.contents c.args.out.now) (g.W.Write.contents c.type_piece.new.out))
+    (IsTypeFault (g.R.Read.remaining c.args.keys.now ⇒ g.R.Read.remaining c.read.new.self) (c.args.odt.now ⇒ c.type_piece.new.odt) (g.W.Write.contents c.args.out.now ⇒ g.W.Write.contents c.type_piece.new.out))
     c.from_residual.ensures.1
     (in_part _ _ _ _ _ _ _ _ _ _ c.in-Ok.read c.read.new.buf _ c.loop-count.invariant.so_far
     (c.in-Ok.ensures.bound.0, c.in-Ok.ensures.bound.1, c.in-Ok.ensures.bytes.0, c.in_err-type_piece.ensures.machine, search rules)

@@ -19,7 +19,7 @@ use Rattle.looking_law.proofs.Believed.{honest_are_true, unsaid_are_true}
 use Rattle.reading_engine.specs.declared.stop.Stop.{Stop}
 use Rattle.reading_engine.specs.declared.stop.Stop.TheVariants.{Ended, LineFailed, TurnsOver}
 use Rattle.reading_engine.specs.Belief.{IsBelievableAt, IsBelievableOver}
-use Rattle.reading_engine.specs.Inquired.{Inquired, IsSaid}
+use Rattle.reading_engine.specs.Inquired.{Inquired, IsSaid, inquiry}
 
 -- ---- what was heard in a dialogue
 
@@ -83,6 +83,6 @@ believable (LineFailed fault) left old new heard items reads is (inl s) =
 believable (LineFailed fault) left old new heard items reads is (inr s) =
     (cut_believed old new heard items reads is s, again_believed old new heard items reads is (sym (heard_of_more items s.0) ∙ (ap heard_of (sym s.1) ∙ heard_of-dialogue old heard)))
 
-pub inquired_believable : (turns : ℕ) (stop : Stop) (old new : Reader) (line line' : Option (List Item)) → IsReader old → Inquired turns (Some stop) old new line line' → IsBelievableOver stop old new line line'
+pub inquired_believable : (turns : ℕ) (stop : Stop) (old new : Reader) (line line' : Option (List Item)) → IsReader old → Inquired turns (inquiry old new (Some stop)) line line' → IsBelievableOver stop old new line line'
 inquired_believable turns stop old new line line' reads s items gained =
     subst (IsBelievableAt stop old new) (sym (gained_is line line' items s.said gained s.on_line)) (believable stop (turns - length s.heard) old new s.heard s.said reads s.reader s.items)

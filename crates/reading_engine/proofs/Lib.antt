@@ -1,3 +1,4 @@
 pub mod Beliefs
 mod Calls
+pub mod Inquiries
 pub mod Stretches

@@ -15,7 +15,7 @@ use Rattle.reading_core.specs.ReadingTable.{ask}
 use Rattle.looking_law.specs.Belief.{dialogue}
 use Rattle.reading_engine.specs.declared.stop.Stop.{Stop}
 use Rattle.reading_engine.specs.declared.stop.Stop.TheVariants.{Ended, LineFailed, TurnsOver}
-use Rattle.reading_engine.specs.Inquired.{GoesOn, IsSaid, Inquired, failure_of}
+use Rattle.reading_engine.specs.Inquired.{GoesOn, IsSaid, Inquired, failure_of, inquiry}
 
 -- ---- dialogues
 
@@ -52,7 +52,7 @@ items_join stop turns more a b heard later first second is all whole s =
     subst (λ n. IsSaid stop n (dialogue a (heard ++ later)) (first ++ second)) left
     (subst (λ items. IsSaid stop (more - length later) items (first ++ second)) dialogues (said_join stop (more - length later) first (dialogue b later) second s))
 
-pub inquired_join : (turns more : ℕ) (stop : Option Stop) (a b c : Reader) (line line' line'' : Option (List Item)) → Inquired turns None a b line line' → Inquired more stop b c line' line'' → Inquired (turns + more) stop a c line line''
+pub inquired_join : (turns more : ℕ) (stop : Option Stop) (a b c : Reader) (line line' line'' : Option (List Item)) → Inquired turns (inquiry a b None) line line' → Inquired more (inquiry b c stop) line' line'' → Inquired (turns + more) (inquiry a c stop) line line''
 inquired_join turns more stop a b c line line' line'' s t = let all : length s.heard ≡ turns = omega (arith, s.within, s.items.1) in record {
   heard = s.heard ++ t.heard;
   said = s.said ++ t.said;
@@ -70,28 +70,28 @@ more_left fault turns all heard items now le (inl s) = inl (s.0, omega (arith, l
 more_left fault turns all heard items now le (inr s) = inr s
 
 -- a failure with turns to spare
-pub inquired_wider : (fault : LineFault) (turns all : ℕ) (a b : Reader) (line line' : Option (List Item)) → turns ≤ all → Inquired turns (Some (LineFailed fault)) a b line line' → Inquired all (Some (LineFailed fault)) a b line line'
+pub inquired_wider : (fault : LineFault) (turns all : ℕ) (a b : Reader) (line line' : Option (List Item)) → turns ≤ all → Inquired turns (inquiry a b (Some (LineFailed fault))) line line' → Inquired all (inquiry a b (Some (LineFailed fault))) line line'
 inquired_wider fault turns all a b line line' le s =
     record { heard = s.heard; said = s.said; reader = s.reader; goes_on = s.goes_on; within = omega (arith, s.within, le); items = more_left fault turns all s.heard (dialogue a s.heard) s.said le s.items; on_line = s.on_line }
 
-pub inquired_ended : (end : End) (turns all : ℕ) (a b : Reader) (line line' : Option (List Item)) → turns ≤ all → Inquired turns None a b line line' → Inquired all (Some (Ended end)) a b line line'
+pub inquired_ended : (end : End) (turns all : ℕ) (a b : Reader) (line line' : Option (List Item)) → turns ≤ all → Inquired turns (inquiry a b None) line line' → Inquired all (inquiry a b (Some (Ended end))) line line'
 inquired_ended end turns all a b line line' le s =
     record { heard = s.heard; said = s.said; reader = s.reader; goes_on = s.goes_on; within = omega (arith, s.within, le); items = s.items.0; on_line = s.on_line }
 
-pub inquired_over : (turns : ℕ) (a b : Reader) (line line' : Option (List Item)) → Inquired turns None a b line line' → Inquired turns (Some TurnsOver) a b line line'
+pub inquired_over : (turns : ℕ) (a b : Reader) (line line' : Option (List Item)) → Inquired turns (inquiry a b None) line line' → Inquired turns (inquiry a b (Some TurnsOver)) line line'
 inquired_over turns a b line line' s =
     record { heard = s.heard; said = s.said; reader = s.reader; goes_on = s.goes_on; within = s.within; items = s.items; on_line = s.on_line }
 
 -- ---- one turn
 
 -- the line fails at the hear
-pub turn_deaf : (fault : LineFault) (r : Reader) (line line' : Option (List Item)) → SaysNothing line line' → Inquired 1 (Some (LineFailed fault)) r r line line'
+pub turn_deaf : (fault : LineFault) (r : Reader) (line line' : Option (List Item)) → SaysNothing line line' → Inquired 1 (inquiry r r (Some (LineFailed fault))) line line'
 turn_deaf fault r line line' k =
     record { heard = []; said = []; reader = refl; goes_on = tt; within = omega arith; items = inl (refl, omega arith); on_line = gains_kept line line' k }
 
 -- the line fails at the send
 pub turn_unsent : (fault : LineFault) (old new : Reader) (heard : Heard) (key : ℕ) (line line' line'' : Option (List Item)) → ended old.phase ≡ None → new ≡ (ask old heard).next → (ask old heard).key ≡ Some key →
-    Gains line line' (Came heard ∷ []) → SaysNothing line' line'' → Inquired 1 (Some (LineFailed fault)) old new line line''
+    Gains line line' (Came heard ∷ []) → SaysNothing line' line'' → Inquired 1 (inquiry old new (Some (LineFailed fault))) line line''
 turn_unsent fault old new heard key line line' line'' goes next sends hears k = record {
   heard = heard ∷ [];
   said = Came heard ∷ [];
@@ -104,7 +104,7 @@ turn_unsent fault old new heard key line line' line'' goes next sends hears k = 
 
 -- the key is sent
 pub turn_sent : (old new : Reader) (heard : Heard) (key : ℕ) (line line' line'' : Option (List Item)) → ended old.phase ≡ None → new ≡ (ask old heard).next → (ask old heard).key ≡ Some key →
-    Gains line line' (Came heard ∷ []) → Gains line' line'' (Sent key ∷ []) → Inquired 1 None old new line line''
+    Gains line line' (Came heard ∷ []) → Gains line' line'' (Sent key ∷ []) → Inquired 1 (inquiry old new None) line line''
 turn_sent old new heard key line line' line'' goes next sends hears sent = record {
   heard = heard ∷ [];
   said = Came heard ∷ Sent key ∷ [];
@@ -117,7 +117,7 @@ turn_sent old new heard key line line' line'' goes next sends hears sent = recor
 
 -- there is no key to send
 pub turn_still : (old new : Reader) (heard : Heard) (line line' : Option (List Item)) → ended old.phase ≡ None → new ≡ (ask old heard).next → (ask old heard).key ≡ None →
-    Gains line line' (Came heard ∷ []) → Inquired 1 None old new line line'
+    Gains line line' (Came heard ∷ []) → Inquired 1 (inquiry old new None) line line'
 turn_still old new heard line line' goes next silent hears = record {
   heard = heard ∷ [];
   said = Came heard ∷ [];

@@ -1,14 +1,20 @@
--- What the engine's turns do to the reading core and on the line.
-use Rattle.std.specs.Prelude.{◌≡◌, ℕ, ◌-◌, ◌<◌, ◌≤◌, ◌⊎◌, List, [], ◌∷◌, length, Option, Some, None, Result, Ok, Err, ⊤}
+-- What the engine's turns do to the reading core and on the line, and all that the engine promises of them.
+use Rattle.std.specs.Prelude.{◌≡◌, ℕ, ◌-◌, ◌<◌, ◌≤◌, ◌⊎◌, List, [], ◌∷◌, length, Option, Some, None, Result, Ok, Err, IfSome, ⊤}
 use Rattle.host_core.specs.declared.heard.Heard.{Heard}
 use Rattle.load_devices.specs.declared.fault.LineFault.{LineFault}
 use Rattle.load_devices.specs.declared.item.Item.{Item}
-use Rattle.load_devices.specs.Told.{Gains}
+use Rattle.load_devices.specs.Devices.{LineTold}
 use Rattle.load_devices.specs.Dialogue.{LacksKey}
+use Rattle.load_devices.specs.Failures.{CountsFault, IsLastFault}
+use Rattle.load_devices.specs.Told.{Gains}
+use Rattle.reading_core.specs.Bound.{reading_bound}
+use Rattle.reading_core.specs.Invariant.{IsReader}
 use Rattle.reading_core.specs.Laws.{led}
 use Rattle.reading_core.specs.Reader.{Reader, ended}
 use Rattle.reading_core.specs.ReadingTable.{ask}
 use Rattle.looking_law.specs.Belief.{dialogue}
+use Rattle.reading_engine.specs.Belief.{IsBelievableOver}
+use Rattle.reading_engine.specs.Failing.{line_fault}
 use Rattle.reading_engine.specs.declared.stop.Stop.{Stop}
 use Rattle.reading_engine.specs.declared.stop.Stop.TheVariants.{Ended, LineFailed, TurnsOver}
 
@@ -25,17 +31,25 @@ IsSaid (Some TurnsOver) left all said = (said ≡ all) × (left ≡ 0)
 IsSaid (Some (Ended end)) left all said = said ≡ all
 IsSaid None left all said = (said ≡ all) × (left ≡ 0)
 
--- at most so many turns from one reader to another, which stopped so: what was heard and what was said on the line,
--- with what the line told before and tells after
-pub record Inquired (turns : ℕ) (stop : Option Stop) (old new : Reader) (line line' : Option (List Item)) : Type 0 where
+-- what turns made of a reader, and how they stopped: None, where they are over and may go on
+pub record Inquiry : Type 0 where
+  pub old : Reader
+  pub new : Reader
+  pub stop : Option Stop
+
+abbrev pub inquiry : Reader → Reader → Option Stop → Inquiry
+inquiry old new stop = record { old = old; new = new; stop = stop }
+
+-- at most so many turns: what was heard and what was said on the line, with what the line told before and tells after
+pub record Inquired (most : ℕ) (inquiry : Inquiry) (line line' : Option (List Item)) : Type 0 where
   pub heard : List Heard
   pub said : List Item
-  -- the core heard these things, and nothing more once it had an end
-  pub reader : new ≡ led old heard
-  pub goes_on : GoesOn old heard
-  pub within : length heard ≤ turns
-  -- each character right after the heard thing that makes the core send it
-  pub items : IsSaid stop (turns - length heard) (dialogue old heard) said
+  -- the reader heard these things, and nothing more once it had an end
+  pub reader : inquiry.new ≡ led inquiry.old heard
+  pub goes_on : GoesOn inquiry.old heard
+  pub within : length heard ≤ most
+  -- each character right after the heard thing that makes the reader send it
+  pub items : IsSaid inquiry.stop (most - length heard) (dialogue inquiry.old heard) said
   pub on_line : Gains line line' said
 
 -- the stop that a call's failure makes, if it failed
@@ -48,3 +62,18 @@ abbrev pub TellsEnd : Stop → Reader → Type 0
 TellsEnd (Ended end) r = ended r.phase ≡ Some end
 TellsEnd TurnsOver r = ended r.phase ≡ None
 TellsEnd (LineFailed fault) r = ⊤
+
+-- what the engine makes of a reader and of a line, in at most so many turns
+pub record IsInquired (most : ℕ) (inquiry : Inquiry) (before after : LineTold) : Type 0 where
+  -- what was heard and said, in its order
+  pub turns : Inquired most inquiry before.said after.said
+  pub end : IfSome inquiry.stop (λ stop. TellsEnd stop inquiry.new)
+  pub counted : CountsFault (line_fault inquiry.stop) before.failures after.failures
+  pub named : IsLastFault (line_fault inquiry.stop) after.fault
+  -- what may be believed where the line was honest
+  pub honest : IfSome inquiry.stop (λ stop. IsBelievableOver stop inquiry.old inquiry.new before.said after.said)
+  -- it is a reader of the same words, which has sent no more than such a reader may
+  pub same_addresses : inquiry.new.addresses ≡ inquiry.old.addresses
+  pub same_patience : inquiry.new.patience ≡ inquiry.old.patience
+  pub bound : inquiry.new.sent ≤ reading_bound (length inquiry.new.addresses) inquiry.new.patience
+  pub kept : IsReader inquiry.new

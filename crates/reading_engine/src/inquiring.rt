@@ -1,11 +1,9 @@
-ghost use Rattle.std.specs.Prelude.{◌≡◌, ◌≤◌, None, Some, length};
-ghost use Rattle.load_devices.specs.Failures.{CountsFault, IsLastFault, count_after, fault_of};
-ghost use Rattle.reading_core.specs.Bound.{reading_bound};
+ghost use Rattle.std.specs.Prelude.{◌≡◌, None, Some};
+ghost use Rattle.load_devices.specs.Devices.{line_told};
+ghost use Rattle.load_devices.specs.Failures.{count_after, fault_of};
 ghost use Rattle.reading_core.specs.Invariant.{IsReader};
 ghost use Rattle.reading_core.specs.Reader.{ended};
-ghost use Rattle.reading_engine.specs.Belief.{IsBelievableOver};
-ghost use Rattle.reading_engine.specs.Failing.{line_fault};
-ghost use Rattle.reading_engine.specs.Inquired.{Inquired, TellsEnd, failure_of};
+ghost use Rattle.reading_engine.specs.Inquired.{Inquired, IsInquired, failure_of, inquiry};
 
 use crate::stop::Stop;
 use load_devices::{Line, LineFault, Onlooker, Sight};
@@ -23,15 +21,7 @@ pub fn inquire<L: Line, O: Onlooker>(
     turns: u64,
     onlooker: &O,
 ) -> (ReadingCore, Stop)
-    ensures turns { Inquired turns (Some result.1) core result.0 (L.told line.old) (L.told line.new) }
-    ensures end { TellsEnd result.1 result.0 }
-    ensures counted { CountsFault (line_fault (Some result.1)) (L.fault_count line.old) (L.fault_count line.new) }
-    ensures fault { IsLastFault (line_fault (Some result.1)) (L.last_fault line.new) }
-    ensures honest { IsBelievableOver result.1 core result.0 (L.told line.old) (L.told line.new) }
-    ensures same_addresses { result.0.addresses ≡ core.addresses }
-    ensures same_patience { result.0.patience ≡ core.patience }
-    ensures bound { result.0.sent ≤ reading_bound (length result.0.addresses) result.0.patience }
-    ensures kept { IsReader result.0 }
+    ensures inquired { IsInquired turns (inquiry core result.0 (Some result.1)) (line_told L.Line line.old) (line_told L.Line line.new) }
 {
     let mut end = core.end();
     for _ in 0..turns {
@@ -58,7 +48,7 @@ fn turn<L: Line, O: Onlooker>(
 ) -> Result<(), LineFault>
     requires goes_on { ended core.old.phase ≡ None }
     requires kept { IsReader core.old }
-    ensures turn { Inquired 1 (failure_of result) core.old core.new (L.told line.old) (L.told line.new) }
+    ensures turn { Inquired 1 (inquiry core.old core.new (failure_of result)) (L.told line.old) (L.told line.new) }
     ensures counted { L.fault_count line.new ≡ count_after (L.fault_count line.old) result }
     ensures fault { L.last_fault line.new ≡ fault_of result }
     ensures kept { IsReader core.new }

@@ -1,10 +1,7 @@
-ghost use Rattle.std.specs.Prelude.{◌≡◌, ◌≤◌, Some, length};
+ghost use Rattle.std.specs.Prelude.{◌≡◌, Some};
 ghost use Rattle.honest_line.specs.Lent.{HasMovedOn};
-ghost use Rattle.reading_core.specs.Bound.{reading_bound};
-ghost use Rattle.reading_core.specs.Invariant.{IsReader};
-ghost use Rattle.load_devices.specs.Failures.{CountsFault, IsLastFault};
-ghost use Rattle.reading_engine.specs.Failing.{line_fault};
-ghost use Rattle.reading_engine.specs.Inquired.{Inquired, TellsEnd};
+ghost use Rattle.load_engine.specs.Lent.{memory_told};
+ghost use Rattle.reading_engine.specs.Inquired.{IsInquired, inquiry};
 ghost use Rattle.reading_engine.specs.Lent.{ReadsTrue};
 
 use crate::inquiring::inquire;
@@ -24,14 +21,7 @@ pub fn inquire_in_memory(
 ) -> ((ReadingCore, Stop), MemoryLine)
     ensures moved { HasMovedOn line result.1 }
     ensures reading { ReadsTrue result.0.1 core result.0.0 line result.1 }
-    ensures turns { Inquired turns (Some result.0.1) core result.0.0 (Some line.items) (Some result.1.items) }
-    ensures end { TellsEnd result.0.1 result.0.0 }
-    ensures counted { CountsFault (line_fault (Some result.0.1)) line.failures result.1.failures }
-    ensures fault { IsLastFault (line_fault (Some result.0.1)) result.1.fault }
-    ensures same_addresses { result.0.0.addresses ≡ core.addresses }
-    ensures same_patience { result.0.0.patience ≡ core.patience }
-    ensures bound { result.0.0.sent ≤ reading_bound (length result.0.0.addresses) result.0.0.patience }
-    ensures kept { IsReader result.0.0 }
+    ensures inquired { IsInquired turns (inquiry core result.0.0 (Some result.0.1)) (memory_told line) (memory_told result.1) }
 {
     inquire_lent::<Brand>(core, line, turns)
 }
@@ -45,14 +35,7 @@ fn inquire_lent<E: Opening>(
     requires { line ≡ E.line }
     ensures moved { HasMovedOn E.line result.1 }
     ensures reading { ReadsTrue result.0.1 core result.0.0 E.line result.1 }
-    ensures turns { Inquired turns (Some result.0.1) core result.0.0 (Some line.items) (Some result.1.items) }
-    ensures end { TellsEnd result.0.1 result.0.0 }
-    ensures counted { CountsFault (line_fault (Some result.0.1)) line.failures result.1.failures }
-    ensures fault { IsLastFault (line_fault (Some result.0.1)) result.1.fault }
-    ensures same_addresses { result.0.0.addresses ≡ core.addresses }
-    ensures same_patience { result.0.0.patience ≡ core.patience }
-    ensures bound { result.0.0.sent ≤ reading_bound (length result.0.0.addresses) result.0.0.patience }
-    ensures kept { IsReader result.0.0 }
+    ensures inquired { IsInquired turns (inquiry core result.0.0 (Some result.0.1)) (memory_told line) (memory_told result.1) }
 {
     let mut lent: LentLine<E> = LentLine::lend(line);
     let answer = inquire(core, &mut lent, turns, &Unwatched);

@@ -1,2 +1,3 @@
 mod Harm
 mod Stretches
+mod Tryings

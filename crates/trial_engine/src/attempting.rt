@@ -1,9 +1,8 @@
 ghost use Rattle.std.specs.Prelude.{◌≡◌, None, Some};
-ghost use Rattle.load_devices.specs.Failures.{CountsFault, IsLastFault, count_after, fault_of};
+ghost use Rattle.load_devices.specs.Devices.{line_told};
+ghost use Rattle.load_devices.specs.Failures.{count_after, fault_of};
 ghost use Rattle.trial_core.specs.Trial.{IsTrial, ended};
-ghost use Rattle.trial_engine.specs.Attempted.{Attempted, TellsEnd, failure_of};
-ghost use Rattle.trial_engine.specs.Failing.{line_fault};
-ghost use Rattle.trial_engine.specs.Harmless.{IsHarmlessOver};
+ghost use Rattle.trial_engine.specs.Attempted.{Attempted, IsTrialMade, failure_of, trying};
 
 use crate::stop::Stop;
 use load_devices::{Line, LineFault};
@@ -16,15 +15,7 @@ use trial_core::Trial;
 /// stops the engine. The trial that comes back has taken the step.
 pub fn attempt<L: Line>(mut trial: Trial, line: &mut L, turns: u64) -> (Trial, Stop)
     requires { IsTrial trial }
-    ensures turns { Attempted turns (Some result.1) trial result.0 (L.told line.old) (L.told line.new) }
-    ensures end { TellsEnd result.1 result.0 }
-    ensures counted { CountsFault (line_fault (Some result.1)) (L.fault_count line.old) (L.fault_count line.new) }
-    ensures fault { IsLastFault (line_fault (Some result.1)) (L.last_fault line.new) }
-    ensures harmless { IsHarmlessOver trial (L.told line.old) (L.told line.new) }
-    ensures same_address { result.0.address ≡ trial.address }
-    ensures same_digits { result.0.digits ≡ trial.digits }
-    ensures same_patience { result.0.patience ≡ trial.patience }
-    ensures kept { IsTrial result.0 }
+    ensures tried { IsTrialMade turns (trying trial result.0 (Some result.1)) (line_told L.Line line.old) (line_told L.Line line.new) }
 {
     let mut end = trial.end();
     for _ in 0..turns {
@@ -47,7 +38,7 @@ pub fn attempt<L: Line>(mut trial: Trial, line: &mut L, turns: u64) -> (Trial, S
 fn turn<L: Line>(trial: &mut Trial, line: &mut L) -> Result<(), LineFault>
     requires goes_on { ended trial.old.phase ≡ None }
     requires kept { IsTrial trial.old }
-    ensures turn { Attempted 1 (failure_of result) trial.old trial.new (L.told line.old) (L.told line.new) }
+    ensures turn { Attempted 1 (trying trial.old trial.new (failure_of result)) (L.told line.old) (L.told line.new) }
     ensures counted { L.fault_count line.new ≡ count_after (L.fault_count line.old) result }
     ensures fault { L.last_fault line.new ≡ fault_of result }
     ensures kept { IsTrial trial.new }

@@ -1,37 +1,12 @@
-use Rattle.std.proofs.Common.{◌≡◌, ◌+◌, Some, None, ap, subst, ◌∙◌, arith}
-use Rattle.reading_core.proofs.Lives.{led_addresses, led_patience}
+use Rattle.std.proofs.Common.{◌≡◌, ◌+◌, Some, None, sym, subst, ◌∙◌, arith}
+use Rattle.load_devices.specs.Devices.{line_told}
+use Rattle.load_devices.specs.Failures.{CountsFault}
 use Rattle.reading_engine.specs.declared.stop.Stop.TheVariants.{LineFailed}
-use Rattle.reading_engine.specs.Inquired.{Inquired}
-use Rattle.reading_engine.proofs.Beliefs.{inquired_believable}
+use Rattle.reading_engine.specs.Inquired.{Inquired, inquiry}
+use Rattle.reading_engine.proofs.Inquiries.{inquired}
 use Rattle.reading_engine.proofs.Stretches.{inquired_join, inquired_wider, inquired_ended, inquired_over}
 use Rattle.reading_engine.proofs.inquiring.inquire.Goals as goal
 use Rattle.reading_engine.proofs.inquiring.inquire.Goals.{in-Some-end, in-None}
-
-pub returns-in-Some-clause-turns : goal.returns-in-Some-clause-turns
-returns-in-Some-clause-turns g c = inquired_ended c.in-Some.end c.loop.counter c.args.turns c.args.core c.loop.core (g.L.Line.told c.args.line.now) (g.L.Line.told c.loop.line) c.loop.auto.counter-end c.loop.invariant.stretch
-
-pub returns-in-Some-clause-honest : goal.returns-in-Some-clause-honest
-returns-in-Some-clause-honest g c = inquired_believable _ _ _ _ _ _ c.loop.invariant.first (returns-in-Some-clause-turns g c)
-
-pub returns-in-Some-clause-same_addresses : goal.returns-in-Some-clause-same_addresses
-returns-in-Some-clause-same_addresses g c = let s = c.loop.invariant.stretch in ap (λ r. r.addresses) s.reader ∙ led_addresses c.args.core s.heard
-
-pub returns-in-Some-clause-same_patience : goal.returns-in-Some-clause-same_patience
-returns-in-Some-clause-same_patience g c = let s = c.loop.invariant.stretch in ap (λ r. r.patience) s.reader ∙ led_patience c.args.core s.heard
-
-pub returns-in-Err-clause-turns : goal.returns-in-Err-clause-turns
-returns-in-Err-clause-turns g c =
-    inquired_wider c.in-Err.fault (c.loop.counter + 1) c.args.turns c.args.core c.turn.new.core (g.L.Line.told c.args.line.now) (g.L.Line.told c.turn.new.line) (omega (arith, c.loop-test.true))
-    (inquired_join c.loop.counter 1 (Some (LineFailed c.in-Err.fault)) c.args.core c.loop.core c.turn.new.core (g.L.Line.told c.args.line.now) (g.L.Line.told c.loop.line) (g.L.Line.told c.turn.new.line) c.loop.invariant.stretch c.in-Err.ensures.turn)
-
-pub returns-in-Err-clause-honest : goal.returns-in-Err-clause-honest
-returns-in-Err-clause-honest g c = inquired_believable _ _ _ _ _ _ c.loop.invariant.first (returns-in-Err-clause-turns g c)
-
-pub returns-in-Err-clause-same_addresses : goal.returns-in-Err-clause-same_addresses
-returns-in-Err-clause-same_addresses g c = let s = returns-in-Err-clause-turns g c in ap (λ r. r.addresses) s.reader ∙ led_addresses c.args.core s.heard
-
-pub returns-in-Err-clause-same_patience : goal.returns-in-Err-clause-same_patience
-returns-in-Err-clause-same_patience g c = let s = returns-in-Err-clause-turns g c in ap (λ r. r.patience) s.reader ∙ led_patience c.args.core s.heard
 
 pub loop-preserved : goal.loop-preserved
 loop-preserved g c =
@@ -44,20 +19,44 @@ loop-preserved g c =
       end = c.end-end-in-loop.ensures.value;
     }
 
-pub returns-clause-turns : goal.returns-clause-turns
-returns-clause-turns g c =
+-- the core has an end
+pub returns-in-Some : goal.returns-in-Some
+returns-in-Some g c =
+    let inv = c.loop.invariant in
+    record {
+      inquired = inquired _ c.args.core c.loop.core _ (line_told g.L.Line c.args.line.now) (line_told g.L.Line c.loop.line) inv.first inv.kept
+          (inquired_ended c.in-Some.end c.loop.counter c.args.turns c.args.core c.loop.core (g.L.Line.told c.args.line.now) (g.L.Line.told c.loop.line) c.loop.auto.counter-end inv.stretch)
+          (sym inv.end ∙ c.in-Some.is) inv.counted tt;
+    }
+
+-- a turn failed
+pub returns-in-Err : goal.returns-in-Err
+returns-in-Err g c =
+    let inv = c.loop.invariant in
+    let turn = c.in-Err.ensures in
+    record {
+      inquired = inquired _ c.args.core c.turn.new.core _ (line_told g.L.Line c.args.line.now) (line_told g.L.Line c.turn.new.line) inv.first turn.kept
+          (inquired_wider c.in-Err.fault (c.loop.counter + 1) c.args.turns c.args.core c.turn.new.core (g.L.Line.told c.args.line.now) (g.L.Line.told c.turn.new.line) (omega (arith, c.loop-test.true))
+          (inquired_join c.loop.counter 1 (Some (LineFailed c.in-Err.fault)) c.args.core c.loop.core c.turn.new.core (g.L.Line.told c.args.line.now) (g.L.Line.told c.loop.line) (g.L.Line.told c.turn.new.line) inv.stretch turn.turn))
+          tt (subst (λ count. CountsFault (Some c.in-Err.fault) count (g.L.Line.fault_count c.turn.new.line)) inv.counted turn.counted) turn.fault;
+    }
+
+-- the turns are over
+pub returns : goal.returns
+returns g c =
+    let inv = c.loop.invariant in
     let all : c.loop.counter ≡ c.args.turns = omega (arith, c.loop-test.false, c.loop.auto.counter-end) in
+    let before = line_told g.L.Line c.args.line.now in
+    let after = line_told g.L.Line c.loop.line in
     elim c.match-end-2.branch [
-      | in-Some-end w ↦ rw w.stop-is (inquired_ended w.in-Some-end.end c.loop.counter c.args.turns c.args.core c.loop.core (g.L.Line.told c.args.line.now) (g.L.Line.told c.loop.line) c.loop.auto.counter-end c.loop.invariant.stretch)
-      | in-None w ↦ rw w.stop-is (inquired_over c.args.turns c.args.core c.loop.core (g.L.Line.told c.args.line.now) (g.L.Line.told c.loop.line)
-          (subst (λ n. Inquired n None c.args.core c.loop.core (g.L.Line.told c.args.line.now) (g.L.Line.told c.loop.line)) all c.loop.invariant.stretch))
+      | in-Some-end w ↦ rw w.stop-is (record {
+        inquired = inquired _ c.args.core c.loop.core _ before after inv.first inv.kept
+            (inquired_ended w.in-Some-end.end c.loop.counter c.args.turns c.args.core c.loop.core before.said after.said c.loop.auto.counter-end inv.stretch)
+            (sym inv.end ∙ w.in-Some-end.is) inv.counted tt;
+      })
+      | in-None w ↦ rw w.stop-is (record {
+        inquired = inquired _ c.args.core c.loop.core _ before after inv.first inv.kept
+            (inquired_over c.args.turns c.args.core c.loop.core before.said after.said (subst (λ n. Inquired n (inquiry c.args.core c.loop.core None) before.said after.said) all inv.stretch))
+            (sym inv.end ∙ w.in-None.is) inv.counted tt;
+      })
     ]
-
-pub returns-clause-honest : goal.returns-clause-honest
-returns-clause-honest g c = inquired_believable _ _ _ _ _ _ c.loop.invariant.first (returns-clause-turns g c)
-
-pub returns-clause-same_addresses : goal.returns-clause-same_addresses
-returns-clause-same_addresses g c = let s = c.loop.invariant.stretch in ap (λ r. r.addresses) s.reader ∙ led_addresses c.args.core s.heard
-
-pub returns-clause-same_patience : goal.returns-clause-same_patience
-returns-clause-same_patience g c = let s = c.loop.invariant.stretch in ap (λ r. r.patience) s.reader ∙ led_patience c.args.core s.heard

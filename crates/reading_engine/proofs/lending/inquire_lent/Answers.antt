@@ -1,5 +1,7 @@
-use Rattle.std.proofs.Common.{subst, sym, ◌∙◌}
+use Rattle.std.proofs.Common.{Some, subst, sym, ◌∙◌}
 use Rattle.honest_line.specs.LineTable.{LineValue}
+use Rattle.load_engine.specs.Lent.{memory_told}
+use Rattle.reading_engine.specs.Inquired.{IsInquired, inquiry}
 use Rattle.reading_engine.specs.Lent.{ReadsTrue}
 use Rattle.reading_engine.proofs.Calls.{reads_true}
 use Rattle.reading_engine.proofs.lending.inquire_lent.Goals as goal
@@ -10,4 +12,11 @@ returns-clause-reading g c =
     let next = c.inquire-answer.result.0 in
     subst (ReadsTrue stop c.args.core next g.E.Opening.line) (sym c.take_back.ensures.same)
     (subst (λ (line : LineValue). ReadsTrue stop c.args.core next line c.inquire-answer.new.line) (c.lend-lent.ensures ∙ c.requires)
-    (reads_true stop c.args.core next c.lend-lent.result c.inquire-answer.new.line c.inquire-answer.ensures.honest))
+    (reads_true stop c.args.core next c.lend-lent.result c.inquire-answer.new.line c.inquire-answer.ensures.inquired.honest))
+
+pub returns-clause-inquired : goal.returns-clause-inquired
+returns-clause-inquired g c =
+    let answer = c.inquire-answer in
+    let this = inquiry c.args.core answer.result.0 (Some answer.result.1) in
+    subst (λ (line : LineValue). IsInquired c.args.turns this (memory_told line) (memory_told c.take_back.result)) c.lend-lent.ensures
+    (subst (λ (line : LineValue). IsInquired c.args.turns this (memory_told c.lend-lent.result) (memory_told line)) (sym c.take_back.ensures.same) answer.ensures.inquired)

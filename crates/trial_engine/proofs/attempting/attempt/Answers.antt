@@ -1,38 +1,11 @@
-use Rattle.std.proofs.Common.{◌+◌, Some, None, ap, ◌∙◌, arith}
-use Rattle.trial_core.proofs.Lives.{led_address, led_digits, led_patience}
+use Rattle.std.proofs.Common.{◌≡◌, ◌+◌, Some, None, sym, subst, ◌∙◌, arith}
+use Rattle.load_devices.specs.Devices.{line_told}
+use Rattle.load_devices.specs.Failures.{CountsFault}
 use Rattle.trial_engine.specs.declared.stop.Stop.TheVariants.{LineFailed}
-use Rattle.trial_engine.proofs.Harm.{attempted_harmless}
-use Rattle.trial_engine.proofs.Stretches.{attempted_join, attempted_wider}
+use Rattle.trial_engine.specs.Attempted.{Attempted, trying}
+use Rattle.trial_engine.proofs.Stretches.{attempted_join, attempted_wider, attempted_ended, attempted_over}
+use Rattle.trial_engine.proofs.Tryings.{made}
 use Rattle.trial_engine.proofs.attempting.attempt.Goals as goal
-
-pub returns-in-Some-clause-harmless : goal.returns-in-Some-clause-harmless
-returns-in-Some-clause-harmless g c = attempted_harmless _ _ _ _ _ _ c.requires c.loop.invariant.stretch
-
-pub returns-in-Some-clause-same_address : goal.returns-in-Some-clause-same_address
-returns-in-Some-clause-same_address g c = let s = c.loop.invariant.stretch in ap (λ t. t.address) s.trial ∙ led_address c.args.trial s.heard
-
-pub returns-in-Some-clause-same_digits : goal.returns-in-Some-clause-same_digits
-returns-in-Some-clause-same_digits g c = let s = c.loop.invariant.stretch in ap (λ t. t.digits) s.trial ∙ led_digits c.args.trial s.heard
-
-pub returns-in-Some-clause-same_patience : goal.returns-in-Some-clause-same_patience
-returns-in-Some-clause-same_patience g c = let s = c.loop.invariant.stretch in ap (λ t. t.patience) s.trial ∙ led_patience c.args.trial s.heard
-
-pub returns-in-Err-clause-turns : goal.returns-in-Err-clause-turns
-returns-in-Err-clause-turns g c =
-    attempted_wider c.in-Err.fault (c.loop.counter + 1) c.args.turns c.args.trial c.turn.new.trial (g.L.Line.told c.args.line.now) (g.L.Line.told c.turn.new.line) (omega (arith, c.loop-test.true))
-    (attempted_join c.loop.counter 1 (Some (LineFailed c.in-Err.fault)) c.args.trial c.loop.trial c.turn.new.trial (g.L.Line.told c.args.line.now) (g.L.Line.told c.loop.line) (g.L.Line.told c.turn.new.line) c.loop.invariant.stretch c.in-Err.ensures.turn)
-
-pub returns-in-Err-clause-harmless : goal.returns-in-Err-clause-harmless
-returns-in-Err-clause-harmless g c = attempted_harmless _ _ _ _ _ _ c.requires (returns-in-Err-clause-turns g c)
-
-pub returns-in-Err-clause-same_address : goal.returns-in-Err-clause-same_address
-returns-in-Err-clause-same_address g c = let s = returns-in-Err-clause-turns g c in ap (λ t. t.address) s.trial ∙ led_address c.args.trial s.heard
-
-pub returns-in-Err-clause-same_digits : goal.returns-in-Err-clause-same_digits
-returns-in-Err-clause-same_digits g c = let s = returns-in-Err-clause-turns g c in ap (λ t. t.digits) s.trial ∙ led_digits c.args.trial s.heard
-
-pub returns-in-Err-clause-same_patience : goal.returns-in-Err-clause-same_patience
-returns-in-Err-clause-same_patience g c = let s = returns-in-Err-clause-turns g c in ap (λ t. t.patience) s.trial ∙ led_patience c.args.trial s.heard
 
 pub loop-preserved : goal.loop-preserved
 loop-preserved g c =
@@ -44,26 +17,50 @@ loop-preserved g c =
       end = c.end-end-in-loop.ensures;
     }
 
-pub returns-in-Some-end-clause-harmless : goal.returns-in-Some-end-clause-harmless
-returns-in-Some-end-clause-harmless g c = attempted_harmless _ _ _ _ _ _ c.requires c.loop.invariant.stretch
+-- the trial has an end
+pub returns-in-Some : goal.returns-in-Some
+returns-in-Some g c =
+    let inv = c.loop.invariant in
+    let before = line_told g.L.Line c.args.line.now in
+    let after = line_told g.L.Line c.loop.line in
+    record {
+      tried = made _ c.args.trial c.loop.trial _ before after c.requires inv.kept
+          (attempted_ended c.in-Some.end c.loop.counter c.args.turns c.args.trial c.loop.trial before.said after.said c.loop.auto.counter-end inv.stretch) (sym inv.end ∙ c.in-Some.is) inv.counted tt;
+    }
 
-pub returns-in-Some-end-clause-same_address : goal.returns-in-Some-end-clause-same_address
-returns-in-Some-end-clause-same_address g c = let s = c.loop.invariant.stretch in ap (λ t. t.address) s.trial ∙ led_address c.args.trial s.heard
+-- a turn failed
+pub returns-in-Err : goal.returns-in-Err
+returns-in-Err g c =
+    let inv = c.loop.invariant in
+    let turn = c.in-Err.ensures in
+    let before = line_told g.L.Line c.args.line.now in
+    let after = line_told g.L.Line c.turn.new.line in
+    record {
+      tried = made _ c.args.trial c.turn.new.trial _ before after c.requires turn.kept
+          (attempted_wider c.in-Err.fault (c.loop.counter + 1) c.args.turns c.args.trial c.turn.new.trial before.said after.said (omega (arith, c.loop-test.true))
+          (attempted_join c.loop.counter 1 (Some (LineFailed c.in-Err.fault)) c.args.trial c.loop.trial c.turn.new.trial before.said (g.L.Line.told c.loop.line) after.said inv.stretch turn.turn))
+          tt (subst (λ count. CountsFault (Some c.in-Err.fault) count after.failures) inv.counted turn.counted) turn.fault;
+    }
 
-pub returns-in-Some-end-clause-same_digits : goal.returns-in-Some-end-clause-same_digits
-returns-in-Some-end-clause-same_digits g c = let s = c.loop.invariant.stretch in ap (λ t. t.digits) s.trial ∙ led_digits c.args.trial s.heard
+-- the turns are over
+pub returns-in-Some-end : goal.returns-in-Some-end
+returns-in-Some-end g c =
+    let inv = c.loop.invariant in
+    let before = line_told g.L.Line c.args.line.now in
+    let after = line_told g.L.Line c.loop.line in
+    record {
+      tried = made _ c.args.trial c.loop.trial _ before after c.requires inv.kept
+          (attempted_ended c.in-Some-end.end c.loop.counter c.args.turns c.args.trial c.loop.trial before.said after.said c.loop.auto.counter-end inv.stretch) (sym inv.end ∙ c.in-Some-end.is) inv.counted tt;
+    }
 
-pub returns-in-Some-end-clause-same_patience : goal.returns-in-Some-end-clause-same_patience
-returns-in-Some-end-clause-same_patience g c = let s = c.loop.invariant.stretch in ap (λ t. t.patience) s.trial ∙ led_patience c.args.trial s.heard
-
-pub returns-in-None-clause-harmless : goal.returns-in-None-clause-harmless
-returns-in-None-clause-harmless g c = attempted_harmless _ _ _ _ _ _ c.requires c.loop.invariant.stretch
-
-pub returns-in-None-clause-same_address : goal.returns-in-None-clause-same_address
-returns-in-None-clause-same_address g c = let s = c.loop.invariant.stretch in ap (λ t. t.address) s.trial ∙ led_address c.args.trial s.heard
-
-pub returns-in-None-clause-same_digits : goal.returns-in-None-clause-same_digits
-returns-in-None-clause-same_digits g c = let s = c.loop.invariant.stretch in ap (λ t. t.digits) s.trial ∙ led_digits c.args.trial s.heard
-
-pub returns-in-None-clause-same_patience : goal.returns-in-None-clause-same_patience
-returns-in-None-clause-same_patience g c = let s = c.loop.invariant.stretch in ap (λ t. t.patience) s.trial ∙ led_patience c.args.trial s.heard
+pub returns-in-None : goal.returns-in-None
+returns-in-None g c =
+    let inv = c.loop.invariant in
+    let all : c.loop.counter ≡ c.args.turns = omega (arith, c.loop-test.false, c.loop.auto.counter-end) in
+    let before = line_told g.L.Line c.args.line.now in
+    let after = line_told g.L.Line c.loop.line in
+    record {
+      tried = made _ c.args.trial c.loop.trial _ before after c.requires inv.kept
+          (attempted_over c.args.turns c.args.trial c.loop.trial before.said after.said (subst (λ n. Attempted n (trying c.args.trial c.loop.trial None) before.said after.said) all inv.stretch))
+          (sym inv.end ∙ c.in-None.is) inv.counted tt;
+    }

@@ -22,7 +22,7 @@ use Rattle.looking_law.specs.Belief.{dialogue as looks_of}
 use Rattle.looking_law.specs.RecordLook.{HasLooked}
 use Rattle.looking_law.specs.Splitting.{BeginsByListening}
 use Rattle.reading_engine.specs.declared.stop.Stop.{Stop}
-use Rattle.reading_engine.specs.Inquired.{Inquired}
+use Rattle.reading_engine.specs.Inquired.{Inquired, inquiry}
 use Rattle.sample_looks.specs.Samples.{AreSamples}
 
 -- a life, and what was said before it on its line, where it looked
@@ -106,5 +106,5 @@ SamplesAreOfTheRecord =
     (plan : PlanValue) (recorded : Progress) (samples : List WordValue) (patience turns : ℕ) (stop : Stop) (last : Reader)
     (line line' : Option (List Item)) (looks : List Item) →
     recorded.going ≡ false → AreSamples plan.words recorded.verified samples → AreAddresses (addresses_of samples) → patience < 2 ^ 32 →
-    (s : Inquired turns (Some stop) (reader_begun (addresses_of samples) [] patience) last line line') →
+    (s : Inquired turns (inquiry (reader_begun (addresses_of samples) [] patience) last (Some stop)) line line') →
     WentOut (looks_of (reader_begun (addresses_of samples) [] patience) s.heard) s.said looks → HasLooked plan recorded looks

@@ -1,13 +1,12 @@
 //! Looking at samples, over a line that is given.
 ghost use Rattle.std.specs.Prelude.{◌≡◌, ◌≤◌, [], Some, length, IfOk};
-ghost use Rattle.load_devices.specs.Failures.{CountsFault, IsLastFault};
+ghost use Rattle.load_devices.specs.Devices.{line_told};
 ghost use Rattle.load_devices.specs.Turns.{most_turns};
 ghost use Rattle.reading_core.specs.Addresses.{AreAddresses, addresses_of};
 ghost use Rattle.reading_core.specs.Bound.{reading_bound};
 ghost use Rattle.reading_core.specs.Invariant.{IsReader};
 ghost use Rattle.reading_core.specs.Reader.{begun};
-ghost use Rattle.reading_engine.specs.Failing.{line_fault};
-ghost use Rattle.reading_engine.specs.Inquired.{Inquired, TellsEnd};
+ghost use Rattle.reading_engine.specs.Inquired.{IsInquired, inquiry};
 ghost use Rattle.sample_looks.specs.Finding.{IsFound};
 ghost use Rattle.sample_looks.specs.Looked.{IsSoOver};
 
@@ -56,15 +55,10 @@ pub fn look_at_samples<L: Line, O: Onlooker>(
     onlooker: &O,
 ) -> Looked
     requires { reader ≡ begun (addresses_of samples.now) [] reader.patience }
-    ensures turns { Inquired most_turns (Some result.stop) reader result.reader (L.told line.old) (L.told line.new) }
-    ensures end { TellsEnd result.stop result.reader }
+    ensures inquired { IsInquired most_turns (inquiry reader result.reader (Some result.stop)) (line_told L.Line line.old) (line_told L.Line line.new) }
     ensures found { IsFound samples.now result.reader.values result.stop result.finding }
     ensures honest { IsSoOver samples.now result.finding (L.told line.old) (L.told line.new) }
-    ensures counted { CountsFault (line_fault (Some result.stop)) (L.fault_count line.old) (L.fault_count line.new) }
-    ensures fault { IsLastFault (line_fault (Some result.stop)) (L.last_fault line.new) }
-    ensures same_patience { result.reader.patience ≡ reader.patience }
     ensures bound { result.reader.sent ≤ reading_bound (length samples.now) reader.patience }
-    ensures kept { IsReader result.reader }
 {
     let (reader, stop) = inquire(reader, line, MOST_TURNS, onlooker);
     let finding = found(samples, reader.values(), stop);

@@ -5,5 +5,6 @@ use Rattle.sample_looks.proofs.looking.look_at_samples.Goals as goal
 
 pub returns-clause-honest : goal.returns-clause-honest
 returns-clause-honest g c =
-    so_over c.args.samples.now c.args.reader c.inquire-reader.result.0 c.inquire-reader.result.1 c.found-finding.result _ _ c.requires c.inquire-reader.ensures.kept c.inquire-reader.ensures.same_addresses
-    c.inquire-reader.ensures.end (subst (λ numbers. IsFound c.args.samples.now numbers c.inquire-reader.result.1 c.found-finding.result) c.values.ensures.value c.found-finding.ensures) c.inquire-reader.ensures.honest
+    let inquired = c.inquire-reader.ensures.inquired in
+    so_over c.args.samples.now c.args.reader c.inquire-reader.result.0 c.inquire-reader.result.1 c.found-finding.result _ _ c.requires inquired.kept inquired.same_addresses
+    inquired.end (subst (λ numbers. IsFound c.args.samples.now numbers c.inquire-reader.result.1 c.found-finding.result) c.values.ensures.value c.found-finding.ensures) inquired.honest

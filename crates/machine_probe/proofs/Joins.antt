@@ -14,11 +14,11 @@ use Rattle.probe_report.specs.Judging.{on_looks, verdict_of}
 use Rattle.reading_core.specs.Addresses.{addresses_between, addresses_from}
 use Rattle.reading_core.specs.Reader.{Reader}
 use Rattle.reading_engine.specs.declared.stop.Stop.{Stop as LookStop}
-use Rattle.reading_engine.specs.Inquired.{Inquired, TellsEnd}
+use Rattle.reading_engine.specs.Inquired.{Inquired, TellsEnd, inquiry}
 use Rattle.trial_core.specs.declared.trial.Trial.{Trial}
 use Rattle.trial_core.specs.Trial.{begun_trial}
 use Rattle.trial_engine.specs.declared.stop.Stop.{Stop as TrialStop}
-use Rattle.trial_engine.specs.Attempted.{Attempted, TellsEnd as TellsEndOfTrial}
+use Rattle.trial_engine.specs.Attempted.{Attempted, TellsEnd as TellsEndOfTrial, trying}
 use Rattle.looking_law.specs.Again.{looker}
 use Rattle.machine_probe.specs.declared.probe_options.ProbeOptions.{ProbeOptions}
 use Rattle.machine_probe.specs.declared.putting_back.Deposit.{Deposit}
@@ -53,13 +53,13 @@ one run line line' said is gains = record { parts = said ∷ []; are = is; on_li
 
 -- what the engine of the looks answers is a look
 pub look_is : (options : ProbeOptions) (core last : Reader) (stop : LookStop) (turns : ℕ) (number : Option ℕ) (sighting : Sighting) (line line' : Option (List Item)) →
-    core ≡ looker options.address options.patience → turns ≡ turns_of options.patience → Inquired turns (Some stop) core last line line' → TellsEnd stop last →
+    core ≡ looker options.address options.patience → turns ≡ turns_of options.patience → Inquired turns (inquiry core last (Some stop)) line line' → TellsEnd stop last →
     number ≡ first_of last.values → sighting ≡ sighting_of stop number → OnLine (One (LooksAt options sighting)) line line'
 look_is options core last stop turns number sighting line line' begins limit s end is came =
     one (LooksAt options sighting) line line' s.said (record {
       stop = stop;
       last = last;
-      inquired = subst (λ (n : ℕ). Inquired n (Some stop) (looker options.address options.patience) last (Some []) (Some s.said)) limit (subst (λ (r : Reader). Inquired turns (Some stop) r last (Some []) (Some s.said)) begins (record {
+      inquired = subst (λ (n : ℕ). Inquired n (inquiry (looker options.address options.patience) last (Some stop)) (Some []) (Some s.said)) limit (subst (λ (r : Reader). Inquired turns (inquiry r last (Some stop)) (Some []) (Some s.said)) begins (record {
         heard = s.heard;
         said = s.said;
         reader = s.reader;
@@ -74,13 +74,13 @@ look_is options core last stop turns number sighting line line' begins limit s e
 
 -- what the engine of the trial answers is a trial
 pub trial_is : (options : ProbeOptions) (old : ℕ) (first last : Trial) (stop : TrialStop) (turns : ℕ) (attempt : Attempt) (line line' : Option (List Item)) →
-    first ≡ begun_trial options.address old options.patience → turns ≡ turns_of options.patience → Attempted turns (Some stop) first last line line' → TellsEndOfTrial stop last →
+    first ≡ begun_trial options.address old options.patience → turns ≡ turns_of options.patience → Attempted turns (trying first last (Some stop)) line line' → TellsEndOfTrial stop last →
     attempt ≡ attempt_of last stop → OnLine (One (IsTrialOf options old attempt)) line line'
 trial_is options old first last stop turns attempt line line' begins limit s end came =
     one (IsTrialOf options old attempt) line line' s.said (record {
       stop = stop;
       last = last;
-      attempted = subst (λ (n : ℕ). Attempted n (Some stop) (begun_trial options.address old options.patience) last (Some []) (Some s.said)) limit (subst (λ (t : Trial). Attempted turns (Some stop) t last (Some []) (Some s.said)) begins (record {
+      attempted = subst (λ (n : ℕ). Attempted n (trying (begun_trial options.address old options.patience) last (Some stop)) (Some []) (Some s.said)) limit (subst (λ (t : Trial). Attempted turns (trying t last (Some stop)) (Some []) (Some s.said)) begins (record {
         heard = s.heard;
         said = s.said;
         trial = s.trial;

@@ -1,6 +1,7 @@
 pub mod Founds
 pub mod LastWords
 mod Searching
+mod Stepping
 mod Believed
 mod Faults
 mod Joins

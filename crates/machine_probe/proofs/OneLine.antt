@@ -10,9 +10,10 @@ use Rattle.load_engine.specs.declared.stop.Stop.{Stop as LoadStop}
 use Rattle.load_engine.specs.declared.stop.Stop.TheVariants as load
 use Rattle.load_engine.specs.Session.{IsSaid as IsSaidOfLoad}
 use Rattle.honest_line.specs.Honest.{IsHonest}
+use Rattle.machine_probe.specs.declared.memory_end.Limits.{Limits}
 use Rattle.machine_probe.specs.declared.pieces.Pieces.{Pieces}
 use Rattle.machine_probe.specs.declared.search.Search.{Search}
-use Rattle.machine_probe.specs.Passes.{ArePieces, IsPass, SearchGoesOn, Searches, found, last_words, three_passes}
+use Rattle.machine_probe.specs.Passes.{ArePieces, IsPass, SearchGoesOn, Searches, found, last_words, limits, pass_over, three_passes}
 use Rattle.looking_law.specs.Rows.{AreHonest, in_a_row}
 use Rattle.machine_probe.proofs.Founds.{IsOver, passed_within}
 use Rattle.machine_probe.proofs.LastWords.{last_asked}
@@ -144,10 +145,10 @@ deposit_begins options old is_back said p =
 
 -- ---- the passes of the search
 
-pass_leaves : (turns patience from : ℕ) (pieces : Pieces) (stop : LookStop) (last : Reader) (said : List Item) → patience < 2 ^ 32 → ArePieces from pieces → IsPass turns patience from pieces stop last said → LeavesReady said
-pass_leaves turns patience from pieces stop last said long are p =
+pass_leaves : (limits : Limits) (from : ℕ) (pieces : Pieces) (stop : LookStop) (last : Reader) (said : List Item) → limits.patience < 2 ^ 32 → ArePieces from pieces → IsPass (pass_over limits from pieces) stop last said → LeavesReady said
+pass_leaves limits from pieces stop last said long are p =
     let s = p.inquired in
-    let run : Run = Look (last_words from pieces.bytes pieces.count) patience s.heard in
+    let run : Run = Look (last_words from pieces.bytes pieces.count) limits.patience s.heard in
     leave_ready run said (last_asked from pieces are, long) (subst (IsToldOf (dialogue_of run)) (sym s.on_line) (told_look stop _ (dialogue_of run) s.said s.items))
 
 -- where the next pass begins
@@ -155,13 +156,13 @@ record NextAt (from next : ℕ) (pieces : Pieces) : Type 0 where
   pub even : next % 2 ≡ 0
   pub within : next + pieces.bytes ≤ from + pieces.bytes * pieces.count
 
-next_at : (turns patience from address : ℕ) (pieces : Pieces) (last : Reader) (said : List Item) → patience < 2 ^ 32 → ArePieces from pieces → IsPass turns patience from pieces (Ended (NoWord address)) last said → NextAt from (found from pieces last) pieces
-next_at turns patience from address pieces last said long are p =
+next_at : (limits : Limits) (from address : ℕ) (pieces : Pieces) (last : Reader) (said : List Item) → limits.patience < 2 ^ 32 → ArePieces from pieces → IsPass (pass_over limits from pieces) (Ended (NoWord address)) last said → NextAt from (found from pieces last) pieces
+next_at limits from address pieces last said long are p =
     let s = p.inquired in
-    let first : Reader = begun (last_words from pieces.bytes pieces.count) [] patience in
+    let first : Reader = begun (last_words from pieces.bytes pieces.count) [] limits.patience in
     let over : IsOver from pieces last = record {
       addresses = ap (λ (r : Reader). r.addresses) s.reader ∙ led_addresses first s.heard;
-      kept = subst IsReader (sym s.reader) (led_kept first s.heard (fresh_kept (last_words from pieces.bytes pieces.count) patience (last_asked from pieces are) long));
+      kept = subst IsReader (sym s.reader) (led_kept first s.heard (fresh_kept (last_words from pieces.bytes pieces.count) limits.patience (last_asked from pieces are) long));
     } in
     let w = passed_within from pieces (Ended (NoWord address)) last are over p.end in
     record { even = w.0; within = w.1 }
@@ -174,28 +175,28 @@ goes_on_leaves (Ended GaveUp) to next search parts so is = subst AllLeave (sym i
 goes_on_leaves TurnsOver to next search parts so is = subst AllLeave (sym is.1) tt
 goes_on_leaves (LineFailed fault) to next search parts so is = subst AllLeave (sym is.1) tt
 
-pass_then : (pieces : Pieces) (passes : List Pieces) (turns patience from : ℕ) (search : Search) (parts : List (List Item)) → patience < 2 ^ 32 → ArePieces from pieces →
-    ((next : ℕ) (rest : List (List Item)) → NextAt from next pieces → Searches passes turns patience next search rest → AllLeave rest) →
-    Searches (pieces ∷ passes) turns patience from search parts → AllLeave parts
-pass_then pieces passes turns patience from search [] long are so is = absurd is
-pass_then pieces passes turns patience from search (said ∷ parts) long are so (stop, last, p, goes) = (
-  pass_leaves turns patience from pieces stop last said long are p,
-  goes_on_leaves stop (found from pieces last) (Searches passes turns patience (found from pieces last)) search parts
-      (λ address is. so (found from pieces last) parts (next_at turns patience from address pieces last said long are (subst (λ (s : LookStop). IsPass turns patience from pieces s last said) is p))) goes,
+pass_then : (pieces : Pieces) (passes : List Pieces) (limits : Limits) (from : ℕ) (search : Search) (parts : List (List Item)) → limits.patience < 2 ^ 32 → ArePieces from pieces →
+    ((next : ℕ) (rest : List (List Item)) → NextAt from next pieces → Searches passes limits next search rest → AllLeave rest) →
+    Searches (pieces ∷ passes) limits from search parts → AllLeave parts
+pass_then pieces passes limits from search [] long are so is = absurd is
+pass_then pieces passes limits from search (said ∷ parts) long are so (stop, last, p, goes) = (
+  pass_leaves limits from pieces stop last said long are p,
+  goes_on_leaves stop (found from pieces last) (Searches passes limits (found from pieces last)) search parts
+      (λ address is. so (found from pieces last) parts (next_at limits from address pieces last said long are (subst (λ (s : LookStop). IsPass (pass_over limits from pieces) s last said) is p))) goes,
 )
 
-none_then : (turns patience from : ℕ) (search : Search) (parts : List (List Item)) → Searches [] turns patience from search parts → AllLeave parts
-none_then turns patience from search parts is = subst AllLeave (sym is.1) tt
+none_then : (limits : Limits) (from : ℕ) (search : Search) (parts : List (List Item)) → Searches [] limits from search parts → AllLeave parts
+none_then limits from search parts is = subst AllLeave (sym is.1) tt
 
-search_leaves : (turns patience : ℕ) (search : Search) (parts : List (List Item)) → patience < 2 ^ 32 → Searches three_passes turns patience 0 search parts → AllLeave parts
-search_leaves turns patience search parts long is =
-    pass_then (record { bytes = 0o4000; count = 28 }) (record { bytes = 0o100; count = 32 } ∷ record { bytes = 2; count = 32 } ∷ []) turns patience 0 search parts long
+search_leaves : (limits : Limits) (search : Search) (parts : List (List Item)) → limits.patience < 2 ^ 32 → Searches three_passes limits 0 search parts → AllLeave parts
+search_leaves limits search parts long is =
+    pass_then (record { bytes = 0o4000; count = 28 }) (record { bytes = 0o100; count = 32 } ∷ record { bytes = 2; count = 32 } ∷ []) limits 0 search parts long
     (record { even = refl; whole = refl; some = omega arith; below = omega arith })
-    (λ from rest at. pass_then (record { bytes = 0o100; count = 32 }) (record { bytes = 2; count = 32 } ∷ []) turns patience from search rest long
+    (λ from rest at. pass_then (record { bytes = 0o100; count = 32 }) (record { bytes = 2; count = 32 } ∷ []) limits from search rest long
     (record { even = at.even; whole = refl; some = omega arith; below = omega (arith, at.within) })
-    (λ next more here. pass_then (record { bytes = 2; count = 32 }) [] turns patience next search more long
+    (λ next more here. pass_then (record { bytes = 2; count = 32 }) [] limits next search more long
     (record { even = here.even; whole = refl; some = omega arith; below = omega (arith, here.within, at.within) })
-    (λ last none there. none_then turns patience last search none)))
+    (λ last none there. none_then limits last search none)))
     is
 
 -- ---- all of them
@@ -221,7 +222,7 @@ behind_second options Stores old (Some is_back) None xs ys deposits searches beg
 behind_second options Stores old (Some is_back) (Some extent) xs ys deposits searches begins long = absurd searches
 behind_second options Forgets old None None xs ys deposits searches begins long = absurd searches
 behind_second options Forgets old None (Some extent) xs ys deposits searches begins long =
-    inl (subst (λ list. AllLeave (list ++ ys)) (sym deposits) (search_leaves (turns_of options.patience) options.patience searches.search ys long searches.passes))
+    inl (subst (λ list. AllLeave (list ++ ys)) (sym deposits) (search_leaves (limits options.patience (turns_of options.patience)) searches.search ys long searches.passes))
 behind_second options Forgets old (Some is_back) search xs ys deposits searches begins long = absurd deposits
 behind_second options Unknown old None None xs ys deposits searches begins long = inl (subst (λ list. AllLeave (list ++ ys)) (sym deposits) (subst AllLeave (sym searches) tt))
 behind_second options Unknown old None (Some extent) xs ys deposits searches begins long = absurd searches

@@ -1,9 +1,11 @@
 -- Passes one after another: what was said in them, and what they find.
-use Rattle.std.proofs.Common.{◌≡◌, ℕ, ◌+◌, ◌*◌, ◌<◌, ◌≤◌, List, [], ◌∷◌, length, Option, Some, refl, arith, ap, subst, sym, ◌∙◌, append-nil}
+use Rattle.std.proofs.Common.{◌≡◌, ℕ, ◌+◌, ◌*◌, ◌<◌, ◌≤◌, List, [], ◌∷◌, length, Some, refl, arith, ap, subst, sym, ◌∙◌, append-nil}
 use Rattle.tape_image.specs.Memory.{top_of}
 use Rattle.odt_machine.specs.Machine.{Machine}
 use Rattle.load_devices.specs.declared.item.Item.{Item}
+use Rattle.load_devices.specs.Devices.{LineTold}
 use Rattle.load_devices.specs.Dialogue.{keys_of}
+use Rattle.load_devices.specs.Failures.{CountsFault, IsLastFault}
 use Rattle.load_devices.specs.Told.{Gains}
 use Rattle.load_devices.proofs.Told.{gains_none, gains_join}
 use Rattle.reading_engine.specs.Honest.{IsHonest}
@@ -18,13 +20,15 @@ use Rattle.looking_law.proofs.Believed.{leave_ready}
 use Rattle.reading_engine.specs.declared.stop.Stop.{Stop}
 use Rattle.reading_engine.specs.declared.stop.Stop.TheVariants.{Ended, LineFailed, TurnsOver}
 use Rattle.reading_engine.specs.Belief.{IsBelievableAt}
+use Rattle.reading_engine.specs.Failing.{line_fault}
 use Rattle.reading_engine.proofs.Beliefs.{inquired_believable}
+use Rattle.machine_probe.specs.declared.memory_end.Limits.{Limits}
 use Rattle.machine_probe.specs.declared.memory_end.PassEnd.TheVariants.{Lacking, Over}
 use Rattle.machine_probe.specs.declared.pieces.Pieces.{Pieces}
 use Rattle.machine_probe.specs.declared.search.Search.{Search}
 use Rattle.machine_probe.specs.declared.search.Search.TheVariants.{Ends, Stopped}
-use Rattle.machine_probe.specs.MemoryEnd.{IsTrueEnd, FindsEnd}
-use Rattle.machine_probe.specs.Passes.{ArePieces, IsPass, SearchGoesOn, Searches, found, last_words, three_passes}
+use Rattle.machine_probe.specs.MemoryEnd.{IsTrueEnd, FindsEnd, stop_of}
+use Rattle.machine_probe.specs.Passes.{ArePieces, IsPass, SearchGoesOn, Searches, found, last_words, pass_over, three_passes}
 use Rattle.looking_law.specs.Rows.{AreHonest, in_a_row}
 use Rattle.machine_probe.specs.Steps.{LiesWithin, Stepped, passed}
 use Rattle.machine_probe.proofs.Founds.{IsOver, all_read, lacking, paid_at, reached}
@@ -43,33 +47,33 @@ may_look addresses patience machine ready = record {
 abbrev first : (patience from : ℕ) (pieces : Pieces) → Reader
 first patience from pieces = begun (last_words from pieces.bytes pieces.count) [] patience
 
-is_over : (turns patience from : ℕ) (pieces : Pieces) (stop : Stop) (last : Reader) (said : List Item) → IsReader (first patience from pieces) → IsPass turns patience from pieces stop last said → IsOver from pieces last
-is_over turns patience from pieces stop last said reads pass = let s = pass.inquired in record {
-  addresses = ap (λ (r : Reader). r.addresses) s.reader ∙ led_addresses (first patience from pieces) s.heard;
-  kept = subst IsReader (sym s.reader) (led_kept (first patience from pieces) s.heard reads);
+is_over : (limits : Limits) (from : ℕ) (pieces : Pieces) (stop : Stop) (last : Reader) (said : List Item) → IsReader (first limits.patience from pieces) → IsPass (pass_over limits from pieces) stop last said → IsOver from pieces last
+is_over limits from pieces stop last said reads pass = let s = pass.inquired in record {
+  addresses = ap (λ (r : Reader). r.addresses) s.reader ∙ led_addresses (first limits.patience from pieces) s.heard;
+  kept = subst IsReader (sym s.reader) (led_kept (first limits.patience from pieces) s.heard reads);
 }
 
-same_patience : (turns patience from : ℕ) (pieces : Pieces) (stop : Stop) (last : Reader) (said : List Item) → IsPass turns patience from pieces stop last said → last.patience ≡ patience
-same_patience turns patience from pieces stop last said pass = let s = pass.inquired in ap (λ (r : Reader). r.patience) s.reader ∙ led_patience (first patience from pieces) s.heard
+same_patience : (limits : Limits) (from : ℕ) (pieces : Pieces) (stop : Stop) (last : Reader) (said : List Item) → IsPass (pass_over limits from pieces) stop last said → last.patience ≡ limits.patience
+same_patience limits from pieces stop last said pass = let s = pass.inquired in ap (λ (r : Reader). r.patience) s.reader ∙ led_patience (first limits.patience from pieces) s.heard
 
-believed : (turns patience from : ℕ) (pieces : Pieces) (stop : Stop) (last : Reader) (said : List Item) → IsReader (first patience from pieces) → IsPass turns patience from pieces stop last said →
-    IsBelievableAt stop (first patience from pieces) last said
-believed turns patience from pieces stop last said reads pass =
-    inquired_believable turns stop (first patience from pieces) last (Some []) (Some said) reads pass.inquired said ([], refl, refl)
+believed : (limits : Limits) (from : ℕ) (pieces : Pieces) (stop : Stop) (last : Reader) (said : List Item) → IsReader (first limits.patience from pieces) → IsPass (pass_over limits from pieces) stop last said →
+    IsBelievableAt stop (first limits.patience from pieces) last said
+believed limits from pieces stop last said reads pass =
+    inquired_believable limits.turns stop (first limits.patience from pieces) last (Some []) (Some said) reads pass.inquired said ([], refl, refl)
 
 -- a pass over an honest line that told an end
-true_at : (turns patience from : ℕ) (pieces : Pieces) (end : End) (last : Reader) (said : List Item) (machine now : Machine) (lost : ℕ) → IsReader (first patience from pieces) → IsPass turns patience from pieces (Ended end) last said →
+true_at : (limits : Limits) (from : ℕ) (pieces : Pieces) (end : End) (last : Reader) (said : List Item) (machine now : Machine) (lost : ℕ) → IsReader (first limits.patience from pieces) → IsPass (pass_over limits from pieces) (Ended end) last said →
     IsReadyMachine machine → IsHonest machine said lost now → IsTrueReading machine.memory last now.memory (keys_of said) (lost + 0)
-true_at turns patience from pieces end last said machine now lost reads pass ready honest =
-    believed turns patience from pieces (Ended end) last said reads pass machine now lost (may_look (last_words from pieces.bytes pieces.count) patience machine ready) honest
+true_at limits from pieces end last said machine now lost reads pass ready honest =
+    believed limits from pieces (Ended end) last said reads pass machine now lost (may_look (last_words from pieces.bytes pieces.count) limits.patience machine ready) honest
 
 -- behind it the next pass may begin
-ready_at : (turns patience from : ℕ) (pieces : Pieces) (end : End) (last : Reader) (said : List Item) (machine now : Machine) (lost : ℕ) → IsReader (first patience from pieces) → IsPass turns patience from pieces (Ended end) last said →
+ready_at : (limits : Limits) (from : ℕ) (pieces : Pieces) (end : End) (last : Reader) (said : List Item) (machine now : Machine) (lost : ℕ) → IsReader (first limits.patience from pieces) → IsPass (pass_over limits from pieces) (Ended end) last said →
     IsReadyMachine machine → IsHonest machine said lost now → IsReadyMachine now
-ready_at turns patience from pieces end last said machine now lost reads pass ready honest =
+ready_at limits from pieces end last said machine now lost reads pass ready honest =
     let s = pass.inquired in
-    let whole : said ≡ dialogue (first patience from pieces) s.heard = same said s.said s.on_line ∙ s.items in
-    leave_ready (first patience from pieces) s.heard machine now lost reads (may_look (last_words from pieces.bytes pieces.count) patience machine ready) (subst (λ items. IsHonest machine items lost now) whole honest)
+    let whole : said ≡ dialogue (first limits.patience from pieces) s.heard = same said s.said s.on_line ∙ s.items in
+    leave_ready (first limits.patience from pieces) s.heard machine now lost reads (may_look (last_words from pieces.bytes pieces.count) limits.patience machine ready) (subst (λ items. IsHonest machine items lost now) whole honest)
   where
     same : (said other : List Item) → Gains (Some []) (Some said) other → said ≡ other
     same said other gains = gains
@@ -82,54 +86,58 @@ FindsFrom from limit patience search parts =
     (now.memory ≡ machine.memory) × IsTrueEnd search machine.memory patience lost
 
 -- these passes came to this, and what they find is so
-record Runs (passes : List Pieces) (turns patience from limit : ℕ) (search : Search) (line line' : Option (List Item)) : Type 0 where
+record Runs (passes : List Pieces) (limits : Limits) (from limit : ℕ) (search : Search) (line line' : LineTold) : Type 0 where
   pub parts : List (List Item)
-  pub searches : Searches passes turns patience from search parts
-  pub on_line : Gains line line' (in_a_row parts)
-  pub finds : FindsFrom from limit patience search parts
+  pub searches : Searches passes limits from search parts
+  pub on_line : Gains line.said line'.said (in_a_row parts)
+  pub finds : FindsFrom from limit limits.patience search parts
+  pub counted : CountsFault (line_fault (stop_of search)) line.failures line'.failures
+  pub named : IsLastFault (line_fault (stop_of search)) line'.fault
 
 -- none is left: memory ends here
-run_none : (turns patience from : ℕ) (line : Option (List Item)) → Runs [] turns patience from from (Ends from) line line
-run_none turns patience from line = record {
+run_none : (limits : Limits) (from : ℕ) (line : LineTold) → Runs [] limits from from (Ends from) line line
+run_none limits from line = record {
   parts = [];
   searches = (refl, refl);
-  on_line = gains_none line;
+  on_line = gains_none line.said;
   finds = λ machine now lost ready reaches within honest. (ap (λ (m : Machine). m.memory) honest.0, omega (arith, reaches, within));
+  counted = refl;
+  named = tt;
 }
 
 -- ---- the last pass
 
 -- what is right of a pass that ended the search
-over_right : (turns patience from : ℕ) (pieces : Pieces) (stop : Stop) (last : Reader) (said : List Item) (search : Search) → ArePieces from pieces → IsReader (first patience from pieces) → IsPass turns patience from pieces stop last said →
-    Over search ≡ passed stop (found from pieces last) → FindsFrom from (from + pieces.bytes * pieces.count) patience search (said ∷ [])
-over_right turns patience from pieces (Ended Complete) last said search are reads pass is machine now lost ready reaches within (between, lost_first, lost_later, honest, (same, none), all) =
-    let t = true_at turns patience from pieces Complete last said machine between lost_first reads pass ready honest in
-    let o = is_over turns patience from pieces (Ended Complete) last said reads pass in
+over_right : (limits : Limits) (from : ℕ) (pieces : Pieces) (stop : Stop) (last : Reader) (said : List Item) (search : Search) → ArePieces from pieces → IsReader (first limits.patience from pieces) → IsPass (pass_over limits from pieces) stop last said →
+    Over search ≡ passed stop (found from pieces last) → FindsFrom from (from + pieces.bytes * pieces.count) limits.patience search (said ∷ [])
+over_right limits from pieces (Ended Complete) last said search are reads pass is machine now lost ready reaches within (between, lost_first, lost_later, honest, (same, none), all) =
+    let t = true_at limits from pieces Complete last said machine between lost_first reads pass ready honest in
+    let o = is_over limits from pieces (Ended Complete) last said reads pass in
     let far : found from pieces last ≤ top_of machine.memory = reached machine.memory from pieces last are o reaches (subst (λ m. HoldsRead m last) t.same t.read) in
     let whole : length last.values ≡ pieces.count = all_read from pieces last o pass.end in
     let top : top_of machine.memory ≡ found from pieces last = omega (arith, far, within, ap (λ n. pieces.bytes * n) whole) in
-    (ap (λ (m : Machine). m.memory) same ∙ t.same, subst (λ s. IsTrueEnd s machine.memory patience lost) (sym (searched is)) top)
+    (ap (λ (m : Machine). m.memory) same ∙ t.same, subst (λ s. IsTrueEnd s machine.memory limits.patience lost) (sym (searched is)) top)
   where
     searched : {found : ℕ} → Over search ≡ Over (Ends found) → search ≡ Ends found
     searched e = cc e
-over_right turns patience from pieces (Ended (NoWord a)) last said search are reads pass is machine now lost ready reaches within honest = absurd (cc is)
-over_right turns patience from pieces (Ended GaveUp) last said search are reads pass is machine now lost ready reaches within (between, lost_first, lost_later, honest, (same, none), all) =
-    let t = true_at turns patience from pieces GaveUp last said machine between lost_first reads pass ready honest in
+over_right limits from pieces (Ended (NoWord a)) last said search are reads pass is machine now lost ready reaches within honest = absurd (cc is)
+over_right limits from pieces (Ended GaveUp) last said search are reads pass is machine now lost ready reaches within (between, lost_first, lost_later, honest, (same, none), all) =
+    let t = true_at limits from pieces GaveUp last said machine between lost_first reads pass ready honest in
     let paid : last.patience < lost_first + 0 = paid_at last.phase GaveUp between.memory last.patience (lost_first + 0) pass.end t.cause in
-    let more : patience < lost = omega (arith, paid, same_patience turns patience from pieces (Ended GaveUp) last said pass, none, all) in
-    (ap (λ (m : Machine). m.memory) same ∙ t.same, subst (λ s. IsTrueEnd s machine.memory patience lost) (sym (searched is)) more)
+    let more : limits.patience < lost = omega (arith, paid, same_patience limits from pieces (Ended GaveUp) last said pass, none, all) in
+    (ap (λ (m : Machine). m.memory) same ∙ t.same, subst (λ s. IsTrueEnd s machine.memory limits.patience lost) (sym (searched is)) more)
   where
     searched : Over search ≡ Over (Stopped (Ended GaveUp)) → search ≡ Stopped (Ended GaveUp)
     searched e = cc e
-over_right turns patience from pieces TurnsOver last said search are reads pass is machine now lost ready reaches within (between, lost_first, lost_later, honest, (same, none), all) =
-    let t = believed turns patience from pieces TurnsOver last said reads pass machine between lost_first (may_look (last_words from pieces.bytes pieces.count) patience machine ready) honest in
-    (ap (λ (m : Machine). m.memory) same ∙ t.same, subst (λ s. IsTrueEnd s machine.memory patience lost) (sym (searched is)) tt)
+over_right limits from pieces TurnsOver last said search are reads pass is machine now lost ready reaches within (between, lost_first, lost_later, honest, (same, none), all) =
+    let t = believed limits from pieces TurnsOver last said reads pass machine between lost_first (may_look (last_words from pieces.bytes pieces.count) limits.patience machine ready) honest in
+    (ap (λ (m : Machine). m.memory) same ∙ t.same, subst (λ s. IsTrueEnd s machine.memory limits.patience lost) (sym (searched is)) tt)
   where
     searched : Over search ≡ Over (Stopped TurnsOver) → search ≡ Stopped TurnsOver
     searched e = cc e
-over_right turns patience from pieces (LineFailed fault) last said search are reads pass is machine now lost ready reaches within (between, lost_first, lost_later, honest, (same, none), all) =
-    let t = (believed turns patience from pieces (LineFailed fault) last said reads pass).0 machine between lost_first (may_look (last_words from pieces.bytes pieces.count) patience machine ready) honest in
-    (ap (λ (m : Machine). m.memory) same ∙ t.same, subst (λ s. IsTrueEnd s machine.memory patience lost) (sym (searched is)) tt)
+over_right limits from pieces (LineFailed fault) last said search are reads pass is machine now lost ready reaches within (between, lost_first, lost_later, honest, (same, none), all) =
+    let t = (believed limits from pieces (LineFailed fault) last said reads pass).0 machine between lost_first (may_look (last_words from pieces.bytes pieces.count) limits.patience machine ready) honest in
+    (ap (λ (m : Machine). m.memory) same ∙ t.same, subst (λ s. IsTrueEnd s machine.memory limits.patience lost) (sym (searched is)) tt)
   where
     searched : Over search ≡ Over (Stopped (LineFailed fault)) → search ≡ Stopped (LineFailed fault)
     searched e = cc e
@@ -154,29 +162,31 @@ over_goes (LineFailed fault) end next search is = (searched is, refl)
     searched : Over search ≡ Over (Stopped (LineFailed fault)) → search ≡ Stopped (LineFailed fault)
     searched e = cc e
 
-run_over : (pieces : Pieces) (passes : List Pieces) (turns patience from : ℕ) (search : Search) (line line' : Option (List Item)) → ArePieces from pieces → Stepped turns patience from pieces (Over search) line line' →
-    Runs (pieces ∷ passes) turns patience from (from + pieces.bytes * pieces.count) search line line'
-run_over pieces passes turns patience from search line line' are s = record {
+run_over : (pieces : Pieces) (passes : List Pieces) (limits : Limits) (from : ℕ) (search : Search) (line line' : LineTold) → ArePieces from pieces → Stepped (pass_over limits from pieces) (Over search) line line' →
+    Runs (pieces ∷ passes) limits from (from + pieces.bytes * pieces.count) search line line'
+run_over pieces passes limits from search line line' are s = record {
   parts = s.said ∷ [];
-  searches = (s.stop, s.last, s.pass, over_goes s.stop (found from pieces s.last) (Searches passes turns patience (found from pieces s.last)) search s.result_is);
-  on_line = subst (Gains line line') (sym (append-nil s.said)) s.on_line;
-  finds = over_right turns patience from pieces s.stop s.last s.said search are s.reads s.pass s.result_is;
+  searches = (s.stop, s.last, s.is_pass, over_goes s.stop (found from pieces s.last) (Searches passes limits (found from pieces s.last)) search s.result_is);
+  on_line = subst (Gains line.said line'.said) (sym (append-nil s.said)) s.on_line;
+  finds = over_right limits from pieces s.stop s.last s.said search are s.reads s.is_pass s.result_is;
+  counted = s.counted;
+  named = s.named;
 }
 
 -- ---- a pass, and those that follow it
 
-more_right : (turns patience from limit next : ℕ) (pieces : Pieces) (stop : Stop) (last : Reader) (said : List Item) (search : Search) (parts : List (List Item)) → ArePieces from pieces → IsReader (first patience from pieces) →
-    IsPass turns patience from pieces stop last said → Lacking next ≡ passed stop (found from pieces last) → next + pieces.bytes ≤ limit + 2 → FindsFrom next limit patience search parts →
-    FindsFrom from (from + pieces.bytes * pieces.count) patience search (said ∷ parts)
-more_right turns patience from limit next pieces (Ended (NoWord a)) last said search parts are reads pass is fits finds machine now lost ready reaches within (between, lost_first, lost_later, honest, rest, all) =
-    let t = true_at turns patience from pieces (NoWord a) last said machine between lost_first reads pass ready honest in
-    let o = is_over turns patience from pieces (Ended (NoWord a)) last said reads pass in
+more_right : (limits : Limits) (from limit next : ℕ) (pieces : Pieces) (stop : Stop) (last : Reader) (said : List Item) (search : Search) (parts : List (List Item)) → ArePieces from pieces → IsReader (first limits.patience from pieces) →
+    IsPass (pass_over limits from pieces) stop last said → Lacking next ≡ passed stop (found from pieces last) → next + pieces.bytes ≤ limit + 2 → FindsFrom next limit limits.patience search parts →
+    FindsFrom from (from + pieces.bytes * pieces.count) limits.patience search (said ∷ parts)
+more_right limits from limit next pieces (Ended (NoWord a)) last said search parts are reads pass is fits finds machine now lost ready reaches within (between, lost_first, lost_later, honest, rest, all) =
+    let t = true_at limits from pieces (NoWord a) last said machine between lost_first reads pass ready honest in
+    let o = is_over limits from pieces (Ended (NoWord a)) last said reads pass in
     let far : found from pieces last ≤ top_of machine.memory = reached machine.memory from pieces last are o reaches (subst (λ m. HoldsRead m last) t.same t.read) in
     let past : top_of between.memory ≤ a = paid_at last.phase (NoWord a) between.memory last.patience (lost_first + 0) pass.end t.cause in
     let tops : top_of between.memory ≡ top_of machine.memory = ap top_of t.same in
-    let later = finds between now lost_later (ready_at turns patience from pieces (NoWord a) last said machine between lost_first reads pass ready honest)
+    let later = finds between now lost_later (ready_at limits from pieces (NoWord a) last said machine between lost_first reads pass ready honest)
     (omega (arith, far, tops, here is)) (omega (arith, past, lacking from a pieces last o pass.end, here is, fits, are.some)) rest in
-    (later.0 ∙ t.same, right_more search between.memory machine.memory patience lost_later lost t.same (omega (arith, all)) later.1)
+    (later.0 ∙ t.same, right_more search between.memory machine.memory limits.patience lost_later lost t.same (omega (arith, all)) later.1)
   where
     here : {at : ℕ} → Lacking next ≡ Lacking at → next ≡ at
     here e = cc e
@@ -188,29 +198,31 @@ more_right turns patience from limit next pieces (Ended (NoWord a)) last said se
     right_more (Stopped (Ended (NoWord a))) memory before patience lost more same le right = tt
     right_more (Stopped TurnsOver) memory before patience lost more same le right = tt
     right_more (Stopped (LineFailed fault)) memory before patience lost more same le right = tt
-more_right turns patience from limit next pieces (Ended Complete) last said search parts are reads pass is fits finds machine now lost ready reaches within honest = absurd (cc is)
-more_right turns patience from limit next pieces (Ended GaveUp) last said search parts are reads pass is fits finds machine now lost ready reaches within honest = absurd (cc is)
-more_right turns patience from limit next pieces TurnsOver last said search parts are reads pass is fits finds machine now lost ready reaches within honest = absurd (cc is)
-more_right turns patience from limit next pieces (LineFailed fault) last said search parts are reads pass is fits finds machine now lost ready reaches within honest = absurd (cc is)
+more_right limits from limit next pieces (Ended Complete) last said search parts are reads pass is fits finds machine now lost ready reaches within honest = absurd (cc is)
+more_right limits from limit next pieces (Ended GaveUp) last said search parts are reads pass is fits finds machine now lost ready reaches within honest = absurd (cc is)
+more_right limits from limit next pieces TurnsOver last said search parts are reads pass is fits finds machine now lost ready reaches within honest = absurd (cc is)
+more_right limits from limit next pieces (LineFailed fault) last said search parts are reads pass is fits finds machine now lost ready reaches within honest = absurd (cc is)
 
-more_goes : (stop : Stop) (next end turns patience : ℕ) (passes : List Pieces) (search : Search) (parts : List (List Item)) → Lacking next ≡ passed stop end → Searches passes turns patience next search parts →
-    SearchGoesOn stop end (Searches passes turns patience end) search parts
-more_goes (Ended (NoWord a)) next end turns patience passes search parts is goes = subst (λ at. Searches passes turns patience at search parts) (here is) goes
+more_goes : (stop : Stop) (next end : ℕ) (limits : Limits) (passes : List Pieces) (search : Search) (parts : List (List Item)) → Lacking next ≡ passed stop end → Searches passes limits next search parts →
+    SearchGoesOn stop end (Searches passes limits end) search parts
+more_goes (Ended (NoWord a)) next end limits passes search parts is goes = subst (λ at. Searches passes limits at search parts) (here is) goes
   where
     here : {at : ℕ} → Lacking next ≡ Lacking at → next ≡ at
     here e = cc e
-more_goes (Ended Complete) next end turns patience passes search parts is goes = absurd (cc is)
-more_goes (Ended GaveUp) next end turns patience passes search parts is goes = absurd (cc is)
-more_goes TurnsOver next end turns patience passes search parts is goes = absurd (cc is)
-more_goes (LineFailed fault) next end turns patience passes search parts is goes = absurd (cc is)
+more_goes (Ended Complete) next end limits passes search parts is goes = absurd (cc is)
+more_goes (Ended GaveUp) next end limits passes search parts is goes = absurd (cc is)
+more_goes TurnsOver next end limits passes search parts is goes = absurd (cc is)
+more_goes (LineFailed fault) next end limits passes search parts is goes = absurd (cc is)
 
-run_more : (pieces : Pieces) (passes : List Pieces) (turns patience from next limit : ℕ) (search : Search) (line line' line'' : Option (List Item)) → ArePieces from pieces → Stepped turns patience from pieces (Lacking next) line line' →
-    next + pieces.bytes ≤ limit + 2 → Runs passes turns patience next limit search line' line'' → Runs (pieces ∷ passes) turns patience from (from + pieces.bytes * pieces.count) search line line''
-run_more pieces passes turns patience from next limit search line line' line'' are s fits run = record {
+run_more : (pieces : Pieces) (passes : List Pieces) (limits : Limits) (from next limit : ℕ) (search : Search) (line line' line'' : LineTold) → ArePieces from pieces → Stepped (pass_over limits from pieces) (Lacking next) line line' →
+    next + pieces.bytes ≤ limit + 2 → Runs passes limits next limit search line' line'' → Runs (pieces ∷ passes) limits from (from + pieces.bytes * pieces.count) search line line''
+run_more pieces passes limits from next limit search line line' line'' are s fits run = record {
   parts = s.said ∷ run.parts;
-  searches = (s.stop, s.last, s.pass, more_goes s.stop next (found from pieces s.last) turns patience passes search run.parts s.result_is run.searches);
-  on_line = gains_join line line' line'' s.said (in_a_row run.parts) s.on_line run.on_line;
-  finds = more_right turns patience from limit next pieces s.stop s.last s.said search run.parts are s.reads s.pass s.result_is fits run.finds;
+  searches = (s.stop, s.last, s.is_pass, more_goes s.stop next (found from pieces s.last) limits passes search run.parts s.result_is run.searches);
+  on_line = gains_join line.said line'.said line''.said s.said (in_a_row run.parts) s.on_line run.on_line;
+  finds = more_right limits from limit next pieces s.stop s.last s.said search run.parts are s.reads s.is_pass s.result_is fits run.finds;
+  counted = subst (λ count. CountsFault (line_fault (stop_of search)) count line''.failures) s.counted run.counted;
+  named = run.named;
 }
 
 -- ---- the three passes
@@ -233,45 +245,45 @@ small_are from lies = record { even = lies.0; whole = refl; some = omega arith; 
 words_are : (before from : ℕ) → ArePieces before small → LiesWithin before small (Lacking from) → ArePieces from words
 words_are before from are lies = record { even = lies.0; whole = refl; some = omega arith; below = omega (arith, lies.1, are.below) }
 
-finds_end : (turns patience : ℕ) (search : Search) (line line' : Option (List Item)) → Runs three_passes turns patience 0 0o160000 search line line' → FindsEnd turns patience search line line'
-finds_end turns patience search line line' run = record {
+finds_end : (limits : Limits) (search : Search) (line line' : LineTold) → Runs three_passes limits 0 0o160000 search line line' → FindsEnd limits search line line'
+finds_end limits search line line' run = record {
   parts = run.parts;
   passes = run.searches;
   on_line = run.on_line;
   believed = λ machine now lost ready honest. run.finds machine now lost ready (omega arith) (omega (arith, ready.console.size)) honest;
+  counted = run.counted;
+  named = run.named;
 }
 
 -- the first pass ended the search
-pub ends_first : (turns patience : ℕ) (search : Search) (line line' : Option (List Item)) → Stepped turns patience 0 large (Over search) line line' → FindsEnd turns patience search line line'
-ends_first turns patience search line line' one = finds_end turns patience search line line' (run_over large (small ∷ words ∷ []) turns patience 0 search line line' large_are one)
+pub ends_first : (limits : Limits) (search : Search) (line line' : LineTold) → Stepped (pass_over limits 0 large) (Over search) line line' → FindsEnd limits search line line'
+ends_first limits search line line' one = finds_end limits search line line' (run_over large (small ∷ words ∷ []) limits 0 search line line' large_are one)
 
 -- passes that follow the first
-ends_later : (turns patience from : ℕ) (search : Search) (a b c : Option (List Item)) → Stepped turns patience 0 large (Lacking from) a b → Runs (small ∷ words ∷ []) turns patience from (from + 64 * 32) search b c →
-    FindsEnd turns patience search a c
-ends_later turns patience from search a b c one run =
-    finds_end turns patience search a c (run_more large (small ∷ words ∷ []) turns patience 0 from (from + 64 * 32) search a b c large_are one (omega arith) run)
+ends_later : (limits : Limits) (from : ℕ) (search : Search) (a b c : LineTold) → Stepped (pass_over limits 0 large) (Lacking from) a b → Runs (small ∷ words ∷ []) limits from (from + 64 * 32) search b c →
+    FindsEnd limits search a c
+ends_later limits from search a b c one run =
+    finds_end limits search a c (run_more large (small ∷ words ∷ []) limits 0 from (from + 64 * 32) search a b c large_are one (omega arith) run)
 
 -- the second did
-pub ends_second : (turns patience from : ℕ) (search : Search) (a b c : Option (List Item)) → Stepped turns patience 0 large (Lacking from) a b → LiesWithin 0 large (Lacking from) →
-    Stepped turns patience from small (Over search) b c → FindsEnd turns patience search a c
-ends_second turns patience from search a b c one lies two =
-    ends_later turns patience from search a b c one (run_over small (words ∷ []) turns patience from search b c (small_are from lies) two)
+pub ends_second : (limits : Limits) (from : ℕ) (search : Search) (a b c : LineTold) → Stepped (pass_over limits 0 large) (Lacking from) a b → Stepped (pass_over limits from small) (Over search) b c → FindsEnd limits search a c
+ends_second limits from search a b c one two = ends_later limits from search a b c one (run_over small (words ∷ []) limits from search b c (small_are from one.within) two)
 
 -- the third begins
-words_run : (turns patience from next : ℕ) (search : Search) (a b c d : Option (List Item)) → Stepped turns patience 0 large (Lacking from) a b → LiesWithin 0 large (Lacking from) →
-    Stepped turns patience from small (Lacking next) b c → Runs (words ∷ []) turns patience next (next + 2 * 32) search c d → FindsEnd turns patience search a d
-words_run turns patience from next search a b c d one lies two run =
-    ends_later turns patience from search a b d one (run_more small (words ∷ []) turns patience from next (next + 2 * 32) search b c d (small_are from lies) two (omega arith) run)
+words_run : (limits : Limits) (from next : ℕ) (search : Search) (a b c d : LineTold) → Stepped (pass_over limits 0 large) (Lacking from) a b → Stepped (pass_over limits from small) (Lacking next) b c →
+    Runs (words ∷ []) limits next (next + 2 * 32) search c d → FindsEnd limits search a d
+words_run limits from next search a b c d one two run =
+    ends_later limits from search a b d one (run_more small (words ∷ []) limits from next (next + 2 * 32) search b c d (small_are from one.within) two (omega arith) run)
 
 -- and ended the search
-pub ends_third : (turns patience from next : ℕ) (search : Search) (a b c d : Option (List Item)) → Stepped turns patience 0 large (Lacking from) a b → LiesWithin 0 large (Lacking from) →
-    Stepped turns patience from small (Lacking next) b c → LiesWithin from small (Lacking next) → Stepped turns patience next words (Over search) c d → FindsEnd turns patience search a d
-ends_third turns patience from next search a b c d one lies two lies_two three =
-    words_run turns patience from next search a b c d one lies two (run_over words [] turns patience next search c d (words_are from next (small_are from lies) lies_two) three)
+pub ends_third : (limits : Limits) (from next : ℕ) (search : Search) (a b c d : LineTold) → Stepped (pass_over limits 0 large) (Lacking from) a b → Stepped (pass_over limits from small) (Lacking next) b c →
+    Stepped (pass_over limits next words) (Over search) c d → FindsEnd limits search a d
+ends_third limits from next search a b c d one two three =
+    words_run limits from next search a b c d one two (run_over words [] limits next search c d (words_are from next (small_are from one.within) two.within) three)
 
 -- or came to memory's end
-pub ends_there : (turns patience from next top : ℕ) (a b c d : Option (List Item)) → Stepped turns patience 0 large (Lacking from) a b → LiesWithin 0 large (Lacking from) →
-    Stepped turns patience from small (Lacking next) b c → LiesWithin from small (Lacking next) → Stepped turns patience next words (Lacking top) c d → FindsEnd turns patience (Ends top) a d
-ends_there turns patience from next top a b c d one lies two lies_two three =
-    words_run turns patience from next (Ends top) a b c d one lies two
-    (run_more words [] turns patience next top top (Ends top) c d d (words_are from next (small_are from lies) lies_two) three (omega arith) (run_none turns patience top d))
+pub ends_there : (limits : Limits) (from next top : ℕ) (a b c d : LineTold) → Stepped (pass_over limits 0 large) (Lacking from) a b → Stepped (pass_over limits from small) (Lacking next) b c →
+    Stepped (pass_over limits next words) (Lacking top) c d → FindsEnd limits (Ends top) a d
+ends_there limits from next top a b c d one two three =
+    words_run limits from next (Ends top) a b c d one two
+    (run_more words [] limits next top top (Ends top) c d d (words_are from next (small_are from one.within) two.within) three (omega arith) (run_none limits top d))

@@ -3,10 +3,14 @@ use Rattle.std.specs.Prelude.{◌≡◌, ℕ, ◌<◌, List, Option, Some, None,
 use Rattle.tape_image.specs.Memory.{top_of}
 use Rattle.odt_machine.specs.Machine.{Machine}
 use Rattle.load_devices.specs.declared.item.Item.{Item}
+use Rattle.load_devices.specs.Devices.{LineTold}
+use Rattle.load_devices.specs.Failures.{CountsFault, IsLastFault}
 use Rattle.load_devices.specs.Told.{Gains}
 use Rattle.reading_core.specs.declared.phase.End.TheVariants.{GaveUp}
 use Rattle.reading_engine.specs.declared.stop.Stop.{Stop}
 use Rattle.reading_engine.specs.declared.stop.Stop.TheVariants.{Ended}
+use Rattle.reading_engine.specs.Failing.{line_fault}
+use Rattle.machine_probe.specs.declared.memory_end.Limits.{Limits}
 use Rattle.machine_probe.specs.declared.search.Search.{Search}
 use Rattle.machine_probe.specs.declared.search.Search.TheVariants.{Ends, Stopped}
 use Rattle.machine_probe.specs.Passes.{Searches, three_passes}
@@ -30,10 +34,12 @@ IsFound patience search parts =
     (machine machine' : Machine) (lost : ℕ) → IsReadyMachine machine → AreHonest machine parts lost machine' →
     (machine'.memory ≡ machine.memory) × IsTrueEnd search machine.memory patience lost
 
--- a search with so many turns in each pass came to this, with what the line told before and tells after
-pub record FindsEnd (turns patience : ℕ) (search : Search) (line line' : Option (List Item)) : Type 0 where
+-- a search came to this, with what the line told before and tells after
+pub record FindsEnd (limits : Limits) (search : Search) (before after : LineTold) : Type 0 where
   -- what was said in each pass
   pub parts : List (List Item)
-  pub passes : Searches three_passes turns patience 0 search parts
-  pub on_line : Gains line line' (in_a_row parts)
-  pub believed : IsFound patience search parts
+  pub passes : Searches three_passes limits 0 search parts
+  pub on_line : Gains before.said after.said (in_a_row parts)
+  pub believed : IsFound limits.patience search parts
+  pub counted : CountsFault (line_fault (stop_of search)) before.failures after.failures
+  pub named : IsLastFault (line_fault (stop_of search)) after.fault

@@ -6,7 +6,8 @@ use Rattle.reading_core.specs.declared.phase.End.TheVariants.{Complete, NoWord}
 use Rattle.reading_core.specs.Reader.{Reader, begun}
 use Rattle.reading_engine.specs.declared.stop.Stop.{Stop}
 use Rattle.reading_engine.specs.declared.stop.Stop.TheVariants.{Ended}
-use Rattle.reading_engine.specs.Inquired.{Inquired, TellsEnd}
+use Rattle.reading_engine.specs.Inquired.{Inquired, TellsEnd, inquiry}
+use Rattle.machine_probe.specs.declared.memory_end.Limits.{Limits}
 use Rattle.machine_probe.specs.declared.pieces.Pieces.{Pieces}
 use Rattle.machine_probe.specs.declared.room.Room.{Room}
 use Rattle.machine_probe.specs.declared.search.Search.{Search}
@@ -35,10 +36,26 @@ pub record IsRoom (pieces : Pieces) (room : Room) : Type 0 where
 abbrev pub three_passes : List Pieces
 three_passes = record { bytes = 0o4000; count = 28 } ∷ record { bytes = 0o100; count = 32 } ∷ record { bytes = 2; count = 32 } ∷ []
 
--- a pass over pieces from an address on is a reading of their last words, from its beginning to where it stopped, with
--- what was said of it
-pub record IsPass (turns patience from : ℕ) (pieces : Pieces) (stop : Stop) (last : Reader) (said : List Item) : Type 0 where
-  pub inquired : Inquired turns (Some stop) (begun (last_words from pieces.bytes pieces.count) [] patience) last (Some []) (Some said)
+-- how many mishaps the host survives in a pass, and the most turns of it
+abbrev pub limits : (patience turns : ℕ) → Limits
+limits patience turns = record { patience = patience; turns = turns }
+
+-- a pass over pieces that stand from an address on
+pub record Pass : Type 0 where
+  pub limits : Limits
+  pub from : ℕ
+  pub pieces : Pieces
+
+abbrev pub pass_over : Limits → ℕ → Pieces → Pass
+pass_over limits from pieces = record { limits = limits; from = from; pieces = pieces }
+
+-- its reader, as it begins: of the pieces' last words
+abbrev pub reader_of : Pass → Reader
+reader_of pass = begun (last_words pass.from pass.pieces.bytes pass.pieces.count) [] pass.limits.patience
+
+-- a pass is a reading, from its beginning to where it stopped, with what was said of it
+pub record IsPass (pass : Pass) (stop : Stop) (last : Reader) (said : List Item) : Type 0 where
+  pub inquired : Inquired pass.limits.turns (inquiry (reader_of pass) last (Some stop)) (Some []) (Some said)
   pub end : TellsEnd stop last
 
 -- behind the last piece whose last word was read
@@ -54,9 +71,9 @@ SearchGoesOn (Ended Complete) found next search parts = (search ≡ Ends found) 
 SearchGoesOn stop found next search parts = (search ≡ Stopped stop) × (parts ≡ [])
 
 -- these passes, from an address on, came to this, with what was said in each. Behind the last pass memory ends
-abbrev pub Searches : List Pieces → (turns patience from : ℕ) → Search → List (List Item) → Type 0
-Searches [] turns patience from search parts = (search ≡ Ends from) × (parts ≡ [])
-Searches (pieces ∷ passes) turns patience from search [] = ⊥
-Searches (pieces ∷ passes) turns patience from search (said ∷ parts) =
-    (stop : Stop) × (last : Reader) × IsPass turns patience from pieces stop last said
-    × SearchGoesOn stop (found from pieces last) (Searches passes turns patience (found from pieces last)) search parts
+abbrev pub Searches : List Pieces → Limits → (from : ℕ) → Search → List (List Item) → Type 0
+Searches [] limits from search parts = (search ≡ Ends from) × (parts ≡ [])
+Searches (pieces ∷ passes) limits from search [] = ⊥
+Searches (pieces ∷ passes) limits from search (said ∷ parts) =
+    (stop : Stop) × (last : Reader) × IsPass (pass_over limits from pieces) stop last said
+    × SearchGoesOn stop (found from pieces last) (Searches passes limits (found from pieces last)) search parts

@@ -4,18 +4,18 @@ use Rattle.load_devices.specs.declared.item.Item.{Item}
 use Rattle.load_devices.specs.Told.{Gains}
 use Rattle.machine_probe.specs.declared.search.Search.{Search}
 use Rattle.machine_probe.specs.MemoryEnd.{IsFound}
-use Rattle.machine_probe.specs.Passes.{Searches, three_passes}
+use Rattle.machine_probe.specs.Passes.{Searches, limits, three_passes}
 use Rattle.looking_law.specs.Rows.{in_a_row}
 use Rattle.probe_report.specs.declared.findings.Attempt.{Attempt}
 use Rattle.probe_report.specs.declared.findings.Extent.{Extent}
 use Rattle.probe_report.specs.declared.findings.Sighting.{Sighting}
 use Rattle.reading_core.specs.Reader.{Reader}
 use Rattle.reading_engine.specs.declared.stop.Stop.{Stop as LookStop}
-use Rattle.reading_engine.specs.Inquired.{Inquired, TellsEnd}
+use Rattle.reading_engine.specs.Inquired.{Inquired, TellsEnd, inquiry}
 use Rattle.trial_core.specs.declared.trial.Trial.{Trial}
 use Rattle.trial_core.specs.Trial.{begun_trial}
 use Rattle.trial_engine.specs.declared.stop.Stop.{Stop as TrialStop}
-use Rattle.trial_engine.specs.Attempted.{Attempted, TellsEnd as TellsEndOfTrial}
+use Rattle.trial_engine.specs.Attempted.{Attempted, TellsEnd as TellsEndOfTrial, trying}
 use Rattle.looking_law.specs.Again.{looker}
 use Rattle.machine_probe.specs.declared.probe_options.ProbeOptions.{ProbeOptions}
 use Rattle.machine_probe.specs.Came.{attempt_of, extent_of, first_of, sighting_of}
@@ -25,7 +25,7 @@ use Rattle.machine_probe.specs.Turns.{turns_of}
 pub record LooksAt (options : ProbeOptions) (sighting : Sighting) (said : List Item) : Type 0 where
   pub stop : LookStop
   pub last : Reader
-  pub inquired : Inquired (turns_of options.patience) (Some stop) (looker options.address options.patience) last (Some []) (Some said)
+  pub inquired : Inquired (turns_of options.patience) (inquiry (looker options.address options.patience) last (Some stop)) (Some []) (Some said)
   pub end : TellsEnd stop last
   pub sighting_is : sighting ≡ sighting_of stop (first_of last.values)
 
@@ -33,14 +33,14 @@ pub record LooksAt (options : ProbeOptions) (sighting : Sighting) (said : List I
 pub record IsTrialOf (options : ProbeOptions) (old : ℕ) (attempt : Attempt) (said : List Item) : Type 0 where
   pub stop : TrialStop
   pub last : Trial
-  pub attempted : Attempted (turns_of options.patience) (Some stop) (begun_trial options.address old options.patience) last (Some []) (Some said)
+  pub attempted : Attempted (turns_of options.patience) (trying (begun_trial options.address old options.patience) last (Some stop)) (Some []) (Some said)
   pub end : TellsEndOfTrial stop last
   pub attempt_is : attempt ≡ attempt_of last stop
 
 -- a search of memory's end gave this, with what was said in each of its passes
 pub record IsSearch (options : ProbeOptions) (extent : Extent) (parts : List (List Item)) : Type 0 where
   pub search : Search
-  pub passes : Searches three_passes (turns_of options.patience) options.patience 0 search parts
+  pub passes : Searches three_passes (limits options.patience (turns_of options.patience)) 0 search parts
   pub extent_is : extent ≡ extent_of search
   pub found : IsFound options.patience search parts
 

@@ -1,10 +1,13 @@
 -- One pass, as the search takes it.
-use Rattle.std.specs.Prelude.{◌≡◌, ℕ, ◌+◌, ◌*◌, ◌%◌, ◌≤◌, List, [], Option, None, ⊤}
+use Rattle.std.specs.Prelude.{◌≡◌, ℕ, ◌+◌, ◌*◌, ◌%◌, ◌≤◌, List, Option, None, ⊤}
 use Rattle.load_devices.specs.declared.item.Item.{Item}
+use Rattle.load_devices.specs.Devices.{LineTold}
+use Rattle.load_devices.specs.Failures.{CountsFault, IsLastFault}
 use Rattle.load_devices.specs.Told.{Gains}
 use Rattle.reading_core.specs.declared.phase.End.TheVariants.{Complete, NoWord}
 use Rattle.reading_core.specs.Invariant.{IsReader}
-use Rattle.reading_core.specs.Reader.{Reader, begun}
+use Rattle.reading_core.specs.Reader.{Reader}
+use Rattle.reading_engine.specs.Failing.{line_fault}
 use Rattle.reading_engine.specs.declared.stop.Stop.{Stop}
 use Rattle.reading_engine.specs.declared.stop.Stop.TheVariants.{Ended}
 use Rattle.machine_probe.specs.declared.memory_end.PassEnd.{PassEnd}
@@ -12,23 +15,13 @@ use Rattle.machine_probe.specs.declared.memory_end.PassEnd.TheVariants.{Lacking,
 use Rattle.machine_probe.specs.declared.pieces.Pieces.{Pieces}
 use Rattle.machine_probe.specs.declared.search.Search.TheVariants.{Ends, Stopped}
 use Rattle.machine_probe.specs.MemoryEnd.{stop_of}
-use Rattle.machine_probe.specs.Passes.{IsPass, found, last_words}
+use Rattle.machine_probe.specs.Passes.{IsPass, Pass, found, reader_of}
 
 -- what a pass that stopped so and found memory up to an address comes to
 abbrev pub passed : Stop → ℕ → PassEnd
 passed (Ended (NoWord address)) found = Lacking found
 passed (Ended Complete) found = Over (Ends found)
 passed stop found = Over (Stopped stop)
-
--- a pass came to this, with what the line told before and tells after
-pub record Stepped (turns patience from : ℕ) (pieces : Pieces) (result : PassEnd) (line line' : Option (List Item)) : Type 0 where
-  pub stop : Stop
-  pub last : Reader
-  pub said : List Item
-  pub pass : IsPass turns patience from pieces stop last said
-  pub reads : IsReader (begun (last_words from pieces.bytes pieces.count) [] patience)
-  pub result_is : result ≡ passed stop (found from pieces last)
-  pub on_line : Gains line line' said
 
 -- a piece that lacks its last word is one of the pieces
 abbrev pub LiesWithin : ℕ → Pieces → PassEnd → Type 0
@@ -39,3 +32,16 @@ LiesWithin from pieces (Over search) = ⊤
 abbrev pub stop_in : PassEnd → Option Stop
 stop_in (Lacking next) = None
 stop_in (Over search) = stop_of search
+
+-- a pass came to this, with what the line told before and tells after
+pub record Stepped (pass : Pass) (result : PassEnd) (before after : LineTold) : Type 0 where
+  pub stop : Stop
+  pub last : Reader
+  pub said : List Item
+  pub is_pass : IsPass pass stop last said
+  pub reads : IsReader (reader_of pass)
+  pub result_is : result ≡ passed stop (found pass.from pass.pieces last)
+  pub within : LiesWithin pass.from pass.pieces result
+  pub on_line : Gains before.said after.said said
+  pub counted : CountsFault (line_fault (stop_in result)) before.failures after.failures
+  pub named : IsLastFault (line_fault (stop_in result)) after.fault

@@ -1,10 +1,9 @@
 ghost use Rattle.std.specs.Prelude.{◌≡◌, IfOk, OnErr};
+ghost use Rattle.load_devices.specs.Devices.{line_told};
 ghost use Rattle.load_devices.specs.Told.{SaysNothing};
-ghost use Rattle.machine_probe.specs.MemoryEnd.{FindsEnd, stop_of};
-ghost use Rattle.machine_probe.specs.Passes.{ArePieces, IsRoom};
-ghost use Rattle.machine_probe.specs.Steps.{Stepped, LiesWithin, passed, stop_in};
-ghost use Rattle.load_devices.specs.Failures.{CountsFault, IsLastFault};
-ghost use Rattle.reading_engine.specs.Failing.{line_fault};
+ghost use Rattle.machine_probe.specs.MemoryEnd.{FindsEnd};
+ghost use Rattle.machine_probe.specs.Passes.{ArePieces, IsRoom, limits, pass_over};
+ghost use Rattle.machine_probe.specs.Steps.{Stepped, passed};
 
 use crate::pieces::{LARGE, Pieces, SMALL, WORDS};
 use crate::room::Room;
@@ -42,9 +41,7 @@ pub fn find_end<L: Line>(
     patience: u32,
     turns: u64,
 ) -> Result<Search, AllocError>
-    ensures found { IfOk result (λ search. FindsEnd turns patience search (L.told line.old) (L.told line.new)) }
-    ensures counted { IfOk result (λ search. CountsFault (line_fault (stop_of search)) (L.fault_count line.old) (L.fault_count line.new)) }
-    ensures fault { IfOk result (λ search. IsLastFault (line_fault (stop_of search)) (L.last_fault line.new)) }
+    ensures found { IfOk result (λ search. FindsEnd (limits patience turns) search (line_told L.Line line.old) (line_told L.Line line.new)) }
     ensures unsaid { OnErr result (SaysNothing (L.told line.old) (L.told line.new)) }
     ensures uncounted { OnErr result (L.fault_count line.new ≡ L.fault_count line.old) }
 {
@@ -70,10 +67,7 @@ pub fn find_end<L: Line>(
 fn pass<L: Line>(room: Room, from: u16, pieces: Pieces, limits: Limits, line: &mut L) -> PassEnd
     requires room { IsRoom pieces room }
     requires pieces { ArePieces from pieces }
-    ensures pass { Stepped limits.turns limits.patience from pieces result (L.told line.old) (L.told line.new) }
-    ensures within { LiesWithin from pieces result }
-    ensures counted { CountsFault (line_fault (stop_in result)) (L.fault_count line.old) (L.fault_count line.new) }
-    ensures fault { IsLastFault (line_fault (stop_in result)) (L.last_fault line.new) }
+    ensures pass { Stepped (pass_over limits from pieces) result (line_told L.Line line.old) (line_told L.Line line.new) }
 {
     let core = room.core(from, pieces, limits.patience);
     let (core, stop) = inquire(core, line, limits.turns, &Unwatched);

@@ -21,7 +21,7 @@ use Rattle.looking_law.proofs.Runs.{may_begin, run_begins, run_tidy}
 use Rattle.looking_law.proofs.Splits.{lines_split}
 use Rattle.looking_law.proofs.Told.{told_begins, told_honest}
 use Rattle.reading_engine.specs.Belief.{IsBelievableOver}
-use Rattle.reading_engine.specs.Inquired.{Inquired, IsSaid}
+use Rattle.reading_engine.specs.Inquired.{Inquired, IsSaid, inquiry}
 use Rattle.reading_engine.specs.declared.stop.Stop.{Stop}
 use Rattle.reading_engine.specs.declared.stop.Stop.TheVariants.{Ended, LineFailed, TurnsOver}
 use Rattle.reading_engine.proofs.Beliefs.{inquired_believable}
@@ -43,7 +43,7 @@ said_told (LineFailed fault) left all said (inl s) = inl s.0
 said_told (LineFailed fault) left all said (inr lacks) = inr lacks
 
 -- the same, as of a line that tells what was said there alone
-told_by_itself : (turns : ℕ) (stop : Stop) (first last : Reader) (line line' : Option (List Item)) (s : Inquired turns (Some stop) first last line line') → Inquired turns (Some stop) first last (Some []) (Some s.said)
+told_by_itself : (turns : ℕ) (stop : Stop) (first last : Reader) (line line' : Option (List Item)) (s : Inquired turns (inquiry first last (Some stop)) line line') → Inquired turns (inquiry first last (Some stop)) (Some []) (Some s.said)
 told_by_itself turns stop first last line line' s =
     record { heard = s.heard; said = s.said; reader = s.reader; goes_on = s.goes_on; within = s.within; items = s.items; on_line = refl }
 
@@ -68,7 +68,7 @@ pub record IsReadBehind (samples : List WordValue) (finding : Finding) (last : R
 pub reading_holds : (samples : List WordValue) (patience : ℕ) (looks : Reader) (finding : Finding) (line mid : Option (List Item)) → AreAddresses (addresses_of samples) → patience < 2 ^ 32
     → (s : AreLookedAt samples patience looks (Ended Complete) finding line mid) → IsReader looks
     → (turns : ℕ) (stop : Stop) (addresses : List ℕ) (left : ℕ) (last : Reader) (line' : Option (List Item)) → AreAddresses addresses → left < 2 ^ 32
-    → (t : Inquired turns (Some stop) (begun addresses [] left) last mid line') → WhereHonest (s.inquired.said ++ t.said) (IsReadBehind samples finding last)
+    → (t : Inquired turns (inquiry (begun addresses [] left) last (Some stop)) mid line') → WhereHonest (s.inquired.said ++ t.said) (IsReadBehind samples finding last)
 reading_holds samples patience looks finding line mid are long s kept turns stop addresses left last line' are' long' t machine now lost ready honest =
     let one = Look (addresses_of samples) patience s.inquired.heard in
     let two = Look addresses left t.heard in

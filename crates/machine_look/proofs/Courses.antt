@@ -15,7 +15,7 @@ use Rattle.reading_core.specs.Invariant.{IsReader}
 use Rattle.reading_core.specs.Reader.{Reader, begun}
 use Rattle.reading_core.specs.declared.phase.End.TheVariants.{Complete}
 use Rattle.reading_engine.specs.Failing.{line_fault}
-use Rattle.reading_engine.specs.Inquired.{Inquired, TellsEnd}
+use Rattle.reading_engine.specs.Inquired.{Inquired, TellsEnd, inquiry}
 use Rattle.reading_engine.specs.declared.stop.Stop.{Stop}
 use Rattle.reading_engine.specs.declared.stop.Stop.TheVariants.{Ended}
 use Rattle.sample_looks.specs.Finding.{IsFound}
@@ -29,10 +29,10 @@ use Rattle.machine_look.proofs.BehindLooks.{looks_hold, reading_holds}
 use Rattle.machine_look.proofs.SavedMemory.{memory_behind}
 
 pub are_looked_at : (samples : List WordValue) (patience : ℕ) (first looks : Reader) (stop : Stop) (finding : Finding) (line line' : Option (List Item)) → first ≡ begun (addresses_of samples) [] patience
-    → Inquired most_turns (Some stop) first looks line line' → TellsEnd stop looks → IsFound samples looks.values stop finding → looks.sent ≤ reading_bound (length samples) first.patience
+    → Inquired most_turns (inquiry first looks (Some stop)) line line' → TellsEnd stop looks → IsFound samples looks.values stop finding → looks.sent ≤ reading_bound (length samples) first.patience
     → looks.patience ≡ first.patience → IsReader looks → AreLookedAt samples patience looks stop finding line line'
 are_looked_at samples patience first looks stop finding line line' is inquired end found bound same kept = record {
-  inquired = subst (λ (r : Reader). Inquired most_turns (Some stop) r looks line line') is inquired;
+  inquired = subst (λ (r : Reader). Inquired most_turns (inquiry r looks (Some stop)) line line') is inquired;
   end = end;
   found = found;
   bound = subst (λ n. looks.sent ≤ reading_bound (length samples) n) (ap (λ (r : Reader). r.patience) is) bound;
@@ -69,13 +69,13 @@ held_up options found before after looks stop finding samples line line' of s ke
 pub is_read : (turns : ℕ) (options : SaveOptions) (found : List ℕ) (before after : ConsoleTold) (looks last first : Reader) (stop looked_stop : Stop) (finding : Finding) (samples : List WordValue) (line mid line' : Option (List Item))
     → IsRange options.range.from options.range.to → options.start < 65536 → FillBlocks options.range found → AreAddresses (addresses_behind options.range found) → AreOfFound options.range found samples → finding ≡ AllStand
     → AreLookedAt samples options.patience looks looked_stop finding line mid → IsReader looks → options.patience < 2 ^ 32
-    → first ≡ begun (addresses_behind options.range found) [] (options.patience - looks.spent) → Inquired turns (Some stop) first last mid line' → last.addresses ≡ first.addresses → last.patience ≡ first.patience
+    → first ≡ begun (addresses_behind options.range found) [] (options.patience - looks.spent) → Inquired turns (inquiry first last (Some stop)) mid line' → last.addresses ≡ first.addresses → last.patience ≡ first.patience
     → last.sent ≤ reading_bound (length last.addresses) last.patience → IsReader last → Gains before.asked after.asked (asked_once before.call) → IsGivenBack stop line line' before.lines after.lines
     → IsRead turns options found before after looks last stop
 is_read turns options found before after looks last first stop looked_stop finding samples line mid line' range begins fill are of all s kept long is inquired addresses patience bound kept' asked given =
     let s' : AreLookedAt samples options.patience looks looked_stop AllStand line mid = subst (λ f. AreLookedAt samples options.patience looks looked_stop f line mid) all s in
     let looked : AreLookedAt samples options.patience looks (Ended Complete) AllStand line mid = subst (λ t. AreLookedAt samples options.patience looks t AllStand line mid) s'.found.0 s' in
-    let read : Inquired turns (Some stop) (begun (addresses_behind options.range found) [] (options.patience - looks.spent)) last mid line' = subst (λ (r : Reader). Inquired turns (Some stop) r last mid line') is inquired in
+    let read : Inquired turns (inquiry (begun (addresses_behind options.range found) [] (options.patience - looks.spent)) last (Some stop)) mid line' = subst (λ (r : Reader). Inquired turns (inquiry r last (Some stop)) mid line') is inquired in
     let there : last.addresses ≡ addresses_behind options.range found = addresses ∙ ap (λ (r : Reader). r.addresses) is in
     let left : last.patience ≡ options.patience - looks.spent = patience ∙ ap (λ (r : Reader). r.patience) is in
     record {

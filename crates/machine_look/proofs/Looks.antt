@@ -17,7 +17,7 @@ use Rattle.looking_law.specs.Belief.{IsTrueReading, MayLook}
 use Rattle.reading_engine.specs.declared.stop.Stop.{Stop}
 use Rattle.reading_engine.specs.declared.stop.Stop.TheVariants.{Ended, LineFailed, TurnsOver}
 use Rattle.reading_engine.specs.Belief.{IsBelievableAt}
-use Rattle.reading_engine.specs.Inquired.{Inquired, TellsEnd}
+use Rattle.reading_engine.specs.Inquired.{Inquired, TellsEnd, inquiry}
 use Rattle.reading_engine.proofs.Beliefs.{inquired_believable}
 use Rattle.load_devices.specs.Devices.{LineTold}
 use Rattle.machine_look.specs.Look.{IsLineOf, IsLook, IsLookOf}
@@ -25,9 +25,9 @@ use Rattle.machine_look.specs.Look.{IsLineOf, IsLook, IsLookOf}
 -- ---- how a look comes to be
 
 -- what was said may be believed, also where the line doesn't tell it
-pub believed_said : (turns : ℕ) (stop : Stop) (first last : Reader) (line line' : Option (List Item)) (s : Inquired turns (Some stop) first last line line') → IsReader first → IsBelievableAt stop first last s.said
+pub believed_said : (turns : ℕ) (stop : Stop) (first last : Reader) (line line' : Option (List Item)) (s : Inquired turns (inquiry first last (Some stop)) line line') → IsReader first → IsBelievableAt stop first last s.said
 believed_said turns stop first last line line' s reads =
-    let told : Inquired turns (Some stop) first last (Some []) (Some s.said) = record {
+    let told : Inquired turns (inquiry first last (Some stop)) (Some []) (Some s.said) = record {
       heard = s.heard;
       said = s.said;
       reader = s.reader;
@@ -38,7 +38,7 @@ believed_said turns stop first last line line' s reads =
     } in
     inquired_believable turns stop first last (Some []) (Some s.said) reads told s.said ([], refl, refl)
 
-pub is_look_of : (turns : ℕ) (first last : Reader) (stop : Stop) (line line' : Option (List Item)) (lines lines' : Option (List LineTold)) → IsReader first → Inquired turns (Some stop) first last line line'
+pub is_look_of : (turns : ℕ) (first last : Reader) (stop : Stop) (line line' : Option (List Item)) (lines lines' : Option (List LineTold)) → IsReader first → Inquired turns (inquiry first last (Some stop)) line line'
     → IsLineOf (ended first.phase) stop line line' lines lines' → TellsEnd stop last
     → last.addresses ≡ first.addresses → last.patience ≡ first.patience → last.sent ≤ reading_bound (length last.addresses) last.patience → IsReader last → IsLookOf turns first last stop lines lines'
 is_look_of turns first last stop line line' lines lines' reads inquired is end addresses patience bound kept = record {
@@ -54,7 +54,7 @@ is_look_of turns first last stop line line' lines lines' reads inquired is end a
   kept = kept;
 }
 
-pub is_look : (first last : Reader) (stop : Stop) (line line' : Option (List Item)) (lines lines' : Option (List LineTold)) → IsReader first → Inquired most_turns (Some stop) first last line line'
+pub is_look : (first last : Reader) (stop : Stop) (line line' : Option (List Item)) (lines lines' : Option (List LineTold)) → IsReader first → Inquired most_turns (inquiry first last (Some stop)) line line'
     → IsLineOf (ended first.phase) stop line line' lines lines' → TellsEnd stop last
     → last.addresses ≡ first.addresses → last.patience ≡ first.patience → last.sent ≤ reading_bound (length last.addresses) last.patience → IsReader last → IsLook first last stop lines lines'
 is_look = is_look_of most_turns
@@ -62,7 +62,7 @@ is_look = is_look_of most_turns
 -- a reader that has an end from the beginning needs no line
 pub no_look : (reader : Reader) (end : End) (lines : Option (List LineTold)) → IsReader reader → ended reader.phase ≡ Some end → IsLook reader reader (Ended end) lines lines
 no_look reader end lines reads is =
-    let nothing : Inquired most_turns (Some (Ended end)) reader reader None None = record {
+    let nothing : Inquired most_turns (inquiry reader reader (Some (Ended end))) None None = record {
       heard = [];
       said = [];
       reader = refl;

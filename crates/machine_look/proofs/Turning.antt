@@ -1,34 +1,20 @@
--- Turns one after another, each of which may be the last.
-use Rattle.std.proofs.Common.{◌≡◌, true, ℕ, ◌≤◌, List, [], Option, None, Some, Result, Ok, Err, OnOk, refl, arith, subst}
+-- Turns that are none, and what is known of an answer.
+use Rattle.std.proofs.Common.{◌≡◌, true, Some, Result, Ok, Err, OnOk, refl, subst, arith}
 use Rattle.std.specs.Prelude.{IfErr, is_err}
-use Rattle.load_devices.proofs.Told.{gains_none}
-use Rattle.load_devices.specs.declared.item.Item.{Item}
+use Rattle.load_devices.specs.Devices.{LineTold}
+use Rattle.load_devices.specs.Turns.{most_turns}
 use Rattle.reading_core.specs.declared.phase.End.{End}
-use Rattle.reading_core.specs.Reader.{Reader}
-use Rattle.reading_engine.specs.declared.stop.Stop.{Stop}
-use Rattle.reading_engine.specs.declared.stop.Stop.TheVariants.{Ended, LineFailed, TurnsOver}
-use Rattle.reading_engine.specs.Inquired.{Inquired}
-use Rattle.reading_engine.proofs.Stretches.{inquired_wider}
+use Rattle.reading_core.specs.Invariant.{IsReader}
+use Rattle.reading_core.specs.Reader.{Reader, ended}
+use Rattle.reading_engine.specs.declared.stop.Stop.TheVariants.{Ended}
+use Rattle.reading_engine.specs.Inquired.{IsInquired, inquiry}
+use Rattle.reading_engine.proofs.Inquiries.{inquired, no_turns}
+use Rattle.reading_engine.proofs.Stretches.{inquired_ended}
 
--- turns that are over may go on
-pub inquired_open : (turns : ℕ) (a b : Reader) (line line' : Option (List Item)) → Inquired turns (Some TurnsOver) a b line line' → Inquired turns None a b line line'
-inquired_open turns a b line line' s =
-    record { heard = s.heard; said = s.said; reader = s.reader; goes_on = s.goes_on; within = s.within; items = s.items; on_line = s.on_line }
-
--- an end with turns to spare
-pub ended_wider : (end : End) (turns all : ℕ) (a b : Reader) (line line' : Option (List Item)) → turns ≤ all → Inquired turns (Some (Ended end)) a b line line' → Inquired all (Some (Ended end)) a b line line'
-ended_wider end turns all a b line line' le s =
-    record { heard = s.heard; said = s.said; reader = s.reader; goes_on = s.goes_on; within = omega (arith, s.within, le); items = s.items; on_line = s.on_line }
-
--- so it is of a failure, and of whatever else is no end of the turns
-pub inquired_stopped : (stop : Stop) (turns all : ℕ) (a b : Reader) (line line' : Option (List Item)) → (stop ≡ TurnsOver → ⊥) → turns ≤ all → Inquired turns (Some stop) a b line line' → Inquired all (Some stop) a b line line'
-inquired_stopped (Ended end) turns all a b line line' other le s = ended_wider end turns all a b line line' le s
-inquired_stopped (LineFailed fault) turns all a b line line' other le s = inquired_wider fault turns all a b line line' le s
-inquired_stopped TurnsOver turns all a b line line' other le s = absurd (other refl)
-
--- no turn
-pub no_turn : (a : Reader) (line : Option (List Item)) → Inquired 0 None a a line line
-no_turn a line = record { heard = []; said = []; reader = refl; goes_on = tt; within = omega arith; items = (refl, refl); on_line = gains_none line }
+-- a reader that has an end before its first turn
+pub ended_at_once : (end : End) (reader : Reader) (line : LineTold) → IsReader reader → ended reader.phase ≡ Some end → IsInquired most_turns (inquiry reader reader (Some (Ended end))) line line
+ended_at_once end reader line reads is =
+    inquired most_turns reader reader (Some (Ended end)) line line reads reads (inquired_ended end 0 most_turns reader reader line.said line.said (omega arith) (no_turns reader line reads).turns) is refl tt
 
 -- ---- what is known of an answer
 

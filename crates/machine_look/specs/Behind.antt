@@ -16,7 +16,7 @@ use Rattle.reading_core.specs.Reader.{Reader, begun}
 use Rattle.reading_core.specs.declared.phase.End.TheVariants.{Complete}
 use Rattle.looking_law.specs.Belief.{IsReadyMachine}
 use Rattle.reading_engine.specs.Honest.{IsHonest}
-use Rattle.reading_engine.specs.Inquired.{Inquired, TellsEnd}
+use Rattle.reading_engine.specs.Inquired.{Inquired, TellsEnd, inquiry}
 use Rattle.reading_engine.specs.declared.stop.Stop.{Stop}
 use Rattle.reading_engine.specs.declared.stop.Stop.TheVariants.{Ended}
 use Rattle.request_values.specs.declared.range.AddressRange.{AddressRange}
@@ -48,7 +48,7 @@ pub record AreOfFound (range : AddressRange) (found : List ℕ) (samples : List 
 
 -- samples were looked at over a line, by a host of this patience, and this was found
 pub record AreLookedAt (samples : List WordValue) (patience : ℕ) (looks : Reader) (stop : Stop) (finding : Finding) (line line' : Option (List Item)) : Type 0 where
-  pub inquired : Inquired most_turns (Some stop) (begun (addresses_of samples) [] patience) looks line line'
+  pub inquired : Inquired most_turns (inquiry (begun (addresses_of samples) [] patience) looks (Some stop)) line line'
   pub end : TellsEnd stop looks
   pub found : IsFound samples looks.values stop finding
   pub bound : looks.sent ≤ reading_bound (length samples) patience
@@ -88,7 +88,7 @@ pub record IsRead (turns : ℕ) (options : SaveOptions) (found : List ℕ) (befo
   pub between : Option (List Item)
   pub line' : Option (List Item)
   pub looked : AreLookedAt samples options.patience looks (Ended Complete) AllStand line between
-  pub read : Inquired turns (Some stop) (begun (addresses_behind options.range found) [] (options.patience - looks.spent)) last between line'
+  pub read : Inquired turns (inquiry (begun (addresses_behind options.range found) [] (options.patience - looks.spent)) last (Some stop)) between line'
   pub asked : Gains before.asked after.asked (asked_once before.call)
   pub given : IsGivenBack stop line line' before.lines after.lines
   pub addresses : last.addresses ≡ addresses_behind options.range found

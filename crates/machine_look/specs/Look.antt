@@ -1,5 +1,5 @@
 -- A look at a machine: a reading that begins with nothing read, over a line that was reached for it.
-use Rattle.std.specs.Prelude.{◌≡◌, ℕ, ◌≤◌, List, [], ◌∷◌, length, Option, Some, None}
+use Rattle.std.specs.Prelude.{◌≡◌, ℕ, ◌≤◌, List, [], ◌∷◌, length, Option, Some, None, Result, OnOk}
 use Rattle.odt_machine.specs.Machine.{Machine}
 use Rattle.load_devices.specs.Told.{Gains}
 use Rattle.load_devices.specs.Failures.{CountsFault, IsLastFault}
@@ -16,7 +16,7 @@ use Rattle.reading_core.specs.Reader.{Reader, ended}
 use Rattle.reading_core.specs.declared.phase.End.{End}
 use Rattle.looking_law.specs.Belief.{MayLook}
 use Rattle.reading_engine.specs.Belief.{IsBelievableAt}
-use Rattle.reading_engine.specs.Inquired.{Inquired, TellsEnd}
+use Rattle.reading_engine.specs.Inquired.{Inquired, Inquiry, IsInquired, TellsEnd, inquiry}
 use Rattle.reading_engine.specs.declared.stop.Stop.{Stop}
 
 -- a line on which nothing had been said, and of which no call had failed, told this in the end, with the fault by which a look stopped, if by
@@ -38,7 +38,7 @@ IsLineOf None stop line line' lines lines' = IsGivenBack stop line line' lines l
 pub record IsLookOf (turns : ℕ) (old new : Reader) (stop : Stop) (lines lines' : Option (List LineTold)) : Type 0 where
   pub line : Option (List Item)
   pub line' : Option (List Item)
-  pub inquired : Inquired turns (Some stop) old new line line'
+  pub inquired : Inquired turns (inquiry old new (Some stop)) line line'
   pub line_is : IsLineOf (ended old.phase) stop line line' lines lines'
   pub end : TellsEnd stop new
   -- where what was said is honest, memory is what it was and what was read is what it holds
@@ -51,6 +51,11 @@ pub record IsLookOf (turns : ℕ) (old new : Reader) (stop : Stop) (lines lines'
 -- so it is of one that had the most turns
 abbrev pub IsLook : Reader → Reader → Stop → Option (List LineTold) → Option (List LineTold) → Type 0
 IsLook = IsLookOf most_turns
+
+-- the line was lent turn by turn: for the most turns, or for fewer where what came of one could not be put away
+abbrev pub IsInquiredWhile : {T E : Type 0} → Result T E → Inquiry → LineTold → LineTold → Type 0
+IsInquiredWhile put_away inquiry before after =
+    (turns : ℕ) × (turns ≤ most_turns) × OnOk put_away (turns ≡ most_turns) × IsInquired turns inquiry before after
 
 -- what holds of memory wherever a look was over an honest line of a machine that runs no program
 abbrev pub OverHonestLine : {turns : ℕ} {old new : Reader} {stop : Stop} {lines lines' : Option (List LineTold)} → IsLookOf turns old new stop lines lines'

@@ -1,17 +1,14 @@
 //! Comparing what memory holds with the words of a plan, each difference shown as soon as it was read.
-ghost use Rattle.std.specs.Prelude.{◌≡◌, ◌*◌, ◌≤◌, [], ℕ, None, Some, length, IfErr, IfOk, OnErr, OnOk};
+ghost use Rattle.std.specs.Prelude.{◌≡◌, [], None, Some, IfErr, IfOk, OnErr, OnOk};
 ghost use Rattle.std.specs.Io.KnownBytes.{Appends};
 ghost use Rattle.console_lines.specs.Console.{console_told};
 ghost use Rattle.console_lines.specs.Dialling.{IsAskedInVain};
-ghost use Rattle.load_devices.specs.Failures.{CountsFault, IsLastFault};
-ghost use Rattle.load_devices.specs.Turns.{most_turns};
+ghost use Rattle.load_devices.specs.Devices.{line_told};
 ghost use Rattle.reading_core.specs.Addresses.{addresses_of};
-ghost use Rattle.reading_core.specs.Bound.{reading_bound};
 ghost use Rattle.reading_core.specs.Invariant.{IsReader};
 ghost use Rattle.reading_core.specs.Reader.{ended};
-ghost use Rattle.reading_engine.specs.Failing.{line_fault};
-ghost use Rattle.reading_engine.specs.Inquired.{Inquired, TellsEnd};
-ghost use Rattle.machine_look.specs.Look.{AsksOnce, IsLook};
+ghost use Rattle.reading_engine.specs.Inquired.{IsInquired, inquiry};
+ghost use Rattle.machine_look.specs.Look.{AsksOnce, IsInquiredWhile, IsLook};
 ghost use Rattle.machine_look.specs.LookFault.{IsCompareFault};
 ghost use Rattle.machine_look.specs.Shown.{ShowsPart, ShowsTo};
 ghost use Rattle.machine_look.specs.VerifyReport.{difference_lines};
@@ -82,15 +79,7 @@ fn compare<L: Line, W: Write, O: Onlooker>(
     requires fresh { core.values ≡ [] }
     requires goes_on { ended core.phase ≡ None }
     requires kept { IsReader core }
-    ensures turns { (turns : ℕ) × (turns ≤ most_turns) × OnOk result.shown (turns ≡ most_turns)
-        × Inquired turns (Some result.stop) core result.core (L.told line.old) (L.told line.new) }
-    ensures end { TellsEnd result.stop result.core }
-    ensures counted { CountsFault (line_fault (Some result.stop)) (L.fault_count line.old) (L.fault_count line.new) }
-    ensures fault { IsLastFault (line_fault (Some result.stop)) (L.last_fault line.new) }
-    ensures same_addresses { result.core.addresses ≡ core.addresses }
-    ensures same_patience { result.core.patience ≡ core.patience }
-    ensures bound { result.core.sent ≤ reading_bound (length result.core.addresses) result.core.patience }
-    ensures kept { IsReader result.core }
+    ensures inquired { IsInquiredWhile result.shown (inquiry core result.core (Some result.stop)) (line_told L.Line line.old) (line_told L.Line line.new) }
     ensures shown { OnOk result.shown (ShowsTo [] (difference_lines words.now result.core.values) (W.contents out.old) (W.contents out.new)) }
     ensures cut_short { OnErr result.shown (ShowsPart [] (difference_lines words.now result.core.values) (W.contents out.old) (W.contents out.new)) }
 {
@@ -125,14 +114,7 @@ fn turn<L: Line, W: Write, O: Onlooker>(
     onlooker: &O,
 ) -> Compared
     requires of_words { core.addresses ≡ addresses_of words.now }
-    ensures turns { Inquired 1 (Some result.stop) core result.core (L.told line.old) (L.told line.new) }
-    ensures end { TellsEnd result.stop result.core }
-    ensures counted { CountsFault (line_fault (Some result.stop)) (L.fault_count line.old) (L.fault_count line.new) }
-    ensures fault { IsLastFault (line_fault (Some result.stop)) (L.last_fault line.new) }
-    ensures same_addresses { result.core.addresses ≡ core.addresses }
-    ensures same_patience { result.core.patience ≡ core.patience }
-    ensures bound { result.core.sent ≤ reading_bound (length result.core.addresses) result.core.patience }
-    ensures kept { IsReader result.core }
+    ensures inquired { IsInquired 1 (inquiry core result.core (Some result.stop)) (line_told L.Line line.old) (line_told L.Line line.new) }
     ensures first { IsReader core }
     ensures shown { OnOk result.shown (ShowsTo (difference_lines words.now core.values) (difference_lines words.now result.core.values)
         (W.contents out.old) (W.contents out.new)) }

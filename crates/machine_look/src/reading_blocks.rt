@@ -1,16 +1,14 @@
 //! Reading, with each block on the shelf as soon as its last word was read.
 ghost use Rattle.std.specs.Prelude.{◌≡◌, ◌+◌, ◌*◌, ◌/◌, ◌<◌, ◌≤◌, ◌↔◌, ◌++◌, [], List, ℕ, None, Some, length, IfErr, IfOk, IsTrue, OnOk, ⊤};
 ghost use Rattle.tape_values.specs.Block.{top};
-ghost use Rattle.load_devices.specs.Failures.{CountsFault, IsLastFault};
-ghost use Rattle.load_devices.specs.Turns.{most_turns};
-ghost use Rattle.reading_core.specs.Bound.{reading_bound};
+ghost use Rattle.load_devices.specs.Devices.{line_told};
 ghost use Rattle.reading_core.specs.Invariant.{IsReader};
 ghost use Rattle.reading_core.specs.Reader.{ended};
-ghost use Rattle.reading_engine.specs.Failing.{line_fault};
-ghost use Rattle.reading_engine.specs.Inquired.{Inquired, TellsEnd};
+ghost use Rattle.reading_engine.specs.Inquired.{IsInquired, inquiry};
 ghost use Rattle.machine_look.specs.Course.{IsCourse, IsNotAllAdded};
 ghost use Rattle.machine_look.specs.FoundPart.{FillBlocks};
 ghost use Rattle.machine_look.specs.Hosts.{AreHosts};
+ghost use Rattle.machine_look.specs.Look.{IsInquiredWhile};
 ghost use Rattle.machine_look.specs.LookFault.{IsReadFault};
 ghost use Rattle.machine_look.specs.Save.{reach_told};
 ghost use Rattle.machine_look.specs.SavedSteps.{adds, full, not_all_added};
@@ -120,34 +118,25 @@ fn read_behind<S: Shelf, L: Line, O: Onlooker>(
     requires below { from + 2 * (length found.now + length core.addresses) ≤ top }
     requires fresh { core.values ≡ [] }
     requires kept { IsReader core }
-    ensures turns { (turns : ℕ) × (turns ≤ most_turns) × OnOk result.added (turns ≡ most_turns)
-        × Inquired turns (Some result.stop) core result.core (L.told line.old) (L.told line.new) }
-    ensures end { OnOk result.added (TellsEnd result.stop result.core) }
-    ensures counted { CountsFault (line_fault (Some result.stop)) (L.fault_count line.old) (L.fault_count line.new) }
-    ensures fault { IsLastFault (line_fault (Some result.stop)) (L.last_fault line.new) }
-    ensures same_addresses { result.core.addresses ≡ core.addresses }
-    ensures same_patience { result.core.patience ≡ core.patience }
-    ensures bound { result.core.sent ≤ reading_bound (length result.core.addresses) result.core.patience }
-    ensures kept { IsReader result.core }
+    ensures inquired { IsInquiredWhile result.added (inquiry core result.core (Some result.stop)) (line_told L.Line line.old) (line_told L.Line line.new) }
     ensures added { OnOk result.added (GoesOnTo (S.is_opened_as shelf.old) (S.is_opened_as shelf.new) []
         (adds from (found.now ++ result.core.values) (full (found.now ++ result.core.values))) (S.told shelf.old) (S.told shelf.new)) }
     ensures not_added { IfErr result.added (λ fault. (n : ℕ) × (n < full (found.now ++ result.core.values))
         × GoesOnTo (S.is_opened_as shelf.old) (λ _. ⊤) [] (not_all_added from (found.now ++ result.core.values) n) (S.told shelf.old) (S.told shelf.new)) }
 {
-    if let Err(fault) = add_full(from, found, 0, shelf) {
-        return Read {
+    let added = add_full(from, found, 0, shelf);
+    match (core.end(), added) {
+        (Some(end), added) => Read {
+            core,
+            stop: Stop::Ended(end),
+            added,
+        },
+        (None, Err(fault)) => Read {
             core,
             stop: Stop::TurnsOver,
             added: Err(fault),
-        };
-    }
-    match core.end() {
-        Some(end) => Read {
-            core,
-            stop: Stop::Ended(end),
-            added: Ok(()),
         },
-        None => read_blocks(core, from + 2 * found.len() as u16, shelf, line, onlooker),
+        (None, Ok(())) => read_blocks(core, from + 2 * found.len() as u16, shelf, line, onlooker),
     }
 }
 
@@ -165,15 +154,7 @@ fn read_blocks<S: Shelf, L: Line, O: Onlooker>(
     requires fresh { core.values ≡ [] }
     requires goes_on { ended core.phase ≡ None }
     requires kept { IsReader core }
-    ensures turns { (turns : ℕ) × (turns ≤ most_turns) × OnOk result.added (turns ≡ most_turns)
-        × Inquired turns (Some result.stop) core result.core (L.told line.old) (L.told line.new) }
-    ensures end { TellsEnd result.stop result.core }
-    ensures counted { CountsFault (line_fault (Some result.stop)) (L.fault_count line.old) (L.fault_count line.new) }
-    ensures fault { IsLastFault (line_fault (Some result.stop)) (L.last_fault line.new) }
-    ensures same_addresses { result.core.addresses ≡ core.addresses }
-    ensures same_patience { result.core.patience ≡ core.patience }
-    ensures bound { result.core.sent ≤ reading_bound (length result.core.addresses) result.core.patience }
-    ensures kept { IsReader result.core }
+    ensures inquired { IsInquiredWhile result.added (inquiry core result.core (Some result.stop)) (line_told L.Line line.old) (line_told L.Line line.new) }
     ensures added { OnOk result.added (GoesOnTo (S.is_opened_as shelf.old) (S.is_opened_as shelf.new) []
         (adds from result.core.values (full result.core.values)) (S.told shelf.old) (S.told shelf.new)) }
     ensures not_added { IfErr result.added (IsNotAllAdded (S.is_opened_as shelf.old) [] from result.core.values (S.told shelf.old) (S.told shelf.new)) }
@@ -222,14 +203,7 @@ fn turn<S: Shelf, L: Line, O: Onlooker>(
     onlooker: &O,
 ) -> Read
     requires below { from + 2 * length core.addresses ≤ top }
-    ensures turns { Inquired 1 (Some result.stop) core result.core (L.told line.old) (L.told line.new) }
-    ensures end { TellsEnd result.stop result.core }
-    ensures counted { CountsFault (line_fault (Some result.stop)) (L.fault_count line.old) (L.fault_count line.new) }
-    ensures fault { IsLastFault (line_fault (Some result.stop)) (L.last_fault line.new) }
-    ensures same_addresses { result.core.addresses ≡ core.addresses }
-    ensures same_patience { result.core.patience ≡ core.patience }
-    ensures bound { result.core.sent ≤ reading_bound (length result.core.addresses) result.core.patience }
-    ensures kept { IsReader result.core }
+    ensures inquired { IsInquired 1 (inquiry core result.core (Some result.stop)) (line_told L.Line line.old) (line_told L.Line line.new) }
     ensures first { IsReader core }
     ensures added { OnOk result.added (GoesOnTo (S.is_opened_as shelf.old) (S.is_opened_as shelf.new) (adds from core.values (full core.values))
         (adds from result.core.values (full result.core.values)) (S.told shelf.old) (S.told shelf.new)) }

@@ -1,39 +1,34 @@
 use Rattle.std.proofs.Common.{◌≡◌, ◌+◌, None, Some, refl, subst, sym, ◌∙◌, arith}
 use Rattle.std.specs.Io.KnownBytes.{Appends}
-use Rattle.load_devices.specs.Failures.{CountsFault}
+use Rattle.load_devices.specs.Devices.{line_told}
 use Rattle.load_devices.specs.Turns.{most_turns}
 use Rattle.reading_engine.specs.declared.stop.Stop.{Stop}
 use Rattle.reading_engine.specs.declared.stop.Stop.TheVariants.{TurnsOver}
-use Rattle.reading_engine.specs.Failing.{line_fault}
-use Rattle.reading_engine.specs.Inquired.{Inquired, TellsEnd}
-use Rattle.reading_engine.proofs.Stretches.{inquired_join}
+use Rattle.reading_engine.specs.Inquired.{IsInquired, inquiry}
+use Rattle.reading_engine.proofs.Inquiries.{no_turns, turns_are_over, turns_go_on, turns_join, turns_to_spare}
 use Rattle.machine_look.proofs.OnShelf.{done}
 use Rattle.machine_look.proofs.Shown.{no_lines, on_fault}
 use Rattle.machine_look.proofs.Steps.{on_ok}
-use Rattle.machine_look.proofs.Turning.{inquired_open, inquired_stopped, no_turn, no_value_in_error, value_known}
+use Rattle.machine_look.proofs.Turning.{no_value_in_error, value_known}
 use Rattle.machine_look.proofs.comparing.compare.Goals as goal
 
 pub loop-init : goal.loop-init
 loop-init g c = record {
-  stretch = no_turn c.args.core (g.L.Line.told c.args.line.now);
-  counted = refl;
-  addresses = refl;
-  patience = refl;
+  inquired = no_turns c.args.core (line_told g.L.Line c.args.line.now) c.requires.kept;
   goes_on = c.requires.goes_on;
-  kept = c.requires.kept;
   shown = λ first had. subst (Appends first (g.W.Write.contents c.args.out.now)) (sym (no_lines c.args.words.now c.args.core.values c.requires.fresh)) had;
 }
 
 pub turn-next-requires : goal.turn-next-requires
-turn-next-requires g c = record { of_words = c.loop.invariant.addresses ∙ c.requires.of_words }
+turn-next-requires g c = record { of_words = c.loop.invariant.inquired.same_addresses ∙ c.requires.of_words }
 
-pub returns-then-is_err-clause-turns : goal.returns-then-is_err-clause-turns
-returns-then-is_err-clause-turns g c = (
+pub returns-then-is_err-clause-inquired : goal.returns-then-is_err-clause-inquired
+returns-then-is_err-clause-inquired g c = (
   c.loop.counter + 1,
   omega (arith, c.loop-test.true),
   no_value_in_error _ c.turn-next.result.shown c.if-is_err.ensures.value,
-  inquired_join c.loop.counter 1 (Some c.turn-next.result.stop) c.args.core c.loop.core c.turn-next.result.core (g.L.Line.told c.args.line.now) (g.L.Line.told c.loop.line) (g.L.Line.told c.turn-next.new.line) c.loop.invariant.stretch
-      c.turn-next.ensures.turns,
+  turns_join c.loop.counter 1 c.args.core c.loop.core c.turn-next.result.core (Some c.turn-next.result.stop) (line_told g.L.Line c.args.line.now) (line_told g.L.Line c.loop.line) (line_told g.L.Line c.turn-next.new.line) c.requires.kept
+      c.loop.invariant.inquired c.turn-next.ensures.inquired,
 )
 
 pub returns-then-is_err-clause-cut_short : goal.returns-then-is_err-clause-cut_short
@@ -43,22 +38,18 @@ pub returns-in_default : goal.returns-in_default
 returns-in_default g c =
     let inv = c.loop.invariant in
     let turn = c.turn-next.ensures in
+    let next = c.turn-next.result.core in
     let stop = c.turn-next.result.stop in
+    let before = line_told g.L.Line c.args.line.now in
+    let after = line_told g.L.Line c.turn-next.new.line in
     record {
-      turns = (
+      inquired = (
         most_turns,
         omega arith,
         value_known (most_turns ≡ most_turns) c.turn-next.result.shown refl,
-        inquired_stopped stop (c.loop.counter + 1) most_turns c.args.core c.turn-next.result.core (g.L.Line.told c.args.line.now) (g.L.Line.told c.turn-next.new.line) c.in_default.not-TurnsOver (omega (arith, c.loop-test.true))
-            (inquired_join c.loop.counter 1 (Some stop) c.args.core c.loop.core c.turn-next.result.core (g.L.Line.told c.args.line.now) (g.L.Line.told c.loop.line) (g.L.Line.told c.turn-next.new.line) inv.stretch turn.turns),
+        turns_to_spare stop (c.loop.counter + 1) most_turns c.args.core next before after c.in_default.not-TurnsOver (omega (arith, c.loop-test.true))
+            (turns_join c.loop.counter 1 c.args.core c.loop.core next (Some stop) before (line_told g.L.Line c.loop.line) after c.requires.kept inv.inquired turn.inquired),
       );
-      end = turn.end;
-      counted = subst (λ n. CountsFault (line_fault (Some stop)) n (g.L.Line.fault_count c.turn-next.new.line)) inv.counted turn.counted;
-      fault = turn.fault;
-      same_addresses = turn.same_addresses ∙ inv.addresses;
-      same_patience = turn.same_patience ∙ inv.patience;
-      bound = turn.bound;
-      kept = turn.kept;
       shown = on_ok c.turn-next.result.shown (λ more first had. more first (inv.shown first had)) turn.shown;
       cut_short = on_fault c.turn-next.result.shown (λ front first had. front first (inv.shown first had)) turn.cut_short;
     }
@@ -68,14 +59,20 @@ loop-preserved g c =
     let inv = c.loop.invariant in
     let turn = c.turn-next.ensures in
     let next = c.turn-next.result.core in
-    let over : c.turn-next.result.stop ≡ TurnsOver = c.in-TurnsOver.is in record {
-      stretch = inquired_join c.loop.counter 1 None c.args.core c.loop.core next (g.L.Line.told c.args.line.now) (g.L.Line.told c.loop.line) (g.L.Line.told c.turn-next.new.line) inv.stretch
-          (inquired_open 1 c.loop.core next (g.L.Line.told c.loop.line) (g.L.Line.told c.turn-next.new.line)
-          (subst (λ (s : Stop). Inquired 1 (Some s) c.loop.core next (g.L.Line.told c.loop.line) (g.L.Line.told c.turn-next.new.line)) over turn.turns));
-      counted = subst (λ (s : Stop). CountsFault (line_fault (Some s)) (g.L.Line.fault_count c.loop.line) (g.L.Line.fault_count c.turn-next.new.line)) over turn.counted ∙ inv.counted;
-      addresses = turn.same_addresses ∙ inv.addresses;
-      patience = turn.same_patience ∙ inv.patience;
-      goes_on = subst (λ (s : Stop). TellsEnd s next) over turn.end;
-      kept = turn.kept;
+    let between = line_told g.L.Line c.loop.line in
+    let after = line_told g.L.Line c.turn-next.new.line in
+    let over : c.turn-next.result.stop ≡ TurnsOver = c.in-TurnsOver.is in
+    let one : IsInquired 1 (inquiry c.loop.core next (Some TurnsOver)) between after = subst (λ (s : Stop). IsInquired 1 (inquiry c.loop.core next (Some s)) between after) over turn.inquired in record {
+      inquired = turns_join c.loop.counter 1 c.args.core c.loop.core next None (line_told g.L.Line c.args.line.now) between after c.requires.kept inv.inquired (turns_go_on 1 c.loop.core next between after one);
+      goes_on = one.end;
       shown = λ first had. done _ c.turn-next.result.shown c.if-is_err.ensures.value turn.shown first (inv.shown first had);
     }
+
+pub returns-clause-inquired : goal.returns-clause-inquired
+returns-clause-inquired g c =
+    let inv = c.loop.invariant in (
+      c.loop.counter,
+      omega (arith, c.loop.auto.counter-end),
+      omega (arith, c.loop-test.false, c.loop.auto.counter-end),
+      turns_are_over c.loop.counter c.args.core c.loop.core (line_told g.L.Line c.args.line.now) (line_told g.L.Line c.loop.line) c.requires.kept inv.goes_on inv.inquired,
+    )

@@ -8,7 +8,7 @@ use Rattle.load_devices.specs.Failures.{CountsFault}
 use Rattle.load_devices.specs.Told.{Gains}
 use Rattle.load_devices.specs.Turns.{most_turns}
 use Rattle.reading_engine.specs.Failing.{line_fault}
-use Rattle.reading_engine.specs.Inquired.{Inquired}
+use Rattle.reading_engine.specs.Inquired.{Inquired, inquiry}
 use Rattle.machine_look.specs.Differences.{differences}
 use Rattle.machine_look.specs.Look.{AsksOnce, IsLineOf}
 use Rattle.machine_look.specs.VerifyReport.{difference_lines, last_lines}
@@ -28,25 +28,27 @@ pub returns-in-Ok-clause-look : goal.returns-in-Ok-clause-look
 returns-in-Ok-clause-look g c =
     let told = line_told g.R.Line.Line in
     let read = c.compare-core.ensures in
+    let i = read.inquired.3 in
     let stop = c.compare-core.result.stop in
     let lines' = g.R.Reach.lines c.let_go.new.self in
-    let all : read.turns.0 ≡ most_turns = done_known _ c.compare-core.result.shown _ c.in-Ok.is read.turns.2 in
+    let all : read.inquired.0 ≡ most_turns = done_known _ c.compare-core.result.shown _ c.in-Ok.is read.inquired.2 in
     is_look_of most_turns _ _ _ (told c.in_ok-line.line).said (told c.compare-core.new.line).said (g.R.Reach.lines c.args.console.now) lines' c.end.ensures.kept
-    (subst (λ n. Inquired n (Some stop) c.args.core c.compare-core.result.core (told c.in_ok-line.line).said (told c.compare-core.new.line).said) all read.turns.3)
+    (subst (λ n. Inquired n (inquiry c.args.core c.compare-core.result.core (Some stop)) (told c.in_ok-line.line).said (told c.compare-core.new.line).said) all i.turns)
     (subst (λ over. IsLineOf over stop (told c.in_ok-line.line).said (told c.compare-core.new.line).said (g.R.Reach.lines c.args.console.now) lines') c.in_default.ensures.value (record {
       fresh = c.in_ok-line.ensures.fresh.nothing_said;
       last = told c.compare-core.new.line;
       said = refl;
-      counted = subst (λ n. CountsFault (line_fault (Some stop)) n (told c.compare-core.new.line).failures) c.in_ok-line.ensures.fresh.none_failed read.counted;
-      named = read.fault;
+      counted = subst (λ n. CountsFault (line_fault (Some stop)) n (told c.compare-core.new.line).failures) c.in_ok-line.ensures.fresh.none_failed i.counted;
+      named = i.named;
       given = subst (λ lines. Gains lines lines' (told c.compare-core.new.line ∷ [])) c.in_ok-line.ensures.lines c.let_go.ensures.lines;
     }))
-    read.end read.same_addresses read.same_patience read.bound read.kept
+    i.end i.same_addresses i.same_patience i.bound i.kept
 
 pub returns-in-Err-clause-fault : goal.returns-in-Err-clause-fault
 returns-in-Err-clause-fault g c =
     let told = line_told g.R.Line.Line in
     let read = c.compare-core.ensures in
+    let i = read.inquired.3 in
     let last = c.compare-core.result.core in
     let stop = c.compare-core.result.stop in
     let words = c.args.words.now in
@@ -56,20 +58,20 @@ returns-in-Err-clause-fault g c =
     let front = front_longer out out' (difference_lines words last.values) (last_lines (length words) last (length (differences words last.values)) stop)
     (fault_known _ c.compare-core.result.shown _ c.in-Err.is read.cut_short out (Appends-nil out)) in
     record {
-      turns = read.turns.0;
-      few = read.turns.1;
+      turns = read.inquired.0;
+      few = read.inquired.1;
       last = last;
       stop = stop;
-      look = is_look_of read.turns.0 _ _ _ (told c.in_ok-line.line).said (told c.compare-core.new.line).said (g.R.Reach.lines c.args.console.now) lines' c.end.ensures.kept read.turns.3
+      look = is_look_of read.inquired.0 _ _ _ (told c.in_ok-line.line).said (told c.compare-core.new.line).said (g.R.Reach.lines c.args.console.now) lines' c.end.ensures.kept i.turns
           (subst (λ over. IsLineOf over stop (told c.in_ok-line.line).said (told c.compare-core.new.line).said (g.R.Reach.lines c.args.console.now) lines') c.in_default.ensures.value (record {
             fresh = c.in_ok-line.ensures.fresh.nothing_said;
             last = told c.compare-core.new.line;
             said = refl;
-            counted = subst (λ n. CountsFault (line_fault (Some stop)) n (told c.compare-core.new.line).failures) c.in_ok-line.ensures.fresh.none_failed read.counted;
-            named = read.fault;
+            counted = subst (λ n. CountsFault (line_fault (Some stop)) n (told c.compare-core.new.line).failures) c.in_ok-line.ensures.fresh.none_failed i.counted;
+            named = i.named;
             given = subst (λ lines. Gains lines lines' (told c.compare-core.new.line ∷ [])) c.in_ok-line.ensures.lines c.let_go.ensures.lines;
           }))
-          read.end read.same_addresses read.same_patience read.bound read.kept;
+          i.end i.same_addresses i.same_patience i.bound i.kept;
       asked = subst (λ over. AsksOnce over (g.R.Reach.call c.args.console.now) (g.R.Reach.asked c.args.console.now) (g.R.Reach.asked c.let_go.new.self)) c.in_default.ensures.value
           (subst (λ asked. Gains (g.R.Reach.asked c.args.console.now) asked (asked_once (g.R.Reach.call c.args.console.now))) (sym c.let_go.ensures.asked) c.in_ok-line.ensures.asked);
       missing = front.0;

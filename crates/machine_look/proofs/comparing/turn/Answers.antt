@@ -8,13 +8,13 @@ use Rattle.machine_look.proofs.comparing.turn.Goals as goal
 
 pub show_differences-shown-requires-clause-behind : goal.show_differences-shown-requires-clause-behind
 show_differences-shown-requires-clause-behind g c =
-    let s = c.inquire-core.ensures.turns in
+    let s = c.inquire-core.ensures.inquired.turns in
     let more = led_more c.args.core s.heard in
     omega (arith, ap length c.values.ensures.value, ap length c.values-before.ensures.value, ap length (ap (λ r. r.values) s.reader ∙ more.1), length-append c.args.core.values more.0)
 
 pub returns-clause-shown : goal.returns-clause-shown
 returns-clause-shown g c =
-    let s = c.inquire-core.ensures.turns in
+    let s = c.inquire-core.ensures.inquired.turns in
     let more = led_more c.args.core s.heard in
     let now = c.values.result.now in
     let a = g.W.Write.contents c.args.out.now in
@@ -26,7 +26,7 @@ returns-clause-shown g c =
 
 pub returns-clause-cut_short : goal.returns-clause-cut_short
 returns-clause-cut_short g c =
-    let s = c.inquire-core.ensures.turns in
+    let s = c.inquire-core.ensures.inquired.turns in
     let more = led_more c.args.core s.heard in
     let now = c.values.result.now in
     let a = g.W.Write.contents c.args.out.now in

@@ -1,26 +1,21 @@
-use Rattle.std.proofs.Common.{◌≡◌, ◌+◌, [], None, Some, refl, subst, ◌∙◌, arith}
+use Rattle.std.proofs.Common.{◌≡◌, ◌+◌, [], None, Some, refl, subst, arith}
 use Rattle.std.specs.Prelude.{⊤}
-use Rattle.load_devices.specs.Failures.{CountsFault}
+use Rattle.load_devices.specs.Devices.{line_told}
 use Rattle.load_devices.specs.Turns.{most_turns}
 use Rattle.reading_engine.specs.declared.stop.Stop.{Stop}
 use Rattle.reading_engine.specs.declared.stop.Stop.TheVariants.{Ended, LineFailed, TurnsOver}
-use Rattle.reading_engine.specs.Failing.{line_fault}
-use Rattle.reading_engine.specs.Inquired.{Inquired, TellsEnd}
-use Rattle.reading_engine.proofs.Stretches.{inquired_join, inquired_wider}
+use Rattle.reading_engine.specs.Inquired.{IsInquired, inquiry}
+use Rattle.reading_engine.proofs.Inquiries.{no_turns, turns_are_over, turns_go_on, turns_join, turns_to_spare}
 use Rattle.machine_look.specs.SavedSteps.{adds, full}
 use Rattle.machine_look.proofs.OnShelf.{done}
 use Rattle.machine_look.proofs.Steps.{goes_join, nothing_added, on_each}
-use Rattle.machine_look.proofs.Turning.{ended_wider, inquired_open, no_turn, no_value_in_error, value_known}
+use Rattle.machine_look.proofs.Turning.{no_value_in_error, value_known}
 use Rattle.machine_look.proofs.reading_blocks.read_blocks.Goals as goal
 
 pub loop-init : goal.loop-init
 loop-init g c = record {
-  stretch = no_turn c.args.core (g.L.Line.told c.args.line.now);
-  counted = refl;
-  addresses = refl;
-  patience = refl;
+  inquired = no_turns c.args.core (line_told g.L.Line c.args.line.now) c.requires.kept;
   goes_on = c.requires.goes_on;
-  kept = c.requires.kept;
   added = nothing_added (g.S.Shelf.is_opened_as c.args.shelf.now) c.args.from c.args.core.values (g.S.Shelf.told c.args.shelf.now) c.requires.fresh;
 }
 
@@ -29,27 +24,24 @@ loop-preserved g c =
     let inv = c.loop.invariant in
     let turn = c.turn-next.ensures in
     let next = c.turn-next.result.core in
-    let over : c.turn-next.result.stop ≡ TurnsOver = c.in-TurnsOver.is in record {
-      stretch = inquired_join c.loop.counter 1 None c.args.core c.loop.core next (g.L.Line.told c.args.line.now) (g.L.Line.told c.loop.line) (g.L.Line.told c.turn-next.new.line) inv.stretch
-          (inquired_open 1 c.loop.core next (g.L.Line.told c.loop.line) (g.L.Line.told c.turn-next.new.line)
-          (subst (λ (s : Stop). Inquired 1 (Some s) c.loop.core next (g.L.Line.told c.loop.line) (g.L.Line.told c.turn-next.new.line)) over turn.turns));
-      counted = subst (λ (s : Stop). CountsFault (line_fault (Some s)) (g.L.Line.fault_count c.loop.line) (g.L.Line.fault_count c.turn-next.new.line)) over turn.counted ∙ inv.counted;
-      addresses = turn.same_addresses ∙ inv.addresses;
-      patience = turn.same_patience ∙ inv.patience;
-      goes_on = subst (λ (s : Stop). TellsEnd s next) over turn.end;
-      kept = turn.kept;
+    let between = line_told g.L.Line c.loop.line in
+    let after = line_told g.L.Line c.turn-next.new.line in
+    let over : c.turn-next.result.stop ≡ TurnsOver = c.in-TurnsOver.is in
+    let one : IsInquired 1 (inquiry c.loop.core next (Some TurnsOver)) between after = subst (λ (s : Stop). IsInquired 1 (inquiry c.loop.core next (Some s)) between after) over turn.inquired in record {
+      inquired = turns_join c.loop.counter 1 c.args.core c.loop.core next None (line_told g.L.Line c.args.line.now) between after c.requires.kept inv.inquired (turns_go_on 1 c.loop.core next between after one);
+      goes_on = one.end;
       added = goes_join (g.S.Shelf.is_opened_as c.args.shelf.now) (g.S.Shelf.is_opened_as c.loop.shelf) (g.S.Shelf.is_opened_as c.turn-next.new.shelf) [] (adds c.args.from c.loop.core.values (full c.loop.core.values))
           (adds c.args.from next.values (full next.values)) (g.S.Shelf.told c.args.shelf.now) (g.S.Shelf.told c.loop.shelf) (g.S.Shelf.told c.turn-next.new.shelf) inv.added
           (done _ c.turn-next.result.added c.if-is_err.ensures.value turn.added);
     }
 
-pub returns-then-is_err-clause-turns : goal.returns-then-is_err-clause-turns
-returns-then-is_err-clause-turns g c = (
+pub returns-then-is_err-clause-inquired : goal.returns-then-is_err-clause-inquired
+returns-then-is_err-clause-inquired g c = (
   c.loop.counter + 1,
   omega (arith, c.loop-test.true),
   no_value_in_error _ c.turn-next.result.added c.if-is_err.ensures.value,
-  inquired_join c.loop.counter 1 (Some c.turn-next.result.stop) c.args.core c.loop.core c.turn-next.result.core (g.L.Line.told c.args.line.now) (g.L.Line.told c.loop.line) (g.L.Line.told c.turn-next.new.line) c.loop.invariant.stretch
-      c.turn-next.ensures.turns,
+  turns_join c.loop.counter 1 c.args.core c.loop.core c.turn-next.result.core (Some c.turn-next.result.stop) (line_told g.L.Line c.args.line.now) (line_told g.L.Line c.loop.line) (line_told g.L.Line c.turn-next.new.line) c.requires.kept
+      c.loop.invariant.inquired c.turn-next.ensures.inquired,
 )
 
 pub returns-then-is_err-clause-not_added : goal.returns-then-is_err-clause-not_added
@@ -66,15 +58,19 @@ returns-then-is_err-clause-not_added g c =
     ))
     c.turn-next.ensures.not_added
 
-pub returns-in-Ended-clause-turns : goal.returns-in-Ended-clause-turns
-returns-in-Ended-clause-turns g c = (
-  most_turns,
-  omega arith,
-  value_known (most_turns ≡ most_turns) c.turn-next.result.added refl,
-  ended_wider c.in-Ended.end (c.loop.counter + 1) most_turns c.args.core c.turn-next.result.core (g.L.Line.told c.args.line.now) (g.L.Line.told c.turn-next.new.line) (omega (arith, c.loop-test.true))
-      (inquired_join c.loop.counter 1 (Some (Ended c.in-Ended.end)) c.args.core c.loop.core c.turn-next.result.core (g.L.Line.told c.args.line.now) (g.L.Line.told c.loop.line) (g.L.Line.told c.turn-next.new.line) c.loop.invariant.stretch
-      (subst (λ (s : Stop). Inquired 1 (Some s) c.loop.core c.turn-next.result.core (g.L.Line.told c.loop.line) (g.L.Line.told c.turn-next.new.line)) c.in-Ended.is c.turn-next.ensures.turns)),
-)
+pub returns-in-Ended-clause-inquired : goal.returns-in-Ended-clause-inquired
+returns-in-Ended-clause-inquired g c =
+    let next = c.turn-next.result.core in
+    let before = line_told g.L.Line c.args.line.now in
+    let between = line_told g.L.Line c.loop.line in
+    let after = line_told g.L.Line c.turn-next.new.line in (
+      most_turns,
+      omega arith,
+      value_known (most_turns ≡ most_turns) c.turn-next.result.added refl,
+      turns_to_spare (Ended c.in-Ended.end) (c.loop.counter + 1) most_turns c.args.core next before after (λ same. cc same) (omega (arith, c.loop-test.true))
+          (turns_join c.loop.counter 1 c.args.core c.loop.core next (Some (Ended c.in-Ended.end)) before between after c.requires.kept c.loop.invariant.inquired
+          (subst (λ (s : Stop). IsInquired 1 (inquiry c.loop.core next (Some s)) between after) c.in-Ended.is c.turn-next.ensures.inquired)),
+    )
 
 pub returns-in-Ended-clause-added : goal.returns-in-Ended-clause-added
 returns-in-Ended-clause-added g c =
@@ -83,15 +79,19 @@ returns-in-Ended-clause-added g c =
     (adds c.args.from c.turn-next.result.core.values (full c.turn-next.result.core.values)) (g.S.Shelf.told c.args.shelf.now) (g.S.Shelf.told c.loop.shelf) (g.S.Shelf.told c.turn-next.new.shelf) c.loop.invariant.added
     (done _ c.turn-next.result.added c.if-is_err.ensures.value c.turn-next.ensures.added))
 
-pub returns-in-LineFailed-clause-turns : goal.returns-in-LineFailed-clause-turns
-returns-in-LineFailed-clause-turns g c = (
-  most_turns,
-  omega arith,
-  value_known (most_turns ≡ most_turns) c.turn-next.result.added refl,
-  inquired_wider c.in-LineFailed.fault (c.loop.counter + 1) most_turns c.args.core c.turn-next.result.core (g.L.Line.told c.args.line.now) (g.L.Line.told c.turn-next.new.line) (omega (arith, c.loop-test.true))
-      (inquired_join c.loop.counter 1 (Some (LineFailed c.in-LineFailed.fault)) c.args.core c.loop.core c.turn-next.result.core (g.L.Line.told c.args.line.now) (g.L.Line.told c.loop.line) (g.L.Line.told c.turn-next.new.line) c.loop.invariant.stretch
-      (subst (λ (s : Stop). Inquired 1 (Some s) c.loop.core c.turn-next.result.core (g.L.Line.told c.loop.line) (g.L.Line.told c.turn-next.new.line)) c.in-LineFailed.is c.turn-next.ensures.turns)),
-)
+pub returns-in-LineFailed-clause-inquired : goal.returns-in-LineFailed-clause-inquired
+returns-in-LineFailed-clause-inquired g c =
+    let next = c.turn-next.result.core in
+    let before = line_told g.L.Line c.args.line.now in
+    let between = line_told g.L.Line c.loop.line in
+    let after = line_told g.L.Line c.turn-next.new.line in (
+      most_turns,
+      omega arith,
+      value_known (most_turns ≡ most_turns) c.turn-next.result.added refl,
+      turns_to_spare (LineFailed c.in-LineFailed.fault) (c.loop.counter + 1) most_turns c.args.core next before after (λ same. cc same) (omega (arith, c.loop-test.true))
+          (turns_join c.loop.counter 1 c.args.core c.loop.core next (Some (LineFailed c.in-LineFailed.fault)) before between after c.requires.kept c.loop.invariant.inquired
+          (subst (λ (s : Stop). IsInquired 1 (inquiry c.loop.core next (Some s)) between after) c.in-LineFailed.is c.turn-next.ensures.inquired)),
+    )
 
 pub returns-in-LineFailed-clause-added : goal.returns-in-LineFailed-clause-added
 returns-in-LineFailed-clause-added g c =
@@ -99,3 +99,12 @@ returns-in-LineFailed-clause-added g c =
     (goes_join (g.S.Shelf.is_opened_as c.args.shelf.now) (g.S.Shelf.is_opened_as c.loop.shelf) (g.S.Shelf.is_opened_as c.turn-next.new.shelf) [] (adds c.args.from c.loop.core.values (full c.loop.core.values))
     (adds c.args.from c.turn-next.result.core.values (full c.turn-next.result.core.values)) (g.S.Shelf.told c.args.shelf.now) (g.S.Shelf.told c.loop.shelf) (g.S.Shelf.told c.turn-next.new.shelf) c.loop.invariant.added
     (done _ c.turn-next.result.added c.if-is_err.ensures.value c.turn-next.ensures.added))
+
+pub returns-clause-inquired : goal.returns-clause-inquired
+returns-clause-inquired g c =
+    let inv = c.loop.invariant in (
+      c.loop.counter,
+      omega (arith, c.loop.auto.counter-end),
+      omega (arith, c.loop-test.false, c.loop.auto.counter-end),
+      turns_are_over c.loop.counter c.args.core c.loop.core (line_told g.L.Line c.args.line.now) (line_told g.L.Line c.loop.line) c.requires.kept inv.goes_on inv.inquired,
+    )

@@ -11,7 +11,7 @@ use Rattle.reading_core.specs.Reader.{Reader, begun}
 use Rattle.reading_core.specs.declared.phase.End.TheVariants.{Complete}
 use Rattle.reading_core.proofs.Asking.{length_from}
 use Rattle.reading_engine.specs.Failing.{line_fault}
-use Rattle.reading_engine.specs.Inquired.{Inquired}
+use Rattle.reading_engine.specs.Inquired.{Inquired, inquiry}
 use Rattle.reading_engine.specs.declared.stop.Stop.{Stop}
 use Rattle.reading_engine.specs.declared.stop.Stop.TheVariants.{Ended}
 use Rattle.sample_looks.specs.Finding.{IsFound}
@@ -28,19 +28,20 @@ pub returns-then-not-all_stand-clause-course : goal.returns-then-not-all_stand-c
 returns-then-not-all_stand-clause-course g c =
     let told = line_told g.R.Line.Line in
     let looked = c.look_at_samples-looked in
+    let inquired = looked.ensures.inquired in
     let hosts = c.requires.hosts in
     let samples = c.args.hosts.samples.items in
     let lines' = g.R.Reach.lines c.let_go.new.self in
     let whose = ap (λ (r : Reader). r.patience) hosts.looker in (
       held_up c.args.options c.args.found.now _ _ looked.result.reader looked.result.stop looked.result.finding samples (told c.in_ok-line.line).said (told looked.new.line).said hosts.of_found
-          (are_looked_at samples c.args.options.patience c.args.hosts.looker looked.result.reader looked.result.stop looked.result.finding _ _ hosts.looker looked.ensures.turns looked.ensures.end
+          (are_looked_at samples c.args.options.patience c.args.hosts.looker looked.result.reader looked.result.stop looked.result.finding _ _ hosts.looker inquired.turns inquired.end
           (subst (λ (list : List WordValue). IsFound list looked.result.reader.values looked.result.stop looked.result.finding) c.deref.ensures.value looked.ensures.found)
           (subst (λ (list : List WordValue). looked.result.reader.sent ≤ reading_bound (length list) c.args.hosts.looker.patience) c.deref.ensures.value looked.ensures.bound)
-          looked.ensures.same_patience looked.ensures.kept)
-          looked.ensures.kept (let long = hosts.looks.long in omega (arith, long, whose)) (λ all. absurd (cc (c.all_stand.ensures.1 all, c.if-not-all_stand.true)))
+          inquired.same_patience inquired.kept)
+          inquired.kept (let long = hosts.looks.long in omega (arith, long, whose)) (λ all. absurd (cc (c.all_stand.ensures.1 all, c.if-not-all_stand.true)))
           (subst (λ asked. Gains (g.R.Reach.asked c.args.console.now) asked (asked_once (g.R.Reach.call c.args.console.now))) (sym c.let_go.ensures.asked) c.in_ok-line.ensures.asked)
-          (given_back looked.result.stop _ _ (g.R.Reach.lines c.args.console.now) (g.R.Reach.lines c.reach.new.self) lines' _ _ _ (told looked.new.line) c.in_ok-line.ensures.fresh.none_failed refl looked.ensures.counted refl
-          c.in_ok-line.ensures.fresh.nothing_said refl looked.ensures.fault c.in_ok-line.ensures.lines c.let_go.ensures.lines),
+          (given_back looked.result.stop _ _ (g.R.Reach.lines c.args.console.now) (g.R.Reach.lines c.reach.new.self) lines' _ _ _ (told looked.new.line) c.in_ok-line.ensures.fresh.none_failed refl inquired.counted refl
+          c.in_ok-line.ensures.fresh.nothing_said refl inquired.named c.in_ok-line.ensures.lines c.let_go.ensures.lines),
       refl,
     )
 
@@ -54,7 +55,9 @@ pub returns-in-Ok-clause-course : goal.returns-in-Ok-clause-course
 returns-in-Ok-clause-course g c =
     let told = line_told g.R.Line.Line in
     let looked = c.look_at_samples-looked in
+    let inquired = looked.ensures.inquired in
     let read = c.read_behind-read in
+    let i = read.ensures.inquired.3 in
     let hosts = c.requires.hosts in
     let options = c.args.options in
     let found = c.args.found.now in
@@ -68,20 +71,20 @@ returns-in-Ok-clause-course g c =
     let all : looked.result.finding ≡ AllStand = c.all_stand.ensures.0 c.if-not-all_stand.false in
     let seen = subst (λ (list : List WordValue). IsFound list looked.result.reader.values looked.result.stop looked.result.finding) c.deref.ensures.value looked.ensures.found in
     let stop_is : looked.result.stop ≡ Ended Complete = (subst (λ f. IsFound samples looked.result.reader.values looked.result.stop f) all seen).0 in
-    let s = are_looked_at samples options.patience c.args.hosts.looker looked.result.reader looked.result.stop looked.result.finding line mid hosts.looker looked.ensures.turns looked.ensures.end seen
-    (subst (λ (list : List WordValue). looked.result.reader.sent ≤ reading_bound (length list) c.args.hosts.looker.patience) c.deref.ensures.value looked.ensures.bound) looked.ensures.same_patience looked.ensures.kept in
+    let s = are_looked_at samples options.patience c.args.hosts.looker looked.result.reader looked.result.stop looked.result.finding line mid hosts.looker inquired.turns inquired.end seen
+    (subst (λ (list : List WordValue). looked.result.reader.sent ≤ reading_bound (length list) c.args.hosts.looker.patience) c.deref.ensures.value looked.ensures.bound) inquired.same_patience inquired.kept in
     let begins : c.in_room-core.result ≡ begun (addresses_behind options.range found) [] (options.patience - looked.result.reader.spent) =
     c.in_room-core.ensures.begun ∙ (ap (λ (list : List ℕ). begun list [] (options.patience - c.spent.result)) hosts.addresses ∙ ap (λ n. begun (addresses_behind options.range found) [] (options.patience - n)) c.spent.ensures.value) in
-    let over : read.ensures.turns.0 ≡ most_turns = done_known _ read.result.added _ c.in-Ok.is read.ensures.turns.2 in
+    let over : read.ensures.inquired.0 ≡ most_turns = done_known _ read.result.added _ c.in-Ok.is read.ensures.inquired.2 in
     let none : g.R.Line.Line.fault_count looked.new.line ≡ g.R.Line.Line.fault_count c.in_ok-line.line =
-    subst (λ (t : Stop). CountsFault (line_fault (Some t)) (g.R.Line.Line.fault_count c.in_ok-line.line) (g.R.Line.Line.fault_count looked.new.line)) stop_is looked.ensures.counted in (
+    subst (λ (t : Stop). CountsFault (line_fault (Some t)) (g.R.Line.Line.fault_count c.in_ok-line.line) (g.R.Line.Line.fault_count looked.new.line)) stop_is inquired.counted in (
       is_read most_turns options found _ _ looked.result.reader read.result.core c.in_room-core.result read.result.stop looked.result.stop looked.result.finding samples line mid line' c.words_of.ensures.in_order c.requires.begins c.requires.fill
-          (subst AreAddresses hosts.addresses hosts.asked) hosts.of_found all s looked.ensures.kept (let long = hosts.looks.long in omega (arith, long, whose)) begins
-          (subst (λ n. Inquired n (Some read.result.stop) c.in_room-core.result read.result.core mid line') over read.ensures.turns.3) read.ensures.same_addresses read.ensures.same_patience read.ensures.bound read.ensures.kept
+          (subst AreAddresses hosts.addresses hosts.asked) hosts.of_found all s inquired.kept (let long = hosts.looks.long in omega (arith, long, whose)) begins
+          (subst (λ n. Inquired n (inquiry c.in_room-core.result read.result.core (Some read.result.stop)) mid line') over i.turns) i.same_addresses i.same_patience i.bound i.kept
           (subst (λ asked. Gains (g.R.Reach.asked c.args.console.now) asked (asked_once (g.R.Reach.call c.args.console.now))) (sym c.let_go-2.ensures.asked) c.in_ok-line.ensures.asked)
-          (given_back read.result.stop line line' lines (g.R.Reach.lines c.reach.new.self) lines' _ _ _ (told read.new.line) c.in_ok-line.ensures.fresh.none_failed none read.ensures.counted refl
-          c.in_ok-line.ensures.fresh.nothing_said refl read.ensures.fault c.in_ok-line.ensures.lines c.let_go-2.ensures.lines),
-      done_known _ read.result.added _ c.in-Ok.is read.ensures.end,
+          (given_back read.result.stop line line' lines (g.R.Reach.lines c.reach.new.self) lines' _ _ _ (told read.new.line) c.in_ok-line.ensures.fresh.none_failed none i.counted refl
+          c.in_ok-line.ensures.fresh.nothing_said refl i.named c.in_ok-line.ensures.lines c.let_go-2.ensures.lines),
+      i.end,
       λ folder known. let h = done_known _ read.result.added _ c.in-Ok.is read.ensures.added folder (g.S.Shelf.told c.args.shelf.now) known refl in
           (h.0, subst (λ f. AreDone folder (adds f (found ++ read.result.core.values) (full (found ++ read.result.core.values))) (g.S.Shelf.told c.args.shelf.now) (g.S.Shelf.told read.new.shelf)) c.from.ensures.value h.1),
     )
@@ -90,7 +93,9 @@ pub returns-clause-fault : goal.returns-clause-fault
 returns-clause-fault g c =
     let told = line_told g.R.Line.Line in
     let looked = c.look_at_samples-looked in
+    let inquired = looked.ensures.inquired in
     let read = c.read_behind-read in
+    let i = read.ensures.inquired.3 in
     let hosts = c.requires.hosts in
     let options = c.args.options in
     let found = c.args.found.now in
@@ -104,24 +109,24 @@ returns-clause-fault g c =
     let all : looked.result.finding ≡ AllStand = c.all_stand.ensures.0 c.if-not-all_stand.false in
     let seen = subst (λ (list : List WordValue). IsFound list looked.result.reader.values looked.result.stop looked.result.finding) c.deref.ensures.value looked.ensures.found in
     let stop_is : looked.result.stop ≡ Ended Complete = (subst (λ f. IsFound samples looked.result.reader.values looked.result.stop f) all seen).0 in
-    let s = are_looked_at samples options.patience c.args.hosts.looker looked.result.reader looked.result.stop looked.result.finding line mid hosts.looker looked.ensures.turns looked.ensures.end seen
-    (subst (λ (list : List WordValue). looked.result.reader.sent ≤ reading_bound (length list) c.args.hosts.looker.patience) c.deref.ensures.value looked.ensures.bound) looked.ensures.same_patience looked.ensures.kept in
+    let s = are_looked_at samples options.patience c.args.hosts.looker looked.result.reader looked.result.stop looked.result.finding line mid hosts.looker inquired.turns inquired.end seen
+    (subst (λ (list : List WordValue). looked.result.reader.sent ≤ reading_bound (length list) c.args.hosts.looker.patience) c.deref.ensures.value looked.ensures.bound) inquired.same_patience inquired.kept in
     let begins : c.in_room-core.result ≡ begun (addresses_behind options.range found) [] (options.patience - looked.result.reader.spent) =
     c.in_room-core.ensures.begun ∙ (ap (λ (list : List ℕ). begun list [] (options.patience - c.spent.result)) hosts.addresses ∙ ap (λ n. begun (addresses_behind options.range found) [] (options.patience - n)) c.spent.ensures.value) in
     let none : g.R.Line.Line.fault_count looked.new.line ≡ g.R.Line.Line.fault_count c.in_ok-line.line =
-    subst (λ (t : Stop). CountsFault (line_fault (Some t)) (g.R.Line.Line.fault_count c.in_ok-line.line) (g.R.Line.Line.fault_count looked.new.line)) stop_is looked.ensures.counted in
+    subst (λ (t : Stop). CountsFault (line_fault (Some t)) (g.R.Line.Line.fault_count c.in_ok-line.line) (g.R.Line.Line.fault_count looked.new.line)) stop_is inquired.counted in
     let failed = error_known _ read.result.added _ c.in-Err.is read.ensures.not_added in (
       looked.result.reader,
       read.result.core,
       read.result.stop,
-      read.ensures.turns.0,
-      read.ensures.turns.1,
-      is_read read.ensures.turns.0 options found _ _ looked.result.reader read.result.core c.in_room-core.result read.result.stop looked.result.stop looked.result.finding samples line mid line' c.words_of.ensures.in_order c.requires.begins c.requires.fill
-          (subst AreAddresses hosts.addresses hosts.asked) hosts.of_found all s looked.ensures.kept (let long = hosts.looks.long in omega (arith, long, whose)) begins
-          read.ensures.turns.3 read.ensures.same_addresses read.ensures.same_patience read.ensures.bound read.ensures.kept
+      read.ensures.inquired.0,
+      read.ensures.inquired.1,
+      is_read read.ensures.inquired.0 options found _ _ looked.result.reader read.result.core c.in_room-core.result read.result.stop looked.result.stop looked.result.finding samples line mid line' c.words_of.ensures.in_order c.requires.begins c.requires.fill
+          (subst AreAddresses hosts.addresses hosts.asked) hosts.of_found all s inquired.kept (let long = hosts.looks.long in omega (arith, long, whose)) begins
+          i.turns i.same_addresses i.same_patience i.bound i.kept
           (subst (λ asked. Gains (g.R.Reach.asked c.args.console.now) asked (asked_once (g.R.Reach.call c.args.console.now))) (sym c.let_go-2.ensures.asked) c.in_ok-line.ensures.asked)
-          (given_back read.result.stop line line' lines (g.R.Reach.lines c.reach.new.self) lines' _ _ _ (told read.new.line) c.in_ok-line.ensures.fresh.none_failed none read.ensures.counted refl
-          c.in_ok-line.ensures.fresh.nothing_said refl read.ensures.fault c.in_ok-line.ensures.lines c.let_go-2.ensures.lines),
+          (given_back read.result.stop line line' lines (g.R.Reach.lines c.reach.new.self) lines' _ _ _ (told read.new.line) c.in_ok-line.ensures.fresh.none_failed none i.counted refl
+          c.in_ok-line.ensures.fresh.nothing_said refl i.named c.in_ok-line.ensures.lines c.let_go-2.ensures.lines),
       failed.0,
       failed.1,
       λ folder known. subst (λ f. AreDone folder (not_all_added f (found ++ read.result.core.values) failed.0) (g.S.Shelf.told c.args.shelf.now) (g.S.Shelf.told read.new.shelf)) c.from.ensures.value

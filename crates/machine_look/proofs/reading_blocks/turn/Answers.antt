@@ -9,13 +9,13 @@ use Rattle.machine_look.proofs.reading_blocks.turn.Goals as goal
 
 pub add_full-added-requires-clause-behind : goal.add_full-added-requires-clause-behind
 add_full-added-requires-clause-behind g c =
-    let s = c.inquire-core.ensures.turns in
+    let s = c.inquire-core.ensures.inquired.turns in
     let more = led_more c.args.core s.heard in
     omega (arith, ap length c.values.ensures.value, ap length c.values-2.ensures.value, full_more c.args.core.values c.inquire-core.result.0.values more.0 (ap (λ r. r.values) s.reader ∙ more.1))
 
 pub returns-clause-added : goal.returns-clause-added
 returns-clause-added g c =
-    let s = c.inquire-core.ensures.turns in
+    let s = c.inquire-core.ensures.inquired.turns in
     let more = led_more c.args.core s.heard in
     on_ok c.add_full-added.result
     (turned (g.S.Shelf.is_opened_as c.args.shelf.now) (g.S.Shelf.is_opened_as c.add_full-added.new.shelf) c.args.from c.args.core.values c.inquire-core.result.0.values more.0 c.values.result.now c.values-2.result.now
@@ -24,7 +24,7 @@ returns-clause-added g c =
 
 pub returns-clause-not_added : goal.returns-clause-not_added
 returns-clause-not_added g c =
-    let s = c.inquire-core.ensures.turns in
+    let s = c.inquire-core.ensures.inquired.turns in
     let more = led_more c.args.core s.heard in
     on_each c.add_full-added.result _ _
     (λ fault h. (

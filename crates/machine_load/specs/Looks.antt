@@ -3,7 +3,6 @@ use Rattle.std.specs.Prelude.{◌≡◌, ℕ, ◌-◌, ◌≤◌, false, List, [
 use Rattle.load_devices.specs.Devices.{LineTold}
 use Rattle.host_core.specs.declared.phase.End.TheVariants as host
 use Rattle.host_core.specs.Core.{Core, begun}
-use Rattle.load_devices.specs.Failures.{CountsFault, IsLastFault}
 use Rattle.load_devices.specs.Turns.{most_turns}
 use Rattle.load_engine.specs.declared.stop.Stop.TheVariants as drive
 use Rattle.machine_load.specs.declared.load_end.LoadEnd.{LoadEnd}
@@ -15,8 +14,7 @@ use Rattle.reading_core.specs.Bound.{reading_bound}
 use Rattle.reading_core.specs.Reader.{Reader, begun as reader_begun}
 use Rattle.reading_engine.specs.declared.stop.Stop.{Stop}
 use Rattle.reading_engine.specs.declared.stop.Stop.TheVariants.{Ended, LineFailed, TurnsOver}
-use Rattle.reading_engine.specs.Failing.{line_fault}
-use Rattle.reading_engine.specs.Inquired.{Inquired, TellsEnd}
+use Rattle.reading_engine.specs.Inquired.{IsInquired, inquiry}
 use Rattle.sample_looks.specs.declared.finding.Finding.{Finding}
 use Rattle.sample_looks.specs.declared.finding.Finding.TheVariants.{AllStand, Stale, Unfinished}
 use Rattle.sample_looks.specs.Finding.{IsFound}
@@ -61,12 +59,9 @@ pub record IsSampled (first : Core) (samples : List WordValue) (reader : Reader)
 -- which is what it was
 pub record AreLooksAt (samples : List WordValue) (patience : ℕ) (looks : Looks) (before after : LineTold) : Type 0 where
   pub reader : Reader
-  pub turns : Inquired most_turns (Some looks.stop) (reader_begun (addresses_of samples) [] patience) reader before.said after.said
-  pub end : TellsEnd looks.stop reader
+  pub inquired : IsInquired most_turns (inquiry (reader_begun (addresses_of samples) [] patience) reader (Some looks.stop)) before after
   pub found : IsFound samples reader.values looks.stop looks.finding
   pub honest : IsSoOver samples looks.finding before.said after.said
-  pub counted : CountsFault (line_fault (Some looks.stop)) before.failures after.failures
-  pub named : IsLastFault (line_fault (Some looks.stop)) after.fault
   pub sent_is : looks.sent ≡ reader.sent
   pub spent_is : looks.spent ≡ reader.spent
   pub paid : looks.spent ≤ patience

@@ -6,13 +6,13 @@ use Rattle.machine_look.specs.declared.look_fault.LookFault.TheVariants.{IsThere
 use Rattle.machine_look.specs.declared.save_end.SaveEnd.{SaveEnd}
 use Rattle.machine_look.specs.declared.save_report.SaveCounts.{SaveCounts}
 use Rattle.machine_look.specs.declared.saving.SaveOptions.{SaveOptions}
-use Rattle.machine_look.specs.declared.shelf.ShelfFault.{ShelfFault}
-use Rattle.machine_look.specs.declared.shelf.ShelfFault.TheVariants as shelf_fault
+use Rattle.tape_shelf.specs.declared.shelf.ShelfFault.{ShelfFault}
+use Rattle.tape_shelf.specs.declared.shelf.ShelfFault.TheVariants as shelf_fault
 use Rattle.machine_look.specs.LookFault.{IsSaveFault, IsSaveNotBegun}
 use Rattle.machine_look.specs.Save.{HeldUp, IsOver, IsSavedAndReported, IsUnadded, IsUnput, SaveTold, Shelved, TakesUp, numbers_of}
-use Rattle.machine_look.specs.SavedSteps.{not_all_added, not_put, puts}
-use Rattle.machine_look.specs.Shelf.{ShelfStep}
-use Rattle.machine_look.specs.ShelfTold.{HasDone}
+use Rattle.tape_shelf.specs.SavedSteps.{not_all_added, not_put, puts}
+use Rattle.tape_shelf.specs.Shelf.{ShelfStep}
+use Rattle.tape_shelf.specs.ShelfTold.{HasDone}
 
 -- the shelf was taken up, and then nothing, or all of the tape, was put there
 abbrev IsDone : SaveOptions → SaveTold → SaveTold → Type 0

@@ -7,10 +7,10 @@ use Rattle.load_devices.specs.Told.{HasAsked}
 use Rattle.machine_load.specs.RecordDisk.{RecordDisk, FileKnown, IsClosedAfter}
 use Rattle.machine_look.specs.declared.saving.SaveOptions.{SaveOptions}
 use Rattle.machine_look.specs.Save.{TakesUp}
-use Rattle.machine_look.specs.SavedSteps.{puts}
-use Rattle.machine_look.specs.Shelf.{ShelfStep}
-use Rattle.machine_look.specs.ShelfDisk.{Room}
-use Rattle.machine_look.specs.ShelfTold.{HasDone, ShelfTold}
+use Rattle.tape_shelf.specs.SavedSteps.{puts}
+use Rattle.tape_shelf.specs.Shelf.{ShelfStep}
+use Rattle.tape_shelf.specs.ShelfDisk.{Room}
+use Rattle.tape_shelf.specs.ShelfTold.{HasDone, ShelfTold}
 use Rattle.record_file.specs.DiskStep.{DiskStep}
 
 -- a bench with this record, and a report

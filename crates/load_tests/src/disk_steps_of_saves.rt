@@ -3,12 +3,13 @@
 use crate::disk_saves::save_on_disk;
 use crate::loads_in_a_row::new_machine;
 use crate::memory_reach::MemoryReach;
-use machine_look::{LookFault, NewFile, SaveEnd, SaveOptions};
+use machine_look::{LookFault, SaveEnd, SaveOptions};
 use request_values::AddressRange;
 use simulated_system::{FailingSteps, ToldDisk};
 use std::alloc::Global;
 use std::fs;
 use std::io::ErrorKind;
+use tape_shelf::NewFile;
 
 // The file of a save, and the one beside it.
 const SAVED: &str = "d.lda";

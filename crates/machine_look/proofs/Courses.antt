@@ -22,7 +22,7 @@ use Rattle.sample_looks.specs.Finding.{IsFound}
 use Rattle.sample_looks.specs.declared.finding.Finding.{Finding}
 use Rattle.sample_looks.specs.declared.finding.Finding.TheVariants.{AllStand}
 use Rattle.machine_look.specs.Behind.{AreLookedAt, AreOfFound, IsHeldUp, IsRead, addresses_behind}
-use Rattle.machine_look.specs.FoundPart.{FillBlocks}
+use Rattle.tape_shelf.specs.FoundPart.{FillBlocks}
 use Rattle.machine_look.specs.Look.{IsGivenBack}
 use Rattle.machine_look.specs.declared.saving.SaveOptions.{SaveOptions}
 use Rattle.machine_look.proofs.BehindLooks.{looks_hold, reading_holds}

@@ -6,15 +6,15 @@ use Rattle.load_devices.specs.Turns.{most_turns}
 use Rattle.machine_look.specs.declared.look_fault.LookFault.{LookFault}
 use Rattle.machine_look.specs.declared.look_fault.LookFault.TheVariants.{IsThere, WriteTape, Connect}
 use Rattle.machine_look.specs.declared.saving.SaveOptions.{SaveOptions}
-use Rattle.machine_look.specs.declared.shelf.ShelfFault.{ShelfFault}
-use Rattle.machine_look.specs.declared.shelf.ShelfFault.TheVariants as why
+use Rattle.tape_shelf.specs.declared.shelf.ShelfFault.{ShelfFault}
+use Rattle.tape_shelf.specs.declared.shelf.ShelfFault.TheVariants as why
 use Rattle.machine_look.specs.LookFault.{IsKeepFault, IsReadFault, IsSaveFault, IsSaveNotBegun, TakesUpNothing, fault_of_shelf}
 use Rattle.machine_look.specs.Save.{IsSaveRead, SaveTold, TakesUp, console_of, numbers_of}
-use Rattle.machine_look.specs.SavedSteps.{adds, closes, full, puts}
-use Rattle.machine_look.specs.SavedTape.{last_text}
-use Rattle.machine_look.specs.Shelf.{ShelfStep, Put, NotPut, put_step, IsPutFault}
-use Rattle.machine_look.specs.ShelfTold.{AreDone, HasDone, IsDone, ShelfTold}
-use Rattle.machine_look.proofs.Steps.{done_join, done_one}
+use Rattle.tape_shelf.specs.SavedSteps.{adds, closes, full, puts}
+use Rattle.tape_shelf.specs.SavedTape.{last_text}
+use Rattle.tape_shelf.specs.Shelf.{ShelfStep, Put, NotPut, put_step, IsPutFault}
+use Rattle.tape_shelf.specs.ShelfTold.{AreDone, HasDone, IsDone, ShelfTold}
+use Rattle.tape_shelf.proofs.Added.{done_join, done_one}
 
 -- ---- how a save fails
 
@@ -102,11 +102,6 @@ saved_steps taking folder from start numbers a b c d taken added closed =
 
 -- ---- results
 
--- what is known of the error that a result has is known of the result
-pub error_is : {T E : Type 0} (r : Result T E) (error : E) (P : E → Type 0) → IsErrAnd r (λ e. e ≡ error) → P error → IfErr r P
-error_is (Ok x) error P is h = tt
-error_is (Err e) error P is h = subst P (sym is) h
-
 -- a result with an error says nothing of a value
 pub no_value : {T E : Type 0} (r : Result T E) (error : E) (P : T → Type 0) → IsErrAnd r (λ e. e ≡ error) → IfOk r P
 no_value (Ok x) error P is = absurd is
@@ -115,7 +110,3 @@ no_value (Err e) error P is = tt
 pub no_ok : {T E : Type 0} (r : Result T E) (error : E) (P : Type 0) → IsErrAnd r (λ e. e ≡ error) → OnOk r P
 no_ok (Ok x) error P is = absurd is
 no_ok (Err e) error P is = tt
-
-pub on_err : {T E : Type 0} (r : Result T E) (P : Type 0) → P → OnErr r P
-on_err (Ok x) P is = tt
-on_err (Err e) P is = is

@@ -2,10 +2,7 @@ mod BehindLooks
 mod Courses
 mod Faults
 mod Found
-mod FoundBlocks
 mod Looks
-mod OnShelf
-mod SavedBlocks
 mod SavedMemory
 mod SavedWords
 mod Saves

@@ -18,13 +18,13 @@ use Rattle.reading_core.specs.Addresses.{AreAddresses}
 use Rattle.request_values.specs.declared.range.AddressRange.{AddressRange}
 use Rattle.machine_look.specs.declared.saving.SaveOptions.{SaveOptions}
 use Rattle.machine_look.specs.Behind.{AreOfFound, IsMemoryBehind, addresses_behind, addresses_in, tape_to_save}
-use Rattle.machine_look.specs.FoundPart.{FillBlocks, words_in}
+use Rattle.tape_shelf.specs.FoundPart.{FillBlocks}
 use Rattle.machine_look.specs.Save.{IsTapeOf}
-use Rattle.machine_look.specs.SavedTape.{HoldsWhatWasRead, words_read, StandFrom}
-use Rattle.machine_look.proofs.SavedBlocks.{room_enough}
+use Rattle.tape_shelf.specs.SavedTape.{saved_tape, words_in}
+use Rattle.machine_look.specs.SavedWords.{HoldsWhatWasRead, words_read, StandFrom}
+use Rattle.tape_shelf.proofs.SavedBlocks.{room_enough}
 use Rattle.machine_look.proofs.SavedWords.{holds_what_was_read, read_plan, stand_behind}
-use Rattle.machine_look.proofs.Steps.{whole}
-use Rattle.machine_look.specs.SavedTape.{saved_tape}
+use Rattle.tape_shelf.proofs.Added.{whole}
 use Rattle.reading_core.specs.Addresses.{addresses_of}
 use Rattle.sample_looks.proofs.Spread.{asked, samples, words_at}
 use Rattle.tape_image.specs.Plan.{plan_of}

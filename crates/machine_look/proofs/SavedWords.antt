@@ -1,10 +1,12 @@
 -- The words of the tape of what was read.
-use Rattle.std.proofs.Common.{◌≡◌, ℕ, suc, ◌+◌, ◌*◌, ◌/◌, ◌%◌, ◌-◌, ◌<◌, ◌≤◌, true, false, cond, eqb, ◌&&◌, List, [], ◌∷◌, length, get_or, Option, Some, None, refl, arith, ap, sym, ◌∙◌, inl, inr}
+use Rattle.std.proofs.Common.{◌≡◌, ℕ, zero, suc, ◌+◌, ◌*◌, ◌/◌, ◌%◌, ◌-◌, ◌<◌, ◌≤◌, true, false, cond, eqb, ◌&&◌, List, [], ◌∷◌, ◌++◌, length, take, drop, get_or, Option, Some, None, refl, arith, ap, sym, ◌∙◌, inl, inr}
 use Rattle.std.specs.Prelude.{All, AllPairs}
 use Rattle.std.specs.List.{flat_map}
 use Rattle.std.specs.Option.{option_or}
+use Rattle.std.proofs.Math.Seq.{take-add}
 use Rattle.std.proofs.lemmas.Bool.{cases_eq, cases_lt, eq-eqb, ne_eqb}
-use Rattle.std.proofs.lemmas.List.{take_all}
+use Rattle.std.proofs.lemmas.List.{length-take-le, take_all}
+use Rattle.std.proofs.lemmas.List.Concat.{flat_map-append}
 use Rattle.std.proofs.lemmas.List.Kept.{AllPairs-cons}
 use Rattle.std.proofs.lemmas.List.Elements.{All-nil, All-cons, All-head, All-tail}
 use Rattle.tape_values.specs.Block.{block_at, low_first, top}
@@ -14,13 +16,42 @@ use Rattle.tape_image.specs.Word.{WordValue, IsWord, covers, whole_word}
 use Rattle.tape_image.specs.Image.{byte_in, byte_at}
 use Rattle.tape_image.specs.Plan.{IsPlan, plan_of, program_start, given_byte}
 use Rattle.tape_image.proofs.Blocks.{byte_in-before, byte_in-inside, byte_in-behind, option_or-none}
-use Rattle.tape_image.proofs.Laying.{byte_in-append}
+use Rattle.tape_image.proofs.Laying.{byte_at-append, byte_in-append}
 use Rattle.tape_image.proofs.Given.{Rises}
 use Rattle.tape_image.proofs.Images.{get-image_of}
 use Rattle.tape_image.proofs.Plans.{IsPlan-of_blocks, program_start-even}
 use Rattle.tape_image.proofs.SameWords.{plan_words}
-use Rattle.machine_look.specs.SavedTape.{saved_tape, saved_blocks, words_read, HoldsWhatWasRead, StandFrom}
-use Rattle.machine_look.proofs.SavedBlocks.{no_bytes, first_bytes, good_blocks, holds_bytes}
+use Rattle.tape_shelf.specs.SavedTape.{saved_block, saved_blocks, saved_tape}
+use Rattle.machine_look.specs.SavedWords.{words_read, HoldsWhatWasRead, StandFrom}
+use Rattle.tape_shelf.proofs.SavedBlocks.{bytes_length, good_blocks, holds_bytes, no_blocks, one_more}
+
+-- ---- the bytes of its blocks
+
+no_bytes : (from b : ℕ) → byte_in (block_at from []) b ≡ None
+no_bytes from b = elim (cases_lt b from) [ inl l ↦ byte_in-before from [] b l | inr m ↦ byte_in-behind from [] b (omega arith) ]
+
+-- a block behind those that have the numbers before it
+next_block : (from : ℕ) (numbers : List ℕ) (n b : ℕ) → 256 * n ≤ length numbers
+    → option_or (byte_in (saved_block from numbers n) b) (byte_in (block_at from (flat_map low_first (take (256 * n) numbers))) b)
+    ≡ byte_in (block_at from (flat_map low_first (take (256 * suc n) numbers))) b
+next_block from numbers n b low =
+    let before : List ℕ = take (256 * n) numbers in
+    let these : List ℕ = take 256 (drop (256 * n) numbers) in
+    let place : from + 512 * n ≡ from + length (flat_map low_first before) = omega (arith, bytes_length before, length-take-le (256 * n) numbers low) in
+    let both : flat_map low_first before ++ flat_map low_first these ≡ flat_map low_first (take (256 * suc n) numbers) =
+    sym (flat_map-append low_first before these) ∙ (ap (flat_map low_first) (sym (take-add (256 * n) 256 numbers)) ∙ (let same : 256 * n + 256 ≡ 256 * suc n = omega arith in ap (λ k. flat_map low_first (take k numbers)) same)) in
+    ap (λ a. option_or (byte_in (block_at a (flat_map low_first these)) b) (byte_in (block_at from (flat_map low_first before)) b)) place
+    ∙ (sym (byte_in-append from (flat_map low_first before) (flat_map low_first these) b)
+    ∙ ap (λ bytes. byte_in (block_at from bytes) b) both)
+
+-- the first blocks have the bytes of the first numbers
+first_bytes : (from : ℕ) (numbers : List ℕ) (n b : ℕ) → 256 * n < length numbers + 256 → byte_at (saved_blocks from numbers n) b ≡ byte_in (block_at from (flat_map low_first (take (256 * n) numbers))) b
+first_bytes from numbers zero b few = ap (λ blocks. byte_at blocks b) (no_blocks from numbers) ∙ sym (no_bytes from b)
+first_bytes from numbers (suc n) b few =
+    ap (λ blocks. byte_at blocks b) (one_more from numbers n)
+    ∙ (byte_at-append (saved_blocks from numbers n) (saved_block from numbers n ∷ []) b
+    ∙ (ap (option_or (byte_in (saved_block from numbers n) b)) (first_bytes from numbers n b (omega arith))
+    ∙ next_block from numbers n b (omega arith)))
 
 -- ---- the bytes of one word
 

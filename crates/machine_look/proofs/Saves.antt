@@ -11,11 +11,11 @@ use Rattle.machine_look.specs.declared.save_end.SaveEnd.{SaveEnd}
 use Rattle.machine_look.specs.declared.save_report.SaveCounts.{SaveCounts}
 use Rattle.machine_look.specs.declared.saving.SaveOptions.{SaveOptions}
 use Rattle.machine_look.specs.Course.{HasRoomForCounts, IsConcluded, IsCourse, IsUnclosed}
-use Rattle.machine_look.specs.FoundPart.{FillBlocks}
+use Rattle.tape_shelf.specs.FoundPart.{FillBlocks}
 use Rattle.machine_look.specs.LookFault.{IsSaveFault}
 use Rattle.machine_look.specs.Save.{HeldUp, IsOver, SaveTold, Shelved, TakesUp, console_of, counts_held, counts_read}
-use Rattle.machine_look.specs.Shelf.{ShelfStep}
-use Rattle.machine_look.specs.ShelfTold.{AreDone, ShelfTold}
+use Rattle.tape_shelf.specs.Shelf.{ShelfStep}
+use Rattle.tape_shelf.specs.ShelfTold.{AreDone, ShelfTold}
 use Rattle.machine_look.proofs.Faults.{not_closed, saved_steps}
 use Rattle.machine_look.proofs.SavedMemory.{few_numbers, range_low, tape_of}
 

@@ -1,18 +1,14 @@
 -- How a shelf is taken up.
 use Rattle.std.proofs.Common.{◌≡◌, ℕ, List, [], ◌∷◌, Result, Ok, Err, IfErr, IfOk, refl, arith, subst, sym}
-use Rattle.std.proofs.lemmas.List.Elements.{All-nil}
 use Rattle.request_values.specs.declared.range.AddressRange.{AddressRange}
-use Rattle.machine_look.specs.declared.shelf.ShelfFault.{ShelfFault}
-use Rattle.machine_look.specs.declared.shelf.ShelfFault.TheVariants.{PartIsThere}
-use Rattle.machine_look.specs.FoundPart.{FillBlocks}
+use Rattle.tape_shelf.specs.declared.shelf.ShelfFault.{ShelfFault}
+use Rattle.tape_shelf.specs.declared.shelf.ShelfFault.TheVariants.{PartIsThere}
+use Rattle.tape_shelf.specs.FoundPart.{FillBlocks}
 use Rattle.machine_look.specs.LookFault.{NoPart, NoRoom, TakesUpNothing}
 use Rattle.machine_look.specs.Save.{BehindPart, InNewRoom, TakesUp}
-use Rattle.machine_look.specs.SavedTape.{room_for}
-use Rattle.machine_look.specs.Shelf.{ShelfStep, Reserve, NotReserved, NotResumed, Resume}
-use Rattle.machine_look.specs.ShelfTold.{AreDone, HasDone, IsDone, ShelfTold}
-
-pub fill_nothing : (range : AddressRange) → FillBlocks range []
-fill_nothing range = record { whole = refl; within = omega arith; small = All-nil _ }
+use Rattle.tape_shelf.specs.SavedTape.{room_for}
+use Rattle.tape_shelf.specs.Shelf.{ShelfStep, Reserve, NotReserved, NotResumed, Resume}
+use Rattle.tape_shelf.specs.ShelfTold.{AreDone, HasDone, IsDone, ShelfTold}
 
 pub took_part : {V : Type 0} (result : Result V ShelfFault) (items : V → List ℕ) (range : AddressRange) (opened : List ℕ → Type 0) (a b c : ShelfTold)
     → ((folder : List ℕ) → IsDone folder (NotReserved (room_for range) PartIsThere) a b) → IfOk result (λ v. FillBlocks range (items v))

@@ -25,8 +25,8 @@ use Rattle.sample_looks.specs.Samples.{AreSamples}
 use Rattle.sample_looks.specs.declared.finding.Finding.{Finding}
 use Rattle.sample_looks.specs.declared.finding.Finding.TheVariants.{AllStand}
 use Rattle.machine_look.specs.Look.{IsGivenBack}
-use Rattle.machine_look.specs.FoundPart.{words_in}
-use Rattle.machine_look.specs.SavedTape.{saved_tape, words_read}
+use Rattle.tape_shelf.specs.SavedTape.{saved_tape, words_in}
+use Rattle.machine_look.specs.SavedWords.{words_read}
 use Rattle.machine_look.specs.declared.saving.SaveOptions.{SaveOptions}
 
 -- the addresses of a range, both ends included

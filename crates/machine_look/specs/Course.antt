@@ -10,15 +10,15 @@ use Rattle.machine_look.specs.declared.save_end.SaveEnd.{SaveEnd}
 use Rattle.machine_look.specs.declared.save_report.SaveCounts.{SaveCounts}
 use Rattle.machine_look.specs.declared.saving.SaveOptions.{SaveOptions}
 use Rattle.machine_look.specs.declared.look_fault.LookFault.{LookFault}
-use Rattle.machine_look.specs.declared.shelf.ShelfFault.{ShelfFault}
-use Rattle.machine_look.specs.declared.shelf.ShelfFault.TheVariants.{Write}
+use Rattle.tape_shelf.specs.declared.shelf.ShelfFault.{ShelfFault}
+use Rattle.tape_shelf.specs.declared.shelf.ShelfFault.TheVariants.{Write}
 use Rattle.machine_look.specs.Behind.{IsHeldUp, IsRead}
 use Rattle.machine_look.specs.LookFault.{IsKeepFault}
 use Rattle.machine_look.specs.Save.{counts_held, counts_read}
-use Rattle.machine_look.specs.SavedSteps.{adds, closes, full, not_all_added}
+use Rattle.tape_shelf.specs.SavedSteps.{adds, closes, full, not_all_added}
 use Rattle.machine_look.specs.SaveReport.{held_end, save_end}
-use Rattle.machine_look.specs.Shelf.{ShelfStep}
-use Rattle.machine_look.specs.ShelfTold.{AreDone, GoesOnTo, ShelfTold}
+use Rattle.tape_shelf.specs.Shelf.{ShelfStep}
+use Rattle.tape_shelf.specs.ShelfTold.{AreDone, GoesOnTo, ShelfTold}
 
 -- looks held a save up, and the shelf is as it was; or what was found stood, and the words behind it were read, and each full block of both is on the
 -- shelf, in the same folder

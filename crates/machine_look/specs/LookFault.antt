@@ -12,15 +12,15 @@ use Rattle.request_values.specs.declared.range.AddressRange.{AddressRange}
 use Rattle.machine_look.specs.declared.look_fault.LookFault.{LookFault}
 use Rattle.machine_look.specs.declared.look_fault.LookFault.TheVariants.{IsThere, PartIsThere, NotOfSave, WriteTape, Connect, WriteOutput, Memory}
 use Rattle.machine_look.specs.declared.saving.SaveOptions.{SaveOptions}
-use Rattle.machine_look.specs.declared.shelf.ShelfFault.{ShelfFault}
-use Rattle.machine_look.specs.declared.shelf.ShelfFault.TheVariants as shelf_fault
+use Rattle.tape_shelf.specs.declared.shelf.ShelfFault.{ShelfFault}
+use Rattle.tape_shelf.specs.declared.shelf.ShelfFault.TheVariants as shelf_fault
 use Rattle.console_lines.specs.Console.{ConsoleTold}
 use Rattle.machine_look.specs.Behind.{IsRead}
 use Rattle.machine_look.specs.Save.{IsUnadded, IsUnput, IsSavedUnreported, SaveTold, TakesUp}
-use Rattle.machine_look.specs.SavedSteps.{full, not_all_added}
-use Rattle.machine_look.specs.SavedTape.{last_text, room_for}
-use Rattle.machine_look.specs.Shelf.{ShelfStep, NotReserved, NotResumed, NotPut}
-use Rattle.machine_look.specs.ShelfTold.{AreDone, HasDone, ShelfTold}
+use Rattle.tape_shelf.specs.SavedSteps.{full, not_all_added}
+use Rattle.tape_shelf.specs.SavedTape.{last_text, room_for}
+use Rattle.tape_shelf.specs.Shelf.{ShelfStep, NotReserved, NotResumed, NotPut}
+use Rattle.tape_shelf.specs.ShelfTold.{AreDone, HasDone, ShelfTold}
 use Rattle.machine_look.specs.Verify.{IsCutShort}
 
 -- what a place that takes no tape makes of the save

@@ -15,18 +15,19 @@ use Rattle.reading_engine.specs.declared.stop.Stop.{Stop}
 use Rattle.request_values.specs.declared.range.AddressRange.{AddressRange}
 use Rattle.sample_looks.specs.declared.finding.Finding.{Finding}
 use Rattle.machine_look.specs.Behind.{IsHeldUp, IsRead, addresses_in, tape_to_save}
-use Rattle.machine_look.specs.FoundPart.{FillBlocks, words_in}
+use Rattle.tape_shelf.specs.FoundPart.{FillBlocks}
 use Rattle.machine_look.specs.declared.save_end.SaveEnd.{SaveEnd}
 use Rattle.machine_look.specs.declared.save_report.SaveCounts.{SaveCounts}
 use Rattle.machine_look.specs.declared.saving.SaveOptions.{SaveOptions}
-use Rattle.machine_look.specs.declared.shelf.Shelf.{Ghosts as Shelf}
-use Rattle.machine_look.specs.declared.shelf.ShelfFault.{ShelfFault}
-use Rattle.machine_look.specs.declared.shelf.ShelfFault.TheVariants.{PartIsThere}
-use Rattle.machine_look.specs.SavedSteps.{full, not_all_added, not_put, puts}
-use Rattle.machine_look.specs.SavedTape.{room_for, HoldsWhatWasRead}
+use Rattle.tape_shelf.specs.declared.shelf.Shelf.{Ghosts as Shelf}
+use Rattle.tape_shelf.specs.declared.shelf.ShelfFault.{ShelfFault}
+use Rattle.tape_shelf.specs.declared.shelf.ShelfFault.TheVariants.{PartIsThere}
+use Rattle.tape_shelf.specs.SavedSteps.{full, not_all_added, not_put, puts}
+use Rattle.tape_shelf.specs.SavedTape.{room_for, words_in}
+use Rattle.machine_look.specs.SavedWords.{HoldsWhatWasRead}
 use Rattle.machine_look.specs.SaveReport.{save_end, held_end, save_report}
-use Rattle.machine_look.specs.Shelf.{ShelfStep, Reserve, NotReserved, Resume, written}
-use Rattle.machine_look.specs.ShelfTold.{ShelfTold, HasDone}
+use Rattle.tape_shelf.specs.Shelf.{ShelfStep, Reserve, NotReserved, Resume, written}
+use Rattle.tape_shelf.specs.ShelfTold.{ShelfTold, HasDone}
 
 -- what a save's shelf, console and output tell: the first what was done on it; what was asked for a line, where the second leads and what its
 -- lines tell that were given back, and what the third holds

@@ -6,16 +6,17 @@ ghost use Rattle.host_core.specs.Memory.{most_words};
 ghost use Rattle.reading_core.specs.Addresses.{AreAddresses, addresses_from};
 ghost use Rattle.sample_looks.specs.Places.{place_of};
 ghost use Rattle.machine_look.specs.Behind.{AreOfFound};
-ghost use Rattle.machine_look.specs.FoundPart.{FillBlocks, words_in};
+ghost use Rattle.tape_shelf.specs.FoundPart.{FillBlocks};
+ghost use Rattle.tape_shelf.specs.SavedTape.{words_in};
 ghost use Rattle.machine_look.specs.Hosts.{AreHosts};
 
-use crate::saved_tape::words_of;
 use crate::saving::SaveOptions;
 use reading_core::ReadingCore;
 use request_values::AddressRange;
 use sample_looks::{MOST_SAMPLES, reader_of};
 use std::alloc::{AllocError, Global};
 use tape_image::Word;
+use tape_shelf::words_of;
 
 /// What a save needs to look and to read. They take no more memory.
 #[derive(Drop)]

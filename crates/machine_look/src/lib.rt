@@ -1,12 +1,10 @@
 //! Looking at a machine that nothing is to change: the commands `verify` and `save`.
 //!
 //! `verify` looks at every word of a plan and lists those that memory does not have, `save` reads a range
-//! of words and puts the tape of them on a `Shelf`, block by block, behind those that an earlier one left there,
-//! and neither types a digit into a word. Both are promised to write exactly their report, and to say of memory
-//! only what was read; over an honest line that is what memory holds, and it is what it was. Of the words that a
-//! save found it says that they are what was found there, and that samples of them stood. `NewFile` is the shelf of
-//! a real system: a block is on the disk when its last word was read, and a tape comes to its name whole, and
-//! replaces nothing.
+//! of words and puts the tape of them on a `Shelf` (`tape_shelf`), block by block, behind those that an earlier
+//! one left there, and neither types a digit into a word. Both are promised to write exactly their report, and
+//! to say of memory only what was read; over an honest line that is what memory holds, and it is what it was. Of
+//! the words that a save found it says that they are what was found there, and that samples of them stood.
 //!
 //! The crate `requests` calls them, and their tests stand in `load_tests`, `record_tests` and
 //! `command_tests`.
@@ -15,26 +13,19 @@
 mod behind;
 mod comparing;
 mod difference;
-mod found_part;
 mod hosts;
-mod left_part;
 mod look_fault;
-mod new_file;
 mod reading_blocks;
 mod save_end;
 mod save_report;
-mod saved_tape;
 mod saving;
-mod shelf;
 mod verify_end;
 mod verify_report;
 mod verifying;
 
 pub use look_fault::LookFault;
-pub use new_file::{NewFile, PART};
 pub use save_end::SaveEnd;
 pub use save_report::SaveCounts;
 pub use saving::{SaveOptions, save};
-pub use shelf::{Shelf, ShelfFault};
 pub use verify_end::VerifyEnd;
 pub use verifying::verify;

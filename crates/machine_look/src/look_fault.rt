@@ -1,7 +1,7 @@
-use crate::shelf::ShelfFault;
 use byte_io::WriteFault;
 use load_devices::LineFault;
 use std::alloc::AllocError;
+use tape_shelf::ShelfFault;
 
 /// Why a look came to nothing.
 #[derive(Clone, Copy, Debug, PartialEq, Eq)]

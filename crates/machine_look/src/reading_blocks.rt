@@ -6,25 +6,24 @@ ghost use Rattle.reading_core.specs.Invariant.{IsReader};
 ghost use Rattle.reading_core.specs.Reader.{ended};
 ghost use Rattle.reading_engine.specs.Inquired.{IsInquired, inquiry};
 ghost use Rattle.machine_look.specs.Course.{IsCourse, IsNotAllAdded};
-ghost use Rattle.machine_look.specs.FoundPart.{FillBlocks};
+ghost use Rattle.tape_shelf.specs.FoundPart.{FillBlocks};
 ghost use Rattle.machine_look.specs.Hosts.{AreHosts};
 ghost use Rattle.machine_look.specs.Look.{IsInquiredWhile};
 ghost use Rattle.machine_look.specs.LookFault.{IsReadFault};
 ghost use Rattle.machine_look.specs.Save.{reach_told};
-ghost use Rattle.machine_look.specs.SavedSteps.{adds, full, not_all_added};
-ghost use Rattle.machine_look.specs.ShelfTold.{AreDone, GoesOnTo};
+ghost use Rattle.tape_shelf.specs.SavedSteps.{adds, full, not_all_added};
+ghost use Rattle.tape_shelf.specs.ShelfTold.{AreDone, GoesOnTo};
 
 use crate::behind::Behind;
 use crate::hosts::Hosts;
 use crate::look_fault::LookFault;
-use crate::saved_tape::{BLOCK_WORDS, block_text, words_of};
 use crate::saving::SaveOptions;
-use crate::shelf::{Shelf, ShelfFault};
 use console_lines::Reach;
 use load_devices::{Line, MOST_TURNS, Onlooker, Unwatched};
 use reading_core::ReadingCore;
 use reading_engine::{Stop, inquire};
 use sample_looks::{Finding, Looked, look_at_samples};
+use tape_shelf::{BLOCK_WORDS, Shelf, ShelfFault, block_text, words_of};
 
 /// What came of looks and reading.
 #[derive(Drop)]

@@ -2,26 +2,25 @@
 ghost use Rattle.std.specs.Prelude.{◌≡◌, ◌*◌, ◌+◌, ◌++◌, ◌<◌, ◌≤◌, List, ℕ, length, IfErr, IfOk, OnOk};
 ghost use Rattle.tape_values.specs.Block.{top};
 ghost use Rattle.machine_look.specs.Course.{IsConcluded, IsUnclosed, HasRoomForCounts};
-ghost use Rattle.machine_look.specs.FoundPart.{FillBlocks};
+ghost use Rattle.tape_shelf.specs.FoundPart.{FillBlocks};
 ghost use Rattle.machine_look.specs.LookFault.{IsKeepFault, IsSaveFault, TakesUpNothing};
 ghost use Rattle.machine_look.specs.Save.{IsSavedAndReported, TakesUp, save_told};
-ghost use Rattle.machine_look.specs.SavedSteps.{closes, full};
-ghost use Rattle.machine_look.specs.Shelf.{ShelfStep};
-ghost use Rattle.machine_look.specs.ShelfTold.{AreDone, HasDone};
+ghost use Rattle.tape_shelf.specs.SavedSteps.{closes, full};
+ghost use Rattle.tape_shelf.specs.Shelf.{ShelfStep};
+ghost use Rattle.tape_shelf.specs.ShelfTold.{AreDone, HasDone};
 
 use crate::hosts::Hosts;
 use crate::look_fault::LookFault;
 use crate::reading_blocks::{Course, read_over};
 use crate::save_end::SaveEnd;
 use crate::save_report::{SaveCounts, held_end, save_end, save_report};
-use crate::saved_tape::{last_text, tape_room, words_of};
-use crate::shelf::{Shelf, ShelfFault};
 use byte_io::write_and_flush;
 use console_lines::Reach;
 use load_devices::Onlooker;
 use request_values::AddressRange;
 use std::alloc::Global;
 use std::io::Write;
+use tape_shelf::{Shelf, ShelfFault, last_text, tape_room, words_of};
 
 /// What is to be saved, and how.
 #[derive(Clone, Copy, Debug, PartialEq, Eq)]

@@ -2,10 +2,10 @@
 //! system gives no file a second name, so that the tape is renamed.
 
 use crate::record_steps::holds;
-use machine_look::{NewFile, Shelf, ShelfFault};
 use simulated_system::{AMPLE, Failing, Notes, Step, System, remove};
 use std::fs;
 use std::io::ErrorKind;
+use tape_shelf::{NewFile, Shelf, ShelfFault};
 
 // The file of a save, the one beside it, and what is put there.
 const SAVED: &str = "shelf.lda";

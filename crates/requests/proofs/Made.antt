@@ -1,8 +1,8 @@
 -- What becomes of a tape of words, by what is said of its shelf.
 use Rattle.std.proofs.Common.{ℕ, List, [], ◌∷◌, Result, Ok, Err, OnOk, IfErr, length, refl, inl, inr}
-use Rattle.machine_look.specs.Shelf.{Put, Reserve, put_step}
-use Rattle.machine_look.specs.ShelfTold.{HasDone, IsDone, ShelfTold}
-use Rattle.machine_look.specs.declared.shelf.ShelfFault.{ShelfFault}
+use Rattle.tape_shelf.specs.Shelf.{Put, Reserve, put_step}
+use Rattle.tape_shelf.specs.ShelfTold.{HasDone, IsDone, ShelfTold}
+use Rattle.tape_shelf.specs.declared.shelf.ShelfFault.{ShelfFault}
 use Rattle.requests.specs.Making.{IsNotPutWhole}
 use Rattle.std.specs.Prelude.{⊤}
 

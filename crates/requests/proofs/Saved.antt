@@ -2,8 +2,8 @@
 use Rattle.std.proofs.Common.{◌≡◌, ℕ, List, Option, None, Some, Result, Ok, Err, IfOk, IfErr, inr}
 use Rattle.record_file.specs.DiskStep.{DiskStep}
 use Rattle.machine_look.specs.Save.{IsSavedAndReported}
-use Rattle.machine_look.specs.ShelfDisk.{Room}
-use Rattle.machine_look.specs.ShelfTold.{ShelfTold}
+use Rattle.tape_shelf.specs.ShelfDisk.{Room}
+use Rattle.tape_shelf.specs.ShelfTold.{ShelfTold}
 use Rattle.machine_look.specs.declared.save_end.SaveEnd.{SaveEnd}
 use Rattle.endings.specs.declared.failure.Failure.{Failure}
 use Rattle.endings.specs.declared.status.Status.{Status}

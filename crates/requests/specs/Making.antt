@@ -1,10 +1,10 @@
 -- What becomes of a request to make a tape of octal words.
 use Rattle.std.specs.Prelude.{◌≡◌, ◌⊎◌, ℕ, List, [], ◌∷◌, length, Option}
 use Rattle.record_file.specs.DiskStep.{DiskStep}
-use Rattle.machine_look.specs.Shelf.{NotPut, NotReserved, Put, Reserve}
-use Rattle.machine_look.specs.ShelfTold.{HasDone, IsDone, ShelfTold}
-use Rattle.machine_look.specs.declared.shelf.ShelfFault.{ShelfFault}
-use Rattle.machine_look.specs.declared.shelf.ShelfFault.TheVariants as shelf
+use Rattle.tape_shelf.specs.Shelf.{NotPut, NotReserved, Put, Reserve}
+use Rattle.tape_shelf.specs.ShelfTold.{HasDone, IsDone, ShelfTold}
+use Rattle.tape_shelf.specs.declared.shelf.ShelfFault.{ShelfFault}
+use Rattle.tape_shelf.specs.declared.shelf.ShelfFault.TheVariants as shelf
 use Rattle.endings.specs.declared.failure.Failure.{Failure}
 use Rattle.endings.specs.declared.failure.Failure.TheVariants.{NoMemory}
 use Rattle.endings.specs.declared.status.Status.{Status}

@@ -5,8 +5,8 @@ use Rattle.load_devices.specs.Told.{HasAsked}
 use Rattle.record_file.specs.DiskStep.{DiskStep}
 use Rattle.machine_look.specs.LookFault.{IsSaveFault}
 use Rattle.machine_look.specs.Save.{IsSavedAndReported, SaveTold}
-use Rattle.machine_look.specs.ShelfDisk.{ShelfDisk, IsClosed}
-use Rattle.machine_look.specs.ShelfTold.{ShelfTold}
+use Rattle.tape_shelf.specs.ShelfDisk.{ShelfDisk, IsClosed}
+use Rattle.tape_shelf.specs.ShelfTold.{ShelfTold}
 use Rattle.machine_look.specs.declared.look_fault.LookFault.{LookFault}
 use Rattle.machine_look.specs.declared.save_end.SaveEnd.{SaveEnd}
 use Rattle.machine_look.specs.declared.saving.SaveOptions.{SaveOptions}

@@ -1,19 +1,19 @@
 //! Making a tape of octal words.
 ghost use Rattle.std.specs.Prelude.{◌≡◌, ◌∷◌, [], length, OnOk, IfOk, IfErr};
-ghost use Rattle.machine_look.specs.Shelf.{Put, Reserve};
-ghost use Rattle.machine_look.specs.ShelfTold.{HasDone};
+ghost use Rattle.tape_shelf.specs.Shelf.{Put, Reserve};
+ghost use Rattle.tape_shelf.specs.ShelfTold.{HasDone};
 ghost use Rattle.requests.specs.Making.{AreWordsMade, AreWordsUnmade, IsShelfFailure};
 ghost use Rattle.requests.specs.Making.{IsNotPutOn, IsNotPutWhole, IsPutOn};
 ghost use Rattle.requests.specs.Moment.{moment};
 
 use crate::system::{Kinds, System};
 use endings::{Failure, FaultOutput, Output, Status, Streams};
-use machine_look::{NewFile, Shelf, ShelfFault};
 use record_file::Disk;
 use request_values::Make;
 use std::alloc::Global;
 use std::io::Read;
 use tape_commands::tape_of_words;
+use tape_shelf::{NewFile, Shelf, ShelfFault};
 
 /// Makes a tape of octal words in a new file, in a system that comes back, and answers the exit status.
 ///

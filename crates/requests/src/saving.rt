@@ -9,10 +9,11 @@ use crate::machine_fault::MachineFault;
 use crate::system::{Kinds, System};
 use console_lines::Way;
 use endings::{Failure, FaultOutput, Output, Status, Streams};
-use machine_look::{NewFile, SaveOptions, save};
+use machine_look::{SaveOptions, save};
 use request_values::Save;
 use std::alloc::Global;
 use std::io::{Print, Read};
+use tape_shelf::NewFile;
 
 /// Saves words of a real machine as a tape in a new file, in a system that comes back, and answers the exit
 /// status.

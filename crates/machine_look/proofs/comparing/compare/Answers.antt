@@ -6,7 +6,7 @@ use Rattle.reading_engine.specs.declared.stop.Stop.{Stop}
 use Rattle.reading_engine.specs.declared.stop.Stop.TheVariants.{TurnsOver}
 use Rattle.reading_engine.specs.Inquired.{IsInquired, inquiry}
 use Rattle.reading_engine.proofs.Inquiries.{no_turns, turns_are_over, turns_go_on, turns_join, turns_to_spare}
-use Rattle.machine_look.proofs.OnShelf.{done}
+use Rattle.tape_shelf.proofs.OnShelf.{done}
 use Rattle.machine_look.proofs.Shown.{no_lines, on_fault}
 use Rattle.machine_look.proofs.Steps.{on_ok}
 use Rattle.machine_look.proofs.Turning.{no_value_in_error, value_known}

@@ -4,7 +4,7 @@ use Rattle.tape_image.specs.Word.{WordValue}
 use Rattle.machine_look.specs.Differences.{difference}
 use Rattle.machine_look.specs.Shown.{ShowsTo}
 use Rattle.machine_look.specs.VerifyReport.{difference_lines, lines_of}
-use Rattle.machine_look.proofs.Faults.{on_err}
+use Rattle.tape_shelf.proofs.OnShelf.{on_err}
 use Rattle.machine_look.proofs.Shown.{next_lines, rest_lines, shows_front, shows_more}
 use Rattle.machine_look.proofs.difference.show_differences.Goals as goal
 

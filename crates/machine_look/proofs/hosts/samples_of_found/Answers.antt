@@ -2,7 +2,7 @@ use Rattle.std.proofs.Common.{◌+◌, ◌*◌, ◌<◌, List, length, get_or, a
 use Rattle.tape_image.specs.Word.{WordValue, whole_word}
 use Rattle.sample_looks.proofs.Spread.{ended, next_sample, within}
 use Rattle.machine_look.specs.Behind.{addresses_in}
-use Rattle.machine_look.specs.SavedTape.{words_read}
+use Rattle.machine_look.specs.SavedWords.{words_read}
 use Rattle.machine_look.proofs.SavedMemory.{many_found, of_found, range_low, word_found}
 use Rattle.machine_look.proofs.hosts.samples_of_found.Goals as goal
 

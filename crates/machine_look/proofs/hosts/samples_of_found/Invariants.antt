@@ -2,7 +2,7 @@
 use Rattle.std.proofs.Common.{◌≡◌, length}
 use Rattle.sample_looks.proofs.Spread.{words_at}
 use Rattle.machine_look.specs.Behind.{addresses_in}
-use Rattle.machine_look.specs.SavedTape.{words_read}
+use Rattle.machine_look.specs.SavedWords.{words_read}
 use Rattle.machine_look.proofs.hosts.samples_of_found.Given as goal
 
 abbrev pub invariant-loop-i : goal.invariant-loop-i

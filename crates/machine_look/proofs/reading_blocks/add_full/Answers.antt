@@ -1,7 +1,7 @@
 use Rattle.std.proofs.Common.{◌∙◌, subst, arith}
-use Rattle.machine_look.specs.Shelf.{Add, NotAdded}
-use Rattle.machine_look.specs.SavedSteps.{adds}
-use Rattle.machine_look.specs.ShelfTold.{IsDone}
+use Rattle.tape_shelf.specs.Shelf.{Add, NotAdded}
+use Rattle.tape_shelf.specs.SavedSteps.{adds}
+use Rattle.tape_shelf.specs.ShelfTold.{IsDone}
 use Rattle.machine_look.proofs.Steps.{goes_more, goes_no_more}
 use Rattle.machine_look.proofs.reading_blocks.add_full.Goals as goal
 

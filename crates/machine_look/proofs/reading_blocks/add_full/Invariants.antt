@@ -1,6 +1,6 @@
 -- The blocks so far are added.
-use Rattle.machine_look.specs.SavedSteps.{adds}
-use Rattle.machine_look.specs.ShelfTold.{GoesOnTo}
+use Rattle.tape_shelf.specs.SavedSteps.{adds}
+use Rattle.tape_shelf.specs.ShelfTold.{GoesOnTo}
 use Rattle.machine_look.proofs.reading_blocks.add_full.Given as goal
 
 abbrev pub invariant-loop-number : goal.invariant-loop-number

@@ -3,7 +3,7 @@ use Rattle.std.specs.Prelude.{⊤}
 use Rattle.load_devices.specs.Devices.{line_told}
 use Rattle.load_devices.specs.Turns.{most_turns}
 use Rattle.reading_engine.proofs.Inquiries.{no_turns, turns_are_over}
-use Rattle.machine_look.specs.SavedSteps.{adds, full, not_all_added}
+use Rattle.tape_shelf.specs.SavedSteps.{adds, full, not_all_added}
 use Rattle.machine_look.proofs.Steps.{added_alone, added_behind, from_nothing, not_added_alone, not_added_behind, on_each, on_ok}
 use Rattle.machine_look.proofs.Turning.{done_known, ended_at_once, error_known, value_known}
 use Rattle.machine_look.proofs.reading_blocks.read_behind.Goals as goal

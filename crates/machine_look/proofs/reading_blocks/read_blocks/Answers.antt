@@ -6,8 +6,8 @@ use Rattle.reading_engine.specs.declared.stop.Stop.{Stop}
 use Rattle.reading_engine.specs.declared.stop.Stop.TheVariants.{Ended, LineFailed, TurnsOver}
 use Rattle.reading_engine.specs.Inquired.{IsInquired, inquiry}
 use Rattle.reading_engine.proofs.Inquiries.{no_turns, turns_are_over, turns_go_on, turns_join, turns_to_spare}
-use Rattle.machine_look.specs.SavedSteps.{adds, full}
-use Rattle.machine_look.proofs.OnShelf.{done}
+use Rattle.tape_shelf.specs.SavedSteps.{adds, full}
+use Rattle.tape_shelf.proofs.OnShelf.{done}
 use Rattle.machine_look.proofs.Steps.{goes_join, nothing_added, on_each}
 use Rattle.machine_look.proofs.Turning.{no_value_in_error, value_known}
 use Rattle.machine_look.proofs.reading_blocks.read_blocks.Goals as goal

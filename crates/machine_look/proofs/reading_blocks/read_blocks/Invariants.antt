@@ -3,8 +3,8 @@ use Rattle.std.proofs.Common.{◌≡◌, [], None}
 use Rattle.load_devices.specs.Devices.{line_told}
 use Rattle.reading_core.specs.Reader.{ended}
 use Rattle.reading_engine.specs.Inquired.{IsInquired, inquiry}
-use Rattle.machine_look.specs.SavedSteps.{adds, full}
-use Rattle.machine_look.specs.ShelfTold.{GoesOnTo}
+use Rattle.tape_shelf.specs.SavedSteps.{adds, full}
+use Rattle.tape_shelf.specs.ShelfTold.{GoesOnTo}
 use Rattle.machine_look.proofs.reading_blocks.read_blocks.Given as goal
 
 abbrev pub invariant-loop : goal.invariant-loop

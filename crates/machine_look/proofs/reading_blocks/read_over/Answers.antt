@@ -17,9 +17,9 @@ use Rattle.reading_engine.specs.declared.stop.Stop.TheVariants.{Ended}
 use Rattle.sample_looks.specs.Finding.{IsFound}
 use Rattle.sample_looks.specs.declared.finding.Finding.TheVariants.{AllStand}
 use Rattle.machine_look.specs.Behind.{addresses_behind}
-use Rattle.machine_look.specs.FoundPart.{words_in}
-use Rattle.machine_look.specs.SavedSteps.{adds, full, not_all_added}
-use Rattle.machine_look.specs.ShelfTold.{AreDone}
+use Rattle.tape_shelf.specs.SavedTape.{words_in}
+use Rattle.tape_shelf.specs.SavedSteps.{adds, full, not_all_added}
+use Rattle.tape_shelf.specs.ShelfTold.{AreDone}
 use Rattle.machine_look.proofs.Courses.{are_looked_at, given_back, held_up, is_read}
 use Rattle.machine_look.proofs.Turning.{done_known, error_known}
 use Rattle.machine_look.proofs.reading_blocks.read_over.Goals as goal

@@ -1,9 +1,9 @@
 use Rattle.std.proofs.Common.{◌<◌, ◌∙◌, ℕ, List, ◌++◌, ◌∷◌, [], length, subst, ap, arith}
 use Rattle.std.specs.Prelude.{⊤}
 use Rattle.tape_values.specs.Block.{data_block}
-use Rattle.machine_look.specs.Shelf.{NotAdded}
-use Rattle.machine_look.specs.SavedSteps.{adds, full}
-use Rattle.machine_look.specs.SavedTape.{saved_block}
+use Rattle.tape_shelf.specs.Shelf.{NotAdded}
+use Rattle.tape_shelf.specs.SavedSteps.{adds, full}
+use Rattle.tape_shelf.specs.SavedTape.{saved_block}
 use Rattle.machine_look.proofs.Steps.{full_more, led_more, on_each, on_ok, turned}
 use Rattle.machine_look.proofs.reading_blocks.turn.Goals as goal
 

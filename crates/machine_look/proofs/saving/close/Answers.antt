@@ -1,10 +1,11 @@
 use Rattle.std.proofs.Common.{◌≡◌, ◌+◌, ◌*◌, ◌<◌, ℕ, List, [], ◌∷◌, ◌++◌, length, ap, sym, subst, ◌∙◌, arith, length-append}
 use Rattle.machine_look.specs.LookFault.{IsKeepFault, fault_of_shelf}
-use Rattle.machine_look.specs.SavedTape.{last_text}
-use Rattle.machine_look.specs.Shelf.{Put}
-use Rattle.machine_look.specs.ShelfTold.{AreDone}
-use Rattle.machine_look.proofs.Faults.{closes_long, error_is, not_put}
-use Rattle.machine_look.proofs.Steps.{done_one, last_behind}
+use Rattle.tape_shelf.specs.SavedTape.{last_text}
+use Rattle.tape_shelf.specs.Shelf.{Put}
+use Rattle.tape_shelf.specs.ShelfTold.{AreDone}
+use Rattle.machine_look.proofs.Faults.{closes_long, not_put}
+use Rattle.tape_shelf.proofs.Added.{done_one, last_behind}
+use Rattle.tape_shelf.proofs.OnShelf.{error_is}
 use Rattle.machine_look.proofs.saving.close.Goals as goal
 
 pub returns-in_err-put-clause-fault : goal.returns-in_err-put-clause-fault

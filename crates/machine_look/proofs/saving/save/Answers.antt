@@ -6,7 +6,8 @@ use Rattle.machine_look.specs.Course.{HasRoomForCounts, IsConcluded, IsCourse, I
 use Rattle.machine_look.specs.declared.look_fault.LookFault.TheVariants.{WriteOutput}
 use Rattle.machine_look.specs.LookFault.{IsReadFault, IsSaveFault}
 use Rattle.machine_look.specs.Save.{SaveTold, console_of, save_told}
-use Rattle.machine_look.proofs.Faults.{error_is, not_read}
+use Rattle.tape_shelf.proofs.OnShelf.{error_is}
+use Rattle.machine_look.proofs.Faults.{not_read}
 use Rattle.machine_look.proofs.Saves.{concluded, not_concluded, room_for_counts}
 use Rattle.machine_look.proofs.saving.save.Goals as goal
 

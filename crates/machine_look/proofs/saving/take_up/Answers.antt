@@ -1,7 +1,7 @@
 use Rattle.std.proofs.Common.{subst}
-use Rattle.machine_look.specs.declared.shelf.ShelfFault.TheVariants.{PartIsThere}
-use Rattle.machine_look.specs.Shelf.{NotReserved}
-use Rattle.machine_look.specs.ShelfTold.{IsDone}
+use Rattle.tape_shelf.specs.declared.shelf.ShelfFault.TheVariants.{PartIsThere}
+use Rattle.tape_shelf.specs.Shelf.{NotReserved}
+use Rattle.tape_shelf.specs.ShelfTold.{IsDone}
 use Rattle.machine_look.proofs.Taking.{took_no_part, took_no_room, took_part, took_room}
 use Rattle.machine_look.proofs.saving.take_up.Goals as goal
 

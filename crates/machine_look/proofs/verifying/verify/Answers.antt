@@ -10,7 +10,8 @@ use Rattle.console_lines.specs.Console.{console_told}
 use Rattle.machine_look.specs.LookFault.{IsVerifyFault}
 use Rattle.machine_look.specs.Differences.{differences}
 use Rattle.machine_look.specs.VerifyReport.{difference_lines, last_lines, verify_end}
-use Rattle.machine_look.proofs.Faults.{error_is, no_value}
+use Rattle.tape_shelf.proofs.OnShelf.{error_is}
+use Rattle.machine_look.proofs.Faults.{no_value}
 use Rattle.machine_look.proofs.Verified.{compare_fault, differ_is, last_is, verified_of}
 use Rattle.machine_look.proofs.verifying.verify.Goals as goal
 

@@ -2,10 +2,10 @@ use Rattle.std.proofs.Common.{◌≡◌, ◌∙◌, IfOk, IfErr, inl, refl, ap, 
 use Rattle.console_lines.specs.Console.{ConsoleTold}
 use Rattle.console_lines.specs.Path.{call_to}
 use Rattle.endings.specs.Held.{Held}
-use Rattle.machine_look.specs.Room.{room_of}
+use Rattle.tape_shelf.specs.Room.{room_of}
 use Rattle.machine_look.specs.LookFault.{IsSaveFault}
 use Rattle.machine_look.specs.Save.{IsSavedAndReported}
-use Rattle.machine_look.specs.ShelfTold.{ShelfTold}
+use Rattle.tape_shelf.specs.ShelfTold.{ShelfTold}
 use Rattle.requests.specs.Asked.{asked_of}
 use Rattle.requests.specs.Looking.{console_at}
 use Rattle.requests.specs.Moment.{moment}

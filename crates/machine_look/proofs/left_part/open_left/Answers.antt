@@ -1,6 +1,0 @@
-use Rattle.load_devices.proofs.Told.{tells_join}
-use Rattle.record_file.proofs.Asking.{asked_one}
-use Rattle.machine_look.proofs.left_part.open_left.Goals as goal
-
-pub returns-else-has_name-clause-failed : goal.returns-else-has_name-clause-failed
-returns-else-has_name-clause-failed g c = asked_one _ _ _ (tells_join _ _ _ _ _ c.in-Ok.ensures.asked c.if-has_name.ensures.asked) (tt, (tt, tt))

@@ -1,6 +1,0 @@
-use Rattle.record_file.proofs.Asking.{asked_one}
-use Rattle.machine_look.proofs.Faults.{on_err}
-use Rattle.machine_look.proofs.left_part.read_left.Goals as goal
-
-pub returns-in-Ok-read_up_to-clause-failed : goal.returns-in-Ok-read_up_to-clause-failed
-returns-in-Ok-read_up_to-clause-failed g c = on_err c.found_in.result _ (asked_one _ _ _ c.in-Ok.ensures.asked (tt, tt))

@@ -1,0 +1,4 @@
+pub mod Added
+pub mod FoundBlocks
+pub mod OnShelf
+pub mod SavedBlocks

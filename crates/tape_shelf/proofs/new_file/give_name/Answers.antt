@@ -1,0 +1,13 @@
+use Rattle.load_devices.proofs.Told.{tells_join}
+use Rattle.record_file.proofs.Asking.{asked_one}
+use Rattle.tape_shelf.specs.ShelfDisk.{Linked, NameTaken}
+use Rattle.tape_shelf.proofs.new_file.give_name.Goals as goal
+
+pub returns-in-Ok-clause-asked : goal.returns-in-Ok-clause-asked
+returns-in-Ok-clause-asked g c = asked_one _ _ _ c.in-Ok.ensures.asked Linked
+
+pub returns-in-Err-clause-asked : goal.returns-in-Err-clause-asked
+returns-in-Err-clause-asked g c = asked_one _ _ _ c.in-Err.ensures.asked NameTaken
+
+pub returns-in-Err-2-clause-asked : goal.returns-in-Err-2-clause-asked
+returns-in-Err-2-clause-asked g c = let h = c.rename_to_free.ensures.asked in asked_one _ _ _ (tells_join _ _ _ _ _ c.in-Err-2.ensures.asked h.1) h.2

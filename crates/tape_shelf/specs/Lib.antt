@@ -1,0 +1,7 @@
+pub mod FoundPart
+pub mod Room
+pub mod SavedSteps
+pub mod SavedTape
+pub mod Shelf
+pub mod ShelfDisk
+pub mod ShelfTold

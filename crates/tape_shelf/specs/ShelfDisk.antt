@@ -1,0 +1,246 @@
+-- What is asked of a disk to make room there for a tape, to add to it, and to give it its name.
+use Rattle.std.specs.Prelude.{◌≡◌, ◌⊎◌, ℕ, ◌+◌, List, [], ◌∷◌, ◌++◌, length, Bool, true, false, Option, Some, None, OnSome, codes, replicate, ⊤}
+use Rattle.std.specs.Io.KnownBytes.{Appends}
+use Rattle.byte_io.specs.Text.{name_slash}
+use Rattle.load_devices.specs.Told.{HasAsked}
+use Rattle.record_file.specs.DiskStep.{DiskStep, Did, Failed, LedTo, step_by}
+use Rattle.record_file.specs.DiskStep.{DiskRequest, LookAtName, FindSoleFile, FindFile, Open, Hold, Link, Rename, Remove, SyncFolder, Cut, SyncFile}
+use Rattle.record_file.specs.Folder.{IsFolderOf}
+use Rattle.record_file.specs.declared.disk.Access.TheVariants.{ReadOnly, ReadWrite, New}
+use Rattle.tape_shelf.specs.declared.shelf.ShelfFault.{ShelfFault}
+use Rattle.tape_shelf.specs.declared.shelf.ShelfFault.TheVariants.{IsThere, PartIsThere, Write, Memory}
+
+-- ---- room
+
+-- the name of the file that holds the blocks of a tape while a save is on its way
+abbrev pub part_name : List ℕ → List ℕ
+part_name name = name ++ codes ".part"
+
+-- a name goes, where the file of which this was written still has it
+pub data IsGone (name : List ℕ) (written : Option (List ℕ)) : List DiskStep → Type 0 where
+  Goes : (removed : Bool) → IsGone name written (Did (FindFile name written) ∷ step_by (Remove name) removed ∷ [])
+  HasAnother : IsGone name written (Failed (FindFile name written) ∷ [])
+
+-- no file has this name: it is empty, or a folder's
+abbrev pub IsNoFileName : List ℕ → Type 0
+IsNoFileName name = (name ≡ []) ⊎ ((front : List ℕ) × (name ≡ front ++ name_slash ∷ []))
+
+-- a name is looked for. Nothing has it; or something has; or that can't be found out, or no file has such a name, of which nothing is asked
+pub data IsSearch (name : List ℕ) : Option ShelfFault → List DiskStep → Type 0 where
+  Free : IsSearch name None (Failed (LookAtName name) ∷ [])
+  There : IsSearch name (Some IsThere) (Did (LookAtName name) ∷ [])
+  Unknown : IsSearch name (Some Write) (Failed (LookAtName name) ∷ [])
+  NoFileName : IsNoFileName name → IsSearch name (Some Write) []
+
+-- a file is made and held; or one of its name is there, or it can't be made, or somebody else holds it
+pub data IsMakingHeld (own : List ℕ) : Option ShelfFault → List DiskStep → Type 0 where
+  Made : IsMakingHeld own None (Did (Open New own) ∷ Did (Hold own) ∷ [])
+  WasLeft : IsMakingHeld own (Some PartIsThere) (Failed (Open New own) ∷ [])
+  NotMade : IsMakingHeld own (Some Write) (Failed (Open New own) ∷ [])
+  NotHeld : IsMakingHeld own (Some Write) (Did (Open New own) ∷ Failed (Hold own) ∷ [])
+
+-- a file that was made is filled with bytes that take room, which is brought to the disk, as its name is; and it is opened once more, and still
+-- has its name
+pub data IsTaking (own folder : List ℕ) (filled : Option (List ℕ)) : Bool → List DiskStep → Type 0 where
+  Unfilled : IsTaking own folder filled false []
+  NotFilled : IsTaking own folder filled false (Failed (SyncFile filled) ∷ [])
+  NotNamed : IsTaking own folder filled false (Did (SyncFile filled) ∷ Failed (SyncFolder folder) ∷ [])
+  Unopened : IsTaking own folder filled false (Did (SyncFile filled) ∷ Did (SyncFolder folder) ∷ Failed (Open ReadWrite own) ∷ [])
+  Filled : (found : Bool)
+      → IsTaking own folder filled found (Did (SyncFile filled) ∷ Did (SyncFolder folder) ∷ Did (Open ReadWrite own) ∷ step_by (FindFile own filled) found ∷ [])
+
+-- a new file is made and held, and filled. One that can't be filled goes
+pub data IsTakingHeld (own folder : List ℕ) (filled : Option (List ℕ)) : Option ShelfFault → List DiskStep → Type 0 where
+  Unmade : (fault : ShelfFault) (making : List DiskStep) → IsMakingHeld own (Some fault) making → IsTakingHeld own folder filled (Some fault) making
+  Taken : (making taking : List DiskStep) → IsMakingHeld own None making → IsTaking own folder filled true taking
+      → IsTakingHeld own folder filled None (making ++ taking)
+  NotTaken : (making taking going : List DiskStep) → IsMakingHeld own None making → IsTaking own folder filled false taking → IsGone own filled going
+      → IsTakingHeld own folder filled (Some Write) (making ++ (taking ++ going))
+
+-- nothing has the name, its folder is opened, and a new file beside is made, held and filled
+pub data IsReserved (name folder : List ℕ) (filled : Option (List ℕ)) : List DiskStep → Type 0 where
+  Reserved : (making : List DiskStep) → IsTakingHeld (part_name name) folder filled None making
+      → IsReserved name folder filled (Failed (LookAtName name) ∷ Did (Open ReadOnly folder) ∷ making)
+
+-- or one of these fails
+pub data IsNotReserved (name : List ℕ) : ShelfFault → List DiskStep → Type 0 where
+  NameNotFree : (fault : ShelfFault) (steps : List DiskStep) → IsSearch name (Some fault) steps → IsNotReserved name fault steps
+  NoFolder : (folder : List ℕ) → IsFolderOf name folder
+      → IsNotReserved name Write (Failed (LookAtName name) ∷ Failed (Open ReadOnly folder) ∷ [])
+  NoMemory : (folder : List ℕ) → IsFolderOf name folder
+      → IsNotReserved name Memory (Failed (LookAtName name) ∷ Did (Open ReadOnly folder) ∷ [])
+  NoRoom : (folder : List ℕ) (filled : Option (List ℕ)) (fault : ShelfFault) (making : List DiskStep) → IsFolderOf name folder
+      → IsTakingHeld (part_name name) folder filled (Some fault) making
+      → IsNotReserved name fault (Failed (LookAtName name) ∷ Did (Open ReadOnly folder) ∷ making)
+
+-- a file that an earlier save left is held, a plain one without another name, and read, and opened once more to be written from its front on, and
+-- it still has its name
+abbrev pub taking_left : List ℕ → Option (List ℕ) → List DiskStep
+taking_left own held =
+    Did (FindSoleFile own) ∷ Did (Open ReadWrite own) ∷ Did (Hold own) ∷ Did (Open ReadOnly own) ∷ Did (Open ReadWrite own) ∷ Did (FindFile own held) ∷ []
+
+-- so one beside is gone on with, once its folder is opened
+abbrev pub resuming : List ℕ → List ℕ → Option (List ℕ) → List DiskStep
+resuming own folder held = Did (Open ReadOnly folder) ∷ taking_left own held
+
+-- what is asked of a disk and leaves each file as it is: names are looked at, and files that are there are opened and held
+abbrev pub LeavesAll : DiskRequest → Type 0
+LeavesAll (FindSoleFile name) = ⊤
+LeavesAll (FindFile name written) = ⊤
+LeavesAll (Open ReadOnly name) = ⊤
+LeavesAll (Open ReadWrite name) = ⊤
+LeavesAll (Hold name) = ⊤
+LeavesAll other = ⊥
+
+-- nothing else was asked
+abbrev pub LeaveAll : List DiskStep → Type 0
+LeaveAll [] = ⊤
+LeaveAll (Did request ∷ more) = LeavesAll request × LeaveAll more
+LeaveAll (Failed request ∷ more) = LeavesAll request × LeaveAll more
+LeaveAll (LedTo name target ∷ more) = ⊥
+
+-- the file beside, where the blocks of a tape are: its name, what was written to it, how many bytes that is, and whether there is a block in it
+pub record Room : Type 0 where
+  pub name : List ℕ
+  pub written : Option (List ℕ)
+  pub length : ℕ
+  pub kept : Bool
+
+-- the file is let go. It stays, where there is a block in it
+abbrev pub IsLeftBehind : Bool → List ℕ → Option (List ℕ) → List DiskStep → Type 0
+IsLeftBehind true name written steps = steps ≡ []
+IsLeftBehind false name written steps = IsGone name written steps
+
+-- room that is left
+abbrev pub IsClosed : Option Room → List DiskStep → Type 0
+IsClosed None steps = steps ≡ []
+IsClosed (Some room) steps = IsLeftBehind room.kept room.name room.written steps
+
+-- ---- the tape
+
+-- a file is cut at this length, and brought to the disk, and then its name is still its own
+pub data IsOnDisk (name : List ℕ) (written : Option (List ℕ)) (length : ℕ) : Bool → List DiskStep → Type 0 where
+  Synced : (found : Bool) → IsOnDisk name written length found (Did (Cut written length) ∷ Did (SyncFile written) ∷ step_by (FindFile name written) found ∷ [])
+  Unsynced : IsOnDisk name written length false (Did (Cut written length) ∷ Failed (SyncFile written) ∷ [])
+  Uncut : IsOnDisk name written length false (Failed (Cut written length) ∷ [])
+
+-- a file is given a second name, which no system does where something has it; where that can't be, it is renamed, once nothing was found to
+-- have the name
+pub data IsNaming (own name : List ℕ) : Option ShelfFault → List DiskStep → Type 0 where
+  Linked : IsNaming own name None (Did (Link own name) ∷ [])
+  NameTaken : IsNaming own name (Some IsThere) (Failed (Link own name) ∷ [])
+  Renamed : IsNaming own name None (Failed (Link own name) ∷ Failed (LookAtName name) ∷ Did (Rename own name) ∷ [])
+  NotRenamed : IsNaming own name (Some Write) (Failed (Link own name) ∷ Failed (LookAtName name) ∷ Failed (Rename own name) ∷ [])
+  NotFree : (fault : ShelfFault) (steps : List DiskStep) → IsSearch name (Some fault) steps
+      → IsNaming own name (Some fault) (Failed (Link own name) ∷ steps)
+
+-- the new name goes again: the file has its own name, too, or gets it back
+pub data IsTakenBack (own name : List ℕ) (written : Option (List ℕ)) : List DiskStep → Type 0 where
+  HasItsOwn : (taking : List DiskStep) → IsGone name written taking → IsTakenBack own name written (Did (FindFile own written) ∷ taking)
+  RenamedBack : (done : Bool) → IsTakenBack own name written (Failed (FindFile own written) ∷ step_by (Rename name own) done ∷ [])
+
+-- the folder is brought to the disk, and then the file's own name goes; where that fails, the new name goes again
+pub data IsSettling (own folder name : List ℕ) (written : Option (List ℕ)) : Option ShelfFault → List DiskStep → Type 0 where
+  Settled : (going : List DiskStep) → IsGone own written going → IsSettling own folder name written None (Did (SyncFolder folder) ∷ going)
+  Unsettled : (taking : List DiskStep) → IsTakenBack own name written taking
+      → IsSettling own folder name written (Some Write) (Failed (SyncFolder folder) ∷ taking)
+
+-- a file is on the disk before it gets its name, and then that is, too. Where it does not get it, it keeps its own
+pub data IsNamed (own folder name : List ℕ) (written : Option (List ℕ)) (length : ℕ) : Option ShelfFault → List DiskStep → Type 0 where
+  NotOnDisk : (syncing : List DiskStep) → IsOnDisk own written length false syncing → IsNamed own folder name written length (Some Write) syncing
+  Unnamed : (fault : ShelfFault) (syncing naming : List DiskStep) → IsOnDisk own written length true syncing → IsNaming own name (Some fault) naming
+      → IsNamed own folder name written length (Some fault) (syncing ++ naming)
+  Named : (fault : Option ShelfFault) (syncing naming settling : List DiskStep) → IsOnDisk own written length true syncing
+      → IsNaming own name None naming → IsSettling own folder name written fault settling
+      → IsNamed own folder name written length fault (syncing ++ (naming ++ settling))
+
+-- the last text was written to the file beside, and that gets the tape's name, with all that was written to it and no byte more; or it can't be
+-- written
+pub data IsPut (name folder text : List ℕ) (room : Room) : Option ShelfFault → List DiskStep → Type 0 where
+  NotWritten : (written : Option (List ℕ)) (leaving : List DiskStep) → IsLeftBehind room.kept room.name written leaving
+      → IsPut name folder text room (Some Write) leaving
+  Written : (written : Option (List ℕ)) (fault : Option ShelfFault) (naming : List DiskStep) → Appends room.written written text
+      → IsNamed room.name folder name written (room.length + length text) fault naming → IsPut name folder text room fault naming
+
+-- without room nothing is asked
+abbrev pub IsPutInto : List ℕ → List ℕ → List ℕ → Option Room → Option ShelfFault → List DiskStep → Type 0
+IsPutInto name folder text None fault steps = (fault ≡ Some Write) × (steps ≡ [])
+IsPutInto name folder text (Some room) fault steps = IsPut name folder text room fault steps
+
+-- ---- one call
+
+-- a disk with a shelf at a moment: what the disk was asked so far, where it tells; the tape's name; and the room for it, where there is some
+pub record ShelfDisk : Type 0 where
+  pub asked : Option (List DiskStep)
+  pub name : List ℕ
+  pub room : Option Room
+
+-- from one moment to another the disk, where the shelf is on one, was asked for steps of which this holds
+abbrev pub ShelfAsked : Option ShelfDisk → Option ShelfDisk → (ShelfDisk → ShelfDisk → List DiskStep → Type 0) → Type 0
+ShelfAsked None after P = ⊤
+ShelfAsked (Some disk) None P = ⊥
+ShelfAsked (Some disk) (Some disk') P = HasAsked disk.asked disk'.asked (P disk disk')
+
+-- the room of so many bytes was taken, in this folder, in a file beside, to which nothing was written since it is filled, where the disk tells
+pub record HasRoom (folder : List ℕ) (length : ℕ) (disk disk' : ShelfDisk) (steps : List DiskStep) : Type 0 where
+  pub folder_of : IsFolderOf disk.name folder
+  pub filled : Option (List ℕ)
+  pub taken : OnSome disk'.asked (filled ≡ Some (replicate length 0))
+  pub reserved : IsReserved disk.name folder filled steps
+  pub written : Option (List ℕ)
+  pub room : disk'.room ≡ Some (record { name = part_name disk.name; written = written; length = 0; kept = false })
+  pub fresh : OnSome disk'.asked (written ≡ Some [])
+  pub name : disk'.name ≡ disk.name
+
+-- there is none, for this reason, and what room there was is as it was
+pub record HasNoRoom (fault : ShelfFault) (disk disk' : ShelfDisk) (steps : List DiskStep) : Type 0 where
+  pub refused : IsNotReserved disk.name fault steps
+  pub room : disk'.room ≡ disk.room
+  pub name : disk'.name ≡ disk.name
+
+-- a file beside that was left there is gone on with, in this folder: nothing was written to it yet. It stays, where there is a block in it
+pub record HasPart (folder numbers : List ℕ) (disk disk' : ShelfDisk) (steps : List DiskStep) : Type 0 where
+  pub folder_of : IsFolderOf disk.name folder
+  pub held : Option (List ℕ)
+  pub untouched : OnSome disk'.asked (held ≡ Some [])
+  pub resumed : steps ≡ resuming (part_name disk.name) folder held
+  pub written : Option (List ℕ)
+  pub kept : Bool
+  pub stays : kept ≡ false → numbers ≡ []
+  pub room : disk'.room ≡ Some (record { name = part_name disk.name; written = written; length = 0; kept = kept })
+  pub fresh : OnSome disk'.asked (written ≡ Some [])
+  pub name : disk'.name ≡ disk.name
+
+-- it is not: each file is left as it is, and what room there was is as it was
+pub record HasNoPart (disk disk' : ShelfDisk) (steps : List DiskStep) : Type 0 where
+  pub idle : LeaveAll steps
+  pub room : disk'.room ≡ disk.room
+  pub name : disk'.name ≡ disk.name
+
+-- a text was added to the file beside, and is on the disk
+pub record IsAdded (text : List ℕ) (disk disk' : ShelfDisk) (steps : List DiskStep) : Type 0 where
+  pub before : Room
+  pub had : disk.room ≡ Some before
+  pub written : Option (List ℕ)
+  pub appends : Appends before.written written text
+  pub synced : steps ≡ Did (SyncFile written) ∷ []
+  pub room : disk'.room ≡ Some (record { name = before.name; written = written; length = before.length + length text; kept = true })
+  pub name : disk'.name ≡ disk.name
+
+-- it could not be written; or not be brought to the disk, and then it counts as one that is there; or there is no room
+pub data IsUnadded : Option Room → Option Room → List DiskStep → Type 0 where
+  NoFile : IsUnadded None None []
+  Unwritten : (room : Room) (written : Option (List ℕ)) → IsUnadded (Some room) (Some (record room { written = written })) []
+  Unsure : (room : Room) (written : Option (List ℕ)) (size : ℕ)
+      → IsUnadded (Some room) (Some (record { name = room.name; written = written; length = size; kept = true })) (Failed (SyncFile written) ∷ [])
+
+-- a text was not added
+pub record IsNotAdded (disk disk' : ShelfDisk) (steps : List DiskStep) : Type 0 where
+  pub unadded : IsUnadded disk.room disk'.room steps
+  pub name : disk'.name ≡ disk.name
+
+-- a tape was given its name, or not, and there is no room any more
+pub record IsPutOn (folder text : List ℕ) (fault : Option ShelfFault) (disk disk' : ShelfDisk) (steps : List DiskStep) : Type 0 where
+  pub put : IsPutInto disk.name folder text disk.room fault steps
+  pub room : disk'.room ≡ None
+  pub name : disk'.name ≡ disk.name

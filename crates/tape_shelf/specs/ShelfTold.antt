@@ -1,0 +1,45 @@
+-- What a shelf tells of the steps that were done on it, and what each of them asks of its disk.
+use Rattle.std.specs.Prelude.{◌≡◌, ℕ, List, [], ◌∷◌, Option, Some, None}
+use Rattle.load_devices.specs.Told.{Gains}
+use Rattle.record_file.specs.DiskStep.{DiskStep}
+use Rattle.tape_shelf.specs.Shelf.{ShelfStep, Reserve, NotReserved, Resume, NotResumed, Add, NotAdded, Put, NotPut}
+use Rattle.tape_shelf.specs.ShelfDisk.{ShelfDisk, ShelfAsked, HasRoom, HasNoRoom, HasPart, HasNoPart, IsAdded, IsNotAdded, IsPutOn}
+
+-- what was asked of it so far, in its order; None where its type doesn't tell. And the disk on which its tape goes; None where it goes on none,
+-- or the type doesn't say
+pub record ShelfTold : Type 0 where
+  pub steps : Option (List ShelfStep)
+  pub disk : Option ShelfDisk
+
+-- a shelf that tells nothing
+abbrev pub untold_shelf : ShelfTold
+untold_shelf = record { steps = None; disk = None }
+
+-- what a step asks of the disk, where the folder of the tape has this name
+abbrev pub AsksFor : List ℕ → ShelfStep → ShelfDisk → ShelfDisk → List DiskStep → Type 0
+AsksFor folder (Reserve length) = HasRoom folder length
+AsksFor folder (NotReserved length fault) = HasNoRoom fault
+AsksFor folder (Resume numbers) = HasPart folder numbers
+AsksFor folder (NotResumed fault) = HasNoPart
+AsksFor folder (Add text) = IsAdded text
+AsksFor folder (NotAdded text) = IsNotAdded
+AsksFor folder (Put text) = IsPutOn folder text None
+AsksFor folder (NotPut text fault) = IsPutOn folder text (Some fault)
+
+-- a step was done on a shelf
+abbrev pub IsDone : List ℕ → ShelfStep → ShelfTold → ShelfTold → Type 0
+IsDone folder step before after = Gains before.steps after.steps (step ∷ []) × ShelfAsked before.disk after.disk (AsksFor folder step)
+
+-- steps were done on it, one after another
+abbrev pub AreDone : List ℕ → List ShelfStep → ShelfTold → ShelfTold → Type 0
+AreDone folder [] before after = after ≡ before
+AreDone folder (step ∷ more) before after = (between : ShelfTold) × IsDone folder step before between × AreDone folder more between after
+
+-- they were done in one folder
+abbrev pub HasDone : List ShelfStep → ShelfTold → ShelfTold → Type 0
+HasDone steps before after = (folder : List ℕ) × AreDone folder steps before after
+
+-- wherever some steps had been done before, others have been by now, in the same folder, of whose name this is known
+abbrev pub GoesOnTo : (List ℕ → Type 0) → (List ℕ → Type 0) → List ShelfStep → List ShelfStep → ShelfTold → ShelfTold → Type 0
+GoesOnTo known known' steps steps' told told' =
+    (folder : List ℕ) (first : ShelfTold) → known folder → AreDone folder steps first told → known' folder × AreDone folder steps' first told'

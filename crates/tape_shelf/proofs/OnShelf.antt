@@ -12,7 +12,7 @@ use Rattle.record_file.specs.Folder.{IsFolderOf}
 use Rattle.record_file.specs.declared.disk.Access.TheVariants.{ReadOnly, ReadWrite}
 use Rattle.load_devices.proofs.Told.{tells_join, tells_none}
 use Rattle.tape_shelf.specs.Room.{room_of, IsFolderOpened}
-use Rattle.tape_shelf.specs.ShelfDisk.{Room, ShelfDisk, HasNoPart, HasNoRoom, HasPart, HasRoom, LeaveAll, resuming, IsPutOn, IsPut, Written, IsNoFileName, IsSearch, Free, IsNotReserved, NoRoom, IsReserved, Reserved, IsMakingHeld, IsTaking, IsTakingHeld, Unmade, Taken, NotTaken, IsGone, Goes, IsLeftBehind, IsOnDisk, Synced, IsNaming, Renamed, NotRenamed, IsSettling, IsNamed, Named, Unnamed, IsClosed, part_name, IsAdded, IsNotAdded, IsUnadded, NoFile}
+use Rattle.tape_shelf.specs.ShelfDisk.{Place, Room, ShelfDisk, HasNoPart, HasNoRoom, HasPart, HasRoom, LeaveAll, resuming, IsPutOn, IsPut, Written, IsNoFileName, IsSearch, Free, IsNotReserved, NoRoom, IsReserved, Reserved, IsMakingHeld, IsTaking, IsTakingHeld, Unmade, Taken, NotTaken, IsGone, Goes, IsLeftBehind, IsOnDisk, Synced, IsNaming, Renamed, NotRenamed, IsSettling, IsNamed, Named, Unnamed, IsClosed, part_name, IsAdded, IsNotAdded, IsUnadded, NoFile}
 use Rattle.tape_shelf.specs.Shelf.{add_step, put_step}
 use Rattle.tape_shelf.specs.ShelfTold.{AsksFor}
 use Rattle.tape_shelf.specs.declared.new_file.Part.{Part}
@@ -232,41 +232,41 @@ opened_still opened before part part' folder is same h = subst (λ f. opened f f
 
 -- ---- the tape
 
-pub on_disk : (name name' : List ℕ) (written : Option (List ℕ)) (size : ℕ) (found : Bool) (a b c : Option (List DiskStep)) → name ≡ name'
-    → Tells a b (Did (Cut written size) ∷ Did (SyncFile written) ∷ []) → Tells b c (step_by (FindFile name written) found ∷ []) → HasAsked a c (IsOnDisk name' written size found)
-on_disk name name' written size found a b c is synced looked = subst (λ n. HasAsked a c (IsOnDisk n written size found)) is (
-  Did (Cut written size) ∷ Did (SyncFile written) ∷ step_by (FindFile name written) found ∷ [],
-  tells_join a b c (Did (Cut written size) ∷ Did (SyncFile written) ∷ []) (step_by (FindFile name written) found ∷ []) synced looked,
+pub on_disk : (room : Room) (name : List ℕ) (found : Bool) (a b c : Option (List DiskStep)) → name ≡ room.name
+    → Tells a b (Did (Cut room.written room.length) ∷ Did (SyncFile room.written) ∷ []) → Tells b c (step_by (FindFile name room.written) found ∷ []) → HasAsked a c (IsOnDisk room found)
+on_disk room name found a b c is synced looked = (
+  Did (Cut room.written room.length) ∷ Did (SyncFile room.written) ∷ step_by (FindFile room.name room.written) found ∷ [],
+  tells_join a b c (Did (Cut room.written room.length) ∷ Did (SyncFile room.written) ∷ []) (step_by (FindFile room.name room.written) found ∷ []) synced
+      (subst (λ n. Tells b c (step_by (FindFile n room.written) found ∷ [])) is looked),
   Synced found,
 )
 
-pub not_named : (own own' folder name : List ℕ) (written : Option (List ℕ)) (size : ℕ) (fault : ShelfFault) (a b c : Option (List DiskStep)) → own' ≡ own
-    → HasAsked a b (IsOnDisk own written size true) → HasAsked b c (IsNaming own' name (Some fault)) → HasAsked a c (IsNamed own folder name written size (Some fault))
-not_named own own' folder name written size fault a b c is disk naming = (
+pub not_named : (place : Place) (room : Room) (own : List ℕ) (fault : ShelfFault) (a b c : Option (List DiskStep)) → own ≡ room.name
+    → HasAsked a b (IsOnDisk room true) → HasAsked b c (IsNaming own place.name (Some fault)) → HasAsked a c (IsNamed place room (Some fault))
+not_named place room own fault a b c is disk naming = (
   disk.0 ++ naming.0,
   tells_join a b c disk.0 naming.0 disk.1 naming.1,
-  Unnamed fault disk.0 naming.0 disk.2 (subst (λ n. IsNaming n name (Some fault) naming.0) is naming.2),
+  Unnamed fault disk.0 naming.0 disk.2 (subst (λ n. IsNaming n place.name (Some fault) naming.0) is naming.2),
 )
 
-pub named : (own own' folder name : List ℕ) (written : Option (List ℕ)) (size : ℕ) (fault : Option ShelfFault) (a b c d : Option (List DiskStep)) → own' ≡ own
-    → HasAsked a b (IsOnDisk own written size true) → HasAsked b c (IsNaming own' name None) → HasAsked c d (IsSettling own folder name written fault)
-    → HasAsked a d (IsNamed own folder name written size fault)
-named own own' folder name written size fault a b c d is disk naming settling = (
+pub named : (place : Place) (room : Room) (own : List ℕ) (fault : Option ShelfFault) (a b c d : Option (List DiskStep)) → own ≡ room.name
+    → HasAsked a b (IsOnDisk room true) → HasAsked b c (IsNaming own place.name None) → HasAsked c d (IsSettling place room fault) → HasAsked a d (IsNamed place room fault)
+named place room own fault a b c d is disk naming settling = (
   disk.0 ++ (naming.0 ++ settling.0),
   tells_join a b d disk.0 (naming.0 ++ settling.0) disk.1 (tells_join b c d naming.0 settling.0 naming.1 settling.1),
-  Named fault disk.0 naming.0 settling.0 disk.2 (subst (λ n. IsNaming n name None naming.0) is naming.2) settling.2,
+  Named fault disk.0 naming.0 settling.0 disk.2 (subst (λ n. IsNaming n place.name None naming.0) is naming.2) settling.2,
 )
 
-pub put_written : (name folder text own : List ℕ) (before written : Option (List ℕ)) (size all : ℕ) (kept : Bool) (fault : Option ShelfFault) (a b : Option (List DiskStep))
-    → Appends before written text → all ≡ size + length text → HasAsked a b (IsNamed own folder name written all fault)
-    → HasAsked a b (IsPut name folder text (record { name = own; written = before; length = size; kept = kept }) fault)
-put_written name folder text own before written size all kept fault a b appends is naming =
-    (naming.0, naming.1, Written written fault naming.0 appends (subst (λ n. IsNamed own folder name written n fault naming.0) is naming.2))
+pub put_written : (place : Place) (text : List ℕ) (room : Room) (written : Option (List ℕ)) (all : ℕ) (fault : Option ShelfFault) (a b : Option (List DiskStep))
+    → Appends room.written written text → all ≡ room.length + length text → HasAsked a b (IsNamed place (record room { written = written; length = all }) fault)
+    → HasAsked a b (IsPut place text room fault)
+put_written place text room written all fault a b appends is naming =
+    (naming.0, naming.1, Written written fault naming.0 appends (subst (λ n. IsNamed place (record room { written = written; length = n }) fault naming.0) is naming.2))
 
 -- what holds of the room that there is
 pub in_room : {T : Type 0} (opened : T → List ℕ → Type 0) (contents : T → Option (List ℕ)) (name text folder : List ℕ) (fault : Option ShelfFault) (before : Option (Part T))
     (part : Part T) (after : Option (Part T)) (a b : Option (List DiskStep)) → Some part ≡ before → after ≡ None
-    → ((dir : List ℕ) → opened part.folder dir → HasAsked a b (IsPut name dir text (room_of contents part) fault)) → IsFolderOpened opened before folder
+    → ((dir : List ℕ) → opened part.folder dir → HasAsked a b (IsPut (record { folder = dir; name = name }) text (room_of contents part) fault)) → IsFolderOpened opened before folder
     → HasAsked a b (IsPutOn folder text fault (record { asked = a; name = name; room = option_map (room_of contents) before })
     (record { asked = b; name = name; room = option_map (room_of contents) after }))
 in_room opened contents name text folder fault before part after a b is none put = subst

@@ -118,11 +118,17 @@ IsClosed (Some room) steps = IsLeftBehind room.kept room.name room.written steps
 
 -- ---- the tape
 
--- a file is cut at this length, and brought to the disk, and then its name is still its own
-pub data IsOnDisk (name : List ℕ) (written : Option (List ℕ)) (length : ℕ) : Bool → List DiskStep → Type 0 where
-  Synced : (found : Bool) → IsOnDisk name written length found (Did (Cut written length) ∷ Did (SyncFile written) ∷ step_by (FindFile name written) found ∷ [])
-  Unsynced : IsOnDisk name written length false (Did (Cut written length) ∷ Failed (SyncFile written) ∷ [])
-  Uncut : IsOnDisk name written length false (Failed (Cut written length) ∷ [])
+-- where a tape is to go: its name, and the folder of that
+pub record Place : Type 0 where
+  pub folder : List ℕ
+  pub name : List ℕ
+
+-- the file beside is cut behind what was written to it, and brought to the disk, and then its name is still its own
+pub data IsOnDisk (room : Room) : Bool → List DiskStep → Type 0 where
+  Synced : (found : Bool)
+      → IsOnDisk room found (Did (Cut room.written room.length) ∷ Did (SyncFile room.written) ∷ step_by (FindFile room.name room.written) found ∷ [])
+  Unsynced : IsOnDisk room false (Did (Cut room.written room.length) ∷ Failed (SyncFile room.written) ∷ [])
+  Uncut : IsOnDisk room false (Failed (Cut room.written room.length) ∷ [])
 
 -- a file is given a second name, which no system does where something has it; where that can't be, it is renamed, once nothing was found to
 -- have the name
@@ -140,32 +146,31 @@ pub data IsTakenBack (own name : List ℕ) (written : Option (List ℕ)) : List 
   RenamedBack : (done : Bool) → IsTakenBack own name written (Failed (FindFile own written) ∷ step_by (Rename name own) done ∷ [])
 
 -- the folder is brought to the disk, and then the file's own name goes; where that fails, the new name goes again
-pub data IsSettling (own folder name : List ℕ) (written : Option (List ℕ)) : Option ShelfFault → List DiskStep → Type 0 where
-  Settled : (going : List DiskStep) → IsGone own written going → IsSettling own folder name written None (Did (SyncFolder folder) ∷ going)
-  Unsettled : (taking : List DiskStep) → IsTakenBack own name written taking
-      → IsSettling own folder name written (Some Write) (Failed (SyncFolder folder) ∷ taking)
+pub data IsSettling (place : Place) (room : Room) : Option ShelfFault → List DiskStep → Type 0 where
+  Settled : (going : List DiskStep) → IsGone room.name room.written going → IsSettling place room None (Did (SyncFolder place.folder) ∷ going)
+  Unsettled : (taking : List DiskStep) → IsTakenBack room.name place.name room.written taking
+      → IsSettling place room (Some Write) (Failed (SyncFolder place.folder) ∷ taking)
 
--- a file is on the disk before it gets its name, and then that is, too. Where it does not get it, it keeps its own
-pub data IsNamed (own folder name : List ℕ) (written : Option (List ℕ)) (length : ℕ) : Option ShelfFault → List DiskStep → Type 0 where
-  NotOnDisk : (syncing : List DiskStep) → IsOnDisk own written length false syncing → IsNamed own folder name written length (Some Write) syncing
-  Unnamed : (fault : ShelfFault) (syncing naming : List DiskStep) → IsOnDisk own written length true syncing → IsNaming own name (Some fault) naming
-      → IsNamed own folder name written length (Some fault) (syncing ++ naming)
-  Named : (fault : Option ShelfFault) (syncing naming settling : List DiskStep) → IsOnDisk own written length true syncing
-      → IsNaming own name None naming → IsSettling own folder name written fault settling
-      → IsNamed own folder name written length fault (syncing ++ (naming ++ settling))
+-- the file beside is on the disk before it gets its name, and then that is, too. Where it does not get it, it keeps its own
+pub data IsNamed (place : Place) (room : Room) : Option ShelfFault → List DiskStep → Type 0 where
+  NotOnDisk : (syncing : List DiskStep) → IsOnDisk room false syncing → IsNamed place room (Some Write) syncing
+  Unnamed : (fault : ShelfFault) (syncing naming : List DiskStep) → IsOnDisk room true syncing → IsNaming room.name place.name (Some fault) naming
+      → IsNamed place room (Some fault) (syncing ++ naming)
+  Named : (fault : Option ShelfFault) (syncing naming settling : List DiskStep) → IsOnDisk room true syncing
+      → IsNaming room.name place.name None naming → IsSettling place room fault settling → IsNamed place room fault (syncing ++ (naming ++ settling))
 
 -- the last text was written to the file beside, and that gets the tape's name, with all that was written to it and no byte more; or it can't be
 -- written
-pub data IsPut (name folder text : List ℕ) (room : Room) : Option ShelfFault → List DiskStep → Type 0 where
+pub data IsPut (place : Place) (text : List ℕ) (room : Room) : Option ShelfFault → List DiskStep → Type 0 where
   NotWritten : (written : Option (List ℕ)) (leaving : List DiskStep) → IsLeftBehind room.kept room.name written leaving
-      → IsPut name folder text room (Some Write) leaving
+      → IsPut place text room (Some Write) leaving
   Written : (written : Option (List ℕ)) (fault : Option ShelfFault) (naming : List DiskStep) → Appends room.written written text
-      → IsNamed room.name folder name written (room.length + length text) fault naming → IsPut name folder text room fault naming
+      → IsNamed place (record room { written = written; length = room.length + length text }) fault naming → IsPut place text room fault naming
 
 -- without room nothing is asked
-abbrev pub IsPutInto : List ℕ → List ℕ → List ℕ → Option Room → Option ShelfFault → List DiskStep → Type 0
-IsPutInto name folder text None fault steps = (fault ≡ Some Write) × (steps ≡ [])
-IsPutInto name folder text (Some room) fault steps = IsPut name folder text room fault steps
+abbrev pub IsPutInto : Place → List ℕ → Option Room → Option ShelfFault → List DiskStep → Type 0
+IsPutInto place text None fault steps = (fault ≡ Some Write) × (steps ≡ [])
+IsPutInto place text (Some room) fault steps = IsPut place text room fault steps
 
 -- ---- one call
 
@@ -241,6 +246,6 @@ pub record IsNotAdded (disk disk' : ShelfDisk) (steps : List DiskStep) : Type 0 
 
 -- a tape was given its name, or not, and there is no room any more
 pub record IsPutOn (folder text : List ℕ) (fault : Option ShelfFault) (disk disk' : ShelfDisk) (steps : List DiskStep) : Type 0 where
-  pub put : IsPutInto disk.name folder text disk.room fault steps
+  pub put : IsPutInto (record { folder = folder; name = disk.name }) text disk.room fault steps
   pub room : disk'.room ≡ None
   pub name : disk'.name ≡ disk.name

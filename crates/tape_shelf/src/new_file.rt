@@ -10,7 +10,7 @@ ghost use Rattle.record_file.specs.Folder.{IsFolderOf};
 ghost use Rattle.tape_shelf.specs.Room.{IsFolderOpened, room_of};
 ghost use Rattle.tape_shelf.specs.Shelf.{IsPutFault};
 ghost use Rattle.tape_shelf.specs.ShelfDisk.{part_name, IsReserved, IsNotReserved, IsNoFileName, IsSearch, IsMakingHeld, IsTaking, IsTakingHeld};
-ghost use Rattle.tape_shelf.specs.ShelfDisk.{IsClosed, IsGone, IsLeftBehind, IsNamed, IsNaming, IsOnDisk, IsPut, IsSettling, IsTakenBack, IsUnadded};
+ghost use Rattle.tape_shelf.specs.ShelfDisk.{Place, IsClosed, IsGone, IsLeftBehind, IsNamed, IsNaming, IsOnDisk, IsPut, IsSettling, IsTakenBack, IsUnadded};
 
 use crate::left_part::take_left;
 use crate::shelf::{Shelf, ShelfFault};
@@ -296,7 +296,8 @@ fn put_into<D: Disk>(
 ) -> Result<(), ShelfFault>
     ensures fault { IfErr result IsPutFault }
     ensures asked { (folder : List ℕ) → D.is_opened_as part.folder folder
-        → HasAsked (D.asked disk.old) (D.asked disk.new) (IsPut name.now folder text.now (room_of D.File.contents part) (fault_of result)) }
+        → HasAsked (D.asked disk.old) (D.asked disk.new)
+        (IsPut (record { folder = folder; name = name.now }) text.now (room_of D.File.contents part) (fault_of result)) }
 {
     let Some(length) = part.length.checked_add(text.len() as u64) else {
         leave(disk, &part);
@@ -306,22 +307,18 @@ fn put_into<D: Disk>(
         leave(disk, &part);
         return Err(ShelfFault::Write);
     }
-    name_written(disk, &part, name, length)
+    part.length = length;
+    name_written(disk, &part, name)
 }
 
-// Brings the file beside to the disk, which has so many bytes, and then gives it its name.
-fn name_written<D: Disk>(
-    disk: &mut D,
-    part: &Part<D::File>,
-    name: &str,
-    length: u64,
-) -> Result<(), ShelfFault>
+// Brings the file beside to the disk, and then gives it its name.
+fn name_written<D: Disk>(disk: &mut D, part: &Part<D::File>, name: &str) -> Result<(), ShelfFault>
     ensures fault { IfErr result IsPutFault }
     ensures asked { (folder : List ℕ) → D.is_opened_as part.now.folder folder
         → HasAsked (D.asked disk.old) (D.asked disk.new)
-        (IsNamed (string_bytes part.now.name) folder name.now (D.File.contents part.now.file) length (fault_of result)) }
+        (IsNamed (record { folder = folder; name = name.now }) (room_of D.File.contents part.now) (fault_of result)) }
 {
-    if !is_on_disk(disk, part, length) {
+    if !is_on_disk(disk, part) {
         return Err(ShelfFault::Write);
     }
     match give_name(disk, part.name.as_str(), name) {
@@ -330,13 +327,12 @@ fn name_written<D: Disk>(
     }
 }
 
-// Cuts the file beside at this length, and brings it to the disk. False where that fails, or somebody has
-// taken its name.
-fn is_on_disk<D: Disk>(disk: &mut D, part: &Part<D::File>, length: u64) -> bool
-    ensures asked { HasAsked (D.asked disk.old) (D.asked disk.new)
-        (IsOnDisk (string_bytes part.now.name) (D.File.contents part.now.file) length result) }
+// Cuts the file beside behind what was written to it, and brings it to the disk. False where that fails, or
+// somebody has taken its name.
+fn is_on_disk<D: Disk>(disk: &mut D, part: &Part<D::File>) -> bool
+    ensures asked { HasAsked (D.asked disk.old) (D.asked disk.new) (IsOnDisk (room_of D.File.contents part.now) result) }
 {
-    if disk.cut(&part.file, length).is_err() {
+    if disk.cut(&part.file, part.length).is_err() {
         return false;
     }
     if disk.sync_file(&part.file).is_err() {
@@ -350,7 +346,7 @@ fn settle<D: Disk>(disk: &mut D, part: &Part<D::File>, name: &str) -> Result<(),
     ensures fault { IfErr result IsPutFault }
     ensures asked { (folder : List ℕ) → D.is_opened_as part.now.folder folder
         → HasAsked (D.asked disk.old) (D.asked disk.new)
-        (IsSettling (string_bytes part.now.name) folder name.now (D.File.contents part.now.file) (fault_of result)) }
+        (IsSettling (record { folder = folder; name = name.now }) (room_of D.File.contents part.now) (fault_of result)) }
 {
     match disk.sync_folder(&part.folder) {
         Ok(()) => {

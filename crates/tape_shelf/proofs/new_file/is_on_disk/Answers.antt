@@ -1,5 +1,6 @@
 use Rattle.load_devices.proofs.Told.{tells_join}
 use Rattle.record_file.proofs.Asking.{asked_one, tells_failed, tells_done}
+use Rattle.tape_shelf.specs.Room.{room_of}
 use Rattle.tape_shelf.specs.ShelfDisk.{Uncut, Unsynced}
 use Rattle.tape_shelf.proofs.OnShelf.{on_disk}
 use Rattle.tape_shelf.proofs.new_file.is_on_disk.Goals as goal
@@ -16,4 +17,4 @@ pub returns : goal.returns
 returns g c =
     let was_cut = tells_done _ _ _ c.cut.result c.cut.ensures.asked c.if-is_err.ensures.value in
     let synced = tells_done _ _ _ c.sync_file.result c.sync_file.ensures.asked c.if-is_err-2.ensures.value in
-    record { asked = on_disk _ _ _ _ _ _ _ _ c.as_str.ensures.value (tells_join _ _ _ _ _ was_cut synced) c.has_name.ensures.asked }
+    record { asked = on_disk (room_of g.D.File.Write.contents c.args.part.now) _ _ _ _ _ c.as_str.ensures.value (tells_join _ _ _ _ _ was_cut synced) c.has_name.ensures.asked }

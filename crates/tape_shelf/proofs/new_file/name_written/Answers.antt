@@ -7,7 +7,7 @@ returns-then-not-is_on_disk-clause-asked g c folder opened = let disk = c.if-not
 
 pub returns-in-Ok-clause-asked : goal.returns-in-Ok-clause-asked
 returns-in-Ok-clause-asked g c folder opened =
-    named _ _ _ _ _ _ _ _ _ _ _ c.as_str.ensures.value c.if-not-is_on_disk.ensures.asked c.in-Ok.ensures.asked (c.settle.ensures.asked folder opened)
+    named _ _ _ _ _ _ _ _ c.as_str.ensures.value c.if-not-is_on_disk.ensures.asked c.in-Ok.ensures.asked (c.settle.ensures.asked folder opened)
 
 pub returns-in-Err-clause-asked : goal.returns-in-Err-clause-asked
-returns-in-Err-clause-asked g c folder opened = not_named _ _ _ _ _ _ _ _ _ _ c.as_str.ensures.value c.if-not-is_on_disk.ensures.asked c.in-Err.ensures.asked
+returns-in-Err-clause-asked g c folder opened = not_named _ _ _ _ _ _ _ c.as_str.ensures.value c.if-not-is_on_disk.ensures.asked c.in-Err.ensures.asked

@@ -49,7 +49,7 @@ drop_front zero xs ys le = refl
 drop_front (suc k) [] ys le = absurd (omega arith)
 drop_front (suc k) (x ∷ xs) ys le = drop_front k xs ys (omega arith)
 
-take_front : (k : ℕ) (xs ys : List ℕ) → k ≤ length xs → take k (xs ++ ys) ≡ take k xs
+pub take_front : (k : ℕ) (xs ys : List ℕ) → k ≤ length xs → take k (xs ++ ys) ≡ take k xs
 take_front zero xs ys le = refl
 take_front (suc k) [] ys le = absurd (omega arith)
 take_front (suc k) (x ∷ xs) ys le = ap (λ l. x ∷ l) (take_front k xs ys (omega arith))

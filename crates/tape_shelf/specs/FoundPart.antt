@@ -1,11 +1,12 @@
 -- What an earlier save of the same words left, and what is found in it (this project's own).
-use Rattle.std.specs.Prelude.{◌≡◌, ◌⊎◌, ℕ, ◌+◌, ◌*◌, ◌<◌, ◌≤◌, All, List, ◌++◌, length, get_or}
-use Rattle.tape_values.specs.Block.{data_block}
+use Rattle.std.specs.Prelude.{◌≡◌, ◌⊎◌, ℕ, ◌+◌, ◌*◌, ◌<◌, ◌≤◌, All, List, ◌++◌, length, take, drop, get_or}
+use Rattle.std.specs.List.{flat_map}
+use Rattle.tape_values.specs.Block.{block_at, data_block, low_first}
 use Rattle.request_values.specs.declared.range.AddressRange.{AddressRange}
 use Rattle.tape_shelf.specs.declared.shelf.ShelfFault.{ShelfFault}
 use Rattle.tape_shelf.specs.declared.shelf.ShelfFault.TheVariants.{NotOfSave, Memory}
 use Rattle.tape_shelf.specs.SavedSteps.{adds, full}
-use Rattle.tape_shelf.specs.SavedTape.{block_words, room_for, saved_block, words_in}
+use Rattle.tape_shelf.specs.SavedTape.{block_words, room_for, words_in}
 use Rattle.tape_shelf.specs.Shelf.{written}
 
 -- numbers that fill blocks of a range, from its first word on, and leave none that is shorter
@@ -30,10 +31,24 @@ IsPartOf range text = (length text ≡ room_for range) × (IsBlank text ⊎ Begi
 abbrev pub BeginsWith : ℕ → List ℕ → List ℕ → Type 0
 BeginsWith from numbers text = (behind : List ℕ) × (text ≡ written (adds from numbers (full numbers)) ++ behind)
 
--- numbers are found in a text: it begins with the blocks that they fill
+-- numbers make a complete block whose first byte is for this address, and this is its text
+pub record MakeBlock (address : ℕ) (numbers block : List ℕ) : Type 0 where
+  pub whole : length numbers ≡ block_words
+  pub text : block ≡ data_block (block_at address (flat_map low_first numbers))
+
+-- a text is that of a complete block for this address
+abbrev pub IsCompleteBlock : ℕ → List ℕ → Type 0
+IsCompleteBlock address text = (numbers : List ℕ) × MakeBlock address numbers text
+
+-- a text has a complete block of a range, of this number, from 0 on: 519 bytes behind those of so many others
+abbrev pub HasBlock : AddressRange → List ℕ → ℕ → Type 0
+HasBlock range text n = (block_words * n + block_words ≤ words_in range) × IsCompleteBlock (range.from + 2 * block_words * n) (take 519 (drop (519 * n) text))
+
+-- numbers are found in a text: it begins with the blocks that they fill, and no complete one comes behind these
 pub record AreFoundIn (range : AddressRange) (text numbers : List ℕ) : Type 0 where
   pub fill : FillBlocks range numbers
   pub begins : BeginsWith range.from numbers text
+  pub all : HasBlock range text (full numbers) → ⊥
 
 -- nothing is found: the text is no part of such a save, or memory was wanting
 abbrev pub IsFindingFault : AddressRange → List ℕ → ShelfFault → Type 0
@@ -41,7 +56,6 @@ IsFindingFault range text NotOfSave = IsPartOf range text → ⊥
 IsFindingFault range text Memory = IsPartOf range text
 IsFindingFault range text other = ⊥
 
--- 256 numbers more, which make the block of this number, and this is its text
-abbrev pub IsOneMore : ℕ → ℕ → List ℕ → List ℕ → List ℕ → Type 0
-IsOneMore from number before block after =
-    (these : List ℕ) × (length these ≡ block_words) × (after ≡ before ++ these) × (block ≡ data_block (saved_block from after number))
+-- the numbers that make a block for this address stand behind others
+abbrev pub IsOneMore : ℕ → List ℕ → List ℕ → List ℕ → Type 0
+IsOneMore address before block after = (these : List ℕ) × MakeBlock address these block × (after ≡ before ++ these)

@@ -1,7 +1,8 @@
 //! What is found in the file that an earlier save of the same words left.
 ghost use Rattle.std.specs.Prelude.{◌≡◌, ◌+◌, ◌*◌, ◌<◌, ◌≤◌, ◌↔◌, ◌++◌, All, List, ℕ, [], false, true, length, IfErr, IfOk, IsTrue, OnOk};
-ghost use Rattle.tape_values.specs.Block.{top};
-ghost use Rattle.tape_shelf.specs.FoundPart.{AreFoundIn, BeginsAt, IsBlank, IsFindingFault, IsOneMore, IsPartOf};
+ghost use Rattle.std.specs.List.{flat_map};
+ghost use Rattle.tape_values.specs.Block.{low_first, top};
+ghost use Rattle.tape_shelf.specs.FoundPart.{AreFoundIn, BeginsAt, IsBlank, IsFindingFault, IsCompleteBlock, IsOneMore, IsPartOf};
 ghost use Rattle.tape_shelf.specs.SavedTape.{room_for};
 
 use crate::saved_tape::{BLOCK_WORDS, block_text, tape_room, words_of};
@@ -108,7 +109,8 @@ fn push_block(
     requires small { All (λ n. n < 65536) numbers.old.items }
     ensures small { OnOk result (All (λ n. n < 65536) numbers.new.items) }
     ensures kept { IfOk result (λ complete. complete ≡ false → numbers.new.items ≡ numbers.old.items) }
-    ensures more { IfOk result (λ complete. complete ≡ true → IsOneMore from number numbers.old.items block.now numbers.new.items) }
+    ensures more { IfOk result (λ complete. complete ≡ true → IsOneMore (from + 512 * number) numbers.old.items block.now numbers.new.items) }
+    ensures none { IfOk result (λ complete. complete ≡ false → IsCompleteBlock (from + 512 * number) block.now → ⊥) }
 {
     let before = numbers.len();
     push_words(numbers, &block[HEAD..HEAD + 2 * BLOCK_WORDS])?;
@@ -125,7 +127,7 @@ fn push_words(words: &mut Vec<u16>, bytes: &[u8]) -> Result<(), AllocError>
     requires length { length bytes.now ≡ 512 }
     requires small { All (λ n. n < 65536) words.old.items }
     ensures small { OnOk result (All (λ n. n < 65536) words.new.items) }
-    ensures more { OnOk result ((these : List ℕ) × (length these ≡ 256) × (words.new.items ≡ words.old.items ++ these)) }
+    ensures more { OnOk result ((these : List ℕ) × (flat_map low_first these ≡ bytes.now) × (words.new.items ≡ words.old.items ++ these)) }
 {
     for word in 0..BLOCK_WORDS {
         let (low, high) = (bytes[2 * word], bytes[2 * word + 1]);

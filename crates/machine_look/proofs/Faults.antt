@@ -9,10 +9,11 @@ use Rattle.machine_look.specs.declared.saving.SaveOptions.{SaveOptions}
 use Rattle.tape_shelf.specs.declared.shelf.ShelfFault.{ShelfFault}
 use Rattle.tape_shelf.specs.declared.shelf.ShelfFault.TheVariants as why
 use Rattle.machine_look.specs.LookFault.{IsKeepFault, IsReadFault, IsSaveFault, IsSaveNotBegun, TakesUpNothing, fault_of_shelf}
-use Rattle.machine_look.specs.Save.{IsSaveRead, SaveTold, TakesUp, console_of, numbers_of}
+use Rattle.machine_look.specs.Save.{IsSaveRead, SaveTold, Saving, TakesUp, console_of, numbers_of}
 use Rattle.tape_shelf.specs.SavedSteps.{adds, closes, full, puts}
 use Rattle.tape_shelf.specs.SavedTape.{last_text}
 use Rattle.tape_shelf.specs.Shelf.{ShelfStep, Put, NotPut, put_step, IsPutFault}
+use Rattle.tape_shelf.specs.ShelfAt.{ShelfAt}
 use Rattle.tape_shelf.specs.ShelfTold.{AreDone, HasDone, IsDone, ShelfTold}
 use Rattle.tape_shelf.proofs.Added.{done_join, done_one}
 
@@ -37,12 +38,13 @@ done_behind : (taking steps : List ShelfStep) (folder : List ℕ) (a b c : Shelf
 done_behind taking steps folder a b c first second = (folder, done_join folder taking steps a b c first second)
 
 -- a reading that comes to nothing
-pub not_read : (options : SaveOptions) (found : List ℕ) (taking : List ShelfStep) (before after : SaveTold) (mid : ShelfTold) (opened : List ℕ → Type 0) (folder : List ℕ) (fault : LookFault)
-    → TakesUp options.range found taking → opened folder → AreDone folder taking before.shelf mid
-    → IsReadFault options found opened mid after.shelf (console_of before) (console_of after) fault → Keeps before.out after.out → IsSaveFault options before after fault
-not_read options found taking before after mid opened folder Connect takes is_open taken fails same = (
+pub not_read : (saving : Saving) (taking : List ShelfStep) (before after : SaveTold) (mid : ShelfAt) (opened : List ℕ → Type 0) (folder : List ℕ) (fault : LookFault)
+    → TakesUp saving.options.range saving.found taking → mid.is_opened_as folder → AreDone folder taking before.shelf mid.told
+    → IsReadFault saving (record { shelf = mid; console = console_of before }) (record { shelf = record { told = after.shelf; is_opened_as = opened }; console = console_of after }) fault
+    → Keeps before.out after.out → IsSaveFault saving.options before after fault
+not_read saving taking before after mid opened folder Connect takes is_open taken fails same = (
   record {
-    found = found;
+    found = saving.found;
     taking = taking;
     taken_up = takes;
     untouched = (folder, subst (λ s. AreDone folder taking before.shelf s) (sym fails.0) taken);
@@ -51,25 +53,25 @@ not_read options found taking before after mid opened folder Connect takes is_op
   },
   fails.1,
 )
-not_read options found taking before after mid opened folder WriteTape takes is_open taken fails same = inr (inl (record {
+not_read saving taking before after mid opened folder WriteTape takes is_open taken fails same = inr (inl (record {
   turns = fails.3;
   few = fails.4;
-  read = record { found = found; taking = taking; taken_up = takes; looks = fails.0; last = fails.1; stop = fails.2; read = fails.5 };
+  read = record { found = saving.found; taking = taking; taken_up = takes; looks = fails.0; last = fails.1; stop = fails.2; read = fails.5 };
   number = fails.6;
   within = fails.7;
-  refused = done_behind taking _ folder before.shelf mid after.shelf taken (fails.8 folder is_open);
+  refused = done_behind taking _ folder before.shelf mid.told after.shelf taken (fails.8 folder is_open);
   nothing_reported = same;
 }))
-not_read options found taking before after mid opened folder other takes is_open taken fails same = absurd fails
+not_read saving taking before after mid opened folder other takes is_open taken fails same = absurd fails
 
 -- a tape that is not closed
-pub not_closed : (options : SaveOptions) (before after : SaveTold) (mid mid' : ShelfTold) (opened : List ℕ → Type 0) (folder : List ℕ) (read : IsSaveRead most_turns options before after) (fault : LookFault)
-    → opened folder → AreDone folder read.taking before.shelf mid → AreDone folder (adds options.range.from (numbers_of read) (full (numbers_of read))) mid mid'
-    → IsKeepFault opened options.range.from (numbers_of read) options.start mid' after.shelf fault → Keeps before.out after.out → IsSaveFault options before after fault
+pub not_closed : (options : SaveOptions) (before after : SaveTold) (mid : ShelfTold) (mid' : ShelfAt) (opened : List ℕ → Type 0) (folder : List ℕ) (read : IsSaveRead most_turns options before after) (fault : LookFault)
+    → mid'.is_opened_as folder → AreDone folder read.taking before.shelf mid → AreDone folder (adds options.range.from (numbers_of read) (full (numbers_of read))) mid mid'.told
+    → IsKeepFault options (numbers_of read) mid' (record { told = after.shelf; is_opened_as = opened }) fault → Keeps before.out after.out → IsSaveFault options before after fault
 not_closed options before after mid mid' opened folder read IsThere is_open taken added fails same =
-    inr (record { read = read; refused = done_behind read.taking _ folder before.shelf mid after.shelf taken (done_join folder (adds options.range.from (numbers_of read) (full (numbers_of read))) _ mid mid' after.shelf added (fails folder is_open)); nothing_reported = same })
+    inr (record { read = read; refused = done_behind read.taking _ folder before.shelf mid after.shelf taken (done_join folder (adds options.range.from (numbers_of read) (full (numbers_of read))) _ mid mid'.told after.shelf added (fails folder is_open)); nothing_reported = same })
 not_closed options before after mid mid' opened folder read WriteTape is_open taken added fails same =
-    inr (inr (record { read = read; refused = done_behind read.taking _ folder before.shelf mid after.shelf taken (done_join folder (adds options.range.from (numbers_of read) (full (numbers_of read))) _ mid mid' after.shelf added (fails folder is_open)); nothing_reported = same }))
+    inr (inr (record { read = read; refused = done_behind read.taking _ folder before.shelf mid after.shelf taken (done_join folder (adds options.range.from (numbers_of read) (full (numbers_of read))) _ mid mid'.told after.shelf added (fails folder is_open)); nothing_reported = same }))
 not_closed options before after mid mid' opened folder read other is_open taken added fails same = absurd fails
 
 -- ---- the last text
@@ -86,13 +88,15 @@ pub closes_long : (from : ℕ) (numbers : List ℕ) (start : ℕ) → 0 < length
 closes_long from [] start some = absurd (omega arith)
 closes_long from (n ∷ numbers) start some = refl
 
-pub not_put : (opened : List ℕ → Type 0) (from : ℕ) (numbers : List ℕ) (start : ℕ) (text : List ℕ) (fault : ShelfFault) (a b : ShelfTold) → text ≡ last_text from numbers start → IsPutFault fault
-    → ((folder : List ℕ) → opened folder → IsDone folder (put_step text (Err fault)) a b) → IsKeepFault opened from numbers start a b (fault_of_shelf fault)
-not_put opened from numbers start text why.IsThere a b is can done = λ folder is_open. subst (λ t. AreDone folder (NotPut t why.IsThere ∷ []) a b) is (done_one folder (NotPut text why.IsThere) a b (done folder is_open))
-not_put opened from numbers start text why.Write a b is can done = λ folder is_open. subst (λ t. AreDone folder (NotPut t why.Write ∷ []) a b) is (done_one folder (NotPut text why.Write) a b (done folder is_open))
-not_put opened from numbers start text why.PartIsThere a b is can done = absurd can
-not_put opened from numbers start text why.NotOfSave a b is can done = absurd can
-not_put opened from numbers start text why.Memory a b is can done = absurd can
+pub not_put : (options : SaveOptions) (numbers text : List ℕ) (fault : ShelfFault) (a b : ShelfAt) → text ≡ last_text options.range.from numbers options.start → IsPutFault fault
+    → ((folder : List ℕ) → a.is_opened_as folder → IsDone folder (put_step text (Err fault)) a.told b.told) → IsKeepFault options numbers a b (fault_of_shelf fault)
+not_put options numbers text why.IsThere a b is can done =
+    λ folder is_open. subst (λ t. AreDone folder (NotPut t why.IsThere ∷ []) a.told b.told) is (done_one folder (NotPut text why.IsThere) a.told b.told (done folder is_open))
+not_put options numbers text why.Write a b is can done =
+    λ folder is_open. subst (λ t. AreDone folder (NotPut t why.Write ∷ []) a.told b.told) is (done_one folder (NotPut text why.Write) a.told b.told (done folder is_open))
+not_put options numbers text why.PartIsThere a b is can done = absurd can
+not_put options numbers text why.NotOfSave a b is can done = absurd can
+not_put options numbers text why.Memory a b is can done = absurd can
 
 -- the steps of a save whose tape has its place
 pub saved_steps : (taking : List ShelfStep) (folder : List ℕ) (from start : ℕ) (numbers : List ℕ) (a b c d : ShelfTold) → AreDone folder taking a b

@@ -9,39 +9,40 @@ use Rattle.machine_look.specs.declared.reading_blocks.Course.{Course}
 use Rattle.machine_look.specs.declared.reading_blocks.Course.TheVariants.{HeldUp as WasHeldUp, Read as WasRead}
 use Rattle.machine_look.specs.declared.save_end.SaveEnd.{SaveEnd}
 use Rattle.machine_look.specs.declared.save_report.SaveCounts.{SaveCounts}
-use Rattle.machine_look.specs.declared.saving.SaveOptions.{SaveOptions}
 use Rattle.machine_look.specs.Course.{HasRoomForCounts, IsConcluded, IsCourse, IsUnclosed}
 use Rattle.tape_shelf.specs.FoundPart.{FillBlocks}
 use Rattle.machine_look.specs.LookFault.{IsSaveFault}
-use Rattle.machine_look.specs.Save.{HeldUp, IsOver, SaveTold, Shelved, TakesUp, console_of, counts_held, counts_read}
+use Rattle.machine_look.specs.Save.{HeldUp, IsOver, SaveTold, Saving, Shelved, TakesUp, console_of, counts_held, counts_read}
 use Rattle.tape_shelf.specs.Shelf.{ShelfStep}
-use Rattle.tape_shelf.specs.ShelfTold.{AreDone, ShelfTold}
+use Rattle.tape_shelf.specs.ShelfAt.{ShelfAt}
+use Rattle.tape_shelf.specs.ShelfTold.{AreDone}
 use Rattle.machine_look.proofs.Faults.{not_closed, saved_steps}
 use Rattle.machine_look.proofs.SavedMemory.{few_numbers, range_low, tape_of}
 
-module _ (options : SaveOptions) (found : List ℕ) (known known' : List ℕ → Type 0) (mid mid' : ShelfTold) where
-  pub room_for_counts : (before after : ConsoleTold) (course : Course) → IsRange options.range.from options.range.to → FillBlocks options.range found → IsCourse options found known known' mid mid' before after course
-      → HasRoomForCounts options found course
+module _ (saving : Saving) (mid mid' : ShelfAt) where
+  pub room_for_counts : (before after : ConsoleTold) (course : Course) → IsRange saving.options.range.from saving.options.range.to → FillBlocks saving.options.range saving.found
+      → IsCourse saving (record { shelf = mid; console = before }) (record { shelf = mid'; console = after }) course → HasRoomForCounts saving.options saving.found course
   room_for_counts before after (WasHeldUp looked) range fill h = tt
   room_for_counts before after (WasRead looks last stop) range fill h =
-      let few = few_numbers options.range found last fill.within h.0.addresses h.0.kept in (
+      let few = few_numbers saving.options.range saving.found last fill.within h.0.addresses h.0.kept in (
         omega (arith, h.0.patience, h.0.looked.paid),
-        omega (arith, few, length-append found last.values, range_low options.range range),
+        omega (arith, few, length-append saving.found last.values, range_low saving.options.range range),
       )
 
-  module _ (taking : List ShelfStep) (folder : List ℕ) (takes : TakesUp options.range found taking) (before after : SaveTold) (taken : AreDone folder taking before.shelf mid) (is_open : known folder) where
-    pub not_concluded : (course : Course) (fault : LookFault) → IsCourse options found known known' mid mid' (console_of before) (console_of after) course → IsUnclosed options found known' mid' after.shelf course fault → Keeps before.out after.out
-        → IsSaveFault options before after fault
+  module _ (taking : List ShelfStep) (folder : List ℕ) (takes : TakesUp saving.options.range saving.found taking) (before after : SaveTold) (opened : List ℕ → Type 0) (taken : AreDone folder taking before.shelf mid.told) (is_open : mid.is_opened_as folder) where
+    pub not_concluded : (course : Course) (fault : LookFault) → IsCourse saving (record { shelf = mid; console = console_of before }) (record { shelf = mid'; console = console_of after }) course
+        → IsUnclosed saving course mid' (record { told = after.shelf; is_opened_as = opened }) fault → Keeps before.out after.out → IsSaveFault saving.options before after fault
     not_concluded (WasHeldUp looked) fault h unclosed same = absurd unclosed
     not_concluded (WasRead looks last stop) fault h unclosed same =
         let added = h.2 folder is_open in
-        not_closed options before after mid mid' known' folder (record { found = found; taking = taking; taken_up = takes; looks = looks; last = last; stop = stop; read = h.0 }) fault added.0 taken added.1 unclosed same
+        not_closed saving.options before after mid.told mid' opened folder (record { found = saving.found; taking = taking; taken_up = takes; looks = looks; last = last; stop = stop; read = h.0 }) fault added.0 taken added.1 unclosed same
 
-    pub concluded : (course : Course) (counts : SaveCounts) (end : SaveEnd) → IsRange options.range.from options.range.to → options.start < 65536 → FillBlocks options.range found
-        → IsCourse options found known known' mid mid' (console_of before) (console_of after) course → IsConcluded options found known' mid' after.shelf course counts end → IsOver options before after counts end
-    concluded (WasHeldUp looked) counts end range begins fill h over =
-        subst (λ c. IsOver options before after c end) (sym over.0) (subst (λ e. IsOver options before after (counts_held options looked.reader) e) (sym over.1) (HeldUp (record {
-          found = found;
+    pub concluded : (course : Course) (done : SaveCounts × SaveEnd) → IsRange saving.options.range.from saving.options.range.to → saving.options.start < 65536 → FillBlocks saving.options.range saving.found
+        → IsCourse saving (record { shelf = mid; console = console_of before }) (record { shelf = mid'; console = console_of after }) course
+        → IsConcluded saving course mid' (record { told = after.shelf; is_opened_as = opened }) done → IsOver saving.options before after done.0 done.1
+    concluded (WasHeldUp looked) done range begins fill h over =
+        subst (λ c. IsOver saving.options before after c done.1) (sym over.0) (subst (λ e. IsOver saving.options before after (counts_held saving.options looked.reader) e) (sym over.1) (HeldUp (record {
+          found = saving.found;
           taking = taking;
           taken_up = takes;
           looks = looked.reader;
@@ -50,12 +51,12 @@ module _ (options : SaveOptions) (found : List ℕ) (known known' : List ℕ →
           held = h.0;
           untouched = (folder, subst (λ s. AreDone folder taking before.shelf s) (sym (over.2 ∙ h.1)) taken);
         })))
-    concluded (WasRead looks last stop) counts end range begins fill h over =
+    concluded (WasRead looks last stop) done range begins fill h over =
         let added = h.2 folder is_open in
-        let few = few_numbers options.range found last fill.within h.0.addresses h.0.kept in
-        subst (λ c. IsOver options before after c end) (sym over.0) (subst (λ e. IsOver options before after (counts_read options found looks last) e) (sym over.1) (Shelved (record {
-          read = record { found = found; taking = taking; taken_up = takes; looks = looks; last = last; stop = stop; read = h.0 };
+        let few = few_numbers saving.options.range saving.found last fill.within h.0.addresses h.0.kept in
+        subst (λ c. IsOver saving.options before after c done.1) (sym over.0) (subst (λ e. IsOver saving.options before after (counts_read saving.options saving.found looks last) e) (sym over.1) (Shelved (record {
+          read = record { found = saving.found; taking = taking; taken_up = takes; looks = looks; last = last; stop = stop; read = h.0 };
           end = h.1;
-          tape = tape_of options (found ++ last.values) range begins few (All-append (λ n. n < 65536) found last.values fill.small h.0.kept.numbers);
-          is_put = saved_steps taking folder options.range.from options.start (found ++ last.values) before.shelf mid mid' after.shelf taken added.1 (over.2 folder added.0);
+          tape = tape_of saving.options (saving.found ++ last.values) range begins few (All-append (λ n. n < 65536) saving.found last.values fill.small h.0.kept.numbers);
+          is_put = saved_steps taking folder saving.options.range.from saving.options.start (saving.found ++ last.values) before.shelf mid.told mid'.told after.shelf taken added.1 (over.2 folder added.0);
         })))

@@ -1,6 +1,6 @@
 -- What a save asks of its shelf, one stretch behind another.
 use Rattle.std.proofs.Common.{◌≡◌, ℕ, ◌+◌, ◌*◌, ◌/◌, ◌<◌, ◌≤◌, List, [], ◌∷◌, ◌++◌, length, refl, arith, ap, sym, subst, ◌∙◌, append_assoc, append-nil, length-append}
-use Rattle.std.specs.Prelude.{Result, Ok, Err, IfErr, OnOk, ⊤}
+use Rattle.std.specs.Prelude.{Result, Ok, Err, IfErr, OnOk}
 use Rattle.host_core.specs.declared.heard.Heard.{Heard}
 use Rattle.reading_core.specs.Laws.{led}
 use Rattle.reading_core.specs.Reader.{Reader}
@@ -12,7 +12,10 @@ use Rattle.tape_values.specs.Block.{data_block}
 use Rattle.tape_shelf.specs.SavedSteps.{adds, full, not_all_added}
 use Rattle.tape_shelf.specs.SavedTape.{saved_block}
 use Rattle.tape_shelf.specs.Shelf.{ShelfStep, Add, NotAdded}
-use Rattle.tape_shelf.specs.ShelfTold.{AreDone, GoesOnTo, IsDone, ShelfTold}
+use Rattle.tape_shelf.specs.ShelfAt.{GoesOnTo, ShelfAt}
+use Rattle.tape_shelf.specs.ShelfTold.{AreDone, IsDone}
+use Rattle.tape_shelf.specs.declared.shelf.ShelfFault.{ShelfFault}
+use Rattle.machine_look.specs.Course.{IsNotAllAdded}
 use Rattle.tape_shelf.proofs.Added.{adds_behind, block_behind, done_join, done_more, full_behind, no_adds, one_more_add, same_adds}
 
 -- ---- the numbers that are read
@@ -35,37 +38,41 @@ led_more r (h ∷ heard) =
     (one.0 ++ two.0, two.1 ∙ (ap (λ v. v ++ two.0) ((asked r h).values ∙ one.1) ∙ append_assoc r.values one.0 two.0))
 
 -- steps behind those that were done before more was read
-pub goes_on_read : (known known' : List ℕ → Type 0) (from : ℕ) (old new more : List ℕ) (steps : List ShelfStep) (a b : ShelfTold) → new ≡ old ++ more
-    → GoesOnTo known known' (adds from new (full old)) steps a b → GoesOnTo known known' (adds from old (full old)) steps a b
-goes_on_read known known' from old new more steps a b is h =
-    subst (λ s. GoesOnTo known known' s steps a b) (ap (λ v. adds from v (full old)) is ∙ same_adds from old more (full old) (omega arith)) h
+pub goes_on_read : (from : ℕ) (old new more : List ℕ) (steps : List ShelfStep) (a b : ShelfAt) → new ≡ old ++ more → GoesOnTo (adds from new (full old)) steps a b → GoesOnTo (adds from old (full old)) steps a b
+goes_on_read from old new more steps a b is h =
+    subst (λ s. GoesOnTo s steps a b) (ap (λ v. adds from v (full old)) is ∙ same_adds from old more (full old) (omega arith)) h
 
 pub full_more : (old new more : List ℕ) → new ≡ old ++ more → full old ≤ full new
 full_more old new more is = omega (arith, ap length is, length-append old more)
 
 -- ---- one stretch behind another
 
-pub goes_join : (one two three : List ℕ → Type 0) (s t u : List ShelfStep) (a b c : ShelfTold) → GoesOnTo one two s t a b → GoesOnTo two three t u b c → GoesOnTo one three s u a c
-goes_join one two three s t u a b c first second = λ folder begin known_so done. let h = first folder begin known_so done in second folder begin h.0 h.1
+pub goes_join : (s t u : List ShelfStep) (a b c : ShelfAt) → GoesOnTo s t a b → GoesOnTo t u b c → GoesOnTo s u a c
+goes_join s t u a b c first second = λ folder begin open_so done. let h = first folder begin open_so done in second folder begin h.0 h.1
 
 -- no block is full where nothing is read
-pub nothing_added : (known : List ℕ → Type 0) (from : ℕ) (values : List ℕ) (a : ShelfTold) → values ≡ [] → GoesOnTo known known [] (adds from values (full values)) a a
-nothing_added known from values a none = subst (λ v. GoesOnTo known known [] (adds from v (full v)) a a) (sym none)
-    (subst (λ steps. GoesOnTo known known [] steps a a) (sym (no_adds from [])) (λ folder first known_so done. (known_so, done)))
+pub nothing_added : (from : ℕ) (values : List ℕ) (a : ShelfAt) → values ≡ [] → GoesOnTo [] (adds from values (full values)) a a
+nothing_added from values a none = subst (λ v. GoesOnTo [] (adds from v (full v)) a a) (sym none)
+    (subst (λ steps. GoesOnTo [] steps a a) (sym (no_adds from [])) (λ folder first open_so done. (open_so, done)))
+
+-- one more step
+goes_step : (from : ℕ) (numbers : List ℕ) (n : ℕ) (steps : List ShelfStep) (step : ShelfStep) (a b c : ShelfAt) → GoesOnTo steps (adds from numbers n) a b
+    → ((folder : List ℕ) → b.is_opened_as folder → c.is_opened_as folder) → ((folder : List ℕ) → IsDone folder step b.told c.told) → GoesOnTo steps (adds from numbers n ++ step ∷ []) a c
+goes_step from numbers n steps step a b c so_far still doing =
+    λ folder first open_so done. let h = so_far folder first open_so done in (still folder h.0, done_more folder (adds from numbers n) step first b.told c.told h.1 (doing folder))
 
 -- one more block
-pub goes_more : (known known' known'' : List ℕ → Type 0) (from : ℕ) (numbers : List ℕ) (n : ℕ) (steps : List ShelfStep) (a b c : ShelfTold) → GoesOnTo known known' steps (adds from numbers n) a b
-    → ((folder : List ℕ) → known' folder → known'' folder) → ((folder : List ℕ) → IsDone folder (Add (data_block (saved_block from numbers n))) b c)
-    → GoesOnTo known known'' steps (adds from numbers (n + 1)) a c
-goes_more known known' known'' from numbers n steps a b c so_far still adding = subst (λ all. GoesOnTo known known'' steps all a c) (sym (one_more_add from numbers n))
-    (λ folder first known_so done. let h = so_far folder first known_so done in (still folder h.0, done_more folder (adds from numbers n) (Add (data_block (saved_block from numbers n))) first b c h.1 (adding folder)))
+pub goes_more : (from : ℕ) (numbers : List ℕ) (n : ℕ) (steps : List ShelfStep) (a b c : ShelfAt) → GoesOnTo steps (adds from numbers n) a b
+    → ((folder : List ℕ) → b.is_opened_as folder → c.is_opened_as folder) → ((folder : List ℕ) → IsDone folder (Add (data_block (saved_block from numbers n))) b.told c.told)
+    → GoesOnTo steps (adds from numbers (n + 1)) a c
+goes_more from numbers n steps a b c so_far still adding =
+    subst (λ all. GoesOnTo steps all a c) (sym (one_more_add from numbers n)) (goes_step from numbers n steps (Add (data_block (saved_block from numbers n))) a b c so_far still adding)
 
 -- or one that is not added
-pub goes_no_more : (known known' : List ℕ → Type 0) (from : ℕ) (numbers : List ℕ) (n : ℕ) (steps : List ShelfStep) (a b c : ShelfTold) → GoesOnTo known known' steps (adds from numbers n) a b
-    → ((folder : List ℕ) → IsDone folder (NotAdded (data_block (saved_block from numbers n))) b c)
-    → GoesOnTo known (λ _. ⊤) steps (adds from numbers n ++ NotAdded (data_block (saved_block from numbers n)) ∷ []) a c
-goes_no_more known known' from numbers n steps a b c so_far failing =
-    λ folder first known_so done. let h = so_far folder first known_so done in (tt, done_more folder (adds from numbers n) (NotAdded (data_block (saved_block from numbers n))) first b c h.1 (failing folder))
+pub goes_no_more : (from : ℕ) (numbers : List ℕ) (n : ℕ) (steps : List ShelfStep) (a b c : ShelfAt) → GoesOnTo steps (adds from numbers n) a b
+    → ((folder : List ℕ) → b.is_opened_as folder → c.is_opened_as folder) → ((folder : List ℕ) → IsDone folder (NotAdded (data_block (saved_block from numbers n))) b.told c.told)
+    → GoesOnTo steps (not_all_added from numbers n) a c
+goes_no_more from numbers n steps a b c so_far still failing = goes_step from numbers n steps (NotAdded (data_block (saved_block from numbers n))) a b c so_far still failing
 
 -- ---- what holds by what was answered
 
@@ -78,54 +85,55 @@ on_each (Ok x) P Q f h = tt
 on_each (Err e) P Q f h = f e h
 
 -- what was added behind a turn, by what was read before it
-pub turned : (known known' : List ℕ → Type 0) (from : ℕ) (old new more shown shown' : List ℕ) (steps : List ℕ → List ShelfStep) (a b : ShelfTold) → shown ≡ old → shown' ≡ new → new ≡ old ++ more
-    → GoesOnTo known known' (adds from shown' (length shown / 256)) (steps shown') a b → GoesOnTo known known' (adds from old (full old)) (steps new) a b
-turned known known' from old new more shown shown' steps a b is is' grown h = goes_on_read known known' from old new more (steps new) a b grown
-    (subst (λ v. GoesOnTo known known' (adds from new (length v / 256)) (steps new) a b) is (subst (λ v. GoesOnTo known known' (adds from v (length shown / 256)) (steps v) a b) is' h))
+pub turned : (from : ℕ) (old new more shown shown' : List ℕ) (steps : List ℕ → List ShelfStep) (a b : ShelfAt) → shown ≡ old → shown' ≡ new → new ≡ old ++ more
+    → GoesOnTo (adds from shown' (length shown / 256)) (steps shown') a b → GoesOnTo (adds from old (full old)) (steps new) a b
+turned from old new more shown shown' steps a b is is' grown h = goes_on_read from old new more (steps new) a b grown
+    (subst (λ v. GoesOnTo (adds from new (length v / 256)) (steps new) a b) is (subst (λ v. GoesOnTo (adds from v (length shown / 256)) (steps v) a b) is' h))
 
 -- ---- blocks behind others
 
 -- the blocks that were found were added, and then those behind them
-pub added_behind : (known known' known'' : List ℕ → Type 0) (from behind : ℕ) (found read : List ℕ) (a b c : ShelfTold) → length found ≡ 256 * full found → behind ≡ from + 2 * length found
-    → GoesOnTo known known' [] (adds from found (full found)) a b → GoesOnTo known' known'' [] (adds behind read (full read)) b c
-    → GoesOnTo known known'' [] (adds from (found ++ read) (full (found ++ read))) a c
-added_behind known known' known'' from behind found read a b c whole is first second = λ folder begin known_so done.
-    let one = first folder begin known_so done in
-    let two = second folder b one.0 refl in
+pub added_behind : (from behind : ℕ) (found read : List ℕ) (a b c : ShelfAt) → length found ≡ 256 * full found → behind ≡ from + 2 * length found
+    → GoesOnTo [] (adds from found (full found)) a b → GoesOnTo [] (adds behind read (full read)) b c → GoesOnTo [] (adds from (found ++ read) (full (found ++ read))) a c
+added_behind from behind found read a b c whole is first second = λ folder begin open_so done.
+    let one = first folder begin open_so done in
+    let two = second folder b.told one.0 refl in
     let steps : adds from found (full found) ++ adds behind read (full read) ≡ adds from (found ++ read) (full (found ++ read)) =
     ap (λ at. adds from found (full found) ++ adds at read (full read)) is ∙ (sym (adds_behind from found read (full found) (full read) whole) ∙ ap (adds from (found ++ read)) (sym (full_behind found read whole))) in
-    (two.0, subst (λ s. AreDone folder s begin c) steps (done_join folder (adds from found (full found)) (adds behind read (full read)) begin b c one.1 two.1))
+    (two.0, subst (λ s. AreDone folder s begin c.told) steps (done_join folder (adds from found (full found)) (adds behind read (full read)) begin b.told c.told one.1 two.1))
 
 -- or one of those could not be
-pub not_added_behind : (known known' : List ℕ → Type 0) (from behind : ℕ) (found read : List ℕ) (k : ℕ) (a b c : ShelfTold) → length found ≡ 256 * full found → behind ≡ from + 2 * length found
-    → k < full read → GoesOnTo known known' [] (adds from found (full found)) a b → GoesOnTo known' (λ _. ⊤) [] (not_all_added behind read k) b c
-    → (n : ℕ) × (n < full (found ++ read)) × GoesOnTo known (λ _. ⊤) [] (not_all_added from (found ++ read) n) a c
-not_added_behind known known' from behind found read k a b c whole is low first second = (
-  full found + k,
-  omega (arith, low, full_behind found read whole),
-  λ folder begin known_so done.
-      let one = first folder begin known_so done in
-      let two = second folder b one.0 refl in
-      let steps : adds from found (full found) ++ not_all_added behind read k ≡ not_all_added from (found ++ read) (full found + k) =
-      ap (λ at. adds from found (full found) ++ not_all_added at read k) is
-      ∙ (sym (append_assoc (adds from found (full found)) (adds (from + 2 * length found) read k) (NotAdded (data_block (saved_block (from + 2 * length found) read k)) ∷ []))
-      ∙ (ap (λ s. s ++ NotAdded (data_block (saved_block (from + 2 * length found) read k)) ∷ []) (sym (adds_behind from found read (full found) k whole))
-      ∙ ap (λ b. adds from (found ++ read) (full found + k) ++ NotAdded (data_block b) ∷ []) (sym (block_behind from found read (full found) k whole)))) in
-      (tt, subst (λ s. AreDone folder s begin c) steps (done_join folder (adds from found (full found)) (not_all_added behind read k) begin b c one.1 two.1)),
+pub not_added_behind : (from behind : ℕ) (found read : List ℕ) (a b c : ShelfAt) (fault : ShelfFault) → length found ≡ 256 * full found → behind ≡ from + 2 * length found
+    → GoesOnTo [] (adds from found (full found)) a b → IsNotAllAdded [] (record { from = behind; values = read }) b c fault → IsNotAllAdded [] (record { from = from; values = found ++ read }) a c fault
+not_added_behind from behind found read a b c fault whole is first second = (
+  second.0,
+  (
+    full found + second.1.0,
+    omega (arith, second.1.1, full_behind found read whole),
+    λ folder begin open_so done.
+        let k = second.1.0 in
+        let one = first folder begin open_so done in
+        let two = second.1.2 folder b.told one.0 refl in
+        let steps : adds from found (full found) ++ not_all_added behind read k ≡ not_all_added from (found ++ read) (full found + k) =
+        ap (λ at. adds from found (full found) ++ not_all_added at read k) is
+        ∙ (sym (append_assoc (adds from found (full found)) (adds (from + 2 * length found) read k) (NotAdded (data_block (saved_block (from + 2 * length found) read k)) ∷ []))
+        ∙ (ap (λ s. s ++ NotAdded (data_block (saved_block (from + 2 * length found) read k)) ∷ []) (sym (adds_behind from found read (full found) k whole))
+        ∙ ap (λ b. adds from (found ++ read) (full found + k) ++ NotAdded (data_block b) ∷ []) (sym (block_behind from found read (full found) k whole)))) in
+        (two.0, subst (λ s. AreDone folder s begin c.told) steps (done_join folder (adds from found (full found)) (not_all_added behind read k) begin b.told c.told one.1 two.1)),
+  ),
 )
 
 -- before any block is added nothing is
-pub from_nothing : (known known' : List ℕ → Type 0) (from : ℕ) (numbers : List ℕ) (steps : List ShelfStep) (a b : ShelfTold) → GoesOnTo known known' (adds from numbers 0) steps a b → GoesOnTo known known' [] steps a b
-from_nothing known known' from numbers steps a b h = subst (λ s. GoesOnTo known known' s steps a b) (no_adds from numbers) h
+pub from_nothing : (from : ℕ) (numbers : List ℕ) (steps : List ShelfStep) (a b : ShelfAt) → GoesOnTo (adds from numbers 0) steps a b → GoesOnTo [] steps a b
+from_nothing from numbers steps a b h = subst (λ s. GoesOnTo s steps a b) (no_adds from numbers) h
 
 -- nothing was read behind them
-pub added_alone : (known known' : List ℕ → Type 0) (from : ℕ) (found read : List ℕ) (a b : ShelfTold) → read ≡ []
-    → GoesOnTo known known' [] (adds from found (full found)) a b → GoesOnTo known known' [] (adds from (found ++ read) (full (found ++ read))) a b
-added_alone known known' from found read a b none h =
-    subst (λ numbers. GoesOnTo known known' [] (adds from numbers (full numbers)) a b) (sym (append-nil found) ∙ ap (λ more. found ++ more) (sym none)) h
+pub added_alone : (from : ℕ) (found read : List ℕ) (a b : ShelfAt) → read ≡ [] → GoesOnTo [] (adds from found (full found)) a b → GoesOnTo [] (adds from (found ++ read) (full (found ++ read))) a b
+added_alone from found read a b none h =
+    subst (λ numbers. GoesOnTo [] (adds from numbers (full numbers)) a b) (sym (append-nil found) ∙ ap (λ more. found ++ more) (sym none)) h
 
-pub not_added_alone : (known : List ℕ → Type 0) (from : ℕ) (found read : List ℕ) (n : ℕ) (a b : ShelfTold) → read ≡ [] → n < full found
-    → GoesOnTo known (λ _. ⊤) [] (not_all_added from found n) a b
-    → (n : ℕ) × (n < full (found ++ read)) × GoesOnTo known (λ _. ⊤) [] (not_all_added from (found ++ read) n) a b
-not_added_alone known from found read n a b none low h =
-    subst (λ numbers. (n : ℕ) × (n < full numbers) × GoesOnTo known (λ _. ⊤) [] (not_all_added from numbers n) a b) (sym (append-nil found) ∙ ap (λ more. found ++ more) (sym none)) (n, low, h)
+pub not_added_alone : (from : ℕ) (found read : List ℕ) (a b : ShelfAt) (fault : ShelfFault) → read ≡ []
+    → IsNotAllAdded (adds from found 0) (record { from = from; values = found }) a b fault → IsNotAllAdded [] (record { from = from; values = found ++ read }) a b fault
+not_added_alone from found read a b fault none h =
+    subst (λ numbers. IsNotAllAdded [] (record { from = from; values = numbers }) a b fault) (sym (append-nil found) ∙ ap (λ more. found ++ more) (sym none))
+    (h.0, (h.1.0, h.1.1, from_nothing from found (not_all_added from found h.1.0) a b h.1.2))

@@ -16,11 +16,12 @@ use Rattle.tape_shelf.specs.declared.shelf.ShelfFault.{ShelfFault}
 use Rattle.tape_shelf.specs.declared.shelf.ShelfFault.TheVariants as shelf_fault
 use Rattle.console_lines.specs.Console.{ConsoleTold}
 use Rattle.machine_look.specs.Behind.{IsRead}
-use Rattle.machine_look.specs.Save.{IsUnadded, IsUnput, IsSavedUnreported, SaveTold, TakesUp}
+use Rattle.machine_look.specs.Save.{IsUnadded, IsUnput, IsSavedUnreported, SaveAt, SaveTold, Saving, TakesUp}
 use Rattle.tape_shelf.specs.SavedSteps.{full, not_all_added}
 use Rattle.tape_shelf.specs.SavedTape.{last_text, room_for}
 use Rattle.tape_shelf.specs.Shelf.{ShelfStep, NotReserved, NotResumed, NotPut}
-use Rattle.tape_shelf.specs.ShelfTold.{AreDone, HasDone, ShelfTold}
+use Rattle.tape_shelf.specs.ShelfAt.{HasDoneThere, ShelfAt}
+use Rattle.tape_shelf.specs.ShelfTold.{HasDone}
 use Rattle.machine_look.specs.Verify.{IsCutShort}
 
 -- what a place that takes no tape makes of the save
@@ -68,22 +69,23 @@ pub record IsTakenUpAlone (options : SaveOptions) (before after : SaveTold) : Ty
   pub nothing_reported : Keeps before.out after.out
 
 -- a reading with blocks comes to nothing: the console can't be reached, and nothing is added; or a block can't be
-abbrev pub IsReadFault : SaveOptions → List ℕ → (List ℕ → Type 0) → ShelfTold → ShelfTold → ConsoleTold → ConsoleTold → LookFault → Type 0
-IsReadFault options found opened shelf shelf' before after Connect =
-    (shelf' ≡ shelf) × IsAskedInVain before.call before.asked after.asked × (after.lines ≡ before.lines)
-IsReadFault options found opened shelf shelf' before after WriteTape =
-    (looks last : Reader) × (stop : Stop) × (turns : ℕ) × (turns ≤ most_turns) × IsRead turns options found before after looks last stop
-    × (n : ℕ) × (n < full (found ++ last.values))
-    × ((folder : List ℕ) → opened folder → AreDone folder (not_all_added options.range.from (found ++ last.values) n) shelf shelf')
-IsReadFault options found opened shelf shelf' before after other = ⊥
+abbrev pub IsReadFault : Saving → SaveAt → SaveAt → LookFault → Type 0
+IsReadFault saving before after Connect =
+    (after.shelf.told ≡ before.shelf.told) × IsAskedInVain before.console.call before.console.asked after.console.asked
+    × (after.console.lines ≡ before.console.lines)
+IsReadFault saving before after WriteTape =
+    (looks last : Reader) × (stop : Stop) × (turns : ℕ) × (turns ≤ most_turns)
+    × IsRead turns saving.options saving.found before.console after.console looks last stop × (n : ℕ) × (n < full (saving.found ++ last.values))
+    × HasDoneThere (not_all_added saving.options.range.from (saving.found ++ last.values) n) before.shelf after.shelf
+IsReadFault saving before after other = ⊥
 
--- a tape is not closed: it can't have its place
-abbrev pub IsKeepFault : (List ℕ → Type 0) → ℕ → List ℕ → ℕ → ShelfTold → ShelfTold → LookFault → Type 0
-IsKeepFault opened from numbers start shelf shelf' IsThere =
-    (folder : List ℕ) → opened folder → AreDone folder (NotPut (last_text from numbers start) shelf_fault.IsThere ∷ []) shelf shelf'
-IsKeepFault opened from numbers start shelf shelf' WriteTape =
-    (folder : List ℕ) → opened folder → AreDone folder (NotPut (last_text from numbers start) shelf_fault.Write ∷ []) shelf shelf'
-IsKeepFault opened from numbers start shelf shelf' other = ⊥
+-- the tape of numbers is not closed: it can't have its place
+abbrev pub IsKeepFault : SaveOptions → List ℕ → ShelfAt → ShelfAt → LookFault → Type 0
+IsKeepFault options numbers before after IsThere =
+    HasDoneThere (NotPut (last_text options.range.from numbers options.start) shelf_fault.IsThere ∷ []) before after
+IsKeepFault options numbers before after WriteTape =
+    HasDoneThere (NotPut (last_text options.range.from numbers options.start) shelf_fault.Write ∷ []) before after
+IsKeepFault options numbers before after other = ⊥
 
 -- how `save` comes to nothing: a file that is there or can't be made before the console is reached, want of memory before, too, a console that
 -- can't be reached, a block that can't be added or a tape that can't have its place with nothing reported, a report that can't be written whole

@@ -1,7 +1,6 @@
 -- What `save` does (this project's own).
 use Rattle.std.specs.Prelude.{◌≡◌, ℕ, ◌+◌, ◌<◌, ◌≤◌, List, [], ◌∷◌, ◌++◌, length, Option, None}
 use Rattle.std.specs.Io.KnownBytes.{Appends, Keeps}
-use Rattle.std.specs.declared.io.Write.{Ghosts as Write}
 use Rattle.tape_values.specs.Tape.{plain_text}
 use Rattle.load_devices.specs.Turns.{most_turns}
 use Rattle.console_lines.specs.Console.{ConsoleTold}
@@ -27,6 +26,7 @@ use Rattle.tape_shelf.specs.SavedTape.{room_for, words_in}
 use Rattle.machine_look.specs.SavedWords.{HoldsWhatWasRead}
 use Rattle.machine_look.specs.SaveReport.{save_end, held_end, save_report}
 use Rattle.tape_shelf.specs.Shelf.{ShelfStep, Reserve, NotReserved, Resume, written}
+use Rattle.tape_shelf.specs.ShelfAt.{ShelfAt, shelf_at}
 use Rattle.tape_shelf.specs.ShelfTold.{ShelfTold, HasDone}
 
 -- what a save's shelf, console and output tell: the first what was done on it; what was asked for a line, where the second leads and what its
@@ -38,19 +38,26 @@ pub record SaveTold : Type 0 where
   pub lines : Option (List LineTold)
   pub out : Option (List ℕ)
 
--- what this console tells, where nothing is written
-abbrev pub reach_told : {R L : Type 0} → Reach R L → R → ConsoleTold
-reach_told tell console = record { asked = tell.asked console; call = tell.call console; lines = tell.lines console; out = None }
+-- a save of words of which these were found, as numbers
+pub record Saving : Type 0 where
+  pub options : SaveOptions
+  pub found : List ℕ
 
--- what this shelf, this console and this output tell
-abbrev pub save_told : {S R L W : Type 0} → Shelf S → Reach R L → Write W → S → R → W → SaveTold
-save_told shelf_tell tell write shelf console out = record {
-  shelf = shelf_tell.told shelf;
-  asked = tell.asked console;
-  call = tell.call console;
-  lines = tell.lines console;
-  out = write.contents out;
+-- a save at a moment: its shelf, and what its console tells, where nothing is written
+pub record SaveAt : Type 1 where
+  pub shelf : ShelfAt
+  pub console : ConsoleTold
+
+-- so it is of this shelf and this console
+abbrev pub save_at : {S R L : Type 0} → Shelf S → Reach R L → S → R → SaveAt
+save_at shelf_tell tell shelf console = record {
+  shelf = shelf_at shelf_tell shelf;
+  console = record { asked = tell.asked console; call = tell.call console; lines = tell.lines console; out = None };
 }
+
+-- what a shelf, and a console with an output tell
+abbrev pub save_told : ShelfTold → ConsoleTold → SaveTold
+save_told shelf console = record { shelf = shelf; asked = console.asked; call = console.call; lines = console.lines; out = console.out }
 
 -- what its console alone tells
 abbrev pub console_of : SaveTold → ConsoleTold

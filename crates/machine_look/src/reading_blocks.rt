@@ -10,9 +10,9 @@ ghost use Rattle.tape_shelf.specs.FoundPart.{FillBlocks};
 ghost use Rattle.machine_look.specs.Hosts.{AreHosts};
 ghost use Rattle.machine_look.specs.Look.{IsInquiredWhile};
 ghost use Rattle.machine_look.specs.LookFault.{IsReadFault};
-ghost use Rattle.machine_look.specs.Save.{reach_told};
-ghost use Rattle.tape_shelf.specs.SavedSteps.{adds, full, not_all_added};
-ghost use Rattle.tape_shelf.specs.ShelfTold.{AreDone, GoesOnTo};
+ghost use Rattle.machine_look.specs.Save.{save_at};
+ghost use Rattle.tape_shelf.specs.SavedSteps.{adds, full};
+ghost use Rattle.tape_shelf.specs.ShelfAt.{GoesOnTo, shelf_at};
 
 use crate::behind::Behind;
 use crate::hosts::Hosts;
@@ -60,11 +60,11 @@ pub(crate) fn read_over<S: Shelf, R: Reach, O: Onlooker>(
     requires fill { FillBlocks options.range found.now }
     requires hosts { AreHosts options found.now hosts }
     requires begins { options.start < 65536 }
-    ensures course { IfOk result (IsCourse options found.now (S.is_opened_as shelf.old) (S.is_opened_as shelf.new) (S.told shelf.old) (S.told shelf.new)
-        (reach_told R.Reach console.old) (reach_told R.Reach console.new)) }
+    ensures course { IfOk result (IsCourse (record { options = options; found = found.now })
+        (save_at S.Shelf R.Reach shelf.old console.old) (save_at S.Shelf R.Reach shelf.new console.new)) }
     ensures call { R.call console.new ≡ R.call console.old }
-    ensures fault { IfErr result (IsReadFault options found.now (S.is_opened_as shelf.old) (S.told shelf.old) (S.told shelf.new)
-        (reach_told R.Reach console.old) (reach_told R.Reach console.new)) }
+    ensures fault { IfErr result (IsReadFault (record { options = options; found = found.now })
+        (save_at S.Shelf R.Reach shelf.old console.old) (save_at S.Shelf R.Reach shelf.new console.new)) }
 {
     let Hosts {
         samples,
@@ -118,10 +118,10 @@ fn read_behind<S: Shelf, L: Line, O: Onlooker>(
     requires fresh { core.values ≡ [] }
     requires kept { IsReader core }
     ensures inquired { IsInquiredWhile result.added (inquiry core result.core (Some result.stop)) (line_told L.Line line.old) (line_told L.Line line.new) }
-    ensures added { OnOk result.added (GoesOnTo (S.is_opened_as shelf.old) (S.is_opened_as shelf.new) []
-        (adds from (found.now ++ result.core.values) (full (found.now ++ result.core.values))) (S.told shelf.old) (S.told shelf.new)) }
-    ensures not_added { IfErr result.added (λ fault. (n : ℕ) × (n < full (found.now ++ result.core.values))
-        × GoesOnTo (S.is_opened_as shelf.old) (λ _. ⊤) [] (not_all_added from (found.now ++ result.core.values) n) (S.told shelf.old) (S.told shelf.new)) }
+    ensures added { OnOk result.added (GoesOnTo [] (adds from (found.now ++ result.core.values) (full (found.now ++ result.core.values)))
+        (shelf_at S.Shelf shelf.old) (shelf_at S.Shelf shelf.new)) }
+    ensures not_added { IfErr result.added (IsNotAllAdded [] (record { from = from; values = found.now ++ result.core.values })
+        (shelf_at S.Shelf shelf.old) (shelf_at S.Shelf shelf.new)) }
 {
     let added = add_full(from, found, 0, shelf);
     match (core.end(), added) {
@@ -154,9 +154,10 @@ fn read_blocks<S: Shelf, L: Line, O: Onlooker>(
     requires goes_on { ended core.phase ≡ None }
     requires kept { IsReader core }
     ensures inquired { IsInquiredWhile result.added (inquiry core result.core (Some result.stop)) (line_told L.Line line.old) (line_told L.Line line.new) }
-    ensures added { OnOk result.added (GoesOnTo (S.is_opened_as shelf.old) (S.is_opened_as shelf.new) []
-        (adds from result.core.values (full result.core.values)) (S.told shelf.old) (S.told shelf.new)) }
-    ensures not_added { IfErr result.added (IsNotAllAdded (S.is_opened_as shelf.old) [] from result.core.values (S.told shelf.old) (S.told shelf.new)) }
+    ensures added { OnOk result.added (GoesOnTo [] (adds from result.core.values (full result.core.values))
+        (shelf_at S.Shelf shelf.old) (shelf_at S.Shelf shelf.new)) }
+    ensures not_added { IfErr result.added (IsNotAllAdded [] (record { from = from; values = result.core.values })
+        (shelf_at S.Shelf shelf.old) (shelf_at S.Shelf shelf.new)) }
 {
     for _ in 0..MOST_TURNS {
         let Read {
@@ -204,10 +205,10 @@ fn turn<S: Shelf, L: Line, O: Onlooker>(
     requires below { from + 2 * length core.addresses ≤ top }
     ensures inquired { IsInquired 1 (inquiry core result.core (Some result.stop)) (line_told L.Line line.old) (line_told L.Line line.new) }
     ensures first { IsReader core }
-    ensures added { OnOk result.added (GoesOnTo (S.is_opened_as shelf.old) (S.is_opened_as shelf.new) (adds from core.values (full core.values))
-        (adds from result.core.values (full result.core.values)) (S.told shelf.old) (S.told shelf.new)) }
-    ensures not_added { IfErr result.added (IsNotAllAdded (S.is_opened_as shelf.old) (adds from core.values (full core.values)) from result.core.values
-        (S.told shelf.old) (S.told shelf.new)) }
+    ensures added { OnOk result.added (GoesOnTo (adds from core.values (full core.values)) (adds from result.core.values (full result.core.values))
+        (shelf_at S.Shelf shelf.old) (shelf_at S.Shelf shelf.new)) }
+    ensures not_added { IfErr result.added (IsNotAllAdded (adds from core.values (full core.values)) (record { from = from; values = result.core.values })
+        (shelf_at S.Shelf shelf.old) (shelf_at S.Shelf shelf.new)) }
 {
     let before = core.values().len() / BLOCK_WORDS;
     let (core, stop) = inquire(core, line, 1, onlooker);
@@ -224,9 +225,10 @@ fn add_full<S: Shelf>(
 ) -> Result<(), ShelfFault>
     requires below { from + 2 * length numbers.now ≤ top }
     requires behind { first ≤ full numbers.now }
-    ensures added { OnOk result (GoesOnTo (S.is_opened_as shelf.old) (S.is_opened_as shelf.new) (adds from numbers.now first)
-        (adds from numbers.now (full numbers.now)) (S.told shelf.old) (S.told shelf.new)) }
-    ensures not_added { IfErr result (IsNotAllAdded (S.is_opened_as shelf.old) (adds from numbers.now first) from numbers.now (S.told shelf.old) (S.told shelf.new)) }
+    ensures added { OnOk result (GoesOnTo (adds from numbers.now first) (adds from numbers.now (full numbers.now))
+        (shelf_at S.Shelf shelf.old) (shelf_at S.Shelf shelf.new)) }
+    ensures not_added { IfErr result (IsNotAllAdded (adds from numbers.now first) (record { from = from; values = numbers.now })
+        (shelf_at S.Shelf shelf.old) (shelf_at S.Shelf shelf.new)) }
 {
     for number in first..numbers.len() / BLOCK_WORDS {
         let text = block_text(from, numbers, number);

@@ -1,12 +1,14 @@
 //! The command `save`: what memory holds, as a tape.
 ghost use Rattle.std.specs.Prelude.{◌≡◌, ◌*◌, ◌+◌, ◌++◌, ◌<◌, ◌≤◌, List, ℕ, length, IfErr, IfOk, OnOk};
 ghost use Rattle.tape_values.specs.Block.{top};
+ghost use Rattle.console_lines.specs.Console.{console_told};
 ghost use Rattle.machine_look.specs.Course.{IsConcluded, IsUnclosed, HasRoomForCounts};
 ghost use Rattle.tape_shelf.specs.FoundPart.{FillBlocks};
 ghost use Rattle.machine_look.specs.LookFault.{IsKeepFault, IsSaveFault, TakesUpNothing};
 ghost use Rattle.machine_look.specs.Save.{IsSavedAndReported, TakesUp, save_told};
 ghost use Rattle.tape_shelf.specs.SavedSteps.{closes, full};
 ghost use Rattle.tape_shelf.specs.Shelf.{ShelfStep};
+ghost use Rattle.tape_shelf.specs.ShelfAt.{HasDoneThere, shelf_at};
 ghost use Rattle.tape_shelf.specs.ShelfTold.{AreDone, HasDone};
 
 use crate::hosts::Hosts;
@@ -59,12 +61,12 @@ pub fn save<S: Shelf, R: Reach, W: Write, O: Onlooker>(
     onlooker: &O,
 ) -> Result<SaveEnd, LookFault>
     ensures reported { IfOk result (IsSavedAndReported options
-        (save_told S.Shelf R.Reach W.Write shelf.old console.old out.old)
-        (save_told S.Shelf R.Reach W.Write shelf.new console.new out.new)) }
+        (save_told (S.told shelf.old) (console_told R.Reach W.Write console.old out.old))
+        (save_told (S.told shelf.new) (console_told R.Reach W.Write console.new out.new))) }
     ensures call { R.call console.new ≡ R.call console.old }
     ensures fault { IfErr result (IsSaveFault options
-        (save_told S.Shelf R.Reach W.Write shelf.old console.old out.old)
-        (save_told S.Shelf R.Reach W.Write shelf.new console.new out.new)) }
+        (save_told (S.told shelf.old) (console_told R.Reach W.Write console.old out.old))
+        (save_told (S.told shelf.new) (console_told R.Reach W.Write console.new out.new))) }
 {
     let found = take_up(alloc, options.range, shelf)?;
     let hosts = Hosts::new(alloc, options, &found)?;
@@ -102,9 +104,11 @@ fn conclude<S: Shelf>(
 ) -> Result<(SaveCounts, SaveEnd), LookFault>
     requires whole { length found.now ≡ 256 * full found.now }
     requires room { HasRoomForCounts options found.now course }
-    ensures ok { IfOk result (λ done. IsConcluded options found.now (S.is_opened_as shelf.old) (S.told shelf.old) (S.told shelf.new) course done.0 done.1) }
+    ensures ok { IfOk result (IsConcluded (record { options = options; found = found.now }) course
+        (shelf_at S.Shelf shelf.old) (shelf_at S.Shelf shelf.new)) }
     ensures fits { options.start < 65536 }
-    ensures fault { IfErr result (IsUnclosed options found.now (S.is_opened_as shelf.old) (S.told shelf.old) (S.told shelf.new) course) }
+    ensures fault { IfErr result (IsUnclosed (record { options = options; found = found.now }) course
+        (shelf_at S.Shelf shelf.old) (shelf_at S.Shelf shelf.new)) }
 {
     let words = words_of(options.range);
     match course {
@@ -141,11 +145,11 @@ fn close<S: Shelf>(
 ) -> Result<(), LookFault>
     requires whole { length found.now ≡ 256 * full found.now }
     requires below { options.range.from + 2 * (length found.now + length numbers.now) ≤ top }
-    ensures ok { OnOk result ((folder : List ℕ) → S.is_opened_as shelf.old folder
-        → AreDone folder (closes options.range.from (found.now ++ numbers.now) options.start) (S.told shelf.old) (S.told shelf.new)) }
+    ensures ok { OnOk result (HasDoneThere (closes options.range.from (found.now ++ numbers.now) options.start)
+        (shelf_at S.Shelf shelf.old) (shelf_at S.Shelf shelf.new)) }
     ensures fits { options.start < 65536 }
-    ensures fault { IfErr result (IsKeepFault (S.is_opened_as shelf.old) options.range.from (found.now ++ numbers.now) options.start
-        (S.told shelf.old) (S.told shelf.new)) }
+    ensures fault { IfErr result (IsKeepFault options (found.now ++ numbers.now)
+        (shelf_at S.Shelf shelf.old) (shelf_at S.Shelf shelf.new)) }
 {
     if found.len() + numbers.len() == 0 {
         return Ok(());

@@ -38,8 +38,3 @@ AreDone folder (step ∷ more) before after = (between : ShelfTold) × IsDone fo
 -- they were done in one folder
 abbrev pub HasDone : List ShelfStep → ShelfTold → ShelfTold → Type 0
 HasDone steps before after = (folder : List ℕ) × AreDone folder steps before after
-
--- wherever some steps had been done before, others have been by now, in the same folder, of whose name this is known
-abbrev pub GoesOnTo : (List ℕ → Type 0) → (List ℕ → Type 0) → List ShelfStep → List ShelfStep → ShelfTold → ShelfTold → Type 0
-GoesOnTo known known' steps steps' told told' =
-    (folder : List ℕ) (first : ShelfTold) → known folder → AreDone folder steps first told → known' folder × AreDone folder steps' first told'

@@ -1,9 +1,9 @@
 use Rattle.std.proofs.Common.{refl, sym, arith}
-use Rattle.std.specs.Prelude.{⊤}
 use Rattle.load_devices.specs.Devices.{line_told}
 use Rattle.load_devices.specs.Turns.{most_turns}
 use Rattle.reading_engine.proofs.Inquiries.{no_turns, turns_are_over}
-use Rattle.tape_shelf.specs.SavedSteps.{adds, full, not_all_added}
+use Rattle.tape_shelf.specs.SavedSteps.{adds, full}
+use Rattle.tape_shelf.specs.ShelfAt.{ShelfAt, shelf_at}
 use Rattle.machine_look.proofs.Steps.{added_alone, added_behind, from_nothing, not_added_alone, not_added_behind, on_each, on_ok}
 use Rattle.machine_look.proofs.Turning.{done_known, ended_at_once, error_known, value_known}
 use Rattle.machine_look.proofs.reading_blocks.read_behind.Goals as goal
@@ -19,22 +19,17 @@ returns-in-Some-default-clause-inquired g c = (
 
 pub returns-in-Some-default-clause-added : goal.returns-in-Some-default-clause-added
 returns-in-Some-default-clause-added g c =
-    let opened = g.S.Shelf.is_opened_as c.args.shelf.now in
-    let opened' = g.S.Shelf.is_opened_as c.add_full-added.new.shelf in
-    let a = g.S.Shelf.told c.args.shelf.now in
-    let b = g.S.Shelf.told c.add_full-added.new.shelf in
+    let a : ShelfAt = shelf_at g.S.Shelf c.args.shelf.now in
+    let b : ShelfAt = shelf_at g.S.Shelf c.add_full-added.new.shelf in
     on_ok c.add_full-added.result
-    (λ more. added_alone opened opened' c.args.from c.args.found.now c.args.core.values a b c.requires.fresh (from_nothing opened opened' c.args.from c.args.found.now (adds c.args.from c.args.found.now (full c.args.found.now)) a b more))
+    (λ more. added_alone c.args.from c.args.found.now c.args.core.values a b c.requires.fresh
+    (from_nothing c.args.from c.args.found.now (adds c.args.from c.args.found.now (full c.args.found.now)) a b more))
     c.add_full-added.ensures.added
 
 pub returns-in-Some-default-clause-not_added : goal.returns-in-Some-default-clause-not_added
 returns-in-Some-default-clause-not_added g c =
-    let opened = g.S.Shelf.is_opened_as c.args.shelf.now in
-    let a = g.S.Shelf.told c.args.shelf.now in
-    let b = g.S.Shelf.told c.add_full-added.new.shelf in
     on_each c.add_full-added.result _ _
-    (λ fault h. let more = h.1 in
-    not_added_alone opened c.args.from c.args.found.now c.args.core.values more.0 a b c.requires.fresh more.1 (from_nothing opened (λ _. ⊤) c.args.from c.args.found.now (not_all_added c.args.from c.args.found.now more.0) a b more.2))
+    (λ fault h. not_added_alone c.args.from c.args.found.now c.args.core.values (shelf_at g.S.Shelf c.args.shelf.now) (shelf_at g.S.Shelf c.add_full-added.new.shelf) _ c.requires.fresh h)
     c.add_full-added.ensures.not_added
 
 -- a block could not be added
@@ -45,32 +40,26 @@ returns-in-None-Err-clause-inquired g c =
 
 pub returns-in-None-Err-clause-not_added : goal.returns-in-None-Err-clause-not_added
 returns-in-None-Err-clause-not_added g c =
-    let opened = g.S.Shelf.is_opened_as c.args.shelf.now in
-    let a = g.S.Shelf.told c.args.shelf.now in
-    let b = g.S.Shelf.told c.add_full-added.new.shelf in
-    let h = error_known _ c.add_full-added.result _ c.in-None-Err.is-1 c.add_full-added.ensures.not_added in
-    let more = h.1 in
-    not_added_alone opened c.args.from c.args.found.now c.args.core.values more.0 a b c.requires.fresh more.1 (from_nothing opened (λ _. ⊤) c.args.from c.args.found.now (not_all_added c.args.from c.args.found.now more.0) a b more.2)
+    not_added_alone c.args.from c.args.found.now c.args.core.values (shelf_at g.S.Shelf c.args.shelf.now) (shelf_at g.S.Shelf c.add_full-added.new.shelf) _ c.requires.fresh
+    (error_known _ c.add_full-added.result _ c.in-None-Err.is-1 c.add_full-added.ensures.not_added)
 
 -- all of them are
 pub returns-in-None-Ok-clause-added : goal.returns-in-None-Ok-clause-added
 returns-in-None-Ok-clause-added g c =
-    let opened = g.S.Shelf.is_opened_as c.args.shelf.now in
-    let opened' = g.S.Shelf.is_opened_as c.add_full-added.new.shelf in
-    let a = g.S.Shelf.told c.args.shelf.now in
-    let b = g.S.Shelf.told c.add_full-added.new.shelf in
-    let first = from_nothing opened opened' c.args.from c.args.found.now (adds c.args.from c.args.found.now (full c.args.found.now)) a b (done_known _ c.add_full-added.result _ c.in-None-Ok.is-1 c.add_full-added.ensures.added) in
+    let a : ShelfAt = shelf_at g.S.Shelf c.args.shelf.now in
+    let b : ShelfAt = shelf_at g.S.Shelf c.add_full-added.new.shelf in
+    let first = from_nothing c.args.from c.args.found.now (adds c.args.from c.args.found.now (full c.args.found.now)) a b
+        (done_known _ c.add_full-added.result _ c.in-None-Ok.is-1 c.add_full-added.ensures.added) in
     on_ok c.read_blocks.result.added
-    (λ more. added_behind opened opened' (g.S.Shelf.is_opened_as c.read_blocks.new.shelf) c.args.from _ c.args.found.now c.read_blocks.result.core.values a b (g.S.Shelf.told c.read_blocks.new.shelf) c.requires.whole refl first more)
+    (λ h. added_behind c.args.from _ c.args.found.now c.read_blocks.result.core.values a b (shelf_at g.S.Shelf c.read_blocks.new.shelf) c.requires.whole refl first h)
     c.read_blocks.ensures.added
 
 pub returns-in-None-Ok-clause-not_added : goal.returns-in-None-Ok-clause-not_added
 returns-in-None-Ok-clause-not_added g c =
-    let opened = g.S.Shelf.is_opened_as c.args.shelf.now in
-    let opened' = g.S.Shelf.is_opened_as c.add_full-added.new.shelf in
-    let a = g.S.Shelf.told c.args.shelf.now in
-    let b = g.S.Shelf.told c.add_full-added.new.shelf in
-    let first = from_nothing opened opened' c.args.from c.args.found.now (adds c.args.from c.args.found.now (full c.args.found.now)) a b (done_known _ c.add_full-added.result _ c.in-None-Ok.is-1 c.add_full-added.ensures.added) in
+    let a : ShelfAt = shelf_at g.S.Shelf c.args.shelf.now in
+    let b : ShelfAt = shelf_at g.S.Shelf c.add_full-added.new.shelf in
+    let first = from_nothing c.args.from c.args.found.now (adds c.args.from c.args.found.now (full c.args.found.now)) a b
+        (done_known _ c.add_full-added.result _ c.in-None-Ok.is-1 c.add_full-added.ensures.added) in
     on_each c.read_blocks.result.added _ _
-    (λ fault h. let more = h.1 in not_added_behind opened opened' c.args.from _ c.args.found.now c.read_blocks.result.core.values more.0 a b (g.S.Shelf.told c.read_blocks.new.shelf) c.requires.whole refl more.1 first more.2)
+    (λ fault h. not_added_behind c.args.from _ c.args.found.now c.read_blocks.result.core.values a b (shelf_at g.S.Shelf c.read_blocks.new.shelf) fault c.requires.whole refl first h)
     c.read_blocks.ensures.not_added

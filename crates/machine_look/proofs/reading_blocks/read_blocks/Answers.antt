@@ -1,5 +1,4 @@
 use Rattle.std.proofs.Common.{◌≡◌, ◌+◌, [], None, Some, refl, subst, arith}
-use Rattle.std.specs.Prelude.{⊤}
 use Rattle.load_devices.specs.Devices.{line_told}
 use Rattle.load_devices.specs.Turns.{most_turns}
 use Rattle.reading_engine.specs.declared.stop.Stop.{Stop}
@@ -7,6 +6,7 @@ use Rattle.reading_engine.specs.declared.stop.Stop.TheVariants.{Ended, LineFaile
 use Rattle.reading_engine.specs.Inquired.{IsInquired, inquiry}
 use Rattle.reading_engine.proofs.Inquiries.{no_turns, turns_are_over, turns_go_on, turns_join, turns_to_spare}
 use Rattle.tape_shelf.specs.SavedSteps.{adds, full}
+use Rattle.tape_shelf.specs.ShelfAt.{shelf_at}
 use Rattle.tape_shelf.proofs.OnShelf.{done}
 use Rattle.machine_look.proofs.Steps.{goes_join, nothing_added, on_each}
 use Rattle.machine_look.proofs.Turning.{no_value_in_error, value_known}
@@ -16,7 +16,7 @@ pub loop-init : goal.loop-init
 loop-init g c = record {
   inquired = no_turns c.args.core (line_told g.L.Line c.args.line.now) c.requires.kept;
   goes_on = c.requires.goes_on;
-  added = nothing_added (g.S.Shelf.is_opened_as c.args.shelf.now) c.args.from c.args.core.values (g.S.Shelf.told c.args.shelf.now) c.requires.fresh;
+  added = nothing_added c.args.from c.args.core.values (shelf_at g.S.Shelf c.args.shelf.now) c.requires.fresh;
 }
 
 pub loop-preserved : goal.loop-preserved
@@ -30,8 +30,8 @@ loop-preserved g c =
     let one : IsInquired 1 (inquiry c.loop.core next (Some TurnsOver)) between after = subst (λ (s : Stop). IsInquired 1 (inquiry c.loop.core next (Some s)) between after) over turn.inquired in record {
       inquired = turns_join c.loop.counter 1 c.args.core c.loop.core next None (line_told g.L.Line c.args.line.now) between after c.requires.kept inv.inquired (turns_go_on 1 c.loop.core next between after one);
       goes_on = one.end;
-      added = goes_join (g.S.Shelf.is_opened_as c.args.shelf.now) (g.S.Shelf.is_opened_as c.loop.shelf) (g.S.Shelf.is_opened_as c.turn-next.new.shelf) [] (adds c.args.from c.loop.core.values (full c.loop.core.values))
-          (adds c.args.from next.values (full next.values)) (g.S.Shelf.told c.args.shelf.now) (g.S.Shelf.told c.loop.shelf) (g.S.Shelf.told c.turn-next.new.shelf) inv.added
+      added = goes_join [] (adds c.args.from c.loop.core.values (full c.loop.core.values))
+          (adds c.args.from next.values (full next.values)) (shelf_at g.S.Shelf c.args.shelf.now) (shelf_at g.S.Shelf c.loop.shelf) (shelf_at g.S.Shelf c.turn-next.new.shelf) inv.added
           (done _ c.turn-next.result.added c.if-is_err.ensures.value turn.added);
     }
 
@@ -52,8 +52,8 @@ returns-then-is_err-clause-not_added g c =
       (
         h.1.0,
         h.1.1,
-        goes_join (g.S.Shelf.is_opened_as c.args.shelf.now) (g.S.Shelf.is_opened_as c.loop.shelf) (λ _. ⊤) [] (adds c.args.from c.loop.core.values (full c.loop.core.values)) _ (g.S.Shelf.told c.args.shelf.now) (g.S.Shelf.told c.loop.shelf)
-            (g.S.Shelf.told c.turn-next.new.shelf) c.loop.invariant.added h.1.2,
+        goes_join [] (adds c.args.from c.loop.core.values (full c.loop.core.values)) _ (shelf_at g.S.Shelf c.args.shelf.now) (shelf_at g.S.Shelf c.loop.shelf)
+            (shelf_at g.S.Shelf c.turn-next.new.shelf) c.loop.invariant.added h.1.2,
       ),
     ))
     c.turn-next.ensures.not_added
@@ -75,8 +75,8 @@ returns-in-Ended-clause-inquired g c =
 pub returns-in-Ended-clause-added : goal.returns-in-Ended-clause-added
 returns-in-Ended-clause-added g c =
     value_known _ c.turn-next.result.added
-    (goes_join (g.S.Shelf.is_opened_as c.args.shelf.now) (g.S.Shelf.is_opened_as c.loop.shelf) (g.S.Shelf.is_opened_as c.turn-next.new.shelf) [] (adds c.args.from c.loop.core.values (full c.loop.core.values))
-    (adds c.args.from c.turn-next.result.core.values (full c.turn-next.result.core.values)) (g.S.Shelf.told c.args.shelf.now) (g.S.Shelf.told c.loop.shelf) (g.S.Shelf.told c.turn-next.new.shelf) c.loop.invariant.added
+    (goes_join [] (adds c.args.from c.loop.core.values (full c.loop.core.values))
+    (adds c.args.from c.turn-next.result.core.values (full c.turn-next.result.core.values)) (shelf_at g.S.Shelf c.args.shelf.now) (shelf_at g.S.Shelf c.loop.shelf) (shelf_at g.S.Shelf c.turn-next.new.shelf) c.loop.invariant.added
     (done _ c.turn-next.result.added c.if-is_err.ensures.value c.turn-next.ensures.added))
 
 pub returns-in-LineFailed-clause-inquired : goal.returns-in-LineFailed-clause-inquired
@@ -96,8 +96,8 @@ returns-in-LineFailed-clause-inquired g c =
 pub returns-in-LineFailed-clause-added : goal.returns-in-LineFailed-clause-added
 returns-in-LineFailed-clause-added g c =
     value_known _ c.turn-next.result.added
-    (goes_join (g.S.Shelf.is_opened_as c.args.shelf.now) (g.S.Shelf.is_opened_as c.loop.shelf) (g.S.Shelf.is_opened_as c.turn-next.new.shelf) [] (adds c.args.from c.loop.core.values (full c.loop.core.values))
-    (adds c.args.from c.turn-next.result.core.values (full c.turn-next.result.core.values)) (g.S.Shelf.told c.args.shelf.now) (g.S.Shelf.told c.loop.shelf) (g.S.Shelf.told c.turn-next.new.shelf) c.loop.invariant.added
+    (goes_join [] (adds c.args.from c.loop.core.values (full c.loop.core.values))
+    (adds c.args.from c.turn-next.result.core.values (full c.turn-next.result.core.values)) (shelf_at g.S.Shelf c.args.shelf.now) (shelf_at g.S.Shelf c.loop.shelf) (shelf_at g.S.Shelf c.turn-next.new.shelf) c.loop.invariant.added
     (done _ c.turn-next.result.added c.if-is_err.ensures.value c.turn-next.ensures.added))
 
 pub returns-clause-inquired : goal.returns-clause-inquired

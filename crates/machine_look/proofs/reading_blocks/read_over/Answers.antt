@@ -127,8 +127,8 @@ returns-clause-fault g c =
           (subst (λ asked. Gains (g.R.Reach.asked c.args.console.now) asked (asked_once (g.R.Reach.call c.args.console.now))) (sym c.let_go-2.ensures.asked) c.in_ok-line.ensures.asked)
           (given_back read.result.stop line line' lines (g.R.Reach.lines c.reach.new.self) lines' _ _ _ (told read.new.line) c.in_ok-line.ensures.fresh.none_failed none i.counted refl
           c.in_ok-line.ensures.fresh.nothing_said refl i.named c.in_ok-line.ensures.lines c.let_go-2.ensures.lines),
-      failed.0,
-      failed.1,
-      λ folder known. subst (λ f. AreDone folder (not_all_added f (found ++ read.result.core.values) failed.0) (g.S.Shelf.told c.args.shelf.now) (g.S.Shelf.told read.new.shelf)) c.from.ensures.value
-          (failed.2 folder (g.S.Shelf.told c.args.shelf.now) known refl).1,
+      failed.1.0,
+      failed.1.1,
+      λ folder known. subst (λ f. AreDone folder (not_all_added f (found ++ read.result.core.values) failed.1.0) (g.S.Shelf.told c.args.shelf.now) (g.S.Shelf.told read.new.shelf)) c.from.ensures.value
+          (failed.1.2 folder (g.S.Shelf.told c.args.shelf.now) known refl).1,
     )

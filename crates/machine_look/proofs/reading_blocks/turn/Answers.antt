@@ -1,9 +1,6 @@
-use Rattle.std.proofs.Common.{◌<◌, ◌∙◌, ℕ, List, ◌++◌, ◌∷◌, [], length, subst, ap, arith}
-use Rattle.std.specs.Prelude.{⊤}
-use Rattle.tape_values.specs.Block.{data_block}
-use Rattle.tape_shelf.specs.Shelf.{NotAdded}
-use Rattle.tape_shelf.specs.SavedSteps.{adds, full}
-use Rattle.tape_shelf.specs.SavedTape.{saved_block}
+use Rattle.std.proofs.Common.{◌<◌, ◌∙◌, ℕ, List, length, subst, ap, arith}
+use Rattle.tape_shelf.specs.SavedSteps.{adds, full, not_all_added}
+use Rattle.tape_shelf.specs.ShelfAt.{shelf_at}
 use Rattle.machine_look.proofs.Steps.{full_more, led_more, on_each, on_ok, turned}
 use Rattle.machine_look.proofs.reading_blocks.turn.Goals as goal
 
@@ -18,8 +15,8 @@ returns-clause-added g c =
     let s = c.inquire-core.ensures.inquired.turns in
     let more = led_more c.args.core s.heard in
     on_ok c.add_full-added.result
-    (turned (g.S.Shelf.is_opened_as c.args.shelf.now) (g.S.Shelf.is_opened_as c.add_full-added.new.shelf) c.args.from c.args.core.values c.inquire-core.result.0.values more.0 c.values.result.now c.values-2.result.now
-    (λ v. adds c.args.from v (full v)) (g.S.Shelf.told c.args.shelf.now) (g.S.Shelf.told c.add_full-added.new.shelf) c.values.ensures.value c.values-2.ensures.value (ap (λ r. r.values) s.reader ∙ more.1))
+    (turned c.args.from c.args.core.values c.inquire-core.result.0.values more.0 c.values.result.now c.values-2.result.now
+    (λ v. adds c.args.from v (full v)) (shelf_at g.S.Shelf c.args.shelf.now) (shelf_at g.S.Shelf c.add_full-added.new.shelf) c.values.ensures.value c.values-2.ensures.value (ap (λ r. r.values) s.reader ∙ more.1))
     c.add_full-added.ensures.added
 
 pub returns-clause-not_added : goal.returns-clause-not_added
@@ -32,8 +29,8 @@ returns-clause-not_added g c =
       (
         h.1.0,
         subst (λ (v : List ℕ). h.1.0 < full v) c.values-2.ensures.value h.1.1,
-        turned (g.S.Shelf.is_opened_as c.args.shelf.now) (λ _. ⊤) c.args.from c.args.core.values c.inquire-core.result.0.values more.0 c.values.result.now c.values-2.result.now
-            (λ v. adds c.args.from v h.1.0 ++ NotAdded (data_block (saved_block c.args.from v h.1.0)) ∷ []) (g.S.Shelf.told c.args.shelf.now) (g.S.Shelf.told c.add_full-added.new.shelf)
+        turned c.args.from c.args.core.values c.inquire-core.result.0.values more.0 c.values.result.now c.values-2.result.now
+            (λ v. not_all_added c.args.from v h.1.0) (shelf_at g.S.Shelf c.args.shelf.now) (shelf_at g.S.Shelf c.add_full-added.new.shelf)
             c.values.ensures.value c.values-2.ensures.value (ap (λ r. r.values) s.reader ∙ more.1) h.1.2,
       ),
     ))

@@ -2,6 +2,7 @@ use Rattle.std.proofs.Common.{◌≡◌, ◌+◌, ◌*◌, ◌<◌, ℕ, List, [
 use Rattle.machine_look.specs.LookFault.{IsKeepFault, fault_of_shelf}
 use Rattle.tape_shelf.specs.SavedTape.{last_text}
 use Rattle.tape_shelf.specs.Shelf.{Put}
+use Rattle.tape_shelf.specs.ShelfAt.{shelf_at}
 use Rattle.tape_shelf.specs.ShelfTold.{AreDone}
 use Rattle.machine_look.proofs.Faults.{closes_long, not_put}
 use Rattle.tape_shelf.proofs.Added.{done_one, last_behind}
@@ -15,9 +16,9 @@ returns-in_err-put-clause-fault g c =
     let text : c.deref.result.now ≡ last_text from numbers c.args.options.start =
     c.deref.ensures.0 ∙ (c.last_text.ensures ∙ last_behind from (c.from.result + 2 * length c.args.found.now) c.args.found.now c.args.numbers.now c.args.options.start c.requires.whole (ap (λ f. f + 2 * length c.args.found.now) c.from.ensures.value)) in
     error_is c.from_residual.result (fault_of_shelf c.in_err-put.field-0.0)
-    (IsKeepFault (g.S.Shelf.is_opened_as c.args.shelf.now) from numbers c.args.options.start (g.S.Shelf.told c.args.shelf.now) (g.S.Shelf.told c.put.new.self))
+    (IsKeepFault c.args.options numbers (shelf_at g.S.Shelf c.args.shelf.now) (shelf_at g.S.Shelf c.put.new.self))
     c.from_residual.ensures.1
-    (not_put (g.S.Shelf.is_opened_as c.args.shelf.now) from numbers c.args.options.start c.deref.result.now c.in_err-put.field-0.0 (g.S.Shelf.told c.args.shelf.now) (g.S.Shelf.told c.put.new.self)
+    (not_put c.args.options numbers c.deref.result.now c.in_err-put.field-0.0 (shelf_at g.S.Shelf c.args.shelf.now) (shelf_at g.S.Shelf c.put.new.self)
     text c.in_err-put.ensures.fault c.in_err-put.ensures.done)
 
 pub returns-clause-ok : goal.returns-clause-ok

@@ -2,10 +2,12 @@ use Rattle.std.proofs.Common.{◌∙◌, ℕ, List, sym, subst}
 use Rattle.std.specs.Io.KnownBytes.{Appends}
 use Rattle.std.proofs.KnownBytes.{Keeps-refl}
 use Rattle.byte_io.specs.Output.{WritesAllBut}
+use Rattle.console_lines.specs.Console.{console_told}
 use Rattle.machine_look.specs.Course.{HasRoomForCounts, IsConcluded, IsCourse, IsUnclosed}
 use Rattle.machine_look.specs.declared.look_fault.LookFault.TheVariants.{WriteOutput}
 use Rattle.machine_look.specs.LookFault.{IsReadFault, IsSaveFault}
-use Rattle.machine_look.specs.Save.{SaveTold, console_of, save_told}
+use Rattle.machine_look.specs.Save.{SaveTold, Saving, console_of, save_at, save_told}
+use Rattle.tape_shelf.specs.ShelfAt.{ShelfAt, shelf_at}
 use Rattle.tape_shelf.proofs.OnShelf.{error_is}
 use Rattle.machine_look.proofs.Faults.{not_read}
 use Rattle.machine_look.proofs.Saves.{concluded, not_concluded, room_for_counts}
@@ -13,58 +15,55 @@ use Rattle.machine_look.proofs.saving.save.Goals as goal
 
 pub returns-in_err-course-clause-fault : goal.returns-in_err-course-clause-fault
 returns-in_err-course-clause-fault g c =
-    let before : SaveTold = save_told g.S.Shelf g.R.Reach g.W.Write c.args.shelf.now c.args.console.now c.args.out.now in
-    let after : SaveTold = save_told g.S.Shelf g.R.Reach g.W.Write c.read_over.new.shelf c.read_over.new.console c.args.out.now in
-    let found = c.in_ok-found.found.items in
+    let before : SaveTold = save_told (g.S.Shelf.told c.args.shelf.now) (console_told g.R.Reach g.W.Write c.args.console.now c.args.out.now) in
+    let after : SaveTold = save_told (g.S.Shelf.told c.read_over.new.shelf) (console_told g.R.Reach g.W.Write c.read_over.new.console c.args.out.now) in
+    let saving : Saving = record { options = c.args.options; found = c.in_ok-found.found.items } in
     let taken = c.in_ok-found.ensures.taken in
-    let opened = g.S.Shelf.is_opened_as c.take_up.new.shelf in
-    let mid = g.S.Shelf.told c.take_up.new.shelf in
+    let mid : ShelfAt = shelf_at g.S.Shelf c.take_up.new.shelf in
     error_is c.from_residual-in_err-course.result c.in_err-course.field-0.0 (IsSaveFault c.args.options before after) c.from_residual-in_err-course.ensures.1
-    (not_read c.args.options found taken.0 before after mid opened taken.2 c.in_err-course.field-0.0 taken.1 taken.3 taken.4
-    (subst (λ (f : List ℕ). IsReadFault c.args.options f opened mid after.shelf (console_of before) (console_of after) c.in_err-course.field-0.0) c.deref-2.ensures.value c.in_err-course.ensures.fault)
+    (not_read saving taken.0 before after mid (g.S.Shelf.is_opened_as c.read_over.new.shelf) taken.2 c.in_err-course.field-0.0 taken.1 taken.3 taken.4
+    (subst (λ (f : List ℕ). IsReadFault (record { options = c.args.options; found = f }) (save_at g.S.Shelf g.R.Reach c.take_up.new.shelf c.args.console.now)
+    (save_at g.S.Shelf g.R.Reach c.read_over.new.shelf c.read_over.new.console) c.in_err-course.field-0.0) c.deref-2.ensures.value c.in_err-course.ensures.fault)
     (Keeps-refl (g.W.Write.contents c.args.out.now)))
 
 pub conclude-requires-clause-room : goal.conclude-requires-clause-room
 conclude-requires-clause-room g c =
-    let before : SaveTold = save_told g.S.Shelf g.R.Reach g.W.Write c.args.shelf.now c.args.console.now c.args.out.now in
-    let after : SaveTold = save_told g.S.Shelf g.R.Reach g.W.Write c.read_over.new.shelf c.read_over.new.console c.args.out.now in
-    let found = c.in_ok-found.found.items in
-    let opened = g.S.Shelf.is_opened_as c.take_up.new.shelf in
-    let opened' = g.S.Shelf.is_opened_as c.read_over.new.shelf in
-    let mid = g.S.Shelf.told c.take_up.new.shelf in
-    let mid' = g.S.Shelf.told c.read_over.new.shelf in
-    let course = subst (λ (f : List ℕ). IsCourse c.args.options f opened opened' mid mid' (console_of before) (console_of after) c.in_ok-course.course) c.deref-2.ensures.value c.in_ok-course.ensures.course in
+    let before : SaveTold = save_told (g.S.Shelf.told c.args.shelf.now) (console_told g.R.Reach g.W.Write c.args.console.now c.args.out.now) in
+    let after : SaveTold = save_told (g.S.Shelf.told c.read_over.new.shelf) (console_told g.R.Reach g.W.Write c.read_over.new.console c.args.out.now) in
+    let saving : Saving = record { options = c.args.options; found = c.in_ok-found.found.items } in
+    let mid : ShelfAt = shelf_at g.S.Shelf c.take_up.new.shelf in
+    let mid' : ShelfAt = shelf_at g.S.Shelf c.read_over.new.shelf in
+    let course = subst (λ (f : List ℕ). IsCourse (record { options = c.args.options; found = f }) (save_at g.S.Shelf g.R.Reach c.take_up.new.shelf c.args.console.now)
+    (save_at g.S.Shelf g.R.Reach c.read_over.new.shelf c.read_over.new.console) c.in_ok-course.course) c.deref-2.ensures.value c.in_ok-course.ensures.course in
     subst (λ (f : List ℕ). HasRoomForCounts c.args.options f c.in_ok-course.course) (sym c.deref-3.ensures.value)
-    (room_for_counts c.args.options found opened opened' mid mid' (console_of before) (console_of after) c.in_ok-course.course c.args.options.range.in_order c.in_ok-found.ensures.found course)
+    (room_for_counts saving mid mid' (console_of before) (console_of after) c.in_ok-course.course c.args.options.range.in_order c.in_ok-found.ensures.found course)
 
 pub returns-in_err-counts-clause-fault : goal.returns-in_err-counts-clause-fault
 returns-in_err-counts-clause-fault g c =
-    let before : SaveTold = save_told g.S.Shelf g.R.Reach g.W.Write c.args.shelf.now c.args.console.now c.args.out.now in
-    let after : SaveTold = save_told g.S.Shelf g.R.Reach g.W.Write c.conclude.new.shelf c.read_over.new.console c.args.out.now in
-    let found = c.in_ok-found.found.items in
+    let before : SaveTold = save_told (g.S.Shelf.told c.args.shelf.now) (console_told g.R.Reach g.W.Write c.args.console.now c.args.out.now) in
+    let after : SaveTold = save_told (g.S.Shelf.told c.conclude.new.shelf) (console_told g.R.Reach g.W.Write c.read_over.new.console c.args.out.now) in
+    let saving : Saving = record { options = c.args.options; found = c.in_ok-found.found.items } in
     let taken = c.in_ok-found.ensures.taken in
-    let opened = g.S.Shelf.is_opened_as c.take_up.new.shelf in
-    let opened' = g.S.Shelf.is_opened_as c.read_over.new.shelf in
-    let mid = g.S.Shelf.told c.take_up.new.shelf in
-    let mid' = g.S.Shelf.told c.read_over.new.shelf in
-    let course = subst (λ (f : List ℕ). IsCourse c.args.options f opened opened' mid mid' (console_of before) (console_of after) c.in_ok-course.course) c.deref-2.ensures.value c.in_ok-course.ensures.course in
-    let unclosed = subst (λ (f : List ℕ). IsUnclosed c.args.options f opened' mid' after.shelf c.in_ok-course.course c.in_err-counts.field-0.0) c.deref-3.ensures.value c.in_err-counts.ensures.fault in
+    let mid : ShelfAt = shelf_at g.S.Shelf c.take_up.new.shelf in
+    let mid' : ShelfAt = shelf_at g.S.Shelf c.read_over.new.shelf in
+    let course = subst (λ (f : List ℕ). IsCourse (record { options = c.args.options; found = f }) (save_at g.S.Shelf g.R.Reach c.take_up.new.shelf c.args.console.now)
+    (save_at g.S.Shelf g.R.Reach c.read_over.new.shelf c.read_over.new.console) c.in_ok-course.course) c.deref-2.ensures.value c.in_ok-course.ensures.course in
+    let unclosed = subst (λ (f : List ℕ). IsUnclosed (record { options = c.args.options; found = f }) c.in_ok-course.course mid' (shelf_at g.S.Shelf c.conclude.new.shelf) c.in_err-counts.field-0.0) c.deref-3.ensures.value c.in_err-counts.ensures.fault in
     error_is c.from_residual-in_err-counts.result c.in_err-counts.field-0.0 (IsSaveFault c.args.options before after) c.from_residual-in_err-counts.ensures.1
-    (not_concluded c.args.options found opened opened' mid mid' taken.0 taken.2 taken.1 before after taken.4 taken.3 c.in_ok-course.course c.in_err-counts.field-0.0 course unclosed (Keeps-refl (g.W.Write.contents c.args.out.now)))
+    (not_concluded saving mid mid' taken.0 taken.2 taken.1 before after (g.S.Shelf.is_opened_as c.conclude.new.shelf) taken.4 taken.3 c.in_ok-course.course c.in_err-counts.field-0.0 course unclosed (Keeps-refl (g.W.Write.contents c.args.out.now)))
 
 pub returns-in_err-write_and_flush-clause-fault : goal.returns-in_err-write_and_flush-clause-fault
 returns-in_err-write_and_flush-clause-fault g c =
-    let before : SaveTold = save_told g.S.Shelf g.R.Reach g.W.Write c.args.shelf.now c.args.console.now c.args.out.now in
-    let after : SaveTold = save_told g.S.Shelf g.R.Reach g.W.Write c.conclude.new.shelf c.read_over.new.console c.write_and_flush.new.out in
-    let found = c.in_ok-found.found.items in
+    let before : SaveTold = save_told (g.S.Shelf.told c.args.shelf.now) (console_told g.R.Reach g.W.Write c.args.console.now c.args.out.now) in
+    let after : SaveTold = save_told (g.S.Shelf.told c.conclude.new.shelf) (console_told g.R.Reach g.W.Write c.read_over.new.console c.write_and_flush.new.out) in
+    let saving : Saving = record { options = c.args.options; found = c.in_ok-found.found.items } in
     let taken = c.in_ok-found.ensures.taken in
-    let opened = g.S.Shelf.is_opened_as c.take_up.new.shelf in
-    let opened' = g.S.Shelf.is_opened_as c.read_over.new.shelf in
-    let mid = g.S.Shelf.told c.take_up.new.shelf in
-    let mid' = g.S.Shelf.told c.read_over.new.shelf in
-    let course = subst (λ (f : List ℕ). IsCourse c.args.options f opened opened' mid mid' (console_of before) (console_of after) c.in_ok-course.course) c.deref-2.ensures.value c.in_ok-course.ensures.course in
-    let closed = subst (λ (f : List ℕ). IsConcluded c.args.options f opened' mid' after.shelf c.in_ok-course.course c.in_ok-counts.counts c.in_ok-counts.end) c.deref-3.ensures.value c.in_ok-counts.ensures.ok in
-    let over = concluded c.args.options found opened opened' mid mid' taken.0 taken.2 taken.1 before after taken.4 taken.3 c.in_ok-course.course c.in_ok-counts.counts c.in_ok-counts.end c.args.options.range.in_order c.conclude.ensures.fits
+    let mid : ShelfAt = shelf_at g.S.Shelf c.take_up.new.shelf in
+    let mid' : ShelfAt = shelf_at g.S.Shelf c.read_over.new.shelf in
+    let course = subst (λ (f : List ℕ). IsCourse (record { options = c.args.options; found = f }) (save_at g.S.Shelf g.R.Reach c.take_up.new.shelf c.args.console.now)
+    (save_at g.S.Shelf g.R.Reach c.read_over.new.shelf c.read_over.new.console) c.in_ok-course.course) c.deref-2.ensures.value c.in_ok-course.ensures.course in
+    let closed = subst (λ (f : List ℕ). IsConcluded (record { options = c.args.options; found = f }) c.in_ok-course.course mid' (shelf_at g.S.Shelf c.conclude.new.shelf) (c.in_ok-counts.counts, c.in_ok-counts.end)) c.deref-3.ensures.value c.in_ok-counts.ensures.ok in
+    let over = concluded saving mid mid' taken.0 taken.2 taken.1 before after (g.S.Shelf.is_opened_as c.conclude.new.shelf) taken.4 taken.3 c.in_ok-course.course (c.in_ok-counts.counts, c.in_ok-counts.end) c.args.options.range.in_order c.conclude.ensures.fits
     c.in_ok-found.ensures.found course closed in
     let text = c.deref-4.ensures.0 ∙ c.save_report.ensures in
     error_is c.from_residual-in_err-write_and_flush.result WriteOutput (IsSaveFault c.args.options before after) c.from_residual-in_err-write_and_flush.ensures.1 (record {
@@ -77,20 +76,19 @@ returns-in_err-write_and_flush-clause-fault g c =
 
 pub returns-clause-reported : goal.returns-clause-reported
 returns-clause-reported g c =
-    let before : SaveTold = save_told g.S.Shelf g.R.Reach g.W.Write c.args.shelf.now c.args.console.now c.args.out.now in
-    let after : SaveTold = save_told g.S.Shelf g.R.Reach g.W.Write c.conclude.new.shelf c.read_over.new.console c.write_and_flush.new.out in
-    let found = c.in_ok-found.found.items in
+    let before : SaveTold = save_told (g.S.Shelf.told c.args.shelf.now) (console_told g.R.Reach g.W.Write c.args.console.now c.args.out.now) in
+    let after : SaveTold = save_told (g.S.Shelf.told c.conclude.new.shelf) (console_told g.R.Reach g.W.Write c.read_over.new.console c.write_and_flush.new.out) in
+    let saving : Saving = record { options = c.args.options; found = c.in_ok-found.found.items } in
     let taken = c.in_ok-found.ensures.taken in
-    let opened = g.S.Shelf.is_opened_as c.take_up.new.shelf in
-    let opened' = g.S.Shelf.is_opened_as c.read_over.new.shelf in
-    let mid = g.S.Shelf.told c.take_up.new.shelf in
-    let mid' = g.S.Shelf.told c.read_over.new.shelf in
-    let course = subst (λ (f : List ℕ). IsCourse c.args.options f opened opened' mid mid' (console_of before) (console_of after) c.in_ok-course.course) c.deref-2.ensures.value c.in_ok-course.ensures.course in
-    let closed = subst (λ (f : List ℕ). IsConcluded c.args.options f opened' mid' after.shelf c.in_ok-course.course c.in_ok-counts.counts c.in_ok-counts.end) c.deref-3.ensures.value c.in_ok-counts.ensures.ok in
+    let mid : ShelfAt = shelf_at g.S.Shelf c.take_up.new.shelf in
+    let mid' : ShelfAt = shelf_at g.S.Shelf c.read_over.new.shelf in
+    let course = subst (λ (f : List ℕ). IsCourse (record { options = c.args.options; found = f }) (save_at g.S.Shelf g.R.Reach c.take_up.new.shelf c.args.console.now)
+    (save_at g.S.Shelf g.R.Reach c.read_over.new.shelf c.read_over.new.console) c.in_ok-course.course) c.deref-2.ensures.value c.in_ok-course.ensures.course in
+    let closed = subst (λ (f : List ℕ). IsConcluded (record { options = c.args.options; found = f }) c.in_ok-course.course mid' (shelf_at g.S.Shelf c.conclude.new.shelf) (c.in_ok-counts.counts, c.in_ok-counts.end)) c.deref-3.ensures.value c.in_ok-counts.ensures.ok in
     let text = c.deref-4.ensures.0 ∙ c.save_report.ensures in
     record {
       counts = c.in_ok-counts.counts;
-      over = concluded c.args.options found opened opened' mid mid' taken.0 taken.2 taken.1 before after taken.4 taken.3 c.in_ok-course.course c.in_ok-counts.counts c.in_ok-counts.end c.args.options.range.in_order c.conclude.ensures.fits
+      over = concluded saving mid mid' taken.0 taken.2 taken.1 before after (g.S.Shelf.is_opened_as c.conclude.new.shelf) taken.4 taken.3 c.in_ok-course.course (c.in_ok-counts.counts, c.in_ok-counts.end) c.args.options.range.in_order c.conclude.ensures.fits
           c.in_ok-found.ensures.found course closed;
       reported = subst (Appends (g.W.Write.contents c.args.out.now) (g.W.Write.contents c.write_and_flush.new.out)) text c.in_ok-write_and_flush.ensures.ok;
     }

@@ -37,7 +37,8 @@ save_end_name (Stale address) = codes "Stale " ++ octal_text address
 -- the characters sent, the mishaps, and how many of the words the tape has
 abbrev pub save_counts_text : SaveCounts → List ℕ
 save_counts_text counts =
-    codes "sent " ++ decimal counts.sent ++ codes " spent " ++ decimal counts.spent ++ codes " read " ++ decimal counts.read ++ codes " of " ++ decimal counts.words
+    codes "sent " ++ decimal counts.sent ++ codes " spent " ++ decimal counts.spent ++ codes " read " ++ decimal counts.read
+    ++ codes " of " ++ decimal counts.words
 
 -- the counts, and the end
 abbrev pub save_report : SaveCounts → SaveEnd → List ℕ

@@ -43,9 +43,9 @@ pub struct SaveOptions {
 /// The room of the whole tape is taken there before the console is reached, so that want of it is told with
 /// nothing typed. Where an earlier save of the same words left blocks there, samples of their words are looked at
 /// first: where they stand, these blocks are added once more, and the words behind them are read; where one does
-/// not, or the looks do not come to their end, no word counts as read, and the shelf is as it was. The tape is closed, and has its place there, once the host has ended, with every word that was
-/// read by then, also where the machine has no more memory, the line failed or the host gave up; where no word
-/// was read, there is none.
+/// not, or the looks do not come to their end, no word counts as read, and the shelf is as it was. The tape is
+/// closed, and has its place there, once the host has ended, with every word that was read by then, also where the
+/// machine has no more memory, the line failed or the host gave up; where no word was read, there is none.
 ///
 /// `IsThere`, `PartIsThere`, `NotOfSave` and `WriteTape` come before the console is reached; `IsThere` and `WriteTape` also
 /// where the tape can't have its place at the end, and `WriteTape` where a block can't be added: then the blocks

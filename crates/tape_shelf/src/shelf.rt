@@ -46,7 +46,8 @@ pub trait Shelf {
     /// `PartIsThere` where it can't be read, or somebody else holds it; `NotOfSave` where it is none of these words.
     fn resume(&mut self, alloc: Global, range: AddressRange) -> Result<Vec<u16>, ShelfFault>
         ensures found { IfOk result (λ found. FillBlocks range found.items) }
-        ensures done { IfOk result (λ found. (folder : List ℕ) × is_opened_as self.new folder × IsDone folder (Resume found.items) (told self.old) (told self.new)) }
+        ensures done { IfOk result (λ found. (folder : List ℕ) × is_opened_as self.new folder
+            × IsDone folder (Resume found.items) (told self.old) (told self.new)) }
         ensures failed { IfErr result (λ fault. (folder : List ℕ) → IsDone folder (NotResumed fault) (told self.old) (told self.new)) };
 
     /// Adds the text of a block, behind what was added before, and brings it to where a loss of power leaves

@@ -13,6 +13,7 @@ use Rattle.exchange_law.proofs.Passing.{exchanges_are_true}
 use Rattle.stub_engine.specs.declared.exchange_stop.ExchangeStop.{ExchangeStop as Stop}
 use Rattle.stub_engine.specs.declared.exchange_stop.ExchangeStop.TheVariants.{Ended, LineFailed, KeepFailed, TurnsOver}
 use Rattle.stub_engine.specs.Belief.{IsBelievableOver}
+use Rattle.stub_engine.specs.Exchanging.{exchanging}
 use Rattle.stub_engine.specs.Exchanged.{Exchanged, IsSaid, LacksKeys}
 
 -- a front of the dialogue was said, up to some character
@@ -24,7 +25,7 @@ lacks (Some (LineFailed fault)) left all said (inl deaf) = ([], sym deaf.0 ∙ s
 lacks (Some (LineFailed fault)) left all said (inr less) = less
 lacks (Some (KeepFailed fault)) left all said s = s.0
 
-pub believable : (plan : PlanValue) (chunks : List Chunk) (turns : ℕ) (stop : Option Stop) (from : ℕ) (e : Exchange) (line line' : Option (List Item)) → AreChunks plan from chunks → Exchanged plan chunks turns stop (begun from) e line line' → IsBelievableOver plan chunks e line line'
+pub believable : (plan : PlanValue) (chunks : List Chunk) (turns : ℕ) (stop : Option Stop) (from : ℕ) (e : Exchange) (line line' : Option (List Item)) → AreChunks plan from chunks → Exchanged turns (exchanging plan chunks (begun from, e) stop) line line' → IsBelievableOver (exchanging plan chunks (begun from, e) stop) line line'
 believable plan chunks turns stop from e line line' are s said gained program x y may passes =
     let short = lacks stop (turns - length s.heard) (dialogue plan.image chunks (begun from) s.heard) s.said s.items in
     subst (λ e. IsExchanged program plan chunks x.station.machine.memory e y) (sym s.exchange)

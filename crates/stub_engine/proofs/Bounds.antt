@@ -34,3 +34,15 @@ bounded v old new low few step sent spent b = elim step [
     spent = grown_32 v old.verified old.in_vain new.verified new.in_vain old.spent new.spent low few gain.0 gain.1 spent b.spent;
   }
 ]
+
+pub few_sent : (v : ℕ) (tally : Tally) → tally.verified ≤ v + 28672 → AreBounded v tally → tally.sent ≤ 2 ^ 59
+few_sent v tally near b = by tally.verified tally.in_vain tally.sent near b.few b.sent
+  where
+    by : (verified n count : ℕ) → verified ≤ v + 28672 → n ≤ 3 → count ≤ 2 ^ 37 * (3 * (verified - v) + n) → count ≤ 2 ^ 59
+    by verified n count near few bound = omega (arith, near, few, bound)
+
+pub few_spent : (v : ℕ) (tally : Tally) → tally.verified ≤ v + 28672 → AreBounded v tally → tally.spent ≤ 2 ^ 59
+few_spent v tally near b = by tally.verified tally.in_vain tally.spent near b.few b.spent
+  where
+    by : (verified n count : ℕ) → verified ≤ v + 28672 → n ≤ 3 → count ≤ 2 ^ 32 * (3 * (verified - v) + n) → count ≤ 2 ^ 59
+    by verified n count near few bound = omega (arith, near, few, bound)

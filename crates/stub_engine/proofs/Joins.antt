@@ -1,5 +1,5 @@
 -- Stubs' parts one after another.
-use Rattle.std.proofs.Common.{◌≡◌, ℕ, ◌+◌, List, [], ◌∷◌, ◌++◌, Option, Some, None, inl, inr, refl, arith, ap, sym, subst, ◌∙◌, append_assoc, append-nil}
+use Rattle.std.proofs.Common.{◌≡◌, ℕ, ◌+◌, List, [], ◌∷◌, ◌++◌, Option, Some, None, inr, refl, arith, ap, sym, subst, ◌∙◌, append_assoc, append-nil}
 use Rattle.tape_image.specs.Plan.{PlanValue}
 use Rattle.load_devices.specs.declared.item.Item.{Item}
 use Rattle.load_devices.specs.Dialogue.{dialogue}
@@ -11,7 +11,7 @@ use Rattle.load_lives.specs.StubParts.{AreStubParts, StubPart, bringer, exchange
 use Rattle.stub_engine.specs.declared.stop.Stop.{Stop}
 use Rattle.stub_engine.specs.declared.stop.Stop.TheVariants.{TooFewWords, NoRoom, InVain, NotStarted, TurnsOver, LineFailed, KeepFailed, Memory}
 use Rattle.stub_engine.specs.declared.tally.Tally.{Tally}
-use Rattle.stub_engine.specs.Parts.{AllStart, AreBroughtIn, AreFollowed, AreWorth, TellsEnd, in_vain_after, in_vain_by, sent_by, sent_in, spent_by}
+use Rattle.stub_engine.specs.Parts.{AllStart, AreBroughtIn, AreFollowed, AreWorth, TellsEnd, bringing, in_vain_after, in_vain_by, sent_by, sent_in, spent_by}
 
 verified_join : (tape : PlanValue) (v : ℕ) (parts more : List StubPart) → verified_by tape v (parts ++ more) ≡ verified_by tape (verified_by tape v parts) more
 verified_join tape v [] more = refl
@@ -81,13 +81,13 @@ spent_join (part ∷ parts) more = by (led (bringer part) part.brought).spent (s
 sums : (a b c first rest all : ℕ) → b ≡ a + first → c ≡ b + rest → all ≡ first + rest → c ≡ a + all
 sums a b c first rest all one two e = omega (arith, one, two, e)
 
-pub brought_join : (tape : PlanValue) (patience : ℕ) (stop : Option Stop) (a b c : Tally) (line line' line'' : Option (List Item)) → AreBroughtIn tape patience None a b line line' → AreBroughtIn tape patience stop b c line' line'' → AreBroughtIn tape patience stop a c line line''
+pub brought_join : (tape : PlanValue) (patience : ℕ) (stop : Option Stop) (a b c : Tally) (line line' line'' : Option (List Item)) → AreBroughtIn (bringing tape patience (a, b) None) line line' → AreBroughtIn (bringing tape patience (b, c) stop) line' line'' → AreBroughtIn (bringing tape patience (a, c) stop) line line''
 brought_join tape patience stop a b c line line' line'' s t =
     let parts : List StubPart = s.parts ++ t.parts in
     let front : stubs_said tape a.verified s.parts ≡ s.said = s.items ∙ (ap (λ keys. s.said ++ said_all keys) (s.all_sent refl) ∙ append-nil s.said) in
     let here = s.verified in record {
       parts = s.parts ++ t.parts;
-      stubs = stubs_join tape a.verified s.parts t.parts s.stubs (subst (λ v. AreStubParts stub_program tape v t.parts) here t.stubs);
+      are_parts = stubs_join tape a.verified s.parts t.parts s.are_parts (subst (λ v. AreStubParts stub_program tape v t.parts) here t.are_parts);
       worth = worth_join patience tape a.verified a.in_vain s.parts t.parts s.worth
           (subst (λ v. AreWorth patience tape v (in_vain_by tape a.verified a.in_vain s.parts) t.parts) here (subst (λ n. AreWorth patience tape b.verified n t.parts) s.in_vain t.worth));
       followed = follow_join s.parts t.parts (s.all_start refl) t.followed;

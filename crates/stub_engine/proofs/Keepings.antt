@@ -3,14 +3,15 @@ use Rattle.std.proofs.Common.{◌≡◌, ℕ, suc, ◌+◌, ◌-◌, ◌<◌, �
 use Rattle.std.proofs.lemmas.List.{drop_more, length-map, length-take-le, map-append}
 use Rattle.std.proofs.Math.Seq.{take-add, drop-drop}
 use Rattle.tape_image.specs.Word.{WordValue}
+use Rattle.load_devices.specs.declared.fault.KeepFault.{KeepFault}
 use Rattle.load_devices.specs.declared.item.Kept.{Kept}
 use Rattle.load_devices.specs.declared.item.Kept.TheVariants.{Word}
+use Rattle.load_devices.specs.Devices.{KeeperCalls}
+use Rattle.load_devices.specs.Failures.{CountsFault}
 use Rattle.load_devices.proofs.Told.{gains_join, gains_kept, gains_none}
 use Rattle.load_devices.specs.Told.{Gains, SaysNothing}
 use Rattle.load_engine.specs.Keeping.{KeepsEach, KeepsAllButLast}
-use Rattle.stub_engine.specs.declared.exchange_stop.ExchangeStop.{ExchangeStop as Stop}
-use Rattle.stub_engine.specs.declared.exchange_stop.ExchangeStop.TheVariants.{Ended, LineFailed, KeepFailed, TurnsOver}
-use Rattle.stub_engine.specs.Keeping.{GainsFront, KeepsFront, KeptBy, ToldBy, words_kept}
+use Rattle.stub_engine.specs.Keeping.{AllOrFront, GainsFront, IsKeptBy, IsToldBy, KeepsFront, keeping, words_kept}
 
 each_join : {K : Type 0} (keeps : K → Kept → K → Type 0) (old next new : K) (items more : List Kept) → KeepsEach keeps old items next → KeepsEach keeps next more new → KeepsEach keeps old (items ++ more) new
 each_join {K} keeps old next new [] more same each = let P : K → Type 0 = λ k. KeepsEach keeps k more new in subst P same each
@@ -22,9 +23,9 @@ take_behind {A} (item ∷ items) more k =
     let one : length (item ∷ items) + k ≡ suc (length items + k) = omega arith in
     ap (λ n. take n (item ∷ (items ++ more))) one ∙ ap (λ rest. item ∷ rest) (take_behind items more k)
 
-front_join : {K : Type 0} (keeps fails : K → Kept → K → Type 0) (old next new : K) (items more : List Kept) → KeepsEach keeps old items next → KeepsFront keeps fails next more new → KeepsFront keeps fails old (items ++ more) new
-front_join {K} keeps fails old next new items more each (k, less, by) =
-    let P : List Kept → Type 0 = λ list. KeepsAllButLast keeps fails old list new in
+front_join : {K : Type 0} (calls : KeeperCalls K) (old next new : K) (items more : List Kept) → KeepsEach calls.keeps old items next → KeepsFront calls more next new → KeepsFront calls (items ++ more) old new
+front_join {K} calls old next new items more each (k, less, by) =
+    let P : List Kept → Type 0 = λ list. KeepsAllButLast calls.keeps calls.fails old list new in
     let sum : length items + (k + 1) ≡ length items + k + 1 = omega arith in (
       length items + k,
       omega (arith, less, length-append items more),
@@ -33,17 +34,15 @@ front_join {K} keeps fails old next new items more each (k, less, by) =
         last = by.last;
         items_are = ap (λ l. items ++ l) by.items_are ∙ sym (append_assoc items by.kept (by.last ∷ []));
         next = by.next;
-        each = each_join keeps old next by.next items by.kept each by.each;
+        each = each_join calls.keeps old next by.next items by.kept each by.each;
         failing = by.failing;
       }),
     )
 
-kept_join : {K : Type 0} (keeps fails : K → Kept → K → Type 0) (stop : Option Stop) (old next new : K) (items more : List Kept) → KeepsEach keeps old items next → KeptBy keeps fails stop next more new → KeptBy keeps fails stop old (items ++ more) new
-kept_join {K} keeps fails (Some (KeepFailed fault)) old next new items more each by = front_join keeps fails old next new items more each by
-kept_join {K} keeps fails (Some (LineFailed fault)) old next new items more each by = each_join keeps old next new items more each by
-kept_join {K} keeps fails (Some TurnsOver) old next new items more each by = each_join keeps old next new items more each by
-kept_join {K} keeps fails (Some (Ended end)) old next new items more each by = each_join keeps old next new items more each by
-kept_join {K} keeps fails None old next new items more each by = each_join keeps old next new items more each by
+kept_join : {K : Type 0} (calls : KeeperCalls K) (fault : Option KeepFault) (old next new : K) (items more : List Kept) → KeepsEach calls.keeps old items next → AllOrFront fault (KeepsEach calls.keeps next more new) (KeepsFront calls more next new)
+    → AllOrFront fault (KeepsEach calls.keeps old (items ++ more) new) (KeepsFront calls (items ++ more) old new)
+kept_join {K} calls None old next new items more each by = each_join calls.keeps old next new items more each by
+kept_join {K} calls (Some fault) old next new items more each by = front_join calls old next new items more each by
 
 -- ---- words
 
@@ -76,36 +75,41 @@ each_more {K} keeps old mid new words from k d le less each one =
     subst P (sym (words_join words from k (k + 1) le (omega arith) ∙ ap (λ rest. words_kept words from k ++ rest) (one_kept words k d less)))
     (each_join keeps old mid new (words_kept words from k) (Word (get_or words k d) ∷ []) each (new, one, refl))
 
-pub front_stops : {K : Type 0} (keeps fails : K → Kept → K → Type 0) (old mid new : K) (words : List WordValue) (from k to : ℕ) (d : WordValue) → from ≤ k → k < to → to ≤ length words → KeepsEach keeps old (words_kept words from k) mid → fails mid (Word (get_or words k d)) new →
-    KeepsFront keeps fails old (words_kept words from to) new
-front_stops {K} keeps fails old mid new words from k to d le less within each one =
-    let P : List Kept → Type 0 = λ items. KeepsFront keeps fails old items new in
+pub front_stops : {K : Type 0} (calls : KeeperCalls K) (old mid new : K) (words : List WordValue) (from k to : ℕ) (d : WordValue) → from ≤ k → k < to → to ≤ length words → KeepsEach calls.keeps old (words_kept words from k) mid → calls.fails mid (Word (get_or words k d)) new →
+    KeepsFront calls (words_kept words from to) old new
+front_stops {K} calls old mid new words from k to d le less within each one =
+    let P : List Kept → Type 0 = λ items. KeepsFront calls items old new in
     let rest : words_kept words k to ≡ Word (get_or words k d) ∷ words_kept words (k + 1) to =
     words_join words k (k + 1) to (omega arith) (omega (arith, less)) ∙ ap (λ front. front ++ words_kept words (k + 1) to) (one_kept words k d (omega (arith, less, within))) in
     subst P (sym (words_join words from k to le (omega (arith, less)) ∙ ap (λ more. words_kept words from k ++ more) rest))
-    (front_join keeps fails old mid new (words_kept words from k) (Word (get_or words k d) ∷ words_kept words (k + 1) to) each
+    (front_join calls old mid new (words_kept words from k) (Word (get_or words k d) ∷ words_kept words (k + 1) to) each
     (0, omega arith, record { kept = []; last = Word (get_or words k d); items_are = refl; next = mid; each = refl; failing = one }))
 
 -- ---- two stretches
 
-pub kept_then : {K : Type 0} (keeps fails : K → Kept → K → Type 0) (stop : Option Stop) (old next new : K) (words : List WordValue) (a b c : ℕ) → a ≤ b → b ≤ c → KeepsEach keeps old (words_kept words a b) next → KeptBy keeps fails stop next (words_kept words b c) new →
-    KeptBy keeps fails stop old (words_kept words a c) new
-kept_then {K} keeps fails stop old next new words a b c one two each by =
-    let P : List Kept → Type 0 = λ items. KeptBy keeps fails stop old items new in
-    subst P (sym (words_join words a b c one two)) (kept_join keeps fails stop old next new (words_kept words a b) (words_kept words b c) each by)
+pub kept_then : {K : Type 0} (calls : KeeperCalls K) (fault : Option KeepFault) (old next new : K) (words : List WordValue) (a b c : ℕ) → a ≤ b → b ≤ c → IsKeptBy calls (keeping (words_kept words a b) None) old next → IsKeptBy calls (keeping (words_kept words b c) fault) next new →
+    IsKeptBy calls (keeping (words_kept words a c) fault) old new
+kept_then {K} calls fault old next new words a b c one two first by =
+    let P : List Kept → Type 0 = λ items. AllOrFront fault (KeepsEach calls.keeps old items new) (KeepsFront calls items old new) in record {
+      counted = subst (λ n. CountsFault fault n (calls.failures new)) first.counted by.counted;
+      named = by.named;
+      each = subst P (sym (words_join words a b c one two)) (kept_join calls fault old next new (words_kept words a b) (words_kept words b c) first.each by.each);
+    }
+
+-- nothing was given to it
+pub kept_none : {K : Type 0} (calls : KeeperCalls K) (keep : K) (words : List WordValue) (from to : ℕ) → to ≤ from → IsKeptBy calls (keeping (words_kept words from to) None) keep keep
+kept_none {K} calls keep words from to le = record { counted = refl; named = tt; each = each_begins calls.keeps keep words from to le }
 
 -- ---- what the keeper tells
 
-told_join : (stop : Option Stop) (a b c : Option (List Kept)) (items more : List Kept) → Gains a b items → ToldBy stop b c more → ToldBy stop a c (items ++ more)
+told_join : (fault : Option KeepFault) (a b c : Option (List Kept)) (items more : List Kept) → Gains a b items → AllOrFront fault (Gains b c more) (GainsFront b c more) → AllOrFront fault (Gains a c (items ++ more)) (GainsFront a c (items ++ more))
 told_join None a b c items more gains by = gains_join a b c items more gains by
-told_join (Some (Ended end)) a b c items more gains by = gains_join a b c items more gains by
-told_join (Some TurnsOver) a b c items more gains by = gains_join a b c items more gains by
-told_join (Some (LineFailed fault)) a b c items more gains by = gains_join a b c items more gains by
-told_join (Some (KeepFailed fault)) a b c items more gains (k, less, front) =
+told_join (Some fault) a b c items more gains (k, less, front) =
     (length items + k, omega (arith, less, length-append items more), subst (Gains a c) (sym (take_behind items more k)) (gains_join a b c items (take k more) gains front))
 
-pub told_then : (stop : Option Stop) (a b c : Option (List Kept)) (words : List WordValue) (i j k : ℕ) → i ≤ j → j ≤ k → Gains a b (words_kept words i j) → ToldBy stop b c (words_kept words j k) → ToldBy stop a c (words_kept words i k)
-told_then stop a b c words i j k one two gains by = subst (ToldBy stop a c) (sym (words_join words i j k one two)) (told_join stop a b c (words_kept words i j) (words_kept words j k) gains by)
+pub told_then : (fault : Option KeepFault) (a b c : Option (List Kept)) (words : List WordValue) (i j k : ℕ) → i ≤ j → j ≤ k → Gains a b (words_kept words i j) → IsToldBy (keeping (words_kept words j k) fault) b c → IsToldBy (keeping (words_kept words i k) fault) a c
+told_then fault a b c words i j k one two gains by =
+    subst (λ items. AllOrFront fault (Gains a c items) (GainsFront a c items)) (sym (words_join words i j k one two)) (told_join fault a b c (words_kept words i j) (words_kept words j k) gains by)
 
 pub told_none : (a b : Option (List Kept)) (words : List WordValue) (i j : ℕ) → j ≤ i → SaysNothing a b → Gains a b (words_kept words i j)
 told_none a b words i j le nothing = subst (Gains a b) (sym (none_kept words i j le)) (gains_kept a b nothing)

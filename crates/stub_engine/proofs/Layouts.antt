@@ -1,18 +1,17 @@
 -- Where a stub lies.
-use Rattle.std.proofs.Common.{◌≡◌, ℕ, zero, suc, ◌+◌, ◌-◌, ◌*◌, ◌<◌, ◌≤◌, Bool, true, false, List, [], ◌∷◌, ◌++◌, length, refl, arith, ap, sym, subst, ◌∙◌, length-append}
+use Rattle.std.proofs.Common.{◌≡◌, ℕ, zero, suc, ◌+◌, ◌-◌, ◌*◌, ◌<◌, ◌≤◌, Bool, true, List, [], ◌∷◌, length, refl, arith, ap, sym, subst, ◌∙◌, length-append}
 use Rattle.std.specs.Prelude.{All, nat_lt, if◌then◌else◌}
 use Rattle.std.proofs.lemmas.Bool.Decides.{nat_tests}
 use Rattle.std.proofs.lemmas.List.{length-map}
 use Rattle.std.proofs.lemmas.List.Elements.{All-head, All-tail}
 use Rattle.tape_image.specs.Plan.{PlanValue}
 use Rattle.tape_image.specs.Word.{WordValue}
-use Rattle.exchange_core.specs.declared.chunk.Chunk.{Chunk}
 use Rattle.exchange_core.specs.declared.stretch.Stretch.{Stretch}
 use Rattle.exchange_core.specs.Stretch.{cut, piece_end, pieces, stretch_of}
 use Rattle.exchange_core.proofs.Chunks.{chunks_few}
-use Rattle.exchange_core.specs.Chunking.{AreStretches}
-use Rattle.exchange_core.specs.Window.{AreTogether, IsWindow}
+use Rattle.exchange_core.specs.Window.{IsWindow}
 use Rattle.stub.specs.Words.{code, stub_words, table}
+use Rattle.stub_engine.specs.declared.planning.Layout.{Layout}
 use Rattle.stub_engine.specs.Planning.{IsLayout}
 
 table_size : (stretches : List Stretch) → length (table stretches) ≡ 2 * length stretches + 1
@@ -54,8 +53,9 @@ stretches_few (s ∷ stretches) some =
     let one = some_cut s.from s.to (All-head (λ (t : Stretch). t.from < t.to) s stretches some) in
     omega (arith, rest, one, length-append (cut (s.to - s.from) s.from s.to) (pieces stretches))
 
-pub few_stretches : (tape : PlanValue) (from count window : ℕ) (chunks : List Chunk) (stretches : List Stretch) → IsLayout tape from count window chunks stretches → length stretches ≤ 65536
-few_stretches tape from count window chunks stretches layout =
-    let cuts = stretches_few stretches layout.stretches_are.some in
-    let same : length (pieces stretches) ≡ length chunks = ap (λ (list : List Stretch). length list) layout.stretches_are.pieces_are ∙ length-map chunks stretch_of in
-    let few = chunks_few tape from chunks layout.chunks_are.are in omega (arith, cuts, same, few)
+pub few_stretches : (tape : PlanValue) (from count : ℕ) (layout : Layout) → IsLayout tape from count layout → length layout.stretches.items ≤ 65536
+few_stretches tape from count layout is_one =
+    let cuts = stretches_few layout.stretches.items is_one.stretches_are.some in
+    let same : length (pieces layout.stretches.items) ≡ length layout.chunks.items =
+    ap (λ (list : List Stretch). length list) is_one.stretches_are.pieces_are ∙ length-map layout.chunks.items stretch_of in
+    let few = chunks_few tape from layout.chunks.items is_one.chunks_are.are in omega (arith, cuts, same, few)

@@ -1,4 +1,5 @@
 mod Bounds
+mod Brought
 mod Joins
 mod Layouts
 mod Parts

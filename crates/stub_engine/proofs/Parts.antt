@@ -1,10 +1,9 @@
 -- One stub's part of a load.
 use Rattle.std.proofs.Common.{◌≡◌, ℕ, ◌+◌, ◌-◌, ◌^◌, ◌<◌, ◌≤◌, Bool, true, false, List, [], ◌∷◌, ◌++◌, length, Option, Some, None, inl, inr, refl, arith, ap, sym, subst, ◌∙◌, append_assoc, append-nil}
-use Rattle.std.specs.Prelude.{◌==◌, if◌then◌else◌, Result, Ok, Err, OnOk}
+use Rattle.std.specs.Prelude.{◌==◌, if◌then◌else◌}
 use Rattle.std.proofs.lemmas.Bool.{eqb-true, eq-eqb, cases_eq}
 use Rattle.tape_image.specs.Memory.{most_words}
 use Rattle.tape_image.specs.Plan.{PlanValue}
-use Rattle.host_core.specs.declared.heard.Heard.{Heard}
 use Rattle.host_core.specs.declared.phase.End.{End}
 use Rattle.host_core.specs.declared.phase.End.TheVariants.{Loaded, Started, Uncertain, MaybeStarted, GaveUp, NoWord, WontHold}
 use Rattle.host_core.specs.declared.phase.Phase.{Phase}
@@ -13,6 +12,7 @@ use Rattle.host_core.specs.Core.{Core, begun, ended}
 use Rattle.host_core.specs.Laws.{led}
 use Rattle.load_devices.specs.declared.item.Item.{Item}
 use Rattle.load_devices.specs.declared.item.Kept.{Kept}
+use Rattle.load_devices.specs.Devices.{Devices}
 use Rattle.load_devices.specs.Dialogue.{dialogue}
 use Rattle.load_devices.specs.Turns.{most_turns}
 use Rattle.load_devices.proofs.Told.{gains_join, gains_none}
@@ -22,22 +22,20 @@ use Rattle.load_engine.specs.Session.{IsSaid as IsLoadSaid, Session, TellsEnd}
 use Rattle.exchange_core.specs.declared.chunk.Chunk.{Chunk}
 use Rattle.exchange_core.specs.declared.exchange.Exchange.{Exchange}
 use Rattle.exchange_core.specs.Chunk.{AreChunks, words_behind}
-use Rattle.exchange_core.specs.Exchange.{IsExchange, begun as exchange_begun, led as exchange_led}
-use Rattle.exchange_core.proofs.Chunks.{behind_grows}
+use Rattle.exchange_core.specs.Exchange.{begun as exchange_begun, led as exchange_led}
 use Rattle.exchange_law.specs.Law.{dialogue as exchange_dialogue, said_all}
-use Rattle.exchange_law.proofs.Passing.{led_from}
 use Rattle.exchange_law.proofs.Words.{words_within}
 use Rattle.stub_engine.specs.declared.exchange_stop.ExchangeStop.{ExchangeStop}
 use Rattle.stub_engine.specs.declared.exchange_stop.ExchangeStop.TheVariants.{Ended, LineFailed, KeepFailed, TurnsOver}
-use Rattle.stub_engine.specs.Exchanged.{Exchanged, IsSaid}
+use Rattle.stub_engine.specs.Exchanged.{AreTurns, Exchanged, IsSaid}
+use Rattle.stub_engine.specs.Exchanging.{exchanging}
 use Rattle.exchange_law.specs.Start.{program as stub_program}
 use Rattle.load_lives.specs.StubParts.{IsStubFor, StubPart, bringer, is_started, starts, verified_after, exchange_said}
 use Rattle.load_lives.proofs.Planning.{planned_stubs}
 use Rattle.stub_engine.specs.declared.stop.Stop.{Stop}
-use Rattle.stub_engine.specs.declared.stop.Stop.TheVariants.{TooFewWords, NoRoom, InVain, NotStarted, Memory, TurnsOver as StubsTurnsOver, LineFailed as StubsLineFailed, KeepFailed as StubsKeepFailed}
 use Rattle.stub_engine.specs.declared.tally.Tally.{Tally}
-use Rattle.stub_engine.specs.Parts.{AreBroughtIn, IsWorth, TellsEnd as EndsSo, failure_of, why_ended, why_left, why_unstarted}
-use Rattle.stub_engine.specs.Planning.{IsPlannedFor, IsUnplanned}
+use Rattle.stub_engine.specs.Parts.{AreBroughtIn, IsWorth, bringing, TellsEnd as EndsSo, failure_of, why_ended, why_left, why_unstarted}
+use Rattle.stub_engine.specs.Planning.{IsPlannedFor}
 use Rattle.stub_engine.specs.Tallies.{IsOneMore, with_counts, with_words}
 use Rattle.stub_engine.proofs.Stops.{is_some}
 
@@ -46,10 +44,10 @@ same_if {A} true a = refl
 same_if {A} false a = refl
 
 -- no stub at all
-pub none_brought : (tape : PlanValue) (patience : ℕ) (stop : Option Stop) (tally : Tally) (line : Option (List Item)) → EndsSo stop [] → AreBroughtIn tape patience stop tally tally line line
+pub none_brought : (tape : PlanValue) (patience : ℕ) (stop : Option Stop) (tally : Tally) (line : Option (List Item)) → EndsSo stop [] → AreBroughtIn (bringing tape patience (tally, tally) stop) line line
 none_brought tape patience stop tally line ends = record {
   parts = [];
-  stubs = tt;
+  are_parts = tt;
   worth = tt;
   followed = tt;
   all_start = λ none. tt;
@@ -64,16 +62,6 @@ none_brought tape patience stop tally line ends = record {
   spent = omega arith;
   in_vain = refl;
 }
-
-pub unplanned_ends : (stop : Stop) → IsUnplanned stop → EndsSo (Some stop) []
-unplanned_ends TooFewWords u = tt
-unplanned_ends NoRoom u = tt
-unplanned_ends Memory u = tt
-unplanned_ends InVain u = absurd u
-unplanned_ends (NotStarted end) u = absurd u
-unplanned_ends StubsTurnsOver u = absurd u
-unplanned_ends (StubsLineFailed fault) u = absurd u
-unplanned_ends (StubsKeepFailed fault) u = absurd u
 
 for_stub : (tape : PlanValue) (from : ℕ) (stub : PlanValue) (chunks : List Chunk) → IsPlannedFor tape from stub chunks → IsStubFor stub_program tape from stub chunks
 for_stub tape from stub chunks p = planned_stubs tape from p.window chunks p.stretches stub p.planned
@@ -161,14 +149,14 @@ sum_of : (old a b z : ℕ) → a ≡ b → z ≡ 0 → old + a ≡ old + (b + z 
 sum_of old a b z e none = omega (arith, e, none)
 
 pub unstarted : (tape : PlanValue) (patience : ℕ) (stop : LoadStop) (old : Tally) (stub : PlanValue) (chunks : List Chunk) (core : Core) (line line' : Option (List Item)) (keep keep' : Option (List Kept)) → IsPlannedFor tape old.verified stub chunks → patience < 2 ^ 32 → old.in_vain < 3 → TellsEnd stop core →
-    Session most_turns (Some stop) (begun stub 0 false patience) core line line' keep keep' → AreBroughtIn tape patience (why_unstarted stop) old (with_words (with_counts old core.sent core.spent) old.verified) line line'
+    Session most_turns (Some stop) (begun stub 0 false patience) core line line' keep keep' → AreBroughtIn (bringing tape patience (old, with_words (with_counts old core.sent core.spent) old.verified) (why_unstarted stop)) line line'
 unstarted tape patience stop old stub chunks core line line' keep keep' planned patient few tells s =
     let part : StubPart = record { stub = stub; chunks = chunks; patience = patience; brought = s.heard; exchanged = [] } in
     let front = brought_front stop (most_turns - length s.heard) (dialogue (begun stub 0 false patience) s.heard) s.said s.items in
     let after : verified_after tape old.verified part ≡ old.verified = same_if (starts part) old.verified in
     let silent : exchange_said tape old.verified part ≡ [] = same_if (starts part) [] in record {
       parts = part ∷ [];
-      stubs = (for_stub tape old.verified stub chunks planned, patient, tt);
+      are_parts = (for_stub tape old.verified stub chunks planned, patient, tt);
       worth = (is_worth tape old.verified old.in_vain part planned few, tt);
       followed = (inl refl, tt);
       all_start = λ none. (ap (λ (c : Core). is_started c.phase) (sym s.core) ∙ seen stop core none tells, tt);
@@ -188,8 +176,8 @@ unstarted tape patience stop old stub chunks core line line' keep keep' planned 
 
 pub exchanged : (tape : PlanValue) (patience : ℕ) (stop : LoadStop) (left : ExchangeStop) (old : Tally) (stub : PlanValue) (chunks : List Chunk) (core : Core) (state : Exchange) (line line' line'' : Option (List Item)) (keep keep' : Option (List Kept)) →
     IsPlannedFor tape old.verified stub chunks → patience < 2 ^ 32 → old.in_vain < 3 → why_unstarted stop ≡ None → TellsEnd stop core → Session most_turns (Some stop) (begun stub 0 false patience) core line line' keep keep' →
-    Exchanged tape chunks most_turns (Some left) (exchange_begun old.verified) state line' line'' →
-    AreBroughtIn tape patience (why_left left) old (with_words (with_counts (with_counts old core.sent core.spent) state.sent 0) state.verified) line line''
+    Exchanged most_turns (exchanging tape chunks (exchange_begun old.verified, state) (Some left)) line' line'' →
+    AreBroughtIn (bringing tape patience (old, with_words (with_counts (with_counts old core.sent core.spent) state.sent 0) state.verified) (why_left left)) line line''
 exchanged tape patience stop left old stub chunks core state line line' line'' keep keep' planned patient few follows tells s x =
     let part : StubPart = record { stub = stub; chunks = chunks; patience = patience; brought = s.heard; exchanged = x.heard } in
     let first : Core = led (begun stub 0 false patience) s.heard in
@@ -204,7 +192,7 @@ exchanged tape patience stop left old stub chunks core state line line' line'' k
     let spoken : exchange_said tape old.verified part ≡ more = ap (λ test. if test then more else []) started in
     let keys : state.sent ≡ (if starts part then now.sent else 0) = ap (λ (e : Exchange). e.sent) x.exchange ∙ ap (λ test. if test then now.sent else 0) (sym started) in record {
       parts = part ∷ [];
-      stubs = (for_stub tape old.verified stub chunks planned, patient, tt);
+      are_parts = (for_stub tape old.verified stub chunks planned, patient, tt);
       worth = (is_worth tape old.verified old.in_vain part planned few, tt);
       followed = (inl refl, tt);
       all_start = λ none. (started, tt);
@@ -248,14 +236,12 @@ pub record Comes (tape : PlanValue) (v : ℕ) (state : Exchange) : Type 0 where
   pub within : state.verified ≤ length tape.words
   pub few : state.verified ≤ most_words
 
-pub comes : (tape : PlanValue) (v : ℕ) (stub : PlanValue) (chunks : List Chunk) (stop : Option ExchangeStop) (state : Exchange) (line line' : Option (List Item)) → IsPlannedFor tape v stub chunks → Exchanged tape chunks most_turns stop (exchange_begun v) state line line' → IsExchange chunks state → Comes tape v state
-comes tape v stub chunks stop state line line' p x k =
+pub comes : (tape : PlanValue) (v : ℕ) (stub : PlanValue) (chunks : List Chunk) (stop : ExchangeStop) (state : Exchange) (before after : Devices) → IsPlannedFor tape v stub chunks → AreTurns most_turns (exchanging tape chunks (exchange_begun v, state) (Some stop)) before after → Comes tape v state
+comes tape v stub chunks stop state before after p t =
     let are : AreChunks tape v chunks = p.planned.chunks_are.are in
-    let from : state.from ≡ v = ap (λ (e : Exchange). e.from) x.exchange ∙ led_from tape.image chunks x.heard (exchange_begun v) in
-    let words : state.verified ≡ words_behind v chunks state.done = k.words ∙ ap (λ n. words_behind n chunks state.done) from in
-    let low = behind_grows tape v chunks are state.done k.within in
-    let high = words_within tape v chunks are state.done k.within in
-    let few = are.sound.few in record { more = omega (arith, words, low); within = omega (arith, words, high); few = omega (arith, words, high, few) }
+    let words : state.verified ≡ words_behind v chunks state.done = t.kept.words ∙ ap (λ n. words_behind n chunks state.done) t.from_same in
+    let high = words_within tape v chunks are state.done t.kept.within in
+    let few = are.sound.few in record { more = t.grows; within = omega (arith, words, high); few = omega (arith, words, high, few) }
 
 pub one_more : (old b : Tally) (v : ℕ) → b.verified ≡ old.verified → b.in_vain ≡ old.in_vain → old.verified ≤ v → IsOneMore old (with_words b v)
 one_more old b v same vain le = by (v == b.verified) refl
@@ -269,13 +255,3 @@ one_more old b v same vain le = by (v == b.verified) refl
     by : (test : Bool) → (v == b.verified) ≡ test → IsOneMore old (record { verified = v; sent = b.sent; spent = b.spent; in_vain = if test then b.in_vain + 1 else 0 })
     by true e = inl (eqb-true v b.verified e ∙ same, ap (λ n. n + 1) vain)
     by false e = inr (less old.verified v le (λ is. differs e (is ∙ sym same)), refl)
-
--- the same of chunks that are borrowed
-pub exchange_comes : (tape : PlanValue) (v : ℕ) (stub : PlanValue) (chunks lent : List Chunk) (stop : Option ExchangeStop) (state : Exchange) (line line' : Option (List Item)) → IsPlannedFor tape v stub chunks → lent ≡ chunks → Exchanged tape lent most_turns stop (exchange_begun v) state line line' → IsExchange lent state →
-    Comes tape v state
-exchange_comes tape v stub chunks lent stop state line line' p same x k =
-    comes tape v stub lent stop state line line' (subst (λ (list : List Chunk). IsPlannedFor tape v stub list) (sym same) p) x k
-
-pub on_ok : {T E : Type 0} (answer : Result T E) (P : Type 0) → P → OnOk answer P
-on_ok {T} {E} (Ok value) P p = p
-on_ok {T} {E} (Err fault) P p = tt

@@ -1,62 +1,69 @@
 -- What stops say of failures.
-use Rattle.std.proofs.Common.{◌≡◌, ℕ, List, Option, Some, None, refl, sym, subst, ◌∙◌}
-use Rattle.tape_image.specs.Word.{WordValue}
+use Rattle.std.proofs.Common.{◌≡◌, ℕ, [], Option, Some, None, refl, ap, ◌∙◌}
 use Rattle.host_core.specs.declared.phase.End.{End}
 use Rattle.host_core.specs.declared.phase.End.TheVariants.{Loaded, Started, Uncertain, MaybeStarted, GaveUp, NoWord, WontHold}
-use Rattle.load_devices.specs.declared.fault.KeepFault.{KeepFault}
-use Rattle.load_devices.specs.declared.fault.LineFault.{LineFault}
-use Rattle.load_devices.specs.declared.item.Kept.{Kept}
-use Rattle.load_devices.specs.Failures.{CountsFault, IsLastFault}
+use Rattle.load_devices.specs.Failures.{CountsFault}
 use Rattle.load_engine.specs.declared.stop.Stop.{Stop as LoadStop}
 use Rattle.load_engine.specs.declared.stop.Stop.TheVariants.{Ended as LoadEnded, LineFailed as LoadLineFailed, KeepFailed as LoadKeepFailed, TurnsOver as LoadTurnsOver}
 use Rattle.load_engine.specs.Failing.{line_fault as load_line_fault, keep_fault as load_keep_fault}
 use Rattle.stub_engine.specs.declared.exchange_stop.ExchangeStop.{ExchangeStop}
 use Rattle.stub_engine.specs.declared.exchange_stop.ExchangeStop.TheVariants.{Ended, LineFailed, KeepFailed, TurnsOver}
-use Rattle.stub_engine.specs.Failing.{Counts, NamesFault}
-use Rattle.stub_engine.specs.Keeping.{KeptBy, ToldBy, words_kept}
 use Rattle.stub_engine.specs.declared.stop.Stop.{Stop}
-use Rattle.stub_engine.specs.Parts.{failure_of, why_ended, why_left, why_unstarted}
+use Rattle.stub_engine.specs.declared.stop.Stop.TheVariants.{TooFewWords, NoRoom, InVain, NotStarted, Memory, TurnsOver as StubsTurnsOver, LineFailed as StubsLineFailed, KeepFailed as StubsKeepFailed}
+use Rattle.stub_engine.specs.declared.tally.Tally.{Tally}
+use Rattle.stub_engine.specs.Brought.{TellsInVain}
+use Rattle.stub_engine.specs.Failing.{keep_fault, line_fault}
+use Rattle.stub_engine.specs.Parts.{TellsEnd as EndsSo, failure_of, why_ended, why_left, why_unstarted}
+use Rattle.stub_engine.specs.Planning.{IsUnplanned}
+
+pub is_some : {A : Type 0} (a : A) → Some a ≡ None → ⊥
+is_some {A} a e = absurd (cc e)
+
+-- ---- where no stub is planned
+
+-- no device failed, and nothing else is said of it
+pub record IsWhole (stop : Stop) : Type 0 where
+  pub no_failure : failure_of (Some stop) ≡ None
+  pub ends : EndsSo (Some stop) []
+  pub in_vain : (tally : Tally) → TellsInVain (Some stop) tally
+
+pub unplanned_whole : (stop : Stop) → IsUnplanned stop → IsWhole stop
+unplanned_whole TooFewWords u = record { no_failure = refl; ends = tt; in_vain = λ tally. tt }
+unplanned_whole NoRoom u = record { no_failure = refl; ends = tt; in_vain = λ tally. tt }
+unplanned_whole Memory u = record { no_failure = refl; ends = tt; in_vain = λ tally. tt }
+unplanned_whole InVain u = absurd u
+unplanned_whole (NotStarted end) u = absurd u
+unplanned_whole StubsTurnsOver u = absurd u
+unplanned_whole (StubsLineFailed fault) u = absurd u
+unplanned_whole (StubsKeepFailed fault) u = absurd u
 
 -- ---- behind an exchange
 
-told_left : (stop : ExchangeStop) (a b : Option (List Kept)) (items : List Kept) → ToldBy (Some stop) a b items → ToldBy (failure_of (why_left stop)) a b items
-told_left (Ended end) a b items h = h
-told_left (LineFailed fault) a b items h = h
-told_left (KeepFailed fault) a b items h = h
-told_left TurnsOver a b items h = h
+-- its stop names the same fault of the line
+pub line_left : (stop : ExchangeStop) (answer : Option Stop) → answer ≡ why_left stop → line_fault (failure_of answer) ≡ line_fault (Some stop)
+line_left stop answer is = ap (λ a. line_fault (failure_of a)) is ∙ by stop
+  where
+    by : (stop : ExchangeStop) → line_fault (failure_of (why_left stop)) ≡ line_fault (Some stop)
+    by (Ended end) = refl
+    by (LineFailed fault) = refl
+    by (KeepFailed fault) = refl
+    by TurnsOver = refl
 
-kept_left : {K : Type 0} (keeps fails : K → Kept → K → Type 0) (stop : ExchangeStop) (old new : K) (items : List Kept) → KeptBy keeps fails (Some stop) old items new → KeptBy keeps fails (failure_of (why_left stop)) old items new
-kept_left {K} keeps fails (Ended end) old new items h = h
-kept_left {K} keeps fails (LineFailed fault) old new items h = h
-kept_left {K} keeps fails (KeepFailed fault) old new items h = h
-kept_left {K} keeps fails TurnsOver old new items h = h
+-- and of the keeper
+pub keep_left : (stop : ExchangeStop) (answer : Option Stop) → answer ≡ why_left stop → keep_fault (failure_of answer) ≡ keep_fault (Some stop)
+keep_left stop answer is = ap (λ a. keep_fault (failure_of a)) is ∙ by stop
+  where
+    by : (stop : ExchangeStop) → keep_fault (failure_of (why_left stop)) ≡ keep_fault (Some stop)
+    by (Ended end) = refl
+    by (LineFailed fault) = refl
+    by (KeepFailed fault) = refl
+    by TurnsOver = refl
 
-counts_left : (stop : ExchangeStop) (l l' k k' : ℕ) → Counts (Some stop) l l' k k' → Counts (failure_of (why_left stop)) l l' k k'
-counts_left (Ended end) l l' k k' h = h
-counts_left (LineFailed fault) l l' k k' h = h
-counts_left (KeepFailed fault) l l' k k' h = h
-counts_left TurnsOver l l' k k' h = h
-
-pub names_left : (stop : ExchangeStop) (l : Option LineFault) (k : Option KeepFault) → NamesFault (Some stop) l k → NamesFault (failure_of (why_left stop)) l k
-names_left (Ended end) l k h = h
-names_left (LineFailed fault) l k h = h
-names_left (KeepFailed fault) l k h = h
-names_left TurnsOver l k h = h
-
--- the same of what was answered for that stop, with the numbers that stood before
-pub answer_counts : (stop : ExchangeStop) (answer : Option Stop) (l l' l'' k k' : ℕ) → answer ≡ why_left stop → l' ≡ l → Counts (Some stop) l' l'' k k' → Counts (failure_of answer) l l'' k k'
-answer_counts stop answer l l' l'' k k' is same h =
-    subst (λ answer. Counts (failure_of answer) l l'' k k') (sym is) (subst (λ n. Counts (failure_of (why_left stop)) n l'' k k') same (counts_left stop l' l'' k k' h))
-
-pub answer_tells : (stop : ExchangeStop) (answer : Option Stop) (a b : Option (List Kept)) (words : List WordValue) (v n m : ℕ) → answer ≡ why_left stop → n ≡ m → ToldBy (Some stop) a b (words_kept words v m) → ToldBy (failure_of answer) a b (words_kept words v n)
-answer_tells stop answer a b words v n m is same h =
-    subst (λ answer. ToldBy (failure_of answer) a b (words_kept words v n)) (sym is) (subst (λ n. ToldBy (failure_of (why_left stop)) a b (words_kept words v n)) (sym same) (told_left stop a b (words_kept words v m) h))
-
-pub answer_keeps : {K : Type 0} (keeps fails : K → Kept → K → Type 0) (stop : ExchangeStop) (answer : Option Stop) (old new : K) (words : List WordValue) (v n m : ℕ) → answer ≡ why_left stop → n ≡ m → KeptBy keeps fails (Some stop) old (words_kept words v m) new →
-    KeptBy keeps fails (failure_of answer) old (words_kept words v n) new
-answer_keeps {K} keeps fails stop answer old new words v n m is same h =
-    subst (λ answer. KeptBy keeps fails (failure_of answer) old (words_kept words v n) new) (sym is)
-    (subst (λ n. KeptBy keeps fails (failure_of (why_left stop)) old (words_kept words v n) new) (sym same) (kept_left keeps fails stop old new (words_kept words v m) h))
+pub vain_left : (stop : ExchangeStop) (tally : Tally) → TellsInVain (why_left stop) tally
+vain_left (Ended end) tally = tt
+vain_left (LineFailed fault) tally = tt
+vain_left (KeepFailed fault) tally = tt
+vain_left TurnsOver tally = tt
 
 -- ---- behind a host that was to bring in a stub
 
@@ -69,27 +76,33 @@ ended_whole GaveUp = refl
 ended_whole (NoWord address) = refl
 ended_whole (WontHold address) = refl
 
-pub is_some : {A : Type 0} (a : A) → Some a ≡ None → ⊥
-is_some {A} a e = absurd (cc e)
+pub line_unstarted : (stop : LoadStop) → line_fault (failure_of (why_unstarted stop)) ≡ load_line_fault (Some stop)
+line_unstarted (LoadEnded end) = ap line_fault (ended_whole end)
+line_unstarted (LoadLineFailed fault) = refl
+line_unstarted (LoadKeepFailed fault) = refl
+line_unstarted LoadTurnsOver = refl
 
-pub counts_unstarted : (stop : LoadStop) (l l' k : ℕ) → load_keep_fault (Some stop) ≡ None → CountsFault (load_line_fault (Some stop)) l l' → Counts (failure_of (why_unstarted stop)) l l' k k
-counts_unstarted (LoadEnded end) l l' k whole h = subst (λ stop. Counts stop l l' k k) (sym (ended_whole end)) (h, refl)
-counts_unstarted (LoadLineFailed fault) l l' k whole h = (h, refl)
-counts_unstarted (LoadKeepFailed fault) l l' k whole h = absurd (is_some fault whole)
-counts_unstarted LoadTurnsOver l l' k whole h = (h, refl)
+pub keep_unstarted : (stop : LoadStop) → load_keep_fault (Some stop) ≡ None → keep_fault (failure_of (why_unstarted stop)) ≡ None
+keep_unstarted (LoadEnded end) whole = ap keep_fault (ended_whole end)
+keep_unstarted (LoadLineFailed fault) whole = refl
+keep_unstarted (LoadKeepFailed fault) whole = absurd (is_some fault whole)
+keep_unstarted LoadTurnsOver whole = refl
 
-pub names_unstarted : (stop : LoadStop) (l : Option LineFault) (k : Option KeepFault) → load_keep_fault (Some stop) ≡ None → IsLastFault (load_line_fault (Some stop)) l → NamesFault (failure_of (why_unstarted stop)) l k
-names_unstarted (LoadEnded end) l k whole h = subst (λ stop. NamesFault stop l k) (sym (ended_whole end)) (tt, tt)
-names_unstarted (LoadLineFailed fault) l k whole h = (h, tt)
-names_unstarted (LoadKeepFailed fault) l k whole h = absurd (is_some fault whole)
-names_unstarted LoadTurnsOver l k whole h = (tt, tt)
-
--- no keeper's failure
-pub keeps_unstarted : (P : Option ExchangeStop → Type 0) (stop : LoadStop) → load_keep_fault (Some stop) ≡ None → P None → ((fault : LineFault) → P (Some (LineFailed fault))) → P (failure_of (why_unstarted stop))
-keeps_unstarted P (LoadEnded end) whole none line = subst P (sym (ended_whole end)) none
-keeps_unstarted P (LoadLineFailed fault) whole none line = line fault
-keeps_unstarted P (LoadKeepFailed fault) whole none line = absurd (is_some fault whole)
-keeps_unstarted P LoadTurnsOver whole none line = none
+-- three in vain are not said of it
+pub vain_unstarted : (stop : LoadStop) (tally : Tally) → TellsInVain (why_unstarted stop) tally
+vain_unstarted (LoadEnded end) tally = by end
+  where
+    by : (end : End) → TellsInVain (why_ended end) tally
+    by Loaded = tt
+    by Started = tt
+    by Uncertain = tt
+    by MaybeStarted = tt
+    by GaveUp = tt
+    by (NoWord address) = tt
+    by (WontHold address) = tt
+vain_unstarted (LoadLineFailed fault) tally = tt
+vain_unstarted (LoadKeepFailed fault) tally = tt
+vain_unstarted LoadTurnsOver tally = tt
 
 -- where an exchange follows, the line has not failed
 pub started_counts : (stop : LoadStop) (l l' : ℕ) → why_unstarted stop ≡ None → CountsFault (load_line_fault (Some stop)) l l' → l' ≡ l

@@ -19,7 +19,7 @@ use Rattle.stub_engine.specs.declared.exchange_stop.ExchangeStop.TheVariants.{Ke
 use Rattle.exchange_law.specs.Start.{program as stub_program}
 use Rattle.load_lives.specs.StubParts.{AreStubParts, StubPart, bringer, starts, stubs_said, verified_after, verified_by}
 use Rattle.stub_engine.specs.declared.stop.Stop.{Stop}
-use Rattle.stub_engine.specs.declared.stop.Stop.TheVariants.{InVain, NotStarted, TurnsOver, LineFailed, KeepFailed}
+use Rattle.stub_engine.specs.declared.stop.Stop.TheVariants.{NotStarted, TurnsOver, LineFailed, KeepFailed}
 use Rattle.stub_engine.specs.declared.tally.Tally.{Tally}
 use Rattle.stub_engine.specs.Planning.{least_gain}
 
@@ -106,28 +106,35 @@ failure_of (Some (LineFailed fault)) = Some (ExchangeLineFailed fault)
 failure_of (Some (KeepFailed fault)) = Some (ExchangeKeepFailed fault)
 failure_of _ = None
 
--- stubs were brought in one after another, from one tally to another, and stopped so (None: another may follow). These are stubs' parts of a load
-pub record AreBroughtIn (tape : PlanValue) (patience : ℕ) (stop : Option Stop) (old new : Tally) (line line' : Option (List Item)) : Type 0 where
+-- stubs that are brought in one after another: for this plan, by hosts of this patience, from one tally to another, and how that stopped (None: another
+-- may follow)
+pub record Bringing : Type 0 where
+  pub plan : PlanValue
+  pub patience : ℕ
+  pub old : Tally
+  pub new : Tally
+  pub stop : Option Stop
+
+abbrev pub bringing : PlanValue → ℕ → Tally × Tally → Option Stop → Bringing
+bringing plan patience tallies stop = record { plan = plan; patience = patience; old = tallies.0; new = tallies.1; stop = stop }
+
+-- these are stubs' parts of a load, with what the line told before and tells after
+pub record AreBroughtIn (stubs : Bringing) (line line' : Option (List Item)) : Type 0 where
   pub parts : List StubPart
-  pub stubs : AreStubParts stub_program tape old.verified parts
-  pub worth : AreWorth patience tape old.verified old.in_vain parts
+  pub are_parts : AreStubParts stub_program stubs.plan stubs.old.verified parts
+  pub worth : AreWorth stubs.patience stubs.plan stubs.old.verified stubs.old.in_vain parts
   -- none behind one that did not start
   pub followed : AreFollowed parts
-  pub all_start : stop ≡ None → AllStart parts
-  pub ends : TellsEnd stop parts
+  pub all_start : stubs.stop ≡ None → AllStart parts
+  pub ends : TellsEnd stubs.stop parts
   -- what they say was said on the line, and all of it where no device failed
   pub said : List Item
   pub unsent : List ℕ
-  pub items : stubs_said tape old.verified parts ≡ said ++ said_all unsent
-  pub all_sent : failure_of stop ≡ None → unsent ≡ []
+  pub items : stubs_said stubs.plan stubs.old.verified parts ≡ said ++ said_all unsent
+  pub all_sent : failure_of stubs.stop ≡ None → unsent ≡ []
   pub on_line : Gains line line' said
   -- how far they came
-  pub verified : new.verified ≡ verified_by tape old.verified parts
-  pub sent : new.sent ≡ old.sent + sent_by tape old.verified parts
-  pub spent : new.spent ≡ old.spent + spent_by parts
-  pub in_vain : new.in_vain ≡ in_vain_by tape old.verified old.in_vain parts
-
--- three in a row in vain is said only where it is so
-abbrev pub TellsInVain : Stop → Tally → Type 0
-TellsInVain InVain tally = tally.in_vain ≡ most_in_vain
-TellsInVain _ tally = ⊤
+  pub verified : stubs.new.verified ≡ verified_by stubs.plan stubs.old.verified parts
+  pub sent : stubs.new.sent ≡ stubs.old.sent + sent_by stubs.plan stubs.old.verified parts
+  pub spent : stubs.new.spent ≡ stubs.old.spent + spent_by parts
+  pub in_vain : stubs.new.in_vain ≡ in_vain_by stubs.plan stubs.old.verified stubs.old.in_vain parts

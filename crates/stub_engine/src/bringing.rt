@@ -1,11 +1,8 @@
 //! How a stub is brought in, and started.
-ghost use Rattle.std.specs.Prelude.{◌≡◌, ◌≤◌, false, None, Some, IfOk};
-ghost use Rattle.host_core.specs.Bound.{character_bound};
 ghost use Rattle.host_core.specs.Core.{begun};
-ghost use Rattle.load_devices.specs.Failures.{CountsFault, IsLastFault};
-ghost use Rattle.load_devices.specs.Turns.{most_turns};
-ghost use Rattle.load_engine.specs.Failing.{keep_fault, line_fault};
-ghost use Rattle.load_engine.specs.Session.{Session, TellsEnd};
+ghost use Rattle.std.specs.Prelude.{false};
+ghost use Rattle.load_devices.specs.Devices.{line_told};
+ghost use Rattle.stub_engine.specs.Brought.{IsBringerDriven};
 
 use crate::unkept::Unkept;
 use host_core::{HostCore, Progress};
@@ -16,11 +13,7 @@ use tape_image::Plan;
 /// Has an ordinary host type a stub's plan, and start it. The host that comes back saw it start where
 /// its end is `Started`. Nothing of it is kept, and nobody looks on.
 pub(crate) fn bring<L: Line>(stub: Plan, patience: u32, line: &mut L) -> (HostCore, Stop)
-    ensures turns { Session most_turns (Some result.1) (begun stub 0 false patience) result.0 (L.told line.old) (L.told line.new) None None }
-    ensures end { TellsEnd result.1 result.0 }
-    ensures counted { CountsFault (line_fault (Some result.1)) (L.fault_count line.old) (L.fault_count line.new) }
-    ensures fault { IsLastFault (line_fault (Some result.1)) (L.last_fault line.new) }
-    ensures keeper { keep_fault (Some result.1) ≡ None }
+    ensures { IsBringerDriven (begun stub 0 false patience) result (line_told L.Line line.old) (line_told L.Line line.new) }
 {
     let progress = Progress {
         verified: 0,

@@ -1,14 +1,13 @@
-ghost use Rattle.std.specs.Prelude.{◌≡◌, ◌≤◌, ◌<◌, ◌^◌, None, Some, length, IfErr, OnOk, OnErr};
+ghost use Rattle.std.specs.Prelude.{◌≡◌, ◌≤◌, None, Some, length, OnOk, OnErr};
+ghost use Rattle.load_devices.specs.Devices.{calls_of, devices_of};
 ghost use Rattle.load_devices.specs.Failures.{count_after, fault_of};
 ghost use Rattle.load_devices.specs.Told.{Gains};
 ghost use Rattle.exchange_core.specs.Chunk.{AreChunks};
-ghost use Rattle.exchange_core.specs.Exchange.{IsExchange, begun, ended, exchange_bound};
+ghost use Rattle.exchange_core.specs.Exchange.{IsExchange, begun, ended};
 ghost use Rattle.exchange_law.specs.Law.{said_all};
-ghost use Rattle.load_engine.specs.Keeping.{KeepsEach};
-ghost use Rattle.stub_engine.specs.Belief.{IsBelievableOver};
-ghost use Rattle.stub_engine.specs.Exchanged.{Exchanged, GainsSome, IsFailure, TellsEnd};
-ghost use Rattle.stub_engine.specs.Failing.{Counts, NamesFault};
-ghost use Rattle.stub_engine.specs.Keeping.{GainsFront, KeepsFront, KeptBy, ToldBy, words_kept};
+ghost use Rattle.stub_engine.specs.Exchanged.{GainsSome, IsLed, IsTurn, turns_give};
+ghost use Rattle.stub_engine.specs.Exchanging.{exchanging};
+ghost use Rattle.stub_engine.specs.Keeping.{IsKeptBy, IsToldBy, keeping, words_kept};
 
 use crate::exchange_stop::ExchangeStop;
 use exchange_core::{Chunk, Exchange};
@@ -33,15 +32,9 @@ pub fn exchange<L: Line, K: Keep, O: Onlooker>(
     onlooker: &O,
 ) -> (Exchange, ExchangeStop)
     requires chunks { AreChunks plan.now from chunks.now }
-    ensures turns { Exchanged plan.now chunks.now turns (Some result.1) (begun from) result.0 (L.told line.old) (L.told line.new) }
-    ensures end { TellsEnd result.1 result.0 }
-    ensures counted { Counts (Some result.1) (L.fault_count line.old) (L.fault_count line.new) (K.fault_count keep.old) (K.fault_count keep.new) }
-    ensures fault { NamesFault (Some result.1) (L.last_fault line.new) (K.last_fault keep.new) }
-    ensures told { ToldBy (Some result.1) (K.told keep.old) (K.told keep.new) (words_kept plan.now.words from result.0.verified) }
-    ensures kept_by { KeptBy K.keeps K.fails (Some result.1) keep.old (words_kept plan.now.words from result.0.verified) keep.new }
-    ensures honest { IsBelievableOver plan.now chunks.now result.0 (L.told line.old) (L.told line.new) }
-    ensures bound { result.0.sent ≤ exchange_bound (length chunks.now) }
-    ensures kept { IsExchange chunks.now result.0 }
+    ensures led { IsLed turns (exchanging plan.now chunks.now (begun from, result.0) (Some result.1))
+        (devices_of L.Line K.Keep line.old keep.old) (devices_of L.Line K.Keep line.new keep.new) }
+    ensures kept { IsKeptBy (calls_of K.Keep) (turns_give (exchanging plan.now chunks.now (begun from, result.0) (Some result.1))) keep.old keep.new }
 {
     let mut state = Exchange::new(from);
     let mut end = state.end();
@@ -73,15 +66,9 @@ fn turn<L: Line, K: Keep, O: Onlooker>(
     requires chunks { AreChunks plan.now state.old.from chunks.now }
     requires kept { IsExchange chunks.now state.old }
     requires goes_on { ended state.old.phase ≡ None }
-    ensures turn { Exchanged plan.now chunks.now 1 (fault_of result) state.old state.new (L.told line.old) (L.told line.new) }
-    ensures failure { IfErr result IsFailure }
-    ensures counted { Counts (fault_of result) (L.fault_count line.old) (L.fault_count line.new) (K.fault_count keep.old) (K.fault_count keep.new) }
-    ensures fault { NamesFault (fault_of result) (L.last_fault line.new) (K.last_fault keep.new) }
-    ensures told { ToldBy (fault_of result) (K.told keep.old) (K.told keep.new) (words_kept plan.now.words state.old.verified state.new.verified) }
-    ensures kept_by { KeptBy K.keeps K.fails (fault_of result) keep.old (words_kept plan.now.words state.old.verified state.new.verified) keep.new }
-    ensures grows { state.old.verified ≤ state.new.verified }
-    ensures from { state.new.from ≡ state.old.from }
-    ensures kept { IsExchange chunks.now state.new }
+    ensures turn { IsTurn (exchanging plan.now chunks.now (state.old, state.new) (fault_of result))
+        (devices_of L.Line K.Keep line.old keep.old) (devices_of L.Line K.Keep line.new keep.new) }
+    ensures kept { IsKeptBy (calls_of K.Keep) (turns_give (exchanging plan.now chunks.now (state.old, state.new) (fault_of result))) keep.old keep.new }
 {
     let heard = match line.hear() {
         Ok(heard) => heard,
@@ -109,12 +96,8 @@ fn turn<L: Line, K: Keep, O: Onlooker>(
 fn keep_words<K: Keep>(keep: &mut K, words: &[Word], from: u32, to: u32) -> Result<(), KeepFault>
     requires order { from ≤ to }
     requires within { to ≤ length words.now }
-    ensures kept { OnOk result (Gains (K.told keep.old) (K.told keep.new) (words_kept words.now from to)) }
-    ensures not_kept { OnErr result (GainsFront (K.told keep.old) (K.told keep.new) (words_kept words.now from to)) }
-    ensures keeps { OnOk result (KeepsEach K.keeps keep.old (words_kept words.now from to) keep.new) }
-    ensures fails { OnErr result (KeepsFront K.keeps K.fails keep.old (words_kept words.now from to) keep.new) }
-    ensures counted { K.fault_count keep.new ≡ count_after (K.fault_count keep.old) result }
-    ensures fault { OnErr result (K.last_fault keep.new ≡ fault_of result) }
+    ensures told { IsToldBy (keeping (words_kept words.now from to) (fault_of result)) (K.told keep.old) (K.told keep.new) }
+    ensures kept { IsKeptBy (calls_of K.Keep) (keeping (words_kept words.now from to) (fault_of result)) keep.old keep.new }
 {
     for number in from..to {
         if let Err(fault) = keep.add(words[number as usize]) {

@@ -55,7 +55,7 @@ struct Layout {
 // Where a stub lies that has room for so many stretches.
 fn laid_out(alloc: Global, plan: &Plan, from: u32, count: usize) -> Result<Layout, Stop>
     requires few { count ≤ 2 ^ 16 }
-    ensures layout { IfOk result (λ layout. IsLayout plan.now from count layout.window layout.chunks.items layout.stretches.items) }
+    ensures layout { IfOk result (IsLayout plan.now from count) }
     ensures unplanned { IfErr result IsUnplanned }
 {
     let Some(window) = window_for(plan, from, stub_size(count) as u32) else {
@@ -75,7 +75,7 @@ fn laid_out(alloc: Global, plan: &Plan, from: u32, count: usize) -> Result<Layou
 
 // The stub that lies there, and the plan that brings it in.
 fn brought_in_by(alloc: Global, plan: &Plan, from: u32, layout: Layout) -> Result<PlannedStub, Stop>
-    requires layout { IsLayout plan.now from (length layout.stretches.items) layout.window layout.chunks.items layout.stretches.items }
+    requires layout { IsLayout plan.now from (length layout.stretches.items) layout }
     ensures planned { IfOk result (λ stub. IsPlannedFor plan.now from stub.plan stub.chunks.items) }
     ensures unplanned { IfErr result IsUnplanned }
 {

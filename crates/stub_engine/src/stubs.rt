@@ -1,11 +1,11 @@
 //! The stubs of a load.
-ghost use Rattle.std.specs.Prelude.{◌≡◌, ◌+◌, ◌<◌, ◌≤◌, ◌^◌, ◌⊎◌, length, None, Some, IfErr, OnOk};
-ghost use Rattle.tape_image.specs.Memory.{most_words};
+ghost use Rattle.std.specs.Prelude.{◌≡◌, ◌<◌, ◌≤◌, ◌^◌, length, Some};
+ghost use Rattle.load_devices.specs.Devices.{calls_of, devices_of};
 ghost use Rattle.load_devices.specs.Failures.{fault_of};
-ghost use Rattle.stub_engine.specs.Failing.{Counts, NamesFault};
-ghost use Rattle.stub_engine.specs.Keeping.{KeptBy, ToldBy, words_kept};
-ghost use Rattle.stub_engine.specs.Parts.{AreBroughtIn, TellsInVain, failure_of, most_in_vain, why_left, why_unstarted};
-ghost use Rattle.stub_engine.specs.Tallies.{IsOneMore, begun};
+ghost use Rattle.stub_engine.specs.Brought.{AreAllStubs, IsNextStub, stubs_give};
+ghost use Rattle.stub_engine.specs.Keeping.{IsKeptBy};
+ghost use Rattle.stub_engine.specs.Parts.{bringing, most_in_vain, why_left, why_unstarted};
+ghost use Rattle.stub_engine.specs.Tallies.{begun};
 
 use crate::bringing::bring;
 use crate::exchange_stop::ExchangeStop;
@@ -39,16 +39,9 @@ pub fn bring_in<L: Line, K: Keep, O: Onlooker>(
     onlooker: &O,
 ) -> (Tally, Stop)
     requires within { verified ≤ length plan.now.words }
-    ensures parts { AreBroughtIn plan.now patience (Some result.1) (begun verified) result.0 (L.told line.old) (L.told line.new) }
-    ensures counted { Counts (failure_of (Some result.1)) (L.fault_count line.old) (L.fault_count line.new) (K.fault_count keep.old) (K.fault_count keep.new) }
-    ensures fault { NamesFault (failure_of (Some result.1)) (L.last_fault line.new) (K.last_fault keep.new) }
-    ensures told { ToldBy (failure_of (Some result.1)) (K.told keep.old) (K.told keep.new) (words_kept plan.now.words verified result.0.verified) }
-    ensures kept_by { KeptBy K.keeps K.fails (failure_of (Some result.1)) keep.old (words_kept plan.now.words verified result.0.verified) keep.new }
-    ensures grows { verified ≤ result.0.verified }
-    ensures within { result.0.verified ≤ length plan.now.words }
-    ensures in_vain { TellsInVain result.1 result.0 }
-    ensures few_sent { result.0.sent ≤ 2 ^ 60 }
-    ensures few_spent { result.0.spent ≤ 2 ^ 60 }
+    ensures brought { AreAllStubs (bringing plan.now patience (begun verified, result.0) (Some result.1))
+        (devices_of L.Line K.Keep line.old keep.old) (devices_of L.Line K.Keep line.new keep.new) }
+    ensures kept { IsKeptBy (calls_of K.Keep) (stubs_give (bringing plan.now patience (begun verified, result.0) (Some result.1))) keep.old keep.new }
 {
     let mut tally = Tally::begun(verified);
     while tally.in_vain < MOST_IN_VAIN {
@@ -73,20 +66,9 @@ fn part<L: Line, K: Keep, O: Onlooker>(
     requires worth { tally.old.in_vain < most_in_vain }
     requires sent_fits { tally.old.sent ≤ 2 ^ 60 }
     requires spent_fits { tally.old.spent ≤ 2 ^ 60 }
-    ensures part { AreBroughtIn plan.now patience (fault_of result) tally.old tally.new (L.told line.old) (L.told line.new) }
-    ensures counted { Counts (failure_of (fault_of result)) (L.fault_count line.old) (L.fault_count line.new) (K.fault_count keep.old) (K.fault_count keep.new) }
-    ensures fault { NamesFault (failure_of (fault_of result)) (L.last_fault line.new) (K.last_fault keep.new) }
-    ensures told { ToldBy (failure_of (fault_of result)) (K.told keep.old) (K.told keep.new)
-        (words_kept plan.now.words tally.old.verified tally.new.verified) }
-    ensures kept_by { KeptBy K.keeps K.fails (failure_of (fault_of result)) keep.old
-        (words_kept plan.now.words tally.old.verified tally.new.verified) keep.new }
-    ensures grows { tally.old.verified ≤ tally.new.verified }
-    ensures within { tally.new.verified ≤ length plan.now.words }
-    ensures sent_grows { tally.new.sent ≤ tally.old.sent + 2 ^ 37 }
-    ensures spent_grows { tally.new.spent ≤ tally.old.spent + 2 ^ 32 }
-    ensures few { OnOk result (tally.new.verified ≤ most_words) }
-    ensures in_vain { OnOk result (IsOneMore tally.old tally.new) }
-    ensures stop { IfErr result (λ stop. TellsInVain stop tally.new) }
+    ensures brought { IsNextStub (bringing plan.now patience (tally.old, tally.new) (fault_of result))
+        (devices_of L.Line K.Keep line.old keep.old) (devices_of L.Line K.Keep line.new keep.new) }
+    ensures kept { IsKeptBy (calls_of K.Keep) (stubs_give (bringing plan.now patience (tally.old, tally.new) (fault_of result))) keep.old keep.new }
 {
     let planned = match planned_stub(alloc, plan, tally.verified) {
         Ok(planned) => planned,

@@ -1,48 +1,58 @@
-use Rattle.std.proofs.Common.{◌+◌, Some, None, arith, ◌∙◌}
+use Rattle.std.proofs.Common.{◌≡◌, Some, None, ap, arith, sym, subst, ◌∙◌}
+use Rattle.load_devices.specs.Devices.{calls_of, devices_of}
+use Rattle.exchange_core.specs.declared.exchange.Exchange.{Exchange}
 use Rattle.exchange_core.specs.Exchange.{begun}
-use Rattle.stub_engine.proofs.Beliefs.{believable}
-use Rattle.stub_engine.proofs.Keepings.{kept_then, told_then}
-use Rattle.stub_engine.proofs.Stretches.{exchanged_join, wider}
+use Rattle.stub_engine.specs.Exchanged.{AreTurns}
+use Rattle.stub_engine.specs.Exchanging.{exchanging}
+use Rattle.stub_engine.specs.Failing.{keep_fault}
+use Rattle.stub_engine.proofs.Keepings.{kept_none, kept_then}
+use Rattle.stub_engine.proofs.Stretches.{begun_kept, led_over, led_to_end, led_to_failure, turns_join, turns_none}
 use Rattle.stub_engine.proofs.exchanging.exchange.Goals as goal
 
-pub returns-in-Err-clause-turns : goal.returns-in-Err-clause-turns
-returns-in-Err-clause-turns g c =
-    wider c.args.plan.now c.args.chunks.now c.in-Err.stop (c.loop.counter + 1) c.args.turns (begun c.args.from) c.turn.new.state (g.L.Line.told c.args.line.now) (g.L.Line.told c.turn.new.line) (omega (arith, c.loop-test.true)) c.in-Err.ensures.failure
-    (exchanged_join c.args.plan.now c.args.chunks.now c.loop.counter 1 (Some c.in-Err.stop) (begun c.args.from) c.loop.state c.turn.new.state (g.L.Line.told c.args.line.now) (g.L.Line.told c.loop.line) (g.L.Line.told c.turn.new.line) c.loop.invariant.stretch c.in-Err.ensures.turn)
+pub loop-init : goal.loop-init
+loop-init g c =
+    let devices = devices_of g.L.Line g.K.Keep c.args.line.now c.args.keep.now in record {
+      turns = subst (λ (e : Exchange). AreTurns 0 (exchanging c.args.plan.now c.args.chunks.now (begun c.args.from, e) None) devices devices) (sym c.new-state.ensures)
+          (turns_none c.args.plan.now c.args.chunks.now (begun c.args.from) devices (begun_kept c.args.from c.args.chunks.now));
+      kept_by = kept_none (calls_of g.K.Keep) c.args.keep.now c.args.plan.now.words c.args.from c.new-state.result.verified
+          (let same : c.new-state.result.verified ≡ c.args.from = ap (λ (e : Exchange). e.verified) c.new-state.ensures in omega (arith, same));
+      end = c.end-end.ensures;
+    }
 
 pub loop-preserved : goal.loop-preserved
 loop-preserved g c =
     let inv = c.loop.invariant in
     let turn = c.in_default-turn.ensures in record {
-      stretch = exchanged_join c.args.plan.now c.args.chunks.now c.loop.counter 1 None (begun c.args.from) c.loop.state c.turn.new.state (g.L.Line.told c.args.line.now) (g.L.Line.told c.loop.line) (g.L.Line.told c.turn.new.line) inv.stretch turn.turn;
-      kept = turn.kept;
-      from = turn.from ∙ inv.from;
-      grows = omega (arith, inv.grows, turn.grows);
-      counted = (turn.counted.0 ∙ inv.counted.0, turn.counted.1 ∙ inv.counted.1);
-      told = told_then None (g.K.Keep.told c.args.keep.now) (g.K.Keep.told c.loop.keep) (g.K.Keep.told c.turn.new.keep) c.args.plan.now.words c.args.from c.loop.state.verified c.turn.new.state.verified inv.grows turn.grows inv.told turn.told;
-      keeping = kept_then g.K.Keep.keeps g.K.Keep.fails None c.args.keep.now c.loop.keep c.turn.new.keep c.args.plan.now.words c.args.from c.loop.state.verified c.turn.new.state.verified inv.grows turn.grows inv.keeping turn.kept_by;
+      turns = turns_join c.args.plan.now c.args.chunks.now c.loop.counter 1 None (begun c.args.from) c.loop.state c.turn.new.state (devices_of g.L.Line g.K.Keep c.args.line.now c.args.keep.now) (devices_of g.L.Line g.K.Keep c.loop.line c.loop.keep) (devices_of g.L.Line g.K.Keep c.turn.new.line c.turn.new.keep)
+          inv.turns turn.turn.is_one;
+      kept_by = kept_then (calls_of g.K.Keep) None c.args.keep.now c.loop.keep c.turn.new.keep c.args.plan.now.words c.args.from c.loop.state.verified c.turn.new.state.verified inv.turns.grows turn.turn.is_one.grows inv.kept_by turn.kept;
       end = c.end-end-in-loop.ensures;
     }
 
-pub returns-in-Err-clause-told : goal.returns-in-Err-clause-told
-returns-in-Err-clause-told g c =
-    told_then (Some c.in-Err.stop) (g.K.Keep.told c.args.keep.now) (g.K.Keep.told c.loop.keep) (g.K.Keep.told c.turn.new.keep) c.args.plan.now.words c.args.from c.loop.state.verified c.turn.new.state.verified c.loop.invariant.grows c.in-Err.ensures.grows
-    c.loop.invariant.told c.in-Err.ensures.told
+-- the exchange has an end
+pub returns-in-Some-clause-led : goal.returns-in-Some-clause-led
+returns-in-Some-clause-led g c =
+    led_to_end c.args.plan.now c.args.chunks.now c.args.from c.loop.state (devices_of g.L.Line g.K.Keep c.args.line.now c.args.keep.now) (devices_of g.L.Line g.K.Keep c.loop.line c.loop.keep) c.requires.chunks c.in-Some.end c.loop.counter c.args.turns c.loop.auto.counter-end (sym c.loop.invariant.end ∙ c.in-Some.is)
+    c.loop.invariant.turns
 
-pub returns-in-Err-clause-kept_by : goal.returns-in-Err-clause-kept_by
-returns-in-Err-clause-kept_by g c =
-    kept_then g.K.Keep.keeps g.K.Keep.fails (Some c.in-Err.stop) c.args.keep.now c.loop.keep c.turn.new.keep c.args.plan.now.words c.args.from c.loop.state.verified c.turn.new.state.verified c.loop.invariant.grows c.in-Err.ensures.grows
-    c.loop.invariant.keeping c.in-Err.ensures.kept_by
+-- a turn failed
+pub returns-in-Err-clause-led : goal.returns-in-Err-clause-led
+returns-in-Err-clause-led g c =
+    led_to_failure c.args.plan.now c.args.chunks.now c.args.from c.turn.new.state (devices_of g.L.Line g.K.Keep c.args.line.now c.args.keep.now) (devices_of g.L.Line g.K.Keep c.turn.new.line c.turn.new.keep) c.requires.chunks c.in-Err.stop c.loop.counter c.args.turns c.loop.state
+    (devices_of g.L.Line g.K.Keep c.loop.line c.loop.keep) (omega (arith, c.loop-test.true)) c.loop.invariant.turns c.in-Err.ensures.turn
 
-pub returns-in-Some-clause-honest : goal.returns-in-Some-clause-honest
-returns-in-Some-clause-honest g c = believable c.args.plan.now c.args.chunks.now c.loop.counter None c.args.from c.loop.state (g.L.Line.told c.args.line.now) (g.L.Line.told c.loop.line) c.requires.chunks c.loop.invariant.stretch
+pub returns-in-Err-clause-kept : goal.returns-in-Err-clause-kept
+returns-in-Err-clause-kept g c =
+    kept_then (calls_of g.K.Keep) (keep_fault (Some c.in-Err.stop)) c.args.keep.now c.loop.keep c.turn.new.keep c.args.plan.now.words c.args.from c.loop.state.verified c.turn.new.state.verified c.loop.invariant.turns.grows c.in-Err.ensures.turn.is_one.grows c.loop.invariant.kept_by
+    c.in-Err.ensures.kept
 
-pub returns-in-Some-end-clause-honest : goal.returns-in-Some-end-clause-honest
-returns-in-Some-end-clause-honest g c = believable c.args.plan.now c.args.chunks.now c.loop.counter None c.args.from c.loop.state (g.L.Line.told c.args.line.now) (g.L.Line.told c.loop.line) c.requires.chunks c.loop.invariant.stretch
+-- the turns are over
+pub returns-in-Some-end-clause-led : goal.returns-in-Some-end-clause-led
+returns-in-Some-end-clause-led g c =
+    led_to_end c.args.plan.now c.args.chunks.now c.args.from c.loop.state (devices_of g.L.Line g.K.Keep c.args.line.now c.args.keep.now) (devices_of g.L.Line g.K.Keep c.loop.line c.loop.keep) c.requires.chunks c.in-Some-end.end c.loop.counter c.args.turns c.loop.auto.counter-end (sym c.loop.invariant.end ∙ c.in-Some-end.is)
+    c.loop.invariant.turns
 
-pub returns-in-None-clause-honest : goal.returns-in-None-clause-honest
-returns-in-None-clause-honest g c = believable c.args.plan.now c.args.chunks.now c.loop.counter None c.args.from c.loop.state (g.L.Line.told c.args.line.now) (g.L.Line.told c.loop.line) c.requires.chunks c.loop.invariant.stretch
-
-pub returns-in-Err-clause-honest : goal.returns-in-Err-clause-honest
-returns-in-Err-clause-honest g c =
-    believable c.args.plan.now c.args.chunks.now c.args.turns (Some c.in-Err.stop) c.args.from c.turn.new.state (g.L.Line.told c.args.line.now) (g.L.Line.told c.turn.new.line) c.requires.chunks (returns-in-Err-clause-turns g c)
+pub returns-in-None-clause-led : goal.returns-in-None-clause-led
+returns-in-None-clause-led g c =
+    led_over c.args.plan.now c.args.chunks.now c.args.from c.loop.state (devices_of g.L.Line g.K.Keep c.args.line.now c.args.keep.now) (devices_of g.L.Line g.K.Keep c.loop.line c.loop.keep) c.requires.chunks c.loop.counter c.args.turns (omega (arith, c.loop-test.false, c.loop.auto.counter-end)) (sym c.loop.invariant.end ∙ c.in-None.is)
+    c.loop.invariant.turns

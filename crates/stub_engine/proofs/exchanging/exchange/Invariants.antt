@@ -1,20 +1,14 @@
-use Rattle.std.proofs.Common.{◌≡◌, ◌≤◌, None}
-use Rattle.load_devices.specs.Told.{Gains}
-use Rattle.load_engine.specs.Keeping.{KeepsEach}
-use Rattle.exchange_core.specs.Exchange.{IsExchange, begun, ended}
-use Rattle.stub_engine.specs.Exchanged.{Exchanged}
-use Rattle.stub_engine.specs.Failing.{Counts}
-use Rattle.stub_engine.specs.Keeping.{words_kept}
+use Rattle.std.proofs.Common.{◌≡◌, None}
+use Rattle.load_devices.specs.Devices.{calls_of, devices_of}
+use Rattle.exchange_core.specs.Exchange.{begun, ended}
+use Rattle.stub_engine.specs.Exchanged.{AreTurns, turns_give}
+use Rattle.stub_engine.specs.Exchanging.{exchanging}
+use Rattle.stub_engine.specs.Keeping.{IsKeptBy}
 use Rattle.stub_engine.proofs.exchanging.exchange.Given as goal
 
 abbrev pub invariant-loop : goal.invariant-loop
 invariant-loop g l = record {
-  stretch : Exchanged l.fn.plan l.fn.chunks l.counter None (begun l.fn.from) l.state (g.L.Line.told l.fn.line) (g.L.Line.told l.line);
-  kept : IsExchange l.fn.chunks l.state;
-  from : l.state.from ≡ l.fn.from;
-  grows : l.fn.from ≤ l.state.verified;
-  counted : Counts None (g.L.Line.fault_count l.fn.line) (g.L.Line.fault_count l.line) (g.K.Keep.fault_count l.fn.keep) (g.K.Keep.fault_count l.keep);
-  told : Gains (g.K.Keep.told l.fn.keep) (g.K.Keep.told l.keep) (words_kept l.fn.plan.words l.fn.from l.state.verified);
-  keeping : KeepsEach g.K.Keep.keeps l.fn.keep (words_kept l.fn.plan.words l.fn.from l.state.verified) l.keep;
+  turns : AreTurns l.counter (exchanging l.fn.plan l.fn.chunks (begun l.fn.from, l.state) None) (devices_of g.L.Line g.K.Keep l.fn.line l.fn.keep) (devices_of g.L.Line g.K.Keep l.line l.keep);
+  kept_by : IsKeptBy (calls_of g.K.Keep) (turns_give (exchanging l.fn.plan l.fn.chunks (begun l.fn.from, l.state) None)) l.fn.keep l.keep;
   end : l.end ≡ ended l.state.phase;
 }

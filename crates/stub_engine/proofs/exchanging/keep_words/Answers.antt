@@ -1,6 +1,8 @@
-use Rattle.std.proofs.Common.{◌<◌, [], ◌∷◌, length, arith, subst, ◌∙◌}
+use Rattle.std.proofs.Common.{◌≡◌, ◌<◌, [], ◌∷◌, length, arith, subst, ◌∙◌}
+use Rattle.load_devices.specs.Devices.{calls_of}
 use Rattle.tape_image.specs.Word.{WordValue}
 use Rattle.load_devices.specs.declared.item.Kept.TheVariants.{Word}
+use Rattle.load_devices.specs.Failures.{one_more}
 use Rattle.load_devices.specs.Told.{Gains}
 use Rattle.stub_engine.proofs.Keepings.{each_more, front_stops, told_more, told_stops}
 use Rattle.stub_engine.proofs.exchanging.keep_words.Goals as goal
@@ -18,13 +20,16 @@ loop-number-preserved g c =
       counted = c.in_default.ensures.counted ∙ c.loop-number.invariant.counted;
     }
 
-pub returns-in-Err-clause-not_kept : goal.returns-in-Err-clause-not_kept
-returns-in-Err-clause-not_kept g c =
+pub returns-in-Err-clause-told : goal.returns-in-Err-clause-told
+returns-in-Err-clause-told g c =
     told_stops (g.K.Keep.told c.args.keep.now) (g.K.Keep.told c.loop-number.keep) (g.K.Keep.told c.add.new.self) c.args.words.now c.args.from c.loop-number.number c.args.to c.loop-number.auto.number c.loop-number-test.true c.requires.within c.loop-number.invariant.told
     c.in-Err.ensures.not_kept
 
-pub returns-in-Err-clause-fails : goal.returns-in-Err-clause-fails
-returns-in-Err-clause-fails g c =
-    let P : WordValue → Type 0 = λ w. g.K.Keep.fails c.loop-number.keep (Word w) c.add.new.self in
-    front_stops g.K.Keep.keeps g.K.Keep.fails c.args.keep.now c.loop-number.keep c.add.new.self c.args.words.now c.args.from c.loop-number.number c.args.to c.index-words-number.result c.loop-number.auto.number c.loop-number-test.true c.requires.within c.loop-number.invariant.keeps
-    (subst P c.index-words-number.is c.in-Err.ensures.fails)
+pub returns-in-Err-clause-kept : goal.returns-in-Err-clause-kept
+returns-in-Err-clause-kept g c =
+    let P : WordValue → Type 0 = λ w. g.K.Keep.fails c.loop-number.keep (Word w) c.add.new.self in record {
+      counted = subst (λ n. g.K.Keep.fault_count c.add.new.self ≡ one_more n) c.loop-number.invariant.counted c.in-Err.ensures.counted;
+      named = c.in-Err.ensures.fault;
+      each = front_stops (calls_of g.K.Keep) c.args.keep.now c.loop-number.keep c.add.new.self c.args.words.now c.args.from c.loop-number.number c.args.to c.index-words-number.result c.loop-number.auto.number c.loop-number-test.true c.requires.within c.loop-number.invariant.keeps
+          (subst P c.index-words-number.is c.in-Err.ensures.fails);
+    }

@@ -1,57 +1,61 @@
-use Rattle.std.proofs.Common.{◌≡◌, None, Some, refl, arith, ap, sym, subst, ◌∙◌}
-use Rattle.stub_engine.proofs.Keepings.{each_begins, kept_then, told_begins, told_then}
+use Rattle.std.proofs.Common.{◌≡◌, None, Some, refl, arith, ap, sym, subst}
+use Rattle.load_devices.specs.Devices.{calls_of, devices_of}
+use Rattle.stub_engine.proofs.Bounds.{bounded, few_sent, few_spent}
+use Rattle.stub_engine.proofs.Brought.{all_in_vain, no_stubs, stubs_join}
+use Rattle.stub_engine.proofs.Keepings.{kept_none, kept_then}
 use Rattle.stub_engine.specs.declared.tally.Tally.{Tally}
-use Rattle.stub_engine.specs.Parts.{AreBroughtIn, failure_of}
+use Rattle.stub_engine.specs.Brought.{AreStubs}
+use Rattle.stub_engine.specs.Failing.{keep_fault}
+use Rattle.stub_engine.specs.Parts.{bringing, failure_of}
 use Rattle.stub_engine.specs.Tallies.{begun}
-use Rattle.stub_engine.proofs.Bounds.{bounded}
-use Rattle.stub_engine.proofs.Joins.{brought_join}
-use Rattle.stub_engine.proofs.Parts.{none_brought}
 use Rattle.stub_engine.proofs.stubs.bring_in.Goals as goal
 
 pub loop-tally-init : goal.loop-tally-init
 loop-tally-init g c =
     let v = c.args.verified in
-    let words = c.args.plan.now.words in
+    let at = devices_of g.L.Line g.K.Keep c.args.line.now c.args.keep.now in
     let same : c.begun-tally.result.verified ≡ v = ap (λ (t : Tally). t.verified) c.begun-tally.ensures in
     let sent : c.begun-tally.result.sent ≡ 0 = ap (λ (t : Tally). t.sent) c.begun-tally.ensures in
     let spent : c.begun-tally.result.spent ≡ 0 = ap (λ (t : Tally). t.spent) c.begun-tally.ensures in
     let vain : c.begun-tally.result.in_vain ≡ 0 = ap (λ (t : Tally). t.in_vain) c.begun-tally.ensures in record {
-      brought = subst (λ t. AreBroughtIn c.args.plan.now c.args.patience None (begun v) t (g.L.Line.told c.args.line.now) (g.L.Line.told c.args.line.now)) (sym c.begun-tally.ensures) (none_brought c.args.plan.now c.args.patience None (begun v) (g.L.Line.told c.args.line.now) tt);
-      counted = (refl, refl);
-      told = told_begins (g.K.Keep.told c.args.keep.now) words v c.begun-tally.result.verified (omega (arith, same));
-      keeping = each_begins g.K.Keep.keeps c.args.keep.now words v c.begun-tally.result.verified (omega (arith, same));
-      grows = omega (arith, same);
-      within = omega (arith, same, c.requires.within);
+      stubs = subst (λ t. AreStubs (bringing c.args.plan.now c.args.patience (begun v, t) None) at at) (sym c.begun-tally.ensures) (no_stubs c.args.plan.now c.args.patience (begun v) at c.requires.within);
+      kept_by = kept_none (calls_of g.K.Keep) c.args.keep.now c.args.plan.now.words v c.begun-tally.result.verified (omega (arith, same));
       near = omega (arith, same);
       bounded = record { few = omega (arith, vain); sent = omega (arith, sent); spent = omega (arith, spent) };
     }
 
-pub returns-in-Err-clause-parts : goal.returns-in-Err-clause-parts
-returns-in-Err-clause-parts g c =
-    brought_join c.args.plan.now c.args.patience (Some c.in-Err.stop) (begun c.args.verified) c.loop-tally.tally c.part.new.tally (g.L.Line.told c.args.line.now) (g.L.Line.told c.loop-tally.line) (g.L.Line.told c.part.new.line) c.loop-tally.invariant.brought c.in-Err.ensures.part
+pub returns-in-Err-clause-brought : goal.returns-in-Err-clause-brought
+returns-in-Err-clause-brought g c =
+    let inv = c.loop-tally.invariant in
+    let next = c.in-Err.ensures.brought in record {
+      all = stubs_join c.args.plan.now c.args.patience (Some c.in-Err.stop) (begun c.args.verified) c.loop-tally.tally c.part.new.tally (devices_of g.L.Line g.K.Keep c.args.line.now c.args.keep.now) (devices_of g.L.Line g.K.Keep c.loop-tally.line c.loop-tally.keep)
+          (devices_of g.L.Line g.K.Keep c.part.new.line c.part.new.keep) inv.stubs next.is_one;
+      few_sent = (let few = few_sent c.args.verified c.loop-tally.tally inv.near inv.bounded in let more = next.few_sent in omega (arith, few, more));
+      few_spent = (let few = few_spent c.args.verified c.loop-tally.tally inv.near inv.bounded in let more = next.few_spent in omega (arith, few, more));
+    }
 
-pub returns-in-Err-clause-told : goal.returns-in-Err-clause-told
-returns-in-Err-clause-told g c =
-    told_then (failure_of (Some c.in-Err.stop)) (g.K.Keep.told c.args.keep.now) (g.K.Keep.told c.loop-tally.keep) (g.K.Keep.told c.part.new.keep) c.args.plan.now.words c.args.verified c.loop-tally.tally.verified c.part.new.tally.verified c.loop-tally.invariant.grows c.in-Err.ensures.grows c.loop-tally.invariant.told
-    c.in-Err.ensures.told
-
-pub returns-in-Err-clause-kept_by : goal.returns-in-Err-clause-kept_by
-returns-in-Err-clause-kept_by g c =
-    kept_then g.K.Keep.keeps g.K.Keep.fails (failure_of (Some c.in-Err.stop)) c.args.keep.now c.loop-tally.keep c.part.new.keep c.args.plan.now.words c.args.verified c.loop-tally.tally.verified c.part.new.tally.verified c.loop-tally.invariant.grows c.in-Err.ensures.grows c.loop-tally.invariant.keeping
-    c.in-Err.ensures.kept_by
+pub returns-in-Err-clause-kept : goal.returns-in-Err-clause-kept
+returns-in-Err-clause-kept g c =
+    kept_then (calls_of g.K.Keep) (keep_fault (failure_of (Some c.in-Err.stop))) c.args.keep.now c.loop-tally.keep c.part.new.keep c.args.plan.now.words c.args.verified c.loop-tally.tally.verified c.part.new.tally.verified c.loop-tally.invariant.stubs.grows c.in-Err.ensures.brought.is_one.grows c.loop-tally.invariant.kept_by
+    c.in-Err.ensures.kept
 
 pub loop-tally-preserved : goal.loop-tally-preserved
 loop-tally-preserved g c =
     let inv = c.loop-tally.invariant in
-    let part = c.in_default.ensures in
-    let words = c.args.plan.now.words in
+    let next = c.in_default.ensures.brought in
     let v = c.args.verified in record {
-      brought = brought_join c.args.plan.now c.args.patience None (begun v) c.loop-tally.tally c.part.new.tally (g.L.Line.told c.args.line.now) (g.L.Line.told c.loop-tally.line) (g.L.Line.told c.part.new.line) inv.brought part.part;
-      counted = (part.counted.0 ∙ inv.counted.0, part.counted.1 ∙ inv.counted.1);
-      told = told_then None (g.K.Keep.told c.args.keep.now) (g.K.Keep.told c.loop-tally.keep) (g.K.Keep.told c.part.new.keep) words v c.loop-tally.tally.verified c.part.new.tally.verified inv.grows part.grows inv.told part.told;
-      keeping = kept_then g.K.Keep.keeps g.K.Keep.fails None c.args.keep.now c.loop-tally.keep c.part.new.keep words v c.loop-tally.tally.verified c.part.new.tally.verified inv.grows part.grows inv.keeping part.kept_by;
-      grows = omega (arith, inv.grows, part.grows);
-      within = part.within;
-      near = omega (arith, part.few);
-      bounded = bounded v c.loop-tally.tally c.part.new.tally inv.grows c.loop-tally-test.true part.in_vain part.sent_grows part.spent_grows inv.bounded;
+      stubs = stubs_join c.args.plan.now c.args.patience None (begun v) c.loop-tally.tally c.part.new.tally (devices_of g.L.Line g.K.Keep c.args.line.now c.args.keep.now) (devices_of g.L.Line g.K.Keep c.loop-tally.line c.loop-tally.keep)
+          (devices_of g.L.Line g.K.Keep c.part.new.line c.part.new.keep) inv.stubs next.is_one;
+      kept_by = kept_then (calls_of g.K.Keep) None c.args.keep.now c.loop-tally.keep c.part.new.keep c.args.plan.now.words v c.loop-tally.tally.verified c.part.new.tally.verified inv.stubs.grows next.is_one.grows inv.kept_by c.in_default.ensures.kept;
+      near = (let few = next.few_words refl in omega (arith, few));
+      bounded = bounded v c.loop-tally.tally c.part.new.tally inv.stubs.grows c.loop-tally-test.true (next.one_more refl) next.few_sent next.few_spent inv.bounded;
+    }
+
+-- three were in vain
+pub returns-clause-brought : goal.returns-clause-brought
+returns-clause-brought g c =
+    let inv = c.loop-tally.invariant in record {
+      all = all_in_vain c.args.plan.now c.args.patience (begun c.args.verified) c.loop-tally.tally (devices_of g.L.Line g.K.Keep c.args.line.now c.args.keep.now) (devices_of g.L.Line g.K.Keep c.loop-tally.line c.loop-tally.keep) (let few = inv.bounded.few in omega (arith, few, c.loop-tally-test.false)) inv.stubs;
+      few_sent = (let few = few_sent c.args.verified c.loop-tally.tally inv.near inv.bounded in omega (arith, few));
+      few_spent = (let few = few_spent c.args.verified c.loop-tally.tally inv.near inv.bounded in omega (arith, few));
     }

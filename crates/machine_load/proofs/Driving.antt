@@ -4,7 +4,7 @@ use Rattle.std.specs.Io.KnownBytes.{Appends}
 use Rattle.tape_image.specs.Plan.{PlanValue}
 use Rattle.byte_io.specs.Output.{WritesPrefix}
 use Rattle.host_core.specs.Core.{Core}
-use Rattle.load_devices.specs.Devices.{LineTold, devices}
+use Rattle.load_devices.specs.Devices.{LineTold}
 use Rattle.load_devices.specs.Told.{Gains}
 use Rattle.console_lines.specs.Dialling.{Call, LineRequest, asked_once}
 use Rattle.machine_load.specs.Called.{asked_by}
@@ -13,6 +13,7 @@ use Rattle.machine_load.specs.GivenBack.{IsGivenBack}
 use Rattle.machine_load.specs.Load.{SurroundingsTold, Ending, Finish, Setting, IsCutShort, IsLoad, IsLoadLife, IsOpened, IsReported, finish_of, finish_report}
 use Rattle.machine_load.specs.LoadFault.{Gone, IsOpeningFault, IsDrivingFault}
 use Rattle.machine_load.specs.LoadReport.{load_report}
+use Rattle.machine_load.specs.Parts.{told_by}
 use Rattle.machine_load.specs.Stubs.{counting}
 use Rattle.machine_load.specs.declared.load_end.LoadEnd.{LoadEnd}
 use Rattle.machine_load.specs.declared.looks.Looks.{Looks}
@@ -39,7 +40,7 @@ is_life tells fast writable first before after finish (inr (inr life)) = inr (in
     end_is = life.driven.end_is;
     kept = tells.calls.kept life.driven.keeper;
     kept' = tells.calls.kept life.driven.keeper';
-    between = devices life.driven.parts.between (tells.calls.kept life.driven.parts.keeping);
+    between = told_by tells.calls life.driven.parts.between;
     parts = life.driven.parts.parts;
   };
 }))

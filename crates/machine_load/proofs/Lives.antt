@@ -22,11 +22,11 @@ use Rattle.load_lives.specs.Stops.{IsBeginning, WentOut}
 use Rattle.load_lives.proofs.Records.{says_sound}
 use Rattle.load_lives.proofs.Stopping.{unsent_out}
 use Rattle.load_record.specs.declared.version.Version.TheVariants.{Second}
-use Rattle.load_record.specs.Keeper.{Keeper, HasKept, HasCutShort, HoldsRecord}
+use Rattle.load_record.specs.Keeper.{Keeper, HoldsRecord}
 use Rattle.load_record.specs.Reading.{Says}
 use Rattle.load_record.specs.RecordText.{record_text}
 use Rattle.exchange_law.specs.Law.{said_all}
-use Rattle.stub_engine.specs.Keeping.{KeptBy as StubsKeptBy, words_kept}
+use Rattle.stub_engine.specs.Keeping.{words_kept}
 use Rattle.stub_engine.proofs.Stretches.{said_append}
 use Rattle.exchange_law.specs.Start.{program as stub_program}
 use Rattle.stub_engine.specs.declared.stop.Stop.{Stop as StubStop}
@@ -47,9 +47,10 @@ use Rattle.machine_load.specs.Driving.{IsDrivenLife, IsLived}
 use Rattle.machine_load.specs.Lives.{GoesOut, HostGoesOut, LooksGoOut, PartsGoOut, StubsGoOut, LoadsAreFastLives, LoadsAreLives, of_file}
 use Rattle.machine_load.specs.Load.{SurroundingsTold, Finish, IsHeldUp, IsIdleLife, words_taken}
 use Rattle.machine_load.specs.Looks.{AreLooks, vouched_for}
-use Rattle.machine_load.specs.Parts.{AreBrought, AreKept, IsDrivenWhere, IsKeptWhere}
-use Rattle.machine_load.specs.Stubs.{hindrance, hindrance_of, host_behind}
-use Rattle.machine_load.proofs.Renewed.{HoldsFront, host_holds, stubs_front, stubs_held}
+use Rattle.machine_load.specs.Parts.{AreBrought, AreKept, AreParts, IsDrivenUnless, IsKeptBehind, Unless, course, stubs_of, told_by}
+use Rattle.load_engine.specs.Driven.{IsDriven, IsKeptBy}
+use Rattle.machine_load.specs.Stubs.{hindrance_of, host_behind}
+use Rattle.machine_load.proofs.Renewed.{EachKept, HoldsFront, host_holds, stubs_front, stubs_held}
 
 -- no more words count as verified than the record says
 fewer : (none : Bool) (n : ℕ) → (if none then 0 else n) ≤ n
@@ -220,12 +221,12 @@ module _ (plan : PlanValue) (v patience : ℕ) (looks front rest : List Item) (o
 
   -- the parts behind stubs that stopped so, by what hinders the host
   behind_stubs : (stubs : Stubs) (hindered : Option Stop) (core : Core) (stop : Stop) (before between after : Devices) (keeper keeping keeper' : Keeper) → hindrance_of stubs.stop ≡ hindered → HoldsRecord keeper plan v
-      → (brought : AreBrought first (Some stubs) before between) → (host : IsDrivenWhere hindered (host_behind first (Some stubs)) core stop between after)
-      → AreKept of_file.calls first (Some stubs) keeper keeping → IsKeptWhere of_file.calls hindered (host_behind first (Some stubs)) core stop keeping keeper'
-      → StubsGoOut first (Some stubs) before between brought front → HostGoesOut hindered (host_behind first (Some stubs)) core stop between after host rest → keeper'.text ≡ Some new.text → FastLives plan core looks front rest old new
+      → (brought : AreBrought (stubs_of first (Some stubs)) before between) → (host : IsDrivenUnless hindered (course first (Some stubs) (core, stop)) between after)
+      → AreKept of_file.calls (stubs_of first (Some stubs)) keeper keeping → Unless hindered (IsKeptBy of_file.calls (host_behind first (Some stubs)) core stop keeping keeper') (λ why. keeper' ≡ keeping)
+      → StubsGoOut (stubs_of first (Some stubs)) before between brought front → HostGoesOut hindered (course first (Some stubs) (core, stop)) between after host rest → keeper'.text ≡ Some new.text → FastLives plan core looks front rest old new
   behind_stubs stubs None core stop before between after keeper keeping keeper' free holds brought host kept host_kept (sent, later, unsent_is, front_is) out is =
-      behind brought.brought.parts stubs.tally.verified core stop between.line.said after.line.said between.kept after.kept keeper' brought.brought.verified brought.brought.stubs all_said host.session out
-      (host_holds plan stubs.tally.verified patience stop core between.line.said after.line.said between.kept after.kept keeping keeper' rest fits long brought.within held host.session out host_kept.kept_by) is
+      behind brought.all.brought.parts stubs.tally.verified core stop between.line.said after.line.said between.kept after.kept keeper' brought.all.brought.verified brought.all.brought.are_parts all_said host.session out
+      (host_holds plan stubs.tally.verified patience stop core between.line.said after.line.said between.kept after.kept keeping keeper' rest fits long brought.all.within held host.session out host_kept.kept_by) is
     where
       none_failed : failure_of (Some stubs.stop) ≡ None
       none_failed = unhindered stubs.stop free
@@ -234,17 +235,17 @@ module _ (plan : PlanValue) (v patience : ℕ) (looks front rest : List Item) (o
       none_left [] later e = refl
       none_left (key ∷ sent) later e = absurd (cc e)
 
-      all_said : stubs_said plan v brought.brought.parts ≡ front
+      all_said : stubs_said plan v brought.all.brought.parts ≡ front
       all_said =
-          let nothing = brought.brought.all_sent none_failed in
+          let nothing = brought.all.brought.all_sent none_failed in
           let none_sent = none_left sent later (sym nothing ∙ unsent_is) in
-          brought.brought.items ∙ (ap (λ keys. brought.brought.said ++ said_all keys) (nothing ∙ sym none_sent) ∙ sym front_is)
+          brought.all.brought.items ∙ (ap (λ keys. brought.all.brought.said ++ said_all keys) (nothing ∙ sym none_sent) ∙ sym front_is)
 
       held : HoldsRecord keeping plan stubs.tally.verified
-      held = stubs_held plan v stubs.tally.verified keeper keeping holds brought.grows brought.within (subst (λ failure. StubsKeptBy HasKept HasCutShort failure keeper (words_kept plan.words v stubs.tally.verified) keeping) none_failed kept.kept_by)
+      held = stubs_held plan v stubs.tally.verified keeper keeping holds brought.all.grows brought.all.within (subst (λ failure. EachKept failure keeper (words_kept plan.words v stubs.tally.verified) keeping) none_failed kept.each)
   behind_stubs stubs (Some hindered) core stop before between after keeper keeping keeper' is_hindered holds brought host kept host_kept (sent, later, unsent_is, front_is) out is =
       subst (λ (c : Core). FastLives plan c looks front rest old new) (sym host.core)
-      (within brought.brought.parts stubs.tally.verified later keeping brought.brought.verified brought.brought.stubs said_is out
+      (within brought.all.brought.parts stubs.tally.verified later keeping brought.all.brought.verified brought.all.brought.are_parts said_is out
       (record {
         text = held.0;
         held = held.1;
@@ -254,23 +255,22 @@ module _ (plan : PlanValue) (v patience : ℕ) (looks front rest : List Item) (o
       (subst (λ (keeper : Keeper). keeper.text ≡ Some new.text) host_kept is))
     where
       held : (text : List ℕ) × (keeping.text ≡ Some text) × IsBeginning text (record_text Second plan stubs.tally.verified false)
-      held = stubs_front plan v stubs.tally.verified keeper keeping holds brought.grows brought.within stubs.stop kept.kept_by
+      held = stubs_front plan v stubs.tally.verified keeper keeping holds brought.all.grows brought.all.within stubs.stop kept.each
 
-      said_is : stubs_said plan v brought.brought.parts ≡ front ++ said_all later
+      said_is : stubs_said plan v brought.all.brought.parts ≡ front ++ said_all later
       said_is =
-          brought.brought.items ∙ (ap (λ keys. brought.brought.said ++ said_all keys) unsent_is ∙ (ap (λ items. brought.brought.said ++ items) (said_append sent later)
-          ∙ (sym (append_assoc brought.brought.said (said_all sent) (said_all later)) ∙ ap (λ items. items ++ said_all later) (sym front_is))))
+          brought.all.brought.items ∙ (ap (λ keys. brought.all.brought.said ++ said_all keys) unsent_is ∙ (ap (λ items. brought.all.brought.said ++ items) (said_append sent later)
+          ∙ (sym (append_assoc brought.all.brought.said (said_all sent) (said_all later)) ∙ ap (λ items. items ++ said_all later) (sym front_is))))
 
   -- the parts of a life
-  parts_lived : (stubs : Option Stubs) (core : Core) (stop : Stop) (before between after : Devices) (keeper keeping keeper' : Keeper) → HoldsRecord keeper plan v
-      → (brought : AreBrought first stubs before between) → (host : IsDrivenWhere (hindrance stubs) (host_behind first stubs) core stop between after)
-      → AreKept of_file.calls first stubs keeper keeping → IsKeptWhere of_file.calls (hindrance stubs) (host_behind first stubs) core stop keeping keeper'
-      → StubsGoOut first stubs before between brought front → HostGoesOut (hindrance stubs) (host_behind first stubs) core stop between after host rest → keeper'.text ≡ Some new.text → FastLives plan core looks front rest old new
-  parts_lived None core stop before between after keeper keeping keeper' holds brought host kept host_kept none out is =
-      behind [] v core stop between.line.said after.line.said between.kept after.kept keeper' refl tt (sym none) host.session out
-      (host_holds plan v patience stop core between.line.said after.line.said between.kept after.kept keeping keeper' rest fits long fewer_than_all (subst (λ (k : Keeper). HoldsRecord k plan v) (sym kept) holds) host.session out host_kept.kept_by) is
-  parts_lived (Some stubs) core stop before between after keeper keeping keeper' holds brought host kept host_kept went out is =
-      behind_stubs stubs (hindrance_of stubs.stop) core stop before between after keeper keeping keeper' refl holds brought host kept host_kept went out is
+  parts_lived : (stubs : Option Stubs) (core : Core) (stop : Stop) (before between after : Devices) (keeper keeping keeper' : Keeper) → HoldsRecord keeper plan v → (parts : AreParts (course first stubs (core, stop)) before between after)
+      → AreKept of_file.calls (stubs_of first stubs) keeper keeping → IsKeptBehind of_file.calls (course first stubs (core, stop)) keeping keeper'
+      → PartsGoOut parts front rest → keeper'.text ≡ Some new.text → FastLives plan core looks front rest old new
+  parts_lived None core stop before between after keeper keeping keeper' holds parts kept host_kept (none, out) is =
+      behind [] v core stop between.line.said after.line.said between.kept after.kept keeper' refl tt (sym none) parts.host.session out
+      (host_holds plan v patience stop core between.line.said after.line.said between.kept after.kept keeping keeper' rest fits long fewer_than_all (subst (λ (k : Keeper). HoldsRecord k plan v) (sym kept) holds) parts.host.session out host_kept.kept_by) is
+  parts_lived (Some stubs) core stop before between after keeper keeping keeper' holds parts kept host_kept (went, out) is =
+      behind_stubs stubs (hindrance_of stubs.stop) core stop before between after keeper keeping keeper' refl holds parts.stubs parts.host kept host_kept went out is
 
 -- a life that goes on with a progress, once its record was read
 module _ (plan : PlanValue) (v patience : ℕ) (told : Option (List ℕ)) (between after : SurroundingsTold) (finish : Finish) (looks front rest : List Item) (old new : LinkAndRecord) (fits : IsPlan plan) (long : patience < 2 ^ 32) (was : told ≡ Some old.text) (read : Keeps told between.record_text) (is : after.record_text ≡ Some new.text) (passes : PassesAt stub_program old.link (looks ++ (front ++ rest)) new.link) where
@@ -323,8 +323,8 @@ module _ (plan : PlanValue) (v patience : ℕ) (told : Option (List ℕ)) (betwe
       parts_lived plan (vouched_for v life.first_looks.looks.finding) (patience - life.first_looks.looks.spent) looks front rest old new fits (less_patience patience life.first_looks.looks.spent long)
       (goes_behind plan old.text v life.first_looks.looks.finding goes)
       (inr (of_record plan v patience goes.recorded life.first_looks.looks life.first_looks.line life.first_looks.behind looks long goes.fewer goes.same_mark life.first_looks.looked looked))
-      passes finish.stubs finish.core life.driven.stop (devices life.first_looks.behind (of_file.calls.kept life.driven.keeper)) (devices life.driven.parts.between (of_file.calls.kept life.driven.parts.keeping)) (devices life.driven.line' (of_file.calls.kept life.driven.keeper')) life.driven.keeper life.driven.parts.keeping life.driven.keeper' life.driven.begun_so
-      life.driven.parts.parts.stubs life.driven.parts.parts.host life.driven.parts.stubs_kept life.driven.parts.host_kept out.0 out.1 (sym life.driven.left ∙ is)
+      passes finish.stubs finish.core life.driven.stop (devices life.first_looks.behind (of_file.calls.kept life.driven.keeper)) (told_by of_file.calls life.driven.parts.between) (devices life.driven.line' (of_file.calls.kept life.driven.keeper')) life.driven.keeper life.driven.parts.between.keeper life.driven.keeper' life.driven.begun_so
+      life.driven.parts.parts life.driven.parts.stubs_kept life.driven.parts.host_kept out (sym life.driven.left ∙ is)
 
   fast_lived : {fast writable : Bool} (going : Bool) → GoesOnFrom plan old.text (record { verified = v; going = going }) → (life : IsLived of_file fast writable (begun plan v going patience) between after finish) → GoesOut life looks front rest
       → FastLives plan finish.core looks front rest old new
@@ -358,8 +358,8 @@ Lives plan last looks items old new = (l : LookingLife) × (last_core plan l.lif
 module _ (plan : PlanValue) (v patience : ℕ) (looks items : List Item) (old new : WireAndRecord) (fits : IsPlan plan) (long : patience < 2 ^ 32) (goes : GoesOnFrom plan old.text (record { verified = v; going = false })) (looked : (looks ≡ []) ⊎ HasLooked plan goes.recorded looks) (passes : PassesOver old.wire (looks ++ items) new.wire) where
   -- its host alone
   host_life : (core : Core) (stop : Stop) (before behind : Devices) (keeper keeper' : Keeper) → HoldsRecord keeper plan v
-      → (host : IsDrivenWhere None (begun plan v false patience) core stop before behind) → IsKeptWhere of_file.calls None (begun plan v false patience) core stop keeper keeper' → HostGoesOut None (begun plan v false patience) core stop before behind host items → keeper'.text ≡ Some new.text
-      → Lives plan core looks items old new
+      → (host : IsDriven most_turns (begun plan v false patience) core stop before behind) → IsKeptBy of_file.calls (begun plan v false patience) core stop keeper keeper'
+      → WentOutAt stop (dialogue (begun plan v false patience) host.session.heard) host.session.said items → keeper'.text ≡ Some new.text → Lives plan core looks items old new
   host_life core stop before behind keeper keeper' holds host kept out held =
       let sound = says_sound plan old.text goes.recorded goes.says in
       let front = host_holds plan v patience stop core before.line.said behind.line.said before.kept behind.kept keeper keeper' items fits long (omega (arith, goes.fewer, sound.within)) holds host.session out kept.kept_by in
@@ -386,12 +386,12 @@ module _ (plan : PlanValue) (v patience : ℕ) (looks items : List Item) (old ne
       )
 
   parts_alone : (stubs : Option Stubs) (core : Core) (stop : Stop) (before middle behind : Devices) (keeper keeping keeper' : Keeper) → is_some stubs ≡ false → HoldsRecord keeper plan v
-      → (brought : AreBrought (begun plan v false patience) stubs before middle) → (host : IsDrivenWhere (hindrance stubs) (host_behind (begun plan v false patience) stubs) core stop middle behind)
-      → AreKept of_file.calls (begun plan v false patience) stubs keeper keeping → IsKeptWhere of_file.calls (hindrance stubs) (host_behind (begun plan v false patience) stubs) core stop keeping keeper'
-      → HostGoesOut (hindrance stubs) (host_behind (begun plan v false patience) stubs) core stop middle behind host items → keeper'.text ≡ Some new.text → Lives plan core looks items old new
-  parts_alone None core stop before middle behind keeper keeping keeper' none holds brought host kept host_kept out held =
-      host_life core stop middle behind keeping keeper' (subst (λ (k : Keeper). HoldsRecord k plan v) (sym kept) holds) host host_kept out held
-  parts_alone (Some stubs) core stop before middle behind keeper keeping keeper' none holds brought host kept host_kept out held = absurd (cc none)
+      → (parts : AreParts (course (begun plan v false patience) stubs (core, stop)) before middle behind)
+      → AreKept of_file.calls (stubs_of (begun plan v false patience) stubs) keeper keeping → IsKeptBehind of_file.calls (course (begun plan v false patience) stubs (core, stop)) keeping keeper'
+      → PartsGoOut parts [] items → keeper'.text ≡ Some new.text → Lives plan core looks items old new
+  parts_alone None core stop before middle behind keeper keeping keeper' none holds parts kept host_kept (nothing, out) held =
+      host_life core stop middle behind keeping keeper' (subst (λ (k : Keeper). HoldsRecord k plan v) (sym kept) holds) parts.host host_kept out held
+  parts_alone (Some stubs) core stop before middle behind keeper keeping keeper' none holds parts kept host_kept out held = absurd (cc none)
 
 -- a life without stubs, once its record was read
 module _ (plan : PlanValue) (v patience : ℕ) (told : Option (List ℕ)) (between after : SurroundingsTold) (finish : Finish) (looks items : List Item) (old new : WireAndRecord) (fits : IsPlan plan) (long : patience < 2 ^ 32) (was : told ≡ Some old.text) (read : Keeps told between.record_text) (is : after.record_text ≡ Some new.text) (passes : PassesOver old.wire (looks ++ items) new.wire) where
@@ -433,8 +433,8 @@ module _ (plan : PlanValue) (v patience : ℕ) (told : Option (List ℕ)) (betwe
       parts_alone plan (vouched_for v life.first_looks.looks.finding) (patience - life.first_looks.looks.spent) looks items old new fits (less_patience patience life.first_looks.looks.spent long)
       (goes_behind plan old.text v life.first_looks.looks.finding goes)
       (inr (of_record plan v patience goes.recorded life.first_looks.looks life.first_looks.line life.first_looks.behind looks long goes.fewer goes.same_mark life.first_looks.looked looked))
-      passes finish.stubs finish.core life.driven.stop (devices life.first_looks.behind (of_file.calls.kept life.driven.keeper)) (devices life.driven.parts.between (of_file.calls.kept life.driven.parts.keeping)) (devices life.driven.line' (of_file.calls.kept life.driven.keeper')) life.driven.keeper life.driven.parts.keeping life.driven.keeper' life.driven.stubs_asked life.driven.begun_so
-      life.driven.parts.parts.stubs life.driven.parts.parts.host life.driven.parts.stubs_kept life.driven.parts.host_kept out.1 (sym life.driven.left ∙ is)
+      passes finish.stubs finish.core life.driven.stop (devices life.first_looks.behind (of_file.calls.kept life.driven.keeper)) (told_by of_file.calls life.driven.parts.between) (devices life.driven.line' (of_file.calls.kept life.driven.keeper')) life.driven.keeper life.driven.parts.between.keeper life.driven.keeper' life.driven.stubs_asked life.driven.begun_so
+      life.driven.parts.parts life.driven.parts.stubs_kept life.driven.parts.host_kept out (sym life.driven.left ∙ is)
 
   lived : {writable : Bool} (going : Bool) → GoesOnFrom plan old.text (record { verified = v; going = going }) → (life : IsLived of_file false writable (begun plan v going patience) between after finish) → GoesOut life looks [] items
       → Lives plan finish.core looks items old new

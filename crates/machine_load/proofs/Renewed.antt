@@ -33,7 +33,10 @@ use Rattle.load_lives.specs.Lives.{GoesOnFrom}
 use Rattle.load_lives.specs.Stops.{IsBeginning}
 use Rattle.load_lives.proofs.Keepers.{keepers_leave}
 use Rattle.load_lives.proofs.Stopping.{records_are_fronts}
-use Rattle.stub_engine.specs.Keeping.{KeptBy as StubsKeptBy, words_kept}
+use Rattle.stub_engine.specs.declared.exchange_stop.ExchangeStop.{ExchangeStop}
+use Rattle.stub_engine.specs.Failing.{keep_fault}
+use Rattle.stub_engine.specs.Keeping.{AllOrFront, KeepsFront, words_kept}
+use Rattle.machine_load.specs.Lives.{of_file}
 use Rattle.stub_engine.specs.declared.stop.Stop.{Stop as StubStop}
 use Rattle.stub_engine.specs.declared.stop.Stop.TheVariants.{TooFewWords, NoRoom, InVain, NotStarted, TurnsOver, LineFailed, KeepFailed, Memory}
 use Rattle.stub_engine.specs.Parts.{failure_of}
@@ -137,6 +140,10 @@ last_of (w ∷ words) (item ∷ kept) last e =
       last_is = l.last_is;
     }
 
+-- by what stubs stopped, each thing was kept, or a front of them
+abbrev pub EachKept : Option ExchangeStop → Keeper → List Kept → Keeper → Type 0
+EachKept failure keep items keep' = AllOrFront (keep_fault failure) (KeepsEach of_file.calls.keeps keep items keep') (KeepsFront of_file.calls items keep keep')
+
 module _ (plan : PlanValue) (v w : ℕ) (keep keep' : Keeper) (holds : HoldsRecord keep plan v) (grows : v ≤ w) (within : w ≤ length plan.words) where
   abbrev words : List WordValue
   words = take (w - v) (drop v plan.words)
@@ -208,7 +215,7 @@ module _ (plan : PlanValue) (v w : ℕ) (keep keep' : Keeper) (holds : HoldsReco
   whole held = (record_text Second plan w false, held.written, ([], append-nil (record_text Second plan w false)))
 
   -- what a keeper holds behind stubs that stopped so
-  pub stubs_front : (stop : StubStop) → StubsKeptBy HasKept HasCutShort (failure_of (Some stop)) keep (words_kept plan.words v w) keep' → (text : List ℕ) × (keep'.text ≡ Some text) × IsBeginning text (record_text Second plan w false)
+  pub stubs_front : (stop : StubStop) → EachKept (failure_of (Some stop)) keep (words_kept plan.words v w) keep' → (text : List ℕ) × (keep'.text ≡ Some text) × IsBeginning text (record_text Second plan w false)
   stubs_front (KeepFailed fault) by =
       cut_at by.2.kept by.2.last by.2.next (by.0 + 1)
       (last_of (take (by.0 + 1) words) by.2.kept by.2.last (sym (take-map Word (by.0 + 1) words) ∙ by.2.items_are)) by.2.each by.2.failing

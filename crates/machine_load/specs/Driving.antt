@@ -13,7 +13,7 @@ use Rattle.machine_load.specs.GivenBack.{IsGivenBack}
 use Rattle.machine_load.specs.Load.{SurroundingsTold, Ending, Finish, Setting, Asks, HasLookedFirst, IsHeldUp, IsIdleLife, IsLoadOf, finish_of, finish_report}
 use Rattle.machine_load.specs.LoadReport.{load_report}
 use Rattle.machine_load.specs.Looks.{behind_looks}
-use Rattle.machine_load.specs.Parts.{ArePartsOver, course}
+use Rattle.machine_load.specs.Parts.{ArePartsOver, course, held}
 use Rattle.machine_load.specs.Step.{RecordBegun, RecordGivenBack}
 use Rattle.machine_load.specs.Stubs.{counting}
 use Rattle.request_values.specs.declared.options.LoadOptions.{LoadOptions}
@@ -38,7 +38,7 @@ pub record IsDrivenOn {K : Type 0} (tells : KeeperTells K) (fast : Bool) (first 
   pub keeper : K
   pub begun_so : tells.begins keeper first.plan first.verified
   pub keeper' : K
-  pub parts : ArePartsOver tells.calls first (course finish.stubs finish.core stop) line line' keeper keeper'
+  pub parts : ArePartsOver tells.calls (course first finish.stubs (finish.core, stop)) (held line keeper) (held line' keeper')
   pub left : after.record_text ≡ tells.text keeper'
 
 -- so does a life whose words all stood that it looked at: with the patience that its looks left

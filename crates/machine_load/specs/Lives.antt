@@ -16,13 +16,13 @@ use Rattle.exchange_law.specs.Start.{program as stub_program}
 use Rattle.load_lives.specs.FastLives.{LinkAndRecord, PassesAt, last_core as fast_core}
 use Rattle.load_lives.specs.LooksFirst.{LookingLife as FastLookingLife, IsLookingLife as IsFastLookingLife}
 use Rattle.looking_law.specs.Belief.{dialogue as looks_of}
-use Rattle.machine_load.specs.declared.stubs.Stubs.{Stubs}
+use Rattle.stub_engine.specs.Parts.{Bringing}
 use Rattle.machine_load.specs.declared.looks.Looks.{Looks}
 use Rattle.machine_load.specs.Driving.{KeeperTells, IsLived, IsLoadLived}
 use Rattle.machine_load.specs.Load.{SurroundingsTold, Finish}
 use Rattle.machine_load.specs.Looks.{AreLooks}
-use Rattle.machine_load.specs.Parts.{AreBrought, AreParts, Course, IsDrivenWhere}
-use Rattle.machine_load.specs.Stubs.{hindrance, host_behind}
+use Rattle.machine_load.specs.Parts.{AreBrought, AreParts, Course, IsDrivenUnless, host_of, stubs_of}
+use Rattle.machine_load.specs.Stubs.{hindrance}
 use Rattle.reading_core.specs.Addresses.{addresses_of}
 use Rattle.reading_core.specs.Reader.{begun as reader_begun}
 use Rattle.request_values.specs.declared.options.LoadOptions.{LoadOptions}
@@ -48,24 +48,23 @@ LooksGoOut {first} {looks} {before} {after} l items =
     WentOut (looks_of (reader_begun (addresses_of l.samples) [] first.patience) l.looked.inquired.turns.heard) l.looked.inquired.turns.said items
 
 -- what went out of what the stubs said: what the line tells, and perhaps some of the keys that a call failed to send
-abbrev pub StubsGoOut : (first : Core) (stubs : Option Stubs) (before after : Devices) → AreBrought first stubs before after → List Item → Type 0
-StubsGoOut first None before after same items = items ≡ []
-StubsGoOut first (Some stubs) before after by items =
-    (sent rest : List ℕ) × (by.brought.unsent ≡ sent ++ rest) × (items ≡ by.brought.said ++ said_all sent)
+abbrev pub StubsGoOut : (stubs : Option Bringing) (before after : Devices) → AreBrought stubs before after → List Item → Type 0
+StubsGoOut None before after same items = items ≡ []
+StubsGoOut (Some stubs) before after by items =
+    (sent rest : List ℕ) × (by.all.brought.unsent ≡ sent ++ rest) × (items ≡ by.all.brought.said ++ said_all sent)
 
 -- what went out of the host's dialogue with the console: what the line tells, or all of the dialogue, where the call that failed sent its key
 -- after all; and nothing, where the host was hindered
-abbrev pub HostGoesOut : (hindered : Option Stop) (old new : Core) (stop : Stop) (before after : Devices) → IsDrivenWhere hindered old new stop before after
-    → List Item → Type 0
-HostGoesOut None old new stop before after driven items = WentOutAt stop (dialogue old driven.session.heard) driven.session.said items
-HostGoesOut (Some hindered) old new stop before after idle items = items ≡ []
+abbrev pub HostGoesOut : (hindered : Option Stop) (course : Course) (before after : Devices) → IsDrivenUnless hindered course before after → List Item → Type 0
+HostGoesOut None course before after driven items =
+    WentOutAt course.stop (dialogue (host_of course) driven.session.heard) driven.session.said items
+HostGoesOut (Some why) course before after idle items = items ≡ []
 
 -- what went out of both
-abbrev pub PartsGoOut : {first : Core} {course : Course} {before between after : Devices} → AreParts first course before between after → List Item → List Item
-    → Type 0
-PartsGoOut {first} {course} {before} {between} {after} parts front rest =
-    StubsGoOut first course.stubs before between parts.stubs front
-    × HostGoesOut (hindrance course.stubs) (host_behind first course.stubs) course.core course.stop between after parts.host rest
+abbrev pub PartsGoOut : {course : Course} {before between after : Devices} → AreParts course before between after → List Item → List Item → Type 0
+PartsGoOut {course} {before} {between} {after} parts front rest =
+    StubsGoOut (stubs_of course.first course.stubs) before between parts.stubs front
+    × HostGoesOut (hindrance course.stubs) course between after parts.host rest
 
 -- what was said of a life: by its looks, by its stubs, and then by its host; nothing, where it was over at once, and nothing behind looks that held it up
 abbrev pub GoesOut : {fast writable : Bool} {first : Core} {before after : SurroundingsTold} {finish : Finish} → IsLived of_file fast writable first before after finish

@@ -160,7 +160,7 @@ pub record GoesOn (fast : Bool) (first : Core) (line : LineTold) (before after :
   pub kept : Option (List Kept)
   pub kept' : Option (List Kept)
   pub between : Devices
-  pub parts : AreParts first (course finish.stubs finish.core stop) (devices line kept) between (devices line' kept')
+  pub parts : AreParts (course first finish.stubs (finish.core, stop)) (devices line kept) between (devices line' kept')
 
 -- so does a life whose words all stood that it looked at: with the patience that its looks left
 pub record IsBusyLife (fast writable : Bool) (first : Core) (before after : SurroundingsTold) (finish : Finish) : Type 0 where

@@ -1,83 +1,98 @@
 -- The parts of a life on its line: its stubs, where it brings some in, and its host behind them.
-use Rattle.std.specs.Prelude.{◌≡◌, ◌≤◌, length, Option, Some, None}
+use Rattle.std.specs.Prelude.{◌≡◌, Option, Some, None}
 use Rattle.host_core.specs.Core.{Core}
-use Rattle.load_devices.specs.Failures.{CountsFault, IsLastFault}
 use Rattle.load_devices.specs.Devices.{Devices, KeeperCalls, LineTold, devices}
 use Rattle.load_devices.specs.Turns.{most_turns}
 use Rattle.load_engine.specs.declared.stop.Stop.{Stop}
-use Rattle.stub_engine.specs.Failing.{keep_fault as stub_keep_fault, line_fault as stub_line_fault}
-use Rattle.stub_engine.specs.Keeping.{KeptBy as StubsKeptBy, ToldBy, words_kept}
 use Rattle.load_engine.specs.Driven.{IsDriven, IsKeptBy}
-use Rattle.stub_engine.specs.Parts.{AreBroughtIn, failure_of}
+use Rattle.stub_engine.specs.Brought.{AreAllStubs, stubs_give}
+use Rattle.stub_engine.specs.Keeping.{IsKeptBy as StubsAreKeptBy}
+use Rattle.stub_engine.specs.Parts.{Bringing, bringing}
 use Rattle.stub_engine.specs.Tallies.{begun as none_yet}
 use Rattle.machine_load.specs.declared.stubs.Stubs.{Stubs}
 use Rattle.machine_load.specs.Stubs.{hindrance, host_behind}
 
--- how a life came to its end on its line: its stubs, where it brought some in, its host, and how the last of them stopped
+-- ---- the stubs
+
+-- the stubs of a life, where it brings some in, as their engine has them: behind its first words, with its patience each
+abbrev pub stubs_of : Core → Option Stubs → Option Bringing
+stubs_of first None = None
+stubs_of first (Some stubs) = Some (bringing first.plan first.patience (none_yet first.verified, stubs.tally) (Some stubs.stop))
+
+-- stubs were brought in, where there were some; else nothing was said and nothing kept
+abbrev pub AreBrought : Option Bringing → Devices → Devices → Type 0
+AreBrought None before after = after ≡ before
+AreBrought (Some stubs) before after = AreAllStubs stubs before after
+
+-- what they made of a keeper
+abbrev pub AreKept : {K : Type 0} → KeeperCalls K → Option Bringing → K → K → Type 0
+AreKept {K} calls None keeper keeper' = keeper' ≡ keeper
+AreKept {K} calls (Some stubs) keeper keeper' = StubsAreKeptBy calls (stubs_give stubs) keeper keeper'
+
+-- ---- the host
+
+-- the course that a life takes on its line: the host that it goes on with, its stubs, where it brings some in, the host as it was behind them, and how the
+-- last of them stopped
 pub record Course : Type 0 where
+  pub first : Core
   pub stubs : Option Stubs
   pub core : Core
   pub stop : Stop
 
-abbrev pub course : Option Stubs → Core → Stop → Course
-course stubs core stop = record { stubs = stubs; core = core; stop = stop }
+abbrev pub course : Core → Option Stubs → Core × Stop → Course
+course first stubs answer = record { first = first; stubs = stubs; core = answer.0; stop = answer.1 }
 
--- ---- the stubs
+-- its host, where it begins behind its stubs
+abbrev pub host_of : Course → Core
+host_of course = host_behind course.first course.stubs
 
--- stubs were brought in behind a life's first words, with its patience each
-pub record AreBroughtBy (first : Core) (stubs : Stubs) (before after : Devices) : Type 0 where
-  pub brought : AreBroughtIn first.plan first.patience (Some stubs.stop) (none_yet first.verified) stubs.tally before.line.said after.line.said
-  pub counted : CountsFault (stub_line_fault (failure_of (Some stubs.stop))) before.line.failures after.line.failures
-  pub named : IsLastFault (stub_line_fault (failure_of (Some stubs.stop))) after.line.fault
-  pub told : ToldBy (failure_of (Some stubs.stop)) before.kept after.kept (words_kept first.plan.words first.verified stubs.tally.verified)
-  pub grows : first.verified ≤ stubs.tally.verified
-  pub within : stubs.tally.verified ≤ length first.plan.words
+-- one thing where nothing hindered the host, and another where something did
+abbrev pub Unless : Option Stop → (free : Type 0) → (hindered : Stop → Type 0) → Type 0
+Unless None free hindered = free
+Unless (Some why) free hindered = hindered why
 
--- the same, where there were some; else nothing was said and nothing kept
-abbrev pub AreBrought : Core → Option Stubs → Devices → Devices → Type 0
-AreBrought first None before after = after ≡ before
-AreBrought first (Some stubs) before after = AreBroughtBy first stubs before after
-
--- what they made of a keeper
-pub record AreKeptBy {K : Type 0} (calls : KeeperCalls K) (first : Core) (stubs : Stubs) (old new : K) : Type 0 where
-  pub counted : CountsFault (stub_keep_fault (failure_of (Some stubs.stop))) (calls.failures old) (calls.failures new)
-  pub named : IsLastFault (stub_keep_fault (failure_of (Some stubs.stop))) (calls.fault new)
-  pub kept_by : StubsKeptBy calls.keeps calls.fails (failure_of (Some stubs.stop)) old
-      (words_kept first.plan.words first.verified stubs.tally.verified) new
-
-abbrev pub AreKept : {K : Type 0} → KeeperCalls K → Core → Option Stubs → K → K → Type 0
-AreKept {K} calls first None old new = new ≡ old
-AreKept {K} calls first (Some stubs) old new = AreKeptBy calls first stubs old new
-
--- ---- the host
-
--- nothing was said and nothing kept by a host that something hindered, which has done nothing
-pub record IsHindered (hindered : Stop) (old new : Core) (stop : Stop) (before after : Devices) : Type 0 where
-  pub core : new ≡ old
-  pub stop_is : stop ≡ hindered
+-- a host that was hindered has done nothing: nothing was said and nothing kept
+pub record IsHindered (course : Course) (before after : Devices) (why : Stop) : Type 0 where
+  pub core : course.core ≡ host_of course
+  pub stop_is : course.stop ≡ why
   pub devices_same : after ≡ before
 
--- the host was driven, where nothing hindered it
-abbrev pub IsDrivenWhere : Option Stop → Core → Core → Stop → Devices → Devices → Type 0
-IsDrivenWhere None old new stop before after = IsDriven most_turns old new stop before after
-IsDrivenWhere (Some hindered) old new stop before after = IsHindered hindered old new stop before after
+-- the host was driven, unless something hindered it
+abbrev pub IsDrivenUnless : Option Stop → Course → Devices → Devices → Type 0
+IsDrivenUnless hindered course before after =
+    Unless hindered (IsDriven most_turns (host_of course) course.core course.stop before after) (IsHindered course before after)
+
+-- its stubs may hinder it
+abbrev pub IsDrivenBehind : Course → Devices → Devices → Type 0
+IsDrivenBehind course before after = IsDrivenUnless (hindrance course.stubs) course before after
 
 -- what it made of a keeper, where it was driven
-abbrev pub IsKeptWhere : {K : Type 0} → KeeperCalls K → Option Stop → Core → Core → Stop → K → K → Type 0
-IsKeptWhere {K} calls None old new stop keeper keeper' = IsKeptBy calls old new stop keeper keeper'
-IsKeptWhere {K} calls (Some hindered) old new stop keeper keeper' = keeper' ≡ keeper
+abbrev pub IsKeptBehind : {K : Type 0} → KeeperCalls K → Course → K → K → Type 0
+IsKeptBehind {K} calls course keeper keeper' =
+    Unless (hindrance course.stubs) (IsKeptBy calls (host_of course) course.core course.stop keeper keeper') (λ why. keeper' ≡ keeper)
 
 -- ---- both
 
 -- a life took this course: first its stubs, and behind them its host, unless they hindered it
-pub record AreParts (first : Core) (course : Course) (before between after : Devices) : Type 0 where
-  pub stubs : AreBrought first course.stubs before between
-  pub host : IsDrivenWhere (hindrance course.stubs) (host_behind first course.stubs) course.core course.stop between after
+pub record AreParts (course : Course) (before between after : Devices) : Type 0 where
+  pub stubs : AreBrought (stubs_of course.first course.stubs) before between
+  pub host : IsDrivenBehind course between after
+
+-- a line and a keeper at a moment
+pub record Held (K : Type 0) : Type 0 where
+  pub line : LineTold
+  pub keeper : K
+
+abbrev pub held : {K : Type 0} → LineTold → K → Held K
+held line keeper = record { line = line; keeper = keeper }
+
+-- what they tell
+abbrev pub told_by : {K : Type 0} → KeeperCalls K → Held K → Devices
+told_by calls hands = devices hands.line (calls.kept hands.keeper)
 
 -- the same, with what each made of the keeper
-pub record ArePartsOver {K : Type 0} (calls : KeeperCalls K) (first : Core) (course : Course) (line line' : LineTold) (keeper keeper' : K) : Type 0 where
-  pub between : LineTold
-  pub keeping : K
-  pub parts : AreParts first course (devices line (calls.kept keeper)) (devices between (calls.kept keeping)) (devices line' (calls.kept keeper'))
-  pub stubs_kept : AreKept calls first course.stubs keeper keeping
-  pub host_kept : IsKeptWhere calls (hindrance course.stubs) (host_behind first course.stubs) course.core course.stop keeping keeper'
+pub record ArePartsOver {K : Type 0} (calls : KeeperCalls K) (course : Course) (before after : Held K) : Type 0 where
+  pub between : Held K
+  pub parts : AreParts course (told_by calls before) (told_by calls between) (told_by calls after)
+  pub stubs_kept : AreKept calls (stubs_of course.first course.stubs) before.keeper between.keeper
+  pub host_kept : IsKeptBehind calls course between.keeper after.keeper

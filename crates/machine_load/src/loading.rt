@@ -13,10 +13,10 @@ ghost use Rattle.machine_load.specs.Load.{IsOpened, words_taken};
 ghost use Rattle.machine_load.specs.LoadFault.{IsOpeningFault, IsDrivingFault, IsUnbegunFault, gone};
 ghost use Rattle.machine_load.specs.LoadReport.{load_report};
 ghost use Rattle.machine_load.specs.Looks.{AreFewLooks};
-ghost use Rattle.machine_load.specs.Parts.{IsDrivenWhere, IsKeptWhere};
+ghost use Rattle.machine_load.specs.Parts.{IsDrivenBehind, IsKeptBehind, course};
 ghost use Rattle.machine_load.specs.RecordDisk.{DiskAsked, disk_asked_before, IsBegunOn, IsNotBegunOn, IsOnlyRead, IsLivedOn, IsNotLivedOn};
 ghost use Rattle.machine_load.specs.Scene.{around_of, finish_told, keeper_of, scene, IsLoaded, IsNotLoaded};
-ghost use Rattle.machine_load.specs.Stubs.{AreFew, counting, hindrance, host_behind};
+ghost use Rattle.machine_load.specs.Stubs.{AreFew, counting};
 ghost use Rattle.record_file.specs.OldRecord.{HoldsNoRecord};
 
 use crate::fault::LoadFault;
@@ -269,9 +269,9 @@ fn drive_behind<L: Line, K: Keep, O: Onlooker>(
     onlooker: &O,
 ) -> (HostCore, Stop)
     requires within { IfSome stubs (λ stubs. stubs.tally.verified ≤ length first.plan.words) }
-    ensures host { IsDrivenWhere (hindrance stubs) (host_behind first stubs) result.0 result.1
+    ensures driven { IsDrivenBehind (course first stubs result)
         (devices_of L.Line K.Keep line.old keeper.old) (devices_of L.Line K.Keep line.new keeper.new) }
-    ensures kept { IsKeptWhere (calls_of K.Keep) (hindrance stubs) (host_behind first stubs) result.0 result.1 keeper.old keeper.new }
+    ensures kept { IsKeptBehind (calls_of K.Keep) (course first stubs result) keeper.old keeper.new }
 {
     let core = first.host_behind(stubs);
     match hindrance(stubs) {

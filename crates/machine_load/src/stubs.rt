@@ -2,7 +2,7 @@
 ghost use Rattle.std.specs.Prelude.{◌≡◌, ◌≤◌, None, length, is_some, IfSome};
 ghost use Rattle.host_core.specs.Core.{ended};
 ghost use Rattle.load_devices.specs.Devices.{calls_of, devices_of};
-ghost use Rattle.machine_load.specs.Parts.{AreBrought, AreKept};
+ghost use Rattle.machine_load.specs.Parts.{AreBrought, AreKept, stubs_of};
 ghost use Rattle.machine_load.specs.Stubs.{AreFew, hindrance};
 
 use crate::first_life::FirstLife;
@@ -31,8 +31,8 @@ pub(crate) fn bring_stubs<L: Line, K: Keep, O: Onlooker>(
     onlooker: &O,
 ) -> Option<Stubs>
     ensures asked { is_some result ≡ fast }
-    ensures brought { AreBrought first.now result (devices_of L.Line K.Keep line.old keeper.old) (devices_of L.Line K.Keep line.new keeper.new) }
-    ensures kept { AreKept (calls_of K.Keep) first.now result keeper.old keeper.new }
+    ensures brought { AreBrought (stubs_of first.now result) (devices_of L.Line K.Keep line.old keeper.old) (devices_of L.Line K.Keep line.new keeper.new) }
+    ensures kept { AreKept (calls_of K.Keep) (stubs_of first.now result) keeper.old keeper.new }
     ensures within { IfSome result (λ stubs. stubs.tally.verified ≤ length first.now.plan.words) }
     ensures few { IfSome result AreFew }
 {

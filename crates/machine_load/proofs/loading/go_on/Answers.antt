@@ -1,6 +1,7 @@
 use Rattle.std.proofs.Common.{refl, sym, subst, [], ◌∷◌}
 use Rattle.load_devices.specs.Told.{Gains}
 use Rattle.load_devices.specs.Devices.{line_told}
+use Rattle.machine_load.specs.Parts.{held}
 use Rattle.machine_load.specs.Scene.{around_of}
 use Rattle.machine_load.proofs.Faults.{not_begun}
 use Rattle.machine_load.proofs.Steps.{gains_more}
@@ -30,9 +31,8 @@ returns-clause-driven g c = record {
   begun_so = rw (c.plan.ensures, c.verified.ensures.value) at c.in-Ok.ensures.keeper;
   keeper' = c.drive_behind-core.new.keeper;
   parts = record {
-    between = line_told g.S.Line.Line c.bring_stubs-stubs.new.line;
-    keeping = c.bring_stubs-stubs.new.keeper;
-    parts = record { stubs = c.bring_stubs-stubs.ensures.brought; host = c.drive_behind-core.ensures.host };
+    between = held (line_told g.S.Line.Line c.bring_stubs-stubs.new.line) c.bring_stubs-stubs.new.keeper;
+    parts = record { stubs = c.bring_stubs-stubs.ensures.brought; host = c.drive_behind-core.ensures.driven };
     stubs_kept = c.bring_stubs-stubs.ensures.kept;
     host_kept = c.drive_behind-core.ensures.kept;
   };

@@ -1,6 +1,7 @@
 //! Surroundings of a load that tell what they are.
 ghost use Rattle.std.specs.Prelude.{IfErr, IfOk};
 ghost use Rattle.load_record.specs.Keeper.{HoldsRecord};
+ghost use Rattle.machine_load.specs.Asked.{task, ◌⇒◌};
 ghost use Rattle.machine_load.specs.Driving.{IsLoadReported};
 ghost use Rattle.machine_load.specs.Lives.{of_file};
 ghost use Rattle.machine_load.specs.Scene.{ending};
@@ -120,8 +121,8 @@ pub(crate) fn load_once(
     bench: &mut Bench,
     report: &mut Vec<u8>,
 ) -> Result<Outcome<MemoryLine>, LoadFault>
-    ensures lived { IfOk result (λ outcome. IsLoadReported of_file plan options (bench_told bench.old.keeper.text report.old.items)
-        (bench_told bench.new.keeper.text report.new.items) (ending memory_line outcome)) }
+    ensures lived { IfOk result (λ outcome. IsLoadReported of_file (task plan options)
+        (bench_told bench.old.keeper.text report.old.items ⇒ bench_told bench.new.keeper.text report.new.items) (ending memory_line outcome)) }
 {
     load(alloc, plan, options, bench, report, &Unwatched)
 }

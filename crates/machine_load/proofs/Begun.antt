@@ -8,6 +8,7 @@ use Rattle.host_core.specs.declared.phase.Phase.TheVariants.{Settle, Ended as Ha
 use Rattle.host_core.specs.Core.{Core, ended}
 use Rattle.load_engine.specs.declared.stop.Stop.TheVariants.{Ended}
 use Rattle.load_devices.specs.Devices.{LineTold}
+use Rattle.machine_load.specs.Asked.{Change, Opened}
 use Rattle.machine_load.specs.Driving.{KeeperTells, IsLived}
 use Rattle.machine_load.specs.declared.load_end.LoadEnd.{LoadEnd}
 use Rattle.machine_load.specs.declared.load_end.LoadEnd.TheVariants.{Driven}
@@ -41,9 +42,9 @@ line_or_never line so (inl is) = inl is
 line_or_never line so (inr over) = inr (so over)
 
 -- a life has a line, or it was over at once
-pub line_or_over : {K L : Type 0} (tells : KeeperTells K) (told_of : L → LineTold) (fast writable : Bool) (first : Core) (before after : SurroundingsTold) (looks : Option Looks) (stubs : Option Stubs) (core : Core) (end : LoadEnd) (line : Option L)
-    → IsLived tells fast writable first before after (finish_of looks stubs core end (option_map told_of line)) → IsSome line ⊎ IsOverAtOnce first core end
-line_or_over tells told_of fast writable first before after looks stubs core end line (inl idle) = inr idle.idle.over
-line_or_over tells told_of fast writable first before after looks stubs core end (Some l) (inr life) = inl refl
-line_or_over tells told_of fast writable first before after looks stubs core end None (inr (inl held)) = absurd (cc held.has_line)
-line_or_over tells told_of fast writable first before after looks stubs core end None (inr (inr life)) = absurd (cc life.driven.has_line)
+pub line_or_over : {K L : Type 0} (tells : KeeperTells K) (told_of : L → LineTold) (life : Opened) (around : Change SurroundingsTold) (looks : Option Looks) (stubs : Option Stubs) (core : Core) (end : LoadEnd) (line : Option L)
+    → IsLived tells life around (finish_of looks stubs core end (option_map told_of line)) → IsSome line ⊎ IsOverAtOnce life.first core end
+line_or_over tells told_of life around looks stubs core end line (inl idle) = inr idle.over
+line_or_over tells told_of life around looks stubs core end (Some l) (inr goes) = inl refl
+line_or_over tells told_of life around looks stubs core end None (inr (inl held)) = absurd (cc held.has_line)
+line_or_over tells told_of life around looks stubs core end None (inr (inr goes)) = absurd (cc goes.driven.has_line)

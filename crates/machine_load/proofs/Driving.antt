@@ -7,6 +7,7 @@ use Rattle.host_core.specs.Core.{Core}
 use Rattle.load_devices.specs.Devices.{LineTold}
 use Rattle.load_devices.specs.Told.{Gains}
 use Rattle.console_lines.specs.Dialling.{Call, LineRequest, asked_once}
+use Rattle.machine_load.specs.Asked.{Change, LoadTask, Opened, opened_as, task, ◌⇒◌}
 use Rattle.machine_load.specs.Called.{asked_by}
 use Rattle.machine_load.specs.Driving.{KeeperTells, IsLived, IsLoadLived, IsLoadReported, IsLoadUntold}
 use Rattle.machine_load.specs.GivenBack.{IsGivenBack}
@@ -23,11 +24,11 @@ use Rattle.machine_load.specs.declared.fault.LoadFault.TheVariants.{WriteOutput}
 use Rattle.request_values.specs.declared.options.LoadOptions.{LoadOptions}
 
 -- a life over its line and its keeper is one over its line
-pub is_life : {K : Type 0} (tells : KeeperTells K) (fast writable : Bool) (first : Core) (before after : SurroundingsTold) (finish : Finish)
-    → IsLived tells fast writable first before after finish → IsLoadLife fast writable first before after finish
-is_life tells fast writable first before after finish (inl idle) = inl idle
-is_life tells fast writable first before after finish (inr (inl held)) = inr (inl held)
-is_life tells fast writable first before after finish (inr (inr life)) = inr (inr (record {
+is_life : {K : Type 0} (tells : KeeperTells K) (opened : Opened) (around : Change SurroundingsTold) (finish : Finish)
+    → IsLived tells opened around finish → IsLoadLife opened around finish
+is_life tells opened around finish (inl idle) = inl idle
+is_life tells opened around finish (inr (inl held)) = inr (inl held)
+is_life tells opened around finish (inr (inr life)) = inr (inr (record {
   between = life.between;
   first_looks = life.first_looks;
   all_stand = life.all_stand;
@@ -45,34 +46,34 @@ is_life tells fast writable first before after finish (inr (inr life)) = inr (in
   };
 }))
 
-is_load : {K : Type 0} (tells : KeeperTells K) (plan : PlanValue) (options : LoadOptions) (before after : SurroundingsTold) (finish : Finish)
-    → IsLoadLived tells plan options before after finish → IsLoad plan options before after finish
-is_load tells plan options before after finish load = record {
+is_load : {K : Type 0} (tells : KeeperTells K) (task : LoadTask) (around : Change SurroundingsTold) (finish : Finish)
+    → IsLoadLived tells task around finish → IsLoad task around finish
+is_load tells task around finish load = record {
   first = load.first;
   writable = load.writable;
   between = load.between;
   opened = load.opened;
-  life = is_life tells options.fast load.writable load.first load.between after finish load.life;
+  life = is_life tells (opened_as load.first task.options.fast load.writable) (load.between ⇒ around.after) finish load.life;
 }
 
 -- what is said of a load with its keeper is so of its line
 pub reported_of : {K : Type 0} (tells : KeeperTells K) (plan : PlanValue) (options : LoadOptions) (before after : Setting) (ending : Ending)
-    → after.lines ≡ before.lines → IsLoadReported tells plan options before after ending → IsReported plan options before after ending
+    → after.lines ≡ before.lines → IsLoadReported tells (task plan options) (before ⇒ after) ending → IsReported plan options before after ending
 reported_of tells plan options before after ending kept load = record {
   looks = load.looks;
   stubs = load.stubs;
   last = load.last;
-  load = is_load tells plan options before.around after.around (finish_of load.looks load.stubs load.last ending.end ending.line) load.lived;
+  load = is_load tells (task plan options) (before.around ⇒ after.around) (finish_of load.looks load.stubs load.last ending.end ending.line) load.lived;
   marked_is = load.marked_is;
   reported = load.reported;
   line_kept = kept;
 }
 
 pub cut_short_of : {K : Type 0} (tells : KeeperTells K) (plan : PlanValue) (options : LoadOptions) (before after : Setting)
-    → IsLoadUntold tells plan options before after → IsCutShort plan options before after
+    → IsLoadUntold tells (task plan options) (before ⇒ after) → IsCutShort plan options before after
 cut_short_of tells plan options before after load = record {
   finish = load.finish;
-  load = is_load tells plan options before.around after.around load.finish load.lived;
+  load = is_load tells (task plan options) (before.around ⇒ after.around) load.finish load.lived;
   given_back = load.given_back;
   missing = load.missing;
   reported = load.reported;
@@ -80,15 +81,15 @@ cut_short_of tells plan options before after load = record {
 
 -- a load that was reported, and gives this back
 pub loaded_as : {K : Type 0} (tells : KeeperTells K) (plan : PlanValue) (options : LoadOptions) (before after : Setting) (looks : Option Looks) (stubs : Option Stubs) (core : Core) (end : LoadEnd) (line : Option LineTold) (ending : Ending)
-    → ending.end ≡ end → ending.marked ≡ core.going → ending.line ≡ line → IsLoadLived tells plan options before.around after.around (finish_of looks stubs core end line) → Appends before.out after.out (load_report (counting core looks stubs) end)
-    → (load : IsLoadReported tells plan options before after ending) × (load.stubs ≡ stubs)
+    → ending.end ≡ end → ending.marked ≡ core.going → ending.line ≡ line → IsLoadLived tells (task plan options) (before.around ⇒ after.around) (finish_of looks stubs core end line) → Appends before.out after.out (load_report (counting core looks stubs) end)
+    → (load : IsLoadReported tells (task plan options) (before ⇒ after) ending) × (load.stubs ≡ stubs)
 loaded_as tells plan options before after looks stubs core end line ending same_end marked is lived reported = (
   record {
     looks = looks;
     stubs = stubs;
     last = core;
-    lived = subst (λ l. IsLoadLived tells plan options before.around after.around (finish_of looks stubs core ending.end l)) (sym is)
-        (subst (λ e. IsLoadLived tells plan options before.around after.around (finish_of looks stubs core e line)) (sym same_end) lived);
+    lived = subst (λ l. IsLoadLived tells (task plan options) (before.around ⇒ after.around) (finish_of looks stubs core ending.end l)) (sym is)
+        (subst (λ e. IsLoadLived tells (task plan options) (before.around ⇒ after.around) (finish_of looks stubs core e line)) (sym same_end) lived);
     marked_is = marked;
     reported = subst (λ e. Appends before.out after.out (load_report (counting core looks stubs) e)) (sym same_end) reported;
   },
@@ -97,9 +98,9 @@ loaded_as tells plan options before after looks stubs core end line ending same_
 
 -- a load whose report failed
 pub load_untold : {K : Type 0} (tells : KeeperTells K) (plan : PlanValue) (options : LoadOptions) (before after : Setting) (between : SurroundingsTold) (first : Core) (writable : Bool) (finish : Finish)
-    → IsOpened plan options before.around between first writable
-    → IsLived tells options.fast writable first between after.around finish → WritesPrefix before.out after.out (finish_report finish)
-    → IsGivenBack before.lines after.lines finish.line → IsLoadUntold tells plan options before after
+    → IsOpened (task plan options) (before.around ⇒ between) first writable
+    → IsLived tells (opened_as first options.fast writable) (between ⇒ after.around) finish → WritesPrefix before.out after.out (finish_report finish)
+    → IsGivenBack before.lines after.lines finish.line → IsLoadUntold tells (task plan options) (before ⇒ after)
 load_untold tells plan options before after between first writable finish opened lived fails given = record {
   finish = finish;
   given_back = given;

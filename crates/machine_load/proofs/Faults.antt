@@ -21,6 +21,7 @@ use Rattle.sample_looks.specs.Finding.{IsFound}
 use Rattle.tape_image.specs.Word.{WordValue}
 use Rattle.host_core.specs.Core.{Core}
 use Rattle.machine_load.specs.Load.{SurroundingsTold, Asks, IsOpened, KeepsRecord}
+use Rattle.machine_load.specs.Asked.{LoadTask, task, ◌⇒◌}
 use Rattle.machine_load.specs.Called.{IsAskedBefore}
 use Rattle.machine_load.specs.Driving.{KeeperTells, IsLoadUntold}
 use Rattle.machine_load.specs.RecordDisk.{DiskAsked, disk_asked_before}
@@ -51,17 +52,17 @@ of_opening plan options before after lines lines' out other fails same unsaid = 
 
 -- an opened life comes to nothing, before anything is reported
 module _ (plan : PlanValue) (options : LoadOptions) (before between after : SurroundingsTold) (lines lines' : Option (List LineTold)) (out : Option (List ℕ)) (first : Core) where
-  stops : (may_begin : Bool) (done : List LoadStep) (Gives : Core → Option (List LineTold) → Option (List LineTold) → Type 0) → IsOpened plan options before between first may_begin → Asks between after done → Gives first lines lines'
+  stops : (may_begin : Bool) (done : List LoadStep) (Gives : Core → Option (List LineTold) → Option (List LineTold) → Type 0) → IsOpened (task plan options) (before ⇒ between) first may_begin → Asks between after done → Gives first lines lines'
       → StopsOpened plan options (record { around = before; lines = lines; out = out }) (record { around = after; lines = lines'; out = out }) may_begin done Gives
   stops may_begin done Gives opened asks given =
       record { first = first; between = between; opened = opened; steps_are = asks; given = given; nothing_reported = Keeps-refl out }
 
-  unconnected : (may_begin : Bool) (done : List LoadStep) → IsOpened plan options before between first may_begin → Asks between after done → KeepsRecord between after → GivesNone first lines lines'
+  unconnected : (may_begin : Bool) (done : List LoadStep) → IsOpened (task plan options) (before ⇒ between) first may_begin → Asks between after done → KeepsRecord between after → GivesNone first lines lines'
       → StopsUnconnected plan options (record { around = before; lines = lines; out = out }) (record { around = after; lines = lines'; out = out }) may_begin done
   unconnected may_begin done opened asks same given = (stops may_begin done GivesNone opened asks given, Keeps-trans _ _ _ opened.record_read same)
 
   -- one whose record may be begun
-  of_busy : (fault : LoadFault) → IsOpened plan options before between first true → IsDrivingFault true first (gone between lines) (gone after lines') fault
+  of_busy : (fault : LoadFault) → IsOpened (task plan options) (before ⇒ between) first true → IsDrivingFault true first (gone between lines) (gone after lines') fault
       → IsLoadFault plan options (record { around = before; lines = lines; out = out }) (record { around = after; lines = lines'; out = out }) fault
   of_busy Connect opened fails = unconnected true _ opened fails.1 fails.2 fails.3
   of_busy WriteRecord opened (inl unlike) = absurd (cc (unlike.0))
@@ -71,7 +72,7 @@ module _ (plan : PlanValue) (options : LoadOptions) (before between after : Surr
   of_busy other opened fails = absurd fails
 
   -- one whose record may not be begun
-  of_idle : (fault : LoadFault) → IsOpened plan options before between first false → IsDrivingFault false first (gone between lines) (gone after lines') fault
+  of_idle : (fault : LoadFault) → IsOpened (task plan options) (before ⇒ between) first false → IsDrivingFault false first (gone between lines) (gone after lines') fault
       → IsLoadFault plan options (record { around = before; lines = lines; out = out }) (record { around = after; lines = lines'; out = out }) fault
   of_idle WriteRecord opened (inl unlike) = inl (unconnected false _ opened unlike.1.nothing_asked unlike.1.record_same unlike.2)
   of_idle WriteRecord opened (inr unbegun) = absurd (cc (unbegun.0))
@@ -80,7 +81,7 @@ module _ (plan : PlanValue) (options : LoadOptions) (before between after : Surr
   of_idle Memory opened (inr unbegun) = absurd (cc (unbegun.0))
   of_idle other opened fails = absurd fails
 
-  pub of_driving : (may_begin : Bool) (fault : LoadFault) → IsOpened plan options before between first may_begin → IsDrivingFault may_begin first (gone between lines) (gone after lines') fault
+  pub of_driving : (may_begin : Bool) (fault : LoadFault) → IsOpened (task plan options) (before ⇒ between) first may_begin → IsDrivingFault may_begin first (gone between lines) (gone after lines') fault
       → IsLoadFault plan options (record { around = before; lines = lines; out = out }) (record { around = after; lines = lines'; out = out }) fault
   of_driving true fault opened fails = of_busy fault opened fails
   of_driving false fault opened fails = of_idle fault opened fails
@@ -142,9 +143,9 @@ both_ok (Ok value) P Q R f p q = f value p q
 both_ok (Err error) P Q R f p q = tt
 
 -- all that is said of a load that came to nothing
-pub not_loaded : {T K : Type 0} (r : Result T LoadFault) (keeper : KeeperTells K) (plan : PlanValue) (options : LoadOptions) (before after : Scene)
-    → IfErr r (IsLoadFault plan options before.setting after.setting) → IfErr r (λ why. why ≡ WriteOutput → IsLoadUntold keeper plan options before.setting after.setting)
+pub not_loaded : {T K : Type 0} (r : Result T LoadFault) (keeper : KeeperTells K) (task : LoadTask) (before after : Scene)
+    → IfErr r (IsLoadFault task.plan task.options before.setting after.setting) → IfErr r (λ why. why ≡ WriteOutput → IsLoadUntold keeper task (before.setting ⇒ after.setting))
     → IfErr r (IsAskedBefore before.call before.asked after.asked) → IfErr r (λ why. DiskAsked before.disk after.disk (disk_asked_before why))
-    → IfErr r (IsNotLoaded keeper plan options before after)
-not_loaded (Ok x) keeper plan options before after fault untold asked disk = tt
-not_loaded (Err why) keeper plan options before after fault untold asked disk = record { fault = fault; untold = untold; asked = asked; disk = disk }
+    → IfErr r (IsNotLoaded keeper task (before ⇒ after))
+not_loaded (Ok x) keeper task before after fault untold asked disk = tt
+not_loaded (Err why) keeper task before after fault untold asked disk = record { fault = fault; untold = untold; asked = asked; disk = disk }

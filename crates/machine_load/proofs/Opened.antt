@@ -7,6 +7,7 @@ use Rattle.host_core.specs.Core.{Core, begun}
 use Rattle.load_record.specs.declared.version.Version.TheVariants.{Second}
 use Rattle.load_record.specs.RecordText.{record_text}
 use Rattle.load_record.specs.Reading.{Says}
+use Rattle.machine_load.specs.Asked.{task, ◌⇒◌}
 use Rattle.machine_load.specs.Load.{SurroundingsTold, Asks, IsOpened, KeepsRecord, words_taken}
 use Rattle.machine_load.specs.Step.{RecordRead}
 use Rattle.record_file.specs.OldRecord.{HoldsNoRecord, MayBecome}
@@ -18,7 +19,7 @@ pub opens : (plan shown_plan : PlanValue) (options : LoadOptions) (before betwee
     → Asks before between (RecordRead how ∷ []) → KeepsRecord before between → IsAsTold before.record_text text → shown ≡ text
     → (HoldsNoRecord shown → ⊥) → Says plan shown (Ok said) → first ≡ begun plan (words_taken options.recheck said) said.going options.patience
     → shown_plan ≡ first.plan → verified ≡ first.verified → (IsTrue may_begin ↔ MayBecome how text (record_text Second shown_plan verified false))
-    → IsOpened plan options before between first may_begin
+    → IsOpened (task plan options) (before ⇒ between) first may_begin
 opens plan shown_plan options before between how text shown said first verified may_begin read same told is ours says core_is plan_is verified_is means = record {
   how = how;
   read_first = read;

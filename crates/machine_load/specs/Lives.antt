@@ -1,5 +1,5 @@
 -- A load is a life: so what is promised of lives in a row is promised of loads in a row.
-use Rattle.std.specs.Prelude.{◌≡◌, ◌^◌, ◌<◌, ℕ, Bool, false, List, [], ◌++◌, Option, Some, None}
+use Rattle.std.specs.Prelude.{◌≡◌, ◌^◌, ◌<◌, ℕ, false, List, [], ◌++◌, Option, Some, None}
 use mathlib.Core.Logic.{inl, inr}
 use Rattle.tape_image.specs.Plan.{PlanValue, IsPlan}
 use Rattle.host_core.specs.Core.{Core}
@@ -18,6 +18,7 @@ use Rattle.load_lives.specs.LooksFirst.{LookingLife as FastLookingLife, IsLookin
 use Rattle.looking_law.specs.Belief.{dialogue as looks_of}
 use Rattle.stub_engine.specs.Parts.{Bringing}
 use Rattle.machine_load.specs.declared.looks.Looks.{Looks}
+use Rattle.machine_load.specs.Asked.{Change, Opened, task, ◌⇒◌}
 use Rattle.machine_load.specs.Driving.{KeeperTells, IsLived, IsLoadLived}
 use Rattle.machine_load.specs.Load.{SurroundingsTold, Finish}
 use Rattle.machine_load.specs.Looks.{AreLooks}
@@ -67,19 +68,19 @@ PartsGoOut {course} {before} {between} {after} parts front rest =
     × HostGoesOut (hindrance course.stubs) course between after parts.host rest
 
 -- what was said of a life: by its looks, by its stubs, and then by its host; nothing, where it was over at once, and nothing behind looks that held it up
-abbrev pub GoesOut : {fast writable : Bool} {first : Core} {before after : SurroundingsTold} {finish : Finish} → IsLived of_file fast writable first before after finish
-    → List Item → List Item → List Item → Type 0
-GoesOut {fast} {writable} {first} {before} {after} {finish} (inl idle) looks front rest = (looks ≡ []) × (front ≡ []) × (rest ≡ [])
-GoesOut {fast} {writable} {first} {before} {after} {finish} (inr (inl held)) looks front rest =
+abbrev pub GoesOut : {life : Opened} {around : Change SurroundingsTold} {finish : Finish} → IsLived of_file life around finish → List Item → List Item → List Item → Type 0
+GoesOut {life} {around} {finish} (inl idle) looks front rest = (looks ≡ []) × (front ≡ []) × (rest ≡ [])
+GoesOut {life} {around} {finish} (inr (inl held)) looks front rest =
     LooksGoOut held.first_looks.looked looks × (front ≡ []) × (rest ≡ [])
-GoesOut {fast} {writable} {first} {before} {after} {finish} (inr (inr life)) looks front rest =
-    LooksGoOut life.first_looks.looked looks × PartsGoOut life.driven.parts.parts front rest
+GoesOut {life} {around} {finish} (inr (inr goes)) looks front rest =
+    LooksGoOut goes.first_looks.looked looks × PartsGoOut goes.driven.parts.parts front rest
 
 -- a load whose keeper writes the record's file, with stubs or without, is a life at a station which may look first, from the line and the record that it
 -- found to those that it left
 abbrev pub LoadsAreFastLives : Type 0
 LoadsAreFastLives =
-    (plan : PlanValue) (options : LoadOptions) (before after : SurroundingsTold) (finish : Finish) (load : IsLoadLived of_file plan options before after finish)
+    (plan : PlanValue) (options : LoadOptions) (before after : SurroundingsTold) (finish : Finish)
+    (load : IsLoadLived of_file (task plan options) (before ⇒ after) finish)
     (looks front rest : List Item) (old new : LinkAndRecord) → IsPlan plan → options.patience < 2 ^ 32 →
     before.record_text ≡ Some old.text → after.record_text ≡ Some new.text →
     GoesOut load.life looks front rest → PassesAt stub_program old.link (looks ++ (front ++ rest)) new.link →
@@ -89,7 +90,8 @@ LoadsAreFastLives =
 -- one without stubs is a life at a machine, too, of which more is promised
 abbrev pub LoadsAreLives : Type 0
 LoadsAreLives =
-    (plan : PlanValue) (options : LoadOptions) (before after : SurroundingsTold) (finish : Finish) (load : IsLoadLived of_file plan options before after finish)
+    (plan : PlanValue) (options : LoadOptions) (before after : SurroundingsTold) (finish : Finish)
+    (load : IsLoadLived of_file (task plan options) (before ⇒ after) finish)
     (looks items : List Item) (old new : WireAndRecord) → options.fast ≡ false → IsPlan plan → options.patience < 2 ^ 32 →
     before.record_text ≡ Some old.text → after.record_text ≡ Some new.text →
     GoesOut load.life looks [] items → PassesOver old.wire (looks ++ items) new.wire →

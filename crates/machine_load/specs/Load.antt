@@ -17,6 +17,7 @@ use Rattle.load_record.specs.Reading.{Says}
 use Rattle.byte_io.specs.Output.{WritesAllBut}
 use Rattle.load_devices.specs.Devices.{Devices, LineTold, devices}
 use Rattle.console_lines.specs.Reached.{IsUnused}
+use Rattle.machine_load.specs.Asked.{Change, LoadTask, Opened, opened_as, task, ◌⇒◌}
 use Rattle.machine_load.specs.GivenBack.{IsGivenBack}
 use Rattle.machine_load.specs.declared.load_end.LoadEnd.{LoadEnd}
 use Rattle.machine_load.specs.declared.load_end.LoadEnd.TheVariants.{Driven}
@@ -74,12 +75,12 @@ pub record IsOpening (record_told : Option (List ℕ)) (plan : PlanValue) (optio
   pub core_is : core ≡ begun plan (words_taken options.recheck said) said.going options.patience
 
 -- the record was read, and a life begins with this core; and it is known whether its own record may be begun over what was read
-pub record IsOpened (plan : PlanValue) (options : LoadOptions) (before between : SurroundingsTold) (first : Core) (may_begin : Bool) : Type 0 where
+pub record IsOpened (task : LoadTask) (around : Change SurroundingsTold) (first : Core) (may_begin : Bool) : Type 0 where
   pub how : Writable
-  pub read_first : Asks before between (RecordRead how ∷ [])
-  pub record_read : KeepsRecord before between
-  pub opening : IsOpening before.record_text plan options first
-  pub is_known : IsTrue may_begin ↔ MayBecome how opening.opened.text (record_text Second plan first.verified false)
+  pub read_first : Asks around.before around.after (RecordRead how ∷ [])
+  pub record_read : KeepsRecord around.before around.after
+  pub opening : IsOpening around.before.record_text task.plan task.options first
+  pub is_known : IsTrue may_begin ↔ MayBecome how opening.opened.text (record_text Second task.plan first.verified false)
 
 -- the life is over before it has begun
 pub record IsOverAtOnce (old new : Core) (ended_so : LoadEnd) : Type 0 where
@@ -113,46 +114,51 @@ finish_report finish = load_report (counting finish.core finish.looks finish.stu
 abbrev pub IsTextBegun : Option (List ℕ) → PlanValue → ℕ → Type 0
 IsTextBegun told plan k = IsAsTold told (record_text Second plan k false)
 
--- the life ends as it began, with nobody asked and the record left alone
-pub record IsIdle (old new : Core) (end : LoadEnd) (before after : SurroundingsTold) : Type 0 where
-  pub over : IsOverAtOnce old new end
-  pub left_alone : AsksNothing before after
-
 -- a life that was over at once has no line, no looks and no stubs; nobody was asked, and the record is as it was
-pub record IsIdleLife (first : Core) (before after : SurroundingsTold) (finish : Finish) : Type 0 where
-  pub idle : IsIdle first finish.core finish.end before after
+pub record IsIdleLife (life : Opened) (around : Change SurroundingsTold) (finish : Finish) : Type 0 where
+  pub over : IsOverAtOnce life.first finish.core finish.end
+  pub left_alone : AsksNothing around.before around.after
   pub no_looks : finish.looks ≡ None
   pub no_stubs : finish.stubs ≡ None
   pub no_line : finish.line ≡ None
 
 -- a life that is not over, and whose record may be begun: a connection is made, and on the new line, on which nothing was said, words that the record
 -- has are looked at, before anything is done to it
-pub record HasLookedFirst (writable : Bool) (first : Core) (before after : SurroundingsTold) (finish : Finish) : Type 0 where
-  pub may_write : writable ≡ true
-  pub goes_on : ended first.phase ≡ None
-  pub connected : Asks before after (Connected ∷ [])
-  pub record_same : KeepsRecord before after
+pub record HasLookedFirst (life : Opened) (around : Change SurroundingsTold) (finish : Finish) : Type 0 where
+  pub may_write : life.writable ≡ true
+  pub goes_on : ended life.first.phase ≡ None
+  pub connected : Asks around.before around.after (Connected ∷ [])
+  pub record_same : KeepsRecord around.before around.after
   pub line : LineTold
   pub fresh : IsUnused line.said line.failures line.fault
   pub looks : Looks
   pub looks_are : finish.looks ≡ Some looks
   pub behind : LineTold
-  pub looked : AreLooks first looks line behind
+  pub looked : AreLooks life.first looks line behind
 
 -- its looks do not let it go on: one of the words does not stand, or they stopped before each was read. Nothing is done behind them, and the record is
 -- as it was
-pub record IsHeldUp (writable : Bool) (first : Core) (before after : SurroundingsTold) (finish : Finish) : Type 0 where
-  pub first_looks : HasLookedFirst writable first before after finish
+pub record IsHeldUp (life : Opened) (around : Change SurroundingsTold) (finish : Finish) : Type 0 where
+  pub first_looks : HasLookedFirst life around finish
   pub held_up : held_up_by first_looks.looks ≡ Some finish.end
-  pub core_is : finish.core ≡ behind_looks first first_looks.looks
+  pub core_is : finish.core ≡ behind_looks life.first first_looks.looks
   pub no_stubs : finish.stubs ≡ None
   pub has_line : finish.line ≡ Some first_looks.behind
 
+-- a life that goes on: its host, whether stubs are asked for, and what its line tells
+pub record Going : Type 0 where
+  pub first : Core
+  pub fast : Bool
+  pub line : LineTold
+
+abbrev pub going_on : Core → Bool → LineTold → Going
+going_on first fast line = record { first = first; fast = fast; line = line }
+
 -- behind its looks a life goes on: the record is begun anew, stubs, where they are asked for, and the host have the line, and in the end the record's
 -- keeper is given back
-pub record GoesOn (fast : Bool) (first : Core) (line : LineTold) (before after : SurroundingsTold) (finish : Finish) : Type 0 where
-  pub asked : Asks before after (RecordBegun ∷ RecordGivenBack ∷ [])
-  pub stubs_asked : is_some finish.stubs ≡ fast
+pub record GoesOn (life : Going) (around : Change SurroundingsTold) (finish : Finish) : Type 0 where
+  pub asked : Asks around.before around.after (RecordBegun ∷ RecordGivenBack ∷ [])
+  pub stubs_asked : is_some finish.stubs ≡ life.fast
   pub line' : LineTold
   pub has_line : finish.line ≡ Some line'
   pub stop : Stop
@@ -160,32 +166,31 @@ pub record GoesOn (fast : Bool) (first : Core) (line : LineTold) (before after :
   pub kept : Option (List Kept)
   pub kept' : Option (List Kept)
   pub between : Devices
-  pub parts : AreParts (course first finish.stubs (finish.core, stop)) (devices line kept) between (devices line' kept')
+  pub parts : AreParts (course life.first finish.stubs (finish.core, stop)) (devices life.line kept) between (devices line' kept')
 
 -- so does a life whose words all stood that it looked at: with the patience that its looks left
-pub record IsBusyLife (fast writable : Bool) (first : Core) (before after : SurroundingsTold) (finish : Finish) : Type 0 where
+pub record IsBusyLife (life : Opened) (around : Change SurroundingsTold) (finish : Finish) : Type 0 where
   pub between : SurroundingsTold
-  pub first_looks : HasLookedFirst writable first before between finish
+  pub first_looks : HasLookedFirst life (around.before ⇒ between) finish
   pub all_stand : first_looks.looks.finding ≡ AllStand
-  pub then_goes_on : GoesOn fast (behind_looks first first_looks.looks) first_looks.behind between after finish
+  pub then_goes_on : GoesOn (going_on (behind_looks life.first first_looks.looks) life.fast first_looks.behind) (between ⇒ around.after) finish
 
 -- a life, once it has opened, over its line where it has one
-abbrev pub IsLoadLife : Bool → Bool → Core → SurroundingsTold → SurroundingsTold → Finish → Type 0
-IsLoadLife fast writable first before after finish =
-    IsIdleLife first before after finish ⊎ (IsHeldUp writable first before after finish ⊎ IsBusyLife fast writable first before after finish)
+abbrev pub IsLoadLife : Opened → Change SurroundingsTold → Finish → Type 0
+IsLoadLife life around finish = IsIdleLife life around finish ⊎ (IsHeldUp life around finish ⊎ IsBusyLife life around finish)
 
 -- a load: first the record is read, which says with which core the life begins, and whether that one's record may be begun over it; then the
 -- life, from there on
-pub record IsLoadOf (plan : PlanValue) (options : LoadOptions) (before : SurroundingsTold) (IsLifeFrom : Bool → Core → SurroundingsTold → Type 0) : Type 0 where
+pub record IsLoadOf (task : LoadTask) (before : SurroundingsTold) (IsLifeFrom : Opened → SurroundingsTold → Type 0) : Type 0 where
   pub first : Core
   pub writable : Bool
   pub between : SurroundingsTold
-  pub opened : IsOpened plan options before between first writable
-  pub life : IsLifeFrom writable first between
+  pub opened : IsOpened task (before ⇒ between) first writable
+  pub life : IsLifeFrom (opened_as first task.options.fast writable) between
 
 -- a load that ended so
-abbrev pub IsLoad : PlanValue → LoadOptions → SurroundingsTold → SurroundingsTold → Finish → Type 0
-IsLoad plan options before after finish = IsLoadOf plan options before (λ writable first between. IsLoadLife options.fast writable first between after finish)
+abbrev pub IsLoad : LoadTask → Change SurroundingsTold → Finish → Type 0
+IsLoad task around finish = IsLoadOf task around.before (λ life between. IsLoadLife life (between ⇒ around.after) finish)
 
 -- what a load gives back that was reported: how it ended, whether the host had come to the start, and what the line tells, where there is one
 pub record Ending : Type 0 where
@@ -203,7 +208,7 @@ pub record IsReported (plan : PlanValue) (options : LoadOptions) (before after :
   pub looks : Option Looks
   pub stubs : Option Stubs
   pub last : Core
-  pub load : IsLoad plan options before.around after.around (finish_of looks stubs last ending.end ending.line)
+  pub load : IsLoad (task plan options) (before.around ⇒ after.around) (finish_of looks stubs last ending.end ending.line)
   pub marked_is : ending.marked ≡ last.going
   pub reported : Appends before.out after.out (load_report (counting last looks stubs) ending.end)
   pub line_kept : after.lines ≡ before.lines
@@ -211,7 +216,7 @@ pub record IsReported (plan : PlanValue) (options : LoadOptions) (before after :
 -- a load whose report may be cut short: its line was given back as its life left it
 pub record IsCutShort (plan : PlanValue) (options : LoadOptions) (before after : Setting) : Type 0 where
   pub finish : Finish
-  pub load : IsLoad plan options before.around after.around finish
+  pub load : IsLoad (task plan options) (before.around ⇒ after.around) finish
   pub given_back : IsGivenBack before.lines after.lines finish.line
   pub missing : List ℕ
   pub reported : WritesAllBut before.out after.out (finish_report finish) missing

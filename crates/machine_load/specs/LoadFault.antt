@@ -7,6 +7,7 @@ use Rattle.load_record.specs.declared.reader.RecordError.{RecordError}
 use Rattle.load_record.specs.Reading.{Says}
 use Rattle.load_record.specs.declared.reader.RecordError.TheVariants.{NotARecord}
 use Rattle.load_devices.specs.Devices.{LineTold}
+use Rattle.machine_load.specs.Asked.{task, ◌⇒◌}
 use Rattle.machine_load.specs.GivenBack.{GivesLooked, GivesNone}
 use Rattle.host_core.specs.Core.{Core}
 use Rattle.machine_load.specs.Load.{SurroundingsTold, Setting, Asks, AsksNothing, KeepsRecord, IsCutShort, IsOpened}
@@ -76,7 +77,7 @@ pub record StopsOpened (plan : PlanValue) (options : LoadOptions) (before after 
     (Gives : Core → Option (List LineTold) → Option (List LineTold) → Type 0) : Type 0 where
   pub first : Core
   pub between : SurroundingsTold
-  pub opened : IsOpened plan options before.around between first may_begin
+  pub opened : IsOpened (task plan options) (before.around ⇒ between) first may_begin
   pub steps_are : Asks between after.around done
   pub given : Gives first before.lines after.lines
   pub nothing_reported : Keeps before.out after.out

@@ -10,13 +10,12 @@ use Rattle.machine_load.specs.declared.fault.LoadFault.TheVariants.{WriteOutput}
 use Rattle.machine_load.specs.declared.lived.Lived.{Lived}
 use Rattle.machine_load.specs.declared.outcome.Outcome.{Outcome}
 use Rattle.machine_load.specs.declared.surroundings.Surroundings.{Ghosts as Surroundings}
+use Rattle.machine_load.specs.Asked.{Change, LoadTask, ◌⇒◌}
 use Rattle.machine_load.specs.Called.{asked_by, IsAskedBefore}
 use Rattle.machine_load.specs.Driving.{KeeperTells, IsLoadReported, IsLoadUntold}
 use Rattle.machine_load.specs.LoadFault.{IsLoadFault}
 use Rattle.machine_load.specs.RecordDisk.{RecordDisk, DiskAsked, disk_asked_by, disk_asked_before}
-use Rattle.request_values.specs.declared.options.LoadOptions.{LoadOptions}
 use Rattle.console_lines.specs.Dialling.{LineRequest, Call}
-use Rattle.tape_image.specs.Plan.{PlanValue}
 use Rattle.machine_load.specs.Load.{SurroundingsTold, Ending, Finish, Setting, IsNeverBegun, IsReported, finish_of}
 
 -- what surroundings tell
@@ -52,21 +51,28 @@ ending tell outcome = record { end = outcome.end; marked = outcome.marked; line 
 abbrev pub finish_told : {L : Type 0} → Line L → Lived L → Finish
 finish_told tell lived = finish_of lived.looks lived.stubs lived.core lived.end (option_map (line_told tell) lived.line)
 
+-- what the lines tell that surroundings reach, and the keepers that they begin
+pub record LoadTells (L K : Type 0) : Type 1 where
+  pub line : Line L
+  pub keeper : KeeperTells K
+
+abbrev pub tells_of : {S L K : Type 0} → Surroundings S L K → Line L → Keep K → LoadTells L K
+tells_of around line keep = record { line = line; keeper = keeper_of around keep }
+
 -- a load was reported, and gives its line back to whoever would listen
-pub record IsLoaded {L K : Type 0} (keeper : KeeperTells K) (tell : Line L) (plan : PlanValue) (options : LoadOptions) (before after : Scene)
-    (outcome : Outcome L) : Type 0 where
-  pub reported : IsReported plan options before.setting after.setting (ending tell outcome)
+pub record IsLoaded {L K : Type 0} (tells : LoadTells L K) (task : LoadTask) (scenes : Change Scene) (outcome : Outcome L) : Type 0 where
+  pub reported : IsReported task.plan task.options scenes.before.setting scenes.after.setting (ending tells.line outcome)
   -- the report is of the host that the life ended with, over the line that was reached and the keeper that was begun
-  pub lived : IsLoadReported keeper plan options before.setting after.setting (ending tell outcome)
+  pub lived : IsLoadReported tells.keeper task (scenes.before.setting ⇒ scenes.after.setting) (ending tells.line outcome)
   pub stubs : outcome.stubs ≡ lived.stubs
   pub line : IsSome outcome.line ⊎ IsNeverBegun outcome.end
-  pub asked : Gains before.asked after.asked (asked_by before.call outcome.line)
-  pub disk : DiskAsked before.disk after.disk (disk_asked_by outcome.end outcome.line)
+  pub asked : Gains scenes.before.asked scenes.after.asked (asked_by scenes.before.call outcome.line)
+  pub disk : DiskAsked scenes.before.disk scenes.after.disk (disk_asked_by outcome.end outcome.line)
 
 -- or it came to nothing
-pub record IsNotLoaded {K : Type 0} (keeper : KeeperTells K) (plan : PlanValue) (options : LoadOptions) (before after : Scene) (why : LoadFault) : Type 0 where
-  pub fault : IsLoadFault plan options before.setting after.setting why
+pub record IsNotLoaded {K : Type 0} (keeper : KeeperTells K) (task : LoadTask) (scenes : Change Scene) (why : LoadFault) : Type 0 where
+  pub fault : IsLoadFault task.plan task.options scenes.before.setting scenes.after.setting why
   -- a life whose report could not be written was lived all the same
-  pub untold : why ≡ WriteOutput → IsLoadUntold keeper plan options before.setting after.setting
-  pub asked : IsAskedBefore before.call before.asked after.asked why
-  pub disk : DiskAsked before.disk after.disk (disk_asked_before why)
+  pub untold : why ≡ WriteOutput → IsLoadUntold keeper task (scenes.before.setting ⇒ scenes.after.setting)
+  pub asked : IsAskedBefore scenes.before.call scenes.before.asked scenes.after.asked why
+  pub disk : DiskAsked scenes.before.disk scenes.after.disk (disk_asked_before why)

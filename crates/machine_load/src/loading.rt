@@ -5,17 +5,18 @@ ghost use Rattle.host_core.specs.Opening.{refusal_of};
 ghost use Rattle.load_record.specs.Reading.{Says};
 ghost use Rattle.load_devices.specs.Told.{Gains};
 ghost use Rattle.byte_io.specs.Output.{WritesPrefix};
+ghost use Rattle.machine_load.specs.Asked.{opened_as, task, ◌⇒◌};
 ghost use Rattle.machine_load.specs.Called.{asked_by, IsAskedBefore};
 ghost use Rattle.load_devices.specs.Devices.{calls_of, devices_of, line_told};
 ghost use Rattle.machine_load.specs.Driving.{IsDrivenOn, IsLived};
 ghost use Rattle.machine_load.specs.GivenBack.{IsGivenBack};
-ghost use Rattle.machine_load.specs.Load.{IsOpened, words_taken};
+ghost use Rattle.machine_load.specs.Load.{IsOpened, going_on, words_taken};
 ghost use Rattle.machine_load.specs.LoadFault.{IsOpeningFault, IsDrivingFault, IsUnbegunFault, gone};
 ghost use Rattle.machine_load.specs.LoadReport.{load_report};
 ghost use Rattle.machine_load.specs.Looks.{AreFewLooks};
 ghost use Rattle.machine_load.specs.Parts.{IsDrivenBehind, IsKeptBehind, course};
 ghost use Rattle.machine_load.specs.RecordDisk.{DiskAsked, disk_asked_before, IsBegunOn, IsNotBegunOn, IsOnlyRead, IsLivedOn, IsNotLivedOn};
-ghost use Rattle.machine_load.specs.Scene.{around_of, finish_told, keeper_of, scene, IsLoaded, IsNotLoaded};
+ghost use Rattle.machine_load.specs.Scene.{around_of, finish_told, keeper_of, scene, tells_of, IsLoaded, IsNotLoaded};
 ghost use Rattle.machine_load.specs.Stubs.{AreFew, counting};
 ghost use Rattle.record_file.specs.OldRecord.{HoldsNoRecord};
 
@@ -71,10 +72,10 @@ pub fn load<S: Surroundings, W: Write, O: Onlooker>(
     out: &mut W,
     onlooker: &O,
 ) -> Result<Outcome<S::Line>, LoadFault>
-    ensures ok { IfOk result (IsLoaded (keeper_of S.Surroundings S.Keeper.Keep) S.Line.Line plan options
-        (scene S.Surroundings W.Write around.old out.old) (scene S.Surroundings W.Write around.new out.new)) }
-    ensures err { IfErr result (IsNotLoaded (keeper_of S.Surroundings S.Keeper.Keep) plan options
-        (scene S.Surroundings W.Write around.old out.old) (scene S.Surroundings W.Write around.new out.new)) }
+    ensures ok { IfOk result (IsLoaded (tells_of S.Surroundings S.Line.Line S.Keeper.Keep) (task plan options)
+        (scene S.Surroundings W.Write around.old out.old ⇒ scene S.Surroundings W.Write around.new out.new)) }
+    ensures err { IfErr result (IsNotLoaded (keeper_of S.Surroundings S.Keeper.Keep) (task plan options)
+        (scene S.Surroundings W.Write around.old out.old ⇒ scene S.Surroundings W.Write around.new out.new)) }
 {
     let (first, writable) = first_core(alloc, plan, options, around)?;
     let lived = live(alloc, first, options.fast, writable, around, onlooker)?;
@@ -107,8 +108,8 @@ fn first_core<S: Surroundings>(
     options: LoadOptions,
     around: &mut S,
 ) -> Result<(FirstLife, bool), LoadFault>
-    ensures opened { IfOk result (λ opened. IsOpened plan options (around_of S.Surroundings around.old) (around_of S.Surroundings around.new)
-        opened.0 opened.1) }
+    ensures opened { IfOk result (λ opened. IsOpened (task plan options)
+        (around_of S.Surroundings around.old ⇒ around_of S.Surroundings around.new) opened.0 opened.1) }
     ensures fault { IfErr result (IsOpeningFault plan (around_of S.Surroundings around.old) (around_of S.Surroundings around.new)) }
     ensures same { Keeps (S.record_text around.old) (S.record_text around.new) }
     ensures asked { S.asked around.new ≡ S.asked around.old }
@@ -164,9 +165,8 @@ fn live<S: Surroundings, O: Onlooker>(
     around: &mut S,
     onlooker: &O,
 ) -> Result<Lived<S::Line>, LoadFault>
-    ensures lived { IfOk result (λ lived. IsLived (keeper_of S.Surroundings S.Keeper.Keep) fast writable first
-        (around_of S.Surroundings around.old) (around_of S.Surroundings around.new)
-        (finish_told S.Line.Line lived)) }
+    ensures lived { IfOk result (λ lived. IsLived (keeper_of S.Surroundings S.Keeper.Keep) (opened_as first fast writable)
+        (around_of S.Surroundings around.old ⇒ around_of S.Surroundings around.new) (finish_told S.Line.Line lived)) }
     ensures few { IfOk result (λ lived. IfSome lived.looks AreFewLooks × IfSome lived.stubs AreFew) }
     ensures fault { IfErr result (IsDrivingFault writable first (gone (around_of S.Surroundings around.old) (S.lines around.old))
         (gone (around_of S.Surroundings around.new) (S.lines around.new))) }
@@ -226,9 +226,8 @@ fn go_on<S: Surroundings, O: Onlooker>(
     around: &mut S,
     onlooker: &O,
 ) -> Result<Lived<S::Line>, LoadFault>
-    ensures driven { IfOk result (λ lived. IsDrivenOn (keeper_of S.Surroundings S.Keeper.Keep) fast first (line_told S.Line.Line line)
-        (around_of S.Surroundings around.old) (around_of S.Surroundings around.new)
-        (finish_told S.Line.Line lived)) }
+    ensures driven { IfOk result (λ lived. IsDrivenOn (keeper_of S.Surroundings S.Keeper.Keep) (going_on first fast (line_told S.Line.Line line))
+        (around_of S.Surroundings around.old ⇒ around_of S.Surroundings around.new) (finish_told S.Line.Line lived)) }
     ensures looks { IfOk result (λ lived. lived.looks ≡ Some looks) }
     ensures few { IfOk result (λ lived. IfSome lived.stubs AreFew) }
     ensures fault { IfErr result (IsUnbegunFault (around_of S.Surroundings around.old) (around_of S.Surroundings around.new)) }

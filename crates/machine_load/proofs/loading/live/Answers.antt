@@ -2,8 +2,9 @@ use Rattle.std.proofs.Common.{refl, rules, sym, subst, ◌∙◌, inl, inr, [], 
 use Rattle.load_devices.specs.Devices.{line_told}
 use Rattle.host_core.specs.Core.{Core}
 use Rattle.load_devices.specs.Told.{Gains}
+use Rattle.machine_load.specs.Asked.{◌⇒◌}
 use Rattle.machine_load.specs.Driving.{IsDrivenOn}
-use Rattle.machine_load.specs.Load.{finish_of}
+use Rattle.machine_load.specs.Load.{finish_of, going_on}
 use Rattle.machine_load.specs.Scene.{around_of, keeper_of}
 use Rattle.machine_load.proofs.Faults.{all_stand, behind_looks_fault, both_ok, looked_first}
 use Rattle.machine_load.proofs.loading.live.Goals as goal
@@ -65,8 +66,8 @@ returns-clause-lived g c =
       };
       all_stand = all_stand _ _ _ _ c.look-looks.ensures.found (sym c.hindrance.ensures ∙ c.in-None.is);
       driven = subst
-          (λ (first : Core). IsDrivenOn (keeper_of g.S.Surroundings g.S.Keeper.Keep) c.args.fast first (line_told g.S.Line.Line c.look-looks.new.line)
-          (around_of g.S.Surroundings c.connect.new.self) (around_of g.S.Surroundings c.go_on.new.around)
+          (λ (first : Core). IsDrivenOn (keeper_of g.S.Surroundings g.S.Keeper.Keep) (going_on first c.args.fast (line_told g.S.Line.Line c.look-looks.new.line))
+          (around_of g.S.Surroundings c.connect.new.self ⇒ around_of g.S.Surroundings c.go_on.new.around)
           (finish_of lived.looks lived.stubs lived.core lived.end (option_map (line_told g.S.Line.Line) lived.line)))
           c.behind-in-None.ensures driven;
     })))

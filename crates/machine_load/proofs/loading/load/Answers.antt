@@ -1,5 +1,6 @@
 use Rattle.std.proofs.Common.{◌∙◌, ap, sym, subst, option_map, rules}
 use Rattle.load_devices.specs.Devices.{line_told}
+use Rattle.machine_load.specs.Asked.{opened_as, task, ◌⇒◌}
 use Rattle.machine_load.specs.Driving.{IsLoadLived, IsLoadUntold}
 use Rattle.machine_load.specs.GivenBack.{IsGivenBack}
 use Rattle.machine_load.specs.Load.{finish_of}
@@ -17,7 +18,7 @@ returns-in_err-first-clause-ok g c = no_value c.from_residual.result _ _ c.from_
 
 pub returns-in_err-first-clause-err : goal.returns-in_err-first-clause-err
 returns-in_err-first-clause-err g c =
-    not_loaded c.from_residual.result _ _ _ _ _
+    not_loaded c.from_residual.result _ _ _ _
     (error_is c.from_residual.result c.in_err-first.field-0.0
     (IsLoadFault c.args.plan c.args.options
     ((scene g.S.Surroundings g.W.Write c.args.around.now c.args.out.now).setting)
@@ -37,7 +38,7 @@ returns-in_err-lived-clause-ok g c = no_value c.from_residual-in_err-lived.resul
 
 pub returns-in_err-lived-clause-err : goal.returns-in_err-lived-clause-err
 returns-in_err-lived-clause-err g c =
-    not_loaded c.from_residual-in_err-lived.result _ _ _ _ _
+    not_loaded c.from_residual-in_err-lived.result _ _ _ _
     (error_is c.from_residual-in_err-lived.result c.in_err-lived.field-0.0
     (IsLoadFault c.args.plan c.args.options
     ((scene g.S.Surroundings g.W.Write c.args.around.now c.args.out.now).setting)
@@ -66,7 +67,7 @@ returns-in-Err-clause-err g c =
     let after = scene g.S.Surroundings g.W.Write c.give_back.new.around c.report_life.new.out in
     let line = option_map (line_told g.S.Line.Line) c.in_ok-lived.lived.line in
     let finish = finish_of c.in_ok-lived.lived.looks c.in_ok-lived.lived.stubs c.in_ok-lived.lived.core c.in_ok-lived.lived.end line in
-    let untold : IsLoadUntold keeper c.args.plan c.args.options before.setting after.setting =
+    let untold : IsLoadUntold keeper (task c.args.plan c.args.options) (before.setting ⇒ after.setting) =
     rw (sym c.give_back.ensures.steps, sym c.give_back.ensures.text) at
     (load_untold keeper c.args.plan c.args.options before.setting
     (record { around = around_of g.S.Surroundings c.live.new.around; lines = g.S.Surroundings.lines c.give_back.new.around; out = g.W.Write.contents c.report_life.new.out })
@@ -75,7 +76,7 @@ returns-in-Err-clause-err g c =
     finish
     c.in_ok-first.ensures.opened c.in_ok-lived.ensures.lived c.in-Err.ensures.err
     (subst (λ lines. IsGivenBack lines (g.S.Surroundings.lines c.give_back.new.around) line) (c.in_ok-lived.ensures.lines ∙ c.first_core.ensures.lines) c.give_back.ensures.lines)) in
-    subst (IsNotLoaded keeper c.args.plan c.args.options before after) (sym c.from.ensures) (record {
+    subst (IsNotLoaded keeper (task c.args.plan c.args.options) (before ⇒ after)) (sym c.from.ensures) (record {
       fault = cut_short_of keeper c.args.plan c.args.options before.setting after.setting untold;
       untold = λ _. untold;
       asked = rw (c.first_core.ensures.asked, c.first_core.ensures.call, sym c.give_back.ensures.asked) at
@@ -91,7 +92,7 @@ returns-in-Ok-clause-ok g c =
     let after = scene g.S.Surroundings g.W.Write c.live.new.around c.report_life.new.out in
     let last = c.in_ok-lived.lived in
     let line = option_map (line_told g.S.Line.Line) last.line in
-    let lived : IsLoadLived keeper c.args.plan c.args.options before.setting.around after.setting.around (finish_of last.looks last.stubs last.core last.end line) = record {
+    let lived : IsLoadLived keeper (task c.args.plan c.args.options) (before.setting.around ⇒ after.setting.around) (finish_of last.looks last.stubs last.core last.end line) = record {
       first = c.in_ok-first.first;
       writable = c.in_ok-first.writable;
       between = around_of g.S.Surroundings c.first_core.new.around;
@@ -105,10 +106,8 @@ returns-in-Ok-clause-ok g c =
       stubs = c.outcome.ensures.stubs ∙ sym load.1;
       line = rw (sym c.outcome.ensures.end, sym c.outcome.ensures.line) at
           (line_or_never c.in_ok-lived.lived.line (never_begun _ _ _ _ _ _ c.in_ok-first.ensures.opened.opening)
-          (line_or_over keeper (line_told g.S.Line.Line) c.args.options.fast
-          c.in_ok-first.writable c.in_ok-first.first
-          (around_of g.S.Surroundings c.first_core.new.around)
-          (around_of g.S.Surroundings c.live.new.around)
+          (line_or_over keeper (line_told g.S.Line.Line) (opened_as c.in_ok-first.first c.args.options.fast c.in_ok-first.writable)
+          (around_of g.S.Surroundings c.first_core.new.around ⇒ around_of g.S.Surroundings c.live.new.around)
           last.looks last.stubs last.core last.end last.line c.in_ok-lived.ensures.lived));
       asked = search rules;
       disk = rw (sym c.outcome.ensures.end, sym c.outcome.ensures.line) at

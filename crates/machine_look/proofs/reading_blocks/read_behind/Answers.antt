@@ -49,7 +49,7 @@ returns-in-None-Ok-clause-added g c =
     let a : ShelfAt = shelf_at g.S.Shelf c.args.shelf.now in
     let b : ShelfAt = shelf_at g.S.Shelf c.add_full-added.new.shelf in
     let first = from_nothing c.args.from c.args.found.now (adds c.args.from c.args.found.now (full c.args.found.now)) a b
-        (done_known _ c.add_full-added.result _ c.in-None-Ok.is-1 c.add_full-added.ensures.added) in
+    (done_known _ c.add_full-added.result _ c.in-None-Ok.is-1 c.add_full-added.ensures.added) in
     on_ok c.read_blocks.result.added
     (λ h. added_behind c.args.from _ c.args.found.now c.read_blocks.result.core.values a b (shelf_at g.S.Shelf c.read_blocks.new.shelf) c.requires.whole refl first h)
     c.read_blocks.ensures.added
@@ -59,7 +59,7 @@ returns-in-None-Ok-clause-not_added g c =
     let a : ShelfAt = shelf_at g.S.Shelf c.args.shelf.now in
     let b : ShelfAt = shelf_at g.S.Shelf c.add_full-added.new.shelf in
     let first = from_nothing c.args.from c.args.found.now (adds c.args.from c.args.found.now (full c.args.found.now)) a b
-        (done_known _ c.add_full-added.result _ c.in-None-Ok.is-1 c.add_full-added.ensures.added) in
+    (done_known _ c.add_full-added.result _ c.in-None-Ok.is-1 c.add_full-added.ensures.added) in
     on_each c.read_blocks.result.added _ _
     (λ fault h. not_added_behind c.args.from _ c.args.found.now c.read_blocks.result.core.values a b (shelf_at g.S.Shelf c.read_blocks.new.shelf) fault c.requires.whole refl first h)
     c.read_blocks.ensures.not_added

@@ -31,10 +31,10 @@ returns g c =
             quiet = w.print_answer-outcome.ensures.quiet;
           }))
       | in-Make w ↦ came_to _ before _ w.make_words.result _ w.make_words.new.streams w.system-is w.streams-is (record {
-          ok = search rules;
-          err = search rules;
-          quiet = w.make_words.ensures.quiet;
-        })
+        ok = search rules;
+        err = search rules;
+        quiet = w.make_words.ensures.quiet;
+      })
       | in-Machine-Load w ↦
           let due : IfErr w.load_tapes.result.1 (AreUnloaded w.in-Machine-Load.names.items w.in-Machine-Load.load before (moment w.load_tapes.result.0 w.load_tapes.new.streams)) =
           subst (λ items. IfErr w.load_tapes.result.1 (AreUnloaded items w.in-Machine-Load.load before (moment w.load_tapes.result.0 w.load_tapes.new.streams)))
@@ -54,14 +54,14 @@ returns g c =
             quiet = w.verify_tapes.ensures.quiet;
           })
       | in-Machine-Save w ↦ came_to _ before _ w.save_words.result _ w.save_words.new.streams w.system-is w.streams-is (record {
-          ok = search rules;
-          err = search rules;
-          quiet = w.save_words.ensures.quiet;
-        })
+        ok = search rules;
+        err = search rules;
+        quiet = w.save_words.ensures.quiet;
+      })
       | in-Machine-Probe w ↦ came_to _ before _ w.probe_console.result _ w.probe_console.new.streams w.system-is w.streams-is (record {
-          ok = search rules;
-          err = search rules;
-          quiet = w.probe_console.ensures.quiet;
-        })
+        ok = search rules;
+        err = search rules;
+        quiet = w.probe_console.ensures.quiet;
+      })
     ])
     c.end-status.ensures

@@ -1,3 +1,2 @@
-pub mod Change
 pub mod TapeFile
 pub mod Tapes

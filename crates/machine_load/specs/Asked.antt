@@ -1,8 +1,9 @@
--- What is asked of a load, and how what is told of one moment and of another is written.
+-- What is asked of a load.
 use Rattle.std.specs.Prelude.{Bool}
 use Rattle.tape_image.specs.Plan.{PlanValue}
 use Rattle.host_core.specs.Core.{Core}
 use Rattle.request_values.specs.declared.options.LoadOptions.{LoadOptions}
+pub use Rattle.request_values.specs.Change.{Change, ◌⇒◌}
 
 -- a plan, and how it is to be loaded
 pub record LoadTask : Type 0 where
@@ -20,12 +21,3 @@ pub record Opened : Type 0 where
 
 abbrev pub opened_as : Core → Bool → Bool → Opened
 opened_as first fast writable = record { first = first; fast = fast; writable = writable }
-
--- what is told of one moment and of another
-pub record Change (A : Type 0) : Type 0 where
-  pub before : A
-  pub after : A
-
-infixl 3 ◌⇒◌
-abbrev pub ◌⇒◌ : {A : Type 0} → A → A → Change A
-before ⇒ after = record { before = before; after = after }

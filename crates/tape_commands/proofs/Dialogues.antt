@@ -1,5 +1,5 @@
 -- A load on a line that loses nothing, event by event, and what is written of it.
-use Rattle.command_io.specs.Change.{◌⇒◌}
+use Rattle.request_values.specs.Change.{◌⇒◌}
 use Rattle.std.proofs.Common.{◌≡◌, ◌<◌, List, [], ◌∷◌, ◌++◌, ℕ, Option, Some, None, IsSome, replicate, false, refl, sym, ap, ◌∙◌, subst, inl, inr, arith, codes, append_assoc, append-nil}
 use Rattle.std.specs.Prelude.{slice_get, length, is_some}
 use Rattle.std.specs.List.{slice_range, flat_map}

@@ -1,5 +1,5 @@
 -- Typing goes on where it stopped.
-use Rattle.command_io.specs.Change.{◌⇒◌}
+use Rattle.request_values.specs.Change.{◌⇒◌}
 use Rattle.std.proofs.Common.{◌≡◌, ◌≤◌, ◌+◌, ℕ, List, [], ◌∷◌, ◌++◌, Option, length, take, refl, sym, ap, subst, ◌∙◌, append_assoc, arith}
 use Rattle.std.proofs.lemmas.List.{length-append, take-append-le}
 use Rattle.std.proofs.KnownBytes.{Appends-trans, Consumes-kept, Consumes-trans}

@@ -1,5 +1,5 @@
 -- Commands whose tapes were not taken, and what was written of others.
-use Rattle.command_io.specs.Change.{◌⇒◌}
+use Rattle.request_values.specs.Change.{◌⇒◌}
 use Rattle.std.proofs.Common.{◌≡◌, ℕ, Bool, List, inl, sym, subst}
 use Rattle.std.proofs.KnownBytes.{Appends-kept, Keeps-refl}
 use Rattle.std.specs.Io.KnownBytes.{Keeps}

@@ -3,7 +3,7 @@ use Rattle.std.specs.Prelude.{ℕ, Bool, List, Option}
 use Rattle.std.specs.Io.KnownBytes.{Keeps}
 use Rattle.command_io.specs.Tapes.{AreTapesFault}
 use Rattle.tape_commands.specs.CheckText.{IsCheckedInPart}
-use Rattle.command_io.specs.Change.{Change}
+use Rattle.request_values.specs.Change.{Change}
 use Rattle.command_io.specs.declared.fault.CommandFault.{CommandFault}
 use Rattle.command_io.specs.declared.fault.CommandFault.TheVariants.{Tape, ReadTape, Write, Memory}
 

@@ -1,6 +1,6 @@
 -- What becomes of a request to check tapes.
 use Rattle.std.specs.Prelude.{◌≡◌, ◌⊎◌, Bool, false, List}
-use Rattle.command_io.specs.Change.{Change, ◌⇒◌}
+use Rattle.request_values.specs.Change.{Change, ◌⇒◌}
 use Rattle.tape_commands.specs.CheckText.{IsChecked}
 use Rattle.tape_commands.specs.CheckFault.{IsCheckFault}
 use Rattle.endings.specs.declared.failure.Failure.{Failure}

@@ -10,7 +10,7 @@ use Rattle.line_world.specs.declared.event.Event.{Event}
 use Rattle.line_world.specs.declared.event.Event.TheVariants.{Take}
 use Rattle.line_world.specs.Scene.{Scene}
 use Rattle.line_world.specs.World.{happens}
-use Rattle.command_io.specs.Change.{Change}
+use Rattle.request_values.specs.Change.{Change}
 use Rattle.byte_io.specs.Text.{line}
 use Rattle.tape_commands.specs.declared.exchange.Exchange.{Exchange}
 

@@ -12,7 +12,7 @@ use Rattle.line_world.specs.Scene.{Scene}
 use Rattle.line_world.specs.Opening.{opened}
 use Rattle.loss_scripts.specs.declared.script.PutLine.{PutLine}
 use Rattle.loss_scripts.specs.declared.script.Script.{Script}
-use Rattle.command_io.specs.Change.{Change}
+use Rattle.request_values.specs.Change.{Change}
 use Rattle.command_io.specs.declared.fault.CommandFault.{CommandFault}
 use Rattle.command_io.specs.declared.fault.CommandFault.TheVariants as fault
 use Rattle.byte_io.specs.Output.{WritesProperPrefix}

@@ -1,7 +1,7 @@
 -- What becomes of a request to rehearse a load.
 use Rattle.std.specs.Prelude.{◌≡◌, ◌⊎◌, ℕ, List}
 use Rattle.std.specs.Io.KnownBytes.{Appends}
-use Rattle.command_io.specs.Change.{Change, ◌⇒◌}
+use Rattle.request_values.specs.Change.{Change, ◌⇒◌}
 use Rattle.tape_commands.specs.Rehearsal.{IsRehearsed, IsRehearseFault}
 use Rattle.endings.specs.declared.failure.Failure.{Failure}
 use Rattle.endings.specs.declared.status.Status.{Status}

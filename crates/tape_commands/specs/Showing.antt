@@ -1,7 +1,7 @@
 -- What becomes of a request to show the load of tapes into a simulated console.
 use Rattle.std.specs.Prelude.{◌≡◌, ◌⊎◌, List}
 use Rattle.host_core.specs.declared.phase.End.{End}
-use Rattle.command_io.specs.Change.{Change, ◌⇒◌}
+use Rattle.request_values.specs.Change.{Change, ◌⇒◌}
 use Rattle.tape_commands.specs.Dialogue.{IsDialogue, IsDialogueFault}
 use Rattle.endings.specs.declared.failure.Failure.{Failure}
 use Rattle.endings.specs.declared.status.Status.{Status}

@@ -5,7 +5,7 @@ use Rattle.odt_machine.specs.Machine.{Machine}
 use Rattle.odt_machine.specs.KeyTable.{take_of, after_key}
 use Rattle.odt_machine.specs.Character.{carriage_return, line_feed}
 use Rattle.byte_io.specs.Output.{WritesProperPrefix}
-use Rattle.command_io.specs.Change.{Change}
+use Rattle.request_values.specs.Change.{Change}
 use Rattle.command_io.specs.declared.fault.CommandFault.{CommandFault}
 use Rattle.command_io.specs.declared.fault.CommandFault.TheVariants.{ReadKeys, Write}
 

@@ -1,6 +1,6 @@
 -- What becomes of a request to type standard input into a simulated console.
 use Rattle.std.specs.Prelude.{◌≡◌, ◌⊎◌, ℕ, ◌<◌, ◌≤◌, [], replicate, codes}
-use Rattle.command_io.specs.Change.{◌⇒◌}
+use Rattle.request_values.specs.Change.{◌⇒◌}
 use Rattle.odt_machine.specs.Machine.{Machine, largest_words}
 use Rattle.tape_commands.specs.TypedKeys.{IsTypedToEnd, IsTypeFault}
 use Rattle.tape_commands.specs.Rehearsal.{machine_of}

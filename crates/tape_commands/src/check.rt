@@ -1,6 +1,6 @@
 //! The command `check`: what tapes hold.
 ghost use Rattle.std.specs.Prelude.{◌≡◌, List, false, length, map, OnOk, IfOk, IfErr};
-ghost use Rattle.command_io.specs.Change.{◌⇒◌};
+ghost use Rattle.request_values.specs.Change.{◌⇒◌};
 ghost use Rattle.command_io.specs.Tapes.{BlamesNoTape, OfTaken, TakeAtMost, TapeText};
 ghost use Rattle.tape_image.specs.Plan.{IsPlan, plan_of_all};
 ghost use Rattle.tape_commands.specs.CheckText.{AreTexts, IsChecked, IsCheckText};

@@ -2,7 +2,7 @@
 ghost use Rattle.std.specs.Prelude.{◌≡◌, ◌<◌, ◌++◌, List, map, OnOk, OnErr, IfOk, IfErr};
 ghost use Rattle.std.specs.Io.KnownBytes.{Appends};
 ghost use Rattle.byte_io.specs.Output.{WritesPrefix};
-ghost use Rattle.command_io.specs.Change.{◌⇒◌};
+ghost use Rattle.request_values.specs.Change.{◌⇒◌};
 ghost use Rattle.command_io.specs.Tapes.{BlamesNoTape, OfTaken, TakeAtMost};
 ghost use Rattle.host_core.specs.Core.{ended};
 ghost use Rattle.line_world.specs.declared.event.Event.{Event};

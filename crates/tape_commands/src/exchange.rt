@@ -3,7 +3,7 @@ ghost use Rattle.std.specs.Prelude.{◌≡◌, ◌++◌, ◌∷◌, [], List, co
 ghost use Rattle.std.specs.Io.KnownBytes.{Appends};
 ghost use Rattle.byte_io.specs.Output.{WritesPrefix};
 ghost use Rattle.byte_io.specs.Text.{line};
-ghost use Rattle.command_io.specs.Change.{◌⇒◌};
+ghost use Rattle.request_values.specs.Change.{◌⇒◌};
 ghost use Rattle.tape_commands.specs.Dialogue.{IsTalkFault};
 ghost use Rattle.tape_commands.specs.KeyLines.{Answered, Gathers, Holds, Notes, key_text, last_line, shown};
 

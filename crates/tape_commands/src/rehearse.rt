@@ -5,7 +5,7 @@ ghost use Rattle.odt_machine.specs.Machine.{largest_words};
 ghost use Rattle.loss_scripts.specs.Script.{script_limit};
 ghost use Rattle.byte_io.specs.Input.{TakesAtMost};
 ghost use Rattle.tape_commands.specs.Rehearsal.{IsRehearsal, IsRehearsed, IsRehearseFault, IsScriptInput, IsScriptInputFault, IsPlayFault};
-ghost use Rattle.command_io.specs.Change.{◌⇒◌};
+ghost use Rattle.request_values.specs.Change.{◌⇒◌};
 ghost use Rattle.command_io.specs.Tapes.{BlamesNoTape, OfTaken, TakeAtMost};
 ghost use Rattle.std.specs.Mem.{FitsInMemory};
 ghost use Rattle.input_files.specs.Intake.{intake};

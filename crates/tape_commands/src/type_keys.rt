@@ -2,7 +2,7 @@
 ghost use Rattle.std.specs.Prelude.{◌≡◌, ◌≤◌, length, OnOk, OnErr, IfOk, IfErr};
 ghost use Rattle.std.specs.Io.KnownBytes.{Appends};
 ghost use Rattle.byte_io.specs.Output.{WritesProperPrefix};
-ghost use Rattle.command_io.specs.Change.{◌⇒◌};
+ghost use Rattle.request_values.specs.Change.{◌⇒◌};
 ghost use Rattle.tape_commands.specs.TypedKeys.{typed_key as key_of_character, after_typing, answers_of, IsTypedToEnd, IsTypeFault};
 ghost use Rattle.tape_commands.specs.Typing.{IsTypedThrough, IsTypingFailure};
 

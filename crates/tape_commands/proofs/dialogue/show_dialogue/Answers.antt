@@ -1,4 +1,4 @@
-use Rattle.command_io.specs.Change.{◌⇒◌}
+use Rattle.request_values.specs.Change.{◌⇒◌}
 use Rattle.std.proofs.Common.{◌∙◌, inl, inr, ap, refl}
 use Rattle.std.proofs.lemmas.Result.{IfErr-weaker, IfOk-weaker}
 use Rattle.endings.specs.Held.{Held}

@@ -1,4 +1,4 @@
-use Rattle.command_io.specs.Change.{◌⇒◌}
+use Rattle.request_values.specs.Change.{◌⇒◌}
 use Rattle.std.proofs.Common.{rules, ◌≡◌, ◌++◌, None, List, sym, subst, ap, ◌∙◌}
 use Rattle.std.specs.Prelude.{slice_get, OnOk, OnErr}
 use Rattle.line_world.specs.World.{happens}

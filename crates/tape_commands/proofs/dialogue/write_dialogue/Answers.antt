@@ -1,4 +1,4 @@
-use Rattle.command_io.specs.Change.{◌⇒◌}
+use Rattle.request_values.specs.Change.{◌⇒◌}
 use Rattle.std.proofs.Common.{refl, inl, ap, ◌∙◌}
 use Rattle.tape_image.specs.Plan.{starting}
 use Rattle.command_io.specs.Tapes.{OfTaken}

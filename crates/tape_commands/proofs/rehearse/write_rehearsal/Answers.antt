@@ -1,4 +1,4 @@
-use Rattle.command_io.specs.Change.{◌⇒◌}
+use Rattle.request_values.specs.Change.{◌⇒◌}
 use Rattle.std.proofs.Common.{subst}
 use Rattle.std.proofs.KnownBytes.{Keeps-refl}
 use Rattle.std.specs.Io.KnownBytes.{Appends}

@@ -1,4 +1,4 @@
-use Rattle.command_io.specs.Change.{◌⇒◌}
+use Rattle.request_values.specs.Change.{◌⇒◌}
 use Rattle.std.proofs.Common.{rules}
 use Rattle.tape_commands.specs.TypedKeys.{IsTypeFault}
 use Rattle.command_io.specs.declared.fault.CommandFault.TheVariants.{Write}

@@ -1,5 +1,5 @@
 -- What was counted was typed and answered.
-use Rattle.command_io.specs.Change.{◌⇒◌}
+use Rattle.request_values.specs.Change.{◌⇒◌}
 use Rattle.std.proofs.Common.{◌-◌, ◌≤◌}
 use Rattle.tape_commands.specs.TypedKeys.{IsTypedSoFar, key_limit}
 use Rattle.tape_commands.proofs.type_keys.type_to.Given as goal

@@ -3,7 +3,7 @@ pub record Change (A : Type 0) : Type 0 where
   pub before : A
   pub after : A
 
-infixr 30 ◌⇒◌
+infixl 3 ◌⇒◌
 -- this became that
 abbrev pub ◌⇒◌ : {A : Type 0} → A → A → Change A
 before ⇒ after = record { before = before; after = after }

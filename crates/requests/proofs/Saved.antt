@@ -1,7 +1,7 @@
 -- What becomes of a save, by what is said of its shelf.
 use Rattle.std.proofs.Common.{◌≡◌, ℕ, List, Option, None, Some, Result, Ok, Err, IfOk, IfErr, inr}
 use Rattle.record_file.specs.DiskStep.{DiskStep}
-use Rattle.machine_look.specs.Save.{IsSavedAndReported}
+use Rattle.machine_look.specs.Save.{IsSavedAndReported, save_told}
 use Rattle.tape_shelf.specs.ShelfDisk.{Room}
 use Rattle.tape_shelf.specs.ShelfTold.{ShelfTold}
 use Rattle.machine_look.specs.declared.save_end.SaveEnd.{SaveEnd}
@@ -12,7 +12,7 @@ use Rattle.request_values.specs.declared.machine.Save.{Save}
 use Rattle.requests.specs.Ending.{IsSaveEndFailure, IsSaveEndStatus}
 use Rattle.requests.specs.Looking.{console_at}
 use Rattle.requests.specs.Moment.{Moment}
-use Rattle.requests.specs.Saving.{AreWordsSaved, AreWordsUnsaved, IsLetGo, new_shelf, options_of, save_told_by, save_told_first}
+use Rattle.requests.specs.Saving.{AreWordsSaved, AreWordsUnsaved, IsLetGo, new_shelf, options_of, save_told_first}
 
 -- a shelf on a disk
 abbrev pub shelf_on : Option (List DiskStep) → List ℕ → Option Room → ShelfTold
@@ -24,7 +24,7 @@ new_is name asked asked' name' room p q r = λ i. record { steps = None; disk = 
 
 module _ (save : Save) (before after : Moment) (no_file : after.asked.inputs ≡ before.asked.inputs) (nothing_read : after.held.input ≡ before.held.input)
     (end : SaveEnd) (shelf : ShelfTold)
-    (reported : IsSavedAndReported (options_of save) (save_told_first save before) (save_told_by shelf (console_at save.look after)) end)
+    (reported : IsSavedAndReported (options_of save) (save_told_first save before) (save_told shelf (console_at save.look after)) end)
     (gone : IsLetGo shelf.disk after.asked.outside.disk) where
   pub saved : (result : Result Status Failure) → IfOk result (IsSaveEndStatus end) → IfOk result (AreWordsSaved save before after)
   saved (Ok status) is = record {

@@ -1,10 +1,9 @@
 -- What becomes of a request to save what a real machine holds.
 use Rattle.std.specs.Prelude.{◌≡◌, ◌⊎◌, List, Option, None, Some}
-use Rattle.console_lines.specs.Console.{ConsoleTold}
 use Rattle.load_devices.specs.Told.{HasAsked}
 use Rattle.record_file.specs.DiskStep.{DiskStep}
 use Rattle.machine_look.specs.LookFault.{IsSaveFault}
-use Rattle.machine_look.specs.Save.{IsSavedAndReported, SaveTold}
+use Rattle.machine_look.specs.Save.{IsSavedAndReported, SaveTold, save_told}
 use Rattle.tape_shelf.specs.ShelfDisk.{ShelfDisk, IsClosed}
 use Rattle.tape_shelf.specs.ShelfTold.{ShelfTold}
 use Rattle.machine_look.specs.declared.look_fault.LookFault.{LookFault}
@@ -28,13 +27,9 @@ options_of save = record { range = save.range; start = save.start; patience = sa
 abbrev pub new_shelf : Name → Option (List DiskStep) → ShelfTold
 new_shelf name asked = record { steps = None; disk = Some (record { asked = asked; name = name.now; room = None }) }
 
--- what a save is told by its shelf, its console and its output
-abbrev pub save_told_by : ShelfTold → ConsoleTold → SaveTold
-save_told_by shelf console = record { shelf = shelf; asked = console.asked; call = console.call; lines = console.lines; out = console.out }
-
 -- what a save is told before it begins: its shelf is new
 abbrev pub save_told_first : Save → Moment → SaveTold
-save_told_first save known = save_told_by (new_shelf save.file known.asked.outside.disk) (console_at save.look known)
+save_told_first save known = save_told (new_shelf save.file known.asked.outside.disk) (console_at save.look known)
 
 -- a shelf was let go, and then its disk tells this
 abbrev pub IsLetGo : Option ShelfDisk → Option (List DiskStep) → Type 0
@@ -45,7 +40,7 @@ IsLetGo (Some disk) asked = HasAsked disk.asked asked (IsClosed disk.room)
 pub record IsSaveOver (save : Save) (before after : Moment) (status : Status) : Type 0 where
   pub end : SaveEnd
   pub shelf : ShelfTold
-  pub reported : IsSavedAndReported (options_of save) (save_told_first save before) (save_told_by shelf (console_at save.look after)) end
+  pub reported : IsSavedAndReported (options_of save) (save_told_first save before) (save_told shelf (console_at save.look after)) end
   pub status_is : IsSaveEndStatus end status
   pub let_go : IsLetGo shelf.disk after.asked.outside.disk
 
@@ -53,7 +48,7 @@ pub record IsSaveOver (save : Save) (before after : Moment) (status : Status) : 
 pub record IsSaveBroken (save : Save) (before after : Moment) (failure : Failure) : Type 0 where
   pub end : SaveEnd
   pub shelf : ShelfTold
-  pub reported : IsSavedAndReported (options_of save) (save_told_first save before) (save_told_by shelf (console_at save.look after)) end
+  pub reported : IsSavedAndReported (options_of save) (save_told_first save before) (save_told shelf (console_at save.look after)) end
   pub failed : IsSaveEndFailure end save.file.now failure
   pub let_go : IsLetGo shelf.disk after.asked.outside.disk
 
@@ -61,7 +56,7 @@ pub record IsSaveBroken (save : Save) (before after : Moment) (failure : Failure
 pub record IsSaveCutShort (save : Save) (before after : Moment) (failure : Failure) : Type 0 where
   pub fault : LookFault
   pub shelf : ShelfTold
-  pub is_so : IsSaveFault (options_of save) (save_told_first save before) (save_told_by shelf (console_at save.look after)) fault
+  pub is_so : IsSaveFault (options_of save) (save_told_first save before) (save_told shelf (console_at save.look after)) fault
   pub is_called : IsFailureOf (machine.Look fault) save.look.line.now save.file.now failure
   pub let_go : IsLetGo shelf.disk after.asked.outside.disk
 

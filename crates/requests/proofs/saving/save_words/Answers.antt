@@ -4,12 +4,12 @@ use Rattle.console_lines.specs.Path.{call_to}
 use Rattle.endings.specs.Held.{Held}
 use Rattle.tape_shelf.specs.Room.{room_of}
 use Rattle.machine_look.specs.LookFault.{IsSaveFault}
-use Rattle.machine_look.specs.Save.{IsSavedAndReported}
+use Rattle.machine_look.specs.Save.{IsSavedAndReported, save_told}
 use Rattle.tape_shelf.specs.ShelfTold.{ShelfTold}
 use Rattle.requests.specs.Asked.{asked_of}
 use Rattle.requests.specs.Looking.{console_at}
 use Rattle.requests.specs.Moment.{moment}
-use Rattle.requests.specs.Saving.{AreWordsSaved, AreWordsUnsaved, new_shelf, options_of, save_told_by}
+use Rattle.requests.specs.Saving.{AreWordsSaved, AreWordsUnsaved, new_shelf, options_of}
 use Rattle.requests.proofs.Saved.{new_is, saved, shelf_on, unsaved}
 use Rattle.requests.proofs.Ways.{given, made, told_as, way_told}
 use Rattle.requests.proofs.saving.save_words.Goals as goal
@@ -50,8 +50,8 @@ returns-clause-ok g c =
     let read = ap (λ (h : Held). h.input) c.streams.view_is in
     rw (← c.system.view_is) (elim c.match-saved.branch [
       | in-Ok w ↦ rw (w.result-is) (subst (λ s. IfOk w.after_save.result (AreWordsSaved save before (moment s held))) (sym c.new-system.ensures)
-          (saved save before after refl read w.in-Ok.end shelf (told_as (λ x y. IsSavedAndReported (options_of save) (save_told_by (new_shelf save.file (disk inside.disk)) x) (save_told_by shelf y) w.in-Ok.end) b (console_at look before) a (console_at look after) p q
-          (subst (λ s. IsSavedAndReported (options_of save) (save_told_by s b) (save_told_by shelf a) w.in-Ok.end) is_new w.in-Ok.ensures.reported))
+          (saved save before after refl read w.in-Ok.end shelf (told_as (λ x y. IsSavedAndReported (options_of save) (save_told (new_shelf save.file (disk inside.disk)) x) (save_told shelf y) w.in-Ok.end) b (console_at look before) a (console_at look after) p q
+          (subst (λ s. IsSavedAndReported (options_of save) (save_told s b) (save_told shelf a) w.in-Ok.end) is_new w.in-Ok.ensures.reported))
           c.close.ensures.asked w.after_save.result w.after_save.ensures.status))
       | in-Err w ↦ rw (w.result-is) tt
     ])
@@ -91,15 +91,15 @@ returns-clause-err g c =
     let read = ap (λ (h : Held). h.input) c.streams.view_is in
     rw (← c.system.view_is) (elim c.match-saved.branch [
       | in-Ok w ↦ rw (w.result-is) (subst (λ s. IfErr w.after_save.result (AreWordsUnsaved save before (moment s held))) (sym c.new-system.ensures)
-          (unsaved save before after refl read w.in-Ok.end shelf (told_as (λ x y. IsSavedAndReported (options_of save) (save_told_by (new_shelf save.file (disk inside.disk)) x) (save_told_by shelf y) w.in-Ok.end) b (console_at look before) a (console_at look after) p q
-          (subst (λ s. IsSavedAndReported (options_of save) (save_told_by s b) (save_told_by shelf a) w.in-Ok.end) is_new w.in-Ok.ensures.reported))
+          (unsaved save before after refl read w.in-Ok.end shelf (told_as (λ x y. IsSavedAndReported (options_of save) (save_told (new_shelf save.file (disk inside.disk)) x) (save_told shelf y) w.in-Ok.end) b (console_at look before) a (console_at look after) p q
+          (subst (λ s. IsSavedAndReported (options_of save) (save_told s b) (save_told shelf a) w.in-Ok.end) is_new w.in-Ok.ensures.reported))
           c.close.ensures.asked w.after_save.result w.after_save.ensures.failure))
       | in-Err w ↦ rw (w.result-is) (subst (λ s. AreWordsUnsaved save before (moment s held) w.failure-failure.result) (sym c.new-system.ensures) (record {
         failed = inl (record {
           fault = w.in-Err.fault;
           shelf = shelf;
-          is_so = told_as (λ x y. IsSaveFault (options_of save) (save_told_by (new_shelf save.file (disk inside.disk)) x) (save_told_by shelf y) w.in-Err.fault) b (console_at look before) a (console_at look after) p q
-              (subst (λ s. IsSaveFault (options_of save) (save_told_by s b) (save_told_by shelf a) w.in-Err.fault) is_new w.in-Err.ensures.fault);
+          is_so = told_as (λ x y. IsSaveFault (options_of save) (save_told (new_shelf save.file (disk inside.disk)) x) (save_told shelf y) w.in-Err.fault) b (console_at look before) a (console_at look after) p q
+              (subst (λ s. IsSaveFault (options_of save) (save_told s b) (save_told shelf a) w.in-Err.fault) is_new w.in-Err.ensures.fault);
           is_called = w.failure-failure.ensures;
           let_go = c.close.ensures.asked;
         });

@@ -2,8 +2,9 @@
 ghost use Rattle.std.specs.Prelude.{IfErr, IfOk};
 ghost use Rattle.load_record.specs.Keeper.{HoldsRecord};
 ghost use Rattle.machine_load.specs.Asked.{task, ◌⇒◌};
-ghost use Rattle.machine_load.specs.Driving.{IsLoadReported};
+ghost use Rattle.machine_load.specs.Driving.{IsDrivenOn};
 ghost use Rattle.machine_load.specs.Lives.{of_file};
+ghost use Rattle.machine_load.specs.Load.{IsReported};
 ghost use Rattle.machine_load.specs.Scene.{ending};
 ghost use Rattle.record_file.specs.RecordFault.{IsUnbegun};
 ghost use Rattle.load_tests.specs.Told.{bench_told, memory_line};
@@ -121,7 +122,7 @@ pub(crate) fn load_once(
     bench: &mut Bench,
     report: &mut Vec<u8>,
 ) -> Result<Outcome<MemoryLine>, LoadFault>
-    ensures lived { IfOk result (λ outcome. IsLoadReported of_file (task plan options)
+    ensures reported { IfOk result (λ outcome. IsReported (IsDrivenOn of_file) (task plan options)
         (bench_told bench.old.keeper.text report.old.items ⇒ bench_told bench.new.keeper.text report.new.items) (ending memory_line outcome)) }
 {
     load(alloc, plan, options, bench, report, &Unwatched)

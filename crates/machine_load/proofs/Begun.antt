@@ -9,12 +9,12 @@ use Rattle.host_core.specs.Core.{Core, ended}
 use Rattle.load_engine.specs.declared.stop.Stop.TheVariants.{Ended}
 use Rattle.load_devices.specs.Devices.{LineTold}
 use Rattle.machine_load.specs.Asked.{Change, Opened}
-use Rattle.machine_load.specs.Driving.{KeeperTells, IsLived}
+use Rattle.machine_load.specs.Driving.{KeeperTells, IsDrivenOn}
 use Rattle.machine_load.specs.declared.load_end.LoadEnd.{LoadEnd}
 use Rattle.machine_load.specs.declared.load_end.LoadEnd.TheVariants.{Driven}
 use Rattle.machine_load.specs.declared.looks.Looks.{Looks}
 use Rattle.machine_load.specs.declared.stubs.Stubs.{Stubs}
-use Rattle.machine_load.specs.Load.{SurroundingsTold, finish_of, IsOpening, IsOverAtOnce, IsNeverBegun, words_taken}
+use Rattle.machine_load.specs.Load.{SurroundingsTold, finish_of, IsLived, IsOpening, IsOverAtOnce, IsNeverBegun, words_taken}
 use Rattle.request_values.specs.declared.options.LoadOptions.{LoadOptions}
 
 abbrev end_of : (otherwise : End) → Option End → End
@@ -43,7 +43,7 @@ line_or_never line so (inr over) = inr (so over)
 
 -- a life has a line, or it was over at once
 pub line_or_over : {K L : Type 0} (tells : KeeperTells K) (told_of : L → LineTold) (life : Opened) (around : Change SurroundingsTold) (looks : Option Looks) (stubs : Option Stubs) (core : Core) (end : LoadEnd) (line : Option L)
-    → IsLived tells life around (finish_of looks stubs core end (option_map told_of line)) → IsSome line ⊎ IsOverAtOnce life.first core end
+    → IsLived (IsDrivenOn tells) life around (finish_of looks stubs core end (option_map told_of line)) → IsSome line ⊎ IsOverAtOnce life.first core end
 line_or_over tells told_of life around looks stubs core end line (inl idle) = inr idle.over
 line_or_over tells told_of life around looks stubs core end (Some l) (inr goes) = inl refl
 line_or_over tells told_of life around looks stubs core end None (inr (inl held)) = absurd (cc held.has_line)

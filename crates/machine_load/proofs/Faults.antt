@@ -1,7 +1,6 @@
 -- Reports that fail, and the loads that they are of.
 use Rattle.std.proofs.Common.{◌≡◌, ℕ, Bool, true, false, List, Option, None, Result, Ok, Err, IfErr, IfOk, IsErrAnd, [], ◌∷◌, inr, inl, refl, sym, subst, ap}
 use Rattle.std.proofs.KnownBytes.{Keeps-refl, Keeps-trans}
-use Rattle.tape_image.specs.Plan.{PlanValue}
 use Rattle.load_devices.specs.Devices.{LineTold}
 use Rattle.machine_load.specs.Step.{LoadStep, Connected, begin_step}
 use Rattle.machine_load.proofs.Steps.{gains_more}
@@ -20,50 +19,49 @@ use Rattle.sample_looks.specs.declared.finding.Finding.TheVariants.{AllStand, St
 use Rattle.sample_looks.specs.Finding.{IsFound}
 use Rattle.tape_image.specs.Word.{WordValue}
 use Rattle.host_core.specs.Core.{Core}
-use Rattle.machine_load.specs.Load.{SurroundingsTold, Asks, IsOpened, KeepsRecord}
-use Rattle.machine_load.specs.Asked.{LoadTask, task, ◌⇒◌}
+use Rattle.machine_load.specs.Load.{HowItGoesOn, SurroundingsTold, Asks, IsOpened, KeepsRecord}
+use Rattle.machine_load.specs.Asked.{LoadTask, ◌⇒◌}
 use Rattle.machine_load.specs.Called.{IsAskedBefore}
-use Rattle.machine_load.specs.Driving.{KeeperTells, IsLoadUntold}
+use Rattle.machine_load.specs.Driving.{KeeperTells, IsDrivenOn}
 use Rattle.machine_load.specs.RecordDisk.{DiskAsked, disk_asked_before}
 use Rattle.machine_load.specs.Scene.{Scene, IsNotLoaded}
 use Rattle.machine_load.specs.LoadFault.{IsLoadFault, IsOpeningFault, IsDrivingFault, IsUnbegunFault, StopsOpened, StopsUnconnected, fault_of_record, gone}
 use Rattle.record_file.specs.RecordFault.{IsUnbegun}
-use Rattle.request_values.specs.declared.options.LoadOptions.{LoadOptions}
 use Rattle.record_file.specs.declared.record_fault.RecordFault.{RecordFault}
 use Rattle.record_file.specs.declared.record_fault.RecordFault.TheVariants as why
 use Rattle.machine_load.specs.declared.fault.LoadFault.{LoadFault}
-use Rattle.machine_load.specs.declared.fault.LoadFault.TheVariants.{Record, RecordInUse, ReadRecord, Connect, WriteRecord, WriteOutput, Memory}
+use Rattle.machine_load.specs.declared.fault.LoadFault.TheVariants.{Record, RecordInUse, ReadRecord, Connect, WriteRecord, Memory}
 
 -- a life that does not open
-pub of_opening : (plan : PlanValue) (options : LoadOptions) (before after : SurroundingsTold) (lines lines' : Option (List LineTold)) (out : Option (List ℕ)) (fault : LoadFault)
-    → IsOpeningFault plan before after fault → KeepsRecord before after → lines' ≡ lines
-    → IsLoadFault plan options (record { around = before; lines = lines; out = out }) (record { around = after; lines = lines'; out = out }) fault
-of_opening plan options before after lines lines' out ReadRecord fails same unsaid =
+pub of_opening : (GoesSo : HowItGoesOn) (task : LoadTask) (before after : SurroundingsTold) (lines lines' : Option (List LineTold)) (out : Option (List ℕ)) (fault : LoadFault)
+    → IsOpeningFault task.plan before after fault → KeepsRecord before after → lines' ≡ lines
+    → IsLoadFault GoesSo task (record { around = before; lines = lines; out = out } ⇒ record { around = after; lines = lines'; out = out }) fault
+of_opening GoesSo task before after lines lines' out ReadRecord fails same unsaid =
     record { steps_are = fails; record_same = same; nothing_said = unsaid; nothing_reported = Keeps-refl out }
-of_opening plan options before after lines lines' out RecordInUse fails same unsaid =
+of_opening GoesSo task before after lines lines' out RecordInUse fails same unsaid =
     record { steps_are = fails; record_same = same; nothing_said = unsaid; nothing_reported = Keeps-refl out }
-of_opening plan options before after lines lines' out (Record why) fails same unsaid =
+of_opening GoesSo task before after lines lines' out (Record why) fails same unsaid =
     ((fails.0.0, record { steps_are = fails.0.1; record_same = same; nothing_said = unsaid; nothing_reported = Keeps-refl out }), fails.1)
-of_opening plan options before after lines lines' out Memory (inl unread) same unsaid =
+of_opening GoesSo task before after lines lines' out Memory (inl unread) same unsaid =
     inl (inl (record { steps_are = unread; record_same = same; nothing_said = unsaid; nothing_reported = Keeps-refl out }))
-of_opening plan options before after lines lines' out Memory (inr unlike) same unsaid =
+of_opening GoesSo task before after lines lines' out Memory (inr unlike) same unsaid =
     inl (inr (record { steps_are = unlike; record_same = same; nothing_said = unsaid; nothing_reported = Keeps-refl out }))
-of_opening plan options before after lines lines' out other fails same unsaid = absurd fails
+of_opening GoesSo task before after lines lines' out other fails same unsaid = absurd fails
 
 -- an opened life comes to nothing, before anything is reported
-module _ (plan : PlanValue) (options : LoadOptions) (before between after : SurroundingsTold) (lines lines' : Option (List LineTold)) (out : Option (List ℕ)) (first : Core) where
-  stops : (may_begin : Bool) (done : List LoadStep) (Gives : Core → Option (List LineTold) → Option (List LineTold) → Type 0) → IsOpened (task plan options) (before ⇒ between) first may_begin → Asks between after done → Gives first lines lines'
-      → StopsOpened plan options (record { around = before; lines = lines; out = out }) (record { around = after; lines = lines'; out = out }) may_begin done Gives
+module _ (GoesSo : HowItGoesOn) (task : LoadTask) (before between after : SurroundingsTold) (lines lines' : Option (List LineTold)) (out : Option (List ℕ)) (first : Core) where
+  stops : (may_begin : Bool) (done : List LoadStep) (Gives : Core → Option (List LineTold) → Option (List LineTold) → Type 0) → IsOpened task (before ⇒ between) first may_begin → Asks between after done → Gives first lines lines'
+      → StopsOpened task (record { around = before; lines = lines; out = out } ⇒ record { around = after; lines = lines'; out = out }) may_begin done Gives
   stops may_begin done Gives opened asks given =
       record { first = first; between = between; opened = opened; steps_are = asks; given = given; nothing_reported = Keeps-refl out }
 
-  unconnected : (may_begin : Bool) (done : List LoadStep) → IsOpened (task plan options) (before ⇒ between) first may_begin → Asks between after done → KeepsRecord between after → GivesNone first lines lines'
-      → StopsUnconnected plan options (record { around = before; lines = lines; out = out }) (record { around = after; lines = lines'; out = out }) may_begin done
+  unconnected : (may_begin : Bool) (done : List LoadStep) → IsOpened task (before ⇒ between) first may_begin → Asks between after done → KeepsRecord between after → GivesNone first lines lines'
+      → StopsUnconnected task (record { around = before; lines = lines; out = out } ⇒ record { around = after; lines = lines'; out = out }) may_begin done
   unconnected may_begin done opened asks same given = (stops may_begin done GivesNone opened asks given, Keeps-trans _ _ _ opened.record_read same)
 
   -- one whose record may be begun
-  of_busy : (fault : LoadFault) → IsOpened (task plan options) (before ⇒ between) first true → IsDrivingFault true first (gone between lines) (gone after lines') fault
-      → IsLoadFault plan options (record { around = before; lines = lines; out = out }) (record { around = after; lines = lines'; out = out }) fault
+  of_busy : (fault : LoadFault) → IsOpened task (before ⇒ between) first true → IsDrivingFault true first (gone between lines) (gone after lines') fault
+      → IsLoadFault GoesSo task (record { around = before; lines = lines; out = out } ⇒ record { around = after; lines = lines'; out = out }) fault
   of_busy Connect opened fails = unconnected true _ opened fails.1 fails.2 fails.3
   of_busy WriteRecord opened (inl unlike) = absurd (cc (unlike.0))
   of_busy WriteRecord opened (inr unbegun) = inr (stops true _ GivesLooked opened unbegun.1 unbegun.2)
@@ -72,8 +70,8 @@ module _ (plan : PlanValue) (options : LoadOptions) (before between after : Surr
   of_busy other opened fails = absurd fails
 
   -- one whose record may not be begun
-  of_idle : (fault : LoadFault) → IsOpened (task plan options) (before ⇒ between) first false → IsDrivingFault false first (gone between lines) (gone after lines') fault
-      → IsLoadFault plan options (record { around = before; lines = lines; out = out }) (record { around = after; lines = lines'; out = out }) fault
+  of_idle : (fault : LoadFault) → IsOpened task (before ⇒ between) first false → IsDrivingFault false first (gone between lines) (gone after lines') fault
+      → IsLoadFault GoesSo task (record { around = before; lines = lines; out = out } ⇒ record { around = after; lines = lines'; out = out }) fault
   of_idle WriteRecord opened (inl unlike) = inl (unconnected false _ opened unlike.1.nothing_asked unlike.1.record_same unlike.2)
   of_idle WriteRecord opened (inr unbegun) = absurd (cc (unbegun.0))
   of_idle Connect opened fails = absurd (cc (fails.0))
@@ -81,8 +79,8 @@ module _ (plan : PlanValue) (options : LoadOptions) (before between after : Surr
   of_idle Memory opened (inr unbegun) = absurd (cc (unbegun.0))
   of_idle other opened fails = absurd fails
 
-  pub of_driving : (may_begin : Bool) (fault : LoadFault) → IsOpened (task plan options) (before ⇒ between) first may_begin → IsDrivingFault may_begin first (gone between lines) (gone after lines') fault
-      → IsLoadFault plan options (record { around = before; lines = lines; out = out }) (record { around = after; lines = lines'; out = out }) fault
+  pub of_driving : (may_begin : Bool) (fault : LoadFault) → IsOpened task (before ⇒ between) first may_begin → IsDrivingFault may_begin first (gone between lines) (gone after lines') fault
+      → IsLoadFault GoesSo task (record { around = before; lines = lines; out = out } ⇒ record { around = after; lines = lines'; out = out }) fault
   of_driving true fault opened fails = of_busy fault opened fails
   of_driving false fault opened fails = of_idle fault opened fails
 
@@ -144,8 +142,8 @@ both_ok (Err error) P Q R f p q = tt
 
 -- all that is said of a load that came to nothing
 pub not_loaded : {T K : Type 0} (r : Result T LoadFault) (keeper : KeeperTells K) (task : LoadTask) (before after : Scene)
-    → IfErr r (IsLoadFault task.plan task.options before.setting after.setting) → IfErr r (λ why. why ≡ WriteOutput → IsLoadUntold keeper task (before.setting ⇒ after.setting))
+    → IfErr r (IsLoadFault (IsDrivenOn keeper) task (before.setting ⇒ after.setting))
     → IfErr r (IsAskedBefore before.call before.asked after.asked) → IfErr r (λ why. DiskAsked before.disk after.disk (disk_asked_before why))
     → IfErr r (IsNotLoaded keeper task (before ⇒ after))
-not_loaded (Ok x) keeper task before after fault untold asked disk = tt
-not_loaded (Err why) keeper task before after fault untold asked disk = record { fault = fault; untold = untold; asked = asked; disk = disk }
+not_loaded (Ok x) keeper task before after fault asked disk = tt
+not_loaded (Err why) keeper task before after fault asked disk = record { fault = fault; asked = asked; disk = disk }

@@ -1,5 +1,5 @@
 mod Begun
-mod Driving
+pub mod Driving
 mod Faults
 mod Fronts
 mod Lives

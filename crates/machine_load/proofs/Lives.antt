@@ -44,9 +44,9 @@ use Rattle.sample_looks.proofs.OfRecord.{are_of_the_record}
 use Rattle.machine_load.specs.declared.looks.Looks.{Looks}
 use Rattle.machine_load.specs.declared.stubs.Stubs.{Stubs}
 use Rattle.machine_load.specs.Asked.{opened_as, ◌⇒◌}
-use Rattle.machine_load.specs.Driving.{IsDrivenLife, IsLived}
+use Rattle.machine_load.specs.Driving.{IsDrivenOn}
 use Rattle.machine_load.specs.Lives.{GoesOut, HostGoesOut, LooksGoOut, PartsGoOut, StubsGoOut, LoadsAreFastLives, LoadsAreLives, of_file}
-use Rattle.machine_load.specs.Load.{SurroundingsTold, Finish, IsHeldUp, IsIdleLife, words_taken}
+use Rattle.machine_load.specs.Load.{SurroundingsTold, Finish, IsBusyLife, IsHeldUp, IsIdleLife, IsLived, words_taken}
 use Rattle.machine_load.specs.Looks.{AreLooks, vouched_for}
 use Rattle.machine_load.specs.Parts.{AreBrought, AreKept, AreParts, IsDrivenUnless, IsKeptBehind, Unless, course, stubs_of, told_by}
 use Rattle.load_engine.specs.Driven.{IsDriven, IsKeptBy}
@@ -317,7 +317,7 @@ module _ (plan : PlanValue) (v patience : ℕ) (told : Option (List ℕ)) (betwe
       held.first_looks.record_same no_front no_rest)
 
   -- one that is driven
-  driven_fast : {fast writable : Bool} (going : Bool) → GoesOnFrom plan old.text (record { verified = v; going = going }) → (life : IsDrivenLife of_file (opened_as (begun plan v going patience) fast writable) (between ⇒ after) finish)
+  driven_fast : {fast writable : Bool} (going : Bool) → GoesOnFrom plan old.text (record { verified = v; going = going }) → (life : IsBusyLife (IsDrivenOn of_file) (opened_as (begun plan v going patience) fast writable) (between ⇒ after) finish)
       → LooksGoOut life.first_looks.looked looks → PartsGoOut life.driven.parts.parts front rest → FastLives plan finish.core looks front rest old new
   driven_fast true goes life looked out = absurd (cc life.first_looks.goes_on)
   driven_fast false goes life looked out =
@@ -327,7 +327,7 @@ module _ (plan : PlanValue) (v patience : ℕ) (told : Option (List ℕ)) (betwe
       passes finish.stubs finish.core life.driven.stop (devices life.first_looks.behind (of_file.calls.kept life.driven.keeper)) (told_by of_file.calls life.driven.parts.between) (devices life.driven.line' (of_file.calls.kept life.driven.keeper')) life.driven.keeper life.driven.parts.between.keeper life.driven.keeper' life.driven.begun_so
       life.driven.parts.parts life.driven.parts.stubs_kept life.driven.parts.host_kept out (sym life.driven.left ∙ is)
 
-  fast_lived : {fast writable : Bool} (going : Bool) → GoesOnFrom plan old.text (record { verified = v; going = going }) → (life : IsLived of_file (opened_as (begun plan v going patience) fast writable) (between ⇒ after) finish) → GoesOut life looks front rest
+  fast_lived : {fast writable : Bool} (going : Bool) → GoesOnFrom plan old.text (record { verified = v; going = going }) → (life : IsLived (IsDrivenOn of_file) (opened_as (begun plan v going patience) fast writable) (between ⇒ after) finish) → GoesOut life looks front rest
       → FastLives plan finish.core looks front rest old new
   fast_lived going goes (inl idle) (no_looks, no_front, no_rest) = idle_fast going goes idle no_looks no_front no_rest
   fast_lived going goes (inr (inl held)) (looked, no_front, no_rest) = held_fast going goes held looked no_front no_rest
@@ -335,7 +335,7 @@ module _ (plan : PlanValue) (v patience : ℕ) (told : Option (List ℕ)) (betwe
 
 pub loads_are_fast_lives : LoadsAreFastLives
 loads_are_fast_lives plan options before after finish load looks front rest old new fits long was is out passes =
-    subst (λ (core : Core). (life : IsLived of_file (opened_as core options.fast load.writable) (load.between ⇒ after) finish) → GoesOut life looks front rest → FastLives plan finish.core looks front rest old new) (sym load.opened.opening.core_is)
+    subst (λ (core : Core). (life : IsLived (IsDrivenOn of_file) (opened_as core options.fast load.writable) (load.between ⇒ after) finish) → GoesOut life looks front rest → FastLives plan finish.core looks front rest old new) (sym load.opened.opening.core_is)
     (fast_lived plan (words_taken options.recheck said) options.patience before.record_text load.between after finish looks front rest old new fits long was load.opened.record_read is passes said.going goes) load.life out
   where
     said : Progress
@@ -427,7 +427,7 @@ module _ (plan : PlanValue) (v patience : ℕ) (told : Option (List ℕ)) (betwe
       (inr (of_record plan v patience goes.recorded held.first_looks.looks held.first_looks.line held.first_looks.behind looks long goes.fewer goes.same_mark held.first_looks.looked looked))
       held.first_looks.record_same out)
 
-  driven_life : {writable : Bool} (going : Bool) → GoesOnFrom plan old.text (record { verified = v; going = going }) → (life : IsDrivenLife of_file (opened_as (begun plan v going patience) false writable) (between ⇒ after) finish)
+  driven_life : {writable : Bool} (going : Bool) → GoesOnFrom plan old.text (record { verified = v; going = going }) → (life : IsBusyLife (IsDrivenOn of_file) (opened_as (begun plan v going patience) false writable) (between ⇒ after) finish)
       → LooksGoOut life.first_looks.looked looks → PartsGoOut life.driven.parts.parts [] items → Lives plan finish.core looks items old new
   driven_life true goes life looked out = absurd (cc life.first_looks.goes_on)
   driven_life false goes life looked out =
@@ -437,7 +437,7 @@ module _ (plan : PlanValue) (v patience : ℕ) (told : Option (List ℕ)) (betwe
       passes finish.stubs finish.core life.driven.stop (devices life.first_looks.behind (of_file.calls.kept life.driven.keeper)) (told_by of_file.calls life.driven.parts.between) (devices life.driven.line' (of_file.calls.kept life.driven.keeper')) life.driven.keeper life.driven.parts.between.keeper life.driven.keeper' life.driven.stubs_asked life.driven.begun_so
       life.driven.parts.parts life.driven.parts.stubs_kept life.driven.parts.host_kept out (sym life.driven.left ∙ is)
 
-  lived : {writable : Bool} (going : Bool) → GoesOnFrom plan old.text (record { verified = v; going = going }) → (life : IsLived of_file (opened_as (begun plan v going patience) false writable) (between ⇒ after) finish) → GoesOut life looks [] items
+  lived : {writable : Bool} (going : Bool) → GoesOnFrom plan old.text (record { verified = v; going = going }) → (life : IsLived (IsDrivenOn of_file) (opened_as (begun plan v going patience) false writable) (between ⇒ after) finish) → GoesOut life looks [] items
       → Lives plan finish.core looks items old new
   lived going goes (inl idle) (no_looks, none, out) =
       subst (λ (core : Core). Lives plan core looks items old new) (sym idle.over.same) (alone_life v patience going long goes (inl no_looks) idle.left_alone.record_same out)
@@ -446,8 +446,8 @@ module _ (plan : PlanValue) (v patience : ℕ) (told : Option (List ℕ)) (betwe
 
 pub loads_are_lives : LoadsAreLives
 loads_are_lives plan options before after finish load looks items old new plain fits long was is out passes =
-    subst (λ (core : Core). (life : IsLived of_file (opened_as core options.fast load.writable) (load.between ⇒ after) finish) → GoesOut life looks [] items → Lives plan finish.core looks items old new) (sym load.opened.opening.core_is)
-    (subst (λ fast. (life : IsLived of_file (opened_as (begun plan (words_taken options.recheck said) said.going options.patience) fast load.writable) (load.between ⇒ after) finish) → GoesOut life looks [] items → Lives plan finish.core looks items old new) (sym plain)
+    subst (λ (core : Core). (life : IsLived (IsDrivenOn of_file) (opened_as core options.fast load.writable) (load.between ⇒ after) finish) → GoesOut life looks [] items → Lives plan finish.core looks items old new) (sym load.opened.opening.core_is)
+    (subst (λ fast. (life : IsLived (IsDrivenOn of_file) (opened_as (begun plan (words_taken options.recheck said) said.going options.patience) fast load.writable) (load.between ⇒ after) finish) → GoesOut life looks [] items → Lives plan finish.core looks items old new) (sym plain)
     (lived plan (words_taken options.recheck said) options.patience before.record_text load.between after finish looks items old new fits long was load.opened.record_read is passes said.going goes)) load.life out
   where
     said : Progress

@@ -19,8 +19,8 @@ use Rattle.looking_law.specs.Belief.{dialogue as looks_of}
 use Rattle.stub_engine.specs.Parts.{Bringing}
 use Rattle.machine_load.specs.declared.looks.Looks.{Looks}
 use Rattle.machine_load.specs.Asked.{Change, Opened, task, ◌⇒◌}
-use Rattle.machine_load.specs.Driving.{KeeperTells, IsLived, IsLoadLived}
-use Rattle.machine_load.specs.Load.{SurroundingsTold, Finish}
+use Rattle.machine_load.specs.Driving.{KeeperTells, IsDrivenOn}
+use Rattle.machine_load.specs.Load.{SurroundingsTold, Finish, IsLived, IsLoad}
 use Rattle.machine_load.specs.Looks.{AreLooks}
 use Rattle.machine_load.specs.Parts.{AreBrought, AreParts, Course, IsDrivenUnless, host_of, stubs_of}
 use Rattle.machine_load.specs.Stubs.{hindrance}
@@ -56,7 +56,8 @@ StubsGoOut (Some stubs) before after by items =
 
 -- what went out of the host's dialogue with the console: what the line tells, or all of the dialogue, where the call that failed sent its key
 -- after all; and nothing, where the host was hindered
-abbrev pub HostGoesOut : (hindered : Option Stop) (course : Course) (before after : Devices) → IsDrivenUnless hindered course before after → List Item → Type 0
+abbrev pub HostGoesOut : (hindered : Option Stop) (course : Course) (before after : Devices) → IsDrivenUnless hindered course before after
+    → List Item → Type 0
 HostGoesOut None course before after driven items =
     WentOutAt course.stop (dialogue (host_of course) driven.session.heard) driven.session.said items
 HostGoesOut (Some why) course before after idle items = items ≡ []
@@ -68,7 +69,8 @@ PartsGoOut {course} {before} {between} {after} parts front rest =
     × HostGoesOut (hindrance course.stubs) course between after parts.host rest
 
 -- what was said of a life: by its looks, by its stubs, and then by its host; nothing, where it was over at once, and nothing behind looks that held it up
-abbrev pub GoesOut : {life : Opened} {around : Change SurroundingsTold} {finish : Finish} → IsLived of_file life around finish → List Item → List Item → List Item → Type 0
+abbrev pub GoesOut : {life : Opened} {around : Change SurroundingsTold} {finish : Finish} → IsLived (IsDrivenOn of_file) life around finish
+    → List Item → List Item → List Item → Type 0
 GoesOut {life} {around} {finish} (inl idle) looks front rest = (looks ≡ []) × (front ≡ []) × (rest ≡ [])
 GoesOut {life} {around} {finish} (inr (inl held)) looks front rest =
     LooksGoOut held.first_looks.looked looks × (front ≡ []) × (rest ≡ [])
@@ -80,7 +82,7 @@ GoesOut {life} {around} {finish} (inr (inr goes)) looks front rest =
 abbrev pub LoadsAreFastLives : Type 0
 LoadsAreFastLives =
     (plan : PlanValue) (options : LoadOptions) (before after : SurroundingsTold) (finish : Finish)
-    (load : IsLoadLived of_file (task plan options) (before ⇒ after) finish)
+    (load : IsLoad (IsDrivenOn of_file) (task plan options) (before ⇒ after) finish)
     (looks front rest : List Item) (old new : LinkAndRecord) → IsPlan plan → options.patience < 2 ^ 32 →
     before.record_text ≡ Some old.text → after.record_text ≡ Some new.text →
     GoesOut load.life looks front rest → PassesAt stub_program old.link (looks ++ (front ++ rest)) new.link →
@@ -91,7 +93,7 @@ LoadsAreFastLives =
 abbrev pub LoadsAreLives : Type 0
 LoadsAreLives =
     (plan : PlanValue) (options : LoadOptions) (before after : SurroundingsTold) (finish : Finish)
-    (load : IsLoadLived of_file (task plan options) (before ⇒ after) finish)
+    (load : IsLoad (IsDrivenOn of_file) (task plan options) (before ⇒ after) finish)
     (looks items : List Item) (old new : WireAndRecord) → options.fast ≡ false → IsPlan plan → options.patience < 2 ^ 32 →
     before.record_text ≡ Some old.text → after.record_text ≡ Some new.text →
     GoesOut load.life looks [] items → PassesOver old.wire (looks ++ items) new.wire →

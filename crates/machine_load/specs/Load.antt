@@ -17,7 +17,7 @@ use Rattle.load_record.specs.Reading.{Says}
 use Rattle.byte_io.specs.Output.{WritesAllBut}
 use Rattle.load_devices.specs.Devices.{Devices, LineTold, devices}
 use Rattle.console_lines.specs.Reached.{IsUnused}
-use Rattle.machine_load.specs.Asked.{Change, LoadTask, Opened, opened_as, task, ◌⇒◌}
+use Rattle.machine_load.specs.Asked.{Change, LoadTask, Opened, opened_as, ◌⇒◌}
 use Rattle.machine_load.specs.GivenBack.{IsGivenBack}
 use Rattle.machine_load.specs.declared.load_end.LoadEnd.{LoadEnd}
 use Rattle.machine_load.specs.declared.load_end.LoadEnd.TheVariants.{Driven}
@@ -168,29 +168,29 @@ pub record GoesOn (life : Going) (around : Change SurroundingsTold) (finish : Fi
   pub between : Devices
   pub parts : AreParts (course life.first finish.stubs (finish.core, stop)) (devices life.line kept) between (devices line' kept')
 
+-- how a life goes on, as it is said of its line alone or of its line and its keeper
+abbrev pub HowItGoesOn : Type 1
+HowItGoesOn = Going → Change SurroundingsTold → Finish → Type 0
+
 -- so does a life whose words all stood that it looked at: with the patience that its looks left
-pub record IsBusyLife (life : Opened) (around : Change SurroundingsTold) (finish : Finish) : Type 0 where
+pub record IsBusyLife (GoesSo : HowItGoesOn) (life : Opened) (around : Change SurroundingsTold) (finish : Finish) : Type 0 where
   pub between : SurroundingsTold
   pub first_looks : HasLookedFirst life (around.before ⇒ between) finish
   pub all_stand : first_looks.looks.finding ≡ AllStand
-  pub then_goes_on : GoesOn (going_on (behind_looks life.first first_looks.looks) life.fast first_looks.behind) (between ⇒ around.after) finish
+  pub driven : GoesSo (going_on (behind_looks life.first first_looks.looks) life.fast first_looks.behind) (between ⇒ around.after) finish
 
 -- a life, once it has opened, over its line where it has one
-abbrev pub IsLoadLife : Opened → Change SurroundingsTold → Finish → Type 0
-IsLoadLife life around finish = IsIdleLife life around finish ⊎ (IsHeldUp life around finish ⊎ IsBusyLife life around finish)
+abbrev pub IsLived : HowItGoesOn → Opened → Change SurroundingsTold → Finish → Type 0
+IsLived GoesSo life around finish = IsIdleLife life around finish ⊎ (IsHeldUp life around finish ⊎ IsBusyLife GoesSo life around finish)
 
 -- a load: first the record is read, which says with which core the life begins, and whether that one's record may be begun over it; then the
 -- life, from there on
-pub record IsLoadOf (task : LoadTask) (before : SurroundingsTold) (IsLifeFrom : Opened → SurroundingsTold → Type 0) : Type 0 where
+pub record IsLoad (GoesSo : HowItGoesOn) (task : LoadTask) (around : Change SurroundingsTold) (finish : Finish) : Type 0 where
   pub first : Core
   pub writable : Bool
   pub between : SurroundingsTold
-  pub opened : IsOpened task (before ⇒ between) first writable
-  pub life : IsLifeFrom (opened_as first task.options.fast writable) between
-
--- a load that ended so
-abbrev pub IsLoad : LoadTask → Change SurroundingsTold → Finish → Type 0
-IsLoad task around finish = IsLoadOf task around.before (λ life between. IsLoadLife life (between ⇒ around.after) finish)
+  pub opened : IsOpened task (around.before ⇒ between) first writable
+  pub life : IsLived GoesSo (opened_as first task.options.fast writable) (between ⇒ around.after) finish
 
 -- what a load gives back that was reported: how it ended, whether the host had come to the start, and what the line tells, where there is one
 pub record Ending : Type 0 where
@@ -202,21 +202,21 @@ pub record Ending : Type 0 where
 abbrev pub ending_of : LoadEnd → Bool → Option LineTold → Ending
 ending_of end marked line = record { end = end; marked = marked; line = line }
 
--- a load and its report, which is of the host that the life ended with, and counts what its looks and its stubs sent and met, too; its line was not
--- given back yet
-pub record IsReported (plan : PlanValue) (options : LoadOptions) (before after : Setting) (ending : Ending) : Type 0 where
+-- a load that was reported: the report is of the host that the life ended with, and counts what its looks and its stubs sent and met, too; its line was
+-- not given back yet
+pub record IsReported (GoesSo : HowItGoesOn) (task : LoadTask) (setting : Change Setting) (ending : Ending) : Type 0 where
   pub looks : Option Looks
   pub stubs : Option Stubs
   pub last : Core
-  pub load : IsLoad (task plan options) (before.around ⇒ after.around) (finish_of looks stubs last ending.end ending.line)
+  pub load : IsLoad GoesSo task (setting.before.around ⇒ setting.after.around) (finish_of looks stubs last ending.end ending.line)
   pub marked_is : ending.marked ≡ last.going
-  pub reported : Appends before.out after.out (load_report (counting last looks stubs) ending.end)
-  pub line_kept : after.lines ≡ before.lines
+  pub reported : Appends setting.before.out setting.after.out (load_report (counting last looks stubs) ending.end)
+  pub line_kept : setting.after.lines ≡ setting.before.lines
 
--- a load whose report may be cut short: its line was given back as its life left it
-pub record IsCutShort (plan : PlanValue) (options : LoadOptions) (before after : Setting) : Type 0 where
+-- a load whose report could not be written whole: its life was lived all the same, and its line given back as that left it
+pub record IsCutShort (GoesSo : HowItGoesOn) (task : LoadTask) (setting : Change Setting) : Type 0 where
   pub finish : Finish
-  pub load : IsLoad (task plan options) (before.around ⇒ after.around) finish
-  pub given_back : IsGivenBack before.lines after.lines finish.line
+  pub load : IsLoad GoesSo task (setting.before.around ⇒ setting.after.around) finish
+  pub given_back : IsGivenBack setting.before.lines setting.after.lines finish.line
   pub missing : List ℕ
-  pub reported : WritesAllBut before.out after.out (finish_report finish) missing
+  pub reported : WritesAllBut setting.before.out setting.after.out (finish_report finish) missing

@@ -7,15 +7,14 @@ use Rattle.load_record.specs.declared.reader.RecordError.{RecordError}
 use Rattle.load_record.specs.Reading.{Says}
 use Rattle.load_record.specs.declared.reader.RecordError.TheVariants.{NotARecord}
 use Rattle.load_devices.specs.Devices.{LineTold}
-use Rattle.machine_load.specs.Asked.{task, ◌⇒◌}
+use Rattle.machine_load.specs.Asked.{Change, LoadTask, ◌⇒◌}
 use Rattle.machine_load.specs.GivenBack.{GivesLooked, GivesNone}
 use Rattle.host_core.specs.Core.{Core}
-use Rattle.machine_load.specs.Load.{SurroundingsTold, Setting, Asks, AsksNothing, KeepsRecord, IsCutShort, IsOpened}
+use Rattle.machine_load.specs.Load.{HowItGoesOn, SurroundingsTold, Setting, Asks, AsksNothing, KeepsRecord, IsCutShort, IsOpened}
 use Rattle.record_file.specs.OldRecord.{HoldsNoRecord}
 use Rattle.record_file.specs.declared.old_record.Writable.{Writable}
 use Rattle.record_file.specs.declared.old_record.Writable.TheVariants.{InPlace}
 use Rattle.machine_load.specs.Step.{LoadStep, RecordRead, Connected, InUse, NotRead, NotConnected, NotBegun, OutOfMemory}
-use Rattle.request_values.specs.declared.options.LoadOptions.{LoadOptions}
 use Rattle.machine_load.specs.declared.fault.LoadFault.{LoadFault}
 use Rattle.machine_load.specs.declared.fault.LoadFault.TheVariants.{ReadRecord, RecordInUse, Record, Connect, WriteRecord, WriteOutput, Memory}
 use Rattle.record_file.specs.declared.record_fault.RecordFault.{RecordFault}
@@ -73,52 +72,51 @@ IsUnbegunFault before after Memory = Asks before after (OutOfMemory ∷ [])
 IsUnbegunFault before after other = ⊥
 
 -- a life was opened, whose record may be begun or may not, and then so far was gone, with nothing reported, and with lines given back so
-pub record StopsOpened (plan : PlanValue) (options : LoadOptions) (before after : Setting) (may_begin : Bool) (done : List LoadStep)
+pub record StopsOpened (task : LoadTask) (setting : Change Setting) (may_begin : Bool) (done : List LoadStep)
     (Gives : Core → Option (List LineTold) → Option (List LineTold) → Type 0) : Type 0 where
   pub first : Core
   pub between : SurroundingsTold
-  pub opened : IsOpened (task plan options) (before.around ⇒ between) first may_begin
-  pub steps_are : Asks between after.around done
-  pub given : Gives first before.lines after.lines
-  pub nothing_reported : Keeps before.out after.out
+  pub opened : IsOpened task (setting.before.around ⇒ between) first may_begin
+  pub steps_are : Asks between setting.after.around done
+  pub given : Gives first setting.before.lines setting.after.lines
+  pub nothing_reported : Keeps setting.before.out setting.after.out
 
 -- so far was gone, with nothing said and nothing reported, and with the record as it was
-pub record StopsAfter (before after : Setting) (done : List LoadStep) : Type 0 where
-  pub steps_are : Asks before.around after.around done
-  pub record_same : KeepsRecord before.around after.around
-  pub nothing_said : after.lines ≡ before.lines
-  pub nothing_reported : Keeps before.out after.out
+pub record StopsAfter (setting : Change Setting) (done : List LoadStep) : Type 0 where
+  pub steps_are : Asks setting.before.around setting.after.around done
+  pub record_same : KeepsRecord setting.before.around setting.after.around
+  pub nothing_said : setting.after.lines ≡ setting.before.lines
+  pub nothing_reported : Keeps setting.before.out setting.after.out
 
 -- the record was read, and nothing else came of the load
-abbrev pub StopsAfterReading : Setting → Setting → Type 0
-StopsAfterReading before after = (writable : Writable) × StopsAfter before after (RecordRead writable ∷ [])
+abbrev pub StopsAfterReading : Change Setting → Type 0
+StopsAfterReading setting = (writable : Writable) × StopsAfter setting (RecordRead writable ∷ [])
 
 -- a life was opened, and comes to nothing before there is a connection, with the record as it was
-abbrev pub StopsUnconnected : PlanValue → LoadOptions → Setting → Setting → Bool → List LoadStep → Type 0
-StopsUnconnected plan options before after may_begin done =
-    StopsOpened plan options before after may_begin done GivesNone × KeepsRecord before.around after.around
+abbrev pub StopsUnconnected : LoadTask → Change Setting → Bool → List LoadStep → Type 0
+StopsUnconnected task setting may_begin done =
+    StopsOpened task setting may_begin done GivesNone × KeepsRecord setting.before.around setting.after.around
 
 -- where memory may be wanting, with nothing reported: for the record and for the looks, before there is a connection, and for the record begun anew,
 -- right behind the looks
-abbrev pub IsWantOfMemory : PlanValue → LoadOptions → Setting → Setting → Type 0
-IsWantOfMemory plan options before after =
-    (StopsAfter before after (OutOfMemory ∷ []) ⊎ StopsAfter before after (RecordRead InPlace ∷ []))
-    ⊎ (StopsUnconnected plan options before after true [] ⊎ StopsOpened plan options before after true (Connected ∷ OutOfMemory ∷ []) GivesLooked)
+abbrev pub IsWantOfMemory : LoadTask → Change Setting → Type 0
+IsWantOfMemory task setting =
+    (StopsAfter setting (OutOfMemory ∷ []) ⊎ StopsAfter setting (RecordRead InPlace ∷ []))
+    ⊎ (StopsUnconnected task setting true [] ⊎ StopsOpened task setting true (Connected ∷ OutOfMemory ∷ []) GivesLooked)
 
 -- a record that can't be written: before there is a connection, where it may not be begun, and then it is as it was; or, where all that
 -- could be known before said that it may, right behind the looks
-abbrev pub IsUnwritable : PlanValue → LoadOptions → Setting → Setting → Type 0
-IsUnwritable plan options before after =
-    StopsUnconnected plan options before after false [] ⊎ StopsOpened plan options before after true (Connected ∷ NotBegun ∷ []) GivesLooked
+abbrev pub IsUnwritable : LoadTask → Change Setting → Type 0
+IsUnwritable task setting = StopsUnconnected task setting false [] ⊎ StopsOpened task setting true (Connected ∷ NotBegun ∷ []) GivesLooked
 
 -- how a load comes to nothing: a record that can't be read, is another load's at the time, is refused or may not be begun comes before the
 -- connection, a connection that can't be made before the record is touched, a record that can't be written before any key but those of looks, a
--- report that can't be written last
-abbrev pub IsLoadFault : PlanValue → LoadOptions → Setting → Setting → LoadFault → Type 0
-IsLoadFault plan options before after ReadRecord = StopsAfter before after (NotRead ∷ [])
-IsLoadFault plan options before after RecordInUse = StopsAfter before after (InUse ∷ [])
-IsLoadFault plan options before after (Record why) = StopsAfterReading before after × IsRefusedRecord before.around.record_text plan why
-IsLoadFault plan options before after Connect = StopsUnconnected plan options before after true (NotConnected ∷ [])
-IsLoadFault plan options before after WriteRecord = IsUnwritable plan options before after
-IsLoadFault plan options before after WriteOutput = IsCutShort plan options before after
-IsLoadFault plan options before after Memory = IsWantOfMemory plan options before after
+-- report that can't be written last, behind a life that went on so
+abbrev pub IsLoadFault : HowItGoesOn → LoadTask → Change Setting → LoadFault → Type 0
+IsLoadFault GoesSo task setting ReadRecord = StopsAfter setting (NotRead ∷ [])
+IsLoadFault GoesSo task setting RecordInUse = StopsAfter setting (InUse ∷ [])
+IsLoadFault GoesSo task setting (Record why) = StopsAfterReading setting × IsRefusedRecord setting.before.around.record_text task.plan why
+IsLoadFault GoesSo task setting Connect = StopsUnconnected task setting true (NotConnected ∷ [])
+IsLoadFault GoesSo task setting WriteRecord = IsUnwritable task setting
+IsLoadFault GoesSo task setting WriteOutput = IsCutShort GoesSo task setting
+IsLoadFault GoesSo task setting Memory = IsWantOfMemory task setting

@@ -6,13 +6,12 @@ use Rattle.load_devices.specs.declared.line.Line.{Ghosts as Line}
 use Rattle.load_devices.specs.Told.{Gains}
 use Rattle.load_devices.specs.Devices.{calls_of, line_told}
 use Rattle.machine_load.specs.declared.fault.LoadFault.{LoadFault}
-use Rattle.machine_load.specs.declared.fault.LoadFault.TheVariants.{WriteOutput}
 use Rattle.machine_load.specs.declared.lived.Lived.{Lived}
 use Rattle.machine_load.specs.declared.outcome.Outcome.{Outcome}
 use Rattle.machine_load.specs.declared.surroundings.Surroundings.{Ghosts as Surroundings}
 use Rattle.machine_load.specs.Asked.{Change, LoadTask, ◌⇒◌}
 use Rattle.machine_load.specs.Called.{asked_by, IsAskedBefore}
-use Rattle.machine_load.specs.Driving.{KeeperTells, IsLoadReported, IsLoadUntold}
+use Rattle.machine_load.specs.Driving.{KeeperTells, IsDrivenOn}
 use Rattle.machine_load.specs.LoadFault.{IsLoadFault}
 use Rattle.machine_load.specs.RecordDisk.{RecordDisk, DiskAsked, disk_asked_by, disk_asked_before}
 use Rattle.console_lines.specs.Dialling.{LineRequest, Call}
@@ -61,18 +60,16 @@ tells_of around line keep = record { line = line; keeper = keeper_of around keep
 
 -- a load was reported, and gives its line back to whoever would listen
 pub record IsLoaded {L K : Type 0} (tells : LoadTells L K) (task : LoadTask) (scenes : Change Scene) (outcome : Outcome L) : Type 0 where
-  pub reported : IsReported task.plan task.options scenes.before.setting scenes.after.setting (ending tells.line outcome)
   -- the report is of the host that the life ended with, over the line that was reached and the keeper that was begun
-  pub lived : IsLoadReported tells.keeper task (scenes.before.setting ⇒ scenes.after.setting) (ending tells.line outcome)
-  pub stubs : outcome.stubs ≡ lived.stubs
+  pub reported : IsReported (IsDrivenOn tells.keeper) task (scenes.before.setting ⇒ scenes.after.setting) (ending tells.line outcome)
+  pub stubs : outcome.stubs ≡ reported.stubs
   pub line : IsSome outcome.line ⊎ IsNeverBegun outcome.end
   pub asked : Gains scenes.before.asked scenes.after.asked (asked_by scenes.before.call outcome.line)
   pub disk : DiskAsked scenes.before.disk scenes.after.disk (disk_asked_by outcome.end outcome.line)
 
 -- or it came to nothing
 pub record IsNotLoaded {K : Type 0} (keeper : KeeperTells K) (task : LoadTask) (scenes : Change Scene) (why : LoadFault) : Type 0 where
-  pub fault : IsLoadFault task.plan task.options scenes.before.setting scenes.after.setting why
-  -- a life whose report could not be written was lived all the same
-  pub untold : why ≡ WriteOutput → IsLoadUntold keeper task (scenes.before.setting ⇒ scenes.after.setting)
+  -- also a life whose report could not be written was lived over its line and its keeper
+  pub fault : IsLoadFault (IsDrivenOn keeper) task (scenes.before.setting ⇒ scenes.after.setting) why
   pub asked : IsAskedBefore scenes.before.call scenes.before.asked scenes.after.asked why
   pub disk : DiskAsked scenes.before.disk scenes.after.disk (disk_asked_before why)

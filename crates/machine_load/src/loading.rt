@@ -8,9 +8,9 @@ ghost use Rattle.byte_io.specs.Output.{WritesPrefix};
 ghost use Rattle.machine_load.specs.Asked.{opened_as, task, ◌⇒◌};
 ghost use Rattle.machine_load.specs.Called.{asked_by, IsAskedBefore};
 ghost use Rattle.load_devices.specs.Devices.{calls_of, devices_of, line_told};
-ghost use Rattle.machine_load.specs.Driving.{IsDrivenOn, IsLived};
+ghost use Rattle.machine_load.specs.Driving.{IsDrivenOn};
 ghost use Rattle.machine_load.specs.GivenBack.{IsGivenBack};
-ghost use Rattle.machine_load.specs.Load.{IsOpened, going_on, words_taken};
+ghost use Rattle.machine_load.specs.Load.{IsLived, IsOpened, going_on, words_taken};
 ghost use Rattle.machine_load.specs.LoadFault.{IsOpeningFault, IsDrivingFault, IsUnbegunFault, gone};
 ghost use Rattle.machine_load.specs.LoadReport.{load_report};
 ghost use Rattle.machine_load.specs.Looks.{AreFewLooks};
@@ -165,7 +165,7 @@ fn live<S: Surroundings, O: Onlooker>(
     around: &mut S,
     onlooker: &O,
 ) -> Result<Lived<S::Line>, LoadFault>
-    ensures lived { IfOk result (λ lived. IsLived (keeper_of S.Surroundings S.Keeper.Keep) (opened_as first fast writable)
+    ensures lived { IfOk result (λ lived. IsLived (IsDrivenOn (keeper_of S.Surroundings S.Keeper.Keep)) (opened_as first fast writable)
         (around_of S.Surroundings around.old ⇒ around_of S.Surroundings around.new) (finish_told S.Line.Line lived)) }
     ensures few { IfOk result (λ lived. IfSome lived.looks AreFewLooks × IfSome lived.stubs AreFew) }
     ensures fault { IfErr result (IsDrivingFault writable first (gone (around_of S.Surroundings around.old) (S.lines around.old))

@@ -5,10 +5,11 @@ use Rattle.console_lines.specs.Console.{ConsoleTold}
 use Rattle.tape_image.specs.Plan.{PlanValue, starting}
 use Rattle.load_devices.specs.Told.{Gains, HasAsked}
 use Rattle.machine_load.specs.declared.load_end.LoadEnd.{LoadEnd}
+use Rattle.machine_load.specs.Asked.{task, ◌⇒◌}
 use Rattle.machine_load.specs.Called.{asked_by, IsAskedBefore}
 use Rattle.machine_load.specs.declared.surroundings.Surroundings.{Ghosts as Surroundings}
 use Rattle.machine_load.specs.GivenBack.{IsGivenBack}
-use Rattle.machine_load.specs.Load.{SurroundingsTold, Ending, IsReported}
+use Rattle.machine_load.specs.Load.{SurroundingsTold, Ending, GoesOn, Setting, IsReported}
 use Rattle.machine_load.specs.LoadFault.{IsLoadFault}
 use Rattle.machine_load.specs.RecordDisk.{FileKnown, IsClosedAfter, RecordDisk, disk_asked_by, disk_asked_before}
 use Rattle.machine_load.specs.declared.fault.LoadFault.{LoadFault}
@@ -39,12 +40,15 @@ console_around tell write around out =
 abbrev pub lines_and_out : ConsoleTold → LinesAndOut
 lines_and_out console = record { lines = console.lines; out = console.out }
 
+-- these surroundings, with these lines that were given back and this output
+abbrev pub setting_of : SurroundingsTold → LinesAndOut → Setting
+setting_of around told = record { around = around; lines = told.lines; out = told.out }
+
 -- a load of this plan, gone about so, was reported, and ended so
 pub record IsPlanReported (plan : PlanValue) (options : LoadOptions) (before after : LinesAndOut) (ending : Ending) : Type 0 where
   pub around : SurroundingsTold
   pub around' : SurroundingsTold
-  pub reported : IsReported plan options
-      (record { around = around; lines = before.lines; out = before.out }) (record { around = around'; lines = after.lines; out = after.out }) ending
+  pub reported : IsReported GoesOn (task plan options) (setting_of around before ⇒ setting_of around' after) ending
 
 -- what comes behind the report of a load that ended so, over its line: what there was to listen to, and then the end
 abbrev pub IsEndedOver : LoadRequest → LoadEnd → LineAndOut → LineAndOut → Status → Type 0
@@ -103,8 +107,8 @@ pub record IsLoadCutShort (plan : PlanValue) (load : LoadRequest) (on_disk : Sai
   pub fault : LoadFault
   pub around : SurroundingsTold
   pub around' : SurroundingsTold
-  pub is_so : IsLoadFault plan load.options
-      (record { around = around; lines = before.lines; out = before.out }) (record { around = around'; lines = after.lines; out = after.out }) fault
+  pub is_so : IsLoadFault GoesOn (task plan load.options)
+      (setting_of around (lines_and_out before) ⇒ setting_of around' (lines_and_out after)) fault
   pub is_called : IsFailureOf (machine.Load fault) load.line.now (record_name load.record) failure
   pub asked : IsAskedBefore before.call before.asked after.asked fault
   pub disk : on_disk (disk_asked_before fault)

@@ -38,7 +38,7 @@ pub kept_nothing : {K : Type 0} (calls : KeeperCalls K) (fault : Option KeepFaul
 kept_nothing {K} calls fault keep words from to none le = subst (λ fault. IsKeptBy calls (keeping (words_kept words from to) fault) keep keep) (sym none) (kept_none calls keep words from to le)
 
 -- no stub was planned
-pub unplanned : (tape : PlanValue) (patience : ℕ) (stop : Stop) (tally : Tally) (at : Devices) → IsUnplanned stop → tally.verified ≤ length tape.words → IsNextStub (bringing tape patience (tally, tally) (Some stop)) at at
+pub unplanned : (tape : PlanValue) (patience : ℕ) (stop : Stop) (tally : Tally) (at : Devices) → IsUnplanned tape tally.verified stop → tally.verified ≤ length tape.words → IsNextStub (bringing tape patience (tally, tally) (Some stop)) at at
 unplanned tape patience stop tally at un within =
     let whole = unplanned_whole stop un in record {
       is_one = record {

@@ -4,6 +4,7 @@ mod Joins
 mod Layouts
 mod Parts
 mod Stops
+mod Unplanned
 pub mod Stretches
 pub mod Keepings
 pub mod Beliefs

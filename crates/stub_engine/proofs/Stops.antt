@@ -27,15 +27,15 @@ pub record IsWhole (stop : Stop) : Type 0 where
   pub ends : EndsSo (Some stop) []
   pub in_vain : (tally : Tally) → TellsInVain (Some stop) tally
 
-pub unplanned_whole : (stop : Stop) → IsUnplanned stop → IsWhole stop
+pub unplanned_whole : {tape : PlanValue} {from : ℕ} (stop : Stop) → IsUnplanned tape from stop → IsWhole stop
 unplanned_whole TooFewWords u = record { no_failure = refl; ends = tt; in_vain = λ tally. tt }
 unplanned_whole NoRoom u = record { no_failure = refl; ends = tt; in_vain = λ tally. tt }
 unplanned_whole Memory u = record { no_failure = refl; ends = tt; in_vain = λ tally. tt }
-unplanned_whole InVain u = absurd u
-unplanned_whole (NotStarted end) u = absurd u
-unplanned_whole StubsTurnsOver u = absurd u
-unplanned_whole (StubsLineFailed fault) u = absurd u
-unplanned_whole (StubsKeepFailed fault) u = absurd u
+unplanned_whole InVain u = absurd u.2
+unplanned_whole (NotStarted end) u = absurd u.2
+unplanned_whole StubsTurnsOver u = absurd u.2
+unplanned_whole (StubsLineFailed fault) u = absurd u.2
+unplanned_whole (StubsKeepFailed fault) u = absurd u.2
 
 -- ---- behind an exchange
 

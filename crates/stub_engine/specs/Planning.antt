@@ -1,5 +1,5 @@
 -- The stub that is planned next.
-use Rattle.std.specs.Prelude.{ℕ, ◌+◌, ◌*◌, ◌≤◌, ⊤, List}
+use Rattle.std.specs.Prelude.{ℕ, ◌+◌, ◌*◌, ◌<◌, ◌≤◌, ⊤, List, length}
 use Rattle.tape_image.specs.Plan.{PlanValue}
 use Rattle.exchange_core.specs.declared.chunk.Chunk.{Chunk}
 use Rattle.exchange_core.specs.declared.stretch.Stretch.{Stretch}
@@ -28,9 +28,27 @@ pub record IsPlannedFor (tape : PlanValue) (from : ℕ) (stub : PlanValue) (chun
   pub planned : IsPlanned tape from window chunks stretches stub
   pub worth : from + least_gain ≤ window
 
+-- with how many stretches room is looked for: with one, and then with as many as there were
+pub data IsTried (tape : PlanValue) (from : ℕ) : ℕ → Type 0 where
+  One : IsTried tape from 1
+  More : (layout : Layout) → IsLayout tape from 1 layout → IsTried tape from (length layout.stretches.items)
+
+-- each window for a stub of so many stretches leaves too few words before it
+abbrev pub LeavesTooFew : PlanValue → ℕ → ℕ → Type 0
+LeavesTooFew tape from count = (i : ℕ) → IsWindow tape.words from (66 + 2 * count) i → i < from + least_gain
+
+-- there is no window for one, or the chunks before it make more stretches than it has room for
+pub data HasNoRoom (tape : PlanValue) (from count : ℕ) : Type 0 where
+  NoWindow : ((i : ℕ) → IsWindow tape.words from (66 + 2 * count) i → ⊥) → HasNoRoom tape from count
+  MoreStretches : (layout : Layout) → IsLayout tape from count layout → count < length layout.stretches.items → HasNoRoom tape from count
+
+-- why none is laid out that has so many stretches
+abbrev pub IsNotLaidOut : PlanValue → ℕ → ℕ → Stop → Type 0
+IsNotLaidOut tape from count TooFewWords = LeavesTooFew tape from count
+IsNotLaidOut tape from count NoRoom = HasNoRoom tape from count
+IsNotLaidOut tape from count Memory = ⊤
+IsNotLaidOut tape from count _ = ⊥
+
 -- why none is planned
-abbrev pub IsUnplanned : Stop → Type 0
-IsUnplanned TooFewWords = ⊤
-IsUnplanned NoRoom = ⊤
-IsUnplanned Memory = ⊤
-IsUnplanned _ = ⊥
+abbrev pub IsUnplanned : PlanValue → ℕ → Stop → Type 0
+IsUnplanned tape from stop = (count : ℕ) × IsTried tape from count × IsNotLaidOut tape from count stop

@@ -1,6 +1,6 @@
 //! The stub that is planned next.
 ghost use Rattle.std.specs.Prelude.{◌≡◌, ◌≤◌, ◌^◌, length, IfOk, IfErr};
-ghost use Rattle.stub_engine.specs.Planning.{IsLayout, IsPlannedFor, IsUnplanned};
+ghost use Rattle.stub_engine.specs.Planning.{IsLayout, IsNotLaidOut, IsPlannedFor, IsUnplanned};
 
 use crate::stop::Stop;
 use exchange_core::{Chunk, Stretch, chunks_of, stretches_of, stub_plan, window_for};
@@ -21,15 +21,15 @@ pub(crate) struct PlannedStub {
     pub(crate) chunks: Vec<Chunk>,
 }
 
-/// Plans a stub for the plan's words behind the first `from`. The errors are `TooFewWords`, `NoRoom` and
-/// `Memory`.
+/// Plans a stub for the plan's words behind the first `from`. The errors are `TooFewWords`, where each window leaves
+/// fewer than 256 words before it, `NoRoom`, where there is no window, and `Memory`.
 ///
 /// How long a stub is depends on its stretches, and these on where it lies: so room is looked for with one
 /// stretch first, and then with as many as there were; a lower window has no more of them.
 pub(crate) fn planned_stub(alloc: Global, plan: &Plan, from: u32) -> Result<PlannedStub, Stop>
     requires within { from ≤ length plan.now.words }
     ensures planned { IfOk result (λ stub. IsPlannedFor plan.now from stub.plan stub.chunks.items) }
-    ensures unplanned { IfErr result IsUnplanned }
+    ensures unplanned { IfErr result (IsUnplanned plan.now from) }
 {
     let words = plan.words().len() as u32;
     if words - from < LEAST_GAIN {
@@ -56,7 +56,7 @@ struct Layout {
 fn laid_out(alloc: Global, plan: &Plan, from: u32, count: usize) -> Result<Layout, Stop>
     requires few { count ≤ 2 ^ 16 }
     ensures layout { IfOk result (IsLayout plan.now from count) }
-    ensures unplanned { IfErr result IsUnplanned }
+    ensures unplanned { IfErr result (IsNotLaidOut plan.now from count) }
 {
     let Some(window) = window_for(plan, from, stub_size(count) as u32) else {
         return Err(Stop::NoRoom);
@@ -77,7 +77,7 @@ fn laid_out(alloc: Global, plan: &Plan, from: u32, count: usize) -> Result<Layou
 fn brought_in_by(alloc: Global, plan: &Plan, from: u32, layout: Layout) -> Result<PlannedStub, Stop>
     requires layout { IsLayout plan.now from (length layout.stretches.items) layout }
     ensures planned { IfOk result (λ stub. IsPlannedFor plan.now from stub.plan stub.chunks.items) }
-    ensures unplanned { IfErr result IsUnplanned }
+    ensures memory { IfErr result (λ stop. stop ≡ Stop.Memory) }
 {
     let Layout {
         window,

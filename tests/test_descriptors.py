@@ -108,6 +108,7 @@ class Files(Many):
         self.tell(self.with_names({4: "folder"}), 4, "cannot read folder")
         self.tell(self.with_names({4: "folder", 30: "none.lda"}), 4, "cannot read none.lda")
         self.tell(self.with_names({4: "folder", 30: "bad.lda"}), 4, "cannot read folder")
+        self.tell(self.with_names({4: "folder", 5: "/proc/self/mem"}), 4, "cannot read folder")
         self.tell(self.with_names({4: "bad.lda", 5: "folder"}), 3, f"tape 5 {BAD_SUM}")
 
     def test_one_without_end_fills_no_memory(self):

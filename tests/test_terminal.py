@@ -11,7 +11,8 @@ import unittest
 from concurrent.futures import ThreadPoolExecutor
 
 from cases import Case, Console, DeafConsole
-from outside import PROGRAM, fault, line_failed
+from cases import SlowConsole as Hundredths
+from outside import PROGRAM, fault, line_failed, tape_of
 
 # Each line that is shown: the terminal is asked to cut what it has no column for, and behind the text to take away what
 # is left of the line before it and to wrap again.
@@ -51,6 +52,18 @@ class SlowConsole(Console):
         if len(self.typed) > self.keys:
             time.sleep(0.15)
         return answer
+
+
+class SilentConsole(Console):
+    """It answers so many keys, and no more."""
+
+    def __init__(self, keys, **named):
+        super().__init__(**named)
+        self.keys = keys
+
+    def take(self, key):
+        answer = super().take(key)
+        return answer if len(self.typed) <= self.keys else ""
 
 
 class Screen:
@@ -128,26 +141,51 @@ class Terminal(Case):
                 self.assertEqual(lines[0][:len(seen) - 1], seen[:-1])
                 self.assertLessEqual(max(map(len, lines)), columns)
 
-    def test_what_an_interrupt_leaves(self):
-        """One line, behind which a shell's prompt stands, and a terminal that wraps. It comes once the first key was typed."""
-        self.put_tapes("first.lda")
-        peer = self.console_at(DeafConsole())
+    def interrupted(self, words, machine, is_due):
+        """Does what the words ask for at a machine, and interrupts it as soon as that is due; returns how it ended, and what was shown."""
+        self.put_tapes("first.lda", "two-words.lda")
+        peer = self.console_at(machine)
+        words = [*words.replace("LINE", peer.address).split(), "--quiet", str(self.quiet)]
 
-        def interrupted(terminal):
-            process = subprocess.Popen([PROGRAM, "load", "first.lda", peer.address, "--quiet", str(self.quiet)], cwd=self.room, stderr=terminal,
-                                       stdout=subprocess.PIPE, preexec_fn=lambda: signal.signal(signal.SIGINT, signal.SIG_DFL))
-            while not peer.machine.typed and process.poll() is None:
-                time.sleep(0.01)
+        def done(terminal):
+            process = subprocess.Popen([PROGRAM, *words], cwd=self.room, stderr=terminal, stdout=subprocess.PIPE,
+                                       preexec_fn=lambda: signal.signal(signal.SIGINT, signal.SIG_DFL))
+            self.addCleanup(self.let_go, process)
+            self.until(lambda: is_due(peer.machine) or process.poll() is not None)
             process.send_signal(signal.SIGINT)
             out, _ = process.communicate(timeout=60)
             return process.returncode, out
 
-        ended, shown = self.at_a_terminal(interrupted)
-        self.is_so(ended, (-signal.SIGINT, b""))
-        self.assertTrue(shown.startswith(LISTENING), repr(shown))
-        screen = Screen(80)
-        screen.show(shown)
-        self.is_so((screen.row, screen.wraps), (0, True))
+        return self.at_a_terminal(done)
+
+    def test_what_an_interrupt_leaves(self):
+        """One line, behind which a shell's prompt stands, and a terminal that wraps. It comes once the first key was typed: what is
+        done is said before that, also where words of a record are looked at, or a stub is typed."""
+        self.put("many.lda", tape_of([(0o1000, bytes(800))], 0o1000))
+        self.put("a.record", b"LDAODT 2\n001000 031421")
+        for words, begins in (("load first.lda LINE", LISTENING), ("load two-words.lda LINE --record a.record", SHOWN.format(GOING_ON)),
+                              ("load many.lda LINE --fast", SHOWN.format("0 of 400 words, 0%, listening") + SHOWN.format("0 of 400 words, 0%, stub")),
+                              ("verify first.lda LINE", LISTENING), ("save a.lda LINE 1000 1000", LISTENING)):
+            with self.subTest(words):
+                ended, shown = self.interrupted(words, DeafConsole(), lambda machine: machine.typed)
+                self.is_so(ended, (-signal.SIGINT, b""))
+                self.assertTrue(shown.startswith(begins), repr(shown))
+                screen = Screen(80)
+                screen.show(shown)
+                self.is_so((screen.row, screen.wraps), (0, True))
+
+    def test_how_long_it_takes(self):
+        """It is said once, behind the eighth word, on a line of its own; and where what was done need not be done again, that, too.
+        Of 4,000 words each takes 22 keys, or 8 where it is only looked at, and each key a hundredth of a second."""
+        self.put("many.lda", tape_of([(0o1000, bytes(8000))], 0o1000))
+        self.put("a.record", b"LDAODT 2\n" + b"".join(b"%06o 000000\n" % (0o1000 + 2 * number) for number in range(20)))
+        for words, keys, goes_on in (("load many.lda LINE", 22, False), ("load many.lda LINE --record a.record", 8, True),
+                                     ("verify many.lda LINE", 8, False)):
+            with self.subTest(words):
+                ended, shown = self.interrupted(words, Hundredths(), lambda machine: len(machine.typed) > 20 * 8 + 12 * keys)
+                self.is_so(ended[0], -signal.SIGINT)
+                told = re.findall(r"\rsome \d+ minutes at this pace(; after Ctrl-C the same line goes on)?\x1b\[K\r\n", shown)
+                self.is_so(told, ["; after Ctrl-C the same line goes on" if goes_on else ""])
 
     def test_a_fault_stands_on_a_cleared_line(self):
         """The machine hangs up after `Z` and two characters of its answer."""
@@ -155,6 +193,12 @@ class Terminal(Case):
         self.is_so((given.status, given.out), (4, "sent 1 spent 0 verified 0 of 1\nend LineFailed\n"))
         self.assertTrue(shown.startswith(LISTENING), repr(shown))
         self.assertTrue(shown.endswith(CLEARED + FAILED), repr(shown))
+
+    def test_a_record_that_can_not_be_begun(self):
+        """It is told on a cleared line, too."""
+        given, shown = self.load_at_a_terminal(words="first.lda --record a.record", file_size=0)
+        self.is_so((given.status, given.out), (4, ""))
+        self.is_so(shown, LISTENING + CLEARED + shown_as(fault("cannot write a.record", errno.EFBIG)))
 
     def test_mishaps_are_counted(self):
         """Each key waits for the quiet time, so that a line is shown with each: at the beginning, with the first key,
@@ -204,6 +248,17 @@ class Terminal(Case):
                 words = f"two-words.lda {more} {'' if record is None else '--record a.record'}"
                 given, shown = self.load_at_a_terminal(Console(memory=BOTH_WORDS), words, close_after=close_after)
                 self.is_so(given.out.split("\n")[1], f"end {end}")
+                self.is_so(shown.split(CLEARED)[-1], told)
+
+    def test_what_is_told_where_a_machine_falls_silent(self):
+        """Behind the first of its two words, which takes nine keys; or at once."""
+        for record, keys, told in (("", 9, GOES_ON), (None, 9, ""), ("", 0, ASK_PROBE), ("LDAODT 2\n001000 031421", 9, f"1 of 2 by the record\r\n{GOES_ON}")):
+            with self.subTest(record=record, keys=keys):
+                if record is not None:
+                    self.put("a.record", record.encode())
+                words = f"two-words.lda --patience 2 {'' if record is None else '--record a.record'}"
+                given, shown = self.load_at_a_terminal(SilentConsole(keys, memory=BOTH_WORDS), words)
+                self.is_so((given.status, given.out.split("\n")[1]), (5, "end GaveUp"))
                 self.is_so(shown.split(CLEARED)[-1], told)
 
     def test_a_probe_says_that_it_works(self):
@@ -305,15 +360,18 @@ class Input(Case):
     def test_what_a_refused_tape_is_instead(self):
         """By its first bytes, and only at a terminal."""
         last = b"\1\0\7\0\0\2\0" + bytes([-10 & 255])
+        # Behind as much as is read of a file at once.
+        far = bytes(8192) + b"text"
+        places = {last: len(last), far: 8192}
         for data, told in ((b":1000", "this is Intel HEX"), (b"S1130", "these are S-records"), (b"S4130", "this is text"), (b"\x1f\x8b\b\0", "this is compressed"),
-                           (b"1000 1\n", "this is text"), (b"\x1f\x8c\b\0", ""), (b"text\xff", "this is text"), (b"tex\xff", ""), (last, "it lacks a block with a start")):
+                           (b"1000 1\n", "this is text"), (b"\x1f\x8c\b\0", ""), (b"text\xff", "this is text"), (b"tex\xff", ""), (far, ""), (last, "it lacks a block with a start")):
             with self.subTest(data):
                 self.put("a.lda", data)
                 given, shown = self.at_a_terminal(lambda it: self.ldaodt("check a.lda", stderr=it))
                 why = "NoTransfer" if data == last else "Stray"
                 self.is_so((given.status, given.out), (3, ""))
                 refused, *advice = shown.split("\r\n")
-                self.is_so(refused, f"ldaodt: tape refused at {len(data) if data == last else 0}: {why}")
+                self.is_so(refused, f"ldaodt: tape refused at {places.get(data, 0)}: {why}")
                 self.is_so((advice[0].startswith(told), len(advice) > 1), (True, bool(told)))
                 self.ends(self.ldaodt("check a.lda"), 3, "", f"{refused}\n")
 

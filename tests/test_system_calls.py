@@ -408,7 +408,7 @@ class Orders(Calls):
 
         def before(call):
             if call.name == "setsockopt" and tuple(call.arguments[1:3]) == NO_DELAY:
-                told.append("no delay")
+                told.append("no delay" if call.option() else "delay")
             elif call.name in WRITES and call.file().startswith("socket:"):
                 told.append("key")
 

@@ -21,6 +21,7 @@ LISTENING = SHOWN.format("0 of 1 words, 0%, listening")
 NO_WORD = SHOWN.format("0 of 1 words, 0%")
 CLEARED = "\r\x1b[K"
 GOING_ON = "going on behind 1 of 2 words, listening; power lost? use --recheck"
+SAVING_ON = "going on behind 256 of 512 words, listening; power lost? remove the .part file"
 PROBING = "probing: four to six quiet times, mostly 8 seconds\r\n"
 STARTED = "sent 30 spent 0 verified 1 of 1\nend Started\n"
 
@@ -163,9 +164,12 @@ class Terminal(Case):
         done is said before that, also where words of a record are looked at, or a stub is typed."""
         self.put("many.lda", tape_of([(0o1000, bytes(800))], 0o1000))
         self.put("a.record", b"LDAODT 2\n001000 031421")
+        # The first of two blocks, and the room of the rest.
+        self.put("b.lda.part", tape_of([(0o1000, bytes(512))])[:-7] + bytes(526))
         for words, begins in (("load first.lda LINE", LISTENING), ("load two-words.lda LINE --record a.record", SHOWN.format(GOING_ON)),
                               ("load many.lda LINE --fast", SHOWN.format("0 of 400 words, 0%, listening") + SHOWN.format("0 of 400 words, 0%, stub")),
-                              ("verify first.lda LINE", LISTENING), ("save a.lda LINE 1000 1000", LISTENING)):
+                              ("verify first.lda LINE", LISTENING), ("save a.lda LINE 1000 1000", LISTENING),
+                              ("save b.lda LINE 1000 2776", SHOWN.format(SAVING_ON))):
             with self.subTest(words):
                 ended, shown = self.interrupted(words, DeafConsole(), lambda machine: machine.typed)
                 self.is_so(ended, (-signal.SIGINT, b""))
@@ -180,7 +184,7 @@ class Terminal(Case):
         self.put("many.lda", tape_of([(0o1000, bytes(8000))], 0o1000))
         self.put("a.record", b"LDAODT 2\n" + b"".join(b"%06o 000000\n" % (0o1000 + 2 * number) for number in range(20)))
         for words, keys, goes_on in (("load many.lda LINE", 22, False), ("load many.lda LINE --record a.record", 8, True),
-                                     ("verify many.lda LINE", 8, False)):
+                                     ("verify many.lda LINE", 8, False), ("save a.lda LINE 0 17776", 8, True)):
             with self.subTest(words):
                 ended, shown = self.interrupted(words, Hundredths(), lambda machine: len(machine.typed) > 20 * 8 + 12 * keys)
                 self.is_so(ended[0], -signal.SIGINT)

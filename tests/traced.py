@@ -49,11 +49,19 @@ class Call:
         """The name that it looks at, where it looks at one."""
         return self.text(self.arguments[1]) if self.name == "statx" else None
 
-    def text(self, place):
-        """The text that stands at a place of the process's memory."""
+    def bytes(self, place, count):
+        """As many bytes, or fewer, as stand at a place of the process's memory."""
         with open(f"/proc/{self.process}/mem", "rb") as memory:
             memory.seek(place)
-            return memory.read(256).split(b"\0")[0].decode()
+            return memory.read(count)
+
+    def text(self, place):
+        """The text that stands there."""
+        return self.bytes(place, 256).split(b"\0")[0].decode()
+
+    def option(self):
+        """The number that it gives a socket's option."""
+        return int.from_bytes(self.bytes(self.arguments[3], 4), "little")
 
     def file(self):
         """What its first argument has open: a file's name, or what the system calls it."""

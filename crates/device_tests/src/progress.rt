@@ -2,7 +2,7 @@
 
 use host_core::Heard;
 use load_devices::{Onlooker, Sight};
-use load_progress::{ProgressLine, Showing};
+use load_progress::{KeptIn, ProgressLine, Showing};
 use std::alloc::Global;
 use std::cell::{Cell, RefCell};
 use std::fmt::Display;
@@ -178,7 +178,7 @@ fn noticed(heard: Heard, done: u32) -> Sight {
 fn a_load_is_shown_at_its_pace(rt: HostRuntime) {
     let clock = SetClock::new(Some(BEGINNING));
     let terminal = Screen::new(rt.alloc());
-    let line = ProgressLine::new(&clock, &terminal, false);
+    let line = ProgressLine::new(&clock, &terminal, KeptIn::Record);
     line.begins(500, 2000);
     for row in &STORY {
         let (millis, done, spent, writes, text) = *row;
@@ -190,39 +190,62 @@ fn a_load_is_shown_at_its_pace(rt: HostRuntime) {
     assert!(rt; terminal.shows("\r\x1b[K"));
 }
 
-// How many words are done when a load begins, of how many, and what is shown of it before its first key.
-const BEGINNINGS: [(u32, u32, &str); 5] = [
-    (0, 0, "0 of 0 words, listening"),
-    (0, 28, "0 of 28 words, 0%, listening"),
+// Where it is kept what is done, how many words are done when a load begins, of how many, and what is shown of it before its
+// first key.
+const BEGINNINGS: [(KeptIn, u32, u32, &str); 7] = [
+    (KeptIn::Record, 0, 0, "0 of 0 words, listening"),
+    (KeptIn::Record, 0, 28, "0 of 28 words, 0%, listening"),
     (
+        KeptIn::Record,
         1,
         28,
         "going on behind 1 of 28 words, listening; power lost? use --recheck",
     ),
     (
+        KeptIn::Record,
         28671,
         28672,
         "going on behind 28671 of 28672 words, listening; power lost? use --recheck",
     ),
     (
+        KeptIn::Record,
         4294967295,
         4294967295,
         "going on behind 4294967295 of 4294967295 words, listening; power lost? use --recheck",
     ),
+    (
+        KeptIn::Part,
+        4294967295,
+        4294967295,
+        "going on behind 4294967295 of 4294967295 words, listening; power lost? remove the .part file",
+    ),
+    (
+        KeptIn::Nothing,
+        1,
+        28,
+        "going on behind 1 of 28 words, listening",
+    ),
 ];
 
 // Whether a load that begins so is shown so, in one write, at this time.
-fn begins_so(alloc: Global, time: Option<u64>, done: u32, words: u32, text: &str) -> bool {
+fn begins_so(
+    alloc: Global,
+    time: Option<u64>,
+    kept_in: KeptIn,
+    done: u32,
+    words: u32,
+    text: &str,
+) -> bool {
     let clock = SetClock::new(time);
     let terminal = Screen::new(alloc);
-    ProgressLine::new(&clock, &terminal, false).begins(done, words);
+    ProgressLine::new(&clock, &terminal, kept_in).begins(done, words);
     terminal.has_shown(1, text)
 }
 
 // Whether it is shown so whatever the time, and without one.
-fn begins_so_always(alloc: Global, done: u32, words: u32, text: &str) -> bool {
+fn begins_so_always(alloc: Global, kept_in: KeptIn, done: u32, words: u32, text: &str) -> bool {
     for time in &[None, Some(0), Some(BEGINNING), Some(u64::MAX)] {
-        if !begins_so(alloc, *time, done, words, text) {
+        if !begins_so(alloc, *time, kept_in, done, words, text) {
             return false;
         }
     }
@@ -232,9 +255,9 @@ fn begins_so_always(alloc: Global, done: u32, words: u32, text: &str) -> bool {
 #[test]
 fn a_load_that_goes_on_says_so_and_that_it_listens(rt: HostRuntime) {
     for row in &BEGINNINGS {
-        let (done, words, text) = *row;
+        let (kept_in, done, words, text) = *row;
         assert!(rt;
-            begins_so_always(rt.alloc(), done, words, text),
+            begins_so_always(rt.alloc(), kept_in, done, words, text),
             "{done} of {words}"
         );
     }
@@ -262,7 +285,7 @@ const GOING_BACK: [(Option<u64>, u32, &str); 4] = [
 fn is_shown(alloc: Global, first: Option<u64>, rows: &[(Option<u64>, u32, &str)]) -> bool {
     let clock = SetClock::new(first);
     let terminal = Screen::new(alloc);
-    let line = ProgressLine::new(&clock, &terminal, false);
+    let line = ProgressLine::new(&clock, &terminal, KeptIn::Record);
     line.begins(0, 4);
     let mut done = 0u32;
     for row in rows {
@@ -378,7 +401,7 @@ fn the_text_says_words_mishaps_and_time(rt: HostRuntime) {
 fn a_stub_is_shown_while_it_is_typed_and_then_its_own_pace(rt: HostRuntime) {
     let clock = SetClock::new(Some(BEGINNING));
     let terminal = Screen::new(rt.alloc());
-    let line = ProgressLine::new(&clock, &terminal, false);
+    let line = ProgressLine::new(&clock, &terminal, KeptIn::Record);
     line.begins(0, 1000);
     line.stub_begins();
     assert!(rt; terminal.has_shown(2, "0 of 1000 words, 0%, stub"));
@@ -388,6 +411,8 @@ fn a_stub_is_shown_while_it_is_typed_and_then_its_own_pace(rt: HostRuntime) {
     clock.millis.set(Some(BEGINNING + 61_000));
     line.sees(noticed(Heard::Quiet, 100));
     assert!(rt; terminal.has_shown(4, "100 of 1000 words, 10%, 0:09 left"));
+    line.stub_begins();
+    assert!(rt; terminal.has_shown(5, "100 of 1000 words, 10%, stub"));
 }
 
 // The longest line that a load can have, with more words than memory: each thing that a line may say, the most
@@ -399,7 +424,7 @@ const LONGEST: &str =
 fn the_longest_line_has_room(rt: HostRuntime) {
     let clock = SetClock::new(Some(0));
     let terminal = Screen::new(rt.alloc());
-    let line = ProgressLine::new(&clock, &terminal, false);
+    let line = ProgressLine::new(&clock, &terminal, KeptIn::Record);
     line.begins(0, u32::MAX);
     clock.millis.set(Some(u64::MAX));
     line.sees(Sight {
@@ -428,7 +453,7 @@ const TALKS: [(u32, &str, &str); 3] = [
 fn is_talk_shown(alloc: Global, heard: u32, text: &str, behind: &str) -> bool {
     let clock = SetClock::new(Some(BEGINNING));
     let terminal = Screen::new(alloc);
-    let line = ProgressLine::new(&clock, &terminal, false);
+    let line = ProgressLine::new(&clock, &terminal, KeptIn::Record);
     line.begins(0, 28);
     clock.millis.set(Some(BEGINNING.saturating_add(100)));
     line.sees(answered(b'Z', 0, 0));
@@ -488,7 +513,7 @@ fn is_as_due(terminal: &Screen, second: u64) -> bool {
 fn a_pause_is_forgotten_within_a_minute(rt: HostRuntime) {
     let clock = SetClock::new(Some(BEGINNING));
     let terminal = Screen::new(rt.alloc());
-    let line = ProgressLine::new(&clock, &terminal, false);
+    let line = ProgressLine::new(&clock, &terminal, KeptIn::Record);
     line.begins(0, 10000);
     line.sees(answered(b'Z', 0, 0));
     for second in 1..141u64 {
@@ -498,25 +523,36 @@ fn a_pause_is_forgotten_within_a_minute(rt: HostRuntime) {
     }
 }
 
-// How many words there are of which eight are verified within a second, whether the load goes on behind a break, how
+// How many words there are of which eight are verified within a second, where that is kept, how
 // often something was shown by then, and the line that says how long it takes, where that is two minutes or more.
-const FORECASTS: [(u32, bool, u32, Option<&str>); 4] = [
-    (967, true, 2, None),
+const FORECASTS: [(u32, KeptIn, u32, Option<&str>); 4] = [
+    (967, KeptIn::Record, 2, None),
     (
         968,
-        true,
+        KeptIn::Record,
         3,
         Some("some 2 minutes at this pace; after Ctrl-C the same line goes on"),
     ),
-    (968, false, 3, Some("some 2 minutes at this pace")),
-    (28672, false, 3, Some("some 59 minutes at this pace")),
+    (968, KeptIn::Nothing, 3, Some("some 2 minutes at this pace")),
+    (
+        28672,
+        KeptIn::Part,
+        3,
+        Some("some 59 minutes at this pace; after Ctrl-C the same line goes on"),
+    ),
 ];
 
 // Whether a load says so how long it takes, above what it shows then, and never again.
-fn is_forecast(alloc: Global, words: u32, goes_on: bool, writes: u32, said: Option<&str>) -> bool {
+fn is_forecast(
+    alloc: Global,
+    words: u32,
+    kept_in: KeptIn,
+    writes: u32,
+    said: Option<&str>,
+) -> bool {
     let clock = SetClock::new(Some(BEGINNING));
     let terminal = Screen::new(alloc);
-    let line = ProgressLine::new(&clock, &terminal, goes_on);
+    let line = ProgressLine::new(&clock, &terminal, kept_in);
     line.begins(0, words);
     line.sees(answered(b'Z', 0, 0));
     clock.millis.set(Some(BEGINNING.saturating_add(1000)));
@@ -532,9 +568,9 @@ fn is_forecast(alloc: Global, words: u32, goes_on: bool, writes: u32, said: Opti
 #[test]
 fn a_long_load_says_once_how_long_it_takes(rt: HostRuntime) {
     for row in &FORECASTS {
-        let (words, goes_on, writes, said) = *row;
+        let (words, kept_in, writes, said) = *row;
         assert!(rt;
-            is_forecast(rt.alloc(), words, goes_on, writes, said),
+            is_forecast(rt.alloc(), words, kept_in, writes, said),
             "{words}"
         );
     }

@@ -4,6 +4,8 @@ use Rattle.load_progress.specs.Pace.{percent_of}
 use Rattle.load_progress.specs.declared.showing.Showing.{Showing}
 use Rattle.load_progress.specs.declared.showing.Forecast.{Forecast}
 use Rattle.load_progress.specs.declared.showing.GoingOn.{GoingOn}
+use Rattle.load_progress.specs.declared.showing.KeptIn.{KeptIn}
+use Rattle.load_progress.specs.declared.showing.KeptIn.TheVariants as kept_in
 
 -- a number below a hundred
 abbrev pub two_digits : ℕ → List ℕ
@@ -43,11 +45,17 @@ showing_text showing =
     decimal showing.done ++ codes " of " ++ decimal showing.words ++ codes " words" ++ part_text showing.done showing.words
     ++ doing_text showing.is_listening showing.is_stub ++ mishaps_text showing.mishaps ++ left_text showing.seconds_left
 
+-- what is to be done where memory has not kept what was done before
+abbrev pub remedy_text : KeptIn → List ℕ
+remedy_text kept_in.Nothing = []
+remedy_text kept_in.Record = codes "; power lost? use --recheck"
+remedy_text kept_in.Part = codes "; power lost? remove the .part file"
+
 -- that it goes on behind words that were done before
 abbrev pub going_on_text : GoingOn → List ℕ
 going_on_text going_on =
     codes "going on behind " ++ decimal going_on.done ++ codes " of " ++ decimal going_on.words
-    ++ codes " words, listening; power lost? use --recheck"
+    ++ codes " words, listening" ++ remedy_text going_on.kept_in
 
 -- how long it takes, and that it goes on after a break where that is so
 abbrev pub forecast_text : Forecast → List ℕ

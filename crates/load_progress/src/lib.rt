@@ -14,4 +14,4 @@ mod showing;
 mod tally;
 
 pub use progress_line::ProgressLine;
-pub use showing::Showing;
+pub use showing::{KeptIn, Showing};

@@ -3,7 +3,7 @@ ghost use Rattle.std.specs.Prelude.{◌≡◌, IfSome};
 ghost use Rattle.load_progress.specs.ProgressText.{above_line, forecast_text, going_on_text, on_line, showing_text};
 
 use crate::pace::is_due;
-use crate::showing::{Forecast, GoingOn, Showing};
+use crate::showing::{Forecast, GoingOn, KeptIn, Showing};
 use crate::tally::Tally;
 use arrayvec::ArrayString;
 use load_devices::{Onlooker, Sight};
@@ -34,23 +34,21 @@ pub struct ProgressLine<'a, C: Clock, E: Print> {
     // When it was last shown, in milliseconds of the clock, where it was.
     shown: Cell<Option<u64>>,
 
-    // Whether what was done need not be done again after a break.
-    goes_on: bool,
+    kept_in: KeptIn,
 
     // Whether the line above it is still to be written.
     is_forecast_due: Cell<bool>,
 }
 
 impl<'a, C: Clock, E: Print> ProgressLine<'a, C, E> {
-    /// A line on a terminal, which shows nothing yet. `goes_on` says whether what was done need not be done
-    /// again after a break.
-    pub fn new(clock: &'a C, terminal: &'a E, goes_on: bool) -> ProgressLine<'a, C, E> {
+    /// A line on a terminal, which shows nothing yet. What is done is kept there.
+    pub fn new(clock: &'a C, terminal: &'a E, kept_in: KeptIn) -> ProgressLine<'a, C, E> {
         ProgressLine {
             clock,
             terminal,
             tally: Cell::new(Tally::new(0, 0, None)),
             shown: Cell::new(None),
-            goes_on,
+            kept_in,
             is_forecast_due: Cell::new(true),
         }
     }
@@ -103,7 +101,7 @@ impl<'a, C: Clock, E: Print> ProgressLine<'a, C, E> {
         if minutes < LONG {
             return;
         }
-        let goes_on = self.goes_on;
+        let goes_on = self.kept_in != KeptIn::Nothing;
         if let Some(line) = forecast_line(Forecast { minutes, goes_on }) {
             self.say(line.as_str());
         }
@@ -126,7 +124,13 @@ impl<C: Clock, E: Print> Onlooker for ProgressLine<'_, C, E> {
         if done == 0 {
             self.put(showing_line(tally.showing(now)), now);
         } else {
-            self.put(going_on_line(GoingOn { done, words }), now);
+            let kept_in = self.kept_in;
+            let going_on = GoingOn {
+                done,
+                words,
+                kept_in,
+            };
+            self.put(going_on_line(going_on), now);
         }
     }
 

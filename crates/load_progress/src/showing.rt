@@ -43,6 +43,19 @@ impl fmt::Display for Showing {
     }
 }
 
+/// Where it is kept what was done, so that it need not be done again after a break.
+#[derive(Clone, Copy, Debug, PartialEq, Eq)]
+pub enum KeptIn {
+    /// Nowhere.
+    Nothing,
+
+    /// In the record of a load.
+    Record,
+
+    /// In the file beside a new tape.
+    Part,
+}
+
 /// That it goes on behind words that were done before, as it is shown until the first key. Only the
 /// person knows whether memory kept them.
 #[derive(Clone, Copy, Debug, PartialEq, Eq)]
@@ -52,6 +65,9 @@ pub(crate) struct GoingOn {
 
     /// How many there are.
     pub(crate) words: u32,
+
+    /// Where that is kept.
+    pub(crate) kept_in: KeptIn,
 }
 
 impl fmt::Display for GoingOn {
@@ -62,10 +78,30 @@ impl fmt::Display for GoingOn {
 
     fn fmt<W: fmt::Write>(&self, f: &mut fmt::Formatter<W>) -> fmt::Result {
         let (done, words) = (self.done, self.words);
+        let remedy = Remedy(self.kept_in);
         write!(
             f,
-            "going on behind {done} of {words} words, listening; power lost? use --recheck"
+            "going on behind {done} of {words} words, listening{remedy}"
         )
+    }
+}
+
+// What is to be done where memory has not kept what was done before.
+#[derive(Clone, Copy)]
+struct Remedy(KeptIn);
+
+impl fmt::Display for Remedy {
+    ghost use Rattle.std.specs.Prelude.{Some};
+    ghost use Rattle.load_progress.specs.ProgressText.{remedy_text};
+
+    ghost output = { λ remedy. Some (remedy_text remedy.0) };
+
+    fn fmt<W: fmt::Write>(&self, f: &mut fmt::Formatter<W>) -> fmt::Result {
+        match self.0 {
+            KeptIn::Nothing => Ok(()),
+            KeptIn::Record => f.write_str("; power lost? use --recheck"),
+            KeptIn::Part => f.write_str("; power lost? remove the .part file"),
+        }
     }
 }
 

@@ -13,6 +13,8 @@ use Rattle.machine_load.specs.Load.{SurroundingsTold, Ending, GoesOn, Setting, I
 use Rattle.machine_load.specs.LoadFault.{IsLoadFault}
 use Rattle.machine_load.specs.RecordDisk.{FileKnown, IsClosedAfter, RecordDisk, disk_asked_by, disk_asked_before}
 use Rattle.machine_load.specs.declared.fault.LoadFault.{LoadFault}
+use Rattle.load_progress.specs.declared.showing.KeptIn.{KeptIn}
+use Rattle.load_progress.specs.declared.showing.KeptIn.TheVariants.{Nothing, Record}
 use Rattle.request_values.specs.declared.options.LoadOptions.{LoadOptions}
 use Rattle.record_file.specs.DiskStep.{DiskStep}
 use Rattle.endings.specs.declared.failure.Failure.{Failure}
@@ -25,6 +27,11 @@ use Rattle.requests.specs.Planning.{IsPlanned, IsUnplanned}
 use Rattle.requests.specs.Asked.{console_of}
 use Rattle.requests.specs.Moment.{Moment, intake_at}
 use Rattle.requests.specs.Listening.{IsCutOff, IsHeardFor, IsLastCut, IsLastHeard, LineAndOut, LinesAndOut, seconds_of, quiet_time}
+
+-- where it is kept what a load has done
+abbrev pub kept_in : Option Name → KeptIn
+kept_in None = Nothing
+kept_in (Some name) = Record
 
 -- what faults call the record: its file's name, where it has one
 abbrev pub record_name : Option Name → List ℕ

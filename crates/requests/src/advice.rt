@@ -3,7 +3,7 @@
 use host_core::End;
 use load_devices::Line;
 use load_engine::Stop;
-use load_progress::ProgressLine;
+use load_progress::{KeptIn, ProgressLine};
 use machine_load::{LoadEnd, Outcome, StubStop, Stubs};
 use octal::Octal;
 use request_values::Load;
@@ -12,15 +12,14 @@ use std::fmt;
 use std::io::Print;
 use std::time::Clock;
 
-/// Who looks on: the line on the terminal, where there is one. `goes_on` says whether what was done need not be
-/// done again after a break.
+/// Who looks on: the line on the terminal, where there is one. What is done is kept there.
 pub(crate) fn onlooker<'o, C: Clock, T: Print>(
     clock: &'o C,
     terminal: Option<&'o T>,
-    goes_on: bool,
+    kept_in: KeptIn,
 ) -> Option<ProgressLine<'o, C, T>> {
     match terminal {
-        Some(terminal) => Some(ProgressLine::new(clock, terminal, goes_on)),
+        Some(terminal) => Some(ProgressLine::new(clock, terminal, kept_in)),
         None => None,
     }
 }

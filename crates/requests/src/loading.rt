@@ -4,7 +4,7 @@ ghost use Rattle.std.specs.Mem.{FitsInMemory};
 ghost use Rattle.machine_load.specs.RecordDisk.{DiskAsked};
 ghost use Rattle.machine_load.specs.Scene.{ending};
 ghost use Rattle.requests.specs.Listening.{line_and_out};
-ghost use Rattle.requests.specs.Loading.{console_around, lines_and_out, record_name, AreLoaded, AreUnloaded};
+ghost use Rattle.requests.specs.Loading.{console_around, kept_in, lines_and_out, record_name, AreLoaded, AreUnloaded};
 ghost use Rattle.requests.specs.Loading.{IsEnded, IsEndFailure, IsEndedOver, IsEndOverFailure, IsPlanLoaded, IsPlanFailure};
 ghost use Rattle.requests.specs.Moment.{moment};
 
@@ -17,7 +17,7 @@ use crate::system::{Kinds, System};
 use console_lines::Way;
 use endings::{Failure, FaultOutput, Output, Status, Streams};
 use load_devices::Line;
-use load_progress::ProgressLine;
+use load_progress::{KeptIn, ProgressLine};
 use machine_load::{Around, InMemory, LoadEnd, Outcome, Surroundings, load};
 use record_file::RecordFile;
 use request_values::Load;
@@ -68,7 +68,7 @@ pub(crate) fn load_tapes<'a, K: Kinds, R: Read, W: Output, E: FaultOutput, T: Pr
     let plan = planned.starting(request.start);
     let console = Way::to(request.line, request.quiet_ms, consoles);
     let out = &mut streams.out;
-    let shown = onlooker(&clock, terminal, request.record.is_some());
+    let shown = onlooker(&clock, terminal, kept_in(request.record));
     match request.record {
         Some(name) => {
             let records = RecordFile::new(disk, name);
@@ -167,6 +167,16 @@ fn end_over<'a, L: Line, W: Write>(
     let status = after_load(end, marked, record_name(load.record))?;
     listen_behind(load, end, line, out)?;
     Ok(status)
+}
+
+// Where it is kept what a load has done.
+fn kept_in(file: Option<&str>) -> KeptIn
+    ensures { result ≡ kept_in file.entry }
+{
+    match file {
+        Some(_) => KeptIn::Record,
+        None => KeptIn::Nothing,
+    }
 }
 
 // What faults call the record.

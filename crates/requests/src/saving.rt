@@ -9,6 +9,7 @@ use crate::machine_fault::MachineFault;
 use crate::system::{Kinds, System};
 use console_lines::Way;
 use endings::{Failure, FaultOutput, Output, Status, Streams};
+use load_progress::KeptIn;
 use machine_look::{SaveOptions, save};
 use request_values::Save;
 use std::alloc::Global;
@@ -52,7 +53,7 @@ pub(crate) fn save_words<'a, K: Kinds, R: Read, W: Output, E: FaultOutput, T: Pr
     let mut shelf = NewFile::new(disk, request.file);
     let mut console = Way::to(look.line, look.quiet_ms, consoles);
     let out = &mut streams.out;
-    let shown = onlooker(&clock, terminal, false);
+    let shown = onlooker(&clock, terminal, KeptIn::Part);
     let saved = save(alloc, options, &mut shelf, &mut console, out, &shown);
     let system = System::new(inputs, shelf.close(), console.back(), clock);
     match saved {

@@ -11,6 +11,7 @@ use crate::planning::plan_tapes;
 use crate::system::{Kinds, System};
 use console_lines::Way;
 use endings::{Failure, FaultOutput, Output, Status, Streams};
+use load_progress::KeptIn;
 use machine_look::verify;
 use request_values::Look;
 use std::alloc::Global;
@@ -54,7 +55,7 @@ pub(crate) fn verify_tapes<'a, K: Kinds, R: Read, W: Output, E: FaultOutput, T: 
     } = system;
     let mut console = Way::to(look.line, look.quiet_ms, consoles);
     let out = &mut streams.out;
-    let shown = onlooker(&clock, terminal, false);
+    let shown = onlooker(&clock, terminal, KeptIn::Nothing);
     let verified = verify(alloc, &plan, look.patience, &mut console, out, &shown);
     let system = System::new(inputs, disk, console.back(), clock);
     match verified {

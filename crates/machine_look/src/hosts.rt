@@ -1,10 +1,8 @@
 //! The hosts of a save: one that looks at samples of what was found, and one that reads the words behind it.
-ghost use Rattle.std.specs.Prelude.{◌≡◌, ◌+◌, ◌-◌, ◌*◌, ◌%◌, ◌<◌, ◌≤◌, min, IfOk};
+ghost use Rattle.std.specs.Prelude.{◌≡◌, ◌+◌, ◌-◌, ◌*◌, ◌%◌, ◌<◌, ◌≤◌, IfOk};
 ghost use Rattle.tape_values.specs.Block.{top};
 ghost use Rattle.tape_image.specs.Word.{whole_word};
-ghost use Rattle.host_core.specs.Memory.{most_words};
 ghost use Rattle.reading_core.specs.Addresses.{AreAddresses, addresses_from};
-ghost use Rattle.sample_looks.specs.Places.{place_of};
 ghost use Rattle.machine_look.specs.Behind.{AreOfFound};
 ghost use Rattle.tape_shelf.specs.FoundPart.{FillBlocks};
 ghost use Rattle.tape_shelf.specs.SavedTape.{words_in};
@@ -13,7 +11,7 @@ ghost use Rattle.machine_look.specs.Hosts.{AreHosts};
 use crate::saving::SaveOptions;
 use reading_core::ReadingCore;
 use request_values::AddressRange;
-use sample_looks::{MOST_SAMPLES, reader_of};
+use sample_looks::{MOST_SAMPLES, place_of_sample, reader_of};
 use std::alloc::{AllocError, Global};
 use tape_image::Word;
 use tape_shelf::words_of;
@@ -72,23 +70,10 @@ fn samples_of_found(
     let number = found.len().min(MOST_SAMPLES);
     let mut samples = Vec::with_capacity(alloc, number)?;
     for i in 0..number {
-        let place = place(i, found.len());
+        let place = place_of_sample(i, found.len());
         samples.push(word_at(from + 2 * place as u16, found[place]))?;
     }
     Ok(samples)
-}
-
-// The place of the sample with this number, from 0 on, among so many words.
-fn place(number: usize, count: usize) -> usize
-    requires few { count ≤ most_words }
-    requires among { number < min count 8 }
-    ensures { result ≡ place_of count number }
-{
-    if count <= MOST_SAMPLES {
-        number
-    } else {
-        number * (count - 1) / (MOST_SAMPLES - 1)
-    }
 }
 
 // The word that has this number whole, at this address.

@@ -23,13 +23,13 @@ pub fn samples_of(alloc: Global, plan: &Plan, count: usize) -> Result<Vec<Word>,
     let number = count.min(MOST_SAMPLES);
     let mut samples = Vec::with_capacity(alloc, number)?;
     for i in 0..number {
-        samples.push(words[place(i, count)])?;
+        samples.push(words[place_of_sample(i, count)])?;
     }
     Ok(samples)
 }
 
-// The place of the sample with this number, from 0 on, among so many words.
-fn place(number: usize, count: usize) -> usize
+/// The place of the sample with this number, from 0 on, among so many words.
+pub fn place_of_sample(number: usize, count: usize) -> usize
     requires few { count ≤ most_words }
     requires among { number < min count 8 }
     ensures { result ≡ place_of count number }

@@ -4,21 +4,21 @@ use Rattle.sample_looks.specs.Samples.{AreSamples}
 use Rattle.sample_looks.proofs.Spread.{asked, ended, inside, next_sample, samples}
 use Rattle.sample_looks.proofs.samples.samples_of.Goals as goal
 
-pub place-requires-clause-few : goal.place-requires-clause-few
-place-requires-clause-few c = omega (arith, c.requires, c.words-words.ensures.sound.few)
+pub place_of_sample-requires-clause-few : goal.place_of_sample-requires-clause-few
+place_of_sample-requires-clause-few c = omega (arith, c.requires, c.words-words.ensures.sound.few)
 
 pub loop-i-init : goal.loop-i-init
 loop-i-init c = c.in_ok-samples.ensures.items
 
-pub bounds-words-place : goal.bounds-words-place
-bounds-words-place c =
-    inside c.args.plan.now.words c.words-words.result.now c.args.count c.min-number.result c.loop-i.i c.place.result c.words-words.ensures.value c.requires c.min-number.ensures c.loop-i-test.true c.place.ensures
+pub bounds-words-place_of_sample : goal.bounds-words-place_of_sample
+bounds-words-place_of_sample c =
+    inside c.args.plan.now.words c.words-words.result.now c.args.count c.min-number.result c.loop-i.i c.place_of_sample.result c.words-words.ensures.value c.requires c.min-number.ensures c.loop-i-test.true c.place_of_sample.ensures
 
 pub loop-i-preserved : goal.loop-i-preserved
 loop-i-preserved c =
     c.in_ok-push.ensures.items
-    ∙ next_sample c.words-words.result.now c.loop-i.samples.items c.args.count c.loop-i.i c.place.result c.index-words-place.result c.loop-i.invariant c.place.ensures c.index-words-place.is
-    (inside c.args.plan.now.words c.words-words.result.now c.args.count c.min-number.result c.loop-i.i c.place.result c.words-words.ensures.value c.requires c.min-number.ensures c.loop-i-test.true c.place.ensures)
+    ∙ next_sample c.words-words.result.now c.loop-i.samples.items c.args.count c.loop-i.i c.place_of_sample.result c.index-words-place_of_sample.result c.loop-i.invariant c.place_of_sample.ensures c.index-words-place_of_sample.is
+    (inside c.args.plan.now.words c.words-words.result.now c.args.count c.min-number.result c.loop-i.i c.place_of_sample.result c.words-words.ensures.value c.requires c.min-number.ensures c.loop-i-test.true c.place_of_sample.ensures)
 
 pub returns-clause-spread : goal.returns-clause-spread
 returns-clause-spread c =

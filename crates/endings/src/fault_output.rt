@@ -36,7 +36,7 @@ impl FaultOutput for Vec<u8> {
 }
 
 /// Says a text. At the first write that fails, or takes nothing, it stops.
-pub(crate) fn say<E: FaultOutput>(err: &mut E, text: &[u8]) -> Result<(), WriteFault>
+pub fn say<E: FaultOutput>(err: &mut E, text: &[u8]) -> Result<(), WriteFault>
     ensures ok { OnOk result (IsSaidWhole (E.said err.old) (E.said err.new) text.now) }
     ensures err { OnErr result (IsSaidInPart (E.said err.old) (E.said err.new) text.now) }
 {

@@ -5,7 +5,7 @@
 //! nothing to be done are explained: `show` prints help to standard output, `refuse` says on standard
 //! error what is wrong with them. `Streams` are the three standard streams, as one value; an `Output` knows
 //! whether nobody reads it any more, and then nothing is said of what can't be written there. What is said on
-//! a `FaultOutput` is said whole, unless that fails. Used by the crates of requests and by `ldaodt`.
+//! a `FaultOutput` is said whole, unless that fails. Used by the crates of requests, by `run_log` and by `ldaodt`.
 #![tactic(auto)]
 
 mod explaining;
@@ -21,10 +21,10 @@ mod telling;
 
 pub use explaining::{refuse, show};
 pub use failure::{Failure, STANDARD_INPUT};
-pub use fault_output::FaultOutput;
+pub use fault_output::{FaultOutput, say};
 pub use output::{Output, PipedOutput};
 pub use place::Place;
 pub use status::Status;
 pub use streams::Streams;
 pub use system_reason::tell_with_reason;
-pub use telling::tell;
+pub use telling::{tell, write_name};

@@ -162,8 +162,8 @@ fn write_twice<E: FaultOutput>(err: &mut E, name: &str) -> Result<(), WriteFault
     write_name(err, name)
 }
 
-// Writes a name as a fault shows it.
-fn write_name<E: FaultOutput>(err: &mut E, name: &str) -> Result<(), WriteFault>
+/// Writes a name as a fault shows it, in pieces.
+pub fn write_name<E: FaultOutput>(err: &mut E, name: &str) -> Result<(), WriteFault>
     ensures ok { OnOk result (IsSaidWhole (E.said err.old) (E.said err.new) (shown_name name.now)) }
     ensures err { OnErr result (IsSaidInPart (E.said err.old) (E.said err.new) (shown_name name.now)) }
 {

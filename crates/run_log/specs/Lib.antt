@@ -1,0 +1,3 @@
+pub mod LogLine
+pub mod Report
+pub mod TimeText

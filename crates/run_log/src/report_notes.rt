@@ -1,0 +1,115 @@
+//! What is noted of a report.
+ghost use Rattle.std.specs.Prelude.{◌≡◌, ℕ, List, [], ◌∷◌, ◌++◌, Some, OnOk};
+ghost use Rattle.std.specs.Option.{option_or};
+ghost use Rattle.run_log.specs.Report.{IsNoted, begins, report_text};
+
+use arrayvec::ArrayVec;
+use std::alloc::AllocError;
+use std::marker::Model;
+
+// More bytes than the longest of the lines that are noted has: words, five numbers of 20 digits.
+const LINE_ROOM: usize = 160;
+
+// A line, or the front of one.
+type Line = ArrayVec<u8, LINE_ROOM>;
+
+/// What is noted of a text that grows: the first of its lines that says how a report ended, and the first that says what
+/// it counted. What the started program prints stands behind both.
+#[derive(Drop)]
+pub struct ReportNotes {
+    end: Option<Line>,
+    counts: Option<Line>,
+
+    // The front of the line that has not ended yet.
+    front: Line,
+}
+
+impl Model for ReportNotes {
+    ghost use Rattle.std.specs.Prelude.{option_map};
+    ghost use Rattle.run_log.specs.Report.{Noted};
+
+    ghost Value = { Noted };
+
+    ghost view = { λ notes. record {
+      ending = option_map (λ l. l.items) notes.end;
+      counts = option_map (λ l. l.items) notes.counts;
+      front = notes.front.items;
+    } };
+}
+
+impl ReportNotes {
+    /// Those of an empty text.
+    pub fn new() -> ReportNotes
+        ensures { IsNoted [] result }
+    {
+        ReportNotes {
+            end: None,
+            counts: None,
+            front: Line::new(),
+        }
+    }
+
+    /// Goes on with these bytes behind the text.
+    pub fn see(&mut self, bytes: &[u8])
+        ensures { (text : List ℕ) → IsNoted text self.old → IsNoted (text ++ bytes.now) self.new }
+    {
+        for byte in bytes {
+            self.see_byte(*byte);
+        }
+    }
+
+    // Goes on with this byte.
+    fn see_byte(&mut self, byte: u8)
+        ensures { (text : List ℕ) → IsNoted text self.old → IsNoted (text ++ byte ∷ []) self.new }
+    {
+        if byte == b'\n' {
+            self.see_end_of_line();
+        } else {
+            let _ = self.front.try_push(byte);
+        }
+    }
+
+    // Goes on with the end of a line, which is then noted where it is the first of its kind.
+    fn see_end_of_line(&mut self)
+        ensures { (text : List ℕ) → IsNoted text self.old → IsNoted (text ++ 10 ∷ []) self.new }
+    {
+        let line = self.front.take();
+        if begins(&line, b"end ") {
+            keep_first(&mut self.end, line);
+        } else if begins(&line, b"sent ") {
+            keep_first(&mut self.counts, line);
+        }
+    }
+
+    /// Puts what was noted behind other words: nothing of a report that has no end.
+    pub(crate) fn put_into(&self, text: &mut Vec<u8>) -> Result<(), AllocError>
+        ensures { OnOk result (text.new.items ≡ text.old.items ++ report_text self.now) }
+    {
+        let Some(end) = &self.end else {
+            return Ok(());
+        };
+        text.extend_from_slice(b" ")?;
+        text.extend_from_slice(end)?;
+        if let Some(counts) = &self.counts {
+            text.extend_from_slice(b" ")?;
+            text.extend_from_slice(counts)?;
+        }
+        Ok(())
+    }
+}
+
+// Whether a line begins with these words. One that fills its room may have more, and is none of a report.
+fn begins(line: &Line, words: &[u8]) -> bool
+    ensures { result ≡ begins words.now line.now.items }
+{
+    line.len() < LINE_ROOM && line.starts_with(words)
+}
+
+// Keeps a line where none is kept.
+fn keep_first(kept: &mut Option<Line>, line: Line)
+    ensures { kept.new ≡ option_or kept.old (Some line) }
+{
+    if kept.is_none() {
+        *kept = Some(line);
+    }
+}

@@ -2,3 +2,4 @@ pub mod Addresses
 pub mod Explanation
 pub mod Options
 pub mod Refusal
+pub mod Wanted

@@ -1,5 +1,5 @@
 -- What the arguments and options of a command come to (this project's own).
-use Rattle.std.specs.Prelude.{◌≡◌, ◌⊎◌, ◌==◌, ◌||◌, ℕ, Bool, true, false, List, [], ◌∷◌, Option, Some, None, map, option_map, codes}
+use Rattle.std.specs.Prelude.{◌≡◌, ◌==◌, ◌||◌, ℕ, Bool, true, false, List, [], ◌∷◌, Option, Some, None, map, option_map, codes}
 use Rattle.std.specs.Option.{option_map_or}
 use Rattle.std.specs.List.{list_any}
 use Rattle.std.specs.Borrow.{Bor}
@@ -167,11 +167,3 @@ abbrev pub IsRequestOf : Found → Request → Type 0
 IsRequestOf found (Machine request) = IsMachineRequestOf found request
 IsRequestOf found (Makes make) = IsMakeOf found make
 IsRequestOf found (Tape request) = IsTapeRequestOf found request
-
--- some arguments and options, as they were found among the words of a command, say it
-abbrev pub IsFound : Request → Type 0
-IsFound request = (found : Found) × IsRequestOf found request
-
--- words ask for a request: there are none, and the tape on standard input is to be checked; or what was found among them says it
-abbrev pub IsAskedBy : Type 0 → Request → Type 0
-IsAskedBy no_words request = (no_words × (request ≡ Tape CheckInput)) ⊎ IsFound request

@@ -216,3 +216,9 @@ pub(crate) const QUIET: Argument = Argument {
 How many milliseconds of silence mean that nothing
 more is coming, 1 to 60000 [default: 2000]",
 };
+
+pub(crate) const LOG: Argument = Argument {
+    name: names::LOG,
+    form: Form::Flag,
+    help: "Say at the very end, on standard error, when the run\nended and how: one line, for a log",
+};

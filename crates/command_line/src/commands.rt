@@ -1,7 +1,7 @@
 //! The commands, and how the parser is told of them.
 
 use crate::arguments::{
-    ADDRESS, Argument, BLOCKS, FAST, FILE, FROM, LINE, LISTEN, MORE, NO_START, OCTAL_WORDS,
+    ADDRESS, Argument, BLOCKS, FAST, FILE, FROM, LINE, LISTEN, LOG, MORE, NO_START, OCTAL_WORDS,
     PATIENCE, QUIET, RECHECK, RECORD, SAVED_START, SCRIPT, START, STYLE, TAPE, TO, WORDS,
 };
 use crate::texts;
@@ -131,15 +131,15 @@ impl CommandName {
     }
 }
 
-static LOAD: [Argument; 11] = [
-    TAPE, LINE, MORE, RECORD, RECHECK, FAST, START, NO_START, LISTEN, PATIENCE, QUIET,
+static LOAD: [Argument; 12] = [
+    TAPE, LINE, MORE, RECORD, RECHECK, FAST, START, NO_START, LISTEN, PATIENCE, QUIET, LOG,
 ];
 
-static VERIFY: [Argument; 5] = [TAPE, LINE, MORE, PATIENCE, QUIET];
+static VERIFY: [Argument; 6] = [TAPE, LINE, MORE, PATIENCE, QUIET, LOG];
 
-static SAVE: [Argument; 7] = [FILE, LINE, FROM, TO, SAVED_START, PATIENCE, QUIET];
+static SAVE: [Argument; 8] = [FILE, LINE, FROM, TO, SAVED_START, PATIENCE, QUIET, LOG];
 
-static PROBE: [Argument; 4] = [LINE, ADDRESS, PATIENCE, QUIET];
+static PROBE: [Argument; 5] = [LINE, ADDRESS, PATIENCE, QUIET, LOG];
 
 static MAKE: [Argument; 3] = [FILE, OCTAL_WORDS, SAVED_START];
 

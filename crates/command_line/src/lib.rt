@@ -1,8 +1,8 @@
 //! The command line: which words ask for what.
 //!
 //! `known_words` tells the parser of all commands, arguments and options, and what help says of them. `parse` makes of
-//! the words after the program's name a `Request`, as its contract says, or says why they ask for nothing: help was
-//! asked for, or they are refused, by the text that is to be shown. `explain` shows that; `words_of` has the words
+//! the words after the program's name what is `Wanted`, a `Request`, as its contract says, or says why they ask for nothing:
+//! help was asked for, or they are refused, by the text that is to be shown. `explain` shows that; `words_of` has the words
 //! that the process was started with. No other crate stands over `clap`. Used by `ldaodt`.
 #![tactic(auto)]
 
@@ -18,8 +18,10 @@ mod refusals;
 mod shown_words;
 mod texts;
 mod values;
+mod wanted;
 
 pub use explaining::explain;
 pub use no_request::NoRequest;
 pub use parsing::parse;
 pub use process_words::words_of;
+pub use wanted::Wanted;

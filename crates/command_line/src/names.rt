@@ -59,3 +59,6 @@ pub const PATIENCE: &str = "patience";
 
 /// How long a silence means that nothing more is coming.
 pub const QUIET: &str = "quiet";
+
+/// Whether the run has a line in a log.
+pub const LOG: &str = "log";

@@ -1,18 +1,20 @@
 //! Words become a request, as the plain values say where one is not given.
-ghost use Rattle.std.specs.Prelude.{◌≡◌, [], IfOk};
+ghost use Rattle.std.specs.Prelude.{◌≡◌, ◌×◌, [], IfOk, false};
 ghost use Rattle.clap.specs.Matches.{found_of};
-ghost use Rattle.command_line.specs.Options.{SaysLoad, IsAskedBy, IsFound, IsLookOf, IsMachineRequestOf, IsMakeOf, IsTapeRequestOf};
+ghost use Rattle.command_line.specs.Options.{SaysLoad, IsLookOf, IsMachineRequestOf, IsMakeOf, IsRequestOf, IsTapeRequestOf};
+ghost use Rattle.command_line.specs.Wanted.{IsAskedBy, IsFound, IsLogOf, unlogged};
 
 use crate::addresses::{probed_of, range_of, saved_start_of, start_of};
 use crate::commands::known_words;
 use crate::names::{
-    BLOCKS, FAST, FILE, LISTEN, OCTAL_WORDS, PATIENCE, QUIET, RECHECK, RECORD, SCRIPT, TAPE,
+    BLOCKS, FAST, FILE, LISTEN, LOG, OCTAL_WORDS, PATIENCE, QUIET, RECHECK, RECORD, SCRIPT, TAPE,
 };
 use crate::no_request::NoRequest;
 use crate::shown_words::{have_control, shown_words};
 use crate::values::{
     console_of, further_tapes_of, line_of, number_given, number_of, tapes_of, text_of,
 };
+use crate::wanted::{Wanted, unlogged};
 use clap::ArgMatches;
 use host_core::PLAIN_PATIENCE;
 use request_values::{
@@ -28,12 +30,12 @@ const INPUT: &str = "-";
 const PLAIN_QUIET: u16 = 2000;
 
 /// Reads the words after the program's name. Without any the tape on standard input is to be checked.
-pub fn parse<'a>(alloc: Global, words: &'a [String]) -> Result<Request<'a>, NoRequest>
-    ensures none { words.now ≡ [] → result ≡ Ok (Request.Tape TapeRequest.CheckInput) }
+pub fn parse<'a>(alloc: Global, words: &'a [String]) -> Result<Wanted<'a>, NoRequest>
+    ensures none { words.now ≡ [] → result ≡ Ok (unlogged (Request.Tape TapeRequest.CheckInput)) }
     ensures some { IfOk result (IsAskedBy (words.now ≡ [])) }
 {
     let Some(first) = words.first() else {
-        return Ok(Request::Tape(TapeRequest::CheckInput));
+        return Ok(unlogged(Request::Tape(TapeRequest::CheckInput)));
     };
     match read(alloc, first, words) {
         Err(NoRequest::Refused(text)) => Err(shown_refusal(alloc, words, text)),
@@ -59,7 +61,7 @@ fn refusal_of(alloc: Global, words: &[String]) -> Option<NoRequest> {
 }
 
 // What words ask for, of which this is the first.
-fn read<'a>(alloc: Global, first: &str, words: &'a [String]) -> Result<Request<'a>, NoRequest>
+fn read<'a>(alloc: Global, first: &str, words: &'a [String]) -> Result<Wanted<'a>, NoRequest>
     ensures { IfOk result IsFound }
 {
     match known_words(alloc)?.try_get_matches_from(words) {
@@ -69,19 +71,44 @@ fn read<'a>(alloc: Global, first: &str, words: &'a [String]) -> Result<Request<'
 }
 
 // What the parsed words ask for, where there were any.
-fn request_of<'a>(alloc: Global, matches: &ArgMatches<'a>) -> Result<Request<'a>, NoRequest>
+fn request_of<'a>(alloc: Global, matches: &ArgMatches<'a>) -> Result<Wanted<'a>, NoRequest>
     ensures { IfOk result IsFound }
 {
     match matches.subcommand() {
-        Some(("load", found)) => Ok(Request::Machine(loading_of(alloc, found)?)),
-        Some(("verify", found)) => Ok(Request::Machine(verifying_of(alloc, found)?)),
-        Some(("save", found)) => Ok(Request::Machine(saving_of(alloc, found)?)),
-        Some(("probe", found)) => Ok(Request::Machine(probing_of(alloc, found)?)),
-        Some(("make", found)) => Ok(Request::Make(making_of(alloc, found)?)),
-        Some(("check", found)) => Ok(Request::Tape(checking_of(alloc, found)?)),
-        Some(("dialogue", found)) => Ok(Request::Tape(dialogue_of(alloc, found)?)),
-        Some(("rehearse", found)) => Ok(Request::Tape(rehearsal_of(alloc, found)?)),
-        Some(("type", found)) => Ok(Request::Tape(TapeRequest::Type(console_of(found)?))),
+        Some(("load", found)) => Ok(at_machine(found, loading_of(alloc, found)?)),
+        Some(("verify", found)) => Ok(at_machine(found, verifying_of(alloc, found)?)),
+        Some(("save", found)) => Ok(at_machine(found, saving_of(alloc, found)?)),
+        Some(("probe", found)) => Ok(at_machine(found, probing_of(alloc, found)?)),
+        Some((name, found)) => Ok(unlogged(apart_request_of(alloc, name, found)?)),
+        None => Err(NoRequest::Meaningless),
+    }
+}
+
+// What is wanted of a machine.
+fn at_machine<'a>(found: &ArgMatches<'a>, request: MachineRequest<'a>) -> Wanted<'a>
+    requires { IsMachineRequestOf (found_of found.now) request }
+    ensures { IsFound result }
+{
+    Wanted {
+        request: Request::Machine(request),
+        log: found.get_flag(LOG),
+    }
+}
+
+// What a command that is about no machine asks for.
+fn apart_request_of<'a>(
+    alloc: Global,
+    name: &str,
+    found: &ArgMatches<'a>,
+) -> Result<Request<'a>, NoRequest>
+    ensures { IfOk result (λ request. IsRequestOf (found_of found.now) request × IsLogOf (found_of found.now) request false) }
+{
+    match name {
+        "make" => Ok(Request::Make(making_of(alloc, found)?)),
+        "check" => Ok(Request::Tape(checking_of(alloc, found)?)),
+        "dialogue" => Ok(Request::Tape(dialogue_of(alloc, found)?)),
+        "rehearse" => Ok(Request::Tape(rehearsal_of(alloc, found)?)),
+        "type" => Ok(Request::Tape(TapeRequest::Type(console_of(found)?))),
         _ => Err(NoRequest::Meaningless),
     }
 }

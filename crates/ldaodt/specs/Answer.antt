@@ -1,15 +1,59 @@
 -- What becomes of the words of a command line (this project's own).
-use Rattle.std.specs.Prelude.{◌≡◌, ◌⊎◌}
+use Rattle.std.specs.Prelude.{◌≡◌, ◌⊎◌, Bool, true, false}
 use Rattle.requests.specs.Attempt.{IsAttempted}
-use Rattle.requests.specs.Moment.{Moment}
+use Rattle.requests.specs.Moment.{Moment, moment}
 use Rattle.request_values.specs.declared.request.Request.{Request}
+use Rattle.request_values.specs.declared.request.Request.TheVariants.{Tape, Make, Machine}
+use Rattle.endings.specs.Failure.{IsTold}
+use Rattle.endings.specs.Held.{Held}
+use Rattle.endings.specs.declared.failure.Failure.TheVariants.{Misplaced}
+use Rattle.endings.specs.declared.place.Place.{Place}
 use Rattle.endings.specs.declared.status.Status.{Status}
+use Rattle.endings.specs.declared.status.Status.TheVariants.{BadCommandLine}
 use Rattle.command_line.specs.declared.no_request.NoRequest.{NoRequest}
+use Rattle.command_line.specs.declared.wanted.Wanted.{Wanted}
 use Rattle.command_line.specs.Explanation.{IsExplained}
-use Rattle.command_line.specs.Options.{IsAskedBy}
+use Rattle.command_line.specs.Wanted.{IsAskedBy}
+use Rattle.run_log.specs.LogLine.{IsLogged}
+use Rattle.run_log.specs.Report.{Noted}
 
--- what the words ask for was attempted; or the words were explained, and nothing was asked of the system
+-- nothing was asked of the system, and standard error tells of a name that can't be what its place asks for
+pub record IsMisplaced (before after : Moment) (ended : Status) : Type 0 where
+  pub name : Bor (List ℕ)
+  pub place : Place
+  pub told : IsTold before.held.err after.held.err (Misplaced name place)
+  pub quiet : after ≡ record before { held = record before.held { err = after.held.err } }
+  pub status_is : ended ≡ BadCommandLine
+
+-- a request was attempted, or a name of it is out of place
+abbrev pub IsTried : Request → Moment → Moment → Status → Type 0
+IsTried request before after ended = IsAttempted request before after ended ⊎ IsMisplaced before after ended
+
+-- standard error has the line of a run at a machine that ended so, and nothing else is another than before; of any other run nothing is said
+abbrev pub IsRunLogged : Request → Status → Held → Held → Type 0
+IsRunLogged (Machine request) ended held held' =
+    (held' ≡ record held { err = held'.err }) × ((report : Noted) × IsLogged (record { request = request; status = ended; report = report }) held.err held'.err)
+IsRunLogged (Tape request) ended held held' = held' ≡ held
+IsRunLogged (Make request) ended held held' = held' ≡ held
+
+-- the same, where it is wanted
+abbrev pub is_logged_if : Bool → Request → Status → Held → Held → Type 0
+is_logged_if true request ended held held' = IsRunLogged request ended held held'
+is_logged_if false request ended held held' = held' ≡ held
+
+abbrev pub IsLoggedIf : Wanted → Status → Held → Held → Type 0
+IsLoggedIf wanted ended held held' = is_logged_if wanted.log wanted.request ended held held'
+
+-- what the words ask for was tried; then the run may have had its line in a log
+pub record IsDone (no_words : Type 0) (before after : Moment) (ended : Status) : Type 0 where
+  pub wanted : Wanted
+  pub asked : IsAskedBy no_words wanted
+  pub between : Held
+  pub tried : IsTried wanted.request before (record { asked = after.asked; held = between }) ended
+  pub logged : IsLoggedIf wanted ended between after.held
+
+-- what the words ask for was tried; or the words were explained, and nothing was asked of the system
 abbrev pub IsAnswered : Type 0 → Moment → Moment → Status → Type 0
 IsAnswered no_words before after ended =
-    ((request : Request) × IsAskedBy no_words request × IsAttempted request before after ended)
+    IsDone no_words before after ended
     ⊎ ((answer : NoRequest) × IsExplained answer before.held after.held ended × (after.asked ≡ before.asked))

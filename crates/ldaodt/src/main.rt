@@ -5,10 +5,10 @@
 mod misplaced;
 mod program;
 
-use command_line::{parse, words_of};
-use endings::{Failure, PipedOutput, Streams, tell};
+use command_line::words_of;
+use endings::{PipedOutput, Streams, tell};
 use requests::WatchedSystem;
-use std::alloc::Global;
+use run_log::NotedOutput;
 use std::fs;
 use std::fs::File;
 use std::io::{Eprint, IsTerminal};
@@ -24,7 +24,7 @@ fn main(rt: HostRuntime) -> ExitCode {
     let is_typed = input.is_terminal();
     let mut streams = Streams {
         input: WatchedFile::new(input, &witness),
-        out: PipedOutput::new(rt.stdout()),
+        out: NotedOutput::new(PipedOutput::new(rt.stdout())),
         err: rt.stderr(),
     };
     let words = match words_of(&rt) {
@@ -34,20 +34,11 @@ fn main(rt: HostRuntime) -> ExitCode {
     if words.is_empty() && is_typed {
         say_what_is_read(&rt);
     }
-    if let Some(failure) = misplaced_in(&rt, alloc, &words) {
-        return ExitCode::from(tell(alloc, failure, &mut streams.err).code());
-    }
     let screen = rt.stderr();
     let terminal = screen.is_terminal().then_some(&screen);
     let system = WatchedSystem::watching(&rt, &witness);
-    let (_, code) = program::program(system, alloc, &words, &mut streams, terminal, &witness);
+    let (_, code) = program::program(&rt, system, alloc, &words, &mut streams, terminal, &witness);
     ExitCode::from(code)
-}
-
-// The first name among the words that can't be what its place asks for, where the words ask for something.
-fn misplaced_in<'a>(rt: &HostRuntime, alloc: Global, words: &'a [String]) -> Option<Failure<'a>> {
-    let request = parse(alloc, words).ok()?;
-    misplaced::misplaced(rt, &request)
 }
 
 // Says to whoever typed the program's name alone what it waits for. What can't be said is not told.

@@ -1,5 +1,9 @@
 //! Names that stand in each other's places on the command line, as a tape where the line belongs: what a device
 //! sends would be waited for, and nobody told.
+ghost use Rattle.std.specs.Prelude.{◌≡◌, None, IfSome};
+ghost use Rattle.request_values.specs.declared.request.Request.{Request};
+ghost use Rattle.request_values.specs.declared.request.TapeRequest.{TapeRequest};
+ghost use Rattle.ldaodt.specs.Misplaced.{IsOfPlace};
 
 use console_lines::is_path;
 use endings::{Failure, Place};
@@ -14,7 +18,10 @@ use std::os::unix::fs::FileTypeExt;
 ///
 /// What is not there, or can't be opened, is left to whoever opens it; so is a line that is a character device,
 /// which to open twice may do something.
-pub(crate) fn misplaced<'a>(rt: &HostRuntime, request: &Request<'a>) -> Option<Failure<'a>> {
+pub(crate) fn misplaced<'a>(rt: &HostRuntime, request: &Request<'a>) -> Option<Failure<'a>>
+    ensures misplaced { IfSome result IsOfPlace }
+    ensures checked { request.now ≡ Request.Tape TapeRequest.CheckInput → result ≡ None }
+{
     if let Some((line, place)) = line_of(request)
         && is_no_device(rt, line)
     {
@@ -39,7 +46,9 @@ pub(crate) fn misplaced<'a>(rt: &HostRuntime, request: &Request<'a>) -> Option<F
 }
 
 // The line of a request at a real machine, and whose it is.
-fn line_of<'a>(request: &Request<'a>) -> Option<(&'a str, Place)> {
+fn line_of<'a>(request: &Request<'a>) -> Option<(&'a str, Place)>
+    ensures { request.now ≡ Request.Tape TapeRequest.CheckInput → result ≡ None }
+{
     match request {
         Request::Machine(MachineRequest::Load(_, load)) => Some((load.line, Place::LineOfLoad)),
         Request::Machine(MachineRequest::Verify(_, look)) => Some((look.line, Place::LineOfVerify)),
@@ -64,7 +73,9 @@ fn is_no_device(rt: &HostRuntime, line: &str) -> bool {
 }
 
 // The first of some tapes that is a terminal. Standard input may be one.
-fn terminal_among<'a>(rt: &HostRuntime, tapes: &[&'a str]) -> Option<Failure<'a>> {
+fn terminal_among<'a>(rt: &HostRuntime, tapes: &[&'a str]) -> Option<Failure<'a>>
+    ensures { IfSome result IsOfPlace }
+{
     if is_input(tapes) {
         return None;
     }
@@ -77,7 +88,9 @@ fn terminal_among<'a>(rt: &HostRuntime, tapes: &[&'a str]) -> Option<Failure<'a>
 }
 
 // That octal words have a terminal's name. Standard input may be one.
-fn terminal_as_words<'a>(rt: &HostRuntime, words: &'a str) -> Option<Failure<'a>> {
+fn terminal_as_words<'a>(rt: &HostRuntime, words: &'a str) -> Option<Failure<'a>>
+    ensures { IfSome result IsOfPlace }
+{
     if is_input(&[words]) {
         return None;
     }
@@ -85,7 +98,9 @@ fn terminal_as_words<'a>(rt: &HostRuntime, words: &'a str) -> Option<Failure<'a>
 }
 
 // That a name is a terminal, where it is one. Only a character device is opened: to open a pipe does something.
-fn terminal<'a>(rt: &HostRuntime, name: &'a str, place: Place) -> Option<Failure<'a>> {
+fn terminal<'a>(rt: &HostRuntime, name: &'a str, place: Place) -> Option<Failure<'a>>
+    ensures { IfSome result IsOfPlace }
+{
     let metadata = fs::metadata(rt, name).ok()?;
     if !metadata.file_type().is_char_device() {
         return None;

@@ -7,11 +7,14 @@ ghost use Rattle.endings.specs.declared.status.Status.{Status};
 ghost use Rattle.endings.specs.Status.{status_code};
 ghost use Rattle.requests.specs.Moment.{moment};
 ghost use Rattle.requests.specs.Attempt.{IsAttempted};
-ghost use Rattle.ldaodt.specs.Answer.{IsAnswered};
+ghost use Rattle.ldaodt.specs.Answer.{IsAnswered, IsLoggedIf, IsTried};
 
-use command_line::{explain, parse};
-use endings::{FaultOutput, Output, Streams};
+use crate::misplaced::misplaced;
+use command_line::{Wanted, explain, parse};
+use endings::{FaultOutput, Output, Status, Streams, tell};
+use request_values::Request;
 use requests::{Kinds, System, attempt};
+use run_log::{NotedOutput, Run, log_run};
 use std::alloc::Global;
 use std::io::{Print, Read};
 use witness::Witness;
@@ -22,12 +25,13 @@ use witness::Witness;
 /// Reports and help go to standard output, which is flushed; refused command lines and faults go to
 /// standard error, a fault as one line, and behind it the system's reason, as the witness has it. What can't be written
 /// there is not told, nor that nobody reads any more what only prints. A load shows on the terminal, where there is
-/// one, how far it is.
+/// one, how far it is. A run at a machine has the line of a log behind all else, where the words ask for one.
 pub(crate) fn program<K: Kinds, R: Read, W: Output, E: FaultOutput, T: Print>(
+    rt: &HostRuntime,
     system: System<K>,
     alloc: Global,
     words: &[String],
-    streams: &mut Streams<R, W, E>,
+    streams: &mut Streams<R, NotedOutput<W>, E>,
     terminal: Option<&T>,
     witness: &Witness,
 ) -> (System<K>, u8)
@@ -36,18 +40,72 @@ pub(crate) fn program<K: Kinds, R: Read, W: Output, E: FaultOutput, T: Print>(
     ensures checked { words.now ≡ [] → (status : Status)
         × IsAttempted (Request.Tape TapeRequest.CheckInput) (moment system streams.old) (moment result.0 streams.new) status
         × (result.1 ≡ status_code status) }
-    // Whatever the words are, what they ask for is attempted, or they are explained.
+    // Whatever the words are, what they ask for is tried, and told to a log where that is wanted, or they are explained.
     ensures answered { (status : Status)
         × IsAnswered (words.now ≡ []) (moment system streams.old) (moment result.0 streams.new) status × (result.1 ≡ status_code status) }
 {
     match parse(alloc, words) {
-        Ok(request) => {
-            let (system, status) = attempt(system, alloc, &request, streams, terminal, witness);
+        Ok(wanted) => {
+            let (system, status) = try_request(
+                rt,
+                system,
+                alloc,
+                &wanted.request,
+                streams,
+                terminal,
+                witness,
+            );
+            log_if_wanted(alloc, &system, &wanted, status, streams);
             (system, status.code())
         }
         Err(answer) => {
             let status = explain(alloc, answer, streams);
             (system, status.code())
         }
+    }
+}
+
+// Does a request in a system, which comes back, unless a name of it can't be what its place asks for, and answers the
+// status.
+fn try_request<K: Kinds, R: Read, W: Output, E: FaultOutput, T: Print>(
+    rt: &HostRuntime,
+    system: System<K>,
+    alloc: Global,
+    request: &Request<'_>,
+    streams: &mut Streams<R, NotedOutput<W>, E>,
+    terminal: Option<&T>,
+    witness: &Witness,
+) -> (System<K>, Status)
+    requires { FitsInMemory R.row }
+    ensures tried { IsTried request.now (moment system streams.old) (moment result.0 streams.new) result.1 }
+    ensures checked { request.now ≡ Request.Tape TapeRequest.CheckInput → IsAttempted request.now (moment system streams.old) (moment result.0 streams.new) result.1 }
+{
+    match misplaced(rt, request) {
+        Some(failure) => (system, tell(alloc, failure, &mut streams.err)),
+        None => attempt(system, alloc, request, streams, terminal, witness),
+    }
+}
+
+// Says the line of a run that ended with this status, where one at a machine is to be in a log.
+fn log_if_wanted<K: Kinds, R: Read, W: Output, E: FaultOutput>(
+    alloc: Global,
+    system: &System<K>,
+    wanted: &Wanted<'_>,
+    status: Status,
+    streams: &mut Streams<R, NotedOutput<W>, E>,
+)
+    ensures { IsLoggedIf wanted.now status streams.old streams.new }
+{
+    if !wanted.log {
+        return;
+    }
+    if let Request::Machine(request) = &wanted.request {
+        let report = streams.out.notes();
+        let run = Run {
+            request,
+            status,
+            report,
+        };
+        log_run(alloc, &system.clock, &run, &mut streams.err);
     }
 }

@@ -1,5 +1,5 @@
 //! Words become a request, as the plain values say where one is not given.
-ghost use Rattle.std.specs.Prelude.{◌≡◌, ◌×◌, [], IfOk, false};
+ghost use Rattle.std.specs.Prelude.{◌≡◌, [], IfOk, false};
 ghost use Rattle.clap.specs.Matches.{found_of};
 ghost use Rattle.command_line.specs.Options.{SaysLoad, IsLookOf, IsMachineRequestOf, IsMakeOf, IsRequestOf, IsTapeRequestOf};
 ghost use Rattle.command_line.specs.Wanted.{IsAskedBy, IsFound, IsLogOf, unlogged};

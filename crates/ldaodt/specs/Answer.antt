@@ -1,7 +1,8 @@
 -- What becomes of the words of a command line (this project's own).
-use Rattle.std.specs.Prelude.{◌≡◌, ◌⊎◌, Bool, true, false}
+use Rattle.std.specs.Prelude.{◌≡◌, ◌⊎◌, ℕ, Bool, true, false, List}
+use Rattle.std.specs.Borrow.{Bor}
 use Rattle.requests.specs.Attempt.{IsAttempted}
-use Rattle.requests.specs.Moment.{Moment, moment}
+use Rattle.requests.specs.Moment.{Moment}
 use Rattle.request_values.specs.declared.request.Request.{Request}
 use Rattle.request_values.specs.declared.request.Request.TheVariants.{Tape, Make, Machine}
 use Rattle.endings.specs.Failure.{IsTold}

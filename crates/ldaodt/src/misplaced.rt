@@ -29,10 +29,7 @@ pub(crate) fn misplaced<'a>(rt: &HostRuntime, request: &Request<'a>) -> Option<F
     }
     match request {
         Request::Machine(MachineRequest::Load(tapes, load)) => {
-            terminal_among(rt, tapes).or(
-                load.record
-                    .and_then(|name| terminal(rt, name, Place::Record)),
-            )
+            terminal_among(rt, tapes).or(terminal_as_record(rt, load.record))
         }
         Request::Machine(MachineRequest::Verify(tapes, _))
         | Request::Tape(TapeRequest::Check(tapes, _))
@@ -95,6 +92,16 @@ fn terminal_as_words<'a>(rt: &HostRuntime, words: &'a str) -> Option<Failure<'a>
         return None;
     }
     terminal(rt, words, Place::Words)
+}
+
+// That a record, where there is to be one, has a terminal's name.
+fn terminal_as_record<'a>(rt: &HostRuntime, record: Option<&'a str>) -> Option<Failure<'a>>
+    ensures { IfSome result IsOfPlace }
+{
+    match record {
+        Some(name) => terminal(rt, name, Place::Record),
+        None => None,
+    }
 }
 
 // That a name is a terminal, where it is one. Only a character device is opened: to open a pipe does something.

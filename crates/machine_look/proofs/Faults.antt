@@ -1,5 +1,5 @@
 -- Looks that come to nothing.
-use Rattle.std.proofs.Common.{◌≡◌, ◌<◌, ℕ, true, false, eqb, List, [], ◌∷◌, ◌++◌, length, Result, Ok, Err, IfErr, IfOk, IsErrAnd, refl, arith, sym, subst, inl, inr, OnErr, OnOk}
+use Rattle.std.proofs.Common.{◌≡◌, ◌<◌, ℕ, true, false, eqb, List, [], ◌∷◌, ◌++◌, length, Result, Ok, Err, IfOk, IsErrAnd, refl, arith, sym, subst, inl, inr, OnOk}
 use Rattle.std.proofs.lemmas.Bool.{eqb-true}
 use Rattle.std.specs.Io.KnownBytes.{Keeps}
 use Rattle.load_devices.specs.Turns.{most_turns}

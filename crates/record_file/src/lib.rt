@@ -7,7 +7,7 @@
 //! what was asked of it (`Disk`), the contracts say that, step by step. Every system that `Locks` is such a
 //! one, and tells nothing.
 //!
-//! The crate `machine_load` uses it, and `machine_look` its `Disk`; its tests stand in `load_tests` and
+//! The crate `machine_load` uses it, and `tape_shelf` its `Disk`; its tests stand in `load_tests` and
 //! `record_tests`.
 #![tactic(auto)]
 

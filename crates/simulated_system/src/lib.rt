@@ -2,7 +2,7 @@
 //!
 //! A `System` has real files and a simulated console, behind one address and at one device; what is asked of its files
 //! can be noted, and steps of that can be made to fail. A `ToldDisk` has real files and tells what it was asked: it is
-//! the witness that what `record_file` and `machine_look` promise of a disk that tells can be met. A broken input or
+//! the witness that what `record_file` and `tape_shelf` promise of a disk that tells can be met. A broken input or
 //! output fails once and would then go on. Beside them stand the tapes that the tests load. The tests of records, of
 //! loads and of commands use it; the program does not.
 #![tactic(auto)]

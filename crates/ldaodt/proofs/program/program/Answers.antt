@@ -14,8 +14,19 @@ use Rattle.ldaodt.proofs.program.program.Goals as goal
 unlogged_check : (wanted : Wanted) (ended : Status) (held held' : Held) → wanted ≡ unlogged (Tape CheckInput) → IsLoggedIf wanted ended held held' → held' ≡ held
 unlogged_check wanted ended held held' is logged = subst (λ w. IsLoggedIf w ended held held') is logged
 
+-- the request of no words
+checks_input : (wanted : Wanted) → wanted ≡ unlogged (Tape CheckInput) → wanted.request ≡ Tape CheckInput
+checks_input wanted is = ap (λ w. w.request) is
+
 pub returns-in-Ok-clause-checked : goal.returns-in-Ok-clause-checked
-returns-in-Ok-clause-checked g c no_words = ?
+returns-in-Ok-clause-checked g c no_words =
+    let wanted = c.in-Ok.wanted in
+    let status = c.try_request-system.result.1 in
+    let is : wanted ≡ unlogged (Tape CheckInput) = cc (c.in-Ok.ensures.none no_words) in (
+      status,
+      rw (unlogged_check wanted status _ _ is c.log_if_wanted.ensures, sym (checks_input wanted is)) (c.try_request-system.ensures.checked (checks_input wanted is)),
+      c.code.ensures,
+    )
 
 pub returns-in-Ok-clause-answered : goal.returns-in-Ok-clause-answered
 returns-in-Ok-clause-answered g c = (
@@ -23,7 +34,7 @@ returns-in-Ok-clause-answered g c = (
   inl (record {
     wanted = c.in-Ok.wanted;
     asked = c.in-Ok.ensures.some;
-    between = ?;
+    between = _;
     tried = c.try_request-system.ensures.tried;
     logged = c.log_if_wanted.ensures;
   }),

@@ -157,6 +157,12 @@ class BabblingPeer(odt_peer.Peer):
         return super().talk(receive, send)
 
 
+def heed_signals():
+    """In a process that begins: it heeds what a gate in the background, or one that outlives its terminal, does not."""
+    for number in (signal.SIGINT, signal.SIGHUP):
+        signal.signal(number, signal.SIG_DFL)
+
+
 def pace(words):
     """The two lines of a probe's pace, without what varies in them."""
     return f"a key and a load of {words} words"
@@ -244,10 +250,9 @@ class Case(unittest.TestCase):
         return run(words, keys, cwd=self.room, seconds=300, **more)
 
     def begin(self, words):
-        """Begins a run of the program in the test's folder, which the test then meets on its way, and which ends with it. It heeds
-        Ctrl-C, which a gate in the background does not."""
+        """Begins a run of the program in the test's folder, which the test then meets on its way, and which ends with it."""
         process = subprocess.Popen([PROGRAM, *words], cwd=self.room, stdin=subprocess.DEVNULL, stdout=subprocess.PIPE, stderr=subprocess.PIPE, text=True,
-                                   preexec_fn=lambda: signal.signal(signal.SIGINT, signal.SIG_DFL))
+                                   preexec_fn=heed_signals)
         self.addCleanup(self.let_go, process)
         return process
 

@@ -33,3 +33,11 @@ mod scarce_calls;
 mod scarce_loads;
 #[cfg(test)]
 mod scarce_requests;
+#[cfg(test)]
+mod told_consoles;
+#[cfg(test)]
+mod told_inputs;
+#[cfg(test)]
+mod told_requests;
+#[cfg(test)]
+mod told_system;

@@ -9,7 +9,6 @@
 //! They stand in a crate of their own, since a crate with tests is proved twice.
 #![tactic(auto)]
 
-mod asked;
 #[cfg(test)]
 mod brittle_writer;
 #[cfg(test)]

@@ -2,12 +2,13 @@
 ghost use Rattle.std.specs.Prelude.{◌≡◌, [], ◌∷◌, ◌++◌, Some};
 ghost use Rattle.std.specs.String.{string_bytes};
 ghost use Rattle.console_lines.specs.Path.{call_to};
-ghost use Rattle.device_tests.specs.ToldOutlets.{asked_by, asked_till, request};
+ghost use Rattle.device_tests.specs.ToldOutlets.{asked_till};
+ghost use Rattle.simulated_system.specs.LineRequests.{asked_by, request};
 
-use crate::asked::Asked;
 use crate::terminals::{Bench, PATH, Pace, Scripted};
 use console_lines::{Consoles, Device, Devices, Outlets, SystemConsoles};
 use load_devices::LineFault;
+use simulated_system::LineRequest;
 use std::alloc::Global;
 use std::io;
 use std::io::ErrorKind;
@@ -22,7 +23,7 @@ pub(crate) struct ToldOutlets<'a, R: Abort> {
     rt: &'a R,
     alloc: Global,
     bench: &'a Bench,
-    asked: Vec<Asked>,
+    asked: Vec<LineRequest>,
 }
 
 impl<'a, R: Abort> ToldOutlets<'a, R> {
@@ -46,7 +47,7 @@ impl<'a, R: Abort> ToldOutlets<'a, R> {
     }
 
     // Puts what was asked behind the list.
-    fn tell(&mut self, asked: Asked)
+    fn tell(&mut self, asked: LineRequest)
         ensures { asked_by self.new.asked.items ≡ asked_by self.old.asked.items ++ request asked ∷ [] }
     {
         self.asked.push(asked).expect(self.rt, "no memory");
@@ -62,18 +63,18 @@ impl<'a, R: Abort> Outlets for ToldOutlets<'a, R> {
 
     fn dial(&mut self, address: &str) -> io::Result<TcpStream> {
         let name = self.copy(address);
-        self.tell(Asked::Dialled(name));
+        self.tell(LineRequest::Dialled(name));
         Err(io::Error::from(ErrorKind::ConnectionRefused))
     }
 
     fn limit(&mut self, _stream: &TcpStream, quiet_ms: u32) -> io::Result<()> {
-        self.tell(Asked::Limited(quiet_ms));
+        self.tell(LineRequest::Limited(quiet_ms));
         Ok(())
     }
 
     fn open_device(&mut self, path: &str) -> io::Result<Scripted<'a>> {
         let name = self.copy(path);
-        self.tell(Asked::Opened(name));
+        self.tell(LineRequest::Opened(name));
         self.bench.open_terminal(path)
     }
 
@@ -83,7 +84,7 @@ impl<'a, R: Abort> Outlets for ToldOutlets<'a, R> {
         clock: &'b C,
         quiet_ms: u32,
     ) -> Device<'b, Scripted<'a>, C> {
-        self.tell(Asked::Limited(quiet_ms));
+        self.tell(LineRequest::Limited(quiet_ms));
         Device::new(terminal, clock, quiet_ms)
     }
 }
@@ -120,18 +121,18 @@ const ROWS: [(&str, u32, Option<LineFault>, bool, &[u32]); 4] = [
 ];
 
 // Whether what was asked first is the console of this name.
-fn is_named(asked: &Asked, name: &str, is_device: bool) -> bool {
+fn is_named(asked: &LineRequest, name: &str, is_device: bool) -> bool {
     match asked {
-        Asked::Dialled(dialled) => !is_device && dialled.as_str() == name,
-        Asked::Opened(opened) => is_device && opened.as_str() == name,
-        Asked::Limited(_) => false,
+        LineRequest::Dialled(dialled) => !is_device && dialled.as_str() == name,
+        LineRequest::Opened(opened) => is_device && opened.as_str() == name,
+        LineRequest::Limited(_) => false,
     }
 }
 
 // Whether each request sets the time limit of its place.
-fn set_limits(requests: &[Asked], limits: &[u32]) -> bool {
+fn set_limits(requests: &[LineRequest], limits: &[u32]) -> bool {
     for (limit, request) in limits.iter().zip(requests) {
-        if *request != Asked::Limited(*limit) {
+        if *request != LineRequest::Limited(*limit) {
             return false;
         }
     }

@@ -1,1 +1,3 @@
+pub mod LineRequests
+pub mod ToldOpenings
 pub mod ToldSteps

@@ -9,15 +9,18 @@
 
 mod failing_devices;
 mod files;
+mod line_request;
 mod notes;
 mod system;
 mod tapes;
 mod told_disk;
 mod told_file;
+mod told_opening;
 mod told_step;
 
 pub use failing_devices::{BrokenInput, BrokenOutput, NOWHERE, UnflushedOutput};
 pub use files::{opened, remove};
+pub use line_request::LineRequest;
 pub use notes::{Failing, Notes, Step};
 pub use system::{AMPLE, Console, DEVICE, QUIET_MS, Setting, System};
 pub use tapes::{
@@ -26,4 +29,5 @@ pub use tapes::{
 };
 pub use told_disk::{FailingSteps, ToldDisk};
 pub use told_file::ToldFile;
+pub use told_opening::ToldOpening;
 pub use told_step::{ToldRequest, ToldStep};

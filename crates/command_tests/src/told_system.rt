@@ -1,0 +1,104 @@
+//! A system of which each part tells what is asked of it, and what `attempt` promises of one that does.
+ghost use Rattle.std.specs.Prelude.{◌≡◌, ℕ, List, []};
+ghost use Rattle.requests.specs.Asked.{asked_of};
+ghost use Rattle.requests.specs.Attempt.{IsAttempted};
+ghost use Rattle.requests.specs.Moment.{moment};
+ghost use Rattle.simulated_system.specs.ToldSteps.{steps_of};
+ghost use Rattle.command_tests.specs.ToldSystem.{asked_told, held_told};
+
+use crate::attempts::{Ended, NOBODY};
+use crate::told_consoles::ToldConsoles;
+use crate::told_inputs::ToldInputs;
+use endings::Streams;
+use request_values::Request;
+use requests::{Kinds, System, attempt};
+use simulated_system::ToldDisk;
+use std::alloc::Global;
+use std::process::Abort;
+use std::rt::Files;
+use std::time::Clock;
+use witness::Witness;
+
+/// The kinds of its parts.
+pub(crate) struct Telling<'a, R: Abort + Files + Clock> {
+    rt: &'a R,
+}
+
+impl<'a, R: Abort + Files + Clock> Kinds for Telling<'a, R> {
+    type Inputs = ToldInputs<'a, R>;
+
+    type Disk = ToldDisk<'a>;
+
+    type Consoles = ToldConsoles<'a, R>;
+
+    type Clock = &'a R;
+}
+
+/// Its parts.
+#[derive(Drop)]
+pub(crate) struct ToldSystem<'a, R: Abort + Files> {
+    pub(crate) inputs: ToldInputs<'a, R>,
+    pub(crate) disk: ToldDisk<'a>,
+    pub(crate) consoles: ToldConsoles<'a, R>,
+}
+
+/// Does a request in it, with this input. What `attempt` promises of a system that tells is so of this one.
+pub(crate) fn attempt_told<'a, R: Abort + Files + Clock>(
+    rt: &'a R,
+    alloc: Global,
+    system: ToldSystem<'a, R>,
+    request: &Request<'_>,
+    input: &[u8],
+) -> (ToldSystem<'a, R>, Ended)
+    ensures { (rest : List ℕ) × IsAttempted request.now
+        (moment (asked_told system.entry.inputs.opened.items (steps_of system.entry.disk.asked)
+        system.entry.consoles.asked.items system.entry.consoles.given_back.items) (held_told input.now [] []))
+        (moment (asked_told result.0.inputs.opened.items (steps_of result.0.disk.asked)
+        result.0.consoles.asked.items result.0.consoles.given_back.items) (held_told rest result.1.out.items result.1.err.items))
+        result.1.status }
+{
+    let ToldSystem {
+        inputs,
+        disk,
+        consoles,
+    } = system;
+    let system: System<Telling<'a, R>> = System::new(inputs, disk, consoles, rt);
+    let mut streams = Streams {
+        input,
+        out: Vec::new(alloc),
+        err: Vec::new(alloc),
+    };
+    let (system, status) = attempt(
+        system,
+        alloc,
+        request,
+        &mut streams,
+        NOBODY,
+        &Witness::new(),
+    );
+    let ended = Ended {
+        status,
+        out: streams.out,
+        err: streams.err,
+    };
+    let (inputs, disk, consoles) = parts_of(system);
+    let system = ToldSystem {
+        inputs,
+        disk,
+        consoles,
+    };
+    (system, ended)
+}
+
+// The parts of a system that tell.
+fn parts_of<K: Kinds>(system: System<K>) -> (K::Inputs, K::Disk, K::Consoles)
+    ensures { system ≡ asked_of (K.Inputs.opened result.0) (K.Disk.asked result.1) (K.Consoles.asked result.2) (K.Consoles.lines result.2) }
+{
+    let System {
+        inputs,
+        disk,
+        consoles,
+        ..
+    } = system;
+    (inputs, disk, consoles)
+}

@@ -1,0 +1,11 @@
+//! What was asked of files that are opened to be read.
+
+/// That a file was opened by its name, or was not.
+#[derive(PartialEq, Drop)]
+pub enum ToldOpening {
+    /// It was.
+    Opened(String),
+
+    /// It was to be.
+    NotOpened(String),
+}

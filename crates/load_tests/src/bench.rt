@@ -28,7 +28,7 @@ pub(crate) struct Bench {
     console: MemoryReach,
 
     /// The record, with the keeper that has written it.
-    keeper: FileKeep<DiskText>,
+    pub(crate) keeper: FileKeep<DiskText>,
 }
 
 impl Bench {

@@ -1,5 +1,5 @@
 -- Lives that are over before they have begun.
-use Rattle.std.proofs.Common.{◌≡◌, ◌⊎◌, ℕ, Bool, true, false, ◌==◌, ◌&&◌, if◌then◌else◌, List, Option, Some, None, IsSome, option_map, length, refl, sym, subst, ap, ◌∙◌, inl, inr}
+use Rattle.std.proofs.Common.{◌≡◌, ◌⊎◌, ℕ, Bool, true, false, ◌==◌, ◌&&◌, if◌then◌else◌, List, Option, Some, None, length, sym, subst, ap, ◌∙◌, inl, inr}
 use Rattle.std.specs.Option.{is_none}
 use Rattle.tape_image.specs.Plan.{PlanValue}
 use Rattle.host_core.specs.declared.phase.End.{End}
@@ -7,14 +7,9 @@ use Rattle.host_core.specs.declared.phase.End.TheVariants.{Loaded, MaybeStarted}
 use Rattle.host_core.specs.declared.phase.Phase.TheVariants.{Settle, Ended as HasEnded}
 use Rattle.host_core.specs.Core.{Core, ended}
 use Rattle.load_engine.specs.declared.stop.Stop.TheVariants.{Ended}
-use Rattle.load_devices.specs.Devices.{LineTold}
-use Rattle.machine_load.specs.Asked.{Change, Opened}
-use Rattle.machine_load.specs.Driving.{KeeperTells, IsDrivenOn}
 use Rattle.machine_load.specs.declared.load_end.LoadEnd.{LoadEnd}
 use Rattle.machine_load.specs.declared.load_end.LoadEnd.TheVariants.{Driven}
-use Rattle.machine_load.specs.declared.looks.Looks.{Looks}
-use Rattle.machine_load.specs.declared.stubs.Stubs.{Stubs}
-use Rattle.machine_load.specs.Load.{SurroundingsTold, finish_of, IsLived, IsOpening, IsOverAtOnce, IsNeverBegun, words_taken}
+use Rattle.machine_load.specs.Load.{IsOpening, IsOverAtOnce, IsNeverBegun, words_taken}
 use Rattle.request_values.specs.declared.options.LoadOptions.{LoadOptions}
 
 abbrev end_of : (otherwise : End) → Option End → End
@@ -35,16 +30,3 @@ pub never_begun : (told : Option (List ℕ)) (plan : PlanValue) (options : LoadO
 never_begun told plan options core last ended_so opening over =
     ends_so ended_so over.end over.end_is
     (first_end opening.said.going ((words_taken options.recheck opening.said == length plan.words) && is_none plan.start) over.end (subst (λ (c : Core). ended c.phase ≡ Some over.end) opening.core_is over.over))
-
--- there is a line, or what follows from there being none
-pub line_or_never : {L A B : Type 0} (line : Option L) → (A → B) → (IsSome line ⊎ A) → (IsSome line ⊎ B)
-line_or_never line so (inl is) = inl is
-line_or_never line so (inr over) = inr (so over)
-
--- a life has a line, or it was over at once
-pub line_or_over : {K L : Type 0} (tells : KeeperTells K) (told_of : L → LineTold) (life : Opened) (around : Change SurroundingsTold) (looks : Option Looks) (stubs : Option Stubs) (core : Core) (end : LoadEnd) (line : Option L)
-    → IsLived (IsDrivenOn tells) life around (finish_of looks stubs core end (option_map told_of line)) → IsSome line ⊎ IsOverAtOnce life.first core end
-line_or_over tells told_of life around looks stubs core end line (inl idle) = inr idle.over
-line_or_over tells told_of life around looks stubs core end (Some l) (inr goes) = inl refl
-line_or_over tells told_of life around looks stubs core end None (inr (inl held)) = absurd (cc held.has_line)
-line_or_over tells told_of life around looks stubs core end None (inr (inr goes)) = absurd (cc goes.driven.has_line)

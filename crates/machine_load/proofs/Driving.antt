@@ -1,22 +1,19 @@
 -- Loads by their lives.
-use Rattle.std.proofs.Common.{◌≡◌, ◌⊎◌, Bool, List, [], Option, Some, None, refl, sym, subst, inl, inr}
-use Rattle.std.specs.Io.KnownBytes.{Appends}
-use Rattle.byte_io.specs.Output.{WritesPrefix}
+use Rattle.std.proofs.Common.{◌≡◌, ◌⊎◌, List, [], Option, Some, None, refl, subst, inl, inr}
 use Rattle.host_core.specs.Core.{Core}
-use Rattle.load_devices.specs.Devices.{LineTold}
+use Rattle.load_devices.specs.Devices.{Devices, KeeperCalls}
 use Rattle.load_devices.specs.Told.{Gains}
+use Rattle.load_devices.specs.Turns.{most_turns}
+use Rattle.load_engine.specs.declared.stop.Stop.{Stop}
+use Rattle.load_engine.specs.Driven.{IsDriven, IsKeptBy}
 use Rattle.console_lines.specs.Dialling.{Call, LineRequest, asked_once}
 use Rattle.machine_load.specs.Asked.{Change, LoadTask, Opened, opened_as, ◌⇒◌}
 use Rattle.machine_load.specs.Called.{asked_by}
 use Rattle.machine_load.specs.Driving.{KeeperTells, IsDrivenOn}
-use Rattle.machine_load.specs.GivenBack.{IsGivenBack}
-use Rattle.machine_load.specs.Load.{SurroundingsTold, Ending, Finish, GoesOn, Setting, IsCutShort, IsLived, IsLoad, IsOpened, IsReported, finish_of, finish_report}
+use Rattle.machine_load.specs.Load.{SurroundingsTold, Ending, Finish, GoesOn, Setting, IsCutShort, IsLived, IsLoad, IsReported, finish_of}
 use Rattle.machine_load.specs.LoadFault.{IsLoadFault}
-use Rattle.machine_load.specs.LoadReport.{load_report}
-use Rattle.machine_load.specs.Parts.{told_by}
-use Rattle.machine_load.specs.Stubs.{counting}
-use Rattle.machine_load.specs.declared.load_end.LoadEnd.{LoadEnd}
-use Rattle.machine_load.specs.declared.looks.Looks.{Looks}
+use Rattle.machine_load.specs.Parts.{IsDrivenBehind, IsDrivenUnless, IsKeptBehind, Unless, course, told_by}
+use Rattle.machine_load.specs.Stubs.{hindrance, host_behind}
 use Rattle.machine_load.specs.declared.stubs.Stubs.{Stubs}
 use Rattle.machine_load.specs.declared.fault.LoadFault.{LoadFault}
 use Rattle.machine_load.specs.declared.fault.LoadFault.TheVariants.{Record, RecordInUse, ReadRecord, Connect, WriteRecord, WriteOutput, Memory}
@@ -86,40 +83,27 @@ fault_over_line tells task setting WriteRecord h = h
 fault_over_line tells task setting WriteOutput h = cut_over_line tells task setting h
 fault_over_line tells task setting Memory h = h
 
--- a load that was reported, and gives this back
-pub loaded_as : {K : Type 0} (tells : KeeperTells K) (task : LoadTask) (setting : Change Setting) (looks : Option Looks) (stubs : Option Stubs) (core : Core) (end : LoadEnd) (line : Option LineTold) (ending : Ending)
-    → ending.end ≡ end → ending.marked ≡ core.going → ending.line ≡ line → IsLoad (IsDrivenOn tells) task (setting.before.around ⇒ setting.after.around) (finish_of looks stubs core end line)
-    → Appends setting.before.out setting.after.out (load_report (counting core looks stubs) end) → setting.after.lines ≡ setting.before.lines
-    → (load : IsReported (IsDrivenOn tells) task setting ending) × (load.stubs ≡ stubs)
-loaded_as tells task setting looks stubs core end line ending same_end marked is load reported kept = (
-  record {
-    looks = looks;
-    stubs = stubs;
-    last = core;
-    load = subst (λ l. IsLoad (IsDrivenOn tells) task (setting.before.around ⇒ setting.after.around) (finish_of looks stubs core ending.end l)) (sym is)
-        (subst (λ e. IsLoad (IsDrivenOn tells) task (setting.before.around ⇒ setting.after.around) (finish_of looks stubs core e line)) (sym same_end) load);
-    marked_is = marked;
-    reported = subst (λ e. Appends setting.before.out setting.after.out (load_report (counting core looks stubs) e)) (sym same_end) reported;
-    line_kept = kept;
-  },
-  refl,
-)
-
--- a load whose report failed
-pub cut_short : {K : Type 0} (tells : KeeperTells K) (task : LoadTask) (setting : Change Setting) (between : SurroundingsTold) (first : Core) (writable : Bool) (finish : Finish)
-    → IsOpened task (setting.before.around ⇒ between) first writable
-    → IsLived (IsDrivenOn tells) (opened_as first task.options.fast writable) (between ⇒ setting.after.around) finish → WritesPrefix setting.before.out setting.after.out (finish_report finish)
-    → IsGivenBack setting.before.lines setting.after.lines finish.line → IsCutShort (IsDrivenOn tells) task setting
-cut_short tells task setting between first writable finish opened lived fails given = record {
-  finish = finish;
-  given_back = given;
-  load = record { first = first; writable = writable; between = between; opened = opened; life = lived };
-  missing = fails.0;
-  reported = fails.1;
-}
-
 -- the line of a load whose report failed was asked for, where there was one
 pub asked_untold : {L : Type 0} (call : Call) (line : Option L) (asked asked' : Option (List LineRequest)) → Gains asked asked' (asked_by call line)
     → Gains asked asked' [] ⊎ Gains asked asked' (asked_once call)
 asked_untold call (Some line) asked asked' once = inr once
 asked_untold call None asked asked' none = inl none
+
+-- a host behind stubs that hindered it
+pub hindered : {K : Type 0} (calls : KeeperCalls K) (first : Core) (stubs : Option Stubs) (core : Core) (stop : Stop) (here : Devices) (keeper : K) → Some stop ≡ hindrance stubs → core ≡ host_behind first stubs
+    → IsDrivenBehind (course first stubs (core, stop)) here here × IsKeptBehind calls (course first stubs (core, stop)) keeper keeper
+hindered calls first stubs core stop here keeper is same = (
+  subst (λ why. IsDrivenUnless why (course first stubs (core, stop)) here here) is (record { core = same; stop_is = refl; devices_same = refl }),
+  subst (λ why. Unless why (IsKeptBy calls (host_behind first stubs) core stop keeper keeper) (λ _. keeper ≡ keeper)) is refl,
+)
+
+-- one that nothing hindered
+pub free : {K : Type 0} (calls : KeeperCalls K) (first : Core) (stubs : Option Stubs) (core : Core) (answer : Core × Stop) (before after : Devices) (keeper keeper' : K) → None ≡ hindrance stubs → core ≡ host_behind first stubs
+    → IsDriven most_turns core answer.0 answer.1 before after → IsKeptBy calls core answer.0 answer.1 keeper keeper'
+    → IsDrivenBehind (course first stubs answer) before after × IsKeptBehind calls (course first stubs answer) keeper keeper'
+free calls first stubs core answer before after keeper keeper' is same driven kept = (
+  subst (λ why. IsDrivenUnless why (course first stubs answer) before after) is
+      (subst (λ (core : Core). IsDriven most_turns core answer.0 answer.1 before after) same driven),
+  subst (λ why. Unless why (IsKeptBy calls (host_behind first stubs) answer.0 answer.1 keeper keeper') (λ _. keeper' ≡ keeper)) is
+      (subst (λ (core : Core). IsKeptBy calls core answer.0 answer.1 keeper keeper') same kept),
+)

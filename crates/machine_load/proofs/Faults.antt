@@ -4,9 +4,6 @@ use Rattle.std.proofs.KnownBytes.{Keeps-refl, Keeps-trans}
 use Rattle.load_devices.specs.Devices.{LineTold}
 use Rattle.machine_load.specs.Step.{LoadStep, Connected, begin_step}
 use Rattle.machine_load.proofs.Steps.{gains_more}
-use Rattle.load_devices.specs.Told.{Gains}
-use Rattle.std.specs.Prelude.{OnErr}
-use Rattle.console_lines.specs.Reached.{IsUnused}
 use Rattle.machine_load.specs.declared.looks.Looks.{Looks}
 use Rattle.machine_load.specs.GivenBack.{GivesLooked, GivesNone}
 use Rattle.machine_load.specs.Looks.{AreLooks, AreLooksAt, IsSampled, ended_by, unfinished_at}
@@ -25,7 +22,7 @@ use Rattle.machine_load.specs.Called.{IsAskedBefore}
 use Rattle.machine_load.specs.Driving.{KeeperTells, IsDrivenOn}
 use Rattle.machine_load.specs.RecordDisk.{DiskAsked, disk_asked_before}
 use Rattle.machine_load.specs.Scene.{Scene, IsNotLoaded}
-use Rattle.machine_load.specs.LoadFault.{IsLoadFault, IsOpeningFault, IsDrivingFault, IsUnbegunFault, StopsOpened, StopsUnconnected, fault_of_record, gone}
+use Rattle.machine_load.specs.LoadFault.{IsLoadFault, IsOpeningFault, IsDrivingFault, StopsOpened, StopsUnconnected, fault_of_record, gone}
 use Rattle.record_file.specs.RecordFault.{IsUnbegun}
 use Rattle.record_file.specs.declared.record_fault.RecordFault.{RecordFault}
 use Rattle.record_file.specs.declared.record_fault.RecordFault.TheVariants as why
@@ -84,22 +81,13 @@ module _ (GoesSo : HowItGoesOn) (task : LoadTask) (before between after : Surrou
   of_driving true fault opened fails = of_busy fault opened fails
   of_driving false fault opened fails = of_idle fault opened fails
 
--- a record that is not begun
-pub not_begun : (before after : SurroundingsTold) (why : RecordFault) → IsUnbegun why → Asks before after (begin_step {A = Unit {0}} (Err why) ∷ []) → IsUnbegunFault before after (fault_of_record why)
-not_begun before after why.Write is fails = fails
-not_begun before after why.Memory is fails = fails
-not_begun before after other is fails = absurd is
-
--- the same, of a life that has looked and goes on
-pub behind_looks_fault : {T : Type 0} (result : Result T LoadFault) (writable : Bool) (first : Core) (before between after : SurroundingsTold) (lines lines' : Option (List LineTold)) (line behind : LineTold) (looks : Looks) → writable ≡ true → Asks before between (Connected ∷ [])
-    → IsUnused line.said line.failures line.fault → AreLooks first looks line behind → looks.finding ≡ AllStand → IfErr result (IsUnbegunFault between after) → OnErr result (Gains lines lines' (behind ∷ []))
-    → IfErr result (IsDrivingFault writable first (gone before lines) (gone after lines'))
-behind_looks_fault (Ok x) writable first before between after lines lines' line behind looks may connected fresh looked stand fails given = tt
-behind_looks_fault (Err WriteRecord) writable first before between after lines lines' line behind looks may connected fresh looked stand fails given =
-    inr (may, gains_more _ _ _ _ _ connected fails, record { line = line; fresh = fresh; looks = looks; behind = behind; looked = looked; all_stand = stand; given = given })
-behind_looks_fault (Err Memory) writable first before between after lines lines' line behind looks may connected fresh looked stand fails given =
-    inr (may, gains_more _ _ _ _ _ connected fails, record { line = line; fresh = fresh; looks = looks; behind = behind; looked = looked; all_stand = stand; given = given })
-behind_looks_fault (Err other) writable first before between after lines lines' line behind looks may connected fresh looked stand fails given = absurd fails
+-- a life that has looked, and whose record is not begun
+pub behind_looks_fault : (first : Core) (before between after : SurroundingsTold) (lines lines' : Option (List LineTold)) (why : RecordFault) (writable : Bool) → IsUnbegun why → writable ≡ true
+    → Asks before between (Connected ∷ []) → Asks between after (begin_step {A = Unit {0}} (Err why) ∷ []) → GivesLooked first lines lines'
+    → IsDrivingFault writable first (gone before lines) (gone after lines') (fault_of_record why)
+behind_looks_fault first before between after lines lines' why.Write writable is may connected fails given = inr (may, gains_more _ _ _ _ _ connected fails, given)
+behind_looks_fault first before between after lines lines' why.Memory writable is may connected fails given = inr (may, gains_more _ _ _ _ _ connected fails, given)
+behind_looks_fault first before between after lines lines' other writable is may connected fails given = absurd is
 
 -- ---- looks
 
@@ -134,11 +122,6 @@ error_is (Err e) error P is h = subst P (sym is) h
 pub no_value : {T E : Type 0} (r : Result T E) (error : E) (P : T → Type 0) → IsErrAnd r (λ e. e ≡ error) → IfOk r P
 no_value (Ok x) error P is = absurd is
 no_value (Err e) error P is = tt
-
--- two things that are known of a result's value make a third
-pub both_ok : {T E : Type 0} (r : Result T E) (P Q R : T → Type 0) → ((value : T) → P value → Q value → R value) → IfOk r P → IfOk r Q → IfOk r R
-both_ok (Ok value) P Q R f p q = f value p q
-both_ok (Err error) P Q R f p q = tt
 
 -- all that is said of a load that came to nothing
 pub not_loaded : {T K : Type 0} (r : Result T LoadFault) (keeper : KeeperTells K) (task : LoadTask) (before after : Scene)

@@ -10,7 +10,7 @@ use Rattle.record_file.specs.DiskStep.{DiskStep}
 use Rattle.record_file.specs.Reading.{IsRead, IsNotRead}
 use Rattle.record_file.specs.declared.old_record.OldRecord.{OldRecord}
 use Rattle.record_file.specs.declared.record_fault.RecordFault.{RecordFault}
-use Rattle.machine_load.specs.RecordDisk.{RecordDisk, FileKnown, DiskAsked, IsReadAnswered, IsBegunOf, IsBegunOn, IsNotBegunOf, IsNotBegunOn, IsBeginAnswered, IsReadFirst, IsReadAndBegun, IsReadNotBegun, IsOnlyRead, IsClosedAfter, disk_asked_by, disk_asked_before, IsLivedOn, IsNotLivedOn}
+use Rattle.machine_load.specs.RecordDisk.{RecordDisk, FileKnown, DiskAsked, IsReadAnswered, IsBegunOf, IsBegunOn, IsNotBegunOf, IsNotBegunOn, IsBeginAnswered, IsReadFirst, IsReadAndBegun, IsReadNotBegun, IsOnlyRead, IsClosedAfter, disk_asked_by, disk_asked_before, IsNotLivedOn}
 use Rattle.load_devices.specs.Devices.{LineTold}
 use Rattle.load_engine.specs.declared.stop.Stop.{Stop as DriveStop}
 use Rattle.machine_load.specs.declared.load_end.LoadEnd.{LoadEnd}
@@ -96,20 +96,16 @@ only_read_on a b c o same = subst (λ after. DiskAsked a after IsOnlyRead) (sym 
 
 -- ---- a load
 
-pub lived_on : {L : Type 0} (a b c : Option RecordDisk) (end : LoadEnd) (line : Option L) → DiskAsked a b IsOnlyRead → IsLivedOn b c end line → DiskAsked a c (disk_asked_by end line)
-lived_on a b c (load_end.Driven stop) (Some line) o h = then_on IsBegunOf a b c o h
-lived_on a b c (load_end.Driven stop) None o h = only_read_on a b c o h
-lived_on a b c (load_end.Unfinished stop) line o h = only_read_on a b c o h
-lived_on a b c (load_end.Stale address) line o h = only_read_on a b c o h
+-- a life that goes on
+pub begun_on : (a b c : Option RecordDisk) → DiskAsked a b IsOnlyRead → DiskAsked b c IsBegunOn → DiskAsked a c IsReadAndBegun
+begun_on a b c o h = then_on IsBegunOf a b c o h
 
-untold_read : (a b c : Option RecordDisk) → DiskAsked a b IsOnlyRead → c ≡ b → DiskAsked a c (disk_asked_before WriteOutput)
-untold_read a b c o same = asked_as IsOnlyRead (disk_asked_before WriteOutput) a c (λ disk known' steps x. inl x) (only_read_on a b c o same)
-
-pub untold_on : {L : Type 0} (a b c : Option RecordDisk) (end : LoadEnd) (line : Option L) → DiskAsked a b IsOnlyRead → IsLivedOn b c end line → DiskAsked a c (disk_asked_before WriteOutput)
-untold_on a b c (load_end.Driven stop) (Some line) o h = asked_as IsReadAndBegun (disk_asked_before WriteOutput) a c (λ disk known' steps x. inr x) (then_on IsBegunOf a b c o h)
-untold_on a b c (load_end.Driven stop) None o h = untold_read a b c o h
-untold_on a b c (load_end.Unfinished stop) line o h = untold_read a b c o h
-untold_on a b c (load_end.Stale address) line o h = untold_read a b c o h
+-- one that was over before it began
+pub idle_on : {L : Type 0} (told : L → LineTold) (a b c : Option RecordDisk) (end : LoadEnd) (line : Option L) → option_map told line ≡ None → DiskAsked a b IsOnlyRead → c ≡ b → DiskAsked a c (disk_asked_by end line)
+idle_on told a b c (load_end.Driven stop) (Some line) none o same = absurd (cc none)
+idle_on told a b c (load_end.Driven stop) None none o same = only_read_on a b c o same
+idle_on told a b c (load_end.Unfinished stop) line none o same = only_read_on a b c o same
+idle_on told a b c (load_end.Stale address) line none o same = only_read_on a b c o same
 
 -- a life that its looks hold up was not driven
 never_unfinished : {A : Type 0} (stop : Stop) (driven : DriveStop) → unfinished_at stop ≡ Some (load_end.Driven driven) → A
@@ -124,16 +120,17 @@ never_driven AllStand stop driven e = never_unfinished stop driven e
 never_driven (Stale address) stop driven e = absurd (cc e)
 never_driven Unfinished stop driven e = never_unfinished stop driven e
 
-pub held_on : {L : Type 0} (looks : Looks) (end : LoadEnd) (before after : Option RecordDisk) (line : Option L) → held_up_by looks ≡ Some end → after ≡ before → IsLivedOn before after end line
-held_on looks (load_end.Driven stop) before after line is same = never_driven looks.finding looks.stop stop is
-held_on looks (load_end.Unfinished stop) before after line is same = same
-held_on looks (load_end.Stale address) before after line is same = same
+pub held_on : {L : Type 0} (a b c : Option RecordDisk) (looks : Looks) (end : LoadEnd) (line : Option L) → held_up_by looks ≡ Some end → DiskAsked a b IsOnlyRead → c ≡ b → DiskAsked a c (disk_asked_by end line)
+held_on a b c looks (load_end.Driven stop) line is o same = never_driven looks.finding looks.stop stop is
+held_on a b c looks (load_end.Unfinished stop) line is o same = only_read_on a b c o same
+held_on a b c looks (load_end.Stale address) line is o same = only_read_on a b c o same
 
--- one that goes on behind them was
-pub driven_on : {L : Type 0} (told : L → LineTold) (before after : Option RecordDisk) (end : LoadEnd) (line : Option L) (stop : DriveStop) (line' : LineTold) → end ≡ load_end.Driven stop → option_map told line ≡ Some line'
-    → DiskAsked before after IsBegunOn → IsLivedOn before after end line
-driven_on told before after end None stop line' is has h = absurd (cc has)
-driven_on told before after end (Some line) stop line' is has h = subst (λ e. IsLivedOn before after e (Some line)) (sym is) h
+-- one whose report could not be written
+pub untold_on : {L : Type 0} (a b : Option RecordDisk) (end : LoadEnd) (line : Option L) → DiskAsked a b (disk_asked_by end line) → DiskAsked a b (disk_asked_before WriteOutput)
+untold_on a b (load_end.Driven stop) (Some line) h = asked_as IsReadAndBegun (disk_asked_before WriteOutput) a b (λ disk known' steps x. inr x) h
+untold_on a b (load_end.Driven stop) None h = asked_as IsOnlyRead (disk_asked_before WriteOutput) a b (λ disk known' steps x. inl x) h
+untold_on a b (load_end.Unfinished stop) line h = asked_as IsOnlyRead (disk_asked_before WriteOutput) a b (λ disk known' steps x. inl x) h
+untold_on a b (load_end.Stale address) line h = asked_as IsOnlyRead (disk_asked_before WriteOutput) a b (λ disk known' steps x. inl x) h
 
 not_begun_then : (fault : LoadFault) (a b c : Option RecordDisk)
     → ((disk : RecordDisk) (known' : FileKnown) (steps : List DiskStep) → IsReadNotBegun disk known' steps → disk_asked_before fault disk known' steps)

@@ -1,4 +1,5 @@
 pub mod Asked
+pub mod Beginning
 pub mod Load
 pub mod LoadFault
 pub mod LoadReport
@@ -11,5 +12,7 @@ pub mod GivenBack
 pub mod Step
 pub mod Fronts
 pub mod Lives
+pub mod Outcome
 pub mod Parts
+pub mod Reporting
 pub mod Stubs

@@ -124,7 +124,7 @@ pub record IsIdleLife (life : Opened) (around : Change SurroundingsTold) (finish
 
 -- a life that is not over, and whose record may be begun: a connection is made, and on the new line, on which nothing was said, words that the record
 -- has are looked at, before anything is done to it
-pub record HasLookedFirst (life : Opened) (around : Change SurroundingsTold) (finish : Finish) : Type 0 where
+pub record HasLookedFirst (life : Opened) (around : Change SurroundingsTold) (looked_so : Option Looks) : Type 0 where
   pub may_write : life.writable ≡ true
   pub goes_on : ended life.first.phase ≡ None
   pub connected : Asks around.before around.after (Connected ∷ [])
@@ -132,14 +132,14 @@ pub record HasLookedFirst (life : Opened) (around : Change SurroundingsTold) (fi
   pub line : LineTold
   pub fresh : IsUnused line.said line.failures line.fault
   pub looks : Looks
-  pub looks_are : finish.looks ≡ Some looks
+  pub looks_are : looked_so ≡ Some looks
   pub behind : LineTold
   pub looked : AreLooks life.first looks line behind
 
 -- its looks do not let it go on: one of the words does not stand, or they stopped before each was read. Nothing is done behind them, and the record is
 -- as it was
 pub record IsHeldUp (life : Opened) (around : Change SurroundingsTold) (finish : Finish) : Type 0 where
-  pub first_looks : HasLookedFirst life around finish
+  pub first_looks : HasLookedFirst life around finish.looks
   pub held_up : held_up_by first_looks.looks ≡ Some finish.end
   pub core_is : finish.core ≡ behind_looks life.first first_looks.looks
   pub no_stubs : finish.stubs ≡ None
@@ -175,7 +175,7 @@ HowItGoesOn = Going → Change SurroundingsTold → Finish → Type 0
 -- so does a life whose words all stood that it looked at: with the patience that its looks left
 pub record IsBusyLife (GoesSo : HowItGoesOn) (life : Opened) (around : Change SurroundingsTold) (finish : Finish) : Type 0 where
   pub between : SurroundingsTold
-  pub first_looks : HasLookedFirst life (around.before ⇒ between) finish
+  pub first_looks : HasLookedFirst life (around.before ⇒ between) finish.looks
   pub all_stand : first_looks.looks.finding ≡ AllStand
   pub driven : GoesSo (going_on (behind_looks life.first first_looks.looks) life.fast first_looks.behind) (between ⇒ around.after) finish
 

@@ -65,12 +65,6 @@ IsDrivingFault writable first before after Memory =
     ⊎ ((writable ≡ true) × Asks before.around after.around (Connected ∷ OutOfMemory ∷ []) × GivesLooked first before.lines after.lines)
 IsDrivingFault writable first before after other = ⊥
 
--- a record was not begun anew, or memory is wanting to do so
-abbrev pub IsUnbegunFault : SurroundingsTold → SurroundingsTold → LoadFault → Type 0
-IsUnbegunFault before after WriteRecord = Asks before after (NotBegun ∷ [])
-IsUnbegunFault before after Memory = Asks before after (OutOfMemory ∷ [])
-IsUnbegunFault before after other = ⊥
-
 -- a life was opened, whose record may be begun or may not, and then so far was gone, with nothing reported, and with lines given back so
 pub record StopsOpened (task : LoadTask) (setting : Change Setting) (may_begin : Bool) (done : List LoadStep)
     (Gives : Core → Option (List LineTold) → Option (List LineTold) → Type 0) : Type 0 where

@@ -117,14 +117,7 @@ pub record IsClosedAfter (P : RecordDisk → FileKnown → List DiskStep → Typ
   pub closed : IsRecordClosed disk.name known going
   pub all : steps ≡ before ++ going
 
--- ---- parts of a load
-
--- a life that has a line has begun its record, unless its looks held it up; else it has asked for nothing
-abbrev pub IsLivedOn : {L : Type 0} → Option RecordDisk → Option RecordDisk → LoadEnd → Option L → Type 0
-IsLivedOn before after (Driven stop) (Some line) = DiskAsked before after IsBegunOn
-IsLivedOn before after (Driven stop) None = after ≡ before
-IsLivedOn before after (Unfinished stop) line = after ≡ before
-IsLivedOn before after (Stale address) line = after ≡ before
+-- ---- the beginning of a life
 
 -- a life that came to nothing: without a connection nothing was asked, and else a record was not begun
 abbrev pub IsNotLivedOn : Option RecordDisk → Option RecordDisk → LoadFault → Type 0

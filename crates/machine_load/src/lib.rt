@@ -13,6 +13,7 @@
 #![tactic(auto)]
 
 mod around;
+mod beginning;
 mod fault;
 mod first_life;
 mod law;

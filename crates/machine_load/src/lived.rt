@@ -1,4 +1,5 @@
 ghost use Rattle.std.specs.Prelude.{◌≡◌};
+ghost use Rattle.machine_load.specs.Outcome.{outcome_of};
 
 use crate::load_end::LoadEnd;
 use crate::looks::Looks;
@@ -20,10 +21,7 @@ pub(crate) struct Lived<L> {
 impl<L> Lived<L> {
     /// What the load gives back.
     pub(crate) fn outcome(self) -> Outcome<L>
-        ensures end { result.end ≡ self.end }
-        ensures marked { result.marked ≡ self.core.going }
-        ensures stubs { result.stubs ≡ self.stubs }
-        ensures line { result.line ≡ self.line }
+        ensures { result ≡ outcome_of self }
     {
         let Lived {
             core,

@@ -1,37 +1,36 @@
 //! The load itself.
-ghost use Rattle.std.specs.Prelude.{◌≡◌, ◌≤◌, ◌⊎◌, length, [], ◌∷◌, None, Some, Ok, Err, IfOk, IfErr, IfSome, OnErr, OnOk, is_some, option_map};
-ghost use Rattle.std.specs.Io.KnownBytes.{Appends, Keeps};
+ghost use Rattle.std.specs.Prelude.{◌≡◌, ◌⊎◌, Bool, None, Ok, Err, IfOk, IfErr, IfSome, OnOk, option_map};
+ghost use Rattle.std.specs.Io.KnownBytes.{Keeps};
 ghost use Rattle.host_core.specs.Opening.{refusal_of};
 ghost use Rattle.load_record.specs.Reading.{Says};
 ghost use Rattle.load_devices.specs.Told.{Gains};
-ghost use Rattle.byte_io.specs.Output.{WritesPrefix};
 ghost use Rattle.machine_load.specs.Asked.{opened_as, task, ◌⇒◌};
-ghost use Rattle.machine_load.specs.Called.{asked_by, IsAskedBefore};
-ghost use Rattle.load_devices.specs.Devices.{calls_of, devices_of, line_told};
-ghost use Rattle.machine_load.specs.Driving.{IsDrivenOn};
+ghost use Rattle.machine_load.specs.Beginning.{IsBeginning, IsBeginningOn, SendsFew, asked_to_begin};
+ghost use Rattle.machine_load.specs.Called.{IsAskedBefore};
+ghost use Rattle.load_devices.specs.Devices.{line_told};
 ghost use Rattle.machine_load.specs.GivenBack.{IsGivenBack};
-ghost use Rattle.machine_load.specs.Load.{IsLived, IsOpened, going_on, words_taken};
-ghost use Rattle.machine_load.specs.LoadFault.{IsOpeningFault, IsDrivingFault, IsUnbegunFault, gone};
-ghost use Rattle.machine_load.specs.LoadReport.{load_report};
+ghost use Rattle.machine_load.specs.Load.{IsOpened, words_taken};
+ghost use Rattle.machine_load.specs.LoadFault.{IsOpeningFault, IsDrivingFault, gone};
 ghost use Rattle.machine_load.specs.Looks.{AreFewLooks};
-ghost use Rattle.machine_load.specs.Parts.{IsDrivenBehind, IsKeptBehind, course};
-ghost use Rattle.machine_load.specs.RecordDisk.{DiskAsked, disk_asked_before, IsBegunOn, IsNotBegunOn, IsOnlyRead, IsLivedOn, IsNotLivedOn};
-ghost use Rattle.machine_load.specs.Scene.{around_of, finish_told, keeper_of, scene, tells_of, IsLoaded, IsNotLoaded};
-ghost use Rattle.machine_load.specs.Stubs.{AreFew, counting};
+ghost use Rattle.machine_load.specs.RecordDisk.{DiskAsked, disk_asked_before, IsOnlyRead, IsNotLivedOn};
+ghost use Rattle.machine_load.specs.Reporting.{IsTold, IsUntold};
+ghost use Rattle.machine_load.specs.Scene.{around_of, keeper_of, scene, tells_of, IsLoaded, IsNotLoaded};
+ghost use Rattle.machine_load.specs.Stubs.{AreFew};
 ghost use Rattle.record_file.specs.OldRecord.{HoldsNoRecord};
 
+use crate::beginning::{Beginning, BegunLife};
 use crate::fault::LoadFault;
 use crate::first_life::FirstLife;
 use crate::lived::Lived;
 use crate::load_end::LoadEnd;
-use crate::looks::{Looks, look, sampled};
+use crate::looks::{look, sampled};
 use crate::outcome::Outcome;
 use crate::report::load_report;
-use crate::stubs::{Stubs, bring_stubs, hindrance};
+use crate::stubs::{bring_stubs, hindrance};
 use crate::surroundings::Surroundings;
-use byte_io::{WriteFault, write_and_flush};
-use host_core::{HostCore, Progress};
-use load_devices::{Keep, Line, MOST_TURNS, Onlooker};
+use byte_io::write_and_flush;
+use host_core::Progress;
+use load_devices::{MOST_TURNS, Onlooker};
 use load_engine::{Stop, drive};
 use load_record::{RecordError, read_record};
 use record_file::holds_no_record;
@@ -78,27 +77,39 @@ pub fn load<S: Surroundings, W: Write, O: Onlooker>(
         (scene S.Surroundings W.Write around.old out.old ⇒ scene S.Surroundings W.Write around.new out.new)) }
 {
     let (first, writable) = first_core(alloc, plan, options, around)?;
-    let lived = live(alloc, first, options.fast, writable, around, onlooker)?;
-    match report_life(&lived.core, lived.looks, lived.stubs, lived.end, out) {
-        Ok(()) => Ok(lived.outcome()),
-        Err(fault) => {
-            give_back(around, lived.line);
-            Err(LoadFault::from(fault))
-        }
-    }
-}
-
-// Gives a line back, where there is one.
-fn give_back<S: Surroundings>(around: &mut S, line: Option<S::Line>)
-    ensures lines { IsGivenBack (S.lines around.old) (S.lines around.new) (option_map (line_told S.Line.Line) line) }
-    ensures steps { S.steps around.new ≡ S.steps around.old }
-    ensures text { S.record_text around.new ≡ S.record_text around.old }
-    ensures asked { S.asked around.new ≡ S.asked around.old }
-    ensures disk { S.disk around.new ≡ S.disk around.old }
-{
-    if let Some(line) = line {
-        around.let_go(line);
-    }
+    let begun = match begin(alloc, first, writable, around, onlooker)? {
+        Beginning::Over(lived) => return report(lived, around, out),
+        Beginning::Begun(begun) => begun,
+    };
+    let BegunLife {
+        first,
+        looks,
+        mut line,
+        mut keeper,
+    } = begun;
+    let stubs = bring_stubs(
+        alloc,
+        &first,
+        options.fast,
+        &mut line,
+        &mut keeper,
+        onlooker,
+    );
+    let core = first.host_behind(stubs);
+    let (core, stop) = match hindrance(stubs) {
+        Some(stop) => (core, stop),
+        None => drive(core, &mut line, &mut keeper, MOST_TURNS, onlooker),
+    };
+    onlooker.ends();
+    around.end_record(keeper);
+    let lived = Lived {
+        core,
+        end: LoadEnd::Driven(stop),
+        looks: Some(looks),
+        stubs,
+        line: Some(line),
+    };
+    report(lived, around, out)
 }
 
 // The life that begins with what the record says, and whether its own record may be begun over that one.
@@ -155,35 +166,35 @@ fn taken(said: Progress, recheck: bool) -> Progress
     }
 }
 
-// The life, once it has opened. One that goes on wants a record that may be written, and a connection, over which it
-// looks at words of its record first. An onlooker is told of it, but of no look.
-fn live<S: Surroundings, O: Onlooker>(
+// The beginning of a life, once it has opened. One that is not over wants a record that may be written, and a
+// connection, over which it looks at words of its record before that is begun anew. An onlooker is told of it, but of
+// no look.
+fn begin<S: Surroundings, O: Onlooker>(
     alloc: Global,
     first: FirstLife,
-    fast: bool,
     writable: bool,
     around: &mut S,
     onlooker: &O,
-) -> Result<Lived<S::Line>, LoadFault>
-    ensures lived { IfOk result (λ lived. IsLived (IsDrivenOn (keeper_of S.Surroundings S.Keeper.Keep)) (opened_as first fast writable)
-        (around_of S.Surroundings around.old ⇒ around_of S.Surroundings around.new) (finish_told S.Line.Line lived)) }
-    ensures few { IfOk result (λ lived. IfSome lived.looks AreFewLooks × IfSome lived.stubs AreFew) }
+) -> Result<Beginning<S::Line, S::Keeper>, LoadFault>
+    ensures begun { IfOk result (λ beginning. (fast : Bool) → IsBeginning (tells_of S.Surroundings S.Line.Line S.Keeper.Keep)
+        (opened_as first fast writable) (around_of S.Surroundings around.old ⇒ around_of S.Surroundings around.new) beginning) }
+    ensures few { IfOk result SendsFew }
     ensures fault { IfErr result (IsDrivingFault writable first (gone (around_of S.Surroundings around.old) (S.lines around.old))
         (gone (around_of S.Surroundings around.new) (S.lines around.new))) }
-    ensures asked { IfOk result (λ lived. Gains (S.asked around.old) (S.asked around.new) (asked_by (S.call around.old) lived.line)) }
+    ensures asked { IfOk result (λ beginning. Gains (S.asked around.old) (S.asked around.new) (asked_to_begin (S.call around.old) beginning)) }
     ensures asked_in_vain { IfErr result (IsAskedBefore (S.call around.old) (S.asked around.old) (S.asked around.new)) }
     ensures lines { OnOk result (S.lines around.new ≡ S.lines around.old) }
-    ensures disk { IfOk result (λ lived. IsLivedOn (S.disk around.old) (S.disk around.new) lived.end lived.line) }
+    ensures disk { IfOk result (IsBeginningOn (S.disk around.old) (S.disk around.new)) }
     ensures disk_in_vain { IfErr result (IsNotLivedOn (S.disk around.old) (S.disk around.new)) }
 {
     if let Some(end) = first.end() {
-        return Ok(Lived {
+        return Ok(Beginning::Over(Lived {
             core: first.host(),
             end: LoadEnd::Driven(Stop::Ended(end)),
             looks: None,
             stubs: None,
             line: None,
-        });
+        }));
     }
     if !writable {
         return Err(LoadFault::WriteRecord);
@@ -192,104 +203,63 @@ fn live<S: Surroundings, O: Onlooker>(
     let mut line = around.connect()?;
     onlooker.begins(first.verified(), first.plan().words().len() as u32);
     let looks = look(&samples, reader, &mut line);
-    match looks.hindrance() {
-        Some(end) => {
-            onlooker.ends();
-            Ok(Lived {
-                core: first.behind(looks).host(),
-                end,
-                looks: Some(looks),
-                stubs: None,
-                line: Some(line),
-            })
-        }
-        None => go_on(
-            first.behind(looks),
-            looks,
-            alloc,
-            fast,
-            line,
-            around,
-            onlooker,
-        ),
+    let first = first.behind(looks);
+    if let Some(end) = looks.hindrance() {
+        onlooker.ends();
+        return Ok(Beginning::Over(Lived {
+            core: first.host(),
+            end,
+            looks: Some(looks),
+            stubs: None,
+            line: Some(line),
+        }));
     }
-}
-
-// A life that goes on behind its looks: its record is begun anew, and then its stubs, where they are asked for, and
-// its host have the line and the keeper.
-fn go_on<S: Surroundings, O: Onlooker>(
-    first: FirstLife,
-    looks: Looks,
-    alloc: Global,
-    fast: bool,
-    mut line: S::Line,
-    around: &mut S,
-    onlooker: &O,
-) -> Result<Lived<S::Line>, LoadFault>
-    ensures driven { IfOk result (λ lived. IsDrivenOn (keeper_of S.Surroundings S.Keeper.Keep) (going_on first fast (line_told S.Line.Line line))
-        (around_of S.Surroundings around.old ⇒ around_of S.Surroundings around.new) (finish_told S.Line.Line lived)) }
-    ensures looks { IfOk result (λ lived. lived.looks ≡ Some looks) }
-    ensures few { IfOk result (λ lived. IfSome lived.stubs AreFew) }
-    ensures fault { IfErr result (IsUnbegunFault (around_of S.Surroundings around.old) (around_of S.Surroundings around.new)) }
-    ensures asked { S.asked around.new ≡ S.asked around.old }
-    ensures lines { OnOk result (S.lines around.new ≡ S.lines around.old) }
-    ensures given { OnErr result (Gains (S.lines around.old) (S.lines around.new) (line_told S.Line.Line line ∷ [])) }
-    ensures disk { OnOk result (DiskAsked (S.disk around.old) (S.disk around.new) IsBegunOn) }
-    ensures disk_in_vain { OnErr result (DiskAsked (S.disk around.old) (S.disk around.new) IsNotBegunOn) }
-{
-    let mut keeper = match around.begin_record(alloc, first.plan(), first.verified()) {
-        Ok(keeper) => keeper,
+    match around.begin_record(alloc, first.plan(), first.verified()) {
+        Ok(keeper) => Ok(Beginning::Begun(BegunLife {
+            first,
+            looks,
+            line,
+            keeper,
+        })),
         Err(fault) => {
             onlooker.ends();
             around.let_go(line);
-            return Err(LoadFault::from(fault));
+            Err(LoadFault::from(fault))
         }
-    };
-    let stubs = bring_stubs(alloc, &first, fast, &mut line, &mut keeper, onlooker);
-    let (core, stop) = drive_behind(first, stubs, &mut line, &mut keeper, onlooker);
-    onlooker.ends();
-    around.end_record(keeper);
-    let line = Some(line);
-    Ok(Lived {
-        core,
-        end: LoadEnd::Driven(stop),
-        looks: Some(looks),
-        stubs,
-        line,
-    })
-}
-
-// Drives the life's host behind its stubs, where none of these stopped the load.
-fn drive_behind<L: Line, K: Keep, O: Onlooker>(
-    first: FirstLife,
-    stubs: Option<Stubs>,
-    line: &mut L,
-    keeper: &mut K,
-    onlooker: &O,
-) -> (HostCore, Stop)
-    requires within { IfSome stubs (λ stubs. stubs.tally.verified ≤ length first.plan.words) }
-    ensures driven { IsDrivenBehind (course first stubs result)
-        (devices_of L.Line K.Keep line.old keeper.old) (devices_of L.Line K.Keep line.new keeper.new) }
-    ensures kept { IsKeptBehind (calls_of K.Keep) (course first stubs result) keeper.old keeper.new }
-{
-    let core = first.host_behind(stubs);
-    match hindrance(stubs) {
-        Some(stop) => (core, stop),
-        None => drive(core, line, keeper, MOST_TURNS, onlooker),
     }
 }
 
-// Reports a life.
-fn report_life<W: Write>(
-    core: &HostCore,
-    looks: Option<Looks>,
-    stubs: Option<Stubs>,
-    end: LoadEnd,
+// Reports a life that is over. Where that fails its line is given back.
+fn report<S: Surroundings, W: Write>(
+    lived: Lived<S::Line>,
+    around: &mut S,
     out: &mut W,
-) -> Result<(), WriteFault>
-    requires few { IfSome looks AreFewLooks × IfSome stubs AreFew }
-    ensures ok { OnOk result (Appends (W.contents out.old) (W.contents out.new) (load_report (counting core.now looks stubs) end)) }
-    ensures err { OnErr result (WritesPrefix (W.contents out.old) (W.contents out.new) (load_report (counting core.now looks stubs) end)) }
+) -> Result<Outcome<S::Line>, LoadFault>
+    requires few { IfSome lived.looks AreFewLooks × IfSome lived.stubs AreFew }
+    ensures ok { IfOk result (IsTold S.Line.Line lived
+        (scene S.Surroundings W.Write around.old out.old ⇒ scene S.Surroundings W.Write around.new out.new)) }
+    ensures err { IfErr result (IsUntold S.Line.Line lived
+        (scene S.Surroundings W.Write around.old out.old ⇒ scene S.Surroundings W.Write around.new out.new)) }
 {
-    write_and_flush(out, &load_report(core, looks, stubs, end))
+    let text = load_report(&lived.core, lived.looks, lived.stubs, lived.end);
+    match write_and_flush(out, &text) {
+        Ok(()) => Ok(lived.outcome()),
+        Err(fault) => {
+            give_back(around, lived.line);
+            Err(LoadFault::from(fault))
+        }
+    }
+}
+
+// Gives a line back, where there is one.
+fn give_back<S: Surroundings>(around: &mut S, line: Option<S::Line>)
+    ensures lines { IsGivenBack (S.lines around.old) (S.lines around.new) (option_map (line_told S.Line.Line) line) }
+    ensures steps { S.steps around.new ≡ S.steps around.old }
+    ensures text { S.record_text around.new ≡ S.record_text around.old }
+    ensures asked { S.asked around.new ≡ S.asked around.old }
+    ensures disk { S.disk around.new ≡ S.disk around.old }
+{
+    if let Some(line) = line {
+        around.let_go(line);
+    }
 }

@@ -1,9 +1,9 @@
 //! The stubs of a load.
-ghost use Rattle.std.specs.Prelude.{◌≡◌, ◌≤◌, None, length, is_some, IfSome};
+ghost use Rattle.std.specs.Prelude.{◌≡◌, None, is_some};
 ghost use Rattle.host_core.specs.Core.{ended};
 ghost use Rattle.load_devices.specs.Devices.{calls_of, devices_of};
 ghost use Rattle.machine_load.specs.Parts.{AreBrought, AreKept, stubs_of};
-ghost use Rattle.machine_load.specs.Stubs.{AreFew, hindrance};
+ghost use Rattle.machine_load.specs.Stubs.{hindrance};
 
 use crate::first_life::FirstLife;
 use load_devices::{Keep, Line, Onlooker};
@@ -33,8 +33,6 @@ pub(crate) fn bring_stubs<L: Line, K: Keep, O: Onlooker>(
     ensures asked { is_some result ≡ fast }
     ensures brought { AreBrought (stubs_of first.now result) (devices_of L.Line K.Keep line.old keeper.old) (devices_of L.Line K.Keep line.new keeper.new) }
     ensures kept { AreKept (calls_of K.Keep) (stubs_of first.now result) keeper.old keeper.new }
-    ensures within { IfSome result (λ stubs. stubs.tally.verified ≤ length first.now.plan.words) }
-    ensures few { IfSome result AreFew }
 {
     if !fast {
         return None;

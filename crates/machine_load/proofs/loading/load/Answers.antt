@@ -1,44 +1,26 @@
-use Rattle.std.proofs.Common.{◌∙◌, ap, sym, subst, option_map, rules}
-use Rattle.load_devices.specs.Devices.{line_told}
+use Rattle.std.proofs.Common.{◌∙◌, refl, rules, subst, sym}
+use Rattle.load_devices.specs.Devices.{calls_of, devices_of, line_told}
 use Rattle.machine_load.specs.Asked.{opened_as, task, ◌⇒◌}
+use Rattle.machine_load.specs.Beginning.{IsBeginning, IsBeginningOn, SendsFew, asked_to_begin}
 use Rattle.machine_load.specs.Driving.{IsDrivenOn}
-use Rattle.machine_load.specs.GivenBack.{IsGivenBack}
-use Rattle.machine_load.specs.Load.{IsCutShort, IsLoad, finish_of}
 use Rattle.machine_load.specs.LoadFault.{IsDrivingFault, IsLoadFault, gone}
-use Rattle.machine_load.specs.Scene.{IsNotLoaded, around_of, ending, keeper_of, scene}
-use Rattle.machine_load.proofs.Begun.{line_or_never, line_or_over, never_begun}
-use Rattle.machine_load.proofs.Driving.{asked_untold, cut_short, loaded_as}
-use Rattle.machine_load.proofs.Faults.{of_opening, of_driving, error_is, no_value, not_loaded}
-use Rattle.machine_load.proofs.OnDisk.{lived_on, not_lived_on, untold_on}
+use Rattle.machine_load.specs.Parts.{IsDrivenBehind, IsKeptBehind, course, held}
 use Rattle.machine_load.specs.RecordDisk.{DiskAsked, disk_asked_before}
+use Rattle.machine_load.specs.Scene.{around_of, keeper_of, scene, tells_of}
+use Rattle.load_devices.specs.Told.{Gains}
+use Rattle.machine_load.proofs.Driving.{free, hindered}
+use Rattle.machine_load.proofs.Faults.{of_driving, error_is, not_loaded}
+use Rattle.machine_load.proofs.OnDisk.{not_lived_on}
+use Rattle.machine_load.proofs.Loads.{answered, answered_in_vain, driven, over}
 use Rattle.machine_load.proofs.loading.load.Goals as goal
-
-pub returns-in_err-first-clause-ok : goal.returns-in_err-first-clause-ok
-returns-in_err-first-clause-ok g c = no_value c.from_residual.result _ _ c.from_residual.ensures.1
-
-pub returns-in_err-first-clause-err : goal.returns-in_err-first-clause-err
-returns-in_err-first-clause-err g c =
-    let keeper = keeper_of g.S.Surroundings g.S.Keeper.Keep in
-    let asked = task c.args.plan c.args.options in
-    let before = scene g.S.Surroundings g.W.Write c.args.around.now c.args.out.now in
-    let after = scene g.S.Surroundings g.W.Write c.first_core.new.around c.args.out.now in
-    not_loaded c.from_residual.result keeper asked before after
-    (error_is c.from_residual.result c.in_err-first.field-0.0
-    (IsLoadFault (IsDrivenOn keeper) asked (before.setting ⇒ after.setting))
-    c.from_residual.ensures.1
-    (of_opening (IsDrivenOn keeper) asked _ _ _ _ _ c.in_err-first.field-0.0 c.in_err-first.ensures.fault c.first_core.ensures.same c.first_core.ensures.lines))
-    (search rules)
-    (search rules)
-
-pub returns-in_err-lived-clause-ok : goal.returns-in_err-lived-clause-ok
-returns-in_err-lived-clause-ok g c = no_value c.from_residual-in_err-lived.result _ _ c.from_residual-in_err-lived.ensures.1
+use Rattle.machine_load.proofs.loading.load.Goals.{in-Some, in-None}
 
 pub returns-in_err-lived-clause-err : goal.returns-in_err-lived-clause-err
 returns-in_err-lived-clause-err g c =
     let keeper = keeper_of g.S.Surroundings g.S.Keeper.Keep in
     let asked = task c.args.plan c.args.options in
     let before = scene g.S.Surroundings g.W.Write c.args.around.now c.args.out.now in
-    let after = scene g.S.Surroundings g.W.Write c.live.new.around c.args.out.now in
+    let after = scene g.S.Surroundings g.W.Write c.begin.new.around c.args.out.now in
     not_loaded c.from_residual-in_err-lived.result keeper asked before after
     (error_is c.from_residual-in_err-lived.result c.in_err-lived.field-0.0
     (IsLoadFault (IsDrivenOn keeper) asked (before.setting ⇒ after.setting))
@@ -46,63 +28,87 @@ returns-in_err-lived-clause-err g c =
     (of_driving (IsDrivenOn keeper) asked _ (around_of g.S.Surroundings c.first_core.new.around) _ _ _ _ _
     _ c.in_err-lived.field-0.0 c.in_ok-first.ensures.opened
     (subst (λ lines. IsDrivingFault c.in_ok-first.writable c.in_ok-first.first (gone (around_of g.S.Surroundings c.first_core.new.around) lines)
-    (gone (around_of g.S.Surroundings c.live.new.around) (g.S.Surroundings.lines c.live.new.around)) c.in_err-lived.field-0.0)
+    (gone (around_of g.S.Surroundings c.begin.new.around) (g.S.Surroundings.lines c.begin.new.around)) c.in_err-lived.field-0.0)
     c.first_core.ensures.lines c.in_err-lived.ensures.fault)))
     (search rules)
     (error_is c.from_residual-in_err-lived.result c.in_err-lived.field-0.0
-    (λ fault. DiskAsked (g.S.Surroundings.disk c.args.around.now) (g.S.Surroundings.disk c.live.new.around) (disk_asked_before fault))
+    (λ fault. DiskAsked (g.S.Surroundings.disk c.args.around.now) (g.S.Surroundings.disk c.begin.new.around) (disk_asked_before fault))
     c.from_residual-in_err-lived.ensures.1
     (not_lived_on _ (g.S.Surroundings.disk c.first_core.new.around) _ c.in_err-lived.field-0.0 c.in_ok-first.ensures.disk c.in_err-lived.ensures.disk_in_vain))
 
-pub returns-in-Err-clause-err : goal.returns-in-Err-clause-err
-returns-in-Err-clause-err g c =
-    let keeper = keeper_of g.S.Surroundings g.S.Keeper.Keep in
-    let before = scene g.S.Surroundings g.W.Write c.args.around.now c.args.out.now in
-    let after = scene g.S.Surroundings g.W.Write c.give_back.new.around c.report_life.new.out in
-    let line = option_map (line_told g.S.Line.Line) c.in_ok-lived.lived.line in
-    let finish = finish_of c.in_ok-lived.lived.looks c.in_ok-lived.lived.stubs c.in_ok-lived.lived.core c.in_ok-lived.lived.end line in
-    let untold : IsCutShort (IsDrivenOn keeper) (task c.args.plan c.args.options) (before.setting ⇒ after.setting) =
-    rw (sym c.give_back.ensures.steps, sym c.give_back.ensures.text) at
-    (cut_short keeper (task c.args.plan c.args.options)
-    (before.setting ⇒ record { around = around_of g.S.Surroundings c.live.new.around; lines = g.S.Surroundings.lines c.give_back.new.around; out = g.W.Write.contents c.report_life.new.out })
-    (around_of g.S.Surroundings c.first_core.new.around)
-    c.in_ok-first.first c.in_ok-first.writable
-    finish
-    c.in_ok-first.ensures.opened c.in_ok-lived.ensures.lived c.in-Err.ensures.err
-    (subst (λ lines. IsGivenBack lines (g.S.Surroundings.lines c.give_back.new.around) line) (c.in_ok-lived.ensures.lines ∙ c.first_core.ensures.lines) c.give_back.ensures.lines)) in
-    subst (IsNotLoaded keeper (task c.args.plan c.args.options) (before ⇒ after)) (sym c.from.ensures) (record {
-      fault = untold;
-      asked = rw (c.first_core.ensures.asked, c.first_core.ensures.call, sym c.give_back.ensures.asked) at
-          (asked_untold (g.S.Surroundings.call c.first_core.new.around) c.in_ok-lived.lived.line (g.S.Surroundings.asked c.first_core.new.around) (g.S.Surroundings.asked c.live.new.around) c.in_ok-lived.ensures.asked);
-      disk = rw (sym c.give_back.ensures.disk) at
-          (untold_on _ (g.S.Surroundings.disk c.first_core.new.around) _ c.in_ok-lived.lived.end c.in_ok-lived.lived.line c.in_ok-first.ensures.disk c.in_ok-lived.ensures.disk);
-    })
+pub report-requires : goal.report-requires
+report-requires g c = record { few = subst SendsFew c.in-Over.is c.in_ok-lived.ensures.few }
 
-pub returns-in-Ok-clause-ok : goal.returns-in-Ok-clause-ok
-returns-in-Ok-clause-ok g c =
-    let keeper = keeper_of g.S.Surroundings g.S.Keeper.Keep in
-    let before = scene g.S.Surroundings g.W.Write c.args.around.now c.args.out.now in
-    let after = scene g.S.Surroundings g.W.Write c.live.new.around c.report_life.new.out in
-    let last = c.in_ok-lived.lived in
-    let line = option_map (line_told g.S.Line.Line) last.line in
+pub returns-in-Over : goal.returns-in-Over
+returns-in-Over g c =
+    let tells = tells_of g.S.Surroundings g.S.Line.Line g.S.Keeper.Keep in
     let asked = task c.args.plan c.args.options in
-    let lived : IsLoad (IsDrivenOn keeper) asked (before.setting.around ⇒ after.setting.around) (finish_of last.looks last.stubs last.core last.end line) = record {
-      first = c.in_ok-first.first;
-      writable = c.in_ok-first.writable;
-      between = around_of g.S.Surroundings c.first_core.new.around;
+    let before = scene g.S.Surroundings g.W.Write c.args.around.now c.args.out.now in
+    let opened = scene g.S.Surroundings g.W.Write c.first_core.new.around c.args.out.now in
+    let between = scene g.S.Surroundings g.W.Write c.begin.new.around c.args.out.now in
+    let after = scene g.S.Surroundings g.W.Write c.report.new.around c.report.new.out in
+    let life = opened_as c.in_ok-first.first c.args.options.fast c.in_ok-first.writable in
+    let is = over tells asked before opened between c.in_ok-first.first c.in_ok-first.writable
+    (record {
       opened = c.in_ok-first.ensures.opened;
-      life = c.in_ok-lived.ensures.lived;
-    } in
-    let load = loaded_as keeper asked (before.setting ⇒ after.setting) last.looks last.stubs last.core last.end line (ending g.S.Line.Line c.outcome.result) c.outcome.ensures.end c.outcome.ensures.marked (ap (option_map (line_told g.S.Line.Line)) c.outcome.ensures.line) lived c.in-Ok.ensures.ok (c.in_ok-lived.ensures.lines ∙ c.first_core.ensures.lines) in
+      lines = c.first_core.ensures.lines;
+      asked = c.first_core.ensures.asked;
+      call = c.first_core.ensures.call;
+      disk = c.in_ok-first.ensures.disk;
+    })
+    c.in-Over.lived
+    (subst (IsBeginning tells life (opened.setting.around ⇒ between.setting.around)) c.in-Over.is (c.in_ok-lived.ensures.begun c.args.options.fast))
+    c.in_ok-lived.ensures.lines
+    (subst (λ beginning. Gains opened.asked between.asked (asked_to_begin opened.call beginning)) c.in-Over.is c.in_ok-lived.ensures.asked)
+    (subst (IsBeginningOn opened.disk between.disk) c.in-Over.is c.in_ok-lived.ensures.disk) in
     record {
-      reported = load.0;
-      stubs = c.outcome.ensures.stubs ∙ sym load.1;
-      line = rw (sym c.outcome.ensures.end, sym c.outcome.ensures.line) at
-          (line_or_never c.in_ok-lived.lived.line (never_begun _ _ _ _ _ _ c.in_ok-first.ensures.opened.opening)
-          (line_or_over keeper (line_told g.S.Line.Line) (opened_as c.in_ok-first.first c.args.options.fast c.in_ok-first.writable)
-          (around_of g.S.Surroundings c.first_core.new.around ⇒ around_of g.S.Surroundings c.live.new.around)
-          last.looks last.stubs last.core last.end last.line c.in_ok-lived.ensures.lived));
-      asked = search rules;
-      disk = rw (sym c.outcome.ensures.end, sym c.outcome.ensures.line) at
-          (lived_on (g.S.Surroundings.disk c.args.around.now) (g.S.Surroundings.disk c.first_core.new.around) (g.S.Surroundings.disk c.live.new.around) last.end last.line c.in_ok-first.ensures.disk c.in_ok-lived.ensures.disk);
+      ok = answered tells asked before between after c.in-Over.lived is refl c.report.result c.report.ensures.ok;
+      err = answered_in_vain tells asked before between after c.in-Over.lived is refl c.report.result c.report.ensures.err;
+    }
+
+pub returns : goal.returns
+returns g c =
+    let tells = tells_of g.S.Surroundings g.S.Line.Line g.S.Keeper.Keep in
+    let asked = task c.args.plan c.args.options in
+    let before = scene g.S.Surroundings g.W.Write c.args.around.now c.args.out.now in
+    let opened = scene g.S.Surroundings g.W.Write c.first_core.new.around c.args.out.now in
+    let begun = scene g.S.Surroundings g.W.Write c.begin.new.around c.args.out.now in
+    let between = scene g.S.Surroundings g.W.Write c.end_record.new.self c.args.out.now in
+    let after = scene g.S.Surroundings g.W.Write c.report-2.new.around c.report-2.new.out in
+    let life = opened_as c.in_ok-first.first c.args.options.fast c.in_ok-first.writable in
+    let first = c.in-Begun.begun.first in
+    let stubs = c.bring_stubs-stubs.result in
+    let answer = c.match-hindrance.core in
+    let host : IsDrivenBehind (course first stubs answer) (devices_of g.S.Line.Line g.S.Keeper.Keep c.bring_stubs-stubs.new.line c.bring_stubs-stubs.new.keeper)
+    (devices_of g.S.Line.Line g.S.Keeper.Keep c.match-hindrance.line c.match-hindrance.keeper)
+    × IsKeptBehind (calls_of g.S.Keeper.Keep) (course first stubs answer) c.bring_stubs-stubs.new.keeper c.match-hindrance.keeper =
+    elim c.match-hindrance.branch [
+      | in-Some w ↦ rw (w.core-is, w.line-is, w.keeper-is)
+          (hindered (calls_of g.S.Keeper.Keep) first stubs c.host_behind-core.result w.in-Some.stop _ c.bring_stubs-stubs.new.keeper (sym w.in-Some.is ∙ c.hindrance.ensures) c.host_behind-core.ensures)
+      | in-None w ↦ rw (w.core-is, w.line-is, w.keeper-is)
+          (free (calls_of g.S.Keeper.Keep) first stubs c.host_behind-core.result w.drive.result _ _ _ _ (sym w.in-None.is ∙ c.hindrance.ensures) c.host_behind-core.ensures w.drive.ensures.driven w.drive.ensures.kept)
+    ] in
+    let is = driven tells asked before opened between c.in_ok-first.first c.in_ok-first.writable
+    (record {
+      opened = c.in_ok-first.ensures.opened;
+      lines = c.first_core.ensures.lines;
+      asked = c.first_core.ensures.asked;
+      call = c.first_core.ensures.call;
+      disk = c.in_ok-first.ensures.disk;
+    })
+    c.in-Begun.begun begun stubs answer.0 answer.1 c.match-hindrance.line c.match-hindrance.keeper
+    (subst (IsBeginning tells life (opened.setting.around ⇒ begun.setting.around)) c.in-Begun.is (c.in_ok-lived.ensures.begun c.args.options.fast))
+    c.bring_stubs-stubs.ensures.asked
+    (record {
+      between = held (line_told g.S.Line.Line c.bring_stubs-stubs.new.line) c.bring_stubs-stubs.new.keeper;
+      parts = record { stubs = c.bring_stubs-stubs.ensures.brought; host = host.0 };
+      stubs_kept = c.bring_stubs-stubs.ensures.kept;
+      host_kept = host.1;
+    })
+    c.end_record.ensures.step c.end_record.ensures.text (c.end_record.ensures.lines ∙ c.in_ok-lived.ensures.lines)
+    (rw (sym c.end_record.ensures.asked) at (subst (λ beginning. Gains opened.asked begun.asked (asked_to_begin opened.call beginning)) c.in-Begun.is c.in_ok-lived.ensures.asked))
+    (rw (sym c.end_record.ensures.disk) at (subst (IsBeginningOn opened.disk begun.disk) c.in-Begun.is c.in_ok-lived.ensures.disk)) in
+    record {
+      ok = answered tells asked before between after _ is refl c.report-2.result c.report-2.ensures.ok;
+      err = answered_in_vain tells asked before between after _ is refl c.report-2.result c.report-2.ensures.err;
     }

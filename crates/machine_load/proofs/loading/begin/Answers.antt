@@ -1,0 +1,61 @@
+use Rattle.std.proofs.Common.{refl, sym, subst, ◌∙◌, inr, [], ◌∷◌}
+use Rattle.load_devices.specs.Devices.{line_told}
+use Rattle.load_devices.specs.Told.{Gains}
+use Rattle.machine_load.specs.Scene.{around_of}
+use Rattle.machine_load.proofs.Faults.{all_stand, behind_looks_fault, looked_first}
+use Rattle.machine_load.proofs.loading.begin.Goals as goal
+
+pub returns-in-Some-hindrance-clause-begun : goal.returns-in-Some-hindrance-clause-begun
+returns-in-Some-hindrance-clause-begun g c = λ fast. inr (record {
+  first_looks = record {
+    may_write = c.if-not-writable.false;
+    goes_on = sym c.end.ensures ∙ c.in_default.is;
+    connected = c.in_ok-line.ensures.step;
+    record_same = c.connect.ensures.same;
+    line = line_told g.S.Line.Line c.in_ok-line.line;
+    fresh = c.in_ok-line.ensures.fresh;
+    looks = c.look-looks.result;
+    looks_are = refl;
+    behind = line_told g.S.Line.Line c.look-looks.new.line;
+    looked = looked_first _ _ _ _ _ _ _ c.in_ok-samples.ensures c.deref.ensures.value c.look-looks.ensures;
+  };
+  held_up = sym c.hindrance.ensures ∙ c.in-Some-hindrance.is;
+  core_is = c.host-in-Some-hindrance.ensures ∙ c.behind-first.ensures;
+  no_stubs = refl;
+  has_line = refl;
+})
+
+pub returns-in-Ok-clause-begun : goal.returns-in-Ok-clause-begun
+returns-in-Ok-clause-begun g c = λ fast. record {
+  between = around_of g.S.Surroundings c.connect.new.self;
+  first_looks = record {
+    may_write = c.if-not-writable.false;
+    goes_on = sym c.end.ensures ∙ c.in_default.is;
+    connected = c.in_ok-line.ensures.step;
+    record_same = c.connect.ensures.same;
+    line = line_told g.S.Line.Line c.in_ok-line.line;
+    fresh = c.in_ok-line.ensures.fresh;
+    looks = c.look-looks.result;
+    looks_are = refl;
+    behind = line_told g.S.Line.Line c.look-looks.new.line;
+    looked = looked_first _ _ _ _ _ _ _ c.in_ok-samples.ensures c.deref.ensures.value c.look-looks.ensures;
+  };
+  all_stand = all_stand _ _ _ _ c.look-looks.ensures.found (sym c.hindrance.ensures ∙ c.in_default-hindrance.is);
+  first_is = c.behind-first.ensures;
+  line_is = refl;
+  record_begun = c.in-Ok.ensures.step;
+  begun_so = rw (c.plan-2.ensures, c.verified-2.ensures.value) at c.in-Ok.ensures.keeper;
+}
+
+pub returns-clause-fault : goal.returns-clause-fault
+returns-clause-fault g c = rw (c.from.ensures) (behind_looks_fault c.args.first _ (around_of g.S.Surroundings c.connect.new.self) (around_of g.S.Surroundings c.let_go.new.self) _ _
+    c.in-Err.fault c.args.writable c.in-Err.ensures.fault c.if-not-writable.false c.in_ok-line.ensures.step (rw (sym c.let_go.ensures.steps) at c.in-Err.ensures.step) (record {
+      line = line_told g.S.Line.Line c.in_ok-line.line;
+      fresh = c.in_ok-line.ensures.fresh;
+      looks = c.look-looks.result;
+      behind = line_told g.S.Line.Line c.look-looks.new.line;
+      looked = looked_first _ _ _ _ _ _ _ c.in_ok-samples.ensures c.deref.ensures.value c.look-looks.ensures;
+      all_stand = all_stand _ _ _ _ c.look-looks.ensures.found (sym c.hindrance.ensures ∙ c.in_default-hindrance.is);
+      given = subst (λ lines. Gains lines (g.S.Surroundings.lines c.let_go.new.self) (line_told g.S.Line.Line c.look-looks.new.line ∷ []))
+          (c.in-Err.ensures.lines ∙ c.in_ok-line.ensures.lines) c.let_go.ensures.lines;
+    }))

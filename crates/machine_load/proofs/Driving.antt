@@ -10,7 +10,7 @@ use Rattle.console_lines.specs.Dialling.{Call, LineRequest, asked_once}
 use Rattle.machine_load.specs.Asked.{Change, LoadTask, Opened, opened_as, ◌⇒◌}
 use Rattle.machine_load.specs.Called.{asked_by}
 use Rattle.machine_load.specs.Driving.{KeeperTells, IsDrivenOn}
-use Rattle.machine_load.specs.Load.{SurroundingsTold, Ending, Finish, GoesOn, Setting, IsCutShort, IsLived, IsLoad, IsReported, finish_of}
+use Rattle.machine_load.specs.Load.{SurroundingsTold, Ending, Finish, GoesOn, Setting, IsCutShort, IsLived, IsLoad, IsReported}
 use Rattle.machine_load.specs.LoadFault.{IsLoadFault}
 use Rattle.machine_load.specs.Parts.{IsDrivenBehind, IsDrivenUnless, IsKeptBehind, Unless, course, told_by}
 use Rattle.machine_load.specs.Stubs.{hindrance, host_behind}
@@ -58,7 +58,7 @@ reported_over_line tells task setting ending load = record {
   looks = load.looks;
   stubs = load.stubs;
   last = load.last;
-  load = load_over_line tells task (setting.before.around ⇒ setting.after.around) (finish_of load.looks load.stubs load.last ending.end ending.line) load.load;
+  load = load_over_line tells task (setting.before.around ⇒ setting.after.around) _ load.load;
   marked_is = load.marked_is;
   reported = load.reported;
   line_kept = load.line_kept;

@@ -57,7 +57,7 @@ module _ (GoesSo : HowItGoesOn) (task : LoadTask) (before between after : Surrou
   unconnected may_begin done opened asks same given = (stops may_begin done GivesNone opened asks given, Keeps-trans _ _ _ opened.record_read same)
 
   -- one whose record may be begun
-  of_busy : (fault : LoadFault) → IsOpened task (before ⇒ between) first true → IsDrivingFault true first (gone between lines) (gone after lines') fault
+  of_busy : (fault : LoadFault) → IsOpened task (before ⇒ between) first true → IsDrivingFault true first (gone between lines ⇒ gone after lines') fault
       → IsLoadFault GoesSo task (record { around = before; lines = lines; out = out } ⇒ record { around = after; lines = lines'; out = out }) fault
   of_busy Connect opened fails = unconnected true _ opened fails.1 fails.2 fails.3
   of_busy WriteRecord opened (inl unlike) = absurd (cc (unlike.0))
@@ -67,7 +67,7 @@ module _ (GoesSo : HowItGoesOn) (task : LoadTask) (before between after : Surrou
   of_busy other opened fails = absurd fails
 
   -- one whose record may not be begun
-  of_idle : (fault : LoadFault) → IsOpened task (before ⇒ between) first false → IsDrivingFault false first (gone between lines) (gone after lines') fault
+  of_idle : (fault : LoadFault) → IsOpened task (before ⇒ between) first false → IsDrivingFault false first (gone between lines ⇒ gone after lines') fault
       → IsLoadFault GoesSo task (record { around = before; lines = lines; out = out } ⇒ record { around = after; lines = lines'; out = out }) fault
   of_idle WriteRecord opened (inl unlike) = inl (unconnected false _ opened unlike.1.nothing_asked unlike.1.record_same unlike.2)
   of_idle WriteRecord opened (inr unbegun) = absurd (cc (unbegun.0))
@@ -76,7 +76,7 @@ module _ (GoesSo : HowItGoesOn) (task : LoadTask) (before between after : Surrou
   of_idle Memory opened (inr unbegun) = absurd (cc (unbegun.0))
   of_idle other opened fails = absurd fails
 
-  pub of_driving : (may_begin : Bool) (fault : LoadFault) → IsOpened task (before ⇒ between) first may_begin → IsDrivingFault may_begin first (gone between lines) (gone after lines') fault
+  pub of_driving : (may_begin : Bool) (fault : LoadFault) → IsOpened task (before ⇒ between) first may_begin → IsDrivingFault may_begin first (gone between lines ⇒ gone after lines') fault
       → IsLoadFault GoesSo task (record { around = before; lines = lines; out = out } ⇒ record { around = after; lines = lines'; out = out }) fault
   of_driving true fault opened fails = of_busy fault opened fails
   of_driving false fault opened fails = of_idle fault opened fails
@@ -84,7 +84,7 @@ module _ (GoesSo : HowItGoesOn) (task : LoadTask) (before between after : Surrou
 -- a life that has looked, and whose record is not begun
 pub behind_looks_fault : (first : Core) (before between after : SurroundingsTold) (lines lines' : Option (List LineTold)) (why : RecordFault) (writable : Bool) → IsUnbegun why → writable ≡ true
     → Asks before between (Connected ∷ []) → Asks between after (begin_step {A = Unit {0}} (Err why) ∷ []) → GivesLooked first lines lines'
-    → IsDrivingFault writable first (gone before lines) (gone after lines') (fault_of_record why)
+    → IsDrivingFault writable first (gone before lines ⇒ gone after lines') (fault_of_record why)
 behind_looks_fault first before between after lines lines' why.Write writable is may connected fails given = inr (may, gains_more _ _ _ _ _ connected fails, given)
 behind_looks_fault first before between after lines lines' why.Memory writable is may connected fails given = inr (may, gains_more _ _ _ _ _ connected fails, given)
 behind_looks_fault first before between after lines lines' other writable is may connected fails given = absurd is
@@ -92,12 +92,12 @@ behind_looks_fault first before between after lines lines' other writable is may
 -- ---- looks
 
 -- samples of a life's record were looked at
-pub looked_first : (first : Core) (samples shown : List WordValue) (reader : Reader) (looks : Looks) (before after : LineTold) → IsSampled first samples reader → shown ≡ samples → AreLooksAt shown reader.patience looks before after → AreLooks first looks before after
+pub looked_first : (first : Core) (samples shown : List WordValue) (reader : Reader) (looks : Looks) (before after : LineTold) → IsSampled first samples reader → shown ≡ samples → AreLooksAt shown reader.patience looks (before ⇒ after) → AreLooks first looks before after
 looked_first first samples shown reader looks before after sampled same looked = record {
   samples = samples;
   of_record = sampled.of_record;
   asked = sampled.asked;
-  looked = subst (λ patience. AreLooksAt samples patience looks before after) (ap (λ (r : Reader). r.patience) sampled.begins) (subst (λ list. AreLooksAt list reader.patience looks before after) same looked);
+  looked = subst (λ patience. AreLooksAt samples patience looks (before ⇒ after)) (ap (λ (r : Reader). r.patience) sampled.begins) (subst (λ list. AreLooksAt list reader.patience looks (before ⇒ after)) same looked);
 }
 
 whole : (stop : Stop) → unfinished_at stop ≡ None → stop ≡ Ended Complete

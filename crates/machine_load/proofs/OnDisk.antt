@@ -10,8 +10,9 @@ use Rattle.record_file.specs.DiskStep.{DiskStep}
 use Rattle.record_file.specs.Reading.{IsRead, IsNotRead}
 use Rattle.record_file.specs.declared.old_record.OldRecord.{OldRecord}
 use Rattle.record_file.specs.declared.record_fault.RecordFault.{RecordFault}
-use Rattle.machine_load.specs.RecordDisk.{RecordDisk, FileKnown, DiskAsked, IsReadAnswered, IsBegunOf, IsBegunOn, IsNotBegunOf, IsNotBegunOn, IsBeginAnswered, IsReadFirst, IsReadAndBegun, IsReadNotBegun, IsOnlyRead, IsClosedAfter, disk_asked_by, disk_asked_before, IsNotLivedOn}
+use Rattle.machine_load.specs.RecordDisk.{RecordDisk, FileKnown, DiskAsked, IsReadAnswered, IsBegunOf, IsBegunOn, IsNotBegunOf, IsNotBegunOn, IsBeginAnswered, IsReadFirst, IsReadAndBegun, IsReadNotBegun, IsOnlyRead, IsClosedAfter, disk_asked_by, disk_asked_before}
 use Rattle.load_devices.specs.Devices.{LineTold}
+use Rattle.machine_load.specs.Beginning.{IsNoBeginningOn}
 use Rattle.load_engine.specs.declared.stop.Stop.{Stop as DriveStop}
 use Rattle.machine_load.specs.declared.load_end.LoadEnd.{LoadEnd}
 use Rattle.machine_load.specs.declared.load_end.LoadEnd.TheVariants as load_end
@@ -137,13 +138,13 @@ not_begun_then : (fault : LoadFault) (a b c : Option RecordDisk)
     → DiskAsked a b IsOnlyRead → DiskAsked b c IsNotBegunOn → DiskAsked a c (disk_asked_before fault)
 not_begun_then fault a b c f o h = asked_as IsReadNotBegun (disk_asked_before fault) a c f (then_on IsNotBegunOf a b c o h)
 
-pub not_lived_on : (a b c : Option RecordDisk) (fault : LoadFault) → DiskAsked a b IsOnlyRead → IsNotLivedOn b c fault → DiskAsked a c (disk_asked_before fault)
-not_lived_on a b c Connect o h = only_read_on a b c o h
-not_lived_on a b c WriteRecord o (inl same) = asked_as IsOnlyRead (disk_asked_before WriteRecord) a c (λ disk known' steps x. inl x) (only_read_on a b c o same)
-not_lived_on a b c WriteRecord o (inr h) = not_begun_then WriteRecord a b c (λ disk known' steps x. inr x) o h
-not_lived_on a b c Memory o (inl same) = asked_as IsOnlyRead (disk_asked_before Memory) a c (λ disk known' steps x. inr (inl x)) (only_read_on a b c o same)
-not_lived_on a b c Memory o (inr h) = not_begun_then Memory a b c (λ disk known' steps x. inr (inr x)) o h
-not_lived_on a b c other o h = absurd h
+pub not_begun_on : (a b c : Option RecordDisk) (fault : LoadFault) → DiskAsked a b IsOnlyRead → IsNoBeginningOn b c fault → DiskAsked a c (disk_asked_before fault)
+not_begun_on a b c Connect o h = only_read_on a b c o h
+not_begun_on a b c WriteRecord o (inl same) = asked_as IsOnlyRead (disk_asked_before WriteRecord) a c (λ disk known' steps x. inl x) (only_read_on a b c o same)
+not_begun_on a b c WriteRecord o (inr h) = not_begun_then WriteRecord a b c (λ disk known' steps x. inr x) o h
+not_begun_on a b c Memory o (inl same) = asked_as IsOnlyRead (disk_asked_before Memory) a c (λ disk known' steps x. inr (inl x)) (only_read_on a b c o same)
+not_begun_on a b c Memory o (inr h) = not_begun_then Memory a b c (λ disk known' steps x. inr (inr x)) o h
+not_begun_on a b c other o h = absurd h
 
 -- ---- and its record closed
 

@@ -5,11 +5,13 @@ use Rattle.load_devices.specs.Devices.{line_told}
 use Rattle.machine_load.specs.declared.beginning.Beginning.{Beginning}
 use Rattle.machine_load.specs.declared.beginning.Beginning.TheVariants.{Over, Begun}
 use Rattle.machine_load.specs.declared.beginning.BegunLife.{BegunLife}
+use Rattle.machine_load.specs.declared.fault.LoadFault.{LoadFault}
+use Rattle.machine_load.specs.declared.fault.LoadFault.TheVariants.{Connect, WriteRecord, Memory}
 use Rattle.machine_load.specs.Asked.{Change, Opened, ◌⇒◌}
 use Rattle.machine_load.specs.Called.{asked_by}
 use Rattle.machine_load.specs.Load.{SurroundingsTold, Asks, HasLookedFirst, IsHeldUp, IsIdleLife}
 use Rattle.machine_load.specs.Looks.{AreFewLooks, behind_looks}
-use Rattle.machine_load.specs.RecordDisk.{RecordDisk, DiskAsked, IsBegunOn}
+use Rattle.machine_load.specs.RecordDisk.{RecordDisk, DiskAsked, IsBegunOn, IsNotBegunOn}
 use Rattle.machine_load.specs.Scene.{LoadTells, finish_told}
 use Rattle.machine_load.specs.Step.{RecordBegun}
 use Rattle.machine_load.specs.Stubs.{AreFew}
@@ -45,3 +47,10 @@ asked_to_begin call (Begun begun) = asked_once call
 abbrev pub IsBeginningOn : {L K : Type 0} → Option RecordDisk → Option RecordDisk → Beginning L K → Type 0
 IsBeginningOn before after (Over lived) = after ≡ before
 IsBeginningOn before after (Begun begun) = DiskAsked before after IsBegunOn
+
+-- a life that comes to no beginning: without a connection nothing was asked, and else a record was not begun
+abbrev pub IsNoBeginningOn : Option RecordDisk → Option RecordDisk → LoadFault → Type 0
+IsNoBeginningOn before after Connect = after ≡ before
+IsNoBeginningOn before after WriteRecord = (after ≡ before) ⊎ DiskAsked before after IsNotBegunOn
+IsNoBeginningOn before after Memory = (after ≡ before) ⊎ DiskAsked before after IsNotBegunOn
+IsNoBeginningOn before after other = ⊥

@@ -102,10 +102,6 @@ pub record Finish : Type 0 where
   pub end : LoadEnd
   pub line : Option LineTold
 
--- how it ended
-abbrev pub finish_of : Option Looks → Option Stubs → Core → LoadEnd → Option LineTold → Finish
-finish_of looks stubs core end line = record { looks = looks; stubs = stubs; core = core; end = end; line = line }
-
 -- its report
 abbrev pub finish_report : Finish → List ℕ
 finish_report finish = load_report (counting finish.core finish.looks finish.stubs) finish.end
@@ -208,7 +204,8 @@ pub record IsReported (GoesSo : HowItGoesOn) (task : LoadTask) (setting : Change
   pub looks : Option Looks
   pub stubs : Option Stubs
   pub last : Core
-  pub load : IsLoad GoesSo task (setting.before.around ⇒ setting.after.around) (finish_of looks stubs last ending.end ending.line)
+  pub load : IsLoad GoesSo task (setting.before.around ⇒ setting.after.around)
+      (record { looks = looks; stubs = stubs; core = last; end = ending.end; line = ending.line })
   pub marked_is : ending.marked ≡ last.going
   pub reported : Appends setting.before.out setting.after.out (load_report (counting last looks stubs) ending.end)
   pub line_kept : setting.after.lines ≡ setting.before.lines

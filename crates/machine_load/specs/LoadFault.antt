@@ -53,17 +53,17 @@ gone around lines = record { around = around; lines = lines }
 
 -- how an opened life comes to no record of its own: one whose record may not be begun fails before there is a connection, and so does one for whose looks
 -- there is no memory; and without a connection the record is as it was. Where there was one, nothing was said on it but the looks
-abbrev pub IsDrivingFault : Bool → Core → Gone → Gone → LoadFault → Type 0
-IsDrivingFault writable first before after Connect =
-    (writable ≡ true) × Asks before.around after.around (NotConnected ∷ []) × KeepsRecord before.around after.around
-    × GivesNone first before.lines after.lines
-IsDrivingFault writable first before after WriteRecord =
-    ((writable ≡ false) × AsksNothing before.around after.around × GivesNone first before.lines after.lines)
-    ⊎ ((writable ≡ true) × Asks before.around after.around (Connected ∷ NotBegun ∷ []) × GivesLooked first before.lines after.lines)
-IsDrivingFault writable first before after Memory =
-    ((writable ≡ true) × AsksNothing before.around after.around × GivesNone first before.lines after.lines)
-    ⊎ ((writable ≡ true) × Asks before.around after.around (Connected ∷ OutOfMemory ∷ []) × GivesLooked first before.lines after.lines)
-IsDrivingFault writable first before after other = ⊥
+abbrev pub IsDrivingFault : Bool → Core → Change Gone → LoadFault → Type 0
+IsDrivingFault writable first done Connect =
+    (writable ≡ true) × Asks done.before.around done.after.around (NotConnected ∷ []) × KeepsRecord done.before.around done.after.around
+    × GivesNone first done.before.lines done.after.lines
+IsDrivingFault writable first done WriteRecord =
+    ((writable ≡ false) × AsksNothing done.before.around done.after.around × GivesNone first done.before.lines done.after.lines)
+    ⊎ ((writable ≡ true) × Asks done.before.around done.after.around (Connected ∷ NotBegun ∷ []) × GivesLooked first done.before.lines done.after.lines)
+IsDrivingFault writable first done Memory =
+    ((writable ≡ true) × AsksNothing done.before.around done.after.around × GivesNone first done.before.lines done.after.lines)
+    ⊎ ((writable ≡ true) × Asks done.before.around done.after.around (Connected ∷ OutOfMemory ∷ []) × GivesLooked first done.before.lines done.after.lines)
+IsDrivingFault writable first done other = ⊥
 
 -- a life was opened, whose record may be begun or may not, and then so far was gone, with nothing reported, and with lines given back so
 pub record StopsOpened (task : LoadTask) (setting : Change Setting) (may_begin : Bool) (done : List LoadStep)

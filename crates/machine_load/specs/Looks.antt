@@ -4,6 +4,7 @@ use Rattle.load_devices.specs.Devices.{LineTold}
 use Rattle.host_core.specs.declared.phase.End.TheVariants as host
 use Rattle.host_core.specs.Core.{Core, begun}
 use Rattle.load_devices.specs.Turns.{most_turns}
+use Rattle.machine_load.specs.Asked.{Change, ◌⇒◌}
 use Rattle.load_engine.specs.declared.stop.Stop.TheVariants as drive
 use Rattle.machine_load.specs.declared.load_end.LoadEnd.{LoadEnd}
 use Rattle.machine_load.specs.declared.load_end.LoadEnd.TheVariants as load_end
@@ -57,11 +58,11 @@ pub record IsSampled (first : Core) (samples : List WordValue) (reader : Reader)
 
 -- a host of this patience has looked at words: what was heard and said; what it read says what it found, and over an honest line that is so in memory,
 -- which is what it was
-pub record AreLooksAt (samples : List WordValue) (patience : ℕ) (looks : Looks) (before after : LineTold) : Type 0 where
+pub record AreLooksAt (samples : List WordValue) (patience : ℕ) (looks : Looks) (line : Change LineTold) : Type 0 where
   pub reader : Reader
-  pub inquired : IsInquired most_turns (inquiry (reader_begun (addresses_of samples) [] patience) reader (Some looks.stop)) before after
+  pub inquired : IsInquired most_turns (inquiry (reader_begun (addresses_of samples) [] patience) reader (Some looks.stop)) line.before line.after
   pub found : IsFound samples reader.values looks.stop looks.finding
-  pub honest : IsSoOver samples looks.finding before.said after.said
+  pub honest : IsSoOver samples looks.finding line.before.said line.after.said
   pub sent_is : looks.sent ≡ reader.sent
   pub spent_is : looks.spent ≡ reader.spent
   pub paid : looks.spent ≤ patience
@@ -72,7 +73,7 @@ pub record AreLooks (first : Core) (looks : Looks) (before after : LineTold) : T
   pub samples : List WordValue
   pub of_record : AreSamples first.plan.words first.verified samples
   pub asked : AreAddresses (addresses_of samples)
-  pub looked : AreLooksAt samples first.patience looks before after
+  pub looked : AreLooksAt samples first.patience looks (before ⇒ after)
 
 -- so few characters that a sum has room for them
 abbrev pub AreFewLooks : Looks → Type 0

@@ -116,12 +116,3 @@ pub record IsClosedAfter (P : RecordDisk → FileKnown → List DiskStep → Typ
   pub is_so : P disk known before
   pub closed : IsRecordClosed disk.name known going
   pub all : steps ≡ before ++ going
-
--- ---- the beginning of a life
-
--- a life that came to nothing: without a connection nothing was asked, and else a record was not begun
-abbrev pub IsNotLivedOn : Option RecordDisk → Option RecordDisk → LoadFault → Type 0
-IsNotLivedOn before after Connect = after ≡ before
-IsNotLivedOn before after WriteRecord = (after ≡ before) ⊎ DiskAsked before after IsNotBegunOn
-IsNotLivedOn before after Memory = (after ≡ before) ⊎ DiskAsked before after IsNotBegunOn
-IsNotLivedOn before after other = ⊥

@@ -12,14 +12,18 @@ use Rattle.machine_load.specs.declared.surroundings.Surroundings.{Ghosts as Surr
 use Rattle.machine_load.specs.Asked.{Change, LoadTask, ◌⇒◌}
 use Rattle.machine_load.specs.Called.{asked_by, IsAskedBefore}
 use Rattle.machine_load.specs.Driving.{KeeperTells, IsDrivenOn}
-use Rattle.machine_load.specs.LoadFault.{IsLoadFault}
+use Rattle.machine_load.specs.LoadFault.{Gone, IsLoadFault, gone}
 use Rattle.machine_load.specs.RecordDisk.{RecordDisk, DiskAsked, disk_asked_by, disk_asked_before}
 use Rattle.console_lines.specs.Dialling.{LineRequest, Call}
-use Rattle.machine_load.specs.Load.{SurroundingsTold, Ending, Finish, Setting, IsNeverBegun, IsReported, finish_of}
+use Rattle.machine_load.specs.Load.{SurroundingsTold, Ending, Finish, Setting, IsNeverBegun, IsReported}
 
 -- what surroundings tell
 abbrev pub around_of : {S L K : Type 0} → Surroundings S L K → S → SurroundingsTold
 around_of tell around = record { steps = tell.steps around; record_text = tell.record_text around }
+
+-- the same, and the lines that were given back
+abbrev pub gone_of : {S L K : Type 0} → Surroundings S L K → S → Gone
+gone_of tell around = gone (around_of tell around) (tell.lines around)
 
 -- what is known of a load at a moment: what was asked of its surroundings, its record, the lines that were given back and its output, what
 -- was asked for lines and of the disk, and whom a connection leads to
@@ -48,7 +52,13 @@ ending tell outcome = record { end = outcome.end; marked = outcome.marked; line 
 
 -- what a life came to, and what its line tells
 abbrev pub finish_told : {L : Type 0} → Line L → Lived L → Finish
-finish_told tell lived = finish_of lived.looks lived.stubs lived.core lived.end (option_map (line_told tell) lived.line)
+finish_told tell lived = record {
+  looks = lived.looks;
+  stubs = lived.stubs;
+  core = lived.core;
+  end = lived.end;
+  line = option_map (line_told tell) lived.line;
+}
 
 -- what the lines tell that surroundings reach, and the keepers that they begin
 pub record LoadTells (L K : Type 0) : Type 1 where

@@ -5,16 +5,16 @@ ghost use Rattle.host_core.specs.Opening.{refusal_of};
 ghost use Rattle.load_record.specs.Reading.{Says};
 ghost use Rattle.load_devices.specs.Told.{Gains};
 ghost use Rattle.machine_load.specs.Asked.{opened_as, task, ◌⇒◌};
-ghost use Rattle.machine_load.specs.Beginning.{IsBeginning, IsBeginningOn, SendsFew, asked_to_begin};
+ghost use Rattle.machine_load.specs.Beginning.{IsBeginning, IsBeginningOn, IsNoBeginningOn, SendsFew, asked_to_begin};
 ghost use Rattle.machine_load.specs.Called.{IsAskedBefore};
 ghost use Rattle.load_devices.specs.Devices.{line_told};
 ghost use Rattle.machine_load.specs.GivenBack.{IsGivenBack};
 ghost use Rattle.machine_load.specs.Load.{IsOpened, words_taken};
-ghost use Rattle.machine_load.specs.LoadFault.{IsOpeningFault, IsDrivingFault, gone};
+ghost use Rattle.machine_load.specs.LoadFault.{IsOpeningFault, IsDrivingFault};
 ghost use Rattle.machine_load.specs.Looks.{AreFewLooks};
-ghost use Rattle.machine_load.specs.RecordDisk.{DiskAsked, disk_asked_before, IsOnlyRead, IsNotLivedOn};
+ghost use Rattle.machine_load.specs.RecordDisk.{DiskAsked, disk_asked_before, IsOnlyRead};
 ghost use Rattle.machine_load.specs.Reporting.{IsTold, IsUntold};
-ghost use Rattle.machine_load.specs.Scene.{around_of, keeper_of, scene, tells_of, IsLoaded, IsNotLoaded};
+ghost use Rattle.machine_load.specs.Scene.{around_of, gone_of, keeper_of, scene, tells_of, IsLoaded, IsNotLoaded};
 ghost use Rattle.machine_load.specs.Stubs.{AreFew};
 ghost use Rattle.record_file.specs.OldRecord.{HoldsNoRecord};
 
@@ -179,13 +179,12 @@ fn begin<S: Surroundings, O: Onlooker>(
     ensures begun { IfOk result (λ beginning. (fast : Bool) → IsBeginning (tells_of S.Surroundings S.Line.Line S.Keeper.Keep)
         (opened_as first fast writable) (around_of S.Surroundings around.old ⇒ around_of S.Surroundings around.new) beginning) }
     ensures few { IfOk result SendsFew }
-    ensures fault { IfErr result (IsDrivingFault writable first (gone (around_of S.Surroundings around.old) (S.lines around.old))
-        (gone (around_of S.Surroundings around.new) (S.lines around.new))) }
+    ensures fault { IfErr result (IsDrivingFault writable first (gone_of S.Surroundings around.old ⇒ gone_of S.Surroundings around.new)) }
     ensures asked { IfOk result (λ beginning. Gains (S.asked around.old) (S.asked around.new) (asked_to_begin (S.call around.old) beginning)) }
     ensures asked_in_vain { IfErr result (IsAskedBefore (S.call around.old) (S.asked around.old) (S.asked around.new)) }
     ensures lines { OnOk result (S.lines around.new ≡ S.lines around.old) }
     ensures disk { IfOk result (IsBeginningOn (S.disk around.old) (S.disk around.new)) }
-    ensures disk_in_vain { IfErr result (IsNotLivedOn (S.disk around.old) (S.disk around.new)) }
+    ensures disk_in_vain { IfErr result (IsNoBeginningOn (S.disk around.old) (S.disk around.new)) }
 {
     if let Some(end) = first.end() {
         return Ok(Beginning::Over(Lived {

@@ -1,6 +1,7 @@
 //! The looks of a load: at words that its record has, before it is believed.
 ghost use Rattle.std.specs.Prelude.{◌≡◌, [], IfOk};
 ghost use Rattle.load_devices.specs.Devices.{line_told};
+ghost use Rattle.machine_load.specs.Asked.{◌⇒◌};
 ghost use Rattle.machine_load.specs.Looks.{AreLooksAt, IsSampled, held_up_by, unfinished_at};
 ghost use Rattle.reading_core.specs.Addresses.{addresses_of};
 ghost use Rattle.reading_core.specs.Reader.{begun};
@@ -74,7 +75,7 @@ pub(crate) fn sampled(
 /// Looks at words, over a line, and changes none. Nobody looks on: what is done is no word of the load.
 pub(crate) fn look<L: Line>(samples: &[Word], reader: ReadingCore, line: &mut L) -> Looks
     requires { reader ≡ begun (addresses_of samples.now) [] reader.patience }
-    ensures { AreLooksAt samples.now reader.patience result (line_told L.Line line.old) (line_told L.Line line.new) }
+    ensures { AreLooksAt samples.now reader.patience result (line_told L.Line line.old ⇒ line_told L.Line line.new) }
 {
     let looked = look_at_samples(reader, samples, line, &Unwatched);
     Looks {

@@ -6,11 +6,11 @@ use Rattle.machine_load.specs.Driving.{IsDrivenOn}
 use Rattle.machine_load.specs.LoadFault.{IsDrivingFault, IsLoadFault, gone}
 use Rattle.machine_load.specs.Parts.{IsDrivenBehind, IsKeptBehind, course, held}
 use Rattle.machine_load.specs.RecordDisk.{DiskAsked, disk_asked_before}
-use Rattle.machine_load.specs.Scene.{around_of, keeper_of, scene, tells_of}
+use Rattle.machine_load.specs.Scene.{around_of, gone_of, keeper_of, scene, tells_of}
 use Rattle.load_devices.specs.Told.{Gains}
 use Rattle.machine_load.proofs.Driving.{free, hindered}
 use Rattle.machine_load.proofs.Faults.{of_driving, error_is, not_loaded}
-use Rattle.machine_load.proofs.OnDisk.{not_lived_on}
+use Rattle.machine_load.proofs.OnDisk.{not_begun_on}
 use Rattle.machine_load.proofs.Loads.{answered, answered_in_vain, driven, over}
 use Rattle.machine_load.proofs.loading.load.Goals as goal
 use Rattle.machine_load.proofs.loading.load.Goals.{in-Some, in-None}
@@ -27,14 +27,13 @@ returns-in_err-lived-clause-err g c =
     c.from_residual-in_err-lived.ensures.1
     (of_driving (IsDrivenOn keeper) asked _ (around_of g.S.Surroundings c.first_core.new.around) _ _ _ _ _
     _ c.in_err-lived.field-0.0 c.in_ok-first.ensures.opened
-    (subst (λ lines. IsDrivingFault c.in_ok-first.writable c.in_ok-first.first (gone (around_of g.S.Surroundings c.first_core.new.around) lines)
-    (gone (around_of g.S.Surroundings c.begin.new.around) (g.S.Surroundings.lines c.begin.new.around)) c.in_err-lived.field-0.0)
+    (subst (λ lines. IsDrivingFault c.in_ok-first.writable c.in_ok-first.first (gone (around_of g.S.Surroundings c.first_core.new.around) lines ⇒ gone_of g.S.Surroundings c.begin.new.around) c.in_err-lived.field-0.0)
     c.first_core.ensures.lines c.in_err-lived.ensures.fault)))
     (search rules)
     (error_is c.from_residual-in_err-lived.result c.in_err-lived.field-0.0
     (λ fault. DiskAsked (g.S.Surroundings.disk c.args.around.now) (g.S.Surroundings.disk c.begin.new.around) (disk_asked_before fault))
     c.from_residual-in_err-lived.ensures.1
-    (not_lived_on _ (g.S.Surroundings.disk c.first_core.new.around) _ c.in_err-lived.field-0.0 c.in_ok-first.ensures.disk c.in_err-lived.ensures.disk_in_vain))
+    (not_begun_on _ (g.S.Surroundings.disk c.first_core.new.around) _ c.in_err-lived.field-0.0 c.in_ok-first.ensures.disk c.in_err-lived.ensures.disk_in_vain))
 
 pub report-requires : goal.report-requires
 report-requires g c = record { few = subst SendsFew c.in-Over.is c.in_ok-lived.ensures.few }

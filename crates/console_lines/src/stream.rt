@@ -1,12 +1,10 @@
 //! What is made of the bytes of a stream.
-ghost use Rattle.std.specs.Prelude.{◌≡◌, true, IfOk, IfErr, OnOk, Err, [], ◌∷◌};
-ghost use Rattle.std.specs.Io.KnownBytes.{Appends};
-ghost use Rattle.console_lines.specs.Hearing.{GoesUpBy, IsHearing, IsHearingFault, IsSentInPart, silences_of};
+ghost use Rattle.std.specs.Prelude.{◌≡◌, true, IfOk, IfErr, Err};
+ghost use Rattle.console_lines.specs.Hearing.{GoesUpBy, IsHearing, IsHearingFault, silences_of};
 
 use crate::receive::{TimedStream, receive};
 use host_core::Heard;
 use load_devices::LineFault;
-use std::io::Write;
 
 // How many characters one hearing drops. A console pads with a few of them; a line that sends
 // nothing else is no console's.
@@ -32,19 +30,4 @@ pub(crate) fn hear_from<S: TimedStream>(stream: &mut S) -> Result<Heard, LineFau
         }
     }
     Err(LineFault::Noise)
-}
-
-/// Sends one key. It is not tried again where it fails, and it is then unknown whether it went out.
-pub(crate) fn send_to<S: Write>(stream: &mut S, key: u8) -> Result<(), LineFault>
-    ensures sent { OnOk result (Appends (S.contents stream.old) (S.contents stream.new) (key ∷ [])) }
-    ensures fault { IfErr result (IsSentInPart (S.contents stream.old) (S.contents stream.new) key) }
-{
-    match stream.write(&[key]) {
-        Ok(1) => {}
-        _ => return Err(LineFault::Send),
-    }
-    match stream.flush() {
-        Ok(()) => Ok(()),
-        Err(_) => Err(LineFault::Send),
-    }
 }

@@ -4,9 +4,10 @@ ghost use Rattle.load_devices.specs.Failures.{count_after, fault_of};
 ghost use Rattle.console_lines.specs.Hearing.{GoesUpBy, IsCharacter, IsHearing, IsHearingFault, IsSentInPart, silences_of};
 
 use crate::receive::TimedStream;
-use crate::stream::{hear_from, send_to};
+use crate::stream::hear_from;
 use host_core::Heard;
 use load_devices::{Line, LineFault};
+use std::io::Write;
 use std::marker::Model;
 use std::time::Duration;
 
@@ -88,14 +89,18 @@ impl<S: TimedStream> Line for StreamLine<S> {
 
     ghost last_fault = { λ line. line.fault };
 
-    /// Sends one key; `Send` where that fails, and then it is unknown whether the key went out.
+    /// Sends one key, in one write; `Send` where that fails. It is not tried again then, and it is unknown
+    /// whether the key went out.
     fn send(&mut self, key: u8) -> Result<(), LineFault>
         ensures gone_out { OnOk result (Appends self.old.gone_out self.new.gone_out (key ∷ [])) }
         ensures failed { IfErr result (IsSentInPart self.old.gone_out self.new.gone_out key) }
         ensures counted { self.new.failures ≡ count_after self.old.failures result }
         ensures fault { self.new.fault ≡ fault_of result }
     {
-        let outcome = send_to(&mut self.stream, key);
+        let outcome = match self.stream.write(&[key]) {
+            Ok(1) => self.stream.flush().map_err(|_| LineFault::Send),
+            _ => Err(LineFault::Send),
+        };
         self.note(outcome.err());
         outcome
     }

@@ -4,7 +4,7 @@ ghost use Rattle.host_core.specs.Core.{ended};
 ghost use Rattle.host_core.specs.Host.{IsHost};
 ghost use Rattle.host_core.specs.PhaseTable.{move};
 ghost use Rattle.load_devices.specs.Devices.{calls_of, devices_of};
-ghost use Rattle.load_devices.specs.Dialogue.{news_between, said};
+ghost use Rattle.load_devices.specs.Dialogue.{news_between};
 ghost use Rattle.load_devices.specs.Failures.{count_after, fault_of};
 ghost use Rattle.load_devices.specs.Told.{Gains, SaysNothing};
 ghost use Rattle.load_engine.specs.Driven.{IsDriven, IsKeptBy};
@@ -14,7 +14,7 @@ ghost use Rattle.load_engine.specs.Session.{Session, IsFailure};
 
 use crate::stop::Stop;
 use host_core::{Heard, HostCore, Progress};
-use load_devices::{Keep, KeepFault, Kept, Line, LineFault, Onlooker, Sight};
+use load_devices::{Keep, KeepFault, Kept, Line, Onlooker, Sight};
 
 /// Lends the core to the line and the keeper for at most so many turns.
 ///
@@ -71,7 +71,9 @@ fn turn<L: Line, K: Keep, O: Onlooker>(
     if let Some(news) = news {
         keep_news(keep, news)?;
     }
-    send_key(line, key)?;
+    if let Some(key) = key {
+        line.send(key)?;
+    }
     Ok(())
 }
 
@@ -109,20 +111,6 @@ fn step<O: Onlooker>(core: &mut HostCore, heard: Heard, onlooker: &O) -> Errands
         None
     };
     Errands { news, key }
-}
-
-// Sends the character, where there is one.
-fn send_key<L: Line>(line: &mut L, key: Option<u8>) -> Result<(), LineFault>
-    ensures sent { OnOk result (Gains (L.told line.old) (L.told line.new) (said key)) }
-    ensures not_sent { OnErr result (SaysNothing (L.told line.old) (L.told line.new)) }
-    ensures had_key { OnErr result (IsSome key) }
-    ensures counted { L.fault_count line.new ≡ count_after (L.fault_count line.old) result }
-    ensures fault { OnErr result (L.last_fault line.new ≡ fault_of result) }
-{
-    match key {
-        Some(key) => line.send(key),
-        None => Ok(()),
-    }
 }
 
 // Has one thing kept.

@@ -1,7 +1,8 @@
-use Rattle.std.proofs.Common.{Some, refl, subst}
+use Rattle.std.proofs.Common.{IsSome, Some, refl, subst, sym}
 use Rattle.std.specs.Prelude.{option_to_list}
-use Rattle.load_devices.specs.Dialogue.{news_between}
+use Rattle.load_devices.specs.Dialogue.{news_between, said}
 use Rattle.load_devices.specs.Told.{Gains}
+use Rattle.load_devices.proofs.Told.{gains_none}
 use Rattle.load_engine.specs.Keeping.{KeepsEach}
 use Rattle.load_engine.proofs.Keepings.{keeps_none, keeps_one, keeps_no_news, fails_one}
 use Rattle.load_engine.specs.declared.stop.Stop.TheVariants.{LineFailed, KeepFailed}
@@ -36,19 +37,26 @@ news_kept g c =
 the_step : (g : _) (c : Joined-news g) → IsStep c.args.core.now c.step-news.new.core c.in_ok-heard.heard c.step-news.result.key c.step-news.result.news
 the_step g c = let s = c.step-news.ensures in record { next = s.next; key_is = s.key; news_is = s.news; with_key = s.news_with_key; with_start = s.mark_with_start }
 
-pub returns-in_err-send_key-clause-turn : goal.returns-in_err-send_key-clause-turn
-returns-in_err-send_key-clause-turn g c =
-    let fault = c.in_err-send_key.field-0.0 in
-    let j = (goal.at.returns-in_err-send_key-clause-turn g c).Joined-news in
-    rw (stop_is c.from_residual-in_err-send_key.result (LineFailed fault) c.from_residual-in_err-send_key.ensures.1)
-    (turn_unsent fault c.args.core.now c.step-news.new.core c.in_ok-heard.heard c.step-news.result.key c.step-news.result.news (g.L.Line.told c.args.line.now) (g.L.Line.told c.hear.new.self) (g.L.Line.told c.send_key.new.line) (g.K.Keep.told c.args.keep.now) (g.K.Keep.told c.match-news.keep)
-    c.requires.goes_on (the_step g j) c.in_err-send_key.ensures.had_key c.in_ok-heard.ensures.heard c.in_err-send_key.ensures.not_sent (news_kept g j))
+pub returns-in_err-send-clause-turn : goal.returns-in_err-send-clause-turn
+returns-in_err-send-clause-turn g c =
+    let fault = c.in_err-send.field-0.0 in
+    let j = (goal.at.returns-in_err-send-clause-turn g c).Joined-news in
+    rw (stop_is c.from_residual-in_err-send.result (LineFailed fault) c.from_residual-in_err-send.ensures.1)
+    (turn_unsent fault c.args.core.now c.step-news.new.core c.in_ok-heard.heard c.step-news.result.key c.step-news.result.news (g.L.Line.told c.args.line.now) (g.L.Line.told c.hear.new.self) (g.L.Line.told c.send.new.self) (g.K.Keep.told c.args.keep.now) (g.K.Keep.told c.match-news.keep)
+    c.requires.goes_on (the_step g j) (subst (λ key. IsSome key) (sym c.in-Some-key.is) refl) c.in_ok-heard.ensures.heard c.in_err-send.ensures.not_sent (news_kept g j))
 
-pub returns-clause-turn : goal.returns-clause-turn
-returns-clause-turn g c =
-    let j = (goal.at.returns-clause-turn g c).Joined-news in
-    turn_done c.args.core.now c.step-news.new.core c.in_ok-heard.heard c.step-news.result.key c.step-news.result.news (g.L.Line.told c.args.line.now) (g.L.Line.told c.hear.new.self) (g.L.Line.told c.send_key.new.line) (g.K.Keep.told c.args.keep.now) (g.K.Keep.told c.match-news.keep)
-    c.requires.goes_on (the_step g j) c.in_ok-heard.ensures.heard c.in_ok-send_key.ensures.sent (news_kept g j)
+pub returns-in_ok-send-clause-turn : goal.returns-in_ok-send-clause-turn
+returns-in_ok-send-clause-turn g c =
+    let j = (goal.at.returns-in_ok-send-clause-turn g c).Joined-news in
+    turn_done c.args.core.now c.step-news.new.core c.in_ok-heard.heard c.step-news.result.key c.step-news.result.news (g.L.Line.told c.args.line.now) (g.L.Line.told c.hear.new.self) (g.L.Line.told c.send.new.self) (g.K.Keep.told c.args.keep.now) (g.K.Keep.told c.match-news.keep)
+    c.requires.goes_on (the_step g j) c.in_ok-heard.ensures.heard (subst (λ key. Gains (g.L.Line.told c.hear.new.self) (g.L.Line.told c.send.new.self) (said key)) (sym c.in-Some-key.is) c.in_ok-send.ensures.sent) (news_kept g j)
+
+pub returns-in_default-key-clause-turn : goal.returns-in_default-key-clause-turn
+returns-in_default-key-clause-turn g c =
+    let j = (goal.at.returns-in_default-key-clause-turn g c).Joined-news in
+    let line = g.L.Line.told c.hear.new.self in
+    turn_done c.args.core.now c.step-news.new.core c.in_ok-heard.heard c.step-news.result.key c.step-news.result.news (g.L.Line.told c.args.line.now) line line (g.K.Keep.told c.args.keep.now) (g.K.Keep.told c.match-news.keep)
+    c.requires.goes_on (the_step g j) c.in_ok-heard.ensures.heard (subst (λ key. Gains line line (said key)) (sym c.in_default-key.is) (gains_none line)) (news_kept g j)
 
 pub returns-in_err-heard-clause-kept_by : goal.returns-in_err-heard-clause-kept_by
 returns-in_err-heard-clause-kept_by g c =
@@ -69,10 +77,13 @@ news_each g c =
       | in_default w ↦ keeps_no_news g.K.Keep.keeps c.args.keep.now c.match-news.keep c.step-news.result.news w.keep-is w.in_default.is
     ])
 
-pub returns-in_err-send_key-clause-kept_by : goal.returns-in_err-send_key-clause-kept_by
-returns-in_err-send_key-clause-kept_by g c =
-    let fault = c.in_err-send_key.field-0.0 in
-    rw (stop_is c.from_residual-in_err-send_key.result (LineFailed fault) c.from_residual-in_err-send_key.ensures.1) (news_each g (goal.at.returns-in_err-send_key-clause-kept_by g c).Joined-news)
+pub returns-in_err-send-clause-kept_by : goal.returns-in_err-send-clause-kept_by
+returns-in_err-send-clause-kept_by g c =
+    let fault = c.in_err-send.field-0.0 in
+    rw (stop_is c.from_residual-in_err-send.result (LineFailed fault) c.from_residual-in_err-send.ensures.1) (news_each g (goal.at.returns-in_err-send-clause-kept_by g c).Joined-news)
 
-pub returns-clause-kept_by : goal.returns-clause-kept_by
-returns-clause-kept_by g c = news_each g (goal.at.returns-clause-kept_by g c).Joined-news
+pub returns-in_ok-send-clause-kept_by : goal.returns-in_ok-send-clause-kept_by
+returns-in_ok-send-clause-kept_by g c = news_each g (goal.at.returns-in_ok-send-clause-kept_by g c).Joined-news
+
+pub returns-in_default-key-clause-kept_by : goal.returns-in_default-key-clause-kept_by
+returns-in_default-key-clause-kept_by g c = news_each g (goal.at.returns-in_default-key-clause-kept_by g c).Joined-news

@@ -13,7 +13,6 @@ use Rattle.honest_line.specs.Invariant.{EndIsPaid}
 use Rattle.honest_line.specs.Promises.{HasCause}
 use Rattle.load_devices.specs.declared.item.Item.{Item}
 use Rattle.load_devices.specs.declared.item.Item.TheVariants.{Sent, Heard as Came}
-use Rattle.load_devices.specs.declared.item.Kept.{Kept}
 use Rattle.load_devices.specs.Dialogue.{LacksKey, said, dialogue, heard_of}
 use Rattle.honest_line.specs.Starts.{TellsStart}
 use Rattle.honest_line.specs.Trust.{IsTrustworthy}
@@ -22,7 +21,8 @@ use Rattle.honest_line.proofs.Trusted.{trustworthy, trustworthy_unsaid}
 use Rattle.load_engine.specs.declared.stop.Stop.{Stop}
 use Rattle.load_engine.specs.declared.stop.Stop.TheVariants.{Ended, LineFailed, KeepFailed, TurnsOver}
 use Rattle.load_engine.specs.Belief.{IsBelievable, IsBelievableOver, TellsStartOver}
-use Rattle.load_engine.specs.Session.{Session, IsSaid}
+use Rattle.load_engine.specs.Run.{Driving}
+use Rattle.load_engine.specs.Session.{Session, SessionTold, IsSaid}
 use Rattle.load_engine.proofs.Sessions.{gained_is}
 
 -- ---- what was heard in a dialogue
@@ -92,18 +92,19 @@ cut_trusted old new heard items host is lacks =
 again_trusted : (old new : Core) (heard : List Heard) (items : List Item) → IsHost old → new ≡ led old heard → heard_of items ≡ heard → IsTrustworthy old new (dialogue old (heard_of items)) 0
 again_trusted old new heard items host is same = whole_trusted old new heard (dialogue old (heard_of items)) host is (ap (dialogue old) same)
 
-believable : (stop : Stop) (left : ℕ) (old new : Core) (heard : List Heard) (items : List Item) → IsHost old → new ≡ led old heard → IsSaid (Some stop) left (dialogue old heard) items → IsBelievable stop old new items
-believable (Ended end) left old new heard items host is s = whole_trusted old new heard items host is s
-believable TurnsOver left old new heard items host is s = whole_trusted old new heard items host is s.0
-believable (KeepFailed fault) left old new heard items host is s = cut_trusted old new heard items host is s
-believable (LineFailed fault) left old new heard items host is (inl s) =
+believable : (stop : Option Stop) (left : ℕ) (old new : Core) (heard : List Heard) (items : List Item) → IsHost old → new ≡ led old heard → IsSaid stop left (dialogue old heard) items → IsBelievable stop old new items
+believable None left old new heard items host is s = whole_trusted old new heard items host is s.0
+believable (Some (Ended end)) left old new heard items host is s = whole_trusted old new heard items host is s
+believable (Some TurnsOver) left old new heard items host is s = whole_trusted old new heard items host is s.0
+believable (Some (KeepFailed fault)) left old new heard items host is s = cut_trusted old new heard items host is s
+believable (Some (LineFailed fault)) left old new heard items host is (inl s) =
     (trusted_more old new items (whole_trusted old new heard items host is s.0), again_trusted old new heard items host is (ap heard_of s.0 ∙ heard_of-dialogue old heard))
-believable (LineFailed fault) left old new heard items host is (inr s) =
+believable (Some (LineFailed fault)) left old new heard items host is (inr s) =
     (cut_trusted old new heard items host is s, again_trusted old new heard items host is (sym (heard_of_more items s.0) ∙ (ap heard_of (sym s.1) ∙ heard_of-dialogue old heard)))
 
-pub session_believable : (turns : ℕ) (stop : Stop) (old new : Core) (line line' : Option (List Item)) (keep keep' : Option (List Kept)) → IsHost old → Session turns (Some stop) old new line line' keep keep' → IsBelievableOver stop old new line line'
-session_believable turns stop old new line line' keep keep' host s items gained =
-    subst (IsBelievable stop old new) (sym (gained_is line line' items s.said gained s.on_line)) (believable stop (turns - length s.heard) old new s.heard s.said host s.core s.items)
+pub session_believable : (most : ℕ) (turns : Driving) (before after : SessionTold) → IsHost turns.old → Session most turns before after → IsBelievableOver turns before.said after.said
+session_believable most turns before after host s items gained =
+    subst (IsBelievable turns.stop turns.old turns.new) (sym (gained_is before.said after.said items s.said gained s.on_line)) (believable turns.stop (most - length s.heard) turns.old turns.new s.heard s.said host s.core s.items)
 
 -- ---- the start
 
@@ -114,13 +115,14 @@ whole_start old new heard items host is all =
 cut_start : (old new : Core) (heard : List Heard) (items : List Item) → IsHost old → new ≡ led old heard → LacksKey (dialogue old heard) items → TellsStart old new items
 cut_start old new heard items host is lacks = subst (λ core. TellsStart old core items) (sym is) (tells_start_unsaid old heard items lacks.0 host lacks.1)
 
-start_told : (stop : Stop) (left : ℕ) (old new : Core) (heard : List Heard) (items : List Item) → IsHost old → new ≡ led old heard → IsSaid (Some stop) left (dialogue old heard) items → TellsStart old new items
-start_told (Ended end) left old new heard items host is s = whole_start old new heard items host is s
-start_told TurnsOver left old new heard items host is s = whole_start old new heard items host is s.0
-start_told (KeepFailed fault) left old new heard items host is s = cut_start old new heard items host is s
-start_told (LineFailed fault) left old new heard items host is (inl s) = whole_start old new heard items host is s.0
-start_told (LineFailed fault) left old new heard items host is (inr s) = cut_start old new heard items host is s
+start_told : (stop : Option Stop) (left : ℕ) (old new : Core) (heard : List Heard) (items : List Item) → IsHost old → new ≡ led old heard → IsSaid stop left (dialogue old heard) items → TellsStart old new items
+start_told None left old new heard items host is s = whole_start old new heard items host is s.0
+start_told (Some (Ended end)) left old new heard items host is s = whole_start old new heard items host is s
+start_told (Some TurnsOver) left old new heard items host is s = whole_start old new heard items host is s.0
+start_told (Some (KeepFailed fault)) left old new heard items host is s = cut_start old new heard items host is s
+start_told (Some (LineFailed fault)) left old new heard items host is (inl s) = whole_start old new heard items host is s.0
+start_told (Some (LineFailed fault)) left old new heard items host is (inr s) = cut_start old new heard items host is s
 
-pub session_start : (turns : ℕ) (stop : Stop) (old new : Core) (line line' : Option (List Item)) (keep keep' : Option (List Kept)) → IsHost old → Session turns (Some stop) old new line line' keep keep' → TellsStartOver old new line line'
-session_start turns stop old new line line' keep keep' host s items gained =
-    subst (TellsStart old new) (sym (gained_is line line' items s.said gained s.on_line)) (start_told stop (turns - length s.heard) old new s.heard s.said host s.core s.items)
+pub session_start : (most : ℕ) (turns : Driving) (before after : SessionTold) → IsHost turns.old → Session most turns before after → TellsStartOver turns before.said after.said
+session_start most turns before after host s items gained =
+    subst (TellsStart turns.old turns.new) (sym (gained_is before.said after.said items s.said gained s.on_line)) (start_told turns.stop (most - length s.heard) turns.old turns.new s.heard s.said host s.core s.items)

@@ -2,33 +2,35 @@
 use Rattle.std.proofs.Common.{◌≡◌, List, [], ◌∷◌, ◌++◌, Option, Some, None, refl, ap, sym, subst, ◌∙◌, append_assoc}
 use Rattle.std.specs.Prelude.{option_to_list}
 use Rattle.host_core.specs.Core.{Core}
+use Rattle.load_devices.specs.declared.fault.KeepFault.{KeepFault}
 use Rattle.load_devices.specs.declared.item.Kept.{Kept}
+use Rattle.load_devices.specs.Devices.{KeeperCalls}
 use Rattle.load_devices.specs.Dialogue.{news_between}
+use Rattle.load_devices.specs.Failures.{CountsFault}
 use Rattle.load_engine.specs.declared.stop.Stop.{Stop}
-use Rattle.load_engine.specs.declared.stop.Stop.TheVariants.{Ended, LineFailed, KeepFailed, TurnsOver}
-use Rattle.load_engine.specs.Keeping.{KeepsEach, KeepsAllButLast, KeptBy}
+use Rattle.load_engine.specs.Driven.{IsKeptBy, turns_give}
+use Rattle.load_engine.specs.Failing.{keep_fault}
+use Rattle.load_engine.specs.Keeping.{KeepsEach, KeepsAllButLast, KeptBy, keeping}
+use Rattle.load_engine.specs.Run.{driving}
 use Rattle.load_engine.proofs.News.{IsForward, news_none, news_join}
 
 -- ---- one stretch after another
 
-each_join : {K : Type 0} (keeps : K → Kept → K → Type 0) (old next new : K) (items more : List Kept) → KeepsEach keeps old items next → KeepsEach keeps next more new → KeepsEach keeps old (items ++ more) new
+pub each_join : {K : Type 0} (keeps : K → Kept → K → Type 0) (old next new : K) (items more : List Kept) → KeepsEach keeps old items next → KeepsEach keeps next more new → KeepsEach keeps old (items ++ more) new
 each_join {K} keeps old next new [] more same each = let P : K → Type 0 = λ k. KeepsEach keeps k more new in subst P same each
 each_join {K} keeps old next new (item ∷ items) more (between, one, rest) each = (between, one, each_join keeps between next new items more rest each)
 
-kept_join : {K : Type 0} (keeps fails : K → Kept → K → Type 0) (stop : Option Stop) (old next new : K) (items more : List Kept) → KeepsEach keeps old items next → KeptBy keeps fails stop next more new →
-    KeptBy keeps fails stop old (items ++ more) new
-kept_join {K} keeps fails (Some (KeepFailed fault)) old next new items more each by = record {
+kept_join : {K : Type 0} (calls : KeeperCalls K) (fault : Option KeepFault) (old next new : K) (items more : List Kept) → KeepsEach calls.keeps old items next → KeptBy calls (keeping more fault) next new →
+    KeptBy calls (keeping (items ++ more) fault) old new
+kept_join {K} calls None old next new items more each by = each_join calls.keeps old next new items more each by
+kept_join {K} calls (Some fault) old next new items more each by = record {
   kept = items ++ by.kept;
   last = by.last;
   items_are = ap (λ l. items ++ l) by.items_are ∙ sym (append_assoc items by.kept (by.last ∷ []));
   next = by.next;
-  each = each_join keeps old next by.next items by.kept each by.each;
+  each = each_join calls.keeps old next by.next items by.kept each by.each;
   failing = by.failing;
 }
-kept_join {K} keeps fails (Some (LineFailed fault)) old next new items more each by = each_join keeps old next new items more each by
-kept_join {K} keeps fails (Some TurnsOver) old next new items more each by = each_join keeps old next new items more each by
-kept_join {K} keeps fails (Some (Ended end)) old next new items more each by = each_join keeps old next new items more each by
-kept_join {K} keeps fails None old next new items more each by = each_join keeps old next new items more each by
 
 -- ---- one turn
 
@@ -44,9 +46,9 @@ pub keeps_no_news : {K : Type 0} (keeps : K → Kept → K → Type 0) (old new 
 keeps_no_news {K} keeps old new news same is = subst (λ o. KeepsEach keeps old (option_to_list o) new) (sym is) same
 
 -- the one thing is not kept
-pub fails_one : {K : Type 0} (keeps fails : K → Kept → K → Type 0) (old new : K) (news : Option Kept) (item : Kept) (all : List Kept) → news ≡ Some item → option_to_list news ≡ all → fails old item new →
-    KeepsAllButLast keeps fails old all new
-fails_one {K} keeps fails old new news item all is are one = record {
+pub fails_one : {K : Type 0} (calls : KeeperCalls K) (old new : K) (news : Option Kept) (item : Kept) (all : List Kept) → news ≡ Some item → option_to_list news ≡ all → calls.fails old item new →
+    KeepsAllButLast calls old all new
+fails_one {K} calls old new news item all is are one = record {
   kept = [];
   last = item;
   items_are = sym are ∙ ap option_to_list is;
@@ -57,7 +59,15 @@ fails_one {K} keeps fails old new news item all is are one = record {
 
 -- ---- a stretch of turns
 
-pub kept_then : {K : Type 0} (keeps fails : K → Kept → K → Type 0) (stop : Option Stop) (old next new : K) (a b c : Core) → IsForward a b → IsForward b c → KeepsEach keeps old (news_between a b) next →
-    KeptBy keeps fails stop next (news_between b c) new → KeptBy keeps fails stop old (news_between a c) new
-kept_then {K} keeps fails stop old next new a b c one two each by =
-    subst (λ items. KeptBy keeps fails stop old items new) (sym (news_join a b c one two)) (kept_join keeps fails stop old next new (news_between a b) (news_between b c) each by)
+-- what a keeper was given up to one core, and from there to another
+pub kept_then : {K : Type 0} (calls : KeeperCalls K) (stop : Option Stop) (old next new : K) (a b c : Core) → IsForward a b → IsForward b c → IsKeptBy calls (turns_give (driving a b None)) old next →
+    IsKeptBy calls (turns_give (driving b c stop)) next new → IsKeptBy calls (turns_give (driving a c stop)) old new
+kept_then {K} calls stop old next new a b c one two first by = record {
+  counted = subst (λ count. CountsFault (keep_fault stop) count (calls.failures new)) first.counted by.counted;
+  named = by.named;
+  kept_by = subst (λ items. KeptBy calls (keeping items (keep_fault stop)) old new) (sym (news_join a b c one two)) (kept_join calls (keep_fault stop) old next new (news_between a b) (news_between b c) first.kept_by by.kept_by);
+}
+
+-- nothing is kept in no turns
+pub kept_none : {K : Type 0} (calls : KeeperCalls K) (keeper : K) (core : Core) → IsKeptBy calls (turns_give (driving core core None)) keeper keeper
+kept_none {K} calls keeper core = record { counted = refl; named = tt; kept_by = keeps_none calls.keeps keeper keeper core refl }

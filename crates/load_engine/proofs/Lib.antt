@@ -1,6 +1,6 @@
 mod Beliefs
 mod Driven
-mod Keepings
+pub mod Keepings
 mod Lendings
 pub mod News
 pub mod Sessions

@@ -19,7 +19,8 @@ use Rattle.load_devices.specs.Told.{Gains}
 use Rattle.load_devices.proofs.Told.{gains_join, gains_none}
 use Rattle.load_engine.specs.declared.stop.Stop.{Stop}
 use Rattle.load_engine.specs.declared.stop.Stop.TheVariants.{Ended, LineFailed, KeepFailed, TurnsOver}
-use Rattle.load_engine.specs.Session.{GoesOn, IsSaid, IsKeptNews, Session, HasGained, KeepsMarkFirst, IsFailure}
+use Rattle.load_engine.specs.Run.{driving}
+use Rattle.load_engine.specs.Session.{GoesOn, IsSaid, IsKeptNews, Session, SessionTold, HasGained, KeepsMarkFirst, IsFailure}
 use Rattle.load_engine.proofs.News.{IsForward, news_none, news_join, led_forward}
 
 -- ---- told lists
@@ -97,13 +98,12 @@ news_follow stop a b c first second one two whole k =
     subst (λ news. IsKeptNews stop news (first ++ second)) all (kept_join stop first (news_between b c) second k)
 
 -- a session that may go on heard as many things as it had turns
-whole : (turns : ℕ) (a b : Core) (line line' : Option (List Item)) (keep keep' : Option (List Kept)) (s : Session turns None a b line line' keep keep') → length s.heard ≡ turns
-whole turns a b line line' keep keep' s = omega (arith, s.within, s.items.1)
+whole : (turns : ℕ) (a b : Core) (before after : SessionTold) (s : Session turns (driving a b None) before after) → length s.heard ≡ turns
+whole turns a b before after s = omega (arith, s.within, s.items.1)
 
-pub session_join : (turns more : ℕ) (stop : Option Stop) (a b c : Core) (line line' line'' : Option (List Item)) (keep keep' keep'' : Option (List Kept)) → IsHost a → IsHost b →
-    Session turns None a b line line' keep keep' → Session more stop b c line' line'' keep' keep'' →
-    Session (turns + more) stop a c line line'' keep keep''
-session_join turns more stop a b c line line' line'' keep keep' keep'' host host' s t = let all = whole turns a b line line' keep keep' s in record {
+pub session_join : (turns more : ℕ) (stop : Option Stop) (a b c : Core) (before between after : SessionTold) → IsHost a → IsHost b →
+    Session turns (driving a b None) before between → Session more (driving b c stop) between after → Session (turns + more) (driving a c stop) before after
+session_join turns more stop a b c before between after host host' s t = let all = whole turns a b before between s in record {
   heard = s.heard ++ t.heard;
   said = s.said ++ t.said;
   kept = s.kept ++ t.kept;
@@ -113,8 +113,8 @@ session_join turns more stop a b c line line' line'' keep keep' keep'' host host
   items = items_join stop turns more a b s.heard t.heard s.said t.said s.core all s.items.0 t.items;
   news = news_follow stop a b c s.kept t.kept (forward a b s.heard host s.core) (forward b c t.heard host' t.core) s.news t.news;
   mark_first = mark_join s.said t.said s.kept t.kept s.mark_first t.mark_first;
-  on_line = gains_join line line' line'' s.said t.said s.on_line t.on_line;
-  at_keeper = gains_join keep keep' keep'' s.kept t.kept s.at_keeper t.at_keeper;
+  on_line = gains_join before.said between.said after.said s.said t.said s.on_line t.on_line;
+  at_keeper = gains_join before.kept between.kept after.kept s.kept t.kept s.at_keeper t.at_keeper;
 }
 
 -- ---- a session of no turns, and one that stops
@@ -122,8 +122,8 @@ session_join turns more stop a b c line line' line'' keep keep' keep'' host host
 nothing_said : {A : Type 0} (c : A) → Contains [] c → ⊥
 nothing_said c (k, low, is) = omega (arith, low)
 
-pub session_none : (core : Core) (line : Option (List Item)) (keep : Option (List Kept)) → Session 0 None core core line line keep keep
-session_none core line keep = record {
+pub session_none : (core : Core) (told : SessionTold) → Session 0 (driving core core None) told told
+session_none core told = record {
   heard = [];
   said = [];
   kept = [];
@@ -133,8 +133,8 @@ session_none core line keep = record {
   items = (refl, omega arith);
   news = sym (news_none core core refl refl);
   mark_first = λ c. absurd (nothing_said go c);
-  on_line = gains_none line;
-  at_keeper = gains_none keep;
+  on_line = gains_none told.said;
+  at_keeper = gains_none told.kept;
 }
 
 more_left : (stop : Stop) (turns all : ℕ) (heard : List Heard) (items now : List Item) → IsFailure stop → turns ≤ all → IsSaid (Some stop) (turns - length heard) items now → IsSaid (Some stop) (all - length heard) items now
@@ -145,9 +145,9 @@ more_left TurnsOver turns all heard items now f le s = absurd f
 more_left (Ended end) turns all heard items now f le s = absurd f
 
 -- a failure with turns to spare
-pub session_wider : (stop : Stop) (turns all : ℕ) (a b : Core) (line line' : Option (List Item)) (keep keep' : Option (List Kept)) → IsFailure stop → turns ≤ all →
-    Session turns (Some stop) a b line line' keep keep' → Session all (Some stop) a b line line' keep keep'
-session_wider stop turns all a b line line' keep keep' f le s = record {
+pub session_wider : (stop : Stop) (turns all : ℕ) (a b : Core) (before after : SessionTold) → IsFailure stop → turns ≤ all →
+    Session turns (driving a b (Some stop)) before after → Session all (driving a b (Some stop)) before after
+session_wider stop turns all a b before after f le s = record {
   heard = s.heard;
   said = s.said;
   kept = s.kept;
@@ -161,9 +161,9 @@ session_wider stop turns all a b line line' keep keep' f le s = record {
   at_keeper = s.at_keeper;
 }
 
-pub session_ended : (end : End) (turns all : ℕ) (a b : Core) (line line' : Option (List Item)) (keep keep' : Option (List Kept)) → turns ≤ all →
-    Session turns None a b line line' keep keep' → Session all (Some (Ended end)) a b line line' keep keep'
-session_ended end turns all a b line line' keep keep' le s = record {
+pub session_ended : (end : End) (turns all : ℕ) (a b : Core) (before after : SessionTold) → turns ≤ all →
+    Session turns (driving a b None) before after → Session all (driving a b (Some (Ended end))) before after
+session_ended end turns all a b before after le s = record {
   heard = s.heard;
   said = s.said;
   kept = s.kept;
@@ -177,8 +177,8 @@ session_ended end turns all a b line line' keep keep' le s = record {
   at_keeper = s.at_keeper;
 }
 
-pub session_over : (turns : ℕ) (a b : Core) (line line' : Option (List Item)) (keep keep' : Option (List Kept)) → Session turns None a b line line' keep keep' → Session turns (Some TurnsOver) a b line line' keep keep'
-session_over turns a b line line' keep keep' s = record {
+pub session_over : (turns : ℕ) (a b : Core) (before after : SessionTold) → Session turns (driving a b None) before after → Session turns (driving a b (Some TurnsOver)) before after
+session_over turns a b before after s = record {
   heard = s.heard;
   said = s.said;
   kept = s.kept;
@@ -194,8 +194,8 @@ session_over turns a b line line' keep keep' s = record {
 
 -- ---- what a session says of the mark
 
-pub session_marks : (turns : ℕ) (stop : Option Stop) (a b : Core) (line line' : Option (List Item)) (keep keep' : Option (List Kept)) → Session turns stop a b line line' keep keep' → KeepsMarkFirst line line' keep keep'
-session_marks turns stop a b line line' keep keep' s items kept on_line at_keeper has =
-    let said_is : items ≡ s.said = gained_is line line' items s.said on_line s.on_line in
-    let kept_is : kept ≡ s.kept = gained_is keep keep' kept s.kept at_keeper s.at_keeper in
+pub session_marks : (turns : ℕ) (stop : Option Stop) (a b : Core) (before after : SessionTold) → Session turns (driving a b stop) before after → KeepsMarkFirst before after
+session_marks turns stop a b before after s items kept on_line at_keeper has =
+    let said_is : items ≡ s.said = gained_is before.said after.said items s.said on_line s.on_line in
+    let kept_is : kept ≡ s.kept = gained_is before.kept after.kept kept s.kept at_keeper s.at_keeper in
     subst (λ all. Contains all Go) (sym kept_is) (s.mark_first (subst (λ all. Contains (keys_of all) go) said_is has))

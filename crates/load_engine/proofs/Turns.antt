@@ -16,7 +16,8 @@ use Rattle.load_devices.specs.Failures.{fault_of}
 use Rattle.load_devices.specs.Told.{Gains, SaysNothing}
 use Rattle.load_engine.specs.declared.stop.Stop.{Stop}
 use Rattle.load_engine.specs.declared.stop.Stop.TheVariants.{LineFailed, KeepFailed}
-use Rattle.load_engine.specs.Session.{Session}
+use Rattle.load_engine.specs.Run.{driving}
+use Rattle.load_engine.specs.Session.{Session, session_told}
 use Rattle.load_engine.proofs.News.{news_none}
 use Rattle.load_devices.proofs.Told.{gains_none, gains_kept, gains_join}
 
@@ -48,7 +49,7 @@ kept_none {K} told old new news same is =
 
 -- the line fails at the hear
 pub turn_deaf : (fault : LineFault) (core : Core) (line line' : Option (List Item)) (keep : Option (List Kept)) → SaysNothing line line' →
-    Session 1 (Some (LineFailed fault)) core core line line' keep keep
+    Session 1 (driving core core (Some (LineFailed fault))) (session_told line keep) (session_told line' keep)
 turn_deaf fault core line line' keep k = record {
   heard = [];
   said = [];
@@ -66,7 +67,7 @@ turn_deaf fault core line line' keep k = record {
 -- the keeper fails
 pub turn_unkept : (fault : KeepFault) (old new : Core) (heard : Heard) (key : Option ℕ) (item : Kept) (line line' : Option (List Item)) (keep keep' : Option (List Kept)) →
     ended old.phase ≡ None → IsStep old new heard key (Some item) → Gains line line' (Came heard ∷ []) → SaysNothing keep keep' →
-    Session 1 (Some (KeepFailed fault)) old new line line' keep keep'
+    Session 1 (driving old new (Some (KeepFailed fault))) (session_told line keep) (session_told line' keep')
 turn_unkept fault old new heard None item line line' keep keep' running step g k = let none : IsSome {T = ℕ} None = step.with_key refl in absurd (cc)
 turn_unkept fault old new heard (Some key) item line line' keep keep' running step g k = record {
   heard = heard ∷ [];
@@ -85,7 +86,7 @@ turn_unkept fault old new heard (Some key) item line line' keep keep' running st
 -- the line fails at the send
 pub turn_unsent : (fault : LineFault) (old new : Core) (heard : Heard) (key : Option ℕ) (news : Option Kept) (line line' line'' : Option (List Item)) (keep keep' : Option (List Kept)) →
     ended old.phase ≡ None → IsStep old new heard key news → IsSome key → Gains line line' (Came heard ∷ []) → SaysNothing line' line'' → Gains keep keep' (option_to_list news) →
-    Session 1 (Some (LineFailed fault)) old new line line'' keep keep'
+    Session 1 (driving old new (Some (LineFailed fault))) (session_told line keep) (session_told line'' keep')
 turn_unsent fault old new heard None news line line' line'' keep keep' running step some g same k = absurd (cc)
 turn_unsent fault old new heard (Some key) news line line' line'' keep keep' running step some g same k = record {
   heard = heard ∷ [];
@@ -116,7 +117,7 @@ marked_first (Some key) news with_start c = has_mark news (with_start (the_only 
 -- a whole turn
 pub turn_done : (old new : Core) (heard : Heard) (key : Option ℕ) (news : Option Kept) (line line' line'' : Option (List Item)) (keep keep' : Option (List Kept)) →
     ended old.phase ≡ None → IsStep old new heard key news → Gains line line' (Came heard ∷ []) → Gains line' line'' (said key) → Gains keep keep' (option_to_list news) →
-    Session 1 None old new line line'' keep keep'
+    Session 1 (driving old new None) (session_told line keep) (session_told line'' keep')
 turn_done old new heard key news line line' line'' keep keep' running step g h k = record {
   heard = heard ∷ [];
   said = Came heard ∷ said key;

@@ -8,10 +8,12 @@ use Rattle.host_core.specs.PhaseTable.{move}
 use Rattle.load_devices.specs.declared.item.Item.{Item}
 use Rattle.load_devices.specs.declared.item.Kept.{Kept}
 use Rattle.load_devices.specs.declared.item.Kept.TheVariants.{Go}
+use Rattle.load_devices.specs.Devices.{Devices}
 use Rattle.load_devices.specs.Dialogue.{LacksKey, dialogue, keys_of, news_between}
 use Rattle.load_devices.specs.Told.{Gains}
 use Rattle.load_engine.specs.declared.stop.Stop.{Stop}
 use Rattle.load_engine.specs.declared.stop.Stop.TheVariants.{Ended, LineFailed, KeepFailed, TurnsOver}
+use Rattle.load_engine.specs.Run.{Driving}
 
 -- the core has no end before the last of these is heard
 abbrev pub GoesOn : Core → List Heard → Type 0
@@ -39,32 +41,43 @@ IsKeptNews (Some TurnsOver) all kept = kept ≡ all
 IsKeptNews (Some (Ended end)) all kept = kept ≡ all
 IsKeptNews None all kept = kept ≡ all
 
--- at most so many turns from one core to another, which stopped so: what was heard, what was said on the line and what was
--- kept, with what line and keeper told before and tell after
-pub record Session (turns : ℕ) (stop : Option Stop) (old new : Core) (line line' : Option (List Item)) (keep keep' : Option (List Kept)) : Type 0 where
+-- what was said on a line and what a keeper kept, where they tell it
+pub record SessionTold : Type 0 where
+  pub said : Option (List Item)
+  pub kept : Option (List Kept)
+
+abbrev pub session_told : Option (List Item) → Option (List Kept) → SessionTold
+session_told said kept = record { said = said; kept = kept }
+
+-- what a line and a keeper tell of it
+abbrev pub told_by : Devices → SessionTold
+told_by devices = session_told devices.line.said devices.kept
+
+-- at most so many turns: what was heard, what was said on the line and what was kept, with what line and keeper told before and tell after
+pub record Session (most : ℕ) (turns : Driving) (before after : SessionTold) : Type 0 where
   pub heard : List Heard
   pub said : List Item
   pub kept : List Kept
   -- the core heard these things, and nothing more once it had an end
-  pub core : new ≡ led old heard
-  pub goes_on : GoesOn old heard
-  pub within : length heard ≤ turns
+  pub core : turns.new ≡ led turns.old heard
+  pub goes_on : GoesOn turns.old heard
+  pub within : length heard ≤ most
   -- each character right after the heard thing that makes the core send it
-  pub items : IsSaid stop (turns - length heard) (dialogue old heard) said
+  pub items : IsSaid turns.stop (most - length heard) (dialogue turns.old heard) said
   -- the words that became verified, then the mark
-  pub news : IsKeptNews stop (news_between old new) kept
+  pub news : IsKeptNews turns.stop (news_between turns.old turns.new) kept
   pub mark_first : Contains (keys_of said) go → Contains kept Go
-  pub on_line : Gains line line' said
-  pub at_keeper : Gains keep keep' kept
+  pub on_line : Gains before.said after.said said
+  pub at_keeper : Gains before.kept after.kept kept
 
 -- a told list has gained these
 abbrev pub HasGained : {A : Type 0} → Option (List A) → Option (List A) → List A → Type 0
 HasGained {A} old new more = (items : List A) × (old ≡ Some items) × (new ≡ Some (items ++ more))
 
 -- wherever `G` was sent, the mark was kept
-abbrev pub KeepsMarkFirst : Option (List Item) → Option (List Item) → Option (List Kept) → Option (List Kept) → Type 0
-KeepsMarkFirst line line' keep keep' =
-    (said : List Item) (kept : List Kept) → HasGained line line' said → HasGained keep keep' kept →
+abbrev pub KeepsMarkFirst : SessionTold → SessionTold → Type 0
+KeepsMarkFirst before after =
+    (said : List Item) (kept : List Kept) → HasGained before.said after.said said → HasGained before.kept after.kept kept →
     Contains (keys_of said) go → Contains kept Go
 
 -- an engine that stopped without a fault tells the core's end, or that there is none

@@ -1,4 +1,4 @@
-ghost use Rattle.std.specs.Prelude.{◌≡◌, [], ◌∷◌, None, Some, option_to_list, IsSome, IfErr, OnOk, OnErr};
+ghost use Rattle.std.specs.Prelude.{◌≡◌, [], ◌∷◌, None, Some, option_to_list, IsSome, OnOk, OnErr};
 ghost use Rattle.host_core.specs.Console.{go};
 ghost use Rattle.host_core.specs.Core.{ended};
 ghost use Rattle.host_core.specs.Host.{IsHost};
@@ -7,10 +7,8 @@ ghost use Rattle.load_devices.specs.Devices.{calls_of, devices_of};
 ghost use Rattle.load_devices.specs.Dialogue.{news_between};
 ghost use Rattle.load_devices.specs.Failures.{count_after, fault_of};
 ghost use Rattle.load_devices.specs.Told.{Gains, SaysNothing};
-ghost use Rattle.load_engine.specs.Driven.{IsDriven, IsKeptBy};
-ghost use Rattle.load_engine.specs.Failing.{Counts, NamesFault};
-ghost use Rattle.load_engine.specs.Keeping.{KeptBy};
-ghost use Rattle.load_engine.specs.Session.{Session, IsFailure};
+ghost use Rattle.load_engine.specs.Driven.{IsDriven, IsKeptBy, IsTurn, turns_give};
+ghost use Rattle.load_engine.specs.Run.{driving};
 
 use crate::stop::Stop;
 use host_core::{Heard, HostCore, Progress};
@@ -30,8 +28,9 @@ pub fn drive<L: Line, K: Keep, O: Onlooker>(
     turns: u64,
     onlooker: &O,
 ) -> (HostCore, Stop)
-    ensures driven { IsDriven turns core result.0 result.1 (devices_of L.Line K.Keep line.old keep.old) (devices_of L.Line K.Keep line.new keep.new) }
-    ensures kept { IsKeptBy (calls_of K.Keep) core result.0 result.1 keep.old keep.new }
+    ensures driven { IsDriven turns (driving core result.0 (Some result.1))
+        (devices_of L.Line K.Keep line.old keep.old) (devices_of L.Line K.Keep line.new keep.new) }
+    ensures kept { IsKeptBy (calls_of K.Keep) (turns_give (driving core result.0 (Some result.1))) keep.old keep.new }
 {
     let mut end = core.end();
     for _ in 0..turns {
@@ -58,13 +57,10 @@ fn turn<L: Line, K: Keep, O: Onlooker>(
     onlooker: &O,
 ) -> Result<(), Stop>
     requires goes_on { ended core.old.phase ≡ None }
-    requires kept { IsHost core.old }
-    ensures turn { Session 1 (fault_of result) core.old core.new (L.told line.old) (L.told line.new) (K.told keep.old) (K.told keep.new) }
-    ensures counted { Counts (fault_of result) (L.fault_count line.old) (L.fault_count line.new) (K.fault_count keep.old) (K.fault_count keep.new) }
-    ensures fault { NamesFault (fault_of result) (L.last_fault line.new) (K.last_fault keep.new) }
-    ensures kept_by { KeptBy K.keeps K.fails (fault_of result) keep.old (news_between core.old core.new) keep.new }
-    ensures device { IfErr result IsFailure }
-    ensures kept { IsHost core.new }
+    requires host { IsHost core.old }
+    ensures turn { IsTurn (driving core.old core.new (fault_of result))
+        (devices_of L.Line K.Keep line.old keep.old) (devices_of L.Line K.Keep line.new keep.new) }
+    ensures kept { IsKeptBy (calls_of K.Keep) (turns_give (driving core.old core.new (fault_of result))) keep.old keep.new }
 {
     let heard = line.hear()?;
     let Errands { news, key } = step(core, heard, onlooker);

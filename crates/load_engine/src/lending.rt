@@ -1,8 +1,9 @@
-ghost use Rattle.std.specs.Prelude.{◌≡◌};
+ghost use Rattle.std.specs.Prelude.{◌≡◌, Some};
 ghost use Rattle.honest_line.specs.Lent.{HasMovedOn};
 ghost use Rattle.load_devices.specs.Devices.{calls_of, devices};
-ghost use Rattle.load_engine.specs.Driven.{IsDriven, IsKeptBy};
+ghost use Rattle.load_engine.specs.Driven.{IsDriven, IsKeptBy, turns_give};
 ghost use Rattle.load_engine.specs.Lent.{LoadsSafely, memory_told};
+ghost use Rattle.load_engine.specs.Run.{driving};
 
 use crate::driving::drive;
 use crate::stop::Stop;
@@ -23,10 +24,10 @@ pub fn drive_in_memory<K: Keep>(
     turns: u64,
 ) -> ((HostCore, Stop), MemoryLine)
     ensures moved { HasMovedOn line result.1 }
-    ensures loads { LoadsSafely result.0.1 core result.0.0 line result.1 }
-    ensures driven { IsDriven turns core result.0.0 result.0.1
+    ensures loads { LoadsSafely (driving core result.0.0 (Some result.0.1)) line result.1 }
+    ensures driven { IsDriven turns (driving core result.0.0 (Some result.0.1))
         (devices (memory_told line) (K.told keep.old)) (devices (memory_told result.1) (K.told keep.new)) }
-    ensures kept { IsKeptBy (calls_of K.Keep) core result.0.0 result.0.1 keep.old keep.new }
+    ensures kept { IsKeptBy (calls_of K.Keep) (turns_give (driving core result.0.0 (Some result.0.1))) keep.old keep.new }
 {
     drive_lent::<Brand, K>(core, line, keep, turns)
 }
@@ -40,10 +41,10 @@ fn drive_lent<E: Opening, K: Keep>(
 ) -> ((HostCore, Stop), MemoryLine)
     requires { line ≡ E.line }
     ensures moved { HasMovedOn E.line result.1 }
-    ensures loads { LoadsSafely result.0.1 core result.0.0 E.line result.1 }
-    ensures driven { IsDriven turns core result.0.0 result.0.1
+    ensures loads { LoadsSafely (driving core result.0.0 (Some result.0.1)) E.line result.1 }
+    ensures driven { IsDriven turns (driving core result.0.0 (Some result.0.1))
         (devices (memory_told line) (K.told keep.old)) (devices (memory_told result.1) (K.told keep.new)) }
-    ensures kept { IsKeptBy (calls_of K.Keep) core result.0.0 result.0.1 keep.old keep.new }
+    ensures kept { IsKeptBy (calls_of K.Keep) (turns_give (driving core result.0.0 (Some result.0.1))) keep.old keep.new }
 {
     let mut lent = LentLine::<E>::lend(line);
     let answer = drive(core, &mut lent, keep, turns, &Unwatched);

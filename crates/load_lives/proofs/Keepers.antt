@@ -25,7 +25,8 @@ use Rattle.load_devices.specs.Dialogue.{said, dialogue, keys_of, mark_between, n
 use Rattle.honest_line.proofs.Trusted.{keys_of-dialogue}
 use Rattle.load_engine.specs.declared.stop.Stop.{Stop}
 use Rattle.load_engine.specs.declared.stop.Stop.TheVariants.{Ended, LineFailed, KeepFailed, TurnsOver}
-use Rattle.load_engine.specs.Keeping.{KeepsEach, KeptBy}
+use Rattle.load_engine.specs.Failing.{keep_fault}
+use Rattle.load_engine.specs.Keeping.{KeepsEach, KeptBy, keeping}
 use Rattle.load_engine.specs.Session.{IsKeptNews}
 use Rattle.load_engine.proofs.News.{led_forward}
 use Rattle.load_engine.proofs.Sessions.{keys_join}
@@ -34,7 +35,7 @@ use Rattle.load_record.specs.Keeper.{Keeper, HasKept, HasCutShort, HoldsRecord}
 use Rattle.load_record.specs.RecordText.{mark_text, record_text, second_piece, words_text}
 use Rattle.load_record.proofs.Keeping.{known_text, wrote_adds}
 use Rattle.load_lives.specs.Stops.{WentOut, IsBeginning}
-use Rattle.load_lives.specs.Keepers.{WentOutAt, HasLeft, KeepersLeave}
+use Rattle.load_lives.specs.Keepers.{WentOutAt, HasLeft, KeepersLeave, record_calls}
 use Rattle.load_lives.proofs.Records.{says_sound}
 use Rattle.load_lives.proofs.Stopping.{unsent_out, records_are_fronts}
 
@@ -215,7 +216,7 @@ all_kept plan k n words later set keep keep' holds are n_is each =
     holds_all plan n set held.0 keep' (subst (HoldsRecord held.0 plan) (sym n_is) held.1) held.2
 
 holds_now : (stop : Stop) (plan : PlanValue) (k n : ℕ) (words later : List WordValue) (set : Bool) (keep keep' : Keeper) → HoldsRecord keep plan k → drop k plan.words ≡ words ++ later → n ≡ k + length words →
-    KeptBy HasKept HasCutShort (Some stop) keep (map Word words ++ mark_between false set) keep' → HoldsNow stop plan n set keep'
+    KeptBy record_calls (keeping (map Word words ++ mark_between false set) (keep_fault (Some stop))) keep keep' → HoldsNow stop plan n set keep'
 holds_now (KeepFailed fault) plan k n words later set keep keep' holds are n_is by =
     cut_front plan k n words later set by.kept by.last keep by.next keep' holds are n_is (cut_at words set by.kept by.last by.items_are) by.each by.failing
 holds_now (LineFailed fault) plan k n words later set keep keep' holds are n_is by = all_kept plan k n words later set keep keep' holds are n_is by
@@ -260,10 +261,10 @@ leaves TurnsOver plan progress core told items kept all old keep unset is sets o
 leaves (Ended end) plan progress core told items kept all old keep unset is sets out first none = whole_left plan progress core items old keep unset is sets
 
 pub keepers_leave : KeepersLeave
-keepers_leave plan progress patience turns stop core line line' told told' keep keep' items old fits long goes unset holds session out by =
+keepers_leave plan progress patience turns stop core before after keep keep' items old fits long goes unset holds session out by =
     leaves stop plan progress core session.said items session.kept (dialogue first session.heard) old keep' unset
     (holds_now stop plan progress.verified core.verified words later core.going keep keep' holds (sym (take-append-drop (core.verified - progress.verified) (drop progress.verified plan.words))) count
-    (subst (λ (news : List Kept). KeptBy HasKept HasCutShort (Some stop) keep news keep') news by))
+    (subst (λ (news : List Kept). KeptBy record_calls (keeping news (keep_fault (Some stop))) keep keep') news by))
     sets out session.mark_first (no_mark_kept stop words core.going (news_between first core) session.kept news session.news)
   where
     first : Core

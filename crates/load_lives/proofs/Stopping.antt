@@ -43,7 +43,7 @@ unsent_out stop left all told items s (inl same) = subst (λ (list : List Item).
 unsent_out stop left all told items s (inr whole) = all_said all items whole
 
 pub sessions_are_lives : SessionsAreLives
-sessions_are_lives plan progress patience turns stop core line line' keep keep' items old new long goes_on session out passes left =
+sessions_are_lives plan progress patience turns stop core before after items old new long goes_on session out passes left =
     let first : Core = begun plan progress.verified progress.going patience in
     let u = unsent_out stop (turns - length session.heard) (dialogue first session.heard) session.said items session.items out in
     let life : Life = record { patience = patience; progress = progress; heard = session.heard; items = items; unsent = u.0 } in (

@@ -7,10 +7,10 @@ use Rattle.host_core.specs.declared.heard.Heard.{Heard}
 use Rattle.host_core.specs.declared.progress.Progress.{Progress}
 use Rattle.host_core.specs.Core.{Core, begun}
 use Rattle.load_devices.specs.declared.item.Item.{Item}
-use Rattle.load_devices.specs.declared.item.Kept.{Kept}
 use Rattle.load_devices.specs.Dialogue.{said, dialogue}
 use Rattle.load_engine.specs.declared.stop.Stop.{Stop}
-use Rattle.load_engine.specs.Session.{Session}
+use Rattle.load_engine.specs.Run.{driving}
+use Rattle.load_engine.specs.Session.{Session, SessionTold}
 use Rattle.load_record.specs.declared.version.Version.TheVariants.{Second}
 use Rattle.load_record.specs.RecordText.{mark_text, open_run, record_text, second_piece}
 use Rattle.load_lives.specs.Lives.{WireAndRecord, Life, last_core, GoesOnFrom, PassesOver, IsLeft, IsLife}
@@ -23,9 +23,9 @@ WentOut all told items = (items ≡ told) ⊎ (items ≡ all)
 abbrev pub SessionsAreLives : Type 0
 SessionsAreLives =
     (plan : PlanValue) (progress : Progress) (patience : ℕ) (turns : ℕ) (stop : Option Stop) (core : Core)
-    (line line' : Option (List Item)) (keep keep' : Option (List Kept)) (items : List Item) (old new : WireAndRecord) →
+    (before after : SessionTold) (items : List Item) (old new : WireAndRecord) →
     patience < 2 ^ 32 → GoesOnFrom plan old.text progress →
-    (session : Session turns stop (begun plan progress.verified progress.going patience) core line line' keep keep') →
+    (session : Session turns (driving (begun plan progress.verified progress.going patience) core stop) before after) →
     WentOut (dialogue (begun plan progress.verified progress.going patience) session.heard) session.said items →
     PassesOver old.wire items new.wire → IsLeft plan progress core items old.text new.text →
     (life : Life) × (last_core plan life ≡ core) × (life.items ≡ items) × IsLife plan old life new

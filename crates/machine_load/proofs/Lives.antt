@@ -15,7 +15,8 @@ use Rattle.load_devices.specs.Dialogue.{dialogue, keys_of}
 use Rattle.load_devices.specs.Turns.{most_turns}
 use Rattle.load_engine.specs.declared.stop.Stop.{Stop}
 use Rattle.load_engine.specs.declared.stop.Stop.TheVariants.{Ended, LineFailed, KeepFailed, TurnsOver}
-use Rattle.load_engine.specs.Session.{Session}
+use Rattle.load_engine.specs.Run.{driving}
+use Rattle.load_engine.specs.Session.{Session, SessionTold, told_by as session_told_by}
 use Rattle.load_lives.specs.Keepers.{WentOutAt}
 use Rattle.load_lives.specs.Lives.{Life, WireAndRecord, GoesOnFrom, IsLeft, PassesOver, last_core}
 use Rattle.load_lives.specs.Stops.{IsBeginning, WentOut}
@@ -48,8 +49,8 @@ use Rattle.machine_load.specs.Driving.{IsDrivenOn}
 use Rattle.machine_load.specs.Lives.{GoesOut, HostGoesOut, LooksGoOut, PartsGoOut, StubsGoOut, LoadsAreFastLives, LoadsAreLives, of_file}
 use Rattle.machine_load.specs.Load.{SurroundingsTold, Finish, IsBusyLife, IsHeldUp, IsIdleLife, IsLived, words_taken}
 use Rattle.machine_load.specs.Looks.{AreLooks, vouched_for}
-use Rattle.machine_load.specs.Parts.{AreBrought, AreKept, AreParts, IsDrivenUnless, IsKeptBehind, Unless, course, stubs_of, told_by}
-use Rattle.load_engine.specs.Driven.{IsDriven, IsKeptBy}
+use Rattle.machine_load.specs.Parts.{AreBrought, AreKept, AreParts, IsDrivenUnless, IsKeptBehind, Unless, course, stubs_of, told_by, turns_of}
+use Rattle.load_engine.specs.Driven.{IsDriven, IsKeptBy, turns_give}
 use Rattle.machine_load.specs.Stubs.{hindrance_of, host_behind}
 use Rattle.machine_load.proofs.Renewed.{EachKept, HoldsFront, host_holds, stubs_front, stubs_held}
 
@@ -166,10 +167,10 @@ module _ (plan : PlanValue) (v patience : ℕ) (looks front rest : List Item) (o
   front_left core keep holds is = subst (λ text. (missing : List ℕ) × (text ++ missing ≡ record_text Second plan core.verified core.going)) (same_text holds.text new.text (sym holds.held ∙ is)) holds.front
 
   -- its host went on behind stubs
-  behind : (parts : List StubPart) (w : ℕ) (core : Core) (stop : Stop) (line line' : Option (List Item)) (told told' : Option (List Kept)) (keep : Keeper) → w ≡ verified_by plan v parts → AreStubParts stub_program plan v parts → stubs_said plan v parts ≡ front
-      → (session : Session most_turns (Some stop) (begun plan w false patience) core line line' told told') → WentOutAt stop (dialogue (begun plan w false patience) session.heard) session.said rest
+  behind : (parts : List StubPart) (w : ℕ) (core : Core) (stop : Stop) (before after : SessionTold) (keep : Keeper) → w ≡ verified_by plan v parts → AreStubParts stub_program plan v parts → stubs_said plan v parts ≡ front
+      → (session : Session most_turns (driving (begun plan w false patience) core (Some stop)) before after) → WentOutAt stop (dialogue (begun plan w false patience) session.heard) session.said rest
       → HoldsFront plan core rest keep → keep.text ≡ Some new.text → FastLives plan core looks front rest old new
-  behind parts w core stop line line' told told' keep here are said_is session out holds is =
+  behind parts w core stop before after keep here are said_is session out holds is =
       let all = dialogue (begun plan w false patience) session.heard in
       let u = unsent_out (Some stop) _ all session.said rest session.items (went_out stop all session.said rest out) in
       let life : FastLife = record { progress = record { verified = v; going = false }; stubs = parts; patience = patience; heard = session.heard; front = front; rest = rest; unsent = option_to_list u.0 } in
@@ -223,11 +224,11 @@ module _ (plan : PlanValue) (v patience : ℕ) (looks front rest : List Item) (o
   -- the parts behind stubs that stopped so, by what hinders the host
   behind_stubs : (stubs : Stubs) (hindered : Option Stop) (core : Core) (stop : Stop) (before between after : Devices) (keeper keeping keeper' : Keeper) → hindrance_of stubs.stop ≡ hindered → HoldsRecord keeper plan v
       → (brought : AreBrought (stubs_of first (Some stubs)) before between) → (host : IsDrivenUnless hindered (course first (Some stubs) (core, stop)) between after)
-      → AreKept of_file.calls (stubs_of first (Some stubs)) keeper keeping → Unless hindered (IsKeptBy of_file.calls (host_behind first (Some stubs)) core stop keeping keeper') (λ why. keeper' ≡ keeping)
+      → AreKept of_file.calls (stubs_of first (Some stubs)) keeper keeping → Unless hindered (IsKeptBy of_file.calls (turns_give (turns_of (course first (Some stubs) (core, stop)))) keeping keeper') (λ why. keeper' ≡ keeping)
       → StubsGoOut (stubs_of first (Some stubs)) before between brought front → HostGoesOut hindered (course first (Some stubs) (core, stop)) between after host rest → keeper'.text ≡ Some new.text → FastLives plan core looks front rest old new
   behind_stubs stubs None core stop before between after keeper keeping keeper' free holds brought host kept host_kept (sent, later, unsent_is, front_is) out is =
-      behind brought.all.brought.parts stubs.tally.verified core stop between.line.said after.line.said between.kept after.kept keeper' brought.all.brought.verified brought.all.brought.are_parts all_said host.session out
-      (host_holds plan stubs.tally.verified patience stop core between.line.said after.line.said between.kept after.kept keeping keeper' rest fits long brought.all.within held host.session out host_kept.kept_by) is
+      behind brought.all.brought.parts stubs.tally.verified core stop (session_told_by between) (session_told_by after) keeper' brought.all.brought.verified brought.all.brought.are_parts all_said host.session out
+      (host_holds plan stubs.tally.verified patience stop core (session_told_by between) (session_told_by after) keeping keeper' rest fits long brought.all.within held host.session out host_kept.kept_by) is
     where
       none_failed : failure_of (Some stubs.stop) ≡ None
       none_failed = unhindered stubs.stop free
@@ -268,8 +269,8 @@ module _ (plan : PlanValue) (v patience : ℕ) (looks front rest : List Item) (o
       → AreKept of_file.calls (stubs_of first stubs) keeper keeping → IsKeptBehind of_file.calls (course first stubs (core, stop)) keeping keeper'
       → PartsGoOut parts front rest → keeper'.text ≡ Some new.text → FastLives plan core looks front rest old new
   parts_lived None core stop before between after keeper keeping keeper' holds parts kept host_kept (none, out) is =
-      behind [] v core stop between.line.said after.line.said between.kept after.kept keeper' refl tt (sym none) parts.host.session out
-      (host_holds plan v patience stop core between.line.said after.line.said between.kept after.kept keeping keeper' rest fits long fewer_than_all (subst (λ (k : Keeper). HoldsRecord k plan v) (sym kept) holds) parts.host.session out host_kept.kept_by) is
+      behind [] v core stop (session_told_by between) (session_told_by after) keeper' refl tt (sym none) parts.host.session out
+      (host_holds plan v patience stop core (session_told_by between) (session_told_by after) keeping keeper' rest fits long fewer_than_all (subst (λ (k : Keeper). HoldsRecord k plan v) (sym kept) holds) parts.host.session out host_kept.kept_by) is
   parts_lived (Some stubs) core stop before between after keeper keeping keeper' holds parts kept host_kept (went, out) is =
       behind_stubs stubs (hindrance_of stubs.stop) core stop before between after keeper keeping keeper' refl holds parts.stubs parts.host kept host_kept went out is
 
@@ -359,11 +360,11 @@ Lives plan last looks items old new = (l : LookingLife) × (last_core plan l.lif
 module _ (plan : PlanValue) (v patience : ℕ) (looks items : List Item) (old new : WireAndRecord) (fits : IsPlan plan) (long : patience < 2 ^ 32) (goes : GoesOnFrom plan old.text (record { verified = v; going = false })) (looked : (looks ≡ []) ⊎ HasLooked plan goes.recorded looks) (passes : PassesOver old.wire (looks ++ items) new.wire) where
   -- its host alone
   host_life : (core : Core) (stop : Stop) (before behind : Devices) (keeper keeper' : Keeper) → HoldsRecord keeper plan v
-      → (host : IsDriven most_turns (begun plan v false patience) core stop before behind) → IsKeptBy of_file.calls (begun plan v false patience) core stop keeper keeper'
+      → (host : IsDriven most_turns (driving (begun plan v false patience) core (Some stop)) before behind) → IsKeptBy of_file.calls (turns_give (driving (begun plan v false patience) core (Some stop))) keeper keeper'
       → WentOutAt stop (dialogue (begun plan v false patience) host.session.heard) host.session.said items → keeper'.text ≡ Some new.text → Lives plan core looks items old new
   host_life core stop before behind keeper keeper' holds host kept out held =
       let sound = says_sound plan old.text goes.recorded goes.says in
-      let front = host_holds plan v patience stop core before.line.said behind.line.said before.kept behind.kept keeper keeper' items fits long (omega (arith, goes.fewer, sound.within)) holds host.session out kept.kept_by in
+      let front = host_holds plan v patience stop core (session_told_by before) (session_told_by behind) keeper keeper' items fits long (omega (arith, goes.fewer, sound.within)) holds host.session out kept.kept_by in
       let same : front.text ≡ new.text = same_text front.text new.text (sym front.held ∙ held) in
       let all = dialogue (begun plan v false patience) host.session.heard in
       let u = unsent_out (Some stop) _ all host.session.said items host.session.items (went_out stop all host.session.said items out) in

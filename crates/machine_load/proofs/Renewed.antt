@@ -17,8 +17,10 @@ use Rattle.load_devices.specs.declared.item.Kept.TheVariants.{Word}
 use Rattle.load_devices.specs.Dialogue.{dialogue, keys_of, news_between}
 use Rattle.load_devices.specs.Turns.{most_turns}
 use Rattle.load_engine.specs.declared.stop.Stop.{Stop}
-use Rattle.load_engine.specs.Keeping.{KeepsEach, KeptBy}
-use Rattle.load_engine.specs.Session.{Session}
+use Rattle.load_engine.specs.Driven.{turns_give}
+use Rattle.load_engine.specs.Keeping.{AllOrFront, KeepsEach, KeptBy}
+use Rattle.load_engine.specs.Run.{driving}
+use Rattle.load_engine.specs.Session.{Session, SessionTold}
 use Rattle.load_engine.proofs.News.{led_forward}
 use Rattle.byte_io.specs.Output.{WritesPrefix}
 use Rattle.load_record.specs.declared.version.Version.TheVariants.{Second}
@@ -35,7 +37,7 @@ use Rattle.load_lives.proofs.Keepers.{keepers_leave}
 use Rattle.load_lives.proofs.Stopping.{records_are_fronts}
 use Rattle.stub_engine.specs.declared.exchange_stop.ExchangeStop.{ExchangeStop}
 use Rattle.stub_engine.specs.Failing.{keep_fault}
-use Rattle.stub_engine.specs.Keeping.{AllOrFront, KeepsFront, words_kept}
+use Rattle.stub_engine.specs.Keeping.{KeepsFront, words_kept}
 use Rattle.machine_load.specs.Lives.{of_file}
 use Rattle.stub_engine.specs.declared.stop.Stop.{Stop as StubStop}
 use Rattle.stub_engine.specs.declared.stop.Stop.TheVariants.{TooFewWords, NoRoom, InVain, NotStarted, TurnsOver, LineFailed, KeepFailed, Memory}
@@ -65,12 +67,12 @@ front_of plan v core text more (inl same) = subst (λ t. IsBeginning t (record_t
 front_of plan v core text more (inr front) = front
 
 -- what the keeper of the record of the first words holds once a host has gone on behind them
-pub host_holds : (plan : PlanValue) (v patience : ℕ) (stop : Stop) (core : Core) (line line' : Option (List Item)) (told told' : Option (List Kept)) (keep keep' : Keeper) (items : List Item) → IsPlan plan → patience < 2 ^ 32 → v ≤ length plan.words
-    → HoldsRecord keep plan v → (session : Session most_turns (Some stop) (begun plan v false patience) core line line' told told') → WentOutAt stop (dialogue (begun plan v false patience) session.heard) session.said items
-    → KeptBy HasKept HasCutShort (Some stop) keep (news_between (begun plan v false patience) core) keep' → HoldsFront plan core items keep'
-host_holds plan v patience stop core line line' told told' keep keep' items fits long within holds session out by =
+pub host_holds : (plan : PlanValue) (v patience : ℕ) (stop : Stop) (core : Core) (before after : SessionTold) (keep keep' : Keeper) (items : List Item) → IsPlan plan → patience < 2 ^ 32 → v ≤ length plan.words
+    → HoldsRecord keep plan v → (session : Session most_turns (driving (begun plan v false patience) core (Some stop)) before after) → WentOutAt stop (dialogue (begun plan v false patience) session.heard) session.said items
+    → KeptBy of_file.calls (turns_give (driving (begun plan v false patience) core (Some stop))) keep keep' → HoldsFront plan core items keep'
+host_holds plan v patience stop core before after keep keep' items fits long within holds session out by =
     let left : HasLeft plan progress core items (record_text Second plan v false) keep' =
-    keepers_leave plan progress patience most_turns stop core line line' told told' keep keep' items (record_text Second plan v false) fits long goes refl holds session out by in record {
+    keepers_leave plan progress patience most_turns stop core before after keep keep' items (record_text Second plan v false) fits long goes refl holds session out by in record {
       text = left.0;
       held = left.1;
       front = front_of plan v core left.0 more left.2.cut;

@@ -7,8 +7,8 @@ use Rattle.load_devices.specs.declared.item.Item.{Item}
 use Rattle.load_devices.specs.Dialogue.{dialogue}
 use Rattle.load_engine.specs.declared.stop.Stop.{Stop}
 use Rattle.load_devices.specs.Devices.{Devices, LineTold}
-use Rattle.load_record.specs.Keeper.{Keeper, HasKept, HasCutShort, HoldsRecord, fault_now}
-use Rattle.load_lives.specs.Keepers.{WentOutAt}
+use Rattle.load_record.specs.Keeper.{Keeper, HoldsRecord}
+use Rattle.load_lives.specs.Keepers.{WentOutAt, record_calls}
 use Rattle.load_lives.specs.Lives.{PassesOver, WireAndRecord, last_core}
 use Rattle.load_lives.specs.Stops.{WentOut}
 use Rattle.exchange_law.specs.Law.{said_all}
@@ -32,13 +32,7 @@ use Rattle.sample_looks.specs.LooksFirst.{LookingLife, IsLookingLife}
 -- what the keeper of a record's file tells, where its writer tells what it holds, and where it held nothing before
 abbrev pub of_file : KeeperTells Keeper
 of_file = record {
-  calls = record {
-    kept = λ _. None;
-    failures = λ keeper. keeper.failures;
-    fault = λ keeper. fault_now keeper.failures;
-    keeps = HasKept;
-    fails = HasCutShort;
-  };
+  calls = record_calls;
   begins = λ keeper plan k. HoldsRecord keeper plan k;
   text = λ keeper. keeper.text;
 }

@@ -4,7 +4,8 @@ use Rattle.host_core.specs.Core.{Core}
 use Rattle.load_devices.specs.Devices.{Devices, KeeperCalls, LineTold, devices}
 use Rattle.load_devices.specs.Turns.{most_turns}
 use Rattle.load_engine.specs.declared.stop.Stop.{Stop}
-use Rattle.load_engine.specs.Driven.{IsDriven, IsKeptBy}
+use Rattle.load_engine.specs.Driven.{IsDriven, IsKeptBy, turns_give}
+use Rattle.load_engine.specs.Run.{Driving, driving}
 use Rattle.stub_engine.specs.Brought.{AreAllStubs, stubs_give}
 use Rattle.stub_engine.specs.Keeping.{IsKeptBy as StubsAreKeptBy}
 use Rattle.stub_engine.specs.Parts.{Bringing, bringing}
@@ -46,6 +47,10 @@ course first stubs answer = record { first = first; stubs = stubs; core = answer
 abbrev pub host_of : Course → Core
 host_of course = host_behind course.first course.stubs
 
+-- its turns
+abbrev pub turns_of : Course → Driving
+turns_of course = driving (host_of course) course.core (Some course.stop)
+
 -- one thing where nothing hindered the host, and another where something did
 abbrev pub Unless : Option Stop → (free : Type 0) → (hindered : Stop → Type 0) → Type 0
 Unless None free hindered = free
@@ -60,7 +65,7 @@ pub record IsHindered (course : Course) (before after : Devices) (why : Stop) : 
 -- the host was driven, unless something hindered it
 abbrev pub IsDrivenUnless : Option Stop → Course → Devices → Devices → Type 0
 IsDrivenUnless hindered course before after =
-    Unless hindered (IsDriven most_turns (host_of course) course.core course.stop before after) (IsHindered course before after)
+    Unless hindered (IsDriven most_turns (turns_of course) before after) (IsHindered course before after)
 
 -- its stubs may hinder it
 abbrev pub IsDrivenBehind : Course → Devices → Devices → Type 0
@@ -69,7 +74,7 @@ IsDrivenBehind course before after = IsDrivenUnless (hindrance course.stubs) cou
 -- what it made of a keeper, where it was driven
 abbrev pub IsKeptBehind : {K : Type 0} → KeeperCalls K → Course → K → K → Type 0
 IsKeptBehind {K} calls course keeper keeper' =
-    Unless (hindrance course.stubs) (IsKeptBy calls (host_of course) course.core course.stop keeper keeper') (λ why. keeper' ≡ keeper)
+    Unless (hindrance course.stubs) (IsKeptBy calls (turns_give (turns_of course)) keeper keeper') (λ why. keeper' ≡ keeper)
 
 -- ---- both
 

@@ -12,7 +12,8 @@ use Rattle.honest_line.specs.Honest.{IsHonest}
 use Rattle.looking_law.specs.Belief.{IsReadyMachine}
 use Rattle.load_engine.specs.declared.stop.Stop.{Stop}
 use Rattle.load_engine.specs.declared.stop.Stop.TheVariants.{Ended}
-use Rattle.load_engine.specs.Session.{Session, TellsEnd}
+use Rattle.load_engine.specs.Run.{driving}
+use Rattle.load_engine.specs.Session.{Session, TellsEnd, session_told}
 use Rattle.machine_probe.specs.declared.probe_options.ProbeOptions.{ProbeOptions}
 use Rattle.machine_probe.specs.declared.putting_back.Deposit.{Deposit}
 use Rattle.machine_probe.specs.Turns.{turns_of}
@@ -47,7 +48,8 @@ pub record PutsBack (options : ProbeOptions) (old : ℕ) (is_back : Bool) (said 
   pub last : Core
   pub stop : Stop
   pub kept : List Kept
-  pub session : Session (turns_of options.patience) (Some stop) (begun plan 0 false options.patience) last (Some []) (Some said) (Some []) (Some kept)
+  pub session : Session (turns_of options.patience) (driving (begun plan 0 false options.patience) last (Some stop))
+      (session_told (Some []) (Some [])) (session_told (Some said) (Some kept))
   pub end : TellsEnd stop last
   pub is_back_is : is_back ≡ is_loaded stop
   pub again : is_back ≡ true → HoldsAgain options.address old said

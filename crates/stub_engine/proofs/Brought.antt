@@ -9,6 +9,8 @@ use Rattle.load_devices.specs.Devices.{Devices, KeeperCalls, LineTold, devices}
 use Rattle.load_devices.specs.Failures.{CountsFault, IsLastFault}
 use Rattle.load_devices.specs.Turns.{most_turns}
 use Rattle.load_engine.specs.declared.stop.Stop.{Stop as LoadStop}
+use Rattle.load_engine.specs.Keeping.{keeping}
+use Rattle.load_engine.specs.Session.{session_told}
 use Rattle.exchange_core.specs.declared.chunk.Chunk.{Chunk}
 use Rattle.exchange_core.specs.declared.exchange.Exchange.{Exchange}
 use Rattle.exchange_core.specs.Exchange.{begun as exchange_begun}
@@ -21,7 +23,7 @@ use Rattle.stub_engine.specs.Brought.{AreStubs, IsBringerDriven, IsNextStub}
 use Rattle.stub_engine.specs.Exchanged.{IsLed}
 use Rattle.stub_engine.specs.Exchanging.{exchanging}
 use Rattle.stub_engine.specs.Failing.{keep_fault, line_fault}
-use Rattle.stub_engine.specs.Keeping.{IsKeptBy, IsToldBy, keeping, words_kept}
+use Rattle.stub_engine.specs.Keeping.{IsKeptBy, IsToldBy, words_kept}
 use Rattle.stub_engine.specs.Parts.{bringing, failure_of, why_left, why_unstarted}
 use Rattle.stub_engine.specs.Planning.{IsPlannedFor, IsUnplanned}
 use Rattle.stub_engine.specs.Tallies.{with_counts, with_words}
@@ -63,7 +65,7 @@ not_started tape patience old new stub chunks answer why before after kept plann
     subst (λ why. IsNextStub (bringing tape patience (old, new) why) (devices before kept) (devices after kept)) (sym is)
     (subst (λ new. IsNextStub (bringing tape patience (old, new) (why_unstarted answer.1)) (devices before kept) (devices after kept)) (sym tally) (record {
       is_one = record {
-        brought = unstarted tape patience answer.1 old stub chunks answer.0 before.said after.said None None planned patient few b.driven.end b.driven.session;
+        brought = unstarted tape patience answer.1 old stub chunks answer.0 (session_told before.said None) (session_told after.said None) planned patient few b.driven.end b.driven.session;
         counted = subst (λ fault. CountsFault fault before.failures after.failures) (sym (line_unstarted answer.1)) b.driven.counted;
         named = subst (λ fault. IsLastFault fault after.fault) (sym (line_unstarted answer.1)) b.driven.named;
         told = told_nothing (keep_fault (failure_of (why_unstarted answer.1))) kept tape.words old.verified old.verified (keep_unstarted answer.1 b.no_keeper) (omega arith);
@@ -87,7 +89,7 @@ started tape patience old new stub chunks answer state left why before between a
     subst (λ why. IsNextStub (bringing tape patience (old, new) why) (devices before kept) (devices after kept')) (sym is)
     (subst (λ new. IsNextStub (bringing tape patience (old, new) (why_left left)) (devices before kept) (devices after kept')) (sym tally) (record {
       is_one = record {
-        brought = exchanged tape patience answer.1 left old stub chunks answer.0 state before.said between.said after.said None None planned patient few follows b.driven.end b.driven.session led.all.session;
+        brought = exchanged tape patience answer.1 left old stub chunks answer.0 state (session_told before.said None) (session_told between.said None) after.said planned patient few follows b.driven.end b.driven.session led.all.session;
         counted = subst (λ fault. CountsFault fault before.failures after.failures) (sym (line_left left (why_left left) refl)) (subst (λ n. CountsFault (line_fault (Some left)) n after.failures) here led.all.counted);
         named = subst (λ fault. IsLastFault fault after.fault) (sym (line_left left (why_left left) refl)) led.all.named;
         told = subst (λ fault. IsToldBy (keeping (words_kept tape.words old.verified state.verified) fault) kept kept') (sym (keep_left left (why_left left) refl)) led.all.told;

@@ -10,12 +10,9 @@ use Rattle.load_devices.specs.Devices.{KeeperCalls}
 use Rattle.load_devices.specs.Failures.{CountsFault}
 use Rattle.load_devices.proofs.Told.{gains_join, gains_kept, gains_none}
 use Rattle.load_devices.specs.Told.{Gains, SaysNothing}
-use Rattle.load_engine.specs.Keeping.{KeepsEach, KeepsAllButLast}
-use Rattle.stub_engine.specs.Keeping.{AllOrFront, GainsFront, IsKeptBy, IsToldBy, KeepsFront, keeping, words_kept}
-
-each_join : {K : Type 0} (keeps : K → Kept → K → Type 0) (old next new : K) (items more : List Kept) → KeepsEach keeps old items next → KeepsEach keeps next more new → KeepsEach keeps old (items ++ more) new
-each_join {K} keeps old next new [] more same each = let P : K → Type 0 = λ k. KeepsEach keeps k more new in subst P same each
-each_join {K} keeps old next new (item ∷ items) more (between, one, rest) each = (between, one, each_join keeps between next new items more rest each)
+use Rattle.load_engine.specs.Keeping.{AllOrFront, KeepsEach, KeepsAllButLast, keeping}
+use Rattle.load_engine.proofs.Keepings.{each_join}
+use Rattle.stub_engine.specs.Keeping.{GainsFront, IsKeptBy, IsToldBy, KeepsFront, words_kept}
 
 take_behind : {A : Type 0} (items more : List A) (k : ℕ) → take (length items + k) (items ++ more) ≡ items ++ take k more
 take_behind {A} [] more k = let none : 0 + k ≡ k = omega arith in ap (λ n. take n more) none
@@ -25,7 +22,7 @@ take_behind {A} (item ∷ items) more k =
 
 front_join : {K : Type 0} (calls : KeeperCalls K) (old next new : K) (items more : List Kept) → KeepsEach calls.keeps old items next → KeepsFront calls more next new → KeepsFront calls (items ++ more) old new
 front_join {K} calls old next new items more each (k, less, by) =
-    let P : List Kept → Type 0 = λ list. KeepsAllButLast calls.keeps calls.fails old list new in
+    let P : List Kept → Type 0 = λ list. KeepsAllButLast calls old list new in
     let sum : length items + (k + 1) ≡ length items + k + 1 = omega arith in (
       length items + k,
       omega (arith, less, length-append items more),

@@ -11,14 +11,14 @@ use Rattle.host_core.specs.declared.phase.Phase.TheVariants.{Settle, Sync, Addre
 use Rattle.host_core.specs.Core.{Core, begun, ended}
 use Rattle.host_core.specs.Laws.{led}
 use Rattle.load_devices.specs.declared.item.Item.{Item}
-use Rattle.load_devices.specs.declared.item.Kept.{Kept}
 use Rattle.load_devices.specs.Devices.{Devices}
 use Rattle.load_devices.specs.Dialogue.{dialogue}
 use Rattle.load_devices.specs.Turns.{most_turns}
 use Rattle.load_devices.proofs.Told.{gains_join, gains_none}
 use Rattle.load_engine.specs.declared.stop.Stop.{Stop as LoadStop}
 use Rattle.load_engine.specs.declared.stop.Stop.TheVariants.{Ended as LoadEnded, LineFailed as LoadLineFailed, KeepFailed as LoadKeepFailed, TurnsOver as LoadTurnsOver}
-use Rattle.load_engine.specs.Session.{IsSaid as IsLoadSaid, Session, TellsEnd}
+use Rattle.load_engine.specs.Run.{driving}
+use Rattle.load_engine.specs.Session.{IsSaid as IsLoadSaid, Session, SessionTold, TellsEnd}
 use Rattle.exchange_core.specs.declared.chunk.Chunk.{Chunk}
 use Rattle.exchange_core.specs.declared.exchange.Exchange.{Exchange}
 use Rattle.exchange_core.specs.Chunk.{AreChunks, words_behind}
@@ -148,9 +148,9 @@ seen stop core follows tells =
 sum_of : (old a b z : ℕ) → a ≡ b → z ≡ 0 → old + a ≡ old + (b + z + 0)
 sum_of old a b z e none = omega (arith, e, none)
 
-pub unstarted : (tape : PlanValue) (patience : ℕ) (stop : LoadStop) (old : Tally) (stub : PlanValue) (chunks : List Chunk) (core : Core) (line line' : Option (List Item)) (keep keep' : Option (List Kept)) → IsPlannedFor tape old.verified stub chunks → patience < 2 ^ 32 → old.in_vain < 3 → TellsEnd stop core →
-    Session most_turns (Some stop) (begun stub 0 false patience) core line line' keep keep' → AreBroughtIn (bringing tape patience (old, with_words (with_counts old core.sent core.spent) old.verified) (why_unstarted stop)) line line'
-unstarted tape patience stop old stub chunks core line line' keep keep' planned patient few tells s =
+pub unstarted : (tape : PlanValue) (patience : ℕ) (stop : LoadStop) (old : Tally) (stub : PlanValue) (chunks : List Chunk) (core : Core) (before after : SessionTold) → IsPlannedFor tape old.verified stub chunks → patience < 2 ^ 32 → old.in_vain < 3 → TellsEnd stop core →
+    Session most_turns (driving (begun stub 0 false patience) core (Some stop)) before after → AreBroughtIn (bringing tape patience (old, with_words (with_counts old core.sent core.spent) old.verified) (why_unstarted stop)) before.said after.said
+unstarted tape patience stop old stub chunks core before after planned patient few tells s =
     let part : StubPart = record { stub = stub; chunks = chunks; patience = patience; brought = s.heard; exchanged = [] } in
     let front = brought_front stop (most_turns - length s.heard) (dialogue (begun stub 0 false patience) s.heard) s.said s.items in
     let after : verified_after tape old.verified part ≡ old.verified = same_if (starts part) old.verified in
@@ -174,19 +174,19 @@ unstarted tape patience stop old stub chunks core line line' keep keep' planned 
 
 -- ---- a stub that started
 
-pub exchanged : (tape : PlanValue) (patience : ℕ) (stop : LoadStop) (left : ExchangeStop) (old : Tally) (stub : PlanValue) (chunks : List Chunk) (core : Core) (state : Exchange) (line line' line'' : Option (List Item)) (keep keep' : Option (List Kept)) →
-    IsPlannedFor tape old.verified stub chunks → patience < 2 ^ 32 → old.in_vain < 3 → why_unstarted stop ≡ None → TellsEnd stop core → Session most_turns (Some stop) (begun stub 0 false patience) core line line' keep keep' →
-    Exchanged most_turns (exchanging tape chunks (exchange_begun old.verified, state) (Some left)) line' line'' →
-    AreBroughtIn (bringing tape patience (old, with_words (with_counts (with_counts old core.sent core.spent) state.sent 0) state.verified) (why_left left)) line line''
-exchanged tape patience stop left old stub chunks core state line line' line'' keep keep' planned patient few follows tells s x =
+pub exchanged : (tape : PlanValue) (patience : ℕ) (stop : LoadStop) (left : ExchangeStop) (old : Tally) (stub : PlanValue) (chunks : List Chunk) (core : Core) (state : Exchange) (before between : SessionTold) (line : Option (List Item)) →
+    IsPlannedFor tape old.verified stub chunks → patience < 2 ^ 32 → old.in_vain < 3 → why_unstarted stop ≡ None → TellsEnd stop core → Session most_turns (driving (begun stub 0 false patience) core (Some stop)) before between →
+    Exchanged most_turns (exchanging tape chunks (exchange_begun old.verified, state) (Some left)) between.said line →
+    AreBroughtIn (bringing tape patience (old, with_words (with_counts (with_counts old core.sent core.spent) state.sent 0) state.verified) (why_left left)) before.said line
+exchanged tape patience stop left old stub chunks core state before between line planned patient few follows tells s x =
     let part : StubPart = record { stub = stub; chunks = chunks; patience = patience; brought = s.heard; exchanged = x.heard } in
     let first : Core = led (begun stub 0 false patience) s.heard in
     let now : Exchange = exchange_led tape.image chunks (exchange_begun old.verified) x.heard in
     let talk : List Item = dialogue (begun stub 0 false patience) s.heard in
     let more : List Item = exchange_dialogue tape.image chunks (exchange_begun old.verified) x.heard in
     let started : starts part ≡ true = ap (λ (c : Core). is_started c.phase) (sym s.core) ∙ seen stop core follows tells in
-    let before = brought_front stop (most_turns - length s.heard) talk s.said s.items in
-    let all : talk ≡ s.said = before.is ∙ (ap (λ keys. s.said ++ said_all keys) (before.whole (ap failure_of follows)) ∙ append-nil s.said) in
+    let typed = brought_front stop (most_turns - length s.heard) talk s.said s.items in
+    let all : talk ≡ s.said = typed.is ∙ (ap (λ keys. s.said ++ said_all keys) (typed.whole (ap failure_of follows)) ∙ append-nil s.said) in
     let front = exchange_front left (most_turns - length x.heard) more x.said x.items in
     let after : state.verified ≡ verified_after tape old.verified part = ap (λ (e : Exchange). e.verified) x.exchange ∙ ap (λ test. if test then now.verified else old.verified) (sym started) in
     let spoken : exchange_said tape old.verified part ≡ more = ap (λ test. if test then more else []) started in
@@ -203,7 +203,7 @@ exchanged tape patience stop left old stub chunks core state line line' line'' k
           ∙ (ap (λ rest. talk ++ rest) (append-nil more ∙ front.is)
           ∙ (ap (λ list. list ++ (x.said ++ said_all front.unsent)) all ∙ sym (append_assoc s.said x.said (said_all front.unsent))));
       all_sent = front.whole;
-      on_line = gains_join line line' line'' s.said x.said s.on_line x.on_line;
+      on_line = gains_join before.said between.said line s.said x.said s.on_line x.on_line;
       verified = after;
       sent = sums old.sent core.sent first.sent state.sent (if starts part then now.sent else 0) (ap (λ (c : Core). c.sent) s.core) keys;
       spent = counts old.spent core.spent first.spent (ap (λ (c : Core). c.spent) s.core);

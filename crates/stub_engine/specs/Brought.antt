@@ -8,17 +8,19 @@ use Rattle.load_devices.specs.Turns.{most_turns}
 use Rattle.load_engine.specs.declared.stop.Stop.{Stop as LoadStop}
 use Rattle.load_engine.specs.Driven.{IsDriven}
 use Rattle.load_engine.specs.Failing.{keep_fault as load_keep_fault}
+use Rattle.load_engine.specs.Keeping.{Keeping, keeping}
+use Rattle.load_engine.specs.Run.{driving}
 use Rattle.stub_engine.specs.declared.stop.Stop.{Stop}
 use Rattle.stub_engine.specs.declared.stop.Stop.TheVariants.{InVain}
 use Rattle.stub_engine.specs.declared.tally.Tally.{Tally}
 use Rattle.stub_engine.specs.Failing.{keep_fault, line_fault}
-use Rattle.stub_engine.specs.Keeping.{IsToldBy, Keeping, keeping, words_kept}
+use Rattle.stub_engine.specs.Keeping.{IsToldBy, words_kept}
 use Rattle.stub_engine.specs.Parts.{AreBroughtIn, Bringing, failure_of, most_in_vain}
 use Rattle.stub_engine.specs.Tallies.{IsOneMore}
 
 -- a host was driven that was to bring in a stub, and came to this answer; nothing of it was kept
 pub record IsBringerDriven (first : Core) (answer : Core × LoadStop) (before after : LineTold) : Type 0 where
-  pub driven : IsDriven most_turns first answer.0 answer.1 (devices before None) (devices after None)
+  pub driven : IsDriven most_turns (driving first answer.0 (Some answer.1)) (devices before None) (devices after None)
   pub no_keeper : load_keep_fault (Some answer.1) ≡ None
 
 -- what stubs give a keeper: the words that became verified

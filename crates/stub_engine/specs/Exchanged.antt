@@ -7,6 +7,7 @@ use Rattle.load_devices.specs.declared.item.Item.TheVariants.{Heard as Came}
 use Rattle.load_devices.specs.Devices.{Devices}
 use Rattle.load_devices.specs.Failures.{CountsFault, IsLastFault}
 use Rattle.load_devices.specs.Told.{Gains}
+use Rattle.load_engine.specs.Keeping.{Keeping, keeping}
 use Rattle.exchange_core.specs.declared.chunk.Chunk.{Chunk}
 use Rattle.exchange_core.specs.declared.exchange.Exchange.{Exchange}
 use Rattle.exchange_core.specs.Exchange.{IsExchange, advance, ended, exchange_bound, led}
@@ -16,7 +17,7 @@ use Rattle.stub_engine.specs.declared.exchange_stop.ExchangeStop.TheVariants.{En
 use Rattle.stub_engine.specs.Belief.{IsBelievableOver}
 use Rattle.stub_engine.specs.Exchanging.{Exchanging}
 use Rattle.stub_engine.specs.Failing.{keep_fault, line_fault}
-use Rattle.stub_engine.specs.Keeping.{IsToldBy, Keeping, keeping, words_kept}
+use Rattle.stub_engine.specs.Keeping.{IsToldBy, words_kept}
 
 -- the first of these characters were sent, and the one behind them was not
 abbrev pub GainsSome : Option (List Item) → Option (List Item) → List ℕ → Type 0

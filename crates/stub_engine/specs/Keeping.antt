@@ -7,24 +7,11 @@ use Rattle.load_devices.specs.declared.item.Kept.TheVariants.{Word}
 use Rattle.load_devices.specs.Devices.{KeeperCalls}
 use Rattle.load_devices.specs.Failures.{CountsFault, IsLastFault}
 use Rattle.load_devices.specs.Told.{Gains}
-use Rattle.load_engine.specs.Keeping.{KeepsEach, KeepsAllButLast}
-
--- things that were given to a keeper, one after another, and the fault with which it failed at one of them, where it did
-pub record Keeping : Type 0 where
-  pub items : List Kept
-  pub fault : Option KeepFault
+use Rattle.load_engine.specs.Keeping.{AllOrFront, Keeping, KeepsEach, KeepsAllButLast}
 
 -- a list's words from one number to another, as what is to be kept
 abbrev pub words_kept : List WordValue → ℕ → ℕ → List Kept
 words_kept words from to = map Word (take (to - from) (drop from words))
-
-abbrev pub keeping : List Kept → Option KeepFault → Keeping
-keeping items fault = record { items = items; fault = fault }
-
--- all of it is so, but where there was a fault only a front
-abbrev pub AllOrFront : Option KeepFault → (all front : Type 0) → Type 0
-AllOrFront None all front = all
-AllOrFront (Some fault) all front = front
 
 -- what a keeper tells has gained a front of these things, but not all
 abbrev pub GainsFront : Option (List Kept) → Option (List Kept) → List Kept → Type 0
@@ -36,7 +23,7 @@ IsToldBy given told told' = AllOrFront given.fault (Gains told told' given.items
 
 -- the first of these things were kept, and then one was not
 abbrev pub KeepsFront : {K : Type 0} → KeeperCalls K → List Kept → K → K → Type 0
-KeepsFront {K} calls items old new = (k : ℕ) × (k < length items) × KeepsAllButLast calls.keeps calls.fails old (take (k + 1) items) new
+KeepsFront {K} calls items old new = (k : ℕ) × (k < length items) × KeepsAllButLast calls old (take (k + 1) items) new
 
 -- what became of a keeper by its own calls: each of these things was kept, or a front where it failed
 pub record IsKeptBy {K : Type 0} (calls : KeeperCalls K) (given : Keeping) (keeper keeper' : K) : Type 0 where

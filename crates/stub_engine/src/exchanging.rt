@@ -2,12 +2,13 @@ ghost use Rattle.std.specs.Prelude.{◌≡◌, ◌≤◌, None, Some, length, On
 ghost use Rattle.load_devices.specs.Devices.{calls_of, devices_of};
 ghost use Rattle.load_devices.specs.Failures.{count_after, fault_of};
 ghost use Rattle.load_devices.specs.Told.{Gains};
+ghost use Rattle.load_engine.specs.Keeping.{keeping};
 ghost use Rattle.exchange_core.specs.Chunk.{AreChunks};
 ghost use Rattle.exchange_core.specs.Exchange.{IsExchange, begun, ended};
 ghost use Rattle.exchange_law.specs.Law.{said_all};
 ghost use Rattle.stub_engine.specs.Exchanged.{GainsSome, IsLed, IsTurn, turns_give};
 ghost use Rattle.stub_engine.specs.Exchanging.{exchanging};
-ghost use Rattle.stub_engine.specs.Keeping.{IsKeptBy, IsToldBy, keeping, words_kept};
+ghost use Rattle.stub_engine.specs.Keeping.{IsKeptBy, IsToldBy, words_kept};
 
 use crate::exchange_stop::ExchangeStop;
 use exchange_core::{Chunk, Exchange};

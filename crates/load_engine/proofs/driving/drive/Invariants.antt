@@ -1,17 +1,17 @@
 use Rattle.std.proofs.Common.{◌≡◌, None}
 use Rattle.host_core.specs.Core.{ended}
 use Rattle.host_core.specs.Host.{IsHost}
-use Rattle.load_engine.specs.Failing.{Counts}
-use Rattle.load_devices.specs.Dialogue.{news_between}
-use Rattle.load_engine.specs.Keeping.{KeptBy}
-use Rattle.load_engine.specs.Session.{Session}
+use Rattle.load_devices.specs.Devices.{calls_of, devices_of}
+use Rattle.load_engine.specs.Driven.{IsKeptBy, turns_give}
+use Rattle.load_engine.specs.Run.{driving}
+use Rattle.load_engine.specs.Session.{Session, told_by}
 use Rattle.load_engine.proofs.driving.drive.Given as goal
 
 abbrev pub invariant-loop : goal.invariant-loop
 invariant-loop g l = record {
-  session : Session l.counter None l.fn.core l.core (g.L.Line.told l.fn.line) (g.L.Line.told l.line) (g.K.Keep.told l.fn.keep) (g.K.Keep.told l.keep);
-  counted : Counts None (g.L.Line.fault_count l.fn.line) (g.L.Line.fault_count l.line) (g.K.Keep.fault_count l.fn.keep) (g.K.Keep.fault_count l.keep);
-  kept_by : KeptBy g.K.Keep.keeps g.K.Keep.fails None l.fn.keep (news_between l.fn.core l.core) l.keep;
+  session : Session l.counter (driving l.fn.core l.core None) (told_by (devices_of g.L.Line g.K.Keep l.fn.line l.fn.keep)) (told_by (devices_of g.L.Line g.K.Keep l.line l.keep));
+  counted : g.L.Line.fault_count l.line ≡ g.L.Line.fault_count l.fn.line;
+  kept_by : IsKeptBy (calls_of g.K.Keep) (turns_give (driving l.fn.core l.core None)) l.fn.keep l.keep;
   first : IsHost l.fn.core;
   kept : IsHost l.core;
   end : l.end ≡ ended l.core.phase;

@@ -3,7 +3,8 @@ use Rattle.load_devices.specs.Devices.{calls_of, devices_of, line_told}
 use Rattle.load_devices.specs.Failures.{fault_of}
 use Rattle.stub_engine.specs.declared.tally.Tally.{Tally}
 use Rattle.stub_engine.specs.Failing.{keep_fault}
-use Rattle.stub_engine.specs.Keeping.{IsKeptBy, keeping, words_kept}
+use Rattle.load_engine.specs.Keeping.{keeping}
+use Rattle.stub_engine.specs.Keeping.{IsKeptBy, words_kept}
 use Rattle.stub_engine.specs.Parts.{failure_of}
 use Rattle.stub_engine.proofs.Brought.{kept_nothing, not_started, started, unplanned}
 use Rattle.stub_engine.proofs.Parts.{tally_exchanged, tally_unstarted}

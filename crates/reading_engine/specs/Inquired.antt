@@ -7,6 +7,7 @@ use Rattle.load_devices.specs.Devices.{LineTold}
 use Rattle.load_devices.specs.Dialogue.{LacksKey}
 use Rattle.load_devices.specs.Failures.{CountsFault, IsLastFault}
 use Rattle.load_devices.specs.Told.{Gains}
+use Rattle.load_engine.specs.Run.{Run}
 use Rattle.reading_core.specs.Bound.{reading_bound}
 use Rattle.reading_core.specs.Invariant.{IsReader}
 use Rattle.reading_core.specs.Laws.{led}
@@ -31,11 +32,9 @@ IsSaid (Some TurnsOver) left all said = (said ≡ all) × (left ≡ 0)
 IsSaid (Some (Ended end)) left all said = said ≡ all
 IsSaid None left all said = (said ≡ all) × (left ≡ 0)
 
--- what turns made of a reader, and how they stopped: None, where they are over and may go on
-pub record Inquiry : Type 0 where
-  pub old : Reader
-  pub new : Reader
-  pub stop : Option Stop
+-- turns of a reader
+abbrev pub Inquiry : Type 0
+Inquiry = Run Reader Stop
 
 abbrev pub inquiry : Reader → Reader → Option Stop → Inquiry
 inquiry old new stop = record { old = old; new = new; stop = stop }

@@ -20,7 +20,7 @@ pub fn inquire_in_memory(
     turns: u64,
 ) -> ((ReadingCore, Stop), MemoryLine)
     ensures moved { HasMovedOn line result.1 }
-    ensures reading { ReadsTrue result.0.1 core result.0.0 line result.1 }
+    ensures reading { ReadsTrue (inquiry core result.0.0 (Some result.0.1)) line result.1 }
     ensures inquired { IsInquired turns (inquiry core result.0.0 (Some result.0.1)) (memory_told line) (memory_told result.1) }
 {
     inquire_lent::<Brand>(core, line, turns)
@@ -34,7 +34,7 @@ fn inquire_lent<E: Opening>(
 ) -> ((ReadingCore, Stop), MemoryLine)
     requires { line ≡ E.line }
     ensures moved { HasMovedOn E.line result.1 }
-    ensures reading { ReadsTrue result.0.1 core result.0.0 E.line result.1 }
+    ensures reading { ReadsTrue (inquiry core result.0.0 (Some result.0.1)) E.line result.1 }
     ensures inquired { IsInquired turns (inquiry core result.0.0 (Some result.0.1)) (memory_told line) (memory_told result.1) }
 {
     let mut lent: LentLine<E> = LentLine::lend(line);

@@ -7,6 +7,7 @@ use Rattle.load_devices.specs.Devices.{LineTold}
 use Rattle.load_devices.specs.Dialogue.{LacksKey}
 use Rattle.load_devices.specs.Failures.{CountsFault, IsLastFault}
 use Rattle.load_devices.specs.Told.{Gains}
+use Rattle.load_engine.specs.Run.{Run}
 use Rattle.trial_core.specs.declared.trial.Trial.{Trial}
 use Rattle.trial_core.specs.Laws.{led}
 use Rattle.trial_core.specs.Trial.{IsTrial, ended}
@@ -30,11 +31,9 @@ IsSaid (Some TurnsOver) left all said = (said ≡ all) × (left ≡ 0)
 IsSaid (Some (Ended end)) left all said = said ≡ all
 IsSaid None left all said = (said ≡ all) × (left ≡ 0)
 
--- what turns made of a trial, and how they stopped: None, where they are over and may go on
-pub record Trying : Type 0 where
-  pub old : Trial
-  pub new : Trial
-  pub stop : Option Stop
+-- turns of a trial
+abbrev pub Trying : Type 0
+Trying = Run Trial Stop
 
 abbrev pub trying : Trial → Trial → Option Stop → Trying
 trying old new stop = record { old = old; new = new; stop = stop }

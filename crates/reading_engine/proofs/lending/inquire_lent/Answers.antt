@@ -8,11 +8,11 @@ use Rattle.reading_engine.proofs.lending.inquire_lent.Goals as goal
 
 pub returns-clause-reading : goal.returns-clause-reading
 returns-clause-reading g c =
-    let stop = c.inquire-answer.result.1 in
-    let next = c.inquire-answer.result.0 in
-    subst (ReadsTrue stop c.args.core next g.E.Opening.line) (sym c.take_back.ensures.same)
-    (subst (λ (line : LineValue). ReadsTrue stop c.args.core next line c.inquire-answer.new.line) (c.lend-lent.ensures ∙ c.requires)
-    (reads_true stop c.args.core next c.lend-lent.result c.inquire-answer.new.line c.inquire-answer.ensures.inquired.honest))
+    let answer = c.inquire-answer in
+    let this = inquiry c.args.core answer.result.0 (Some answer.result.1) in
+    subst (ReadsTrue this g.E.Opening.line) (sym c.take_back.ensures.same)
+    (subst (λ (line : LineValue). ReadsTrue this line answer.new.line) (c.lend-lent.ensures ∙ c.requires)
+    (reads_true answer.result.1 c.args.core answer.result.0 c.lend-lent.result answer.new.line answer.ensures.inquired.honest))
 
 pub returns-clause-inquired : goal.returns-clause-inquired
 returns-clause-inquired g c =

@@ -5,7 +5,8 @@ use Rattle.load_devices.specs.Devices.{Devices, KeeperCalls}
 use Rattle.load_devices.specs.Told.{Gains}
 use Rattle.load_devices.specs.Turns.{most_turns}
 use Rattle.load_engine.specs.declared.stop.Stop.{Stop}
-use Rattle.load_engine.specs.Driven.{IsDriven, IsKeptBy}
+use Rattle.load_engine.specs.Driven.{IsDriven, IsKeptBy, turns_give}
+use Rattle.load_engine.specs.Run.{driving}
 use Rattle.console_lines.specs.Dialling.{Call, LineRequest, asked_once}
 use Rattle.machine_load.specs.Asked.{Change, LoadTask, Opened, opened_as, ◌⇒◌}
 use Rattle.machine_load.specs.Called.{asked_by}
@@ -94,16 +95,16 @@ pub hindered : {K : Type 0} (calls : KeeperCalls K) (first : Core) (stubs : Opti
     → IsDrivenBehind (course first stubs (core, stop)) here here × IsKeptBehind calls (course first stubs (core, stop)) keeper keeper
 hindered calls first stubs core stop here keeper is same = (
   subst (λ why. IsDrivenUnless why (course first stubs (core, stop)) here here) is (record { core = same; stop_is = refl; devices_same = refl }),
-  subst (λ why. Unless why (IsKeptBy calls (host_behind first stubs) core stop keeper keeper) (λ _. keeper ≡ keeper)) is refl,
+  subst (λ why. Unless why (IsKeptBy calls (turns_give (driving (host_behind first stubs) core (Some stop))) keeper keeper) (λ _. keeper ≡ keeper)) is refl,
 )
 
 -- one that nothing hindered
 pub free : {K : Type 0} (calls : KeeperCalls K) (first : Core) (stubs : Option Stubs) (core : Core) (answer : Core × Stop) (before after : Devices) (keeper keeper' : K) → None ≡ hindrance stubs → core ≡ host_behind first stubs
-    → IsDriven most_turns core answer.0 answer.1 before after → IsKeptBy calls core answer.0 answer.1 keeper keeper'
+    → IsDriven most_turns (driving core answer.0 (Some answer.1)) before after → IsKeptBy calls (turns_give (driving core answer.0 (Some answer.1))) keeper keeper'
     → IsDrivenBehind (course first stubs answer) before after × IsKeptBehind calls (course first stubs answer) keeper keeper'
 free calls first stubs core answer before after keeper keeper' is same driven kept = (
   subst (λ why. IsDrivenUnless why (course first stubs answer) before after) is
-      (subst (λ (core : Core). IsDriven most_turns core answer.0 answer.1 before after) same driven),
-  subst (λ why. Unless why (IsKeptBy calls (host_behind first stubs) answer.0 answer.1 keeper keeper') (λ _. keeper' ≡ keeper)) is
-      (subst (λ (core : Core). IsKeptBy calls core answer.0 answer.1 keeper keeper') same kept),
+      (subst (λ (core : Core). IsDriven most_turns (driving core answer.0 (Some answer.1)) before after) same driven),
+  subst (λ why. Unless why (IsKeptBy calls (turns_give (driving (host_behind first stubs) answer.0 (Some answer.1))) keeper keeper') (λ _. keeper' ≡ keeper)) is
+      (subst (λ (core : Core). IsKeptBy calls (turns_give (driving core answer.0 (Some answer.1))) keeper keeper') same kept),
 )

@@ -3,6 +3,7 @@ use Rattle.std.specs.Prelude.{◌≡◌, ◌⊎◌, ℕ, Bool, true, false, List
 use Rattle.std.specs.Borrow.{Bor}
 use Rattle.requests.specs.Attempt.{IsAttempted}
 use Rattle.requests.specs.Moment.{Moment}
+use Rattle.request_values.specs.Change.{◌⇒◌}
 use Rattle.request_values.specs.declared.request.Request.{Request}
 use Rattle.request_values.specs.declared.request.Request.TheVariants.{Tape, Make, Machine}
 use Rattle.endings.specs.Failure.{IsTold}
@@ -28,7 +29,7 @@ pub record IsMisplaced (before after : Moment) (ended : Status) : Type 0 where
 
 -- a request was attempted, or a name of it is out of place
 abbrev pub IsTried : Request → Moment → Moment → Status → Type 0
-IsTried request before after ended = IsAttempted request before after ended ⊎ IsMisplaced before after ended
+IsTried request before after ended = IsAttempted request (before ⇒ after) ended ⊎ IsMisplaced before after ended
 
 -- standard error has the line of a run at a machine that ended so, and nothing else is another than before; of any other run nothing is said
 abbrev pub IsRunLogged : Request → Status → Held → Held → Type 0

@@ -1,6 +1,7 @@
 //! The body of `main`, over any files, lines and streams.
 ghost use Rattle.std.specs.Prelude.{◌≡◌, []};
 ghost use Rattle.std.specs.Mem.{FitsInMemory};
+ghost use Rattle.request_values.specs.Change.{◌⇒◌};
 ghost use Rattle.request_values.specs.declared.request.Request.{Request};
 ghost use Rattle.request_values.specs.declared.request.TapeRequest.{TapeRequest};
 ghost use Rattle.endings.specs.declared.status.Status.{Status};
@@ -38,7 +39,7 @@ pub(crate) fn program<K: Kinds, R: Read, W: Output, E: FaultOutput, T: Print>(
     requires { FitsInMemory R.row }
     // With no words, the tape on the input is checked.
     ensures checked { words.now ≡ [] → (status : Status)
-        × IsAttempted (Request.Tape TapeRequest.CheckInput) (moment system streams.old) (moment result.0 streams.new) status
+        × IsAttempted (Request.Tape TapeRequest.CheckInput) (moment system streams.old ⇒ moment result.0 streams.new) status
         × (result.1 ≡ status_code status) }
     // Whatever the words are, what they ask for is tried, and told to a log where that is wanted, or they are explained.
     ensures answered { (status : Status)
@@ -78,7 +79,7 @@ fn try_request<K: Kinds, R: Read, W: Output, E: FaultOutput, T: Print>(
 ) -> (System<K>, Status)
     requires { FitsInMemory R.row }
     ensures tried { IsTried request.now (moment system streams.old) (moment result.0 streams.new) result.1 }
-    ensures checked { request.now ≡ Request.Tape TapeRequest.CheckInput → IsAttempted request.now (moment system streams.old) (moment result.0 streams.new) result.1 }
+    ensures checked { request.now ≡ Request.Tape TapeRequest.CheckInput → IsAttempted request.now (moment system streams.old ⇒ moment result.0 streams.new) result.1 }
 {
     match misplaced(rt, request) {
         Some(failure) => (system, tell(alloc, failure, &mut streams.err)),

@@ -6,6 +6,7 @@ use Rattle.endings.specs.Failure.{is_unheard}
 use Rattle.endings.specs.SystemReason.{IsToldWithReason}
 use Rattle.endings.specs.FaultOutput.{StandardError}
 use Rattle.endings.specs.Held.{Held}
+use Rattle.request_values.specs.Change.{◌⇒◌}
 use Rattle.request_values.specs.declared.request.Request.{Request}
 use Rattle.request_values.specs.Request.{only_prints}
 use Rattle.requests.specs.Asked.{SystemAsked}
@@ -14,15 +15,15 @@ use Rattle.requests.specs.Moment.{Moment, moment}
 use Rattle.requests.proofs.Whatever.{failed_whatever}
 
 pub attempted : (request : Request) (before : Moment) (asked : SystemAsked) (held last : Held) (outcome : Result Status Failure) (status : Status) (prints : Bool)
-    → prints ≡ only_prints request → IfOk outcome (IsDone request before (moment asked held)) → IfErr outcome (IsFailed request before (moment asked held))
-    → held.err ≡ before.held.err → IsEndOf prints outcome held last status → IsAttempted request before (moment asked last) status
+    → prints ≡ only_prints request → IfOk outcome (IsDone request (before ⇒ moment asked held)) → IfErr outcome (IsFailed request (before ⇒ moment asked held))
+    → held.err ≡ before.held.err → IsEndOf prints outcome (held ⇒ last) status → IsAttempted request (before ⇒ moment asked last) status
 attempted request before asked held last (Ok ended) status prints p ok err quiet end = inl (record {
-  done = subst (λ h. IsDone request before (moment asked h) status) (sym end.0) (subst (IsDone request before (moment asked held)) (sym end.1) ok);
+  done = subst (λ h. IsDone request (before ⇒ moment asked h) status) (sym end.0) (subst (IsDone request (before ⇒ moment asked held)) (sym end.1) ok);
   quiet = ap (λ (h : Held). h.err) end.0 ∙ quiet;
 })
 attempted request before asked held last (Err failure) status prints p ok err quiet end = inr (record {
   failure = failure;
-  failed = subst (λ h. IsFailed request before (moment asked h) failure) (sym end.0) (failed_whatever before asked held last.err failure request err);
+  failed = subst (λ h. IsFailed request (before ⇒ moment asked h) failure) (sym end.0) (failed_whatever before asked held last.err failure request err);
   told = subst (λ b. IsToldWithReason (is_unheard b last.unread failure) before.held.err last.err failure) p
       (subst (λ b. IsToldWithReason (is_unheard prints b failure) before.held.err last.err failure) (sym (ap (λ (h : Held). h.unread) end.0))
       (subst (λ (e : StandardError). IsToldWithReason (is_unheard prints held.unread failure) e last.err failure) quiet end.1));
@@ -31,8 +32,8 @@ attempted request before asked held last (Err failure) status prints p ok err qu
 
 -- what a request came to, before it is told of
 pub record CameTo (request : Request) (before : Moment) (came : SystemAsked × Result Status Failure) (held : Held) : Type 0 where
-  pub ok : IfOk came.1 (IsDone request before (moment came.0 held))
-  pub err : IfErr came.1 (IsFailed request before (moment came.0 held))
+  pub ok : IfOk came.1 (IsDone request (before ⇒ moment came.0 held))
+  pub err : IfErr came.1 (IsFailed request (before ⇒ moment came.0 held))
   pub quiet : held.err ≡ before.held.err
 
 -- so it did where a command came to it
@@ -42,5 +43,5 @@ came_to request before came command held streams same is so =
     subst (λ c. CameTo request before c held) (sym same) (subst (CameTo request before command) (sym is) so)
 
 pub told : (request : Request) (before : Moment) (came : SystemAsked × Result Status Failure) (held last : Held) (status : Status) (prints : Bool)
-    → prints ≡ only_prints request → CameTo request before came held → IsEndOf prints came.1 held last status → IsAttempted request before (moment came.0 last) status
+    → prints ≡ only_prints request → CameTo request before came held → IsEndOf prints came.1 (held ⇒ last) status → IsAttempted request (before ⇒ moment came.0 last) status
 told request before came held last status prints p so end = attempted request before came.0 held last came.1 status prints p so.ok so.err so.quiet end

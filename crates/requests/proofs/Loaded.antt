@@ -15,9 +15,10 @@ use Rattle.console_lines.specs.Dialling.{Call, LineRequest}
 use Rattle.tape_image.specs.Plan.{PlanValue, starting}
 use Rattle.endings.specs.declared.failure.Failure.{Failure}
 use Rattle.endings.specs.declared.status.Status.{Status}
+use Rattle.request_values.specs.Change.{◌⇒◌}
 use Rattle.request_values.specs.declared.machine.Load.{Load}
 use Rattle.input_files.specs.Inputs.{Known}
-use Rattle.requests.specs.Loading.{AreLoaded, AreUnloaded, IsPlanFailure, IsPlanLoaded, SaidOfDisk, console_for, record_asked}
+use Rattle.requests.specs.Loading.{AreLoaded, AreUnloaded, IsPlanFailure, IsPlanLoaded, PlannedLoad, SaidOfDisk, console_for, planned_load, record_asked}
 use Rattle.requests.specs.Moment.{Moment, intake_at}
 use Rattle.requests.specs.Planning.{IsPlanned}
 use Rattle.input_files.specs.Opening.{Name}
@@ -34,12 +35,12 @@ disk_by_told tell (Unfinished stop) line on_disk h = h
 disk_by_told tell (Stale address) line on_disk h = h
 
 -- where the console's line leads is known from before a load
-module _ (plan : PlanValue) (load : Load) (P Q : SaidOfDisk) (before : ConsoleTold) (asked : Option (List LineRequest)) (lines : Option (List LineTold)) (out : Known) (call call' : Call)
+module _ (load : PlannedLoad) (P Q : SaidOfDisk) (before : ConsoleTold) (asked : Option (List LineRequest)) (lines : Option (List LineTold)) (out : Known) (call call' : Call)
     (f : (holds : RecordDisk → FileKnown → List DiskStep → Type 0) → P holds → Q holds) where
   abbrev after : Call → ConsoleTold
   after leads = record { asked = asked; call = leads; lines = lines; out = out }
 
-  pub loaded_as : (status : Status) → IsPlanLoaded plan load P before (after call) status → IsPlanLoaded plan load Q before (after call') status
+  pub loaded_as : (status : Status) → IsPlanLoaded load P (before ⇒ after call) status → IsPlanLoaded load Q (before ⇒ after call') status
   loaded_as status h = record {
     ending = h.ending;
     between = h.between;
@@ -49,7 +50,7 @@ module _ (plan : PlanValue) (load : Load) (P Q : SaidOfDisk) (before : ConsoleTo
     disk = f (disk_asked_by h.ending.end h.ending.line) h.disk;
   }
 
-  pub failed_as : (failure : Failure) → IsPlanFailure plan load P before (after call) failure → IsPlanFailure plan load Q before (after call') failure
+  pub failed_as : (failure : Failure) → IsPlanFailure load P (before ⇒ after call) failure → IsPlanFailure load Q (before ⇒ after call') failure
   failed_as failure =
       ⊎_elim
       (λ h. inl (record {
@@ -85,26 +86,26 @@ closed_new b a asked last name p q r closed holds h =
 
 -- a load within its surroundings is one of the tapes, where their plan is known, and what was asked of the disk
 module _ (names : List Name) (load : Load) (before after : Moment) (plan : PlanValue) (planned : IsPlanned names (intake_at before) (intake_at after) plan)
-    (P : SaidOfDisk) (call' : Call) (f : (holds : RecordDisk → FileKnown → List DiskStep → Type 0) → P holds → record_asked load before after holds) where
+    (P : SaidOfDisk) (call' : Call) (f : (holds : RecordDisk → FileKnown → List DiskStep → Type 0) → P holds → record_asked load (before ⇒ after) holds) where
   abbrev reached : ConsoleTold
   reached = record { asked = after.asked.outside.for_lines; call = call'; lines = after.asked.outside.lines; out = after.held.out }
 
-  pub tapes_loaded : (result : Result Status Failure) → IfOk result (IsPlanLoaded (starting plan load.start) load P (console_for load before) reached)
-      → IfOk result (AreLoaded names load before after)
+  pub tapes_loaded : (result : Result Status Failure) → IfOk result (IsPlanLoaded (planned_load (starting plan load.start) load) P (console_for load before ⇒ reached))
+      → IfOk result (AreLoaded names load (before ⇒ after))
   tapes_loaded (Ok status) h = record {
     plan = plan;
     planned = planned;
-    loaded = loaded_as (starting plan load.start) load P (record_asked load before after) (console_for load before) after.asked.outside.for_lines
+    loaded = loaded_as (planned_load (starting plan load.start) load) P (record_asked load (before ⇒ after)) (console_for load before) after.asked.outside.for_lines
         after.asked.outside.lines after.held.out call' (console_for load after).call f status h;
   }
   tapes_loaded (Err failure) h = tt
 
-  pub tapes_unloaded : (result : Result Status Failure) → IfErr result (IsPlanFailure (starting plan load.start) load P (console_for load before) reached)
-      → IfErr result (AreUnloaded names load before after)
+  pub tapes_unloaded : (result : Result Status Failure) → IfErr result (IsPlanFailure (planned_load (starting plan load.start) load) P (console_for load before ⇒ reached))
+      → IfErr result (AreUnloaded names load (before ⇒ after))
   tapes_unloaded (Ok status) h = tt
   tapes_unloaded (Err failure) h = inr (record {
     plan = plan;
     planned = planned;
-    failed = failed_as (starting plan load.start) load P (record_asked load before after) (console_for load before) after.asked.outside.for_lines
+    failed = failed_as (planned_load (starting plan load.start) load) P (record_asked load (before ⇒ after)) (console_for load before) after.asked.outside.for_lines
         after.asked.outside.lines after.held.out call' (console_for load after).call f failure h;
   })

@@ -1,5 +1,5 @@
 -- What becomes of a tape of words, by what is said of its shelf.
-use Rattle.std.proofs.Common.{ℕ, List, [], ◌∷◌, Result, Ok, Err, OnOk, IfErr, length, refl, inl, inr}
+use Rattle.std.proofs.Common.{ℕ, List, [], ◌∷◌, Result, Ok, Err, OnOk, IfErr, length, refl, inr}
 use Rattle.tape_shelf.specs.Shelf.{Put, Reserve, put_step}
 use Rattle.tape_shelf.specs.ShelfTold.{HasDone, IsDone, ShelfTold}
 use Rattle.tape_shelf.specs.declared.shelf.ShelfFault.{ShelfFault}

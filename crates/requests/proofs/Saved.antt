@@ -8,6 +8,7 @@ use Rattle.machine_look.specs.declared.save_end.SaveEnd.{SaveEnd}
 use Rattle.endings.specs.declared.failure.Failure.{Failure}
 use Rattle.endings.specs.declared.status.Status.{Status}
 use Rattle.input_files.specs.Opening.{Name}
+use Rattle.request_values.specs.Change.{◌⇒◌}
 use Rattle.request_values.specs.declared.machine.Save.{Save}
 use Rattle.requests.specs.Ending.{IsSaveEndFailure, IsSaveEndStatus}
 use Rattle.requests.specs.Looking.{console_at}
@@ -26,7 +27,7 @@ module _ (save : Save) (before after : Moment) (no_file : after.asked.inputs ≡
     (end : SaveEnd) (shelf : ShelfTold)
     (reported : IsSavedAndReported (options_of save) (save_told_first save before) (save_told shelf (console_at save.look after)) end)
     (gone : IsLetGo shelf.disk after.asked.outside.disk) where
-  pub saved : (result : Result Status Failure) → IfOk result (IsSaveEndStatus end) → IfOk result (AreWordsSaved save before after)
+  pub saved : (result : Result Status Failure) → IfOk result (IsSaveEndStatus end) → IfOk result (AreWordsSaved save (before ⇒ after))
   saved (Ok status) is = record {
     saved = record { end = end; shelf = shelf; reported = reported; status_is = is; let_go = gone };
     no_file = no_file;
@@ -34,7 +35,7 @@ module _ (save : Save) (before after : Moment) (no_file : after.asked.inputs ≡
   }
   saved (Err failure) is = tt
 
-  pub unsaved : (result : Result Status Failure) → IfErr result (IsSaveEndFailure end save.file.now) → IfErr result (AreWordsUnsaved save before after)
+  pub unsaved : (result : Result Status Failure) → IfErr result (IsSaveEndFailure end save.file.now) → IfErr result (AreWordsUnsaved save (before ⇒ after))
   unsaved (Ok status) is = tt
   unsaved (Err failure) is = record {
     failed = inr (record { end = end; shelf = shelf; reported = reported; failed = is; let_go = gone });

@@ -6,6 +6,7 @@ use Rattle.endings.specs.Held.{Held}
 use Rattle.input_files.specs.Intake.{intake}
 use Rattle.input_files.specs.Opening.{Name}
 use Rattle.input_files.proofs.Whatever.{tapes_whatever, unopened_whatever, with_error}
+use Rattle.request_values.specs.Change.{◌⇒◌}
 use Rattle.request_values.specs.declared.request.Request.{Request}
 use Rattle.request_values.specs.declared.request.Request.TheVariants.{Tape, Make, Machine}
 use Rattle.request_values.specs.declared.request.MachineRequest.TheVariants.{Load, Verify, Save, Probe}
@@ -24,12 +25,12 @@ module _ (before : Moment) (asked : SystemAsked) (held : Held) (err : StandardEr
       ⊎_elim (λ u. inl (unopened_whatever _ (intake_at before) asked.inputs held err failure u))
       (λ t. inr (tapes_whatever names (intake_at before) asked.inputs held err _ t.0, t.1))
 
-  unsaved : (save : SaveRequest) → IsSaveFailure save before (moment asked held) failure → IsSaveFailure save before (moment asked (with_error held err)) failure
+  unsaved : (save : SaveRequest) → IsSaveFailure save (before ⇒ moment asked held) failure → IsSaveFailure save (before ⇒ moment asked (with_error held err)) failure
   unsaved save =
       ⊎_elim (λ c. inl (record { fault = c.fault; shelf = c.shelf; is_so = c.is_so; is_called = c.is_called; let_go = c.let_go }))
       (λ b. inr (record { end = b.end; shelf = b.shelf; reported = b.reported; failed = b.failed; let_go = b.let_go }))
 
-  pub failed_whatever : (request : Request) → IsFailed request before (moment asked held) failure → IsFailed request before (moment asked (with_error held err)) failure
+  pub failed_whatever : (request : Request) → IsFailed request (before ⇒ moment asked held) failure → IsFailed request (before ⇒ moment asked (with_error held err)) failure
   failed_whatever (Machine (Load names load)) is =
       ⊎_elim (λ n. inl (n.0, unplanned names.items n.1))
       (λ b. inr (record { plan = b.plan; planned = tapes_whatever names.items (intake_at before) asked.inputs held err _ b.planned; failed = b.failed })) is
@@ -40,5 +41,11 @@ module _ (before : Moment) (asked : SystemAsked) (held : Held) (err : StandardEr
   failed_whatever (Machine (Probe request)) is = record { failed = is.failed; no_disk = is.no_disk; no_file = is.no_file; nothing_read = is.nothing_read }
   failed_whatever (Make make) is =
       ⊎_elim (λ n. inl (record { unmade = unmade_whatever (intake_at before) asked.inputs held err failure make n.unmade; nobody = n.nobody; nothing_printed = n.nothing_printed }))
-      (λ p. inr (record { text = p.text; made = made_whatever (intake_at before) asked.inputs held err make p.text p.made; not_put = p.not_put; no_console = p.no_console; nothing_printed = p.nothing_printed })) is
+      (λ p. inr (record {
+        text = p.text;
+        made = made_whatever (intake_at before) asked.inputs held err make p.text p.made;
+        not_put = p.not_put;
+        no_console = record { for_lines = p.no_console.for_lines; lines = p.no_console.lines };
+        nothing_printed = p.nothing_printed;
+      })) is
   failed_whatever (Tape request) is = (unprinted_whatever (intake_at before) asked.inputs held err failure request is.0, is.1)

@@ -11,54 +11,53 @@ use Rattle.requests.specs.Looking.{AreVerified, AreUnverified}
 use Rattle.requests.specs.Probing.{IsConsoleProbed, IsConsoleUnprobed}
 use Rattle.requests.specs.Saving.{AreWordsSaved, AreWordsUnsaved}
 use Rattle.requests.specs.Making.{AreWordsMade, AreWordsUnmade}
-use Rattle.requests.specs.Moment.{Moment, intake_at}
+use Rattle.requests.specs.Moment.{AsksNobody, Moment, intake_at}
+use Rattle.request_values.specs.Change.{Change}
 use Rattle.request_values.specs.declared.request.Request.{Request}
 use Rattle.request_values.specs.Request.{only_prints}
 use Rattle.request_values.specs.declared.request.Request.TheVariants.{Tape, Make, Machine}
 use Rattle.request_values.specs.declared.request.MachineRequest.TheVariants.{Load, Verify, Save, Probe}
 use Rattle.tape_commands.specs.Printing.{IsPrinted, IsUnprinted}
 
--- nothing was asked of disk and consoles
-abbrev pub AsksNobody : Moment → Moment → Type 0
-AsksNobody before after = after.asked.outside ≡ before.asked.outside
-
 -- a request was done, and the program ends so
-abbrev pub IsDone : Request → Moment → Moment → Status → Type 0
-IsDone (Machine (Load names load)) before after status = AreLoaded names.items load before after status
-IsDone (Machine (Verify names look)) before after status = AreVerified names.items look before after status
-IsDone (Machine (Save save)) before after status = AreWordsSaved save before after status
-IsDone (Machine (Probe request)) before after status = IsConsoleProbed request before after status
-IsDone (Make make) before after status = AreWordsMade make before after status
-IsDone (Tape request) before after status = IsPrinted request (intake_at before) (intake_at after) status × AsksNobody before after
+abbrev pub IsDone : Request → Change Moment → Status → Type 0
+IsDone (Machine (Load names load)) moments status = AreLoaded names.items load moments status
+IsDone (Machine (Verify names look)) moments status = AreVerified names.items look moments status
+IsDone (Machine (Save save)) moments status = AreWordsSaved save moments status
+IsDone (Machine (Probe request)) moments status = IsConsoleProbed request moments status
+IsDone (Make make) moments status = AreWordsMade make moments status
+IsDone (Tape request) moments status = IsPrinted request (intake_at moments.before) (intake_at moments.after) status × AsksNobody moments
 
 -- a request failed
-abbrev pub IsFailed : Request → Moment → Moment → Failure → Type 0
-IsFailed (Machine (Load names load)) before after failure = AreUnloaded names.items load before after failure
-IsFailed (Machine (Verify names look)) before after failure = AreUnverified names.items look before after failure
-IsFailed (Machine (Save save)) before after failure = AreWordsUnsaved save before after failure
-IsFailed (Machine (Probe request)) before after failure = IsConsoleUnprobed request before after failure
-IsFailed (Make make) before after failure = AreWordsUnmade make before after failure
-IsFailed (Tape request) before after failure = IsUnprinted request (intake_at before) (intake_at after) failure × AsksNobody before after
+abbrev pub IsFailed : Request → Change Moment → Failure → Type 0
+IsFailed (Machine (Load names load)) moments failure = AreUnloaded names.items load moments failure
+IsFailed (Machine (Verify names look)) moments failure = AreUnverified names.items look moments failure
+IsFailed (Machine (Save save)) moments failure = AreWordsUnsaved save moments failure
+IsFailed (Machine (Probe request)) moments failure = IsConsoleUnprobed request moments failure
+IsFailed (Make make) moments failure = AreWordsUnmade make moments failure
+IsFailed (Tape request) moments failure = IsUnprinted request (intake_at moments.before) (intake_at moments.after) failure × AsksNobody moments
 
 -- it was done, with this status, and standard error has nothing of it
-pub record IsDoneQuietly (request : Request) (before after : Moment) (status : Status) : Type 0 where
-  pub done : IsDone request before after status
-  pub quiet : after.held.err ≡ before.held.err
+pub record IsDoneQuietly (request : Request) (moments : Change Moment) (status : Status) : Type 0 where
+  pub done : IsDone request moments status
+  pub quiet : moments.after.held.err ≡ moments.before.held.err
 
 -- it failed, standard error tells of it where somebody is to hear of it, and of the system's reason, and the status says so
-pub record IsFailedAloud (request : Request) (before after : Moment) (status : Status) : Type 0 where
+pub record IsFailedAloud (request : Request) (moments : Change Moment) (status : Status) : Type 0 where
   pub failure : Failure
-  pub failed : IsFailed request before after failure
-  pub told : IsToldWithReason (is_unheard (only_prints request) after.held.unread failure) before.held.err after.held.err failure
+  pub failed : IsFailed request moments failure
+  pub told : IsToldWithReason (is_unheard (only_prints request) moments.after.held.unread failure) moments.before.held.err moments.after.held.err failure
   pub status_is : status ≡ status_of failure
 
 -- a request was attempted from one moment to another, and the program ends so
-abbrev pub IsAttempted : Request → Moment → Moment → Status → Type 0
-IsAttempted request before after status = IsDoneQuietly request before after status ⊎ IsFailedAloud request before after status
+abbrev pub IsAttempted : Request → Change Moment → Status → Type 0
+IsAttempted request moments status = IsDoneQuietly request moments status ⊎ IsFailedAloud request moments status
 
 -- how the program ends with what a request came to: it was done, and nothing more is said; or it failed, and standard error tells why, where
 -- somebody is to hear of it
-abbrev pub IsEndOf : Bool → Result Status Failure → Held → Held → Status → Type 0
-IsEndOf prints (Ok done) held held' status = (held' ≡ held) × (status ≡ done)
-IsEndOf prints (Err failure) held held' status =
-    (held' ≡ record held { err = held'.err }) × IsToldWithReason (is_unheard prints held.unread failure) held.err held'.err failure × (status ≡ status_of failure)
+abbrev pub IsEndOf : Bool → Result Status Failure → Change Held → Status → Type 0
+IsEndOf prints (Ok done) held status = (held.after ≡ held.before) × (status ≡ done)
+IsEndOf prints (Err failure) held status =
+    (held.after ≡ record held.before { err = held.after.err })
+    × IsToldWithReason (is_unheard prints held.before.unread failure) held.before.err held.after.err failure
+    × (status ≡ status_of failure)

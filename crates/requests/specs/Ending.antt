@@ -15,8 +15,9 @@ use Rattle.machine_probe.specs.declared.probe_fault.ProbeFault.TheVariants as pr
 use Rattle.probe_report.specs.declared.probe_end.ProbeEnd.{ProbeEnd}
 use Rattle.probe_report.specs.declared.probe_end.ProbeEnd.TheVariants as probe
 use Rattle.endings.specs.declared.failure.Failure.{Failure}
-use Rattle.endings.specs.declared.failure.Failure.TheVariants.{CannotWrite, CannotWriteFile, FileIsThere, PartIsThere, PartNotOfSave, PartStale, RecordInUse, CannotConnect}
-use Rattle.endings.specs.declared.failure.Failure.TheVariants.{LineFailed, StartInDoubt, RecordRefused, RecordStale, NoMemory}
+use Rattle.endings.specs.declared.failure.Failure.TheVariants.{CannotWrite, CannotWriteFile, RecordInUse, RecordRefused, RecordStale}
+use Rattle.endings.specs.declared.failure.Failure.TheVariants.{FileIsThere, PartIsThere, PartNotOfSave, PartStale}
+use Rattle.endings.specs.declared.failure.Failure.TheVariants.{CannotConnect, LineFailed, StartInDoubt, NoMemory}
 use Rattle.endings.specs.declared.status.Status.{Status}
 use Rattle.endings.specs.declared.status.Status.TheVariants.{Done, Differs, NotLoaded}
 use Rattle.requests.specs.declared.machine_fault.MachineFault.{MachineFault}

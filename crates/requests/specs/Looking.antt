@@ -10,52 +10,52 @@ use Rattle.endings.specs.declared.failure.Failure.{Failure}
 use Rattle.endings.specs.declared.status.Status.{Status}
 use Rattle.requests.specs.Ending.{IsFailureOf, after_verify}
 use Rattle.requests.specs.declared.machine_fault.MachineFault.TheVariants as machine
+use Rattle.request_values.specs.Change.{Change, ◌⇒◌}
 use Rattle.request_values.specs.declared.machine.Look.{Look}
 use Rattle.input_files.specs.Opening.{Name}
-use Rattle.requests.specs.Planning.{IsPlanned, IsUnplanned}
+use Rattle.requests.specs.Planning.{HaveNoPlan, IsPlanned}
 use Rattle.requests.specs.Asked.{console_of}
-use Rattle.requests.specs.Moment.{Moment, intake_at}
+use Rattle.requests.specs.Moment.{AsksNoDisk, Moment, intake_at}
 
 -- what is told of the console that a look is meant for, and of standard output
 abbrev pub console_at : Look → Moment → ConsoleTold
 console_at look known = console_of look.line.now look.quiet_ms known.asked.outside known.held.out
 
--- nothing was asked of the disk
-abbrev pub AsksNoDisk : Moment → Moment → Type 0
-AsksNoDisk before after = after.asked.outside.disk ≡ before.asked.outside.disk
+-- the same before and after
+abbrev pub consoles_at : Look → Change Moment → Change ConsoleTold
+consoles_at look moments = console_at look moments.before ⇒ console_at look moments.after
 
 -- memory was looked at for a plan
-abbrev pub IsPlanVerified : PlanValue → Look → ConsoleTold → ConsoleTold → Status → Type 0
-IsPlanVerified plan look before after status = (end : VerifyEnd) × IsVerifyReported plan look.patience before after end × (after_verify end ≡ Ok status)
+abbrev pub IsPlanVerified : PlanValue → Look → Change ConsoleTold → Status → Type 0
+IsPlanVerified plan look console status =
+    (end : VerifyEnd) × IsVerifyReported plan look.patience console.before console.after end × (after_verify end ≡ Ok status)
 
 -- a look for a plan came to nothing
-pub record IsVerifyCutShort (plan : PlanValue) (look : Look) (before after : ConsoleTold) (failure : Failure) : Type 0 where
+pub record IsVerifyCutShort (plan : PlanValue) (look : Look) (console : Change ConsoleTold) (failure : Failure) : Type 0 where
   pub fault : LookFault
-  pub is_so : IsVerifyFault plan look.patience before after fault
+  pub is_so : IsVerifyFault plan look.patience console.before console.after fault
   pub is_called : IsFailureOf (machine.Look fault) look.line.now look.line.now failure
 
 -- a look for a plan failed: it came to nothing, or it was reported and its line had failed
-abbrev pub IsVerifyFailure : PlanValue → Look → ConsoleTold → ConsoleTold → Failure → Type 0
-IsVerifyFailure plan look before after failure =
-    IsVerifyCutShort plan look before after failure
-    ⊎ ((end : VerifyEnd) × IsVerifyReported plan look.patience before after end × (after_verify end ≡ Err failure))
+abbrev pub IsVerifyFailure : PlanValue → Look → Change ConsoleTold → Failure → Type 0
+IsVerifyFailure plan look console failure =
+    IsVerifyCutShort plan look console failure
+    ⊎ ((end : VerifyEnd) × IsVerifyReported plan look.patience console.before console.after end × (after_verify end ≡ Err failure))
 
 -- memory was looked at for the tapes of these names, as one, at the console that is named
-pub record AreVerified (names : List Name) (look : Look) (before after : Moment) (status : Status) : Type 0 where
+pub record AreVerified (names : List Name) (look : Look) (moments : Change Moment) (status : Status) : Type 0 where
   pub plan : PlanValue
-  pub planned : IsPlanned names (intake_at before) (intake_at after) plan
-  pub verified : IsPlanVerified plan look (console_at look before) (console_at look after) status
-  pub no_disk : AsksNoDisk before after
+  pub planned : IsPlanned names (intake_at moments.before) (intake_at moments.after) plan
+  pub verified : IsPlanVerified plan look (consoles_at look moments) status
+  pub no_disk : AsksNoDisk moments
 
 -- there is a plan, and the look for it failed
-pub record IsLookBroken (names : List Name) (look : Look) (before after : Moment) (failure : Failure) : Type 0 where
+pub record IsLookBroken (names : List Name) (look : Look) (moments : Change Moment) (failure : Failure) : Type 0 where
   pub plan : PlanValue
-  pub planned : IsPlanned names (intake_at before) (intake_at after) plan
-  pub failed : IsVerifyFailure plan look (console_at look before) (console_at look after) failure
-  pub no_disk : AsksNoDisk before after
+  pub planned : IsPlanned names (intake_at moments.before) (intake_at moments.after) plan
+  pub failed : IsVerifyFailure plan look (consoles_at look moments) failure
+  pub no_disk : AsksNoDisk moments
 
 -- the look failed: there is no plan, and no console was asked for, or it failed on its way
-abbrev pub AreUnverified : List Name → Look → Moment → Moment → Failure → Type 0
-AreUnverified names look before after failure =
-    ((after.asked.outside ≡ before.asked.outside) × IsUnplanned names (intake_at before) (intake_at after) failure)
-    ⊎ IsLookBroken names look before after failure
+abbrev pub AreUnverified : List Name → Look → Change Moment → Failure → Type 0
+AreUnverified names look moments failure = HaveNoPlan names moments failure ⊎ IsLookBroken names look moments failure

@@ -7,6 +7,8 @@ use Rattle.input_files.specs.Inputs.{Inputs, OfTapes, FailsUnopened, files_of}
 use Rattle.input_files.specs.Intake.{Intake}
 use Rattle.input_files.specs.Opening.{Name}
 use Rattle.input_files.specs.Taking.{FailsToTake}
+use Rattle.request_values.specs.Change.{Change}
+use Rattle.requests.specs.Moment.{AsksNobody, Moment, intake_at}
 
 -- tapes were taken of the inputs, and this is the plan of all of them
 pub record IsPlanOf (inputs : Inputs) (plan : PlanValue) : Type 0 where
@@ -23,3 +25,8 @@ abbrev pub IsUnplanned : List Name → Intake → Intake → Failure → Type 0
 IsUnplanned names before after failure =
     FailsUnopened (files_of names) before after failure
     ⊎ (OfTapes names before after (λ inputs. FailsToTake inputs failure) × (after.held.out ≡ before.held.out))
+
+-- the tapes of these names have no plan, and of disk and consoles nothing was asked
+abbrev pub HaveNoPlan : List Name → Change Moment → Failure → Type 0
+HaveNoPlan names moments failure =
+    AsksNobody moments × IsUnplanned names (intake_at moments.before) (intake_at moments.after) failure

@@ -14,7 +14,7 @@ use Rattle.endings.specs.declared.status.Status.{Status}
 use Rattle.requests.specs.Ending.{IsFailureOf, IsSaveEndFailure, IsSaveEndStatus}
 use Rattle.requests.specs.declared.machine_fault.MachineFault.TheVariants as machine
 use Rattle.input_files.specs.Opening.{Name}
-use Rattle.request_values.specs.declared.machine.Look.{Look}
+use Rattle.request_values.specs.Change.{Change}
 use Rattle.request_values.specs.declared.machine.Save.{Save}
 use Rattle.requests.specs.Looking.{console_at}
 use Rattle.requests.specs.Moment.{Moment}
@@ -37,41 +37,41 @@ IsLetGo None asked = ⊥
 IsLetGo (Some disk) asked = HasAsked disk.asked asked (IsClosed disk.room)
 
 -- memory was read and saved, on a shelf that was new, and was let go
-pub record IsSaveOver (save : Save) (before after : Moment) (status : Status) : Type 0 where
+pub record IsSaveOver (save : Save) (moments : Change Moment) (status : Status) : Type 0 where
   pub end : SaveEnd
   pub shelf : ShelfTold
-  pub reported : IsSavedAndReported (options_of save) (save_told_first save before) (save_told shelf (console_at save.look after)) end
+  pub reported : IsSavedAndReported (options_of save) (save_told_first save moments.before) (save_told shelf (console_at save.look moments.after)) end
   pub status_is : IsSaveEndStatus end status
-  pub let_go : IsLetGo shelf.disk after.asked.outside.disk
+  pub let_go : IsLetGo shelf.disk moments.after.asked.outside.disk
 
 -- the same, and its line had failed, or memory does not hold what was left beside the file
-pub record IsSaveBroken (save : Save) (before after : Moment) (failure : Failure) : Type 0 where
+pub record IsSaveBroken (save : Save) (moments : Change Moment) (failure : Failure) : Type 0 where
   pub end : SaveEnd
   pub shelf : ShelfTold
-  pub reported : IsSavedAndReported (options_of save) (save_told_first save before) (save_told shelf (console_at save.look after)) end
+  pub reported : IsSavedAndReported (options_of save) (save_told_first save moments.before) (save_told shelf (console_at save.look moments.after)) end
   pub failed : IsSaveEndFailure end save.file.now failure
-  pub let_go : IsLetGo shelf.disk after.asked.outside.disk
+  pub let_go : IsLetGo shelf.disk moments.after.asked.outside.disk
 
 -- a save came to nothing
-pub record IsSaveCutShort (save : Save) (before after : Moment) (failure : Failure) : Type 0 where
+pub record IsSaveCutShort (save : Save) (moments : Change Moment) (failure : Failure) : Type 0 where
   pub fault : LookFault
   pub shelf : ShelfTold
-  pub is_so : IsSaveFault (options_of save) (save_told_first save before) (save_told shelf (console_at save.look after)) fault
+  pub is_so : IsSaveFault (options_of save) (save_told_first save moments.before) (save_told shelf (console_at save.look moments.after)) fault
   pub is_called : IsFailureOf (machine.Look fault) save.look.line.now save.file.now failure
-  pub let_go : IsLetGo shelf.disk after.asked.outside.disk
+  pub let_go : IsLetGo shelf.disk moments.after.asked.outside.disk
 
 -- a save failed: it came to nothing, or it was reported and its line had failed
-abbrev pub IsSaveFailure : Save → Moment → Moment → Failure → Type 0
-IsSaveFailure save before after failure = IsSaveCutShort save before after failure ⊎ IsSaveBroken save before after failure
+abbrev pub IsSaveFailure : Save → Change Moment → Failure → Type 0
+IsSaveFailure save moments failure = IsSaveCutShort save moments failure ⊎ IsSaveBroken save moments failure
 
 -- words were saved in the file that is named, of the console that is named, and no other file was opened or read
-pub record AreWordsSaved (save : Save) (before after : Moment) (status : Status) : Type 0 where
-  pub saved : IsSaveOver save before after status
-  pub no_file : after.asked.inputs ≡ before.asked.inputs
-  pub nothing_read : after.held.input ≡ before.held.input
+pub record AreWordsSaved (save : Save) (moments : Change Moment) (status : Status) : Type 0 where
+  pub saved : IsSaveOver save moments status
+  pub no_file : moments.after.asked.inputs ≡ moments.before.asked.inputs
+  pub nothing_read : moments.after.held.input ≡ moments.before.held.input
 
 -- or that failed
-pub record AreWordsUnsaved (save : Save) (before after : Moment) (failure : Failure) : Type 0 where
-  pub failed : IsSaveFailure save before after failure
-  pub no_file : after.asked.inputs ≡ before.asked.inputs
-  pub nothing_read : after.held.input ≡ before.held.input
+pub record AreWordsUnsaved (save : Save) (moments : Change Moment) (failure : Failure) : Type 0 where
+  pub failed : IsSaveFailure save moments failure
+  pub no_file : moments.after.asked.inputs ≡ moments.before.asked.inputs
+  pub nothing_read : moments.after.held.input ≡ moments.before.held.input

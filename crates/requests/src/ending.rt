@@ -1,6 +1,7 @@
 //! What a load, a look or a probe comes to that was reported: the exit status, or the failure that names what was at fault.
 ghost use Rattle.std.specs.Prelude.{◌≡◌, IfOk, IfErr};
-ghost use Rattle.requests.specs.Ending.{IsEndedFailure, IsEndedStatus, IsSaveEndFailure, IsSaveEndStatus, IsStopFailure, IsStopStatus, after_probe, after_verify};
+ghost use Rattle.requests.specs.Ending.{IsEndedFailure, IsEndedStatus, IsSaveEndFailure, IsSaveEndStatus, IsStopFailure, IsStopStatus};
+ghost use Rattle.requests.specs.Ending.{after_probe, after_verify};
 
 use endings::{Failure, Status};
 use load_engine::Stop;

@@ -1,5 +1,6 @@
 //! Doing a request, and telling how it ended.
 ghost use Rattle.std.specs.Mem.{FitsInMemory};
+ghost use Rattle.request_values.specs.Change.{◌⇒◌};
 ghost use Rattle.requests.specs.Moment.{moment};
 ghost use Rattle.requests.specs.Attempt.{IsAttempted, IsEndOf};
 
@@ -43,7 +44,7 @@ pub fn attempt<K: Kinds, R: Read, W: Output, E: FaultOutput, T: Print>(
     witness: &Witness,
 ) -> (System<K>, Status)
     requires { FitsInMemory R.row }
-    ensures { IsAttempted request.now (moment system streams.old) (moment result.0 streams.new) result.1 }
+    ensures { IsAttempted request.now (moment system streams.old ⇒ moment result.0 streams.new) result.1 }
 {
     let only_prints = request.only_prints();
     let (system, outcome) = match request {
@@ -80,7 +81,7 @@ fn end<R: Read, W: Output, E: FaultOutput, T: Print>(
     terminal: Option<&T>,
     witness: &Witness,
 ) -> Status
-    ensures { IsEndOf only_prints outcome.entry streams.old streams.new result }
+    ensures { IsEndOf only_prints outcome.entry (streams.old ⇒ streams.new) result }
 {
     match outcome {
         Ok(status) => status,

@@ -1,7 +1,8 @@
 //! Listening to a machine behind a load.
-ghost use Rattle.std.specs.Prelude.{◌≡◌, ◌<◌, OnOk, IfErr};
-ghost use Rattle.console_lines.specs.Listening.{copying, IsCopiedInPart};
-ghost use Rattle.requests.specs.Listening.{quiet_time, seconds_behind_stop, seconds_of, IsHeardOut, IsListenedTo, IsListeningCut};
+ghost use Rattle.std.specs.Prelude.{◌≡◌, ◌<◌, Some, OnOk, IfErr};
+ghost use Rattle.request_values.specs.Change.{◌⇒◌};
+ghost use Rattle.requests.specs.Listening.{line_and_out, quiet_time, seconds_behind_stop, seconds_of};
+ghost use Rattle.requests.specs.Listening.{IsHeardOut, IsListenedTo, IsListeningCut};
 
 use console_lines::{listen, silences_within};
 use endings::Failure;
@@ -20,14 +21,10 @@ pub(crate) fn listen_behind<L: Line, W: Write>(
     line: &mut L,
     out: &mut W,
 ) -> Result<(), Failure<'static>>
-    ensures heard { OnOk result (IsListenedTo (L.last_fault line.new)
-        (seconds_of load.entry.listen end)
-        (quiet_time load.entry.quiet_ms)
-        (copying L.told W.contents line.old out.old)
-        (copying L.told W.contents line.new out.new)) }
+    ensures heard { OnOk result (IsListenedTo (seconds_of load.entry.listen end) (quiet_time load.entry.quiet_ms)
+        (line_and_out L.Line W.Write line.old out.old ⇒ line_and_out L.Line W.Write line.new out.new)) }
     ensures cut { IfErr result (IsListeningCut (seconds_of load.entry.listen end)
-        (copying L.told W.contents line.old out.old)
-        (copying L.told W.contents line.new out.new)) }
+        (line_and_out L.Line W.Write line.old out.old ⇒ line_and_out L.Line W.Write line.new out.new)) }
 {
     match seconds_of(load.listen, end) {
         Some(seconds) => listen_for(seconds, load.quiet_ms, line, out),
@@ -62,14 +59,10 @@ fn listen_for<L: Line, W: Write>(
     line: &mut L,
     out: &mut W,
 ) -> Result<(), Failure<'static>>
-    ensures heard { OnOk result (IsHeardOut (L.last_fault line.new)
-        seconds
-        (quiet_time quiet_ms)
-        (copying L.told W.contents line.old out.old)
-        (copying L.told W.contents line.new out.new)) }
-    ensures cut { IfErr result (λ failure. IsCopiedInPart
-        (copying L.told W.contents line.old out.old)
-        (copying L.told W.contents line.new out.new) × (failure ≡ Failure.CannotWrite)) }
+    ensures heard { OnOk result (IsHeardOut seconds (quiet_time quiet_ms)
+        (line_and_out L.Line W.Write line.old out.old ⇒ line_and_out L.Line W.Write line.new out.new)) }
+    ensures cut { IfErr result (IsListeningCut (Some seconds)
+        (line_and_out L.Line W.Write line.old out.old ⇒ line_and_out L.Line W.Write line.new out.new)) }
 {
     let silences = silences_within(seconds, quiet_time(quiet_ms));
     match listen(line, out, silences) {

@@ -3,9 +3,9 @@ ghost use Rattle.std.specs.Prelude.{◌≡◌, IfOk, IfErr};
 ghost use Rattle.std.specs.Mem.{FitsInMemory};
 ghost use Rattle.machine_load.specs.RecordDisk.{DiskAsked};
 ghost use Rattle.machine_load.specs.Scene.{ending};
-ghost use Rattle.requests.specs.Listening.{line_and_out};
-ghost use Rattle.requests.specs.Loading.{console_around, kept_in, lines_and_out, record_name, AreLoaded, AreUnloaded};
-ghost use Rattle.requests.specs.Loading.{IsEnded, IsEndFailure, IsEndedOver, IsEndOverFailure, IsPlanLoaded, IsPlanFailure};
+ghost use Rattle.request_values.specs.Change.{◌⇒◌};
+ghost use Rattle.requests.specs.Loading.{console_around, kept_in, lines_around, planned_load, record_name};
+ghost use Rattle.requests.specs.Loading.{AreLoaded, AreUnloaded, IsEnded, IsEndFailure, IsPlanLoaded, IsPlanFailure};
 ghost use Rattle.requests.specs.Moment.{moment};
 
 use crate::advice::{advise, onlooker};
@@ -16,9 +16,8 @@ use crate::planning::plan_tapes;
 use crate::system::{Kinds, System};
 use console_lines::Way;
 use endings::{Failure, FaultOutput, Output, Status, Streams};
-use load_devices::Line;
 use load_progress::{KeptIn, ProgressLine};
-use machine_load::{Around, InMemory, LoadEnd, Outcome, Surroundings, load};
+use machine_load::{Around, InMemory, Outcome, Surroundings, load};
 use record_file::RecordFile;
 use request_values::Load;
 use std::alloc::Global;
@@ -51,8 +50,8 @@ pub(crate) fn load_tapes<'a, K: Kinds, R: Read, W: Output, E: FaultOutput, T: Pr
     terminal: Option<&T>,
 ) -> (System<K>, Result<Status, Failure<'a>>)
     requires { FitsInMemory R.row }
-    ensures ok { IfOk result.1 (AreLoaded names.now request.entry (moment system streams.old) (moment result.0 streams.new)) }
-    ensures err { IfErr result.1 (AreUnloaded names.now request.entry (moment system streams.old) (moment result.0 streams.new)) }
+    ensures ok { IfOk result.1 (AreLoaded names.now request.entry (moment system streams.old ⇒ moment result.0 streams.new)) }
+    ensures err { IfErr result.1 (AreUnloaded names.now request.entry (moment system streams.old ⇒ moment result.0 streams.new)) }
     ensures quiet { streams.new.err ≡ streams.old.err }
 {
     let planned = match plan_tapes(&mut system.inputs, alloc, names, streams) {
@@ -73,7 +72,7 @@ pub(crate) fn load_tapes<'a, K: Kinds, R: Read, W: Output, E: FaultOutput, T: Pr
         Some(name) => {
             let records = RecordFile::new(disk, name);
             let mut around = Around { console, records };
-            let outcome = load_within(alloc, plan, request, &mut around, out, &shown);
+            let outcome = load_plan(alloc, plan, request, &mut around, out, &shown);
             let Around { console, records } = around;
             let system = System::new(inputs, records.close(), console.back(), clock);
             (system, outcome)
@@ -81,15 +80,15 @@ pub(crate) fn load_tapes<'a, K: Kinds, R: Read, W: Output, E: FaultOutput, T: Pr
         None => {
             let records = InMemory;
             let mut around = Around { console, records };
-            let outcome = load_within(alloc, plan, request, &mut around, out, &shown);
+            let outcome = load_plan(alloc, plan, request, &mut around, out, &shown);
             let system = System::new(inputs, disk, around.console.back(), clock);
             (system, outcome)
         }
     }
 }
 
-// Loads a plan within these surroundings.
-fn load_within<'a, S: Surroundings, W: Write, C: Clock, T: Print>(
+// Loads a plan within these surroundings, and listens behind it.
+fn load_plan<'a, S: Surroundings, W: Write, C: Clock, T: Print>(
     alloc: Global,
     plan: Plan,
     request: Load<'a>,
@@ -97,12 +96,10 @@ fn load_within<'a, S: Surroundings, W: Write, C: Clock, T: Print>(
     out: &mut W,
     onlooker: &Option<ProgressLine<'_, C, T>>,
 ) -> Result<Status, Failure<'a>>
-    ensures ok { IfOk result (IsPlanLoaded plan request.entry (DiskAsked (S.disk around.old) (S.disk around.new))
-        (console_around S.Surroundings W.Write around.old out.old)
-        (console_around S.Surroundings W.Write around.new out.new)) }
-    ensures err { IfErr result (IsPlanFailure plan request.entry (DiskAsked (S.disk around.old) (S.disk around.new))
-        (console_around S.Surroundings W.Write around.old out.old)
-        (console_around S.Surroundings W.Write around.new out.new)) }
+    ensures ok { IfOk result (IsPlanLoaded (planned_load plan request.entry) (DiskAsked (S.disk around.old) (S.disk around.new))
+        (console_around S.Surroundings W.Write around.old out.old ⇒ console_around S.Surroundings W.Write around.new out.new)) }
+    ensures err { IfErr result (IsPlanFailure (planned_load plan request.entry) (DiskAsked (S.disk around.old) (S.disk around.new))
+        (console_around S.Surroundings W.Write around.old out.old ⇒ console_around S.Surroundings W.Write around.new out.new)) }
 {
     let words = plan.words().len() as u32;
     match load(alloc, plan, request.options, around, out, onlooker) {
@@ -125,11 +122,9 @@ fn end<'a, S: Surroundings, W: Write>(
     out: &mut W,
 ) -> Result<Status, Failure<'a>>
     ensures ok { IfOk result (IsEnded load.entry (ending S.Line.Line outcome)
-        (lines_and_out (console_around S.Surroundings W.Write around.old out.old))
-        (lines_and_out (console_around S.Surroundings W.Write around.new out.new))) }
+        (lines_around S.Surroundings W.Write around.old out.old ⇒ lines_around S.Surroundings W.Write around.new out.new)) }
     ensures err { IfErr result (IsEndFailure load.entry (ending S.Line.Line outcome)
-        (lines_and_out (console_around S.Surroundings W.Write around.old out.old))
-        (lines_and_out (console_around S.Surroundings W.Write around.new out.new))) }
+        (lines_around S.Surroundings W.Write around.old out.old ⇒ lines_around S.Surroundings W.Write around.new out.new)) }
     ensures asked { S.asked around.new ≡ S.asked around.old }
     ensures disk { S.disk around.new ≡ S.disk around.old }
 {
@@ -139,34 +134,17 @@ fn end<'a, S: Surroundings, W: Write>(
         line,
         ..
     } = outcome;
-    match line {
-        Some(mut line) => {
-            let ended = end_over(load, end, marked, &mut line, out);
-            around.let_go(line);
-            ended
-        }
-        None => after_load(end, marked, record_name(load.record)),
-    }
-}
-
-// What comes behind the report of a load that ended so, and had this line.
-fn end_over<'a, L: Line, W: Write>(
-    load: Load<'a>,
-    end: LoadEnd,
-    marked: bool,
-    line: &mut L,
-    out: &mut W,
-) -> Result<Status, Failure<'a>>
-    ensures ok { IfOk result (IsEndedOver load.entry end
-        (line_and_out L.Line W.Write line.old out.old)
-        (line_and_out L.Line W.Write line.new out.new)) }
-    ensures err { IfErr result (IsEndOverFailure load.entry end marked
-        (line_and_out L.Line W.Write line.old out.old)
-        (line_and_out L.Line W.Write line.new out.new)) }
-{
-    let status = after_load(end, marked, record_name(load.record))?;
-    listen_behind(load, end, line, out)?;
-    Ok(status)
+    let status = after_load(end, marked, record_name(load.record));
+    let Some(mut line) = line else {
+        return status;
+    };
+    let heard = match status {
+        Ok(_) => listen_behind(load, end, &mut line, out),
+        Err(_) => Ok(()),
+    };
+    around.let_go(line);
+    heard?;
+    status
 }
 
 // Where it is kept what a load has done.

@@ -2,6 +2,7 @@
 ghost use Rattle.std.specs.Prelude.{◌≡◌, ◌∷◌, [], length, OnOk, IfOk, IfErr};
 ghost use Rattle.tape_shelf.specs.Shelf.{Put, Reserve};
 ghost use Rattle.tape_shelf.specs.ShelfTold.{HasDone};
+ghost use Rattle.request_values.specs.Change.{◌⇒◌};
 ghost use Rattle.requests.specs.Making.{AreWordsMade, AreWordsUnmade, IsShelfFailure};
 ghost use Rattle.requests.specs.Making.{IsNotPutOn, IsNotPutWhole, IsPutOn};
 ghost use Rattle.requests.specs.Moment.{moment};
@@ -29,8 +30,8 @@ pub(crate) fn make_words<'a, K: Kinds, R: Read, W: Output, E: FaultOutput>(
     make: Make<'a>,
     streams: &mut Streams<R, W, E>,
 ) -> (System<K>, Result<Status, Failure<'a>>)
-    ensures ok { IfOk result.1 (AreWordsMade make.entry (moment system streams.old) (moment result.0 streams.new)) }
-    ensures err { IfErr result.1 (AreWordsUnmade make.entry (moment system streams.old) (moment result.0 streams.new)) }
+    ensures ok { IfOk result.1 (AreWordsMade make.entry (moment system streams.old ⇒ moment result.0 streams.new)) }
+    ensures err { IfErr result.1 (AreWordsUnmade make.entry (moment system streams.old ⇒ moment result.0 streams.new)) }
     ensures quiet { streams.new.err ≡ streams.old.err }
 {
     let System {
@@ -59,8 +60,8 @@ fn put_on<'a, D: Disk + Drop>(
     file: &'a str,
     text: &[u8],
 ) -> (D, Result<Status, Failure<'a>>)
-    ensures ok { IfOk result.1 (IsPutOn file.entry text.now (D.asked disk) (D.asked result.0)) }
-    ensures err { IfErr result.1 (IsNotPutOn file.entry text.now (D.asked disk) (D.asked result.0)) }
+    ensures ok { IfOk result.1 (IsPutOn file.entry text.now (D.asked disk ⇒ D.asked result.0)) }
+    ensures err { IfErr result.1 (IsNotPutOn file.entry text.now (D.asked disk ⇒ D.asked result.0)) }
 {
     let mut shelf = NewFile::new(disk, file);
     let put = put_whole(alloc, text, &mut shelf);

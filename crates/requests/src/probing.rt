@@ -1,5 +1,6 @@
 //! Finding out what stands at the other end of a line.
 ghost use Rattle.std.specs.Prelude.{◌≡◌, IfOk, IfErr};
+ghost use Rattle.request_values.specs.Change.{◌⇒◌};
 ghost use Rattle.requests.specs.Moment.{moment};
 ghost use Rattle.requests.specs.Probing.{IsConsoleProbed, IsConsoleUnprobed};
 
@@ -25,8 +26,8 @@ pub(crate) fn probe_console<'a, K: Kinds, R: Read, W: Output, E: FaultOutput>(
     request: Probe<'a>,
     streams: &mut Streams<R, W, E>,
 ) -> (System<K>, Result<Status, Failure<'a>>)
-    ensures ok { IfOk result.1 (IsConsoleProbed request.entry (moment system streams.old) (moment result.0 streams.new)) }
-    ensures err { IfErr result.1 (IsConsoleUnprobed request.entry (moment system streams.old) (moment result.0 streams.new)) }
+    ensures ok { IfOk result.1 (IsConsoleProbed request.entry (moment system streams.old ⇒ moment result.0 streams.new)) }
+    ensures err { IfErr result.1 (IsConsoleUnprobed request.entry (moment system streams.old ⇒ moment result.0 streams.new)) }
     ensures quiet { streams.new.err ≡ streams.old.err }
 {
     let System {

@@ -1,5 +1,6 @@
 //! Saving what a real machine holds.
 ghost use Rattle.std.specs.Prelude.{◌≡◌, IfOk, IfErr};
+ghost use Rattle.request_values.specs.Change.{◌⇒◌};
 ghost use Rattle.requests.specs.Moment.{moment};
 ghost use Rattle.requests.specs.Saving.{AreWordsSaved, AreWordsUnsaved};
 
@@ -24,9 +25,10 @@ use tape_shelf::NewFile;
 ///
 /// `FileIsThere` and `CannotWriteFile` come before the console is reached, or where the tape can't be put there at
 /// the end; `PartIsThere` and `PartNotOfSave` before the console is reached, with what is beside the file as it was;
-/// `CannotConnect` before anything was sent. `PartStale` comes behind the report, with what is beside the file as it was;
-/// `LineFailed` too, with the words that were read by then in the file, if any were. `CannotWrite` is a report that could not be written whole; the tape is where it
-/// belongs. `NoMemory` comes only where a growth was refused, with no tape put there and nothing reported.
+/// `CannotConnect` before anything was sent. `PartStale` comes behind the report, with what is beside the file as it
+/// was; `LineFailed` too, with the words that were read by then in the file, if any were. `CannotWrite` is a report
+/// that could not be written whole; the tape is where it belongs. `NoMemory` comes only where a growth was refused,
+/// with no tape put there and nothing reported.
 pub(crate) fn save_words<'a, K: Kinds, R: Read, W: Output, E: FaultOutput, T: Print>(
     system: System<K>,
     alloc: Global,
@@ -34,8 +36,8 @@ pub(crate) fn save_words<'a, K: Kinds, R: Read, W: Output, E: FaultOutput, T: Pr
     streams: &mut Streams<R, W, E>,
     terminal: Option<&T>,
 ) -> (System<K>, Result<Status, Failure<'a>>)
-    ensures ok { IfOk result.1 (AreWordsSaved request.entry (moment system streams.old) (moment result.0 streams.new)) }
-    ensures err { IfErr result.1 (AreWordsUnsaved request.entry (moment system streams.old) (moment result.0 streams.new)) }
+    ensures ok { IfOk result.1 (AreWordsSaved request.entry (moment system streams.old ⇒ moment result.0 streams.new)) }
+    ensures err { IfErr result.1 (AreWordsUnsaved request.entry (moment system streams.old ⇒ moment result.0 streams.new)) }
     ensures quiet { streams.new.err ≡ streams.old.err }
 {
     let System {

@@ -1,6 +1,7 @@
 //! Looking whether a real machine holds what tapes say.
 ghost use Rattle.std.specs.Prelude.{◌≡◌, IfOk, IfErr};
 ghost use Rattle.std.specs.Mem.{FitsInMemory};
+ghost use Rattle.request_values.specs.Change.{◌⇒◌};
 ghost use Rattle.requests.specs.Looking.{AreVerified, AreUnverified};
 ghost use Rattle.requests.specs.Moment.{moment};
 
@@ -39,8 +40,8 @@ pub(crate) fn verify_tapes<'a, K: Kinds, R: Read, W: Output, E: FaultOutput, T: 
     terminal: Option<&T>,
 ) -> (System<K>, Result<Status, Failure<'a>>)
     requires { FitsInMemory R.row }
-    ensures ok { IfOk result.1 (AreVerified names.now look.entry (moment system streams.old) (moment result.0 streams.new)) }
-    ensures err { IfErr result.1 (AreUnverified names.now look.entry (moment system streams.old) (moment result.0 streams.new)) }
+    ensures ok { IfOk result.1 (AreVerified names.now look.entry (moment system streams.old ⇒ moment result.0 streams.new)) }
+    ensures err { IfErr result.1 (AreUnverified names.now look.entry (moment system streams.old ⇒ moment result.0 streams.new)) }
     ensures quiet { streams.new.err ≡ streams.old.err }
 {
     let plan = match plan_tapes(&mut system.inputs, alloc, names, streams) {

@@ -1,5 +1,6 @@
 use Rattle.std.proofs.Common.{rules, refl, sym, subst, IfOk, IfErr}
 use Rattle.std.proofs.lemmas.Result.{IfOk-weaker, IfErr-weaker}
+use Rattle.request_values.specs.Change.{◌⇒◌}
 use Rattle.requests.specs.Asked.{asked_of}
 use Rattle.requests.specs.Attempt.{IsDone, IsFailed}
 use Rattle.requests.specs.Loading.{AreUnloaded}
@@ -26,8 +27,8 @@ returns g c =
           let after = moment asked w.print_answer-outcome.new.streams in
           rw (← w.system.view_is) (came_to c.args.request.now first c.match-request.system (asked, outcome) c.match-request.streams w.print_answer-outcome.new.streams
           w.system-is w.streams-is (record {
-            ok = subst (λ r. IfOk outcome (IsDone r first after)) (sym w.in-Tape.is) (IfOk-weaker outcome _ _ (λ status h. (h, refl)) w.print_answer-outcome.ensures.ok);
-            err = subst (λ r. IfErr outcome (IsFailed r first after)) (sym w.in-Tape.is) (IfErr-weaker outcome _ _ (λ failure h. (h, refl)) w.print_answer-outcome.ensures.err);
+            ok = subst (λ r. IfOk outcome (IsDone r (first ⇒ after))) (sym w.in-Tape.is) (IfOk-weaker outcome _ _ (λ status h. (h, refl)) w.print_answer-outcome.ensures.ok);
+            err = subst (λ r. IfErr outcome (IsFailed r (first ⇒ after))) (sym w.in-Tape.is) (IfErr-weaker outcome _ _ (λ failure h. (h, refl)) w.print_answer-outcome.ensures.err);
             quiet = w.print_answer-outcome.ensures.quiet;
           }))
       | in-Make w ↦ came_to _ before _ w.make_words.result _ w.make_words.new.streams w.system-is w.streams-is (record {
@@ -36,8 +37,8 @@ returns g c =
         quiet = w.make_words.ensures.quiet;
       })
       | in-Machine-Load w ↦
-          let due : IfErr w.load_tapes.result.1 (AreUnloaded w.in-Machine-Load.names.items w.in-Machine-Load.load before (moment w.load_tapes.result.0 w.load_tapes.new.streams)) =
-          subst (λ items. IfErr w.load_tapes.result.1 (AreUnloaded items w.in-Machine-Load.load before (moment w.load_tapes.result.0 w.load_tapes.new.streams)))
+          let due : IfErr w.load_tapes.result.1 (AreUnloaded w.in-Machine-Load.names.items w.in-Machine-Load.load (before ⇒ moment w.load_tapes.result.0 w.load_tapes.new.streams)) =
+          subst (λ items. IfErr w.load_tapes.result.1 (AreUnloaded items w.in-Machine-Load.load (before ⇒ moment w.load_tapes.result.0 w.load_tapes.new.streams)))
           w.deref.ensures.value w.load_tapes.ensures.err in
           came_to _ before _ w.load_tapes.result _ w.load_tapes.new.streams w.system-is w.streams-is (record {
             ok = search rules;
@@ -45,8 +46,8 @@ returns g c =
             quiet = w.load_tapes.ensures.quiet;
           })
       | in-Machine-Verify w ↦
-          let due : IfErr w.verify_tapes.result.1 (AreUnverified w.in-Machine-Verify.names.items w.in-Machine-Verify.look before (moment w.verify_tapes.result.0 w.verify_tapes.new.streams)) =
-          subst (λ items. IfErr w.verify_tapes.result.1 (AreUnverified items w.in-Machine-Verify.look before (moment w.verify_tapes.result.0 w.verify_tapes.new.streams)))
+          let due : IfErr w.verify_tapes.result.1 (AreUnverified w.in-Machine-Verify.names.items w.in-Machine-Verify.look (before ⇒ moment w.verify_tapes.result.0 w.verify_tapes.new.streams)) =
+          subst (λ items. IfErr w.verify_tapes.result.1 (AreUnverified items w.in-Machine-Verify.look (before ⇒ moment w.verify_tapes.result.0 w.verify_tapes.new.streams)))
           w.deref-in-Machine-Verify.ensures.value w.verify_tapes.ensures.err in
           came_to _ before _ w.verify_tapes.result _ w.verify_tapes.new.streams w.system-is w.streams-is (record {
             ok = search rules;

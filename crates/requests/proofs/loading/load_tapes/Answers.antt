@@ -5,8 +5,9 @@ use Rattle.endings.specs.Held.{Held}
 use Rattle.input_files.specs.Intake.{intake}
 use Rattle.machine_load.specs.RecordDisk.{DiskAsked, RecordDisk}
 use Rattle.record_file.specs.Taking.{kind_of}
+use Rattle.request_values.specs.Change.{◌⇒◌}
 use Rattle.requests.specs.Asked.{asked_of}
-use Rattle.requests.specs.Loading.{AreLoaded, AreUnloaded, AsksDisk, IsPlanFailure, IsPlanLoaded, console_for}
+use Rattle.requests.specs.Loading.{AreLoaded, AreUnloaded, AsksDisk, IsPlanFailure, IsPlanLoaded, console_for, planned_load}
 use Rattle.requests.specs.Moment.{intake_at, moment}
 use Rattle.requests.specs.Planning.{IsPlanned}
 use Rattle.requests.proofs.Loaded.{closed_new, tapes_loaded, tapes_unloaded}
@@ -37,7 +38,7 @@ returns-clause-ok g c =
     c.to-console.ensures.consoles c.to-console.ensures.name c.to-console.ensures.quiet_time (ap (λ (h : Held). h.out) c.streams.view_is ∙ c.in-Ok.ensures.same_out) in
     rw (← c.system.view_is) (elim c.match-request.branch [
       | in-Some w ↦
-          let load = w.load_within-outcome in
+          let load = w.load_plan-outcome in
           let back = w.back.result in
           let last = asked_of opened' (disk w.close.result) (asked back) (lines back) in
           let held : Held = record {
@@ -60,12 +61,12 @@ returns-clause-ok g c =
           let P = DiskAsked (Some first_disk) (Some last_disk) in
           let closed = closed_new first_disk last_disk (disk inside.disk) (disk w.close.result) w.in-Some.name.now (ap disk w.new-records.ensures.disk)
           w.new-records.ensures.name w.new-records.ensures.held w.close.ensures.asked in
-          let is = told_as (λ x y. IfOk load.result (IsPlanLoaded (starting plan request.start) request P x y)) b (console_for request before) a a' p q
-          (subst (λ started. IfOk load.result (IsPlanLoaded started request P b a)) c.starting-plan.ensures.value load.ensures.ok) in
-          rw (w.result-is, w.streams-inside-is) (subst (λ s. IfOk load.result (AreLoaded names request before (moment s held))) (sym w.new-system.ensures)
-          (tapes_loaded names request before after plan planned' P call' (λ holds h. subst (λ file. AsksDisk file (disk inside.disk) (disk w.close.result) holds) (sym w.in-Some.is) (closed holds h)) load.result is))
+          let is = told_as (λ x y. IfOk load.result (IsPlanLoaded (planned_load (starting plan request.start) request) P (x ⇒ y))) b (console_for request before) a a' p q
+          (subst (λ started. IfOk load.result (IsPlanLoaded (planned_load started request) P (b ⇒ a))) c.starting-plan.ensures.value load.ensures.ok) in
+          rw (w.result-is, w.streams-inside-is) (subst (λ s. IfOk load.result (AreLoaded names request (before ⇒ moment s held))) (sym w.new-system.ensures)
+          (tapes_loaded names request before after plan planned' P call' (λ holds h. subst (λ file. AsksDisk file (disk inside.disk ⇒ disk w.close.result) holds) (sym w.in-Some.is) (closed holds h)) load.result is))
       | in-None w ↦
-          let load = w.load_within-outcome-in-None in
+          let load = w.load_plan-outcome-in-None in
           let back = w.back-in-None.result in
           let last = asked_of opened' (disk inside.disk) (asked back) (lines back) in
           let held : Held = record {
@@ -82,10 +83,10 @@ returns-clause-ok g c =
           let a' = way_told asked lines back call' held.out in
           let q : a ≡ a' = given asked lines way'.consoles back call' call' held.out (sym w.back-in-None.ensures) refl in
           let P = DiskAsked None None in
-          let is = told_as (λ x y. IfOk load.result (IsPlanLoaded (starting plan request.start) request P x y)) b (console_for request before) a a' p q
-          (subst (λ started. IfOk load.result (IsPlanLoaded started request P b a)) c.starting-plan.ensures.value load.ensures.ok) in
-          rw (w.result-is, w.streams-inside-is) (subst (λ s. IfOk load.result (AreLoaded names request before (moment s held))) (sym w.new-system-in-None.ensures)
-          (tapes_loaded names request before after plan planned' P call' (λ holds h. subst (λ file. AsksDisk file (disk inside.disk) (disk inside.disk) holds) (sym w.in-None.is) refl) load.result is))
+          let is = told_as (λ x y. IfOk load.result (IsPlanLoaded (planned_load (starting plan request.start) request) P (x ⇒ y))) b (console_for request before) a a' p q
+          (subst (λ started. IfOk load.result (IsPlanLoaded (planned_load started request) P (b ⇒ a))) c.starting-plan.ensures.value load.ensures.ok) in
+          rw (w.result-is, w.streams-inside-is) (subst (λ s. IfOk load.result (AreLoaded names request (before ⇒ moment s held))) (sym w.new-system-in-None.ensures)
+          (tapes_loaded names request before after plan planned' P call' (λ holds h. subst (λ file. AsksDisk file (disk inside.disk ⇒ disk inside.disk) holds) (sym w.in-None.is) refl) load.result is))
     ])
 
 pub returns-clause-err : goal.returns-clause-err
@@ -108,7 +109,7 @@ returns-clause-err g c =
     c.to-console.ensures.consoles c.to-console.ensures.name c.to-console.ensures.quiet_time (ap (λ (h : Held). h.out) c.streams.view_is ∙ c.in-Ok.ensures.same_out) in
     rw (← c.system.view_is) (elim c.match-request.branch [
       | in-Some w ↦
-          let load = w.load_within-outcome in
+          let load = w.load_plan-outcome in
           let back = w.back.result in
           let last = asked_of opened' (disk w.close.result) (asked back) (lines back) in
           let held : Held = record {
@@ -131,12 +132,12 @@ returns-clause-err g c =
           let P = DiskAsked (Some first_disk) (Some last_disk) in
           let closed = closed_new first_disk last_disk (disk inside.disk) (disk w.close.result) w.in-Some.name.now (ap disk w.new-records.ensures.disk)
           w.new-records.ensures.name w.new-records.ensures.held w.close.ensures.asked in
-          let is = told_as (λ x y. IfErr load.result (IsPlanFailure (starting plan request.start) request P x y)) b (console_for request before) a a' p q
-          (subst (λ started. IfErr load.result (IsPlanFailure started request P b a)) c.starting-plan.ensures.value load.ensures.err) in
-          rw (w.result-is, w.streams-inside-is) (subst (λ s. IfErr load.result (AreUnloaded names request before (moment s held))) (sym w.new-system.ensures)
-          (tapes_unloaded names request before after plan planned' P call' (λ holds h. subst (λ file. AsksDisk file (disk inside.disk) (disk w.close.result) holds) (sym w.in-Some.is) (closed holds h)) load.result is))
+          let is = told_as (λ x y. IfErr load.result (IsPlanFailure (planned_load (starting plan request.start) request) P (x ⇒ y))) b (console_for request before) a a' p q
+          (subst (λ started. IfErr load.result (IsPlanFailure (planned_load started request) P (b ⇒ a))) c.starting-plan.ensures.value load.ensures.err) in
+          rw (w.result-is, w.streams-inside-is) (subst (λ s. IfErr load.result (AreUnloaded names request (before ⇒ moment s held))) (sym w.new-system.ensures)
+          (tapes_unloaded names request before after plan planned' P call' (λ holds h. subst (λ file. AsksDisk file (disk inside.disk ⇒ disk w.close.result) holds) (sym w.in-Some.is) (closed holds h)) load.result is))
       | in-None w ↦
-          let load = w.load_within-outcome-in-None in
+          let load = w.load_plan-outcome-in-None in
           let back = w.back-in-None.result in
           let last = asked_of opened' (disk inside.disk) (asked back) (lines back) in
           let held : Held = record {
@@ -153,8 +154,8 @@ returns-clause-err g c =
           let a' = way_told asked lines back call' held.out in
           let q : a ≡ a' = given asked lines way'.consoles back call' call' held.out (sym w.back-in-None.ensures) refl in
           let P = DiskAsked None None in
-          let is = told_as (λ x y. IfErr load.result (IsPlanFailure (starting plan request.start) request P x y)) b (console_for request before) a a' p q
-          (subst (λ started. IfErr load.result (IsPlanFailure started request P b a)) c.starting-plan.ensures.value load.ensures.err) in
-          rw (w.result-is, w.streams-inside-is) (subst (λ s. IfErr load.result (AreUnloaded names request before (moment s held))) (sym w.new-system-in-None.ensures)
-          (tapes_unloaded names request before after plan planned' P call' (λ holds h. subst (λ file. AsksDisk file (disk inside.disk) (disk inside.disk) holds) (sym w.in-None.is) refl) load.result is))
+          let is = told_as (λ x y. IfErr load.result (IsPlanFailure (planned_load (starting plan request.start) request) P (x ⇒ y))) b (console_for request before) a a' p q
+          (subst (λ started. IfErr load.result (IsPlanFailure (planned_load started request) P (b ⇒ a))) c.starting-plan.ensures.value load.ensures.err) in
+          rw (w.result-is, w.streams-inside-is) (subst (λ s. IfErr load.result (AreUnloaded names request (before ⇒ moment s held))) (sym w.new-system-in-None.ensures)
+          (tapes_unloaded names request before after plan planned' P call' (λ holds h. subst (λ file. AsksDisk file (disk inside.disk ⇒ disk inside.disk) holds) (sym w.in-None.is) refl) load.result is))
     ])

@@ -1,10 +1,9 @@
-use Rattle.std.proofs.Common.{None, Some, ap, option_map, subst, refl}
+use Rattle.std.proofs.Common.{ap, option_map, subst, refl}
 use Rattle.std.specs.Prelude.{[], ◌∷◌, length}
 use Rattle.tape_shelf.specs.Room.{room_of}
 use Rattle.tape_shelf.specs.Shelf.{Put, Reserve}
 use Rattle.tape_shelf.specs.ShelfTold.{HasDone, ShelfTold}
 use Rattle.requests.specs.Making.{IsNotPutWhole}
-use Rattle.requests.specs.Saving.{new_shelf}
 use Rattle.requests.proofs.Saved.{new_is, shelf_on}
 use Rattle.requests.proofs.making.put_on.Goals as goal
 

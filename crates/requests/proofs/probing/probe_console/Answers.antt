@@ -4,6 +4,7 @@ use Rattle.console_lines.specs.Path.{call_to}
 use Rattle.endings.specs.Held.{Held}
 use Rattle.machine_probe.specs.Probe.{IsProbeReported}
 use Rattle.machine_probe.specs.ProbeFault.{IsProbeFault}
+use Rattle.request_values.specs.Change.{◌⇒◌}
 use Rattle.requests.specs.Asked.{asked_of}
 use Rattle.requests.specs.Looking.{console_at}
 use Rattle.requests.specs.Moment.{moment}
@@ -43,7 +44,7 @@ returns-clause-ok g c =
     (sym c.back.ensures) (c.probe-probed.ensures.call ∙ ap (λ (t : ConsoleTold). t.call) p) in
     let read = ap (λ (h : Held). h.input) c.streams.view_is in
     rw (← c.system.view_is) (elim c.match-probed.branch [
-      | in-Ok w ↦ rw (w.result-is) (subst (λ s. IfOk w.after_probe.result (IsConsoleProbed request before (moment s held))) (sym c.new-system.ensures)
+      | in-Ok w ↦ rw (w.result-is) (subst (λ s. IfOk w.after_probe.result (IsConsoleProbed request (before ⇒ moment s held))) (sym c.new-system.ensures)
           (probed request before after refl refl read w.in-Ok.end (told_as (λ x y. IsProbeReported (probe_options request) x y w.in-Ok.end) b (console_at look before) a (console_at look after) p q
           w.in-Ok.ensures.reported) w.after_probe.result w.after_probe.ensures))
       | in-Err w ↦ rw (w.result-is) tt
@@ -79,10 +80,10 @@ returns-clause-err g c =
     (sym c.back.ensures) (c.probe-probed.ensures.call ∙ ap (λ (t : ConsoleTold). t.call) p) in
     let read = ap (λ (h : Held). h.input) c.streams.view_is in
     rw (← c.system.view_is) (elim c.match-probed.branch [
-      | in-Ok w ↦ rw (w.result-is) (subst (λ s. IfErr w.after_probe.result (IsConsoleUnprobed request before (moment s held))) (sym c.new-system.ensures)
+      | in-Ok w ↦ rw (w.result-is) (subst (λ s. IfErr w.after_probe.result (IsConsoleUnprobed request (before ⇒ moment s held))) (sym c.new-system.ensures)
           (unprobed request before after refl refl read w.in-Ok.end (told_as (λ x y. IsProbeReported (probe_options request) x y w.in-Ok.end) b (console_at look before) a (console_at look after) p q
           w.in-Ok.ensures.reported) w.after_probe.result w.after_probe.ensures))
-      | in-Err w ↦ rw (w.result-is) (subst (λ s. IsConsoleUnprobed request before (moment s held) w.failure-failure.result) (sym c.new-system.ensures) (record {
+      | in-Err w ↦ rw (w.result-is) (subst (λ s. IsConsoleUnprobed request (before ⇒ moment s held) w.failure-failure.result) (sym c.new-system.ensures) (record {
         failed = inl (record {
           fault = w.in-Err.fault;
           is_so = told_as (λ x y. IsProbeFault (probe_options request) x y w.in-Err.fault) b (console_at look before) a (console_at look after) p q w.in-Err.ensures.fault;

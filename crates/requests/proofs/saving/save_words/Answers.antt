@@ -6,6 +6,7 @@ use Rattle.tape_shelf.specs.Room.{room_of}
 use Rattle.machine_look.specs.LookFault.{IsSaveFault}
 use Rattle.machine_look.specs.Save.{IsSavedAndReported, save_told}
 use Rattle.tape_shelf.specs.ShelfTold.{ShelfTold}
+use Rattle.request_values.specs.Change.{◌⇒◌}
 use Rattle.requests.specs.Asked.{asked_of}
 use Rattle.requests.specs.Looking.{console_at}
 use Rattle.requests.specs.Moment.{moment}
@@ -49,7 +50,7 @@ returns-clause-ok g c =
     (ap (option_map (room_of g.K.Disk.File.Write.contents)) c.new-shelf.ensures.room) in
     let read = ap (λ (h : Held). h.input) c.streams.view_is in
     rw (← c.system.view_is) (elim c.match-saved.branch [
-      | in-Ok w ↦ rw (w.result-is) (subst (λ s. IfOk w.after_save.result (AreWordsSaved save before (moment s held))) (sym c.new-system.ensures)
+      | in-Ok w ↦ rw (w.result-is) (subst (λ s. IfOk w.after_save.result (AreWordsSaved save (before ⇒ moment s held))) (sym c.new-system.ensures)
           (saved save before after refl read w.in-Ok.end shelf (told_as (λ x y. IsSavedAndReported (options_of save) (save_told (new_shelf save.file (disk inside.disk)) x) (save_told shelf y) w.in-Ok.end) b (console_at look before) a (console_at look after) p q
           (subst (λ s. IsSavedAndReported (options_of save) (save_told s b) (save_told shelf a) w.in-Ok.end) is_new w.in-Ok.ensures.reported))
           c.close.ensures.asked w.after_save.result w.after_save.ensures.status))
@@ -90,11 +91,11 @@ returns-clause-err g c =
     (ap (option_map (room_of g.K.Disk.File.Write.contents)) c.new-shelf.ensures.room) in
     let read = ap (λ (h : Held). h.input) c.streams.view_is in
     rw (← c.system.view_is) (elim c.match-saved.branch [
-      | in-Ok w ↦ rw (w.result-is) (subst (λ s. IfErr w.after_save.result (AreWordsUnsaved save before (moment s held))) (sym c.new-system.ensures)
+      | in-Ok w ↦ rw (w.result-is) (subst (λ s. IfErr w.after_save.result (AreWordsUnsaved save (before ⇒ moment s held))) (sym c.new-system.ensures)
           (unsaved save before after refl read w.in-Ok.end shelf (told_as (λ x y. IsSavedAndReported (options_of save) (save_told (new_shelf save.file (disk inside.disk)) x) (save_told shelf y) w.in-Ok.end) b (console_at look before) a (console_at look after) p q
           (subst (λ s. IsSavedAndReported (options_of save) (save_told s b) (save_told shelf a) w.in-Ok.end) is_new w.in-Ok.ensures.reported))
           c.close.ensures.asked w.after_save.result w.after_save.ensures.failure))
-      | in-Err w ↦ rw (w.result-is) (subst (λ s. AreWordsUnsaved save before (moment s held) w.failure-failure.result) (sym c.new-system.ensures) (record {
+      | in-Err w ↦ rw (w.result-is) (subst (λ s. AreWordsUnsaved save (before ⇒ moment s held) w.failure-failure.result) (sym c.new-system.ensures) (record {
         failed = inl (record {
           fault = w.in-Err.fault;
           shelf = shelf;

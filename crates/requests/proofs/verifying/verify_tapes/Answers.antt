@@ -5,6 +5,7 @@ use Rattle.endings.specs.Held.{Held}
 use Rattle.machine_look.specs.LookFault.{IsVerifyFault}
 use Rattle.machine_look.specs.Verify.{IsVerifyReported}
 use Rattle.input_files.specs.Intake.{intake}
+use Rattle.request_values.specs.Change.{◌⇒◌}
 use Rattle.requests.specs.Asked.{asked_of}
 use Rattle.requests.specs.Looking.{AreUnverified, AreVerified, console_at}
 use Rattle.requests.specs.Moment.{intake_at, moment}
@@ -45,7 +46,7 @@ returns-in-Ok-verified-clause-ok g c =
     let planned' : IsPlanned c.args.names.now (intake_at before) (intake_at after) c.in-Ok.plan = record { opened = planned.opened; is_so = planned.is_so } in
     let reported = told_as (λ x y. IsVerifyReported c.in-Ok.plan c.args.look.patience x y c.in-Ok-verified.end) b (console_at c.args.look before) a (console_at c.args.look after) p q
     c.in-Ok-verified.ensures.reported in
-    rw (← c.system.view_is) (subst (λ s. IfOk c.after_verify.result (AreVerified c.args.names.now c.args.look before (moment s held))) (sym c.new-system.ensures)
+    rw (← c.system.view_is) (subst (λ s. IfOk c.after_verify.result (AreVerified c.args.names.now c.args.look (before ⇒ moment s held))) (sym c.new-system.ensures)
     (verified c.args.names.now c.args.look before after c.in-Ok.plan planned' refl c.in-Ok-verified.end reported c.after_verify.result c.after_verify.ensures))
 
 pub returns-in-Ok-verified-clause-err : goal.returns-in-Ok-verified-clause-err
@@ -77,7 +78,7 @@ returns-in-Ok-verified-clause-err g c =
     let planned' : IsPlanned c.args.names.now (intake_at before) (intake_at after) c.in-Ok.plan = record { opened = planned.opened; is_so = planned.is_so } in
     let reported = told_as (λ x y. IsVerifyReported c.in-Ok.plan c.args.look.patience x y c.in-Ok-verified.end) b (console_at c.args.look before) a (console_at c.args.look after) p q
     c.in-Ok-verified.ensures.reported in
-    rw (← c.system.view_is) (subst (λ s. IfErr c.after_verify.result (AreUnverified c.args.names.now c.args.look before (moment s held))) (sym c.new-system.ensures)
+    rw (← c.system.view_is) (subst (λ s. IfErr c.after_verify.result (AreUnverified c.args.names.now c.args.look (before ⇒ moment s held))) (sym c.new-system.ensures)
     (unverified c.args.names.now c.args.look before after c.in-Ok.plan planned' refl c.in-Ok-verified.end reported c.after_verify.result c.after_verify.ensures))
 
 pub returns-clause-err : goal.returns-clause-err
@@ -110,7 +111,7 @@ returns-clause-err g c =
     let fault = c.in-Err-verified.fault in
     let is_so = told_as (λ x y. IsVerifyFault c.in-Ok.plan c.args.look.patience x y fault) b (console_at c.args.look before) a (console_at c.args.look after) p q
     c.in-Err-verified.ensures.fault in
-    rw (← c.system.view_is) (subst (λ s. AreUnverified c.args.names.now c.args.look before (moment s held) c.failure-failure.result) (sym c.new-system.ensures)
+    rw (← c.system.view_is) (subst (λ s. AreUnverified c.args.names.now c.args.look (before ⇒ moment s held) c.failure-failure.result) (sym c.new-system.ensures)
     (inr (record {
       plan = c.in-Ok.plan;
       planned = planned';

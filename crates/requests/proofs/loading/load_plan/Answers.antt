@@ -11,7 +11,7 @@ use Rattle.requests.specs.Ending.{IsFailureOf}
 use Rattle.requests.specs.declared.machine_fault.MachineFault.TheVariants as machine
 use Rattle.requests.specs.Loading.{console_around, lines_and_out, setting_of}
 use Rattle.requests.proofs.Loaded.{asked_by_told, disk_by_told}
-use Rattle.requests.proofs.loading.load_within.Goals as goal
+use Rattle.requests.proofs.loading.load_plan.Goals as goal
 
 pub returns-in-Ok-clause-ok : goal.returns-in-Ok-clause-ok
 returns-in-Ok-clause-ok g c =

@@ -8,7 +8,7 @@ ghost use Rattle.endings.specs.declared.status.Status.{Status};
 ghost use Rattle.endings.specs.Status.{status_code};
 ghost use Rattle.requests.specs.Moment.{moment};
 ghost use Rattle.requests.specs.Attempt.{IsAttempted};
-ghost use Rattle.ldaodt.specs.Answer.{IsAnswered, IsLoggedIf, IsTried};
+ghost use Rattle.ldaodt.specs.Answer.{IsAnswered, IsLoggedIf};
 
 use crate::misplaced::misplaced;
 use command_line::{Wanted, explain, parse};
@@ -47,15 +47,12 @@ pub(crate) fn program<K: Kinds, R: Read, W: Output, E: FaultOutput, T: Print>(
 {
     match parse(alloc, words) {
         Ok(wanted) => {
-            let (system, status) = try_request(
-                rt,
-                system,
-                alloc,
-                &wanted.request,
-                streams,
-                terminal,
-                witness,
-            );
+            let request = &wanted.request;
+            // A name that can't be what its place asks for is told, and nothing is done.
+            let (system, status) = match misplaced(rt, request) {
+                Some(failure) => (system, tell(alloc, failure, &mut streams.err)),
+                None => attempt(system, alloc, request, streams, terminal, witness),
+            };
             log_if_wanted(alloc, &system, &wanted, status, streams);
             (system, status.code())
         }
@@ -63,27 +60,6 @@ pub(crate) fn program<K: Kinds, R: Read, W: Output, E: FaultOutput, T: Print>(
             let status = explain(alloc, answer, streams);
             (system, status.code())
         }
-    }
-}
-
-// Does a request in a system, which comes back, unless a name of it can't be what its place asks for, and answers the
-// status.
-fn try_request<K: Kinds, R: Read, W: Output, E: FaultOutput, T: Print>(
-    rt: &HostRuntime,
-    system: System<K>,
-    alloc: Global,
-    request: &Request<'_>,
-    streams: &mut Streams<R, NotedOutput<W>, E>,
-    terminal: Option<&T>,
-    witness: &Witness,
-) -> (System<K>, Status)
-    requires { FitsInMemory R.row }
-    ensures tried { IsTried request.now (moment system streams.old) (moment result.0 streams.new) result.1 }
-    ensures checked { request.now ≡ Request.Tape TapeRequest.CheckInput → IsAttempted request.now (moment system streams.old ⇒ moment result.0 streams.new) result.1 }
-{
-    match misplaced(rt, request) {
-        Some(failure) => (system, tell(alloc, failure, &mut streams.err)),
-        None => attempt(system, alloc, request, streams, terminal, witness),
     }
 }
 

@@ -1,14 +1,22 @@
-use Rattle.std.proofs.Common.{◌≡◌, inl, inr, refl, sym, subst, ap, ◌∙◌}
+use Rattle.std.proofs.Common.{◌≡◌, ◌∙◌, inl, inr, refl, sym, subst, ap}
+use Rattle.endings.specs.FaultOutput.{StandardError}
+use Rattle.endings.specs.Failure.{IsTold, status_of}
 use Rattle.endings.specs.Held.{Held}
+use Rattle.endings.specs.declared.failure.Failure.{Failure}
+use Rattle.endings.specs.declared.failure.Failure.TheVariants.{Misplaced}
 use Rattle.endings.specs.declared.status.Status.{Status}
 use Rattle.command_line.specs.declared.wanted.Wanted.{Wanted}
 use Rattle.command_line.specs.Wanted.{unlogged}
+use Rattle.request_values.specs.Change.{◌⇒◌}
 use Rattle.request_values.specs.declared.request.Request.TheVariants.{Tape}
 use Rattle.request_values.specs.declared.request.TapeRequest.TheVariants.{CheckInput}
+use Rattle.requests.specs.Asked.{SystemAsked}
 use Rattle.requests.specs.Attempt.{IsAttempted}
 use Rattle.requests.specs.Moment.{moment}
-use Rattle.ldaodt.specs.Answer.{IsLoggedIf}
+use Rattle.ldaodt.specs.Answer.{IsLoggedIf, IsMisplaced}
+use Rattle.ldaodt.specs.Misplaced.{IsOfPlace}
 use Rattle.ldaodt.proofs.program.program.Goals as goal
+use Rattle.ldaodt.proofs.program.program.Goals.{in-Some, in-None}
 
 -- of the check of the input nothing is said in a log
 unlogged_check : (wanted : Wanted) (ended : Status) (held held' : Held) → wanted ≡ unlogged (Tape CheckInput) → IsLoggedIf wanted ended held held' → held' ≡ held
@@ -18,28 +26,41 @@ unlogged_check wanted ended held held' is logged = subst (λ w. IsLoggedIf w end
 checks_input : (wanted : Wanted) → wanted ≡ unlogged (Tape CheckInput) → wanted.request ≡ Tape CheckInput
 checks_input wanted is = ap (λ w. w.request) is
 
-pub returns-in-Ok-clause-checked : goal.returns-in-Ok-clause-checked
-returns-in-Ok-clause-checked g c no_words =
+-- a name that is out of place was told of
+told_misplaced : (asked : SystemAsked) (held : Held) (err : StandardError) (failure : Failure) (ended : Status) → IsOfPlace failure → IsTold held.err err failure
+    → ended ≡ status_of failure → IsMisplaced (moment asked held) (moment asked (record held { err = err })) ended
+told_misplaced asked held err (Misplaced name place) ended of_place told is =
+    record { name = name; place = place; told = told; quiet = refl; status_is = is }
+told_misplaced asked held err _ ended of_place told is = absurd of_place
+
+pub returns-after-misplaced-clause-checked : goal.returns-after-misplaced-clause-checked
+returns-after-misplaced-clause-checked g c no_words =
     let wanted = c.in-Ok.wanted in
-    let status = c.try_request-system.result.1 in
-    let is : wanted ≡ unlogged (Tape CheckInput) = cc (c.in-Ok.ensures.none no_words) in (
+    let status = c.match-misplaced.system.1 in
+    let is : wanted ≡ unlogged (Tape CheckInput) = cc (c.in-Ok.ensures.none no_words) in
+    let attempted : IsAttempted wanted.request (moment c.args.system c.args.streams.now ⇒ moment c.match-misplaced.system.0 c.match-misplaced.streams) status =
+    elim c.match-misplaced.branch [
+      | in-Some w ↦ absurd (cc (sym w.in-Some.is ∙ c.misplaced.ensures.checked (checks_input wanted is)))
+      | in-None w ↦ rw (w.system-is, w.streams-is) w.attempt.ensures
+    ] in (
       status,
-      rw (unlogged_check wanted status _ _ is c.log_if_wanted.ensures, sym (checks_input wanted is)) (c.try_request-system.ensures.checked (checks_input wanted is)),
+      rw (unlogged_check wanted status _ _ is c.log_if_wanted.ensures, sym (checks_input wanted is)) attempted,
       c.code.ensures,
     )
 
-pub returns-in-Ok-clause-answered : goal.returns-in-Ok-clause-answered
-returns-in-Ok-clause-answered g c = (
-  c.try_request-system.result.1,
+pub returns-after-misplaced-clause-answered : goal.returns-after-misplaced-clause-answered
+returns-after-misplaced-clause-answered g c = (
+  c.match-misplaced.system.1,
   inl (record {
     wanted = c.in-Ok.wanted;
     asked = c.in-Ok.ensures.some;
-    between = _;
-    tried = c.try_request-system.ensures.tried;
+    between = c.match-misplaced.streams;
+    tried = elim c.match-misplaced.branch [
+      | in-Some w ↦ rw (w.system-is, w.streams-is, ← w.streams.view_is)
+          (inr (told_misplaced _ _ _ w.in-Some.failure w.tell.result w.in-Some.ensures.misplaced w.tell.ensures.told w.tell.ensures.status))
+      | in-None w ↦ rw (w.system-is, w.streams-is) (inl w.attempt.ensures)
+    ];
     logged = c.log_if_wanted.ensures;
   }),
   c.code.ensures,
 )
-
-pub returns-in-Err-clause-answered : goal.returns-in-Err-clause-answered
-returns-in-Err-clause-answered g c = (c.explain-status.result, inr (c.in-Err.answer, c.explain-status.ensures, refl), c.code-in-Err.ensures)

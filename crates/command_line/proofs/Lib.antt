@@ -1,2 +1,4 @@
+mod Entered
 mod Exact
 mod Filled
+mod Told

@@ -1,4 +1,6 @@
 pub mod Addresses
+pub mod Arguments
+pub mod Commands
 pub mod Explanation
 pub mod Options
 pub mod Refusal

@@ -5,6 +5,7 @@ use Rattle.std.specs.List.{list_any}
 use Rattle.std.specs.Borrow.{Bor}
 use Rattle.std.specs.Str.Parse.{digits_value, without_leading_plus}
 use Rattle.clap.specs.Matches.{first_value, matched_of, one_text, raw_values}
+use Rattle.clap.specs.Walk.{Text}
 use Rattle.clap.specs.declared.parser.matches.Found.{Found}
 use Rattle.tape_image.specs.declared.start.Start.{Start}
 use Rattle.tape_image.specs.declared.start.Start.TheVariants.{OfTape, At, Nowhere}
@@ -147,23 +148,24 @@ pub record IsProbeOf (found : Found) (probe : Probe) : Type 0 where
   pub address : IsProbedWord (first_value found (codes "address")) probe.address
   pub look : IsLookOf found probe.look
 
--- a request that is about no machine is what the arguments and options of its command say
-abbrev pub IsTapeRequestOf : Found → TapeRequest → Type 0
-IsTapeRequestOf found (Check names options) = NamesTapes found names.items × IsFlag found (codes "blocks") options.blocks
-IsTapeRequestOf found (Dialogue names stage) = NamesTapes found names.items × IsConsoleOf found stage.console × IsStartOf found stage.start
-IsTapeRequestOf found (Rehearse rehearsal) = IsRehearsalOf found rehearsal
-IsTapeRequestOf found (TypeKeys console) = IsConsoleOf found console
-IsTapeRequestOf found CheckInput = ⊥
+-- a request that is about no machine is what the arguments and options of this command say
+abbrev pub IsTapeRequestOf : Text → Found → TapeRequest → Type 0
+IsTapeRequestOf command found (Check names options) = (command ≡ codes "check") × NamesTapes found names.items × IsFlag found (codes "blocks") options.blocks
+IsTapeRequestOf command found (Dialogue names stage) =
+    (command ≡ codes "dialogue") × NamesTapes found names.items × IsConsoleOf found stage.console × IsStartOf found stage.start
+IsTapeRequestOf command found (Rehearse rehearsal) = (command ≡ codes "rehearse") × IsRehearsalOf found rehearsal
+IsTapeRequestOf command found (TypeKeys console) = (command ≡ codes "type") × IsConsoleOf found console
+IsTapeRequestOf command found CheckInput = ⊥
 
 -- one at a machine is
-abbrev pub IsMachineRequestOf : Found → MachineRequest → Type 0
-IsMachineRequestOf found (Loads names load) = NamesTapes found names.items × SaysLoad found load
-IsMachineRequestOf found (Verify names look) = NamesTapes found names.items × IsLookOf found look
-IsMachineRequestOf found (Saves save) = IsSaveOf found save
-IsMachineRequestOf found (Probes probe) = IsProbeOf found probe
+abbrev pub IsMachineRequestOf : Text → Found → MachineRequest → Type 0
+IsMachineRequestOf command found (Loads names load) = (command ≡ codes "load") × NamesTapes found names.items × SaysLoad found load
+IsMachineRequestOf command found (Verify names look) = (command ≡ codes "verify") × NamesTapes found names.items × IsLookOf found look
+IsMachineRequestOf command found (Saves save) = (command ≡ codes "save") × IsSaveOf found save
+IsMachineRequestOf command found (Probes probe) = (command ≡ codes "probe") × IsProbeOf found probe
 
 -- a request is
-abbrev pub IsRequestOf : Found → Request → Type 0
-IsRequestOf found (Machine request) = IsMachineRequestOf found request
-IsRequestOf found (Makes make) = IsMakeOf found make
-IsRequestOf found (Tape request) = IsTapeRequestOf found request
+abbrev pub IsRequestOf : Text → Found → Request → Type 0
+IsRequestOf command found (Machine request) = IsMachineRequestOf command found request
+IsRequestOf command found (Makes make) = (command ≡ codes "make") × IsMakeOf found make
+IsRequestOf command found (Tape request) = IsTapeRequestOf command found request

@@ -1,9 +1,12 @@
 -- What is wanted of the program (this project's own).
-use Rattle.std.specs.Prelude.{◌≡◌, ◌⊎◌, Bool, false, codes}
+use Rattle.std.specs.Prelude.{◌≡◌, ◌⊎◌, Bool, false, List, [], Option, Some, codes}
+use Rattle.clap.specs.Simple.{subcommand_of}
+use Rattle.clap.specs.Walk.{Row, Text, rows_of}
 use Rattle.clap.specs.declared.parser.matches.Found.{Found}
 use Rattle.request_values.specs.declared.request.Request.{Request}
 use Rattle.request_values.specs.declared.request.Request.TheVariants.{Tape, Make, Machine}
 use Rattle.request_values.specs.declared.request.TapeRequest.TheVariants.{CheckInput}
+use Rattle.command_line.specs.Commands.{known_words}
 use Rattle.command_line.specs.declared.wanted.Wanted.{Wanted}
 use Rattle.command_line.specs.Options.{IsFlag, IsRequestOf}
 
@@ -17,10 +20,15 @@ IsLogOf found (Machine request) log = IsFlag found (codes "log") log
 IsLogOf found (Make make) log = log ≡ false
 IsLogOf found (Tape request) log = log ≡ false
 
--- some arguments and options, as they were found among the words of a command, say what is wanted
-abbrev pub IsFound : Wanted → Type 0
-IsFound wanted = (found : Found) × IsRequestOf found wanted.request × IsLogOf found wanted.request wanted.log
+-- a command, with what was found for its arguments and options, says what is wanted
+abbrev pub IsWantedOf : Text → Found → Wanted → Type 0
+IsWantedOf command found wanted = IsRequestOf command found wanted.request × IsLogOf found wanted.request wanted.log
 
--- words ask for it: there are none, and the tape on standard input is to be checked; or what was found among them says it
-abbrev pub IsAskedBy : Type 0 → Wanted → Type 0
-IsAskedBy no_words wanted = (no_words × (wanted ≡ unlogged (Tape CheckInput))) ⊎ IsFound wanted
+-- the same of a command that was met, and of the rows that were found for it
+abbrev pub IsWantedBy : Option (Text × List Row) → Wanted → Type 0
+IsWantedBy met wanted = (command : Text) × (found : Found) × (met ≡ Some (command, rows_of found)) × IsWantedOf command found wanted
+
+-- words ask for it: there are none, and the tape on standard input is to be checked; or the command that stands among them says it, with what the
+-- parser finds there for its arguments and options
+abbrev pub IsAskedBy : List Text → Wanted → Type 0
+IsAskedBy words wanted = ((words ≡ []) × (wanted ≡ unlogged (Tape CheckInput))) ⊎ IsWantedBy (subcommand_of known_words words) wanted

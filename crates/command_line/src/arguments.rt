@@ -1,6 +1,9 @@
 //! The arguments and options of the commands, and how the parser is told of one.
 //!
 //! Options have no default here: who reads one that is not given takes what is meant then.
+ghost use Rattle.std.specs.Prelude.{◌≡◌, Some, IfOk, false};
+ghost use Rattle.clap.specs.Walk.{rule_of};
+ghost use Rattle.command_line.specs.Arguments.{rule_told};
 
 use crate::names;
 use clap::{Arg, ArgAction, value_parser};
@@ -49,7 +52,10 @@ enum Form {
 
 impl Argument {
     /// It, as the parser is told. An error comes where memory is wanting.
-    pub(crate) fn told<'a>(&self, alloc: Global) -> Result<Arg<'a>, AllocError> {
+    pub(crate) fn told<'a>(&self, alloc: Global) -> Result<Arg<'a>, AllocError>
+        ensures rule { IfOk result (λ arg. rule_of arg ≡ rule_told self.now) }
+        ensures own { IfOk result (λ arg. arg.global ≡ false) }
+    {
         let arg = Arg::new(alloc, self.name).help(self.help);
         match self.form {
             Form::Required => Ok(arg.required(true)),
@@ -73,7 +79,9 @@ impl Argument {
 }
 
 // An option without a value.
-fn flag<'a>(arg: Arg<'a>, name: &'static str) -> Arg<'a> {
+fn flag<'a>(arg: Arg<'a>, name: &'static str) -> Arg<'a>
+    ensures { result ≡ record arg.entry { long = Some name.entry; action = Some ArgAction.SetTrue } }
+{
     arg.long(name).action(ArgAction::SetTrue)
 }
 

@@ -1,4 +1,8 @@
 //! The commands, and how the parser is told of them.
+ghost use Rattle.std.specs.Prelude.{◌≡◌, IfOk, map};
+ghost use Rattle.clap.specs.Words.{app_of};
+ghost use Rattle.command_line.specs.Arguments.{rule_told};
+ghost use Rattle.command_line.specs.Commands.{command_told, known_words, program_told, rules_of, word_of};
 
 use crate::arguments::{
     ADDRESS, Argument, BLOCKS, FAST, FILE, FROM, LINE, LISTEN, LOG, MORE, NO_START, OCTAL_WORDS,
@@ -9,7 +13,9 @@ use clap::Command;
 use std::alloc::{AllocError, Global};
 
 /// All words that the program knows, for the parser. An error comes where memory is wanting.
-pub fn known_words<'a>(alloc: Global) -> Result<Command<'a>, AllocError> {
+pub fn known_words<'a>(alloc: Global) -> Result<Command<'a>, AllocError>
+    ensures { IfOk result (λ known. app_of known ≡ known_words) }
+{
     let mut known = program(alloc)?;
     for name in COMMANDS {
         known = known.subcommand(name.told(alloc)?)?;
@@ -18,7 +24,9 @@ pub fn known_words<'a>(alloc: Global) -> Result<Command<'a>, AllocError> {
 }
 
 // The program, but for its commands.
-fn program<'a>(alloc: Global) -> Result<Command<'a>, AllocError> {
+fn program<'a>(alloc: Global) -> Result<Command<'a>, AllocError>
+    ensures { IfOk result (λ program. app_of program ≡ program_told) }
+{
     Command::new(alloc, "ldaodt")
         .about("Loads a PDP-11 absolute loader tape through the console ODT of an LSI-11")
         .after_help(texts::PROGRAM)
@@ -57,19 +65,24 @@ enum CommandName {
 
 impl CommandName {
     // The command, as the parser is told.
-    fn told<'a>(self, alloc: Global) -> Result<Command<'a>, AllocError> {
+    fn told<'a>(self, alloc: Global) -> Result<Command<'a>, AllocError>
+        ensures { IfOk result (λ command. (app_of command).top ≡ command_told self) }
+    {
         let word: &'a str = self.word();
         let mut command = Command::new(alloc, word)
             .about(self.about())
             .after_help(self.below());
-        for argument in self.arguments() {
+        let arguments = self.arguments();
+        for argument in arguments {
             command = command.arg(argument.told(alloc)?)?;
         }
         Ok(command)
     }
 
     // What is typed.
-    fn word(self) -> &'static str {
+    fn word(self) -> &'static str
+        ensures { result.now ≡ word_of self }
+    {
         match self {
             CommandName::Load => "load",
             CommandName::Verify => "verify",
@@ -116,7 +129,9 @@ impl CommandName {
     }
 
     // Its arguments and options, as help lists them.
-    fn arguments(self) -> &'static [Argument] {
+    fn arguments(self) -> &'static [Argument]
+        ensures { map rule_told result.now ≡ rules_of self }
+    {
         match self {
             CommandName::Load => &LOAD,
             CommandName::Verify => &VERIFY,

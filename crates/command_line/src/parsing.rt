@@ -1,8 +1,11 @@
 //! Words become a request, as the plain values say where one is not given.
-ghost use Rattle.std.specs.Prelude.{◌≡◌, [], IfOk, false};
+ghost use Rattle.std.specs.Prelude.{◌≡◌, ℕ, List, [], IfOk, codes, false, map};
+ghost use Rattle.std.specs.String.{string_bytes};
 ghost use Rattle.clap.specs.Matches.{found_of};
+ghost use Rattle.clap.specs.Simple.{subcommand_of, subcommand_rows_of};
+ghost use Rattle.command_line.specs.Commands.{known_words};
 ghost use Rattle.command_line.specs.Options.{SaysLoad, IsLookOf, IsMachineRequestOf, IsMakeOf, IsRequestOf, IsTapeRequestOf};
-ghost use Rattle.command_line.specs.Wanted.{IsAskedBy, IsFound, IsLogOf, unlogged};
+ghost use Rattle.command_line.specs.Wanted.{IsAskedBy, IsLogOf, IsWantedBy, IsWantedOf, unlogged};
 
 use crate::addresses::{probed_of, range_of, saved_start_of, start_of};
 use crate::commands::known_words;
@@ -32,7 +35,7 @@ const PLAIN_QUIET: u16 = 2000;
 /// Reads the words after the program's name. Without any the tape on standard input is to be checked.
 pub fn parse<'a>(alloc: Global, words: &'a [String]) -> Result<Wanted<'a>, NoRequest>
     ensures none { words.now ≡ [] → result ≡ Ok (unlogged (Request.Tape TapeRequest.CheckInput)) }
-    ensures some { IfOk result (IsAskedBy (words.now ≡ [])) }
+    ensures some { IfOk result (IsAskedBy (map string_bytes words.now)) }
 {
     let Some(first) = words.first() else {
         return Ok(unlogged(Request::Tape(TapeRequest::CheckInput)));
@@ -62,7 +65,7 @@ fn refusal_of(alloc: Global, words: &[String]) -> Option<NoRequest> {
 
 // What words ask for, of which this is the first.
 fn read<'a>(alloc: Global, first: &str, words: &'a [String]) -> Result<Wanted<'a>, NoRequest>
-    ensures { IfOk result IsFound }
+    ensures { IfOk result (IsWantedBy (subcommand_of known_words (map string_bytes words.now))) }
 {
     match known_words(alloc)?.try_get_matches_from(words) {
         Ok(matches) => request_of(alloc, &matches),
@@ -72,22 +75,34 @@ fn read<'a>(alloc: Global, first: &str, words: &'a [String]) -> Result<Wanted<'a
 
 // What the parsed words ask for, where there were any.
 fn request_of<'a>(alloc: Global, matches: &ArgMatches<'a>) -> Result<Wanted<'a>, NoRequest>
-    ensures { IfOk result IsFound }
+    ensures { IfOk result (IsWantedBy (subcommand_rows_of matches.now)) }
 {
     match matches.subcommand() {
-        Some(("load", found)) => Ok(at_machine(found, loading_of(alloc, found)?)),
-        Some(("verify", found)) => Ok(at_machine(found, verifying_of(alloc, found)?)),
-        Some(("save", found)) => Ok(at_machine(found, saving_of(alloc, found)?)),
-        Some(("probe", found)) => Ok(at_machine(found, probing_of(alloc, found)?)),
-        Some((name, found)) => Ok(unlogged(apart_request_of(alloc, name, found)?)),
+        Some((command, found)) => wanted_of(alloc, command, found),
         None => Err(NoRequest::Meaningless),
+    }
+}
+
+// What a command asks for, with what was found for its arguments and options.
+fn wanted_of<'a>(
+    alloc: Global,
+    command: &str,
+    found: &ArgMatches<'a>,
+) -> Result<Wanted<'a>, NoRequest>
+    ensures { IfOk result (IsWantedOf command.now (found_of found.now)) }
+{
+    match command {
+        "load" => Ok(at_machine(found, loading_of(alloc, found)?)),
+        "verify" => Ok(at_machine(found, verifying_of(alloc, found)?)),
+        "save" => Ok(at_machine(found, saving_of(alloc, found)?)),
+        "probe" => Ok(at_machine(found, probing_of(alloc, found)?)),
+        _ => Ok(unlogged(apart_request_of(alloc, command, found)?)),
     }
 }
 
 // What is wanted of a machine.
 fn at_machine<'a>(found: &ArgMatches<'a>, request: MachineRequest<'a>) -> Wanted<'a>
-    requires { IsMachineRequestOf (found_of found.now) request }
-    ensures { IsFound result }
+    ensures { (command : List ℕ) → IsMachineRequestOf command (found_of found.now) request.entry → IsWantedOf command (found_of found.now) result }
 {
     Wanted {
         request: Request::Machine(request),
@@ -98,12 +113,12 @@ fn at_machine<'a>(found: &ArgMatches<'a>, request: MachineRequest<'a>) -> Wanted
 // What a command that is about no machine asks for.
 fn apart_request_of<'a>(
     alloc: Global,
-    name: &str,
+    command: &str,
     found: &ArgMatches<'a>,
 ) -> Result<Request<'a>, NoRequest>
-    ensures { IfOk result (λ request. IsRequestOf (found_of found.now) request × IsLogOf (found_of found.now) request false) }
+    ensures { IfOk result (λ request. IsRequestOf command.now (found_of found.now) request × IsLogOf (found_of found.now) request false) }
 {
-    match name {
+    match command {
         "make" => Ok(Request::Make(making_of(alloc, found)?)),
         "check" => Ok(Request::Tape(checking_of(alloc, found)?)),
         "dialogue" => Ok(Request::Tape(dialogue_of(alloc, found)?)),
@@ -115,7 +130,7 @@ fn apart_request_of<'a>(
 
 // The load of tapes into a machine.
 fn loading_of<'a>(alloc: Global, found: &ArgMatches<'a>) -> Result<MachineRequest<'a>, NoRequest>
-    ensures { IfOk result (IsMachineRequestOf (found_of found.now)) }
+    ensures { IfOk result (IsMachineRequestOf (codes "load") (found_of found.now)) }
 {
     let load = load_of(alloc, found)?;
     Ok(MachineRequest::Load(tapes_of(alloc, found)?, load))
@@ -141,7 +156,7 @@ fn load_of<'a>(alloc: Global, found: &ArgMatches<'a>) -> Result<Load<'a>, NoRequ
 
 // The look whether a machine holds what tapes say.
 fn verifying_of<'a>(alloc: Global, found: &ArgMatches<'a>) -> Result<MachineRequest<'a>, NoRequest>
-    ensures { IfOk result (IsMachineRequestOf (found_of found.now)) }
+    ensures { IfOk result (IsMachineRequestOf (codes "verify") (found_of found.now)) }
 {
     let look = look_of(alloc, found)?;
     Ok(MachineRequest::Verify(tapes_of(alloc, found)?, look))
@@ -149,7 +164,7 @@ fn verifying_of<'a>(alloc: Global, found: &ArgMatches<'a>) -> Result<MachineRequ
 
 // The save of words of a machine.
 fn saving_of<'a>(alloc: Global, found: &ArgMatches<'a>) -> Result<MachineRequest<'a>, NoRequest>
-    ensures { IfOk result (IsMachineRequestOf (found_of found.now)) }
+    ensures { IfOk result (IsMachineRequestOf (codes "save") (found_of found.now)) }
 {
     let file = text_of(found, FILE)?;
     let look = look_of(alloc, found)?;
@@ -165,7 +180,7 @@ fn saving_of<'a>(alloc: Global, found: &ArgMatches<'a>) -> Result<MachineRequest
 
 // The probe of a machine's console.
 fn probing_of<'a>(alloc: Global, found: &ArgMatches<'a>) -> Result<MachineRequest<'a>, NoRequest>
-    ensures { IfOk result (IsMachineRequestOf (found_of found.now)) }
+    ensures { IfOk result (IsMachineRequestOf (codes "probe") (found_of found.now)) }
 {
     let look = look_of(alloc, found)?;
     let address = probed_of(alloc, found)?;
@@ -196,7 +211,7 @@ fn making_of<'a>(alloc: Global, found: &ArgMatches<'a>) -> Result<Make<'a>, NoRe
 
 // The check of tapes.
 fn checking_of<'a>(alloc: Global, found: &ArgMatches<'a>) -> Result<TapeRequest<'a>, NoRequest>
-    ensures { IfOk result (IsTapeRequestOf (found_of found.now)) }
+    ensures { IfOk result (IsTapeRequestOf (codes "check") (found_of found.now)) }
 {
     let blocks = found.get_flag(BLOCKS);
     Ok(TapeRequest::Check(tapes_of(alloc, found)?, CheckOptions { blocks }))
@@ -204,7 +219,7 @@ fn checking_of<'a>(alloc: Global, found: &ArgMatches<'a>) -> Result<TapeRequest<
 
 // The dialogue of tapes with a console.
 fn dialogue_of<'a>(alloc: Global, found: &ArgMatches<'a>) -> Result<TapeRequest<'a>, NoRequest>
-    ensures { IfOk result (IsTapeRequestOf (found_of found.now)) }
+    ensures { IfOk result (IsTapeRequestOf (codes "dialogue") (found_of found.now)) }
 {
     let console = console_of(found)?;
     let start = start_of(alloc, found)?;
@@ -214,7 +229,7 @@ fn dialogue_of<'a>(alloc: Global, found: &ArgMatches<'a>) -> Result<TapeRequest<
 
 // The rehearsal of a tape, its script and further tapes.
 fn rehearsal_of<'a>(alloc: Global, found: &ArgMatches<'a>) -> Result<TapeRequest<'a>, NoRequest>
-    ensures { IfOk result (IsTapeRequestOf (found_of found.now)) }
+    ensures { IfOk result (IsTapeRequestOf (codes "rehearse") (found_of found.now)) }
 {
     let tape = text_of(found, TAPE)?;
     let script = text_of(found, SCRIPT)?;

@@ -47,15 +47,15 @@ abbrev pub IsLoggedIf : Wanted → Status → Held → Held → Type 0
 IsLoggedIf wanted ended held held' = is_logged_if wanted.log wanted.request ended held held'
 
 -- what the words ask for was tried; then the run may have had its line in a log
-pub record IsDone (no_words : Type 0) (before after : Moment) (ended : Status) : Type 0 where
+pub record IsDone (words : List (List ℕ)) (before after : Moment) (ended : Status) : Type 0 where
   pub wanted : Wanted
-  pub asked : IsAskedBy no_words wanted
+  pub asked : IsAskedBy words wanted
   pub between : Held
   pub tried : IsTried wanted.request before (record { asked = after.asked; held = between }) ended
   pub logged : IsLoggedIf wanted ended between after.held
 
 -- what the words ask for was tried; or the words were explained, and nothing was asked of the system
-abbrev pub IsAnswered : Type 0 → Moment → Moment → Status → Type 0
-IsAnswered no_words before after ended =
-    IsDone no_words before after ended
+abbrev pub IsAnswered : List (List ℕ) → Moment → Moment → Status → Type 0
+IsAnswered words before after ended =
+    IsDone words before after ended
     ⊎ ((answer : NoRequest) × IsExplained answer before.held after.held ended × (after.asked ≡ before.asked))

@@ -1,6 +1,7 @@
 //! The body of `main`, over any files, lines and streams.
-ghost use Rattle.std.specs.Prelude.{◌≡◌, []};
+ghost use Rattle.std.specs.Prelude.{◌≡◌, [], map};
 ghost use Rattle.std.specs.Mem.{FitsInMemory};
+ghost use Rattle.std.specs.String.{string_bytes};
 ghost use Rattle.request_values.specs.Change.{◌⇒◌};
 ghost use Rattle.request_values.specs.declared.request.Request.{Request};
 ghost use Rattle.request_values.specs.declared.request.TapeRequest.{TapeRequest};
@@ -43,7 +44,7 @@ pub(crate) fn program<K: Kinds, R: Read, W: Output, E: FaultOutput, T: Print>(
         × (result.1 ≡ status_code status) }
     // Whatever the words are, what they ask for is tried, and told to a log where that is wanted, or they are explained.
     ensures answered { (status : Status)
-        × IsAnswered (words.now ≡ []) (moment system streams.old) (moment result.0 streams.new) status × (result.1 ≡ status_code status) }
+        × IsAnswered (map string_bytes words.now) (moment system streams.old) (moment result.0 streams.new) status × (result.1 ≡ status_code status) }
 {
     match parse(alloc, words) {
         Ok(wanted) => {

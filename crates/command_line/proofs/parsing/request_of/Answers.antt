@@ -1,9 +1,13 @@
-use Rattle.std.proofs.Common.{subst, sym}
+use Rattle.std.proofs.lemmas.Result.{IfOk-weaker}
 use Rattle.clap.specs.Matches.{found_of}
-use Rattle.command_line.specs.Wanted.{IsFound}
+use Rattle.clap.specs.Walk.{rows_of}
+use Rattle.command_line.proofs.Entered.{entered}
 use Rattle.command_line.proofs.parsing.request_of.Goals as goal
 
-pub returns-in_ok-apart_request_of-in-Some : goal.returns-in_ok-apart_request_of-in-Some
-returns-in_ok-apart_request_of-in-Some c =
-    let said = c.in_ok-apart_request_of-in-Some.ensures in
-    subst IsFound (sym c.unlogged.ensures) (found_of c.in-Some.found.now, said.0, said.1)
+pub returns-in-Some : goal.returns-in-Some
+returns-in-Some c =
+    let command = c.in-Some.command.now in
+    let found = found_of c.in-Some.found.now in
+    IfOk-weaker c.wanted_of.result _ _
+    (λ wanted says. (command, found, entered c.args.matches.now command (rows_of found) c.in-Some.ensures.name c.in-Some.ensures.rows, says))
+    c.wanted_of.ensures

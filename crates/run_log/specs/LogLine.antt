@@ -1,5 +1,5 @@
 -- The line of a run at a machine in a log (this project's own).
-use Rattle.std.specs.Prelude.{◌≡◌, ◌⊎◌, ℕ, List, [], ◌∷◌, ◌++◌, Option, codes, decimal}
+use Rattle.std.specs.Prelude.{ℕ, List, [], ◌∷◌, ◌++◌, Option, codes, decimal}
 use Rattle.std.specs.Borrow.{Bor}
 use Rattle.std.specs.List.{flat_map}
 use Rattle.byte_io.specs.Text.{line}
@@ -42,7 +42,6 @@ abbrev pub log_line : List ℕ → RunValue → List ℕ
 log_line time run =
     line (time ++ (codes " " ++ (request_text run.request ++ (codes " status " ++ (decimal (status_code run.status) ++ report_text run.report)))))
 
--- standard error has the line of a run behind all else, with the time of some clock; or nothing more, where there is no memory for it
+-- standard error has the line of a run behind all else, with the time of some clock
 abbrev pub IsLogged : RunValue → StandardError → StandardError → Type 0
-IsLogged run err err' =
-    (err' ≡ err) ⊎ ((now : Option ℕ) × (time : List ℕ) × IsTimeText now time × IsSaidOnError err err' (log_line time run))
+IsLogged run err err' = (now : Option ℕ) × (time : List ℕ) × IsTimeText now time × IsSaidOnError err err' (log_line time run)

@@ -1,15 +1,28 @@
 //! The line of a run in a log.
-ghost use Rattle.std.specs.Prelude.{◌≡◌, ◌++◌, IfOk, OnOk};
+//!
+//! It is gathered first and written in one write, so that nothing else can stand in its midst.
+ghost use Rattle.std.specs.Prelude.{◌≡◌, ◌≤◌, ◌++◌, OnOk, OnErr, codes, decimal};
+ghost use Rattle.byte_io.specs.Text.{line};
+ghost use Rattle.endings.specs.FaultOutput.{IsSaidInPart, IsSaidWhole};
+ghost use Rattle.endings.specs.Status.{status_code};
 ghost use Rattle.run_log.specs.LogLine.{IsLogged, command_text, log_line, name_behind, request_text};
+ghost use Rattle.run_log.specs.Report.{report_text};
 
-use crate::report_notes::ReportNotes;
+use crate::report_notes::{REPORT_ROOM, ReportNotes};
 use crate::time_text::{TimeText, time_text};
-use byte_io::put_decimal;
+use arrayvec::ArrayVec;
+use byte_io::{WriteFault, push_bytes, push_decimal};
 use endings::{FaultOutput, Status, say, write_name};
 use request_values::MachineRequest;
-use std::alloc::{AllocError, Global};
+use std::alloc::Global;
 use std::marker::Model;
 use std::time::Clock;
+
+// What stands behind the names in a line.
+type LineEnd = ArrayVec<u8, END_ROOM>;
+
+// Room for the longest: the words and the number of a status, what is told of a report, and the line's end.
+const END_ROOM: usize = REPORT_ROOM + 29;
 
 /// A run that has ended, and what is told of it.
 #[derive(Drop)]
@@ -32,68 +45,98 @@ impl<'r, 'a> Model for Run<'r, 'a> {
     ghost view = { λ run. record { request = run.request.now; status = run.status; report = run.report.now } };
 }
 
-/// Says the line of a run, in one write, with the time that the clock has. A line that there is no memory for is not
-/// told, nor what can't be written.
+/// Says the line of a run, with the time that the clock has: in one write, and in pieces where there is no memory to
+/// gather it in. What can't be written is not told.
 pub fn log_run<C: Clock, E: FaultOutput>(alloc: Global, clock: &C, run: &Run<'_, '_>, err: &mut E)
     ensures { IsLogged run.now (E.said err.old) (E.said err.new) }
 {
     let now = clock.since_1970().ok().map(|time| time.as_secs());
     let time = time_text(now);
-    if let Ok(line) = line_of(alloc, &time, run) {
-        let _ = say(err, &line);
+    let _ = write_at_once(alloc, &time, run, err);
+}
+
+// Writes the line of a run that ended at this time, in one write where there is memory to gather it in.
+fn write_at_once<E: FaultOutput>(
+    alloc: Global,
+    time: &TimeText,
+    run: &Run<'_, '_>,
+    err: &mut E,
+) -> Result<(), WriteFault>
+    ensures ok { OnOk result (IsSaidWhole (E.said err.old) (E.said err.new) (log_line time.now.items run.now)) }
+    ensures err { OnErr result (IsSaidInPart (E.said err.old) (E.said err.new) (log_line time.now.items run.now)) }
+{
+    let mut gathered = Vec::new(alloc);
+    match write_line(&mut gathered, time, run) {
+        Ok(()) => say(err, &gathered),
+        Err(_) => write_line(err, time, run),
     }
 }
 
-// The line of a run that ended at this time.
-fn line_of(alloc: Global, time: &TimeText, run: &Run<'_, '_>) -> Result<Vec<u8>, AllocError>
-    ensures { IfOk result (λ text. text.items ≡ log_line time.now.items run.now) }
+// Writes it in pieces. At the first write that fails it stops.
+fn write_line<E: FaultOutput>(
+    err: &mut E,
+    time: &TimeText,
+    run: &Run<'_, '_>,
+) -> Result<(), WriteFault>
+    ensures ok { OnOk result (IsSaidWhole (E.said err.old) (E.said err.new) (log_line time.now.items run.now)) }
+    ensures err { OnErr result (IsSaidInPart (E.said err.old) (E.said err.new) (log_line time.now.items run.now)) }
 {
-    let mut text = Vec::new(alloc);
-    text.extend_from_slice(time)?;
-    text.extend_from_slice(b" ")?;
-    put_request(&mut text, run.request)?;
-    text.extend_from_slice(b" status ")?;
-    put_decimal(&mut text, usize::from(run.status.code()))?;
-    run.report.put_into(&mut text)?;
-    text.extend_from_slice(b"\n")?;
-    Ok(text)
+    say(err, time)?;
+    say(err, b" ")?;
+    write_request(err, run.request)?;
+    say(err, &line_end(run))
 }
 
-// Puts what was asked for.
-fn put_request(text: &mut Vec<u8>, request: &MachineRequest<'_>) -> Result<(), AllocError>
-    ensures { OnOk result (text.new.items ≡ text.old.items ++ request_text request.now) }
+// What stands behind the names: the status, and what was noted of the report.
+fn line_end(run: &Run<'_, '_>) -> LineEnd
+    ensures { result.items ≡ line (codes " status " ++ (decimal (status_code run.now.status) ++ report_text run.now.report)) }
+{
+    let mut end = LineEnd::new();
+    push_bytes(&mut end, b" status ");
+    push_decimal(&mut end, u64::from(run.status.code()));
+    push_bytes(&mut end, &run.report.told());
+    push_bytes(&mut end, b"\n");
+    end
+}
+
+// Writes what was asked for.
+fn write_request<E: FaultOutput>(
+    err: &mut E,
+    request: &MachineRequest<'_>,
+) -> Result<(), WriteFault>
+    ensures ok { OnOk result (IsSaidWhole (E.said err.old) (E.said err.new) (request_text request.now)) }
+    ensures err { OnErr result (IsSaidInPart (E.said err.old) (E.said err.new) (request_text request.now)) }
 {
     match request {
-        MachineRequest::Load(tapes, load) => put_names(text, b"load", tapes, load.line),
-        MachineRequest::Verify(tapes, look) => put_names(text, b"verify", tapes, look.line),
-        MachineRequest::Save(save) => put_names(text, b"save", &[save.file], save.look.line),
-        MachineRequest::Probe(probe) => put_names(text, b"probe", &[], probe.look.line),
+        MachineRequest::Load(tapes, load) => write_names(err, b"load", tapes, load.line),
+        MachineRequest::Verify(tapes, look) => write_names(err, b"verify", tapes, look.line),
+        MachineRequest::Save(save) => write_names(err, b"save", &[save.file], save.look.line),
+        MachineRequest::Probe(probe) => write_names(err, b"probe", &[], probe.look.line),
     }
 }
 
-// Puts a command, and behind it names and the line.
-fn put_names(
-    text: &mut Vec<u8>,
+// Writes a command, and behind it names and the line.
+fn write_names<E: FaultOutput>(
+    err: &mut E,
     command: &[u8],
     names: &[&str],
     line: &str,
-) -> Result<(), AllocError>
-    ensures { OnOk result (text.new.items ≡ text.old.items ++ command_text command.now names.now line.now) }
+) -> Result<(), WriteFault>
+    ensures ok { OnOk result (IsSaidWhole (E.said err.old) (E.said err.new) (command_text command.now names.now line.now)) }
+    ensures err { OnErr result (IsSaidInPart (E.said err.old) (E.said err.new) (command_text command.now names.now line.now)) }
 {
-    text.extend_from_slice(command)?;
+    say(err, command)?;
     for name in names {
-        put_name(text, name)?;
+        write_behind(err, name)?;
     }
-    put_name(text, line)
+    write_behind(err, line)
 }
 
-// Puts a name behind other words.
-fn put_name(text: &mut Vec<u8>, name: &str) -> Result<(), AllocError>
-    ensures { OnOk result (text.new.items ≡ text.old.items ++ name_behind name.now) }
+// Writes a name behind other words.
+fn write_behind<E: FaultOutput>(err: &mut E, name: &str) -> Result<(), WriteFault>
+    ensures ok { OnOk result (IsSaidWhole (E.said err.old) (E.said err.new) (name_behind name.now)) }
+    ensures err { OnErr result (IsSaidInPart (E.said err.old) (E.said err.new) (name_behind name.now)) }
 {
-    text.extend_from_slice(b" ")?;
-    match write_name(text, name) {
-        Ok(()) => Ok(()),
-        Err(_) => Err(AllocError),
-    }
+    say(err, b" ")?;
+    write_name(err, name)
 }

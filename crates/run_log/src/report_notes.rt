@@ -1,17 +1,24 @@
 //! What is noted of a report.
-ghost use Rattle.std.specs.Prelude.{◌≡◌, ℕ, List, [], ◌∷◌, ◌++◌, Some, OnOk};
+ghost use Rattle.std.specs.Prelude.{◌≡◌, ◌≤◌, ◌+◌, ℕ, List, [], ◌∷◌, ◌++◌, Some, codes};
 ghost use Rattle.std.specs.Option.{option_or};
+ghost use Rattle.arrayvec.specs.ArrayVec.{array_vec_len};
 ghost use Rattle.run_log.specs.Report.{IsNoted, begins, report_text};
 
 use arrayvec::ArrayVec;
-use std::alloc::AllocError;
+use byte_io::push_bytes;
 use std::marker::Model;
 
 // More bytes than the longest of the lines that are noted has: words, five numbers of 20 digits.
 const LINE_ROOM: usize = 160;
 
+/// Room for what is told of a report: two lines, each behind a space.
+pub(crate) const REPORT_ROOM: usize = 2 * (LINE_ROOM + 1);
+
 // A line, or the front of one.
 type Line = ArrayVec<u8, LINE_ROOM>;
+
+/// What is told of a report.
+pub(crate) type ReportText = ArrayVec<u8, REPORT_ROOM>;
 
 /// What is noted of a text that grows: the first of its lines that says how a report ended, and the first that says what
 /// it counted. What the started program prints stands behind both.
@@ -81,21 +88,29 @@ impl ReportNotes {
         }
     }
 
-    /// Puts what was noted behind other words: nothing of a report that has no end.
-    pub(crate) fn put_into(&self, text: &mut Vec<u8>) -> Result<(), AllocError>
-        ensures { OnOk result (text.new.items ≡ text.old.items ++ report_text self.now) }
+    /// What is told of a report: nothing of one that has no end.
+    pub(crate) fn told(&self) -> ReportText
+        ensures { result.items ≡ report_text self.now }
     {
-        let Some(end) = &self.end else {
-            return Ok(());
-        };
-        text.extend_from_slice(b" ")?;
-        text.extend_from_slice(end)?;
-        if let Some(counts) = &self.counts {
-            text.extend_from_slice(b" ")?;
-            text.extend_from_slice(counts)?;
+        let mut text = ReportText::new();
+        if let Some(end) = &self.end {
+            push_behind(&mut text, end);
+            if let Some(counts) = &self.counts {
+                push_behind(&mut text, counts);
+            }
         }
-        Ok(())
+        text
     }
+}
+
+// Puts a line behind other words.
+fn push_behind(text: &mut ReportText, line: &Line)
+    requires { array_vec_len text.old ≤ 161 }
+    ensures items { text.new.items ≡ text.old.items ++ (codes " " ++ line.now.items) }
+    ensures length { array_vec_len text.new ≤ array_vec_len text.old + 161 }
+{
+    push_bytes(text, b" ");
+    push_bytes(text, line.as_slice());
 }
 
 // Whether a line begins with these words. One that fills its room may have more, and is none of a report.

@@ -28,8 +28,11 @@ use Rattle.reading_engine.proofs.Beliefs.{inquired_believable}
 use Rattle.sample_looks.specs.Finding.{IsSoIn}
 use Rattle.sample_looks.specs.Looked.{IsSeen}
 use Rattle.sample_looks.specs.declared.finding.Finding.{Finding}
+use Rattle.sample_looks.specs.declared.finding.Finding.TheVariants.{AllStand}
+use Rattle.sample_looks.specs.declared.looking.Looked.{Looked}
 use Rattle.sample_looks.proofs.Seen.{so_over}
-use Rattle.machine_look.specs.Behind.{AreLookedAt, IsAsFound, WhereHonest}
+use Rattle.request_values.specs.Change.{Change, ◌⇒◌}
+use Rattle.machine_look.specs.Behind.{AreLookedAt, IsAsFound, WhereHonest, all_stood}
 use Rattle.machine_look.proofs.Looks.{believed_said, is_true}
 
 led_addresses : (r : Reader) (things : List Heard) → (led r things).addresses ≡ r.addresses
@@ -48,28 +51,30 @@ told_by_itself turns stop first last line line' s =
     record { heard = s.heard; said = s.said; reader = s.reader; goes_on = s.goes_on; within = s.within; items = s.items; on_line = refl }
 
 -- what looks found is so in memory, which is what it was
-pub looks_hold : (samples : List WordValue) (patience : ℕ) (looks : Reader) (stop : Stop) (finding : Finding) (line line' : Option (List Item)) → AreAddresses (addresses_of samples) → patience < 2 ^ 32
-    → (s : AreLookedAt samples patience looks stop finding line line') → IsReader looks → WhereHonest s.inquired.said (IsAsFound samples finding)
-looks_hold samples patience looks stop finding line line' are long s kept machine now lost ready honest =
+pub looks_hold : (samples : List WordValue) (patience : ℕ) (looked : Looked) (line : Change (Option (List Item))) → AreAddresses (addresses_of samples) → patience < 2 ^ 32
+    → (s : AreLookedAt samples patience looked line) → IsReader looked.reader → WhereHonest s.inquired.said (IsAsFound samples looked.finding)
+looks_hold samples patience looked line are long s kept machine now lost ready honest =
+    let looks : Reader = looked.reader in
+    let stop : Stop = looked.stop in
     let first : Reader = begun (addresses_of samples) [] patience in
     let reads = fresh_kept (addresses_of samples) patience are long in
     let same : looks.addresses ≡ first.addresses = ap (λ (r : Reader). r.addresses) s.inquired.reader ∙ led_addresses first s.inquired.heard in
     let over : IsBelievableOver stop first looks (Some []) (Some s.inquired.said) =
-    inquired_believable most_turns stop first looks (Some []) (Some s.inquired.said) reads (told_by_itself most_turns stop first looks line line' s.inquired) in
-    let seen : IsSeen samples finding machine now =
-    so_over samples first looks stop finding (Some []) (Some s.inquired.said) refl kept same s.end s.found over s.inquired.said ([], refl, refl) machine now lost ready honest in
+    inquired_believable most_turns stop first looks (Some []) (Some s.inquired.said) reads (told_by_itself most_turns stop first looks line.before line.after s.inquired) in
+    let seen : IsSeen samples looked.finding machine now =
+    so_over samples first looks stop looked.finding (Some []) (Some s.inquired.said) refl kept same s.end s.found over s.inquired.said ([], refl, refl) machine now lost ready honest in
     (seen.memory, seen.so)
 
 -- what was read behind looks that came to their end is what memory holds, and that is what it was
-pub record IsReadBehind (samples : List WordValue) (finding : Finding) (last : Reader) (machine now : Machine) : Type 0 where
-  pub as_found : IsAsFound samples finding machine now
-  pub holds : (i : ℕ) → i < length last.values → get_or last.values i 0 ≡ word_at now.memory (get_or last.addresses i 0)
+pub record IsReadBehind (samples : List WordValue) (last : Reader) (machine : Change Machine) : Type 0 where
+  pub as_found : IsAsFound samples AllStand machine
+  pub holds : (i : ℕ) → i < length last.values → get_or last.values i 0 ≡ word_at machine.after.memory (get_or last.addresses i 0)
 
-pub reading_holds : (samples : List WordValue) (patience : ℕ) (looks : Reader) (finding : Finding) (line mid : Option (List Item)) → AreAddresses (addresses_of samples) → patience < 2 ^ 32
-    → (s : AreLookedAt samples patience looks (Ended Complete) finding line mid) → IsReader looks
+pub reading_holds : (samples : List WordValue) (patience : ℕ) (looks : Reader) (line : Change (Option (List Item))) → AreAddresses (addresses_of samples) → patience < 2 ^ 32
+    → (s : AreLookedAt samples patience (all_stood looks) line) → IsReader looks
     → (turns : ℕ) (stop : Stop) (addresses : List ℕ) (left : ℕ) (last : Reader) (line' : Option (List Item)) → AreAddresses addresses → left < 2 ^ 32
-    → (t : Inquired turns (inquiry (begun addresses [] left) last (Some stop)) mid line') → WhereHonest (s.inquired.said ++ t.said) (IsReadBehind samples finding last)
-reading_holds samples patience looks finding line mid are long s kept turns stop addresses left last line' are' long' t machine now lost ready honest =
+    → (t : Inquired turns (inquiry (begun addresses [] left) last (Some stop)) line.after line') → WhereHonest (s.inquired.said ++ t.said) (IsReadBehind samples last)
+reading_holds samples patience looks line are long s kept turns stop addresses left last line' are' long' t machine now lost ready honest =
     let one = Look (addresses_of samples) patience s.inquired.heard in
     let two = Look addresses left t.heard in
     let first : Reader = begun (addresses_of samples) [] patience in
@@ -79,11 +84,11 @@ reading_holds samples patience looks finding line mid are long s kept turns stop
     let told : IsToldOf (dialogue first s.inquired.heard) s.inquired.said = said_told (Ended Complete) (most_turns - length s.inquired.heard) (dialogue first s.inquired.heard) s.inquired.said s.inquired.items in
     let told' : IsToldOf (dialogue second t.heard) t.said = said_told stop (turns - length t.heard) (dialogue second t.heard) t.said t.items in
     let parts = lines_split machine now s.inquired.said t.said lost (run_tidy one s.inquired.said machine ready (are, long) told) (told_begins (dialogue second t.heard) t.said told' (run_begins two)) honest in
-    let found = looks_hold samples patience looks (Ended Complete) finding line mid are long s kept machine parts.between parts.lost_before ready parts.before in
+    let found = looks_hold samples patience (all_stood looks) line are long s kept machine parts.between parts.lost_before ready parts.before in
     let ready' : IsReadyMachine parts.between = leave_ready first s.inquired.heard machine parts.between parts.lost_before reads (may_begin (addresses_of samples) patience machine ready)
     (told_honest (dialogue first s.inquired.heard) s.inquired.said machine parts.between parts.lost_before told parts.before) in
-    let read = is_true stop second last t.said parts.between now parts.lost_after (believed_said turns stop second last mid line' t reads') (may_begin addresses left parts.between ready') parts.after in
+    let read = is_true stop second last t.said parts.between now parts.lost_after (believed_said turns stop second last line.after line' t reads') (may_begin addresses left parts.between ready') parts.after in
     record {
-      as_found = (read.1.same ∙ found.0, subst (λ memory. IsSoIn memory samples finding) (sym read.1.same) found.1);
+      as_found = (read.1.same ∙ found.0, subst (λ memory. IsSoIn memory samples AllStand) (sym read.1.same) found.1);
       holds = read.1.read.holds;
     }

@@ -21,27 +21,28 @@ use Rattle.reading_engine.specs.declared.stop.Stop.TheVariants.{Ended}
 use Rattle.sample_looks.specs.Finding.{IsFound}
 use Rattle.sample_looks.specs.declared.finding.Finding.{Finding}
 use Rattle.sample_looks.specs.declared.finding.Finding.TheVariants.{AllStand}
-use Rattle.machine_look.specs.Behind.{AreLookedAt, AreOfFound, IsHeldUp, IsRead, addresses_behind}
+use Rattle.sample_looks.specs.declared.looking.Looked.{Looked}
+use Rattle.request_values.specs.Change.{Change, ◌⇒◌}
+use Rattle.machine_look.specs.Behind.{AreLookedAt, AreOfFound, IsHeldUp, IsRead, Reading, Saving, addresses_behind, all_stood}
 use Rattle.tape_shelf.specs.FoundPart.{FillBlocks}
 use Rattle.machine_look.specs.Look.{IsGivenBack}
-use Rattle.machine_look.specs.declared.saving.SaveOptions.{SaveOptions}
 use Rattle.machine_look.proofs.BehindLooks.{looks_hold, reading_holds}
 use Rattle.machine_look.proofs.SavedMemory.{memory_behind}
 
-pub are_looked_at : (samples : List WordValue) (patience : ℕ) (first looks : Reader) (stop : Stop) (finding : Finding) (line line' : Option (List Item)) → first ≡ begun (addresses_of samples) [] patience
-    → Inquired most_turns (inquiry first looks (Some stop)) line line' → TellsEnd stop looks → IsFound samples looks.values stop finding → looks.sent ≤ reading_bound (length samples) first.patience
-    → looks.patience ≡ first.patience → IsReader looks → AreLookedAt samples patience looks stop finding line line'
-are_looked_at samples patience first looks stop finding line line' is inquired end found bound same kept = record {
-  inquired = subst (λ (r : Reader). Inquired most_turns (inquiry r looks (Some stop)) line line') is inquired;
+pub are_looked_at : (samples : List WordValue) (patience : ℕ) (first : Reader) (looked : Looked) (line : Change (Option (List Item))) → first ≡ begun (addresses_of samples) [] patience
+    → Inquired most_turns (inquiry first looked.reader (Some looked.stop)) line.before line.after → TellsEnd looked.stop looked.reader → IsFound samples looked.reader.values looked.stop looked.finding
+    → looked.reader.sent ≤ reading_bound (length samples) first.patience → looked.reader.patience ≡ first.patience → IsReader looked.reader → AreLookedAt samples patience looked line
+are_looked_at samples patience first looked line is inquired end found bound same kept = record {
+  inquired = subst (λ (r : Reader). Inquired most_turns (inquiry r looked.reader (Some looked.stop)) line.before line.after) is inquired;
   end = end;
   found = found;
-  bound = subst (λ n. looks.sent ≤ reading_bound (length samples) n) (ap (λ (r : Reader). r.patience) is) bound;
+  bound = subst (λ n. looked.reader.sent ≤ reading_bound (length samples) n) (ap (λ (r : Reader). r.patience) is) bound;
   paid = let whose : first.patience ≡ patience = ap (λ (r : Reader). r.patience) is in let few = kept.patient in omega (arith, few, same, whose);
 }
 
 -- a line on which two hosts ran is given back: the first met no fault
 pub given_back : (stop : Stop) (line line' : Option (List Item)) (lines between lines' : Option (List LineTold)) (none after all : ℕ) (last : LineTold) → none ≡ 0 → after ≡ none → CountsFault (line_fault (Some stop)) after all → last.failures ≡ all
-    → IsAsTold line [] → last.said ≡ line' → IsLastFault (line_fault (Some stop)) last.fault → between ≡ lines → Gains between lines' (last ∷ []) → IsGivenBack stop line line' lines lines'
+    → IsAsTold line [] → last.said ≡ line' → IsLastFault (line_fault (Some stop)) last.fault → between ≡ lines → Gains between lines' (last ∷ []) → IsGivenBack stop (line ⇒ line') (lines ⇒ lines')
 given_back stop line line' lines between lines' none after all last z same counted is fresh said named reached given = record {
   fresh = fresh;
   last = last;
@@ -51,47 +52,55 @@ given_back stop line line' lines between lines' none after all last z same count
   given = subst (λ l. Gains l lines' (last ∷ [])) reached given;
 }
 
-pub held_up : (options : SaveOptions) (found : List ℕ) (before after : ConsoleTold) (looks : Reader) (stop : Stop) (finding : Finding) (samples : List WordValue) (line line' : Option (List Item)) → AreOfFound options.range found samples
-    → (s : AreLookedAt samples options.patience looks stop finding line line') → IsReader looks → options.patience < 2 ^ 32 → (finding ≡ AllStand → ⊥) → Gains before.asked after.asked (asked_once before.call)
-    → IsGivenBack stop line line' before.lines after.lines → IsHeldUp options found before after looks stop finding
-held_up options found before after looks stop finding samples line line' of s kept long not_all asked given = record {
+pub held_up : (saving : Saving) (console : Change ConsoleTold) (looked : Looked) (samples : List WordValue) (line : Change (Option (List Item))) → AreOfFound saving.options.range saving.found samples
+    → (s : AreLookedAt samples saving.options.patience looked line) → IsReader looked.reader → saving.options.patience < 2 ^ 32 → (looked.finding ≡ AllStand → ⊥)
+    → Gains console.before.asked console.after.asked (asked_once console.before.call) → IsGivenBack looked.stop line (console.before.lines ⇒ console.after.lines) → IsHeldUp saving console looked
+held_up saving console looked samples line of s kept long not_all asked given = record {
   samples = samples;
   of_found = of;
   line = line;
-  line' = line';
-  looked = s;
+  looks = s;
   not_all = not_all;
   asked = asked;
   given = given;
-  is_memory = looks_hold samples options.patience looks stop finding line line' of.asked long s kept;
+  is_memory = looks_hold samples saving.options.patience looked line of.asked long s kept;
 }
 
-pub is_read : (turns : ℕ) (options : SaveOptions) (found : List ℕ) (before after : ConsoleTold) (looks last first : Reader) (stop looked_stop : Stop) (finding : Finding) (samples : List WordValue) (line mid line' : Option (List Item))
-    → IsRange options.range.from options.range.to → options.start < 65536 → FillBlocks options.range found → AreAddresses (addresses_behind options.range found) → AreOfFound options.range found samples → finding ≡ AllStand
-    → AreLookedAt samples options.patience looks looked_stop finding line mid → IsReader looks → options.patience < 2 ^ 32
-    → first ≡ begun (addresses_behind options.range found) [] (options.patience - looks.spent) → Inquired turns (inquiry first last (Some stop)) mid line' → last.addresses ≡ first.addresses → last.patience ≡ first.patience
-    → last.sent ≤ reading_bound (length last.addresses) last.patience → IsReader last → Gains before.asked after.asked (asked_once before.call) → IsGivenBack stop line line' before.lines after.lines
-    → IsRead turns options found before after looks last stop
-is_read turns options found before after looks last first stop looked_stop finding samples line mid line' range begins fill are of all s kept long is inquired addresses patience bound kept' asked given =
-    let s' : AreLookedAt samples options.patience looks looked_stop AllStand line mid = subst (λ f. AreLookedAt samples options.patience looks looked_stop f line mid) all s in
-    let looked : AreLookedAt samples options.patience looks (Ended Complete) AllStand line mid = subst (λ t. AreLookedAt samples options.patience looks t AllStand line mid) s'.found.0 s' in
-    let read : Inquired turns (inquiry (begun (addresses_behind options.range found) [] (options.patience - looks.spent)) last (Some stop)) mid line' = subst (λ (r : Reader). Inquired turns (inquiry r last (Some stop)) mid line') is inquired in
-    let there : last.addresses ≡ addresses_behind options.range found = addresses ∙ ap (λ (r : Reader). r.addresses) is in
-    let left : last.patience ≡ options.patience - looks.spent = patience ∙ ap (λ (r : Reader). r.patience) is in
+pub is_read : (turns : ℕ) (saving : Saving) (console : Change ConsoleTold) (looked : Looked) (last first : Reader) (stop : Stop) (samples : List WordValue) (line : Change (Option (List Item))) (mid : Option (List Item))
+    → IsRange saving.options.range.from saving.options.range.to → saving.options.start < 65536 → FillBlocks saving.options.range saving.found → AreAddresses (addresses_behind saving.options.range saving.found)
+    → AreOfFound saving.options.range saving.found samples → looked.finding ≡ AllStand → AreLookedAt samples saving.options.patience looked (line.before ⇒ mid) → IsReader looked.reader → saving.options.patience < 2 ^ 32
+    → first ≡ begun (addresses_behind saving.options.range saving.found) [] (saving.options.patience - looked.reader.spent) → Inquired turns (inquiry first last (Some stop)) mid line.after
+    → last.addresses ≡ first.addresses → last.patience ≡ first.patience → last.sent ≤ reading_bound (length last.addresses) last.patience → IsReader last
+    → Gains console.before.asked console.after.asked (asked_once console.before.call) → IsGivenBack stop line (console.before.lines ⇒ console.after.lines)
+    → IsRead turns saving console (record { looks = looked.reader; last = last; stop = stop })
+is_read turns saving console looked last first stop samples line mid range begins fill are of all s kept long is inquired addresses patience bound kept' asked given =
+    let looks : Reader = looked.reader in
+    let behind : List ℕ = addresses_behind saving.options.range saving.found in
+    let found : IsFound samples looks.values looked.stop AllStand = subst (λ f. IsFound samples looks.values looked.stop f) all s.found in
+    let ended : looked.stop ≡ Ended Complete = found.0 in
+    let stood : AreLookedAt samples saving.options.patience (all_stood looks) (line.before ⇒ mid) = record {
+      inquired = subst (λ t. Inquired most_turns (inquiry (begun (addresses_of samples) [] saving.options.patience) looks (Some t)) line.before mid) ended s.inquired;
+      end = subst (λ t. TellsEnd t looks) ended s.end;
+      found = subst (λ t. IsFound samples looks.values t AllStand) ended found;
+      bound = s.bound;
+      paid = s.paid;
+    } in
+    let read : Inquired turns (inquiry (begun behind [] (saving.options.patience - looks.spent)) last (Some stop)) mid line.after = subst (λ (r : Reader). Inquired turns (inquiry r last (Some stop)) mid line.after) is inquired in
+    let there : last.addresses ≡ behind = addresses ∙ ap (λ (r : Reader). r.addresses) is in
+    let left : last.patience ≡ saving.options.patience - looks.spent = patience ∙ ap (λ (r : Reader). r.patience) is in
     record {
       samples = samples;
       of_found = of;
       line = line;
       between = mid;
-      line' = line';
-      looked = looked;
+      looked = stood;
       read = read;
       asked = asked;
       given = given;
       addresses = there;
       patience = left;
-      bound = subst (λ n. last.sent ≤ reading_bound (length (addresses_behind options.range found)) n) left (subst (λ (list : List ℕ). last.sent ≤ reading_bound (length list) last.patience) there bound);
+      bound = subst (λ n. last.sent ≤ reading_bound (length behind) n) left (subst (λ (list : List ℕ). last.sent ≤ reading_bound (length list) last.patience) there bound);
       kept = kept';
-      is_memory = λ machine now lost ready honest. memory_behind options found samples last machine now range begins fill there kept'
-          (reading_holds samples options.patience looks AllStand line mid of.asked long looked kept turns stop (addresses_behind options.range found) (options.patience - looks.spent) last line' are (omega (arith, long)) read machine now lost ready honest);
+      is_memory = λ machine now lost ready honest. memory_behind saving samples last (machine ⇒ now) range begins fill there kept'
+          (reading_holds samples saving.options.patience looks (line.before ⇒ mid) of.asked long stood kept turns stop behind (saving.options.patience - looks.spent) last line.after are (omega (arith, long)) read machine now lost ready honest);
     }

@@ -9,7 +9,8 @@ use Rattle.machine_look.specs.declared.saving.SaveOptions.{SaveOptions}
 use Rattle.tape_shelf.specs.declared.shelf.ShelfFault.{ShelfFault}
 use Rattle.tape_shelf.specs.declared.shelf.ShelfFault.TheVariants as why
 use Rattle.machine_look.specs.LookFault.{IsKeepFault, IsReadFault, IsSaveFault, IsSaveNotBegun, TakesUpNothing, fault_of_shelf}
-use Rattle.machine_look.specs.Save.{IsSaveRead, SaveTold, Saving, TakesUp, console_of, numbers_of}
+use Rattle.machine_look.specs.Behind.{Saving}
+use Rattle.machine_look.specs.Save.{IsSaveRead, SaveTold, TakesUp, console_of, numbers_of}
 use Rattle.tape_shelf.specs.SavedSteps.{adds, closes, full, puts}
 use Rattle.tape_shelf.specs.SavedTape.{last_text}
 use Rattle.tape_shelf.specs.Shelf.{ShelfStep, Put, NotPut, put_step, IsPutFault}
@@ -67,7 +68,7 @@ not_read saving taking before after mid opened folder other takes is_open taken 
 -- a tape that is not closed
 pub not_closed : (options : SaveOptions) (before after : SaveTold) (mid : ShelfTold) (mid' : ShelfAt) (opened : List ℕ → Type 0) (folder : List ℕ) (read : IsSaveRead most_turns options before after) (fault : LookFault)
     → mid'.is_opened_as folder → AreDone folder read.taking before.shelf mid → AreDone folder (adds options.range.from (numbers_of read) (full (numbers_of read))) mid mid'.told
-    → IsKeepFault options (numbers_of read) mid' (record { told = after.shelf; is_opened_as = opened }) fault → Keeps before.out after.out → IsSaveFault options before after fault
+    → IsKeepFault (last_text options.range.from (numbers_of read) options.start) mid' (record { told = after.shelf; is_opened_as = opened }) fault → Keeps before.out after.out → IsSaveFault options before after fault
 not_closed options before after mid mid' opened folder read IsThere is_open taken added fails same =
     inr (record { read = read; refused = done_behind read.taking _ folder before.shelf mid after.shelf taken (done_join folder (adds options.range.from (numbers_of read) (full (numbers_of read))) _ mid mid'.told after.shelf added (fails folder is_open)); nothing_reported = same })
 not_closed options before after mid mid' opened folder read WriteTape is_open taken added fails same =
@@ -88,15 +89,15 @@ pub closes_long : (from : ℕ) (numbers : List ℕ) (start : ℕ) → 0 < length
 closes_long from [] start some = absurd (omega arith)
 closes_long from (n ∷ numbers) start some = refl
 
-pub not_put : (options : SaveOptions) (numbers text : List ℕ) (fault : ShelfFault) (a b : ShelfAt) → text ≡ last_text options.range.from numbers options.start → IsPutFault fault
-    → ((folder : List ℕ) → a.is_opened_as folder → IsDone folder (put_step text (Err fault)) a.told b.told) → IsKeepFault options numbers a b (fault_of_shelf fault)
-not_put options numbers text why.IsThere a b is can done =
+pub not_put : (last text : List ℕ) (fault : ShelfFault) (a b : ShelfAt) → text ≡ last → IsPutFault fault
+    → ((folder : List ℕ) → a.is_opened_as folder → IsDone folder (put_step text (Err fault)) a.told b.told) → IsKeepFault last a b (fault_of_shelf fault)
+not_put last text why.IsThere a b is can done =
     λ folder is_open. subst (λ t. AreDone folder (NotPut t why.IsThere ∷ []) a.told b.told) is (done_one folder (NotPut text why.IsThere) a.told b.told (done folder is_open))
-not_put options numbers text why.Write a b is can done =
+not_put last text why.Write a b is can done =
     λ folder is_open. subst (λ t. AreDone folder (NotPut t why.Write ∷ []) a.told b.told) is (done_one folder (NotPut text why.Write) a.told b.told (done folder is_open))
-not_put options numbers text why.PartIsThere a b is can done = absurd can
-not_put options numbers text why.NotOfSave a b is can done = absurd can
-not_put options numbers text why.Memory a b is can done = absurd can
+not_put last text why.PartIsThere a b is can done = absurd can
+not_put last text why.NotOfSave a b is can done = absurd can
+not_put last text why.Memory a b is can done = absurd can
 
 -- the steps of a save whose tape has its place
 pub saved_steps : (taking : List ShelfStep) (folder : List ℕ) (from start : ℕ) (numbers : List ℕ) (a b c d : ShelfTold) → AreDone folder taking a b

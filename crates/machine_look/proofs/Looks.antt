@@ -20,6 +20,7 @@ use Rattle.reading_engine.specs.Belief.{IsBelievableAt}
 use Rattle.reading_engine.specs.Inquired.{Inquired, TellsEnd, inquiry}
 use Rattle.reading_engine.proofs.Beliefs.{inquired_believable}
 use Rattle.load_devices.specs.Devices.{LineTold}
+use Rattle.request_values.specs.Change.{◌⇒◌}
 use Rattle.machine_look.specs.Look.{IsLineOf, IsLook, IsLookOf}
 
 -- ---- how a look comes to be
@@ -39,11 +40,10 @@ believed_said turns stop first last line line' s reads =
     inquired_believable turns stop first last (Some []) (Some s.said) reads told s.said ([], refl, refl)
 
 pub is_look_of : (turns : ℕ) (first last : Reader) (stop : Stop) (line line' : Option (List Item)) (lines lines' : Option (List LineTold)) → IsReader first → Inquired turns (inquiry first last (Some stop)) line line'
-    → IsLineOf (ended first.phase) stop line line' lines lines' → TellsEnd stop last
-    → last.addresses ≡ first.addresses → last.patience ≡ first.patience → last.sent ≤ reading_bound (length last.addresses) last.patience → IsReader last → IsLookOf turns first last stop lines lines'
+    → IsLineOf (ended first.phase) stop (line ⇒ line') (lines ⇒ lines') → TellsEnd stop last
+    → last.addresses ≡ first.addresses → last.patience ≡ first.patience → last.sent ≤ reading_bound (length last.addresses) last.patience → IsReader last → IsLookOf turns (first ⇒ last) stop (lines ⇒ lines')
 is_look_of turns first last stop line line' lines lines' reads inquired is end addresses patience bound kept = record {
-  line = line;
-  line' = line';
+  line = line ⇒ line';
   inquired = inquired;
   line_is = is;
   end = end;
@@ -55,12 +55,12 @@ is_look_of turns first last stop line line' lines lines' reads inquired is end a
 }
 
 pub is_look : (first last : Reader) (stop : Stop) (line line' : Option (List Item)) (lines lines' : Option (List LineTold)) → IsReader first → Inquired most_turns (inquiry first last (Some stop)) line line'
-    → IsLineOf (ended first.phase) stop line line' lines lines' → TellsEnd stop last
-    → last.addresses ≡ first.addresses → last.patience ≡ first.patience → last.sent ≤ reading_bound (length last.addresses) last.patience → IsReader last → IsLook first last stop lines lines'
+    → IsLineOf (ended first.phase) stop (line ⇒ line') (lines ⇒ lines') → TellsEnd stop last
+    → last.addresses ≡ first.addresses → last.patience ≡ first.patience → last.sent ≤ reading_bound (length last.addresses) last.patience → IsReader last → IsLook (first ⇒ last) stop (lines ⇒ lines')
 is_look = is_look_of most_turns
 
 -- a reader that has an end from the beginning needs no line
-pub no_look : (reader : Reader) (end : End) (lines : Option (List LineTold)) → IsReader reader → ended reader.phase ≡ Some end → IsLook reader reader (Ended end) lines lines
+pub no_look : (reader : Reader) (end : End) (lines : Option (List LineTold)) → IsReader reader → ended reader.phase ≡ Some end → IsLook (reader ⇒ reader) (Ended end) (lines ⇒ lines)
 no_look reader end lines reads is =
     let nothing : Inquired most_turns (inquiry reader reader (Some (Ended end))) None None = record {
       heard = [];
@@ -71,7 +71,7 @@ no_look reader end lines reads is =
       items = refl;
       on_line = tt;
     } in
-    is_look reader reader (Ended end) None None lines lines reads nothing (subst (λ over. IsLineOf over (Ended end) None None lines lines) (sym is) refl) is refl refl (within_bound reader reads) reads
+    is_look reader reader (Ended end) None None lines lines reads nothing (subst (λ over. IsLineOf over (Ended end) (None ⇒ None) (lines ⇒ lines)) (sym is) refl) is refl refl (within_bound reader reads) reads
 
 -- ---- what it says
 

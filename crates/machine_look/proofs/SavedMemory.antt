@@ -9,7 +9,6 @@ use Rattle.tape_image.specs.Word.{WordValue, whole_word}
 use Rattle.tape_values.specs.Block.{top}
 use Rattle.odt_machine.specs.Machine.{Machine, word_at}
 use Rattle.reading_core.specs.Invariant.{IsReader}
-use Rattle.sample_looks.specs.declared.finding.Finding.TheVariants.{AllStand}
 use Rattle.machine_look.proofs.BehindLooks.{IsReadBehind}
 use Rattle.reading_core.specs.Addresses.{IsRange, addresses_from, addresses_between}
 use Rattle.reading_core.specs.Reader.{Reader}
@@ -17,7 +16,8 @@ use Rattle.reading_core.proofs.Asking.{none_from, one_more, length_from, range_a
 use Rattle.reading_core.specs.Addresses.{AreAddresses}
 use Rattle.request_values.specs.declared.range.AddressRange.{AddressRange}
 use Rattle.machine_look.specs.declared.saving.SaveOptions.{SaveOptions}
-use Rattle.machine_look.specs.Behind.{AreOfFound, IsMemoryBehind, addresses_behind, addresses_in, tape_to_save}
+use Rattle.request_values.specs.Change.{Change}
+use Rattle.machine_look.specs.Behind.{AreOfFound, IsMemoryBehind, Saving, addresses_behind, addresses_in, tape_to_save}
 use Rattle.tape_shelf.specs.FoundPart.{FillBlocks}
 use Rattle.machine_look.specs.Save.{IsTapeOf}
 use Rattle.tape_shelf.specs.SavedTape.{saved_tape, words_in}
@@ -134,9 +134,11 @@ pub few_numbers : (range : AddressRange) (found : List ℕ) (last : Reader) → 
 few_numbers range found last low are kept =
     omega (arith, low, length-append found last.values, kept.within, ap length are, length_from (range.from + 2 * length found) (words_in range - length found))
 
-pub memory_behind : (options : SaveOptions) (found : List ℕ) (samples : List WordValue) (last : Reader) (before now : Machine) → IsRange options.range.from options.range.to → options.start < 65536
-    → FillBlocks options.range found → last.addresses ≡ addresses_behind options.range found → IsReader last → IsReadBehind samples AllStand last before now → IsMemoryBehind options found last.values samples before now
-memory_behind options found samples last before now range begins fill are kept read =
+pub memory_behind : (saving : Saving) (samples : List WordValue) (last : Reader) (machine : Change Machine) → IsRange saving.options.range.from saving.options.range.to → saving.options.start < 65536
+    → FillBlocks saving.options.range saving.found → last.addresses ≡ addresses_behind saving.options.range saving.found → IsReader last → IsReadBehind samples last machine → IsMemoryBehind saving last.values samples machine
+memory_behind saving samples last machine range begins fill are kept read =
+    let options : SaveOptions = saving.options in
+    let found : List ℕ = saving.found in
     let few = few_numbers options.range found last fill.within are kept in
     let behind : List ℕ = addresses_behind options.range found in
     let inside : length last.values ≤ length behind = subst (λ (list : List ℕ). length last.values ≤ length list) are kept.within in
@@ -145,7 +147,7 @@ memory_behind options found samples last before now range begins fill are kept r
       words = (holds_numbers options (found ++ last.values) range begins few (All-append (λ n. n < 65536) found last.values fill.small kept.numbers)).words
           ∙ (words_of_both options.range found last.values fill.within
           ∙ ap (λ words. words_read (addresses_in options.range) found ++ words)
-          (words_are now.memory behind last.values inside (λ i low. read.holds i low ∙ ap (λ (list : List ℕ). word_at now.memory (get_or list i 0)) are)));
+          (words_are machine.after.memory behind last.values inside (λ i low. read.holds i low ∙ ap (λ (list : List ℕ). word_at machine.after.memory (get_or list i 0)) are)));
     }
 
 -- ---- samples of what was found

@@ -1,5 +1,5 @@
 -- What a save comes to, by its course.
-use Rattle.std.proofs.Common.{ℕ, ◌<◌, List, ◌++◌, arith, sym, subst, ◌∙◌, length-append}
+use Rattle.std.proofs.Common.{◌≡◌, ℕ, ◌<◌, List, ◌++◌, arith, sym, subst, ◌∙◌, length-append}
 use Rattle.std.proofs.lemmas.List.Elements.{All-append}
 use Rattle.std.specs.Io.KnownBytes.{Keeps}
 use Rattle.console_lines.specs.Console.{ConsoleTold}
@@ -9,10 +9,11 @@ use Rattle.machine_look.specs.declared.reading_blocks.Course.{Course}
 use Rattle.machine_look.specs.declared.reading_blocks.Course.TheVariants.{HeldUp as WasHeldUp, Read as WasRead}
 use Rattle.machine_look.specs.declared.save_end.SaveEnd.{SaveEnd}
 use Rattle.machine_look.specs.declared.save_report.SaveCounts.{SaveCounts}
-use Rattle.machine_look.specs.Course.{HasRoomForCounts, IsConcluded, IsCourse, IsUnclosed}
+use Rattle.machine_look.specs.Behind.{Saving}
+use Rattle.machine_look.specs.Course.{HasRoomForCounts, IsCourse, IsTapeClosed, IsUnclosed, closing_text, counts_of, end_of}
 use Rattle.tape_shelf.specs.FoundPart.{FillBlocks}
 use Rattle.machine_look.specs.LookFault.{IsSaveFault}
-use Rattle.machine_look.specs.Save.{HeldUp, IsOver, SaveTold, Saving, Shelved, TakesUp, console_of, counts_held, counts_read}
+use Rattle.machine_look.specs.Save.{HeldUp, IsOver, SaveTold, Shelved, TakesUp, console_of}
 use Rattle.tape_shelf.specs.Shelf.{ShelfStep}
 use Rattle.tape_shelf.specs.ShelfAt.{ShelfAt}
 use Rattle.tape_shelf.specs.ShelfTold.{AreDone}
@@ -31,7 +32,7 @@ module _ (saving : Saving) (mid mid' : ShelfAt) where
 
   module _ (taking : List ShelfStep) (folder : List ℕ) (takes : TakesUp saving.options.range saving.found taking) (before after : SaveTold) (opened : List ℕ → Type 0) (taken : AreDone folder taking before.shelf mid.told) (is_open : mid.is_opened_as folder) where
     pub not_concluded : (course : Course) (fault : LookFault) → IsCourse saving (record { shelf = mid; console = console_of before }) (record { shelf = mid'; console = console_of after }) course
-        → IsUnclosed saving course mid' (record { told = after.shelf; is_opened_as = opened }) fault → Keeps before.out after.out → IsSaveFault saving.options before after fault
+        → IsUnclosed (closing_text saving course) mid' (record { told = after.shelf; is_opened_as = opened }) fault → Keeps before.out after.out → IsSaveFault saving.options before after fault
     not_concluded (WasHeldUp looked) fault h unclosed same = absurd unclosed
     not_concluded (WasRead looks last stop) fault h unclosed same =
         let added = h.2 folder is_open in
@@ -39,24 +40,22 @@ module _ (saving : Saving) (mid mid' : ShelfAt) where
 
     pub concluded : (course : Course) (done : SaveCounts × SaveEnd) → IsRange saving.options.range.from saving.options.range.to → saving.options.start < 65536 → FillBlocks saving.options.range saving.found
         → IsCourse saving (record { shelf = mid; console = console_of before }) (record { shelf = mid'; console = console_of after }) course
-        → IsConcluded saving course mid' (record { told = after.shelf; is_opened_as = opened }) done → IsOver saving.options before after done.0 done.1
-    concluded (WasHeldUp looked) done range begins fill h over =
-        subst (λ c. IsOver saving.options before after c done.1) (sym over.0) (subst (λ e. IsOver saving.options before after (counts_held saving.options looked.reader) e) (sym over.1) (HeldUp (record {
+        → done.0 ≡ counts_of saving course → done.1 ≡ end_of course → IsTapeClosed saving course mid' (record { told = after.shelf; is_opened_as = opened }) → IsOver saving.options before after done.0 done.1
+    concluded (WasHeldUp looked) done range begins fill h counted ended closed =
+        subst (λ c. IsOver saving.options before after c done.1) (sym counted) (subst (λ e. IsOver saving.options before after (counts_of saving (WasHeldUp looked)) e) (sym ended) (HeldUp (record {
           found = saving.found;
           taking = taking;
           taken_up = takes;
-          looks = looked.reader;
-          stop = looked.stop;
-          finding = looked.finding;
+          looked = looked;
           held = h.0;
-          untouched = (folder, subst (λ s. AreDone folder taking before.shelf s) (sym (over.2 ∙ h.1)) taken);
+          untouched = (folder, subst (λ s. AreDone folder taking before.shelf s) (sym (closed ∙ h.1)) taken);
         })))
-    concluded (WasRead looks last stop) done range begins fill h over =
+    concluded (WasRead looks last stop) done range begins fill h counted ended closed =
         let added = h.2 folder is_open in
         let few = few_numbers saving.options.range saving.found last fill.within h.0.addresses h.0.kept in
-        subst (λ c. IsOver saving.options before after c done.1) (sym over.0) (subst (λ e. IsOver saving.options before after (counts_read saving.options saving.found looks last) e) (sym over.1) (Shelved (record {
+        subst (λ c. IsOver saving.options before after c done.1) (sym counted) (subst (λ e. IsOver saving.options before after (counts_of saving (WasRead looks last stop)) e) (sym ended) (Shelved (record {
           read = record { found = saving.found; taking = taking; taken_up = takes; looks = looks; last = last; stop = stop; read = h.0 };
           end = h.1;
           tape = tape_of saving.options (saving.found ++ last.values) range begins few (All-append (λ n. n < 65536) saving.found last.values fill.small h.0.kept.numbers);
-          is_put = saved_steps taking folder saving.options.range.from saving.options.start (saving.found ++ last.values) before.shelf mid.told mid'.told after.shelf taken added.1 (over.2 folder added.0);
+          is_put = saved_steps taking folder saving.options.range.from saving.options.start (saving.found ++ last.values) before.shelf mid.told mid'.told after.shelf taken added.1 (closed folder added.0);
         })))

@@ -104,7 +104,7 @@ added_behind from behind found read a b c whole is first second = λ folder begi
 
 -- or one of those could not be
 pub not_added_behind : (from behind : ℕ) (found read : List ℕ) (a b c : ShelfAt) (fault : ShelfFault) → length found ≡ 256 * full found → behind ≡ from + 2 * length found
-    → GoesOnTo [] (adds from found (full found)) a b → IsNotAllAdded [] (record { from = behind; values = read }) b c fault → IsNotAllAdded [] (record { from = from; values = found ++ read }) a c fault
+    → GoesOnTo [] (adds from found (full found)) a b → IsNotAllAdded (record { behind = []; from = behind; values = read }) b c fault → IsNotAllAdded (record { behind = []; from = from; values = found ++ read }) a c fault
 not_added_behind from behind found read a b c fault whole is first second = (
   second.0,
   (
@@ -133,7 +133,7 @@ added_alone from found read a b none h =
     subst (λ numbers. GoesOnTo [] (adds from numbers (full numbers)) a b) (sym (append-nil found) ∙ ap (λ more. found ++ more) (sym none)) h
 
 pub not_added_alone : (from : ℕ) (found read : List ℕ) (a b : ShelfAt) (fault : ShelfFault) → read ≡ []
-    → IsNotAllAdded (adds from found 0) (record { from = from; values = found }) a b fault → IsNotAllAdded [] (record { from = from; values = found ++ read }) a b fault
+    → IsNotAllAdded (record { behind = adds from found 0; from = from; values = found }) a b fault → IsNotAllAdded (record { behind = []; from = from; values = found ++ read }) a b fault
 not_added_alone from found read a b fault none h =
-    subst (λ numbers. IsNotAllAdded [] (record { from = from; values = numbers }) a b fault) (sym (append-nil found) ∙ ap (λ more. found ++ more) (sym none))
+    subst (λ numbers. IsNotAllAdded (record { behind = []; from = from; values = numbers }) a b fault) (sym (append-nil found) ∙ ap (λ more. found ++ more) (sym none))
     (h.0, (h.1.0, h.1.1, from_nothing from found (not_all_added from found h.1.0) a b h.1.2))

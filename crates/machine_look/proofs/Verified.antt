@@ -13,6 +13,7 @@ use Rattle.reading_core.specs.Addresses.{addresses_of}
 use Rattle.reading_core.specs.Reader.{Reader, begun, ended}
 use Rattle.looking_law.specs.Belief.{IsTrueReading}
 use Rattle.load_devices.specs.Devices.{LineTold}
+use Rattle.request_values.specs.Change.{Change, ◌⇒◌}
 use Rattle.reading_engine.specs.Inquired.{TellsEnd}
 use Rattle.reading_engine.specs.declared.stop.Stop.{Stop}
 use Rattle.reading_engine.specs.declared.stop.Stop.TheVariants.{Ended, LineFailed as LineHasFailed, TurnsOver as TurnsAreOver}
@@ -51,7 +52,7 @@ stand_where_read words last before now keys lost are all none heard = record {
       subst (Stands (word_nr words i)) here (Stands-unchanged (word_nr words i) (get_or last.values i 0) (none_differ words last.values all none i low));
 }
 
-pub all_stand : (words : List WordValue) (first last : Reader) (stop : Stop) {lines lines' : Option (List LineTold)} (look : IsLook first last stop lines lines') → first.addresses ≡ addresses_of words
+pub all_stand : (words : List WordValue) (first last : Reader) (stop : Stop) {lines : Change (Option (List LineTold))} (look : IsLook (first ⇒ last) stop lines) → first.addresses ≡ addresses_of words
     → verify_end (length (differences words last.values)) stop ≡ Same → OverHonestLine look (IsSameWith words)
 all_stand words first last stop look are same machine now lost may honest =
     let means = same_means (length (differences words last.values)) stop same in
@@ -61,15 +62,15 @@ all_stand words first last stop look are same machine now lost may honest =
     let heard = is_true stop first last look.inquired.said machine now lost look.believed may honest in
     (heard.1.same, stand_where_read words last machine.memory now.memory _ _ addresses all means.1 heard.1)
   where
-    ended_is : (last : Reader) (stop : Stop) {lines lines' : Option (List LineTold)} → stop ≡ Ended Complete → IsLook first last stop lines lines' → ended last.phase ≡ Some Complete
+    ended_is : (last : Reader) (stop : Stop) {lines : Change (Option (List LineTold))} → stop ≡ Ended Complete → IsLook (first ⇒ last) stop lines → ended last.phase ≡ Some Complete
     ended_is last stop is look = subst (λ s. TellsEnd s last) is look.end
 
 -- ---- a verification
 
-abbrev pub verified_of : (plan : PlanValue) (patience : ℕ) (before after : ConsoleTold) (first last : Reader) (stop : Stop) (end : VerifyEnd) → first ≡ begun (addresses_of plan.words) [] patience → IsLook first last stop before.lines after.lines
-    → AsksOnce (ended first.phase) before.call before.asked after.asked → end ≡ verify_end (length (differences plan.words last.values)) stop → IsVerified plan patience before after end
+abbrev pub verified_of : (plan : PlanValue) (patience : ℕ) (before after : ConsoleTold) (first last : Reader) (stop : Stop) (end : VerifyEnd) → first ≡ begun (addresses_of plan.words) [] patience → IsLook (first ⇒ last) stop (before.lines ⇒ after.lines)
+    → AsksOnce (ended first.phase) before.call before.asked after.asked → end ≡ verify_end (length (differences plan.words last.values)) stop → IsVerified plan patience (before ⇒ after) end
 verified_of plan patience before after first last stop end is look asks ends =
-    let moved : IsLook (begun (addresses_of plan.words) [] patience) last stop before.lines after.lines = subst (λ r. IsLook r last stop before.lines after.lines) is look in
+    let moved : IsLook (begun (addresses_of plan.words) [] patience ⇒ last) stop (before.lines ⇒ after.lines) = subst (λ r. IsLook (r ⇒ last) stop (before.lines ⇒ after.lines)) is look in
     record {
       last = last;
       stop = stop;
@@ -96,12 +97,12 @@ last_is words words' last numbers differ stop text w n are count is =
     ∙ ap (λ k. last_lines (length words) last k stop) (differ_is words words' last numbers differ w n count))
 
 -- a comparison of a plan's words that comes to nothing
-pub compare_fault : (plan : PlanValue) (patience : ℕ) (words : List WordValue) (first : Reader) (before after : ConsoleTold) (fault : LookFault) → words ≡ plan.words → first ≡ begun (addresses_of plan.words) [] patience
-    → IsCompareFault words first before after fault → IsVerifyFault plan patience before after fault
-compare_fault plan patience words first before after fault w r fails =
-    same fault (subst (λ list. IsCompareFault list (begun (addresses_of plan.words) [] patience) before after fault) w (subst (λ reader. IsCompareFault words reader before after fault) r fails))
+pub compare_fault : (plan : PlanValue) (patience : ℕ) (words : List WordValue) (first : Reader) (console : Change ConsoleTold) (fault : LookFault) → words ≡ plan.words → first ≡ begun (addresses_of plan.words) [] patience
+    → IsCompareFault words first console fault → IsVerifyFault plan patience console fault
+compare_fault plan patience words first console fault w r fails =
+    same fault (subst (λ list. IsCompareFault list (begun (addresses_of plan.words) [] patience) console fault) w (subst (λ reader. IsCompareFault words reader console fault) r fails))
   where
-    same : (fault : LookFault) → IsCompareFault plan.words (begun (addresses_of plan.words) [] patience) before after fault → IsVerifyFault plan patience before after fault
+    same : (fault : LookFault) → IsCompareFault plan.words (begun (addresses_of plan.words) [] patience) console fault → IsVerifyFault plan patience console fault
     same Connect h = h
     same WriteOutput h = h
     same IsThere h = absurd h

@@ -19,15 +19,28 @@ use Rattle.reading_engine.specs.Honest.{IsHonest}
 use Rattle.reading_engine.specs.Inquired.{Inquired, TellsEnd, inquiry}
 use Rattle.reading_engine.specs.declared.stop.Stop.{Stop}
 use Rattle.reading_engine.specs.declared.stop.Stop.TheVariants.{Ended}
+use Rattle.request_values.specs.Change.{Change, ◌⇒◌}
 use Rattle.request_values.specs.declared.range.AddressRange.{AddressRange}
 use Rattle.sample_looks.specs.Finding.{IsFound, IsSoIn}
 use Rattle.sample_looks.specs.Samples.{AreSamples}
 use Rattle.sample_looks.specs.declared.finding.Finding.{Finding}
 use Rattle.sample_looks.specs.declared.finding.Finding.TheVariants.{AllStand}
+use Rattle.sample_looks.specs.declared.looking.Looked.{Looked}
 use Rattle.machine_look.specs.Look.{IsGivenBack}
 use Rattle.tape_shelf.specs.SavedTape.{saved_tape, words_in}
 use Rattle.machine_look.specs.SavedWords.{words_read}
 use Rattle.machine_look.specs.declared.saving.SaveOptions.{SaveOptions}
+
+-- a save of words of which these were found, as numbers
+pub record Saving : Type 0 where
+  pub options : SaveOptions
+  pub found : List ℕ
+
+-- looks that came to their end, a reading behind them, and what stopped that
+pub record Reading : Type 0 where
+  pub looks : Reader
+  pub last : Reader
+  pub stop : Stop
 
 -- the addresses of a range, both ends included
 abbrev pub addresses_in : AddressRange → List ℕ
@@ -46,53 +59,59 @@ pub record AreOfFound (range : AddressRange) (found : List ℕ) (samples : List 
   pub spread : AreSamples (words_read (addresses_in range) found) (length found) samples
   pub asked : AreAddresses (addresses_of samples)
 
--- samples were looked at over a line, by a host of this patience, and this was found
-pub record AreLookedAt (samples : List WordValue) (patience : ℕ) (looks : Reader) (stop : Stop) (finding : Finding) (line line' : Option (List Item)) : Type 0 where
-  pub inquired : Inquired most_turns (inquiry (begun (addresses_of samples) [] patience) looks (Some stop)) line line'
-  pub end : TellsEnd stop looks
-  pub found : IsFound samples looks.values stop finding
-  pub bound : looks.sent ≤ reading_bound (length samples) patience
-  pub paid : looks.spent ≤ patience
+-- samples were looked at over a line, by a host of this patience, and it came to this
+pub record AreLookedAt (samples : List WordValue) (patience : ℕ) (looked : Looked) (line : Change (Option (List Item))) : Type 0 where
+  pub inquired : Inquired most_turns (inquiry (begun (addresses_of samples) [] patience) looked.reader (Some looked.stop)) line.before line.after
+  pub end : TellsEnd looked.stop looked.reader
+  pub found : IsFound samples looked.reader.values looked.stop looked.finding
+  pub bound : looked.reader.sent ≤ reading_bound (length samples) patience
+  pub paid : looked.reader.spent ≤ patience
 
 -- what is so of memory wherever what was said is honest, of a machine that runs no program
-abbrev pub WhereHonest : List Item → (Machine → Machine → Type 0) → Type 0
-WhereHonest said holds = (machine now : Machine) (lost : ℕ) → IsReadyMachine machine → IsHonest machine said lost now → holds machine now
+abbrev pub WhereHonest : List Item → (Change Machine → Type 0) → Type 0
+WhereHonest said holds = (machine now : Machine) (lost : ℕ) → IsReadyMachine machine → IsHonest machine said lost now → holds (machine ⇒ now)
 
 -- a memory is what it was, and what looks found is so in it
-abbrev pub IsAsFound : List WordValue → Finding → Machine → Machine → Type 0
-IsAsFound samples finding before now = (now.memory ≡ before.memory) × IsSoIn now.memory samples finding
+abbrev pub IsAsFound : List WordValue → Finding → Change Machine → Type 0
+IsAsFound samples finding machine = (machine.after.memory ≡ machine.before.memory) × IsSoIn machine.after.memory samples finding
 
--- the samples of what was found stand in it, too, and the tape has, behind the words that were found, the words that memory holds, as many as were read
-pub record IsMemoryBehind (options : SaveOptions) (found read : List ℕ) (samples : List WordValue) (before now : Machine) : Type 0 where
-  pub as_found : IsAsFound samples AllStand before now
-  pub words : (plan_of (tape_to_save options (found ++ read))).words ≡ words_read (addresses_in options.range) found
-      ++ map (λ address. whole_word address (word_at now.memory address)) (take (length read) (addresses_behind options.range found))
+-- the samples of what was found stand in it, too, and the tape has the words that were found, and behind them those that memory holds, as many as
+-- were read
+pub record IsMemoryBehind (saving : Saving) (read : List ℕ) (samples : List WordValue) (machine : Change Machine) : Type 0 where
+  pub as_found : IsAsFound samples AllStand machine
+  pub words : (plan_of (tape_to_save saving.options (saving.found ++ read))).words ≡ words_read (addresses_in saving.options.range) saving.found
+      ++ map (λ address. whole_word address (word_at machine.after.memory address)) (take (length read) (addresses_behind saving.options.range saving.found))
 
 -- looks hold a save up: a sample of what was found does not stand, or they did not come to their end. The line is given back
-pub record IsHeldUp (options : SaveOptions) (found : List ℕ) (before after : ConsoleTold) (looks : Reader) (stop : Stop) (finding : Finding) : Type 0 where
+pub record IsHeldUp (saving : Saving) (console : Change ConsoleTold) (looked : Looked) : Type 0 where
   pub samples : List WordValue
-  pub of_found : AreOfFound options.range found samples
-  pub line : Option (List Item)
-  pub line' : Option (List Item)
-  pub looked : AreLookedAt samples options.patience looks stop finding line line'
-  pub not_all : finding ≡ AllStand → ⊥
-  pub asked : Gains before.asked after.asked (asked_once before.call)
-  pub given : IsGivenBack stop line line' before.lines after.lines
-  pub is_memory : WhereHonest looked.inquired.said (IsAsFound samples finding)
+  pub of_found : AreOfFound saving.options.range saving.found samples
+  pub line : Change (Option (List Item))
+  pub looks : AreLookedAt samples saving.options.patience looked line
+  pub not_all : looked.finding ≡ AllStand → ⊥
+  pub asked : Gains console.before.asked console.after.asked (asked_once console.before.call)
+  pub given : IsGivenBack looked.stop line (console.before.lines ⇒ console.after.lines)
+  pub is_memory : WhereHonest looks.inquired.said (IsAsFound samples looked.finding)
+
+-- looks at samples that all stood
+abbrev pub all_stood : Reader → Looked
+all_stood looks = record { reader = looks; stop = Ended Complete; finding = AllStand }
 
 -- the samples stood, and an engine that had so many turns read the words behind what was found, with the patience that the looks left
-pub record IsRead (turns : ℕ) (options : SaveOptions) (found : List ℕ) (before after : ConsoleTold) (looks last : Reader) (stop : Stop) : Type 0 where
+pub record IsRead (turns : ℕ) (saving : Saving) (console : Change ConsoleTold) (reading : Reading) : Type 0 where
   pub samples : List WordValue
-  pub of_found : AreOfFound options.range found samples
-  pub line : Option (List Item)
+  pub of_found : AreOfFound saving.options.range saving.found samples
+  pub line : Change (Option (List Item))
   pub between : Option (List Item)
-  pub line' : Option (List Item)
-  pub looked : AreLookedAt samples options.patience looks (Ended Complete) AllStand line between
-  pub read : Inquired turns (inquiry (begun (addresses_behind options.range found) [] (options.patience - looks.spent)) last (Some stop)) between line'
-  pub asked : Gains before.asked after.asked (asked_once before.call)
-  pub given : IsGivenBack stop line line' before.lines after.lines
-  pub addresses : last.addresses ≡ addresses_behind options.range found
-  pub patience : last.patience ≡ options.patience - looks.spent
-  pub bound : last.sent ≤ reading_bound (length (addresses_behind options.range found)) (options.patience - looks.spent)
-  pub kept : IsReader last
-  pub is_memory : WhereHonest (looked.inquired.said ++ read.said) (IsMemoryBehind options found last.values samples)
+  pub looked : AreLookedAt samples saving.options.patience (all_stood reading.looks) (line.before ⇒ between)
+  pub read : Inquired turns
+      (inquiry (begun (addresses_behind saving.options.range saving.found) [] (saving.options.patience - reading.looks.spent)) reading.last (Some reading.stop))
+      between line.after
+  pub asked : Gains console.before.asked console.after.asked (asked_once console.before.call)
+  pub given : IsGivenBack reading.stop line (console.before.lines ⇒ console.after.lines)
+  pub addresses : reading.last.addresses ≡ addresses_behind saving.options.range saving.found
+  pub patience : reading.last.patience ≡ saving.options.patience - reading.looks.spent
+  pub bound : reading.last.sent
+      ≤ reading_bound (length (addresses_behind saving.options.range saving.found)) (saving.options.patience - reading.looks.spent)
+  pub kept : IsReader reading.last
+  pub is_memory : WhereHonest (looked.inquired.said ++ read.said) (IsMemoryBehind saving reading.last.values samples)

@@ -1,11 +1,13 @@
 -- What looks and reading came to, and what is closed behind them.
-use Rattle.std.specs.Prelude.{◌≡◌, ℕ, ◌+◌, ◌*◌, ◌<◌, ◌≤◌, List, ◌++◌, length, ⊤}
+use Rattle.std.specs.Prelude.{◌≡◌, ℕ, ◌+◌, ◌*◌, ◌<◌, ◌≤◌, List, ◌++◌, length, Option, Some, None, ⊤}
 use Rattle.tape_values.specs.Block.{top}
 use Rattle.load_devices.specs.Turns.{most_turns}
 use Rattle.reading_engine.specs.Inquired.{TellsEnd}
+use Rattle.request_values.specs.Change.{◌⇒◌}
 use Rattle.tape_shelf.specs.declared.shelf.ShelfFault.{ShelfFault}
 use Rattle.tape_shelf.specs.declared.shelf.ShelfFault.TheVariants.{Write}
 use Rattle.tape_shelf.specs.SavedSteps.{adds, closes, full, not_all_added}
+use Rattle.tape_shelf.specs.SavedTape.{last_text}
 use Rattle.tape_shelf.specs.Shelf.{ShelfStep}
 use Rattle.tape_shelf.specs.ShelfAt.{GoesOnTo, HasDoneThere, ShelfAt}
 use Rattle.tape_shelf.specs.ShelfTold.{AreDone}
@@ -15,33 +17,46 @@ use Rattle.machine_look.specs.declared.save_end.SaveEnd.{SaveEnd}
 use Rattle.machine_look.specs.declared.save_report.SaveCounts.{SaveCounts}
 use Rattle.machine_look.specs.declared.saving.SaveOptions.{SaveOptions}
 use Rattle.machine_look.specs.declared.look_fault.LookFault.{LookFault}
-use Rattle.machine_look.specs.Behind.{IsHeldUp, IsRead}
+use Rattle.machine_look.specs.Behind.{IsHeldUp, IsRead, Saving}
 use Rattle.machine_look.specs.LookFault.{IsKeepFault}
-use Rattle.machine_look.specs.Save.{SaveAt, Saving, counts_held, counts_read}
+use Rattle.machine_look.specs.Save.{SaveAt, counts_held, counts_read}
 use Rattle.machine_look.specs.SaveReport.{held_end, save_end}
 
 -- looks held a save up, and the shelf is as it was; or what was found stood, and the words behind it were read, and each full block of both is on the
 -- shelf, in the same folder
 abbrev pub IsCourse : Saving → SaveAt → SaveAt → Course → Type 0
 IsCourse saving before after (HeldUp looked) =
-    IsHeldUp saving.options saving.found before.console after.console looked.reader looked.stop looked.finding × (after.shelf.told ≡ before.shelf.told)
+    IsHeldUp saving (before.console ⇒ after.console) looked × (after.shelf.told ≡ before.shelf.told)
 IsCourse saving before after (Read looks last stop) =
-    IsRead most_turns saving.options saving.found before.console after.console looks last stop × TellsEnd stop last
+    IsRead most_turns saving (before.console ⇒ after.console) (record { looks = looks; last = last; stop = stop }) × TellsEnd stop last
     × ((folder : List ℕ) → before.shelf.is_opened_as folder → after.shelf.is_opened_as folder
     × AreDone folder (adds saving.options.range.from (saving.found ++ last.values) (full (saving.found ++ last.values))) before.shelf.told after.shelf.told)
 
--- its counts and its end, and the tape is closed, where one was read
-abbrev pub IsConcluded : Saving → Course → ShelfAt → ShelfAt → SaveCounts × SaveEnd → Type 0
-IsConcluded saving (HeldUp looked) before after done =
-    (done.0 ≡ counts_held saving.options looked.reader) × (done.1 ≡ held_end looked.finding looked.stop) × (after.told ≡ before.told)
-IsConcluded saving (Read looks last stop) before after done =
-    (done.0 ≡ counts_read saving.options saving.found looks last) × (done.1 ≡ save_end stop)
-    × HasDoneThere (closes saving.options.range.from (saving.found ++ last.values) saving.options.start) before after
+-- what is counted of it
+abbrev pub counts_of : Saving → Course → SaveCounts
+counts_of saving (HeldUp looked) = counts_held saving.options looked.reader
+counts_of saving (Read looks last stop) = counts_read saving.options saving.found looks last
 
--- or it can't be
-abbrev pub IsUnclosed : Saving → Course → ShelfAt → ShelfAt → LookFault → Type 0
-IsUnclosed saving (HeldUp looked) before after fault = ⊥
-IsUnclosed saving (Read looks last stop) before after fault = IsKeepFault saving.options (saving.found ++ last.values) before after fault
+-- how it ends
+abbrev pub end_of : Course → SaveEnd
+end_of (HeldUp looked) = held_end looked.finding looked.stop
+end_of (Read looks last stop) = save_end stop
+
+-- the tape is closed, where one was read
+abbrev pub IsTapeClosed : Saving → Course → ShelfAt → ShelfAt → Type 0
+IsTapeClosed saving (HeldUp looked) before after = after.told ≡ before.told
+IsTapeClosed saving (Read looks last stop) before after =
+    HasDoneThere (closes saving.options.range.from (saving.found ++ last.values) saving.options.start) before after
+
+-- the text with which it is closed then
+abbrev pub closing_text : Saving → Course → Option (List ℕ)
+closing_text saving (HeldUp looked) = None
+closing_text saving (Read looks last stop) = Some (last_text saving.options.range.from (saving.found ++ last.values) saving.options.start)
+
+-- it can't be closed with this text, if with any
+abbrev pub IsUnclosed : Option (List ℕ) → ShelfAt → ShelfAt → LookFault → Type 0
+IsUnclosed None before after fault = ⊥
+IsUnclosed (Some text) before after fault = IsKeepFault text before after fault
 
 -- what is counted has room
 abbrev pub HasRoomForCounts : SaveOptions → List ℕ → Course → Type 0
@@ -49,12 +64,13 @@ HasRoomForCounts options found (HeldUp looked) = ⊤
 HasRoomForCounts options found (Read looks last stop) =
     (looks.spent + last.patience ≤ options.patience) × (options.range.from + 2 * (length found + length last.values) ≤ top)
 
--- numbers that stand in memory from an address on
-pub record Numbers : Type 0 where
+-- the blocks of the numbers that stand in memory from an address on, behind what was done before
+pub record Adding : Type 0 where
+  pub behind : List ShelfStep
   pub from : ℕ
   pub values : List ℕ
 
--- a block of numbers could not be written behind those that were on the shelf: the blocks before it are, and the numbers make more
-abbrev pub IsNotAllAdded : List ShelfStep → Numbers → ShelfAt → ShelfAt → ShelfFault → Type 0
-IsNotAllAdded steps numbers before after fault =
-    (fault ≡ Write) × ((n : ℕ) × (n < full numbers.values) × GoesOnTo steps (not_all_added numbers.from numbers.values n) before after)
+-- one of them could not be written: those before it are on the shelf, and the numbers make more
+abbrev pub IsNotAllAdded : Adding → ShelfAt → ShelfAt → ShelfFault → Type 0
+IsNotAllAdded adding before after fault =
+    (fault ≡ Write) × ((n : ℕ) × (n < full adding.values) × GoesOnTo adding.behind (not_all_added adding.from adding.values n) before after)

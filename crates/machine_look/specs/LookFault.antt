@@ -8,6 +8,7 @@ use Rattle.console_lines.specs.Dialling.{IsAskedInVain}
 use Rattle.reading_core.specs.Addresses.{addresses_of}
 use Rattle.reading_core.specs.Reader.{Reader, begun, ended}
 use Rattle.reading_engine.specs.declared.stop.Stop.{Stop}
+use Rattle.request_values.specs.Change.{Change, ◌⇒◌}
 use Rattle.request_values.specs.declared.range.AddressRange.{AddressRange}
 use Rattle.machine_look.specs.declared.look_fault.LookFault.{LookFault}
 use Rattle.machine_look.specs.declared.look_fault.LookFault.TheVariants.{IsThere, PartIsThere, NotOfSave, WriteTape, Connect, WriteOutput, Memory}
@@ -15,10 +16,10 @@ use Rattle.machine_look.specs.declared.saving.SaveOptions.{SaveOptions}
 use Rattle.tape_shelf.specs.declared.shelf.ShelfFault.{ShelfFault}
 use Rattle.tape_shelf.specs.declared.shelf.ShelfFault.TheVariants as shelf_fault
 use Rattle.console_lines.specs.Console.{ConsoleTold}
-use Rattle.machine_look.specs.Behind.{IsRead}
-use Rattle.machine_look.specs.Save.{IsUnadded, IsUnput, IsSavedUnreported, SaveAt, SaveTold, Saving, TakesUp}
+use Rattle.machine_look.specs.Behind.{IsRead, Saving}
+use Rattle.machine_look.specs.Save.{IsUnadded, IsUnput, IsSavedUnreported, SaveAt, SaveTold, TakesUp}
 use Rattle.tape_shelf.specs.SavedSteps.{full, not_all_added}
-use Rattle.tape_shelf.specs.SavedTape.{last_text, room_for}
+use Rattle.tape_shelf.specs.SavedTape.{room_for}
 use Rattle.tape_shelf.specs.Shelf.{ShelfStep, NotReserved, NotResumed, NotPut}
 use Rattle.tape_shelf.specs.ShelfAt.{HasDoneThere, ShelfAt}
 use Rattle.tape_shelf.specs.ShelfTold.{HasDone}
@@ -34,16 +35,18 @@ fault_of_shelf shelf_fault.Memory = Memory
 
 -- a comparison of words comes to nothing: the console can't be reached before anything is written; or a line can't be written whole, which is
 -- the last thing
-abbrev pub IsCompareFault : List WordValue → Reader → ConsoleTold → ConsoleTold → LookFault → Type 0
-IsCompareFault words first before after Connect =
-    (ended first.phase ≡ None) × IsAskedInVain before.call before.asked after.asked × (after.lines ≡ before.lines) × Keeps before.out after.out
-IsCompareFault words first before after WriteOutput = IsCutShort words first before after
-IsCompareFault words first before after other = ⊥
+abbrev pub IsCompareFault : List WordValue → Reader → Change ConsoleTold → LookFault → Type 0
+IsCompareFault words first console Connect =
+    (ended first.phase ≡ None) × IsAskedInVain console.before.call console.before.asked console.after.asked
+    × (console.after.lines ≡ console.before.lines) × Keeps console.before.out console.after.out
+IsCompareFault words first console WriteOutput = IsCutShort words first console
+IsCompareFault words first console other = ⊥
 
 -- how `verify` comes to nothing: want of memory before the console is reached, or so
-abbrev pub IsVerifyFault : PlanValue → ℕ → ConsoleTold → ConsoleTold → LookFault → Type 0
-IsVerifyFault plan patience before after Memory = (after.asked ≡ before.asked) × (after.lines ≡ before.lines) × Keeps before.out after.out
-IsVerifyFault plan patience before after other = IsCompareFault plan.words (begun (addresses_of plan.words) [] patience) before after other
+abbrev pub IsVerifyFault : PlanValue → ℕ → Change ConsoleTold → LookFault → Type 0
+IsVerifyFault plan patience console Memory =
+    (console.after.asked ≡ console.before.asked) × (console.after.lines ≡ console.before.lines) × Keeps console.before.out console.after.out
+IsVerifyFault plan patience console other = IsCompareFault plan.words (begun (addresses_of plan.words) [] patience) console other
 
 -- the shelf could not be taken up: there is no room, or what an earlier save left can't be gone on with
 pub data TakesUpNothing (range : AddressRange) (fault : ShelfFault) : List ShelfStep → Type 0 where
@@ -75,17 +78,16 @@ IsReadFault saving before after Connect =
     × (after.console.lines ≡ before.console.lines)
 IsReadFault saving before after WriteTape =
     (looks last : Reader) × (stop : Stop) × (turns : ℕ) × (turns ≤ most_turns)
-    × IsRead turns saving.options saving.found before.console after.console looks last stop × (n : ℕ) × (n < full (saving.found ++ last.values))
+    × IsRead turns saving (before.console ⇒ after.console) (record { looks = looks; last = last; stop = stop })
+    × (n : ℕ) × (n < full (saving.found ++ last.values))
     × HasDoneThere (not_all_added saving.options.range.from (saving.found ++ last.values) n) before.shelf after.shelf
 IsReadFault saving before after other = ⊥
 
--- the tape of numbers is not closed: it can't have its place
-abbrev pub IsKeepFault : SaveOptions → List ℕ → ShelfAt → ShelfAt → LookFault → Type 0
-IsKeepFault options numbers before after IsThere =
-    HasDoneThere (NotPut (last_text options.range.from numbers options.start) shelf_fault.IsThere ∷ []) before after
-IsKeepFault options numbers before after WriteTape =
-    HasDoneThere (NotPut (last_text options.range.from numbers options.start) shelf_fault.Write ∷ []) before after
-IsKeepFault options numbers before after other = ⊥
+-- a tape is not closed with this text: it can't have its place
+abbrev pub IsKeepFault : List ℕ → ShelfAt → ShelfAt → LookFault → Type 0
+IsKeepFault text before after IsThere = HasDoneThere (NotPut text shelf_fault.IsThere ∷ []) before after
+IsKeepFault text before after WriteTape = HasDoneThere (NotPut text shelf_fault.Write ∷ []) before after
+IsKeepFault text before after other = ⊥
 
 -- how `save` comes to nothing: a file that is there or can't be made before the console is reached, want of memory before, too, a console that
 -- can't be reached, a block that can't be added or a tape that can't have its place with nothing reported, a report that can't be written whole

@@ -11,8 +11,9 @@ use Rattle.byte_io.specs.Output.{WritesAllBut}
 use Rattle.reading_core.specs.Reader.{Reader}
 use Rattle.reading_engine.specs.Inquired.{TellsEnd}
 use Rattle.reading_engine.specs.declared.stop.Stop.{Stop}
+use Rattle.request_values.specs.Change.{◌⇒◌}
 use Rattle.request_values.specs.declared.range.AddressRange.{AddressRange}
-use Rattle.sample_looks.specs.declared.finding.Finding.{Finding}
+use Rattle.sample_looks.specs.declared.looking.Looked.{Looked}
 use Rattle.machine_look.specs.Behind.{IsHeldUp, IsRead, addresses_in, tape_to_save}
 use Rattle.tape_shelf.specs.FoundPart.{FillBlocks}
 use Rattle.machine_look.specs.declared.save_end.SaveEnd.{SaveEnd}
@@ -37,11 +38,6 @@ pub record SaveTold : Type 0 where
   pub call : Call
   pub lines : Option (List LineTold)
   pub out : Option (List ℕ)
-
--- a save of words of which these were found, as numbers
-pub record Saving : Type 0 where
-  pub options : SaveOptions
-  pub found : List ℕ
 
 -- a save at a moment: its shelf, and what its console tells, where nothing is written
 pub record SaveAt : Type 1 where
@@ -98,7 +94,8 @@ pub record IsSaveRead (turns : ℕ) (options : SaveOptions) (before after : Save
   pub looks : Reader
   pub last : Reader
   pub stop : Stop
-  pub read : IsRead turns options found (console_of before) (console_of after) looks last stop
+  pub read : IsRead turns (record { options = options; found = found }) (console_of before ⇒ console_of after)
+      (record { looks = looks; last = last; stop = stop })
 
 -- the numbers that it has then
 abbrev pub numbers_of : {turns : ℕ} {options : SaveOptions} {before after : SaveTold} → IsSaveRead turns options before after → List ℕ
@@ -116,17 +113,16 @@ pub record IsHeld (options : SaveOptions) (before after : SaveTold) : Type 0 whe
   pub found : List ℕ
   pub taking : List ShelfStep
   pub taken_up : TakesUp options.range found taking
-  pub looks : Reader
-  pub stop : Stop
-  pub finding : Finding
-  pub held : IsHeldUp options found (console_of before) (console_of after) looks stop finding
+  pub looked : Looked
+  pub held : IsHeldUp (record { options = options; found = found }) (console_of before ⇒ console_of after) looked
   pub untouched : HasDone taking before.shelf after.shelf
 
 -- a save is over, with these counts and this end
 pub data IsOver (options : SaveOptions) (before after : SaveTold) : SaveCounts → SaveEnd → Type 0 where
   Shelved : (s : IsShelved options before after)
       → IsOver options before after (counts_read options s.read.found s.read.looks s.read.last) (save_end s.read.stop)
-  HeldUp : (h : IsHeld options before after) → IsOver options before after (counts_held options h.looks) (held_end h.finding h.stop)
+  HeldUp : (h : IsHeld options before after)
+      → IsOver options before after (counts_held options h.looked.reader) (held_end h.looked.finding h.looked.stop)
 
 -- it was reported, too
 pub record IsSavedAndReported (options : SaveOptions) (before after : SaveTold) (end : SaveEnd) : Type 0 where

@@ -10,6 +10,7 @@ use Rattle.load_devices.specs.Turns.{most_turns}
 use Rattle.reading_core.specs.Addresses.{addresses_of}
 use Rattle.reading_core.specs.Reader.{Reader, begun, ended}
 use Rattle.reading_engine.specs.declared.stop.Stop.{Stop}
+use Rattle.request_values.specs.Change.{Change, ◌⇒◌}
 use Rattle.machine_look.specs.declared.verify_end.VerifyEnd.{VerifyEnd}
 use Rattle.machine_look.specs.declared.verify_end.VerifyEnd.TheVariants.{Same}
 use Rattle.machine_look.specs.Differences.{differences}
@@ -22,30 +23,30 @@ abbrev pub IsSameWith : List WordValue → Machine → Machine → Type 0
 IsSameWith words before now = (now.memory ≡ before.memory) × FirstStand words (length words) now.memory
 
 -- a plan's words were looked at, and so it ended; where it ends as `Same` over an honest line, every word stands
-pub record IsVerified (plan : PlanValue) (patience : ℕ) (before after : ConsoleTold) (end : VerifyEnd) : Type 0 where
+pub record IsVerified (plan : PlanValue) (patience : ℕ) (console : Change ConsoleTold) (end : VerifyEnd) : Type 0 where
   pub last : Reader
   pub stop : Stop
-  pub look : IsLook (begun (addresses_of plan.words) [] patience) last stop before.lines after.lines
-  pub asked : AsksOnce (ended (begun (addresses_of plan.words) [] patience).phase) before.call before.asked after.asked
+  pub look : IsLook (begun (addresses_of plan.words) [] patience ⇒ last) stop (console.before.lines ⇒ console.after.lines)
+  pub asked : AsksOnce (ended (begun (addresses_of plan.words) [] patience).phase) console.before.call console.before.asked console.after.asked
   pub end_is : end ≡ verify_end (length (differences plan.words last.values)) stop
   pub stand : end ≡ Same → OverHonestLine look (IsSameWith plan.words)
 
 -- it was reported, too
-pub record IsVerifyReported (plan : PlanValue) (patience : ℕ) (before after : ConsoleTold) (end : VerifyEnd) : Type 0 where
-  pub verified : IsVerified plan patience before after end
-  pub reported : Appends before.out after.out (verify_report plan.words verified.last verified.stop)
+pub record IsVerifyReported (plan : PlanValue) (patience : ℕ) (console : Change ConsoleTold) (end : VerifyEnd) : Type 0 where
+  pub verified : IsVerified plan patience console end
+  pub reported : Appends console.before.out console.after.out (verify_report plan.words verified.last verified.stop)
 
 -- a front of the report of what was read by then was written, and nothing else: words were looked at for so many turns, a reader behind another
-pub record IsCutShort (words : List WordValue) (first : Reader) (before after : ConsoleTold) : Type 0 where
+pub record IsCutShort (words : List WordValue) (first : Reader) (console : Change ConsoleTold) : Type 0 where
   pub turns : ℕ
   pub few : turns ≤ most_turns
   pub last : Reader
   pub stop : Stop
-  pub look : IsLookOf turns first last stop before.lines after.lines
-  pub asked : AsksOnce (ended first.phase) before.call before.asked after.asked
+  pub look : IsLookOf turns (first ⇒ last) stop (console.before.lines ⇒ console.after.lines)
+  pub asked : AsksOnce (ended first.phase) console.before.call console.before.asked console.after.asked
   pub missing : List ℕ
-  pub reported : WritesAllBut before.out after.out (verify_report words last stop) missing
+  pub reported : WritesAllBut console.before.out console.after.out (verify_report words last stop) missing
 
 -- so it is of a plan's words
-abbrev pub IsVerifyCutShort : PlanValue → ℕ → ConsoleTold → ConsoleTold → Type 0
+abbrev pub IsVerifyCutShort : PlanValue → ℕ → Change ConsoleTold → Type 0
 IsVerifyCutShort plan patience = IsCutShort plan.words (begun (addresses_of plan.words) [] patience)

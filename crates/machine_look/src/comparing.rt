@@ -8,6 +8,7 @@ ghost use Rattle.reading_core.specs.Addresses.{addresses_of};
 ghost use Rattle.reading_core.specs.Invariant.{IsReader};
 ghost use Rattle.reading_core.specs.Reader.{ended};
 ghost use Rattle.reading_engine.specs.Inquired.{IsInquired, inquiry};
+ghost use Rattle.request_values.specs.Change.{◌⇒◌};
 ghost use Rattle.machine_look.specs.Look.{AsksOnce, IsInquiredWhile, IsLook};
 ghost use Rattle.machine_look.specs.LookFault.{IsCompareFault};
 ghost use Rattle.machine_look.specs.Shown.{ShowsPart, ShowsTo};
@@ -45,12 +46,12 @@ pub(crate) fn compare_over<R: Reach, W: Write, O: Onlooker>(
 ) -> Result<(ReadingCore, Stop), LookFault>
     requires of_words { core.addresses ≡ addresses_of words.now }
     requires fresh { core.values ≡ [] }
-    ensures look { IfOk result (λ looked. IsLook core looked.0 looked.1 (R.lines console.old) (R.lines console.new)) }
+    ensures look { IfOk result (λ looked. IsLook (core ⇒ looked.0) looked.1 (R.lines console.old ⇒ R.lines console.new)) }
     ensures asked { OnOk result (AsksOnce (ended core.phase) (R.call console.old) (R.asked console.old) (R.asked console.new)) }
     ensures shown { IfOk result (λ looked. Appends (W.contents out.old) (W.contents out.new) (difference_lines words.now looked.0.values)) }
     ensures call { R.call console.new ≡ R.call console.old }
     ensures fault { IfErr result (IsCompareFault words.now core
-        (console_told R.Reach W.Write console.old out.old) (console_told R.Reach W.Write console.new out.new)) }
+        (console_told R.Reach W.Write console.old out.old ⇒ console_told R.Reach W.Write console.new out.new)) }
 {
     if let Some(end) = core.end() {
         return Ok((core, Stop::Ended(end)));

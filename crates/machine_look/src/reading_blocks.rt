@@ -120,7 +120,7 @@ fn read_behind<S: Shelf, L: Line, O: Onlooker>(
     ensures inquired { IsInquiredWhile result.added (inquiry core result.core (Some result.stop)) (line_told L.Line line.old) (line_told L.Line line.new) }
     ensures added { OnOk result.added (GoesOnTo [] (adds from (found.now ++ result.core.values) (full (found.now ++ result.core.values)))
         (shelf_at S.Shelf shelf.old) (shelf_at S.Shelf shelf.new)) }
-    ensures not_added { IfErr result.added (IsNotAllAdded [] (record { from = from; values = found.now ++ result.core.values })
+    ensures not_added { IfErr result.added (IsNotAllAdded (record { behind = []; from = from; values = found.now ++ result.core.values })
         (shelf_at S.Shelf shelf.old) (shelf_at S.Shelf shelf.new)) }
 {
     let added = add_full(from, found, 0, shelf);
@@ -156,7 +156,7 @@ fn read_blocks<S: Shelf, L: Line, O: Onlooker>(
     ensures inquired { IsInquiredWhile result.added (inquiry core result.core (Some result.stop)) (line_told L.Line line.old) (line_told L.Line line.new) }
     ensures added { OnOk result.added (GoesOnTo [] (adds from result.core.values (full result.core.values))
         (shelf_at S.Shelf shelf.old) (shelf_at S.Shelf shelf.new)) }
-    ensures not_added { IfErr result.added (IsNotAllAdded [] (record { from = from; values = result.core.values })
+    ensures not_added { IfErr result.added (IsNotAllAdded (record { behind = []; from = from; values = result.core.values })
         (shelf_at S.Shelf shelf.old) (shelf_at S.Shelf shelf.new)) }
 {
     for _ in 0..MOST_TURNS {
@@ -207,7 +207,8 @@ fn turn<S: Shelf, L: Line, O: Onlooker>(
     ensures first { IsReader core }
     ensures added { OnOk result.added (GoesOnTo (adds from core.values (full core.values)) (adds from result.core.values (full result.core.values))
         (shelf_at S.Shelf shelf.old) (shelf_at S.Shelf shelf.new)) }
-    ensures not_added { IfErr result.added (IsNotAllAdded (adds from core.values (full core.values)) (record { from = from; values = result.core.values })
+    ensures not_added { IfErr result.added (IsNotAllAdded
+        (record { behind = adds from core.values (full core.values); from = from; values = result.core.values })
         (shelf_at S.Shelf shelf.old) (shelf_at S.Shelf shelf.new)) }
 {
     let before = core.values().len() / BLOCK_WORDS;
@@ -227,7 +228,7 @@ fn add_full<S: Shelf>(
     requires behind { first ≤ full numbers.now }
     ensures added { OnOk result (GoesOnTo (adds from numbers.now first) (adds from numbers.now (full numbers.now))
         (shelf_at S.Shelf shelf.old) (shelf_at S.Shelf shelf.new)) }
-    ensures not_added { IfErr result (IsNotAllAdded (adds from numbers.now first) (record { from = from; values = numbers.now })
+    ensures not_added { IfErr result (IsNotAllAdded (record { behind = adds from numbers.now first; from = from; values = numbers.now })
         (shelf_at S.Shelf shelf.old) (shelf_at S.Shelf shelf.new)) }
 {
     for number in first..numbers.len() / BLOCK_WORDS {

@@ -2,11 +2,12 @@
 ghost use Rattle.std.specs.Prelude.{◌≡◌, ◌*◌, ◌+◌, ◌++◌, ◌<◌, ◌≤◌, List, ℕ, length, IfErr, IfOk, OnOk};
 ghost use Rattle.tape_values.specs.Block.{top};
 ghost use Rattle.console_lines.specs.Console.{console_told};
-ghost use Rattle.machine_look.specs.Course.{IsConcluded, IsUnclosed, HasRoomForCounts};
+ghost use Rattle.machine_look.specs.Course.{HasRoomForCounts, IsTapeClosed, IsUnclosed, closing_text, counts_of, end_of};
 ghost use Rattle.tape_shelf.specs.FoundPart.{FillBlocks};
 ghost use Rattle.machine_look.specs.LookFault.{IsKeepFault, IsSaveFault, TakesUpNothing};
 ghost use Rattle.machine_look.specs.Save.{IsSavedAndReported, TakesUp, save_told};
 ghost use Rattle.tape_shelf.specs.SavedSteps.{closes, full};
+ghost use Rattle.tape_shelf.specs.SavedTape.{last_text};
 ghost use Rattle.tape_shelf.specs.Shelf.{ShelfStep};
 ghost use Rattle.tape_shelf.specs.ShelfAt.{HasDoneThere, shelf_at};
 ghost use Rattle.tape_shelf.specs.ShelfTold.{AreDone, HasDone};
@@ -104,10 +105,12 @@ fn conclude<S: Shelf>(
 ) -> Result<(SaveCounts, SaveEnd), LookFault>
     requires whole { length found.now ≡ 256 * full found.now }
     requires room { HasRoomForCounts options found.now course }
-    ensures ok { IfOk result (IsConcluded (record { options = options; found = found.now }) course
+    ensures counted { IfOk result (λ done. done.0 ≡ counts_of (record { options = options; found = found.now }) course) }
+    ensures ended { IfOk result (λ done. done.1 ≡ end_of course) }
+    ensures closed { OnOk result (IsTapeClosed (record { options = options; found = found.now }) course
         (shelf_at S.Shelf shelf.old) (shelf_at S.Shelf shelf.new)) }
     ensures fits { options.start < 65536 }
-    ensures fault { IfErr result (IsUnclosed (record { options = options; found = found.now }) course
+    ensures fault { IfErr result (IsUnclosed (closing_text (record { options = options; found = found.now }) course)
         (shelf_at S.Shelf shelf.old) (shelf_at S.Shelf shelf.new)) }
 {
     let words = words_of(options.range);
@@ -148,7 +151,7 @@ fn close<S: Shelf>(
     ensures ok { OnOk result (HasDoneThere (closes options.range.from (found.now ++ numbers.now) options.start)
         (shelf_at S.Shelf shelf.old) (shelf_at S.Shelf shelf.new)) }
     ensures fits { options.start < 65536 }
-    ensures fault { IfErr result (IsKeepFault options (found.now ++ numbers.now)
+    ensures fault { IfErr result (IsKeepFault (last_text options.range.from (found.now ++ numbers.now) options.start)
         (shelf_at S.Shelf shelf.old) (shelf_at S.Shelf shelf.new)) }
 {
     if found.len() + numbers.len() == 0 {

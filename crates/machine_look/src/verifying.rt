@@ -3,6 +3,7 @@ ghost use Rattle.std.specs.Prelude.{◌≡◌, IfErr, IfOk};
 ghost use Rattle.console_lines.specs.Console.{console_told};
 ghost use Rattle.machine_look.specs.LookFault.{IsVerifyFault};
 ghost use Rattle.machine_look.specs.Verify.{IsVerifyReported};
+ghost use Rattle.request_values.specs.Change.{◌⇒◌};
 
 use crate::comparing::compare_over;
 use crate::difference::count_differences;
@@ -34,12 +35,10 @@ pub fn verify<R: Reach, W: Write, O: Onlooker>(
     onlooker: &O,
 ) -> Result<VerifyEnd, LookFault>
     ensures reported { IfOk result (IsVerifyReported plan.now patience
-        (console_told R.Reach W.Write console.old out.old)
-        (console_told R.Reach W.Write console.new out.new)) }
+        (console_told R.Reach W.Write console.old out.old ⇒ console_told R.Reach W.Write console.new out.new)) }
     ensures call { R.call console.new ≡ R.call console.old }
     ensures fault { IfErr result (IsVerifyFault plan.now patience
-        (console_told R.Reach W.Write console.old out.old)
-        (console_told R.Reach W.Write console.new out.new)) }
+        (console_told R.Reach W.Write console.old out.old ⇒ console_told R.Reach W.Write console.new out.new)) }
 {
     let core = ReadingCore::of_plan(alloc, plan, patience)?;
     let words = plan.words();

@@ -9,6 +9,7 @@ use Rattle.load_devices.specs.Told.{Gains}
 use Rattle.load_devices.specs.Turns.{most_turns}
 use Rattle.reading_engine.specs.Failing.{line_fault}
 use Rattle.reading_engine.specs.Inquired.{Inquired, inquiry}
+use Rattle.request_values.specs.Change.{◌⇒◌}
 use Rattle.machine_look.specs.Differences.{differences}
 use Rattle.machine_look.specs.Look.{AsksOnce, IsLineOf}
 use Rattle.machine_look.specs.VerifyReport.{difference_lines, last_lines}
@@ -34,7 +35,7 @@ returns-in-Ok-clause-look g c =
     let all : read.inquired.0 ≡ most_turns = done_known _ c.compare-core.result.shown _ c.in-Ok.is read.inquired.2 in
     is_look_of most_turns _ _ _ (told c.in_ok-line.line).said (told c.compare-core.new.line).said (g.R.Reach.lines c.args.console.now) lines' c.end.ensures.kept
     (subst (λ n. Inquired n (inquiry c.args.core c.compare-core.result.core (Some stop)) (told c.in_ok-line.line).said (told c.compare-core.new.line).said) all i.turns)
-    (subst (λ over. IsLineOf over stop (told c.in_ok-line.line).said (told c.compare-core.new.line).said (g.R.Reach.lines c.args.console.now) lines') c.in_default.ensures.value (record {
+    (subst (λ over. IsLineOf over stop ((told c.in_ok-line.line).said ⇒ (told c.compare-core.new.line).said) (g.R.Reach.lines c.args.console.now ⇒ lines')) c.in_default.ensures.value (record {
       fresh = c.in_ok-line.ensures.fresh.nothing_said;
       last = told c.compare-core.new.line;
       said = refl;
@@ -63,7 +64,7 @@ returns-in-Err-clause-fault g c =
       last = last;
       stop = stop;
       look = is_look_of read.inquired.0 _ _ _ (told c.in_ok-line.line).said (told c.compare-core.new.line).said (g.R.Reach.lines c.args.console.now) lines' c.end.ensures.kept i.turns
-          (subst (λ over. IsLineOf over stop (told c.in_ok-line.line).said (told c.compare-core.new.line).said (g.R.Reach.lines c.args.console.now) lines') c.in_default.ensures.value (record {
+          (subst (λ over. IsLineOf over stop ((told c.in_ok-line.line).said ⇒ (told c.compare-core.new.line).said) (g.R.Reach.lines c.args.console.now ⇒ lines')) c.in_default.ensures.value (record {
             fresh = c.in_ok-line.ensures.fresh.nothing_said;
             last = told c.compare-core.new.line;
             said = refl;

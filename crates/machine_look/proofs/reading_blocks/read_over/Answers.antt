@@ -16,7 +16,8 @@ use Rattle.reading_engine.specs.declared.stop.Stop.{Stop}
 use Rattle.reading_engine.specs.declared.stop.Stop.TheVariants.{Ended}
 use Rattle.sample_looks.specs.Finding.{IsFound}
 use Rattle.sample_looks.specs.declared.finding.Finding.TheVariants.{AllStand}
-use Rattle.machine_look.specs.Behind.{addresses_behind}
+use Rattle.request_values.specs.Change.{◌⇒◌}
+use Rattle.machine_look.specs.Behind.{Saving, addresses_behind}
 use Rattle.tape_shelf.specs.SavedTape.{words_in}
 use Rattle.tape_shelf.specs.SavedSteps.{adds, full, not_all_added}
 use Rattle.tape_shelf.specs.ShelfTold.{AreDone}
@@ -32,9 +33,10 @@ returns-then-not-all_stand-clause-course g c =
     let hosts = c.requires.hosts in
     let samples = c.args.hosts.samples.items in
     let lines' = g.R.Reach.lines c.let_go.new.self in
+    let saving : Saving = record { options = c.args.options; found = c.args.found.now } in
     let whose = ap (λ (r : Reader). r.patience) hosts.looker in (
-      held_up c.args.options c.args.found.now _ _ looked.result.reader looked.result.stop looked.result.finding samples (told c.in_ok-line.line).said (told looked.new.line).said hosts.of_found
-          (are_looked_at samples c.args.options.patience c.args.hosts.looker looked.result.reader looked.result.stop looked.result.finding _ _ hosts.looker inquired.turns inquired.end
+      held_up saving _ looked.result samples ((told c.in_ok-line.line).said ⇒ (told looked.new.line).said) hosts.of_found
+          (are_looked_at samples c.args.options.patience c.args.hosts.looker looked.result ((told c.in_ok-line.line).said ⇒ (told looked.new.line).said) hosts.looker inquired.turns inquired.end
           (subst (λ (list : List WordValue). IsFound list looked.result.reader.values looked.result.stop looked.result.finding) c.deref.ensures.value looked.ensures.found)
           (subst (λ (list : List WordValue). looked.result.reader.sent ≤ reading_bound (length list) c.args.hosts.looker.patience) c.deref.ensures.value looked.ensures.bound)
           inquired.same_patience inquired.kept)
@@ -61,6 +63,7 @@ returns-in-Ok-clause-course g c =
     let hosts = c.requires.hosts in
     let options = c.args.options in
     let found = c.args.found.now in
+    let saving : Saving = record { options = options; found = found } in
     let samples = c.args.hosts.samples.items in
     let lines = g.R.Reach.lines c.args.console.now in
     let lines' = g.R.Reach.lines c.let_go-2.new.self in
@@ -71,14 +74,14 @@ returns-in-Ok-clause-course g c =
     let all : looked.result.finding ≡ AllStand = c.all_stand.ensures.0 c.if-not-all_stand.false in
     let seen = subst (λ (list : List WordValue). IsFound list looked.result.reader.values looked.result.stop looked.result.finding) c.deref.ensures.value looked.ensures.found in
     let stop_is : looked.result.stop ≡ Ended Complete = (subst (λ f. IsFound samples looked.result.reader.values looked.result.stop f) all seen).0 in
-    let s = are_looked_at samples options.patience c.args.hosts.looker looked.result.reader looked.result.stop looked.result.finding line mid hosts.looker inquired.turns inquired.end seen
+    let s = are_looked_at samples options.patience c.args.hosts.looker looked.result (line ⇒ mid) hosts.looker inquired.turns inquired.end seen
     (subst (λ (list : List WordValue). looked.result.reader.sent ≤ reading_bound (length list) c.args.hosts.looker.patience) c.deref.ensures.value looked.ensures.bound) inquired.same_patience inquired.kept in
     let begins : c.in_room-core.result ≡ begun (addresses_behind options.range found) [] (options.patience - looked.result.reader.spent) =
     c.in_room-core.ensures.begun ∙ (ap (λ (list : List ℕ). begun list [] (options.patience - c.spent.result)) hosts.addresses ∙ ap (λ n. begun (addresses_behind options.range found) [] (options.patience - n)) c.spent.ensures.value) in
     let over : read.ensures.inquired.0 ≡ most_turns = done_known _ read.result.added _ c.in-Ok.is read.ensures.inquired.2 in
     let none : g.R.Line.Line.fault_count looked.new.line ≡ g.R.Line.Line.fault_count c.in_ok-line.line =
     subst (λ (t : Stop). CountsFault (line_fault (Some t)) (g.R.Line.Line.fault_count c.in_ok-line.line) (g.R.Line.Line.fault_count looked.new.line)) stop_is inquired.counted in (
-      is_read most_turns options found _ _ looked.result.reader read.result.core c.in_room-core.result read.result.stop looked.result.stop looked.result.finding samples line mid line' c.words_of.ensures.in_order c.requires.begins c.requires.fill
+      is_read most_turns saving _ looked.result read.result.core c.in_room-core.result read.result.stop samples (line ⇒ line') mid c.words_of.ensures.in_order c.requires.begins c.requires.fill
           (subst AreAddresses hosts.addresses hosts.asked) hosts.of_found all s inquired.kept (let long = hosts.looks.long in omega (arith, long, whose)) begins
           (subst (λ n. Inquired n (inquiry c.in_room-core.result read.result.core (Some read.result.stop)) mid line') over i.turns) i.same_addresses i.same_patience i.bound i.kept
           (subst (λ asked. Gains (g.R.Reach.asked c.args.console.now) asked (asked_once (g.R.Reach.call c.args.console.now))) (sym c.let_go-2.ensures.asked) c.in_ok-line.ensures.asked)
@@ -99,6 +102,7 @@ returns-clause-fault g c =
     let hosts = c.requires.hosts in
     let options = c.args.options in
     let found = c.args.found.now in
+    let saving : Saving = record { options = options; found = found } in
     let samples = c.args.hosts.samples.items in
     let lines = g.R.Reach.lines c.args.console.now in
     let lines' = g.R.Reach.lines c.let_go-2.new.self in
@@ -109,7 +113,7 @@ returns-clause-fault g c =
     let all : looked.result.finding ≡ AllStand = c.all_stand.ensures.0 c.if-not-all_stand.false in
     let seen = subst (λ (list : List WordValue). IsFound list looked.result.reader.values looked.result.stop looked.result.finding) c.deref.ensures.value looked.ensures.found in
     let stop_is : looked.result.stop ≡ Ended Complete = (subst (λ f. IsFound samples looked.result.reader.values looked.result.stop f) all seen).0 in
-    let s = are_looked_at samples options.patience c.args.hosts.looker looked.result.reader looked.result.stop looked.result.finding line mid hosts.looker inquired.turns inquired.end seen
+    let s = are_looked_at samples options.patience c.args.hosts.looker looked.result (line ⇒ mid) hosts.looker inquired.turns inquired.end seen
     (subst (λ (list : List WordValue). looked.result.reader.sent ≤ reading_bound (length list) c.args.hosts.looker.patience) c.deref.ensures.value looked.ensures.bound) inquired.same_patience inquired.kept in
     let begins : c.in_room-core.result ≡ begun (addresses_behind options.range found) [] (options.patience - looked.result.reader.spent) =
     c.in_room-core.ensures.begun ∙ (ap (λ (list : List ℕ). begun list [] (options.patience - c.spent.result)) hosts.addresses ∙ ap (λ n. begun (addresses_behind options.range found) [] (options.patience - n)) c.spent.ensures.value) in
@@ -121,7 +125,7 @@ returns-clause-fault g c =
       read.result.stop,
       read.ensures.inquired.0,
       read.ensures.inquired.1,
-      is_read read.ensures.inquired.0 options found _ _ looked.result.reader read.result.core c.in_room-core.result read.result.stop looked.result.stop looked.result.finding samples line mid line' c.words_of.ensures.in_order c.requires.begins c.requires.fill
+      is_read read.ensures.inquired.0 saving _ looked.result read.result.core c.in_room-core.result read.result.stop samples (line ⇒ line') mid c.words_of.ensures.in_order c.requires.begins c.requires.fill
           (subst AreAddresses hosts.addresses hosts.asked) hosts.of_found all s inquired.kept (let long = hosts.looks.long in omega (arith, long, whose)) begins
           i.turns i.same_addresses i.same_patience i.bound i.kept
           (subst (λ asked. Gains (g.R.Reach.asked c.args.console.now) asked (asked_once (g.R.Reach.call c.args.console.now))) (sym c.let_go-2.ensures.asked) c.in_ok-line.ensures.asked)

@@ -16,9 +16,9 @@ returns-in_err-put-clause-fault g c =
     let text : c.deref.result.now ≡ last_text from numbers c.args.options.start =
     c.deref.ensures.0 ∙ (c.last_text.ensures ∙ last_behind from (c.from.result + 2 * length c.args.found.now) c.args.found.now c.args.numbers.now c.args.options.start c.requires.whole (ap (λ f. f + 2 * length c.args.found.now) c.from.ensures.value)) in
     error_is c.from_residual.result (fault_of_shelf c.in_err-put.field-0.0)
-    (IsKeepFault c.args.options numbers (shelf_at g.S.Shelf c.args.shelf.now) (shelf_at g.S.Shelf c.put.new.self))
+    (IsKeepFault (last_text from numbers c.args.options.start) (shelf_at g.S.Shelf c.args.shelf.now) (shelf_at g.S.Shelf c.put.new.self))
     c.from_residual.ensures.1
-    (not_put c.args.options numbers c.deref.result.now c.in_err-put.field-0.0 (shelf_at g.S.Shelf c.args.shelf.now) (shelf_at g.S.Shelf c.put.new.self)
+    (not_put (last_text from numbers c.args.options.start) c.deref.result.now c.in_err-put.field-0.0 (shelf_at g.S.Shelf c.args.shelf.now) (shelf_at g.S.Shelf c.put.new.self)
     text c.in_err-put.ensures.fault c.in_err-put.ensures.done)
 
 pub returns-clause-ok : goal.returns-clause-ok

@@ -1,12 +1,13 @@
-use Rattle.std.proofs.Common.{◌∙◌, ℕ, List, sym, subst}
+use Rattle.std.proofs.Common.{◌≡◌, ◌∙◌, ℕ, List, sym, subst}
 use Rattle.std.specs.Io.KnownBytes.{Appends}
 use Rattle.std.proofs.KnownBytes.{Keeps-refl}
 use Rattle.byte_io.specs.Output.{WritesAllBut}
 use Rattle.console_lines.specs.Console.{console_told}
-use Rattle.machine_look.specs.Course.{HasRoomForCounts, IsConcluded, IsCourse, IsUnclosed}
+use Rattle.machine_look.specs.Behind.{Saving}
+use Rattle.machine_look.specs.Course.{HasRoomForCounts, IsCourse, IsTapeClosed, IsUnclosed, closing_text, counts_of}
 use Rattle.machine_look.specs.declared.look_fault.LookFault.TheVariants.{WriteOutput}
 use Rattle.machine_look.specs.LookFault.{IsReadFault, IsSaveFault}
-use Rattle.machine_look.specs.Save.{SaveTold, Saving, console_of, save_at, save_told}
+use Rattle.machine_look.specs.Save.{SaveTold, console_of, save_at, save_told}
 use Rattle.tape_shelf.specs.ShelfAt.{ShelfAt, shelf_at}
 use Rattle.tape_shelf.proofs.OnShelf.{error_is}
 use Rattle.machine_look.proofs.Faults.{not_read}
@@ -48,7 +49,7 @@ returns-in_err-counts-clause-fault g c =
     let mid' : ShelfAt = shelf_at g.S.Shelf c.read_over.new.shelf in
     let course = subst (λ (f : List ℕ). IsCourse (record { options = c.args.options; found = f }) (save_at g.S.Shelf g.R.Reach c.take_up.new.shelf c.args.console.now)
     (save_at g.S.Shelf g.R.Reach c.read_over.new.shelf c.read_over.new.console) c.in_ok-course.course) c.deref-2.ensures.value c.in_ok-course.ensures.course in
-    let unclosed = subst (λ (f : List ℕ). IsUnclosed (record { options = c.args.options; found = f }) c.in_ok-course.course mid' (shelf_at g.S.Shelf c.conclude.new.shelf) c.in_err-counts.field-0.0) c.deref-3.ensures.value c.in_err-counts.ensures.fault in
+    let unclosed = subst (λ (f : List ℕ). IsUnclosed (closing_text (record { options = c.args.options; found = f }) c.in_ok-course.course) mid' (shelf_at g.S.Shelf c.conclude.new.shelf) c.in_err-counts.field-0.0) c.deref-3.ensures.value c.in_err-counts.ensures.fault in
     error_is c.from_residual-in_err-counts.result c.in_err-counts.field-0.0 (IsSaveFault c.args.options before after) c.from_residual-in_err-counts.ensures.1
     (not_concluded saving mid mid' taken.0 taken.2 taken.1 before after (g.S.Shelf.is_opened_as c.conclude.new.shelf) taken.4 taken.3 c.in_ok-course.course c.in_err-counts.field-0.0 course unclosed (Keeps-refl (g.W.Write.contents c.args.out.now)))
 
@@ -62,9 +63,10 @@ returns-in_err-write_and_flush-clause-fault g c =
     let mid' : ShelfAt = shelf_at g.S.Shelf c.read_over.new.shelf in
     let course = subst (λ (f : List ℕ). IsCourse (record { options = c.args.options; found = f }) (save_at g.S.Shelf g.R.Reach c.take_up.new.shelf c.args.console.now)
     (save_at g.S.Shelf g.R.Reach c.read_over.new.shelf c.read_over.new.console) c.in_ok-course.course) c.deref-2.ensures.value c.in_ok-course.ensures.course in
-    let closed = subst (λ (f : List ℕ). IsConcluded (record { options = c.args.options; found = f }) c.in_ok-course.course mid' (shelf_at g.S.Shelf c.conclude.new.shelf) (c.in_ok-counts.counts, c.in_ok-counts.end)) c.deref-3.ensures.value c.in_ok-counts.ensures.ok in
+    let counted = subst (λ (f : List ℕ). c.in_ok-counts.counts ≡ counts_of (record { options = c.args.options; found = f }) c.in_ok-course.course) c.deref-3.ensures.value c.in_ok-counts.ensures.counted in
+    let closed = subst (λ (f : List ℕ). IsTapeClosed (record { options = c.args.options; found = f }) c.in_ok-course.course mid' (shelf_at g.S.Shelf c.conclude.new.shelf)) c.deref-3.ensures.value c.in_ok-counts.ensures.closed in
     let over = concluded saving mid mid' taken.0 taken.2 taken.1 before after (g.S.Shelf.is_opened_as c.conclude.new.shelf) taken.4 taken.3 c.in_ok-course.course (c.in_ok-counts.counts, c.in_ok-counts.end) c.args.options.range.in_order c.conclude.ensures.fits
-    c.in_ok-found.ensures.found course closed in
+    c.in_ok-found.ensures.found course counted c.in_ok-counts.ensures.ended closed in
     let text = c.deref-4.ensures.0 ∙ c.save_report.ensures in
     error_is c.from_residual-in_err-write_and_flush.result WriteOutput (IsSaveFault c.args.options before after) c.from_residual-in_err-write_and_flush.ensures.1 (record {
       counts = c.in_ok-counts.counts;
@@ -84,11 +86,12 @@ returns-clause-reported g c =
     let mid' : ShelfAt = shelf_at g.S.Shelf c.read_over.new.shelf in
     let course = subst (λ (f : List ℕ). IsCourse (record { options = c.args.options; found = f }) (save_at g.S.Shelf g.R.Reach c.take_up.new.shelf c.args.console.now)
     (save_at g.S.Shelf g.R.Reach c.read_over.new.shelf c.read_over.new.console) c.in_ok-course.course) c.deref-2.ensures.value c.in_ok-course.ensures.course in
-    let closed = subst (λ (f : List ℕ). IsConcluded (record { options = c.args.options; found = f }) c.in_ok-course.course mid' (shelf_at g.S.Shelf c.conclude.new.shelf) (c.in_ok-counts.counts, c.in_ok-counts.end)) c.deref-3.ensures.value c.in_ok-counts.ensures.ok in
+    let counted = subst (λ (f : List ℕ). c.in_ok-counts.counts ≡ counts_of (record { options = c.args.options; found = f }) c.in_ok-course.course) c.deref-3.ensures.value c.in_ok-counts.ensures.counted in
+    let closed = subst (λ (f : List ℕ). IsTapeClosed (record { options = c.args.options; found = f }) c.in_ok-course.course mid' (shelf_at g.S.Shelf c.conclude.new.shelf)) c.deref-3.ensures.value c.in_ok-counts.ensures.closed in
     let text = c.deref-4.ensures.0 ∙ c.save_report.ensures in
     record {
       counts = c.in_ok-counts.counts;
       over = concluded saving mid mid' taken.0 taken.2 taken.1 before after (g.S.Shelf.is_opened_as c.conclude.new.shelf) taken.4 taken.3 c.in_ok-course.course (c.in_ok-counts.counts, c.in_ok-counts.end) c.args.options.range.in_order c.conclude.ensures.fits
-          c.in_ok-found.ensures.found course closed;
+          c.in_ok-found.ensures.found course counted c.in_ok-counts.ensures.ended closed;
       reported = subst (Appends (g.W.Write.contents c.args.out.now) (g.W.Write.contents c.write_and_flush.new.out)) text c.in_ok-write_and_flush.ensures.ok;
     }

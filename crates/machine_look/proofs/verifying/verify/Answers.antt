@@ -7,6 +7,7 @@ use Rattle.load_devices.specs.Turns.{most_turns}
 use Rattle.tape_image.specs.Word.{WordValue}
 use Rattle.machine_look.specs.declared.look_fault.LookFault.TheVariants.{WriteOutput, Memory}
 use Rattle.console_lines.specs.Console.{console_told}
+use Rattle.request_values.specs.Change.{◌⇒◌}
 use Rattle.machine_look.specs.LookFault.{IsVerifyFault}
 use Rattle.machine_look.specs.Differences.{differences}
 use Rattle.machine_look.specs.VerifyReport.{difference_lines, last_lines, verify_end}
@@ -21,7 +22,7 @@ returns-in_err-core-clause-reported g c = no_value c.from_residual.result _ _ c.
 pub returns-in_err-core-clause-fault : goal.returns-in_err-core-clause-fault
 returns-in_err-core-clause-fault g c =
     error_is c.from_residual.result Memory
-    (IsVerifyFault c.args.plan.now c.args.patience (console_told g.R.Reach g.W.Write c.args.console.now c.args.out.now) (console_told g.R.Reach g.W.Write c.args.console.now c.args.out.now))
+    (IsVerifyFault c.args.plan.now c.args.patience (console_told g.R.Reach g.W.Write c.args.console.now c.args.out.now ⇒ console_told g.R.Reach g.W.Write c.args.console.now c.args.out.now))
     c.from_residual.ensures.1 (refl, refl, Keeps-refl (g.W.Write.contents c.args.out.now))
 
 pub returns-in_err-core-2-clause-reported : goal.returns-in_err-core-2-clause-reported
@@ -31,8 +32,8 @@ pub returns-in_err-core-2-clause-fault : goal.returns-in_err-core-2-clause-fault
 returns-in_err-core-2-clause-fault g c =
     let before = console_told g.R.Reach g.W.Write c.args.console.now c.args.out.now in
     let after = console_told g.R.Reach g.W.Write c.compare_over.new.console c.compare_over.new.out in
-    error_is c.from_residual-in_err-core-2.result c.in_err-core-2.field-0.0 (IsVerifyFault c.args.plan.now c.args.patience before after) c.from_residual-in_err-core-2.ensures.1
-    (compare_fault c.args.plan.now c.args.patience c.words-words.result.now c.in_ok-core.core before after c.in_err-core-2.field-0.0 c.words-words.ensures.value c.in_ok-core.ensures.begun c.in_err-core-2.ensures.fault)
+    error_is c.from_residual-in_err-core-2.result c.in_err-core-2.field-0.0 (IsVerifyFault c.args.plan.now c.args.patience (before ⇒ after)) c.from_residual-in_err-core-2.ensures.1
+    (compare_fault c.args.plan.now c.args.patience c.words-words.result.now c.in_ok-core.core (before ⇒ after) c.in_err-core-2.field-0.0 c.words-words.ensures.value c.in_ok-core.ensures.begun c.in_err-core-2.ensures.fault)
 
 pub returns-in_err-write_and_flush-clause-reported : goal.returns-in_err-write_and_flush-clause-reported
 returns-in_err-write_and_flush-clause-reported g c = no_value c.from_residual-in_err-write_and_flush.result _ _ c.from_residual-in_err-write_and_flush.ensures.1
@@ -53,7 +54,7 @@ returns-in_err-write_and_flush-clause-fault g c =
     let shown = subst (λ (words : List WordValue). Appends before.out (g.W.Write.contents c.compare_over.new.out) (difference_lines words last.values)) c.words-words.ensures.value c.in_ok-core-2.ensures.shown in
     let front = front_behind before.out (g.W.Write.contents c.compare_over.new.out) after.out (difference_lines plan.words last.values) (last_lines (length plan.words) last (length (differences plan.words last.values)) stop) shown
     (subst (λ (t : List ℕ). WritesPrefix (g.W.Write.contents c.compare_over.new.out) after.out t) text c.in_err-write_and_flush.ensures.err) in
-    error_is c.from_residual-in_err-write_and_flush.result WriteOutput (IsVerifyFault plan c.args.patience before after) c.from_residual-in_err-write_and_flush.ensures.1 (record {
+    error_is c.from_residual-in_err-write_and_flush.result WriteOutput (IsVerifyFault plan c.args.patience (before ⇒ after)) c.from_residual-in_err-write_and_flush.ensures.1 (record {
       turns = most_turns;
       few = omega arith;
       last = last;

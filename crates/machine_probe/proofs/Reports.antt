@@ -13,6 +13,7 @@ use Rattle.probe_report.specs.declared.probe_end.ProbeEnd.{ProbeEnd}
 use Rattle.probe_report.specs.Ending.{probe_end}
 use Rattle.probe_report.specs.Notes.{Noted}
 use Rattle.probe_report.specs.ProbeText.{probe_text}
+use Rattle.request_values.specs.Change.{Change, ◌⇒◌}
 use Rattle.reading_core.specs.Addresses.{IsAddress}
 use Rattle.tape_values.specs.Told.{IsAsTold}
 use Rattle.machine_probe.specs.declared.probe_options.ProbeOptions.{ProbeOptions}
@@ -20,7 +21,7 @@ use Rattle.machine_probe.specs.Follow.{IsProbe}
 use Rattle.machine_probe.specs.Noted.{AreNotesSince}
 use Rattle.console_lines.specs.Console.{ConsoleTold}
 use Rattle.load_devices.specs.Devices.{line_told}
-use Rattle.machine_probe.specs.Probe.{IsProbeCutShort, IsReport, IsReportOver, IsProbeReported, IsProbeReportedOver}
+use Rattle.machine_probe.specs.Probe.{IsProbeCutShort, IsReport, IsProbeReported, IsProbeReportedOver, OverLine}
 use Rattle.machine_probe.specs.ProbeFault.{WayTold, way_of, IsProbeFault, IsUnreported, IsWanting, IsWantOfMemory}
 use Rattle.machine_probe.specs.declared.probe_fault.ProbeFault.{ProbeFault}
 use Rattle.machine_probe.specs.declared.probe_fault.ProbeFault.TheVariants.{Connect, Memory}
@@ -30,7 +31,7 @@ use Rattle.machine_probe.proofs.OneLine.{believes_over}
 
 report_is : (options : ProbeOptions) (line line' : Option (List Item)) (f : Findings) (notes : Noted) (pace : Pace) (text : List ℕ) (end : ProbeEnd) →
     IsAddress options.address → options.patience < 2 ^ 32 → IsAsTold line [] → OnLine (IsProbe options f) line line' → AreNotesSince line line' notes →
-    text ≡ probe_text f notes pace → end ≡ probe_end f notes.prompt → IsReport options line line' text end
+    text ≡ probe_text f notes pace → end ≡ probe_end f notes.prompt → IsReport options (line ⇒ line') text end
 report_is options line line' f notes pace text end address long fresh runs are put is = record {
   f = f;
   notes = notes;
@@ -51,7 +52,7 @@ report_is options line line' f notes pace text end address long fresh runs are p
 -- the same of a line that was noted
 pub report_from : (options : ProbeOptions) (line line' first : Option (List Item)) (f : Findings) (notes : Noted) (pace : Pace) (text : List ℕ) (end : ProbeEnd) →
     IsAddress options.address → options.patience < 2 ^ 32 → IsAsTold line [] → line ≡ first → OnLine (IsProbe options f) line line' → AreNotesSince first line' notes →
-    text ≡ probe_text f notes pace → end ≡ probe_end f notes.prompt → IsReport options line line' text end
+    text ≡ probe_text f notes pace → end ≡ probe_end f notes.prompt → IsReport options (line ⇒ line') text end
 report_from options line line' first f notes pace text end address long fresh opening runs are put is =
     report_is options line line' f notes pace text end address long fresh runs
     (subst (λ (o : Option (List Item)). AreNotesSince o line' notes) (sym opening) are) put is
@@ -59,16 +60,16 @@ report_from options line line' first f notes pace text end address long fresh op
 -- ---- what is written of it
 
 pub over_of : {L : Type 0} (tell : Line L) (options : ProbeOptions) (before after : ConsoleTold) (text written : List ℕ) (end : ProbeEnd) →
-    Gains before.asked after.asked (asked_once before.call) → IsReportOver tell options before.lines after.lines text end → written ≡ text → Appends before.out after.out written →
-    IsProbeReportedOver tell options before after end
+    Gains before.asked after.asked (asked_once before.call) → OverLine tell (before.lines ⇒ after.lines) (λ line. IsReport options line text end) → written ≡ text → Appends before.out after.out written →
+    IsProbeReportedOver tell options (before ⇒ after) end
 over_of {L} tell options before after text written end asks (line, last, given, report) is appended =
     (line, last, given, record { asked = asks; text = text; report = report; reported = subst (Appends before.out after.out) is appended })
 
-pub some_of : {L : Type 0} (tell : Line L) (options : ProbeOptions) (before after : ConsoleTold) (end : ProbeEnd) → IsProbeReportedOver tell options before after end → IsProbeReported options before after end
+pub some_of : {L : Type 0} (tell : Line L) (options : ProbeOptions) (before after : ConsoleTold) (end : ProbeEnd) → IsProbeReportedOver tell options (before ⇒ after) end → IsProbeReported options before after end
 some_of {L} tell options before after end (line, last, given, reported) = (tell.told line, line_told tell last, given, reported)
 
 pub cut_of : {L : Type 0} (tell : Line L) (options : ProbeOptions) (before after : ConsoleTold) (text written : List ℕ) (end : ProbeEnd) →
-    Gains before.asked after.asked (asked_once before.call) → IsReportOver tell options before.lines after.lines text end → written ≡ text → WritesPrefix before.out after.out written →
+    Gains before.asked after.asked (asked_once before.call) → OverLine tell (before.lines ⇒ after.lines) (λ line. IsReport options line text end) → written ≡ text → WritesPrefix before.out after.out written →
     IsProbeCutShort options before after
 cut_of {L} tell options before after text written end asks (line, last, given, report) is (left, cut) = (
   tell.told line,
@@ -79,19 +80,19 @@ cut_of {L} tell options before after text written end asks (line, last, given, r
 
 -- ---- what fails before there is a report
 
-some_wanting : {L : Type 0} (tell : Line L) (options : ProbeOptions) (before after : WayTold) → IsWanting tell options before after → IsWantOfMemory options before after
-some_wanting {L} tell options before after (inl unasked) = inl unasked
-some_wanting {L} tell options before after (inr (line, last, broken)) = inr (tell.told line, line_told tell last, broken)
+some_wanting : {L : Type 0} (tell : Line L) (options : ProbeOptions) (way : Change WayTold) → IsWanting tell options way → IsWantOfMemory options way
+some_wanting {L} tell options way (inl unasked) = inl unasked
+some_wanting {L} tell options way (inr (line, last, broken)) = inr (tell.told line, line_told tell last, broken)
 
 -- a fault that came before there was a report
-pub unreported_is : {L : Type 0} (tell : Line L) (options : ProbeOptions) (before after : ConsoleTold) (fault : ProbeFault) → after.out ≡ before.out → IsUnreported tell options (way_of before) (way_of after) fault →
+pub unreported_is : {L : Type 0} (tell : Line L) (options : ProbeOptions) (before after : ConsoleTold) (fault : ProbeFault) → after.out ≡ before.out → IsUnreported tell options (way_of before ⇒ way_of after) fault →
     IsProbeFault options before after fault
 unreported_is {L} tell options before after Connect same (asked, lines) = (asked, lines, subst (Keeps before.out) (sym same) (Keeps-refl before.out))
-unreported_is {L} tell options before after Memory same is = (some_wanting tell options (way_of before) (way_of after) is, subst (Keeps before.out) (sym same) (Keeps-refl before.out))
+unreported_is {L} tell options before after Memory same is = (some_wanting tell options (way_of before ⇒ way_of after) is, subst (Keeps before.out) (sym same) (Keeps-refl before.out))
 unreported_is {L} tell options before after other same is = absurd is
 
 -- where memory is wanting
-pub wanting_is : {L : Type 0} (tell : Line L) (options : ProbeOptions) (before after : WayTold) (fault : ProbeFault) → IsUnreported tell options before after fault → fault ≡ Memory → IsWanting tell options before after
-wanting_is {L} tell options before after Memory is same = is
-wanting_is {L} tell options before after Connect is same = absurd (cc same)
-wanting_is {L} tell options before after other is same = absurd is
+pub wanting_is : {L : Type 0} (tell : Line L) (options : ProbeOptions) (way : Change WayTold) (fault : ProbeFault) → IsUnreported tell options way fault → fault ≡ Memory → IsWanting tell options way
+wanting_is {L} tell options way Memory is same = is
+wanting_is {L} tell options way Connect is same = absurd (cc same)
+wanting_is {L} tell options way other is same = absurd is

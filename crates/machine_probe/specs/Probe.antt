@@ -15,6 +15,7 @@ use Rattle.probe_report.specs.declared.probe_end.ProbeEnd.{ProbeEnd}
 use Rattle.probe_report.specs.Ending.{probe_end}
 use Rattle.probe_report.specs.Notes.{Noted}
 use Rattle.probe_report.specs.ProbeText.{probe_text}
+use Rattle.request_values.specs.Change.{Change, ◌⇒◌}
 use Rattle.tape_values.specs.Told.{IsAsTold}
 use Rattle.machine_probe.specs.declared.probe_options.ProbeOptions.{ProbeOptions}
 use Rattle.machine_probe.specs.Belief.{AreBelievable, AreBelievableOver}
@@ -22,59 +23,59 @@ use Rattle.machine_probe.specs.Follow.{IsProbe}
 use Rattle.machine_probe.specs.Noted.{AreNotesSince}
 
 -- the runs of a probe were made over a line on which nothing was said before: these are their findings, and what was noted
-pub record IsProbed (options : ProbeOptions) (line line' : Option (List Item)) (f : Findings) (notes : Noted) : Type 0 where
-  pub fresh : IsAsTold line []
+pub record IsProbed (options : ProbeOptions) (line : Change (Option (List Item))) (f : Findings) (notes : Noted) : Type 0 where
+  pub fresh : IsAsTold line.before []
   -- what was said in each run, and nothing else was said
   pub parts : List (List Item)
   pub runs : IsProbe options f parts
-  pub on_line : Gains line line' (in_a_row parts)
+  pub on_line : Gains line.before line.after (in_a_row parts)
   pub believed : AreBelievable f parts
   pub believed_over : AreBelievableOver f parts
   -- all that was said was noted
-  pub notes_are : AreNotesSince line line' notes
+  pub notes_are : AreNotesSince line.before line.after notes
 
 -- a text is the report of a probe over a line that told this and then that, and so the probe ended
-pub record IsReport (options : ProbeOptions) (line line' : Option (List Item)) (text : List ℕ) (end : ProbeEnd) : Type 0 where
+pub record IsReport (options : ProbeOptions) (line : Change (Option (List Item))) (text : List ℕ) (end : ProbeEnd) : Type 0 where
   pub f : Findings
   pub notes : Noted
   pub pace : Pace
-  pub probed : IsProbed options line line' f notes
+  pub probed : IsProbed options line f notes
   pub text_is : text ≡ probe_text f notes pace
   pub end_is : end ≡ probe_end f notes.prompt
 
 -- the console was asked for once, and the report was written
-pub record IsReportedOn (options : ProbeOptions) (line line' : Option (List Item)) (before after : ConsoleTold) (end : ProbeEnd) : Type 0 where
-  pub asked : Gains before.asked after.asked (asked_once before.call)
+pub record IsReportedOn (options : ProbeOptions) (line : Change (Option (List Item))) (console : Change ConsoleTold) (end : ProbeEnd) : Type 0 where
+  pub asked : Gains console.before.asked console.after.asked (asked_once console.before.call)
   pub text : List ℕ
-  pub report : IsReport options line line' text end
-  pub reported : Appends before.out after.out text
+  pub report : IsReport options line text end
+  pub reported : Appends console.before.out console.after.out text
 
 -- the same, with a report that may be cut short
-pub record IsCutShortOn (options : ProbeOptions) (line line' : Option (List Item)) (before after : ConsoleTold) : Type 0 where
-  pub asked : Gains before.asked after.asked (asked_once before.call)
+pub record IsCutShortOn (options : ProbeOptions) (line : Change (Option (List Item))) (console : Change ConsoleTold) : Type 0 where
+  pub asked : Gains console.before.asked console.after.asked (asked_once console.before.call)
   pub text : List ℕ
   pub end : ProbeEnd
-  pub report : IsReport options line line' text end
+  pub report : IsReport options line text end
   pub missing : List ℕ
-  pub reported : WritesAllBut before.out after.out text missing
+  pub reported : WritesAllBut console.before.out console.after.out text missing
 
 -- over a line on which nothing more was said until it was given back
 abbrev pub IsProbeReported : ProbeOptions → ConsoleTold → ConsoleTold → ProbeEnd → Type 0
 IsProbeReported options before after end =
-    (line : Option (List Item)) × (last : LineTold) × Gains before.lines after.lines (last ∷ []) × IsReportedOn options line last.said before after end
+    (line : Option (List Item)) × (last : LineTold) × Gains before.lines after.lines (last ∷ [])
+    × IsReportedOn options (line ⇒ last.said) (before ⇒ after) end
 
 -- the same, with a report that may be cut short
 abbrev pub IsProbeCutShort : ProbeOptions → ConsoleTold → ConsoleTold → Type 0
 IsProbeCutShort options before after =
-    (line : Option (List Item)) × (last : LineTold) × Gains before.lines after.lines (last ∷ []) × IsCutShortOn options line last.said before after
+    (line : Option (List Item)) × (last : LineTold) × Gains before.lines after.lines (last ∷ []) × IsCutShortOn options (line ⇒ last.said) (before ⇒ after)
 
--- over a line of this type, which tells what was said on it
-abbrev pub IsProbeReportedOver : {L : Type 0} → Line L → ProbeOptions → ConsoleTold → ConsoleTold → ProbeEnd → Type 0
-IsProbeReportedOver {L} tell options before after end =
-    (line : L) × (last : L) × Gains before.lines after.lines (line_told tell last ∷ [])
-    × IsReportedOn options (tell.told line) (tell.told last) before after end
+-- a line of this type was given back, and this holds of what it told before, and of what it tells since
+abbrev pub OverLine : {L : Type 0} → Line L → Change (Option (List LineTold)) → (Change (Option (List Item)) → Type 0) → Type 0
+OverLine {L} tell lines holds =
+    (line : L) × (last : L) × Gains lines.before lines.after (line_told tell last ∷ []) × holds (tell.told line ⇒ tell.told last)
 
--- the same of the report alone, between these lines that were given back and those
-abbrev pub IsReportOver : {L : Type 0} → Line L → ProbeOptions → Option (List LineTold) → Option (List LineTold) → List ℕ → ProbeEnd → Type 0
-IsReportOver {L} tell options lines lines' text end =
-    (line : L) × (last : L) × Gains lines lines' (line_told tell last ∷ []) × IsReport options (tell.told line) (tell.told last) text end
+-- a probe was reported over a line of this type
+abbrev pub IsProbeReportedOver : {L : Type 0} → Line L → ProbeOptions → Change ConsoleTold → ProbeEnd → Type 0
+IsProbeReportedOver {L} tell options console end =
+    OverLine tell (console.before.lines ⇒ console.after.lines) (λ line. IsReportedOn options line console end)

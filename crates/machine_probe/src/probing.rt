@@ -6,10 +6,11 @@ ghost use Rattle.tape_values.specs.Told.{IsAsTold};
 ghost use Rattle.reading_core.specs.Addresses.{IsAddress};
 ghost use Rattle.console_lines.specs.Console.{console_told};
 ghost use Rattle.machine_probe.specs.Follow.{IsBrokenOff};
-ghost use Rattle.machine_probe.specs.Probe.{IsReport, IsReportOver, IsProbeReported, IsProbeReportedOver};
+ghost use Rattle.machine_probe.specs.Probe.{IsReport, IsProbeReported, IsProbeReportedOver, OverLine};
 ghost use Rattle.machine_probe.specs.ProbeFault.{way_told, IsProbeFault, IsUnreported, IsWanting};
 ghost use Rattle.machine_probe.specs.Rooms.{AreLookers};
 ghost use Rattle.machine_probe.specs.Runs.{OnLine};
+ghost use Rattle.request_values.specs.Change.{◌⇒◌};
 
 use crate::noted_line::{FirstTold, NotedLine};
 use crate::probe_fault::ProbeFault;
@@ -48,14 +49,13 @@ pub fn probe<R: Reach, W: Write, C: Clock>(
         (console_told R.Reach W.Write console.old out.old)
         (console_told R.Reach W.Write console.new out.new)) }
     ensures over_line { IfOk result (IsProbeReportedOver R.Line.Line options
-        (console_told R.Reach W.Write console.old out.old)
-        (console_told R.Reach W.Write console.new out.new)) }
+        (console_told R.Reach W.Write console.old out.old ⇒ console_told R.Reach W.Write console.new out.new)) }
     ensures call { R.call console.new ≡ R.call console.old }
     ensures fault { IfErr result (IsProbeFault options
         (console_told R.Reach W.Write console.old out.old)
         (console_told R.Reach W.Write console.new out.new)) }
     ensures wanting { IfErr result (λ fault. fault ≡ ProbeFault.Memory →
-        IsWanting R.Line.Line options (way_told R.Reach console.old) (way_told R.Reach console.new)) }
+        IsWanting R.Line.Line options (way_told R.Reach console.old ⇒ way_told R.Reach console.new)) }
 {
     let mut report = Report::new();
     let end = gather(alloc, options, console, clock, &mut report)?;
@@ -74,10 +74,11 @@ fn gather<R: Reach, C: Clock>(
 ) -> Result<ProbeEnd, ProbeFault>
     requires address { IsAddress options.address }
     requires empty { report.old.items ≡ [] }
-    ensures report { IfOk result (IsReportOver R.Line.Line options (R.lines console.old) (R.lines console.new) report.new.items) }
+    ensures report { IfOk result (λ end. OverLine R.Line.Line (R.lines console.old ⇒ R.lines console.new)
+        (λ line. IsReport options line report.new.items end)) }
     ensures asked { OnOk result (Gains (R.asked console.old) (R.asked console.new) (asked_once (R.call console.old))) }
     ensures call { R.call console.new ≡ R.call console.old }
-    ensures fault { IfErr result (IsUnreported R.Line.Line options (way_told R.Reach console.old) (way_told R.Reach console.new)) }
+    ensures fault { IfErr result (IsUnreported R.Line.Line options (way_told R.Reach console.old ⇒ way_told R.Reach console.new)) }
 {
     let lookers = Lookers::new(alloc, options)?;
     let line = console.reach()?;
@@ -106,7 +107,7 @@ fn report_noted<L: Line, C: Clock, E: FirstTold>(
     requires opening { L.told line ≡ E.told }
     requires fresh { IsAsTold (L.told line) [] }
     requires empty { report.old.items ≡ [] }
-    ensures report { IfOk result.0 (IsReport options (L.told line) (L.told result.1) report.new.items) }
+    ensures report { IfOk result.0 (IsReport options (L.told line ⇒ L.told result.1) report.new.items) }
     ensures wanting { OnErr result.0 (OnLine (IsBrokenOff options) (L.told line) (L.told result.1)) }
 {
     let mut noted: NotedLine<'_, L, C, E> = NotedLine::new(line, clock);
@@ -127,7 +128,7 @@ fn report_runs<L: Line, C: Clock, E: FirstTold>(
     requires opening { L.told line.old ≡ E.told }
     requires fresh { IsAsTold (L.told line.old) [] }
     requires empty { report.old.items ≡ [] }
-    ensures report { IfOk result (IsReport options (L.told line.old) (L.told line.new) report.new.items) }
+    ensures report { IfOk result (IsReport options (L.told line.old ⇒ L.told line.new) report.new.items) }
     ensures wanting { OnErr result (OnLine (IsBrokenOff options) (L.told line.old) (L.told line.new)) }
 {
     let findings = make_runs(alloc, lookers, options, line)?;

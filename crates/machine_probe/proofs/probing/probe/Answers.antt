@@ -2,6 +2,7 @@ use Rattle.std.proofs.Common.{◌≡◌, refl}
 use Rattle.machine_probe.specs.declared.probe_fault.ProbeFault.{ProbeFault}
 use Rattle.machine_probe.specs.declared.probe_fault.ProbeFault.TheVariants.{Memory, WriteOutput}
 use Rattle.console_lines.specs.Console.{console_told}
+use Rattle.request_values.specs.Change.{◌⇒◌}
 use Rattle.machine_probe.specs.ProbeFault.{IsProbeFault, IsWanting, way_told}
 use Rattle.machine_probe.proofs.Faults.{error_is, no_value}
 use Rattle.machine_probe.proofs.Reports.{cut_of, over_of, some_of, unreported_is, wanting_is}
@@ -51,11 +52,11 @@ returns-in_err-end-clause-wanting g c =
     let before = way_told g.R.Reach c.args.console.now in
     let after = way_told g.R.Reach c.gather.new.console in
     error_is c.from_residual.result c.in_err-end.field-0.0
-    (λ (fault : ProbeFault). fault ≡ Memory → IsWanting g.R.Line.Line c.args.options before after)
-    c.from_residual.ensures.1 (wanting_is g.R.Line.Line c.args.options before after c.in_err-end.field-0.0 c.in_err-end.ensures.fault)
+    (λ (fault : ProbeFault). fault ≡ Memory → IsWanting g.R.Line.Line c.args.options (before ⇒ after))
+    c.from_residual.ensures.1 (wanting_is g.R.Line.Line c.args.options (before ⇒ after) c.in_err-end.field-0.0 c.in_err-end.ensures.fault)
 
 pub returns-in_err-write_and_flush-clause-wanting : goal.returns-in_err-write_and_flush-clause-wanting
 returns-in_err-write_and_flush-clause-wanting g c =
     error_is c.from_residual-in_err-write_and_flush.result WriteOutput
-    (λ (fault : ProbeFault). fault ≡ Memory → IsWanting g.R.Line.Line c.args.options (way_told g.R.Reach c.args.console.now) (way_told g.R.Reach c.gather.new.console))
+    (λ (fault : ProbeFault). fault ≡ Memory → IsWanting g.R.Line.Line c.args.options (way_told g.R.Reach c.args.console.now ⇒ way_told g.R.Reach c.gather.new.console))
     c.from_residual-in_err-write_and_flush.ensures.1 (λ is. absurd (cc is))

@@ -6,22 +6,22 @@ use Rattle.load_devices.specs.Failures.{one_more_in_32}
 use Rattle.load_devices.specs.declared.onlooker.Sight.{Sight}
 use Rattle.load_progress.specs.Pace.{seconds_left}
 use Rattle.load_progress.specs.declared.showing.Showing.{Showing}
-use Rattle.load_progress.specs.declared.tally.Mark.{Mark}
-use Rattle.load_progress.specs.declared.tally.Tally.{Tally}
-use Rattle.load_progress.specs.declared.tally.Way.{Way}
-use Rattle.load_progress.specs.declared.tally.Way.TheVariants.{ByKeys, StubTyped, ByStub}
+use Rattle.load_progress.specs.declared.headway.Mark.{Mark}
+use Rattle.load_progress.specs.declared.headway.Headway.{Headway}
+use Rattle.load_progress.specs.declared.headway.Means.{Means}
+use Rattle.load_progress.specs.declared.headway.Means.TheVariants.{ByKeys, StubTyped, ByStub}
 
 -- so many were done at a time
 abbrev pub mark_at : ℕ → Option ℕ → Mark
 mark_at done time = record { done = done; time = time }
 
 -- nothing was done and no key sent since it began
-abbrev pub beginning : ℕ → ℕ → Option ℕ → Tally
+abbrev pub beginning : ℕ → ℕ → Option ℕ → Headway
 beginning done words time = record {
   words = words;
   done_at_first = done;
   done = done;
-  way = ByKeys;
+  means = ByKeys;
   done_before = done;
   has_sent = false;
   mishaps = 0;
@@ -37,35 +37,35 @@ heard_behind count heard (Some key) = 0
 heard_behind count (Got character) None = one_more_in_32 count
 heard_behind count Quiet None = count
 
--- two ways are one
-abbrev pub same_way : Way → Way → Bool
-same_way ByKeys ByKeys = true
-same_way StubTyped StubTyped = true
-same_way ByStub ByStub = true
-same_way _ _ = false
+-- two means are one
+abbrev pub same_means : Means → Means → Bool
+same_means ByKeys ByKeys = true
+same_means StubTyped StubTyped = true
+same_means ByStub ByStub = true
+same_means _ _ = false
 
--- another way is taken from here on, or the same
-abbrev pub with_way : Tally → Way → Tally
-with_way tally way = if same_way way tally.way then tally else record tally { way = way; done_before = tally.done }
+-- the next words come by these means, others or the same
+abbrev pub with_means : Headway → Means → Headway
+with_means headway means = if same_means means headway.means then headway else record headway { means = means; done_before = headway.done }
 
 -- a stub is about to be typed
-abbrev pub after_stub : Tally → Tally
-after_stub tally = with_way tally StubTyped
+abbrev pub after_stub : Headway → Headway
+after_stub headway = with_means headway StubTyped
 
 -- how words come behind a step with this key: of the keys of a stub's exchange nothing is told
-abbrev pub way_behind : Way → Option ℕ → Way
-way_behind way (Some key) = ByKeys
-way_behind StubTyped None = ByStub
-way_behind ByStub None = ByStub
-way_behind ByKeys None = ByKeys
+abbrev pub means_behind : Means → Option ℕ → Means
+means_behind means (Some key) = ByKeys
+means_behind StubTyped None = ByStub
+means_behind ByStub None = ByStub
+means_behind ByKeys None = ByKeys
 
 -- the host has taken a step: words and mishaps are its own
-abbrev pub after_sight : Tally → Sight → Tally
-after_sight tally sight = record (with_way tally (way_behind tally.way sight.key)) {
+abbrev pub after_sight : Headway → Sight → Headway
+after_sight headway sight = record (with_means headway (means_behind headway.means sight.key)) {
   done = sight.done;
-  has_sent = tally.has_sent || is_some sight.key;
+  has_sent = headway.has_sent || is_some sight.key;
   mishaps = sight.spent;
-  heard = heard_behind tally.heard sight.heard sight.key;
+  heard = heard_behind headway.heard sight.heard sight.key;
 }
 
 -- a console answers with no more characters than these to any key, those of its longest answer and a few that pad it (this project's
@@ -74,8 +74,8 @@ abbrev pub most_answered : ℕ
 most_answered = 32
 
 -- the line is listened to until it is silent, where words come by keys: no key was sent yet, or more was heard since the last one than a console answers to it
-abbrev pub is_listening : Tally → Bool
-is_listening tally = same_way tally.way ByKeys && (not tally.has_sent || nat_lt most_answered tally.heard)
+abbrev pub is_listening : Headway → Bool
+is_listening headway = same_means headway.means ByKeys && (not headway.has_sent || nat_lt most_answered headway.heard)
 
 -- the time between two, where both are known and the second is not the earlier one
 abbrev pub time_between : Option ℕ → Option ℕ → Option ℕ
@@ -88,23 +88,24 @@ abbrev pub measured : ℕ
 measured = 30000
 
 -- so much time went by since the next mark: once it is enough, the pace is measured from there
-abbrev pub measured_since : Tally → Option ℕ → Option ℕ → Tally
-measured_since tally now None = tally
-measured_since tally now (Some time) = if nat_lt time measured then tally else record tally { from = tally.next; next = mark_at tally.done now }
+abbrev pub measured_since : Headway → Option ℕ → Option ℕ → Headway
+measured_since headway now None = headway
+measured_since headway now (Some time) = if nat_lt time measured then headway else record headway { from = headway.next; next = mark_at headway.done now }
 
--- what is known at a time: the pace is measured from before the first word of its way on, and a pause is forgotten once two marks lie behind it
-abbrev pub measured_anew : Tally → Option ℕ → Tally
-measured_anew tally now =
-    if tally.done == tally.done_before then record tally { from = mark_at tally.done now; next = mark_at tally.done now }
-    else measured_since tally now (time_between tally.next.time now)
+-- what is known at a time: the pace is measured from before the first word that came by these means on, and a pause is forgotten once two marks
+-- lie behind it
+abbrev pub measured_anew : Headway → Option ℕ → Headway
+measured_anew headway now =
+    if headway.done == headway.done_before then record headway { from = mark_at headway.done now; next = mark_at headway.done now }
+    else measured_since headway now (time_between headway.next.time now)
 
 -- what is shown at a time
-abbrev pub showing_of : Tally → Option ℕ → Showing
-showing_of tally now = record {
-  done = tally.done;
-  words = tally.words;
-  is_listening = is_listening tally;
-  is_stub = same_way tally.way StubTyped;
-  mishaps = tally.mishaps;
-  seconds_left = seconds_left (time_between tally.from.time now) (tally.done - tally.from.done) (tally.words - tally.done);
+abbrev pub showing_of : Headway → Option ℕ → Showing
+showing_of headway now = record {
+  done = headway.done;
+  words = headway.words;
+  is_listening = is_listening headway;
+  is_stub = same_means headway.means StubTyped;
+  mishaps = headway.mishaps;
+  seconds_left = seconds_left (time_between headway.from.time now) (headway.done - headway.from.done) (headway.words - headway.done);
 }

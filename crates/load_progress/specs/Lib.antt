@@ -1,3 +1,3 @@
+pub mod Headway
 pub mod Pace
 pub mod ProgressText
-pub mod Tally

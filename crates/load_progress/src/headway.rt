@@ -1,6 +1,7 @@
 //! What is known of how far it is.
 ghost use Rattle.std.specs.Prelude.{◌≡◌, ◌≢◌, ◌⊎◌, ◌↔◌, IsTrue};
-ghost use Rattle.load_progress.specs.Tally.{after_sight, after_stub, beginning, heard_behind, is_listening, measured_anew, showing_of, time_between, way_behind, with_way};
+ghost use Rattle.load_progress.specs.Headway.{after_sight, after_stub, beginning, heard_behind, is_listening, means_behind, measured_anew, showing_of};
+ghost use Rattle.load_progress.specs.Headway.{time_between, with_means};
 
 use crate::pace::time_left;
 use crate::showing::Showing;
@@ -28,7 +29,7 @@ pub(crate) struct Mark {
 
 /// How the words come into memory.
 #[derive(Clone, Copy, Debug, PartialEq, Eq)]
-pub(crate) enum Way {
+pub(crate) enum Means {
     /// A key at a time, by ODT.
     ByKeys,
 
@@ -41,7 +42,7 @@ pub(crate) enum Way {
 
 /// How far it is.
 #[derive(Clone, Copy)]
-pub(crate) struct Tally {
+pub(crate) struct Headway {
     /// How many words there are.
     pub(crate) words: u32,
 
@@ -52,9 +53,9 @@ pub(crate) struct Tally {
     pub(crate) done: u32,
 
     /// How they come into memory.
-    pub(crate) way: Way,
+    pub(crate) means: Means,
 
-    /// How many were done when that way was taken.
+    /// How many were done before the first of these words.
     pub(crate) done_before: u32,
 
     /// Whether there was a key.
@@ -73,17 +74,17 @@ pub(crate) struct Tally {
     pub(crate) next: Mark,
 }
 
-impl Tally {
+impl Headway {
     /// It begins at a time.
-    pub(crate) fn new(done: u32, words: u32, time: Option<u64>) -> Tally
+    pub(crate) fn new(done: u32, words: u32, time: Option<u64>) -> Headway
         ensures { result ≡ beginning done words time }
     {
         let mark = Mark { done, time };
-        Tally {
+        Headway {
             words,
             done_at_first: done,
             done,
-            way: Way::ByKeys,
+            means: Means::ByKeys,
             done_before: done,
             has_sent: false,
             mishaps: 0,
@@ -94,32 +95,32 @@ impl Tally {
     }
 
     /// What is known once a stub is about to be typed.
-    pub(crate) fn typing_stub(self) -> Tally
+    pub(crate) fn typing_stub(self) -> Headway
         ensures { result ≡ after_stub self }
     {
-        self.with_way(Way::StubTyped)
+        self.with_means(Means::StubTyped)
     }
 
-    // With the way that is taken from here on.
-    fn with_way(self, way: Way) -> Tally
-        ensures { result ≡ with_way self way }
+    // With the means by which the next words come.
+    fn with_means(self, means: Means) -> Headway
+        ensures { result ≡ with_means self means }
     {
-        if way == self.way {
+        if means == self.means {
             return self;
         }
-        Tally {
-            way,
+        Headway {
+            means,
             done_before: self.done,
             ..self
         }
     }
 
     /// What is known once the host has taken a step. Of the keys of a stub's exchange nothing is told.
-    pub(crate) fn seeing(self, sight: Sight) -> Tally
+    pub(crate) fn seeing(self, sight: Sight) -> Headway
         ensures { result ≡ after_sight self sight }
     {
-        let earlier = self.with_way(way_behind(self.way, sight.key));
-        Tally {
+        let earlier = self.with_means(means_behind(self.means, sight.key));
+        Headway {
             done: sight.done,
             has_sent: earlier.has_sent || sight.key.is_some(),
             mishaps: sight.spent,
@@ -129,8 +130,8 @@ impl Tally {
     }
 
     /// What is known at a time, in milliseconds of the clock. The pace is measured from where the first word
-    /// of its way was begun, and later over the last minute at most, so that a pause is forgotten.
-    pub(crate) fn measured_anew(self, now: Option<u64>) -> Tally
+    /// that comes by these means was begun, and later over the last minute at most, so that a pause is forgotten.
+    pub(crate) fn measured_anew(self, now: Option<u64>) -> Headway
         ensures { result ≡ measured_anew self now }
     {
         let mark = Mark {
@@ -138,14 +139,14 @@ impl Tally {
             time: now,
         };
         if self.done == self.done_before {
-            return Tally {
+            return Headway {
                 from: mark,
                 next: mark,
                 ..self
             };
         }
         match elapsed(self.next.time, now) {
-            Some(time) if time >= MEASURED => Tally {
+            Some(time) if time >= MEASURED => Headway {
                 from: self.next,
                 next: mark,
                 ..self
@@ -159,20 +160,20 @@ impl Tally {
     pub(crate) fn is_listening(self) -> bool
         ensures { result ≡ is_listening self }
     {
-        self.way == Way::ByKeys && (!self.has_sent || self.heard > MOST_ANSWERED)
+        self.means == Means::ByKeys && (!self.has_sent || self.heard > MOST_ANSWERED)
     }
 
-    /// Whether it is worth a showing behind an earlier tally: a word more or a mishap more, and all that
-    /// happens while the line is listened to, up to the key that ends that, and another way.
-    pub(crate) fn is_news(self, earlier: Tally) -> bool
+    /// Whether it is worth a showing behind what was known earlier: a word more or a mishap more, and all that
+    /// happens while the line is listened to, up to the key that ends that, and other means.
+    pub(crate) fn is_news(self, earlier: Headway) -> bool
         ensures { IsTrue result ↔ (IsTrue (is_listening earlier) ⊎ IsTrue (is_listening self) ⊎ (self.done ≢ earlier.done)
-            ⊎ (self.mishaps ≢ earlier.mishaps) ⊎ (self.way ≢ earlier.way)) }
+            ⊎ (self.mishaps ≢ earlier.mishaps) ⊎ (self.means ≢ earlier.means)) }
     {
         earlier.is_listening()
             || self.is_listening()
             || self.done != earlier.done
             || self.mishaps != earlier.mishaps
-            || self.way != earlier.way
+            || self.means != earlier.means
     }
 
     /// Whether so many words were done that their pace tells of the rest.
@@ -190,7 +191,7 @@ impl Tally {
             done: self.done,
             words: self.words,
             is_listening: self.is_listening(),
-            is_stub: self.way == Way::StubTyped,
+            is_stub: self.means == Means::StubTyped,
             mishaps: self.mishaps,
             seconds_left: time_left(elapsed(self.from.time, now), done, left),
         }
@@ -198,13 +199,13 @@ impl Tally {
 }
 
 // How words come into memory behind a step with this key: by keys, or by the stub that was typed.
-fn way_behind(way: Way, key: Option<u8>) -> Way
-    ensures { result ≡ way_behind way key }
+fn means_behind(means: Means, key: Option<u8>) -> Means
+    ensures { result ≡ means_behind means key }
 {
-    match (way, key) {
-        (_, Some(_)) => Way::ByKeys,
-        (Way::StubTyped, None) => Way::ByStub,
-        (_, None) => way,
+    match (means, key) {
+        (_, Some(_)) => Means::ByKeys,
+        (Means::StubTyped, None) => Means::ByStub,
+        (_, None) => means,
     }
 }
 

@@ -8,10 +8,10 @@
 //! `machine_look`.
 #![tactic(auto)]
 
+mod headway;
 mod pace;
 mod progress_line;
 mod showing;
-mod tally;
 
 pub use progress_line::ProgressLine;
 pub use showing::{KeptIn, Showing};

@@ -4,7 +4,7 @@ ghost use Rattle.load_progress.specs.ProgressText.{above_line, forecast_text, go
 
 use crate::pace::is_due;
 use crate::showing::{Forecast, GoingOn, KeptIn, Showing};
-use crate::tally::Tally;
+use crate::headway::Headway;
 use arrayvec::ArrayString;
 use load_devices::{Onlooker, Sight};
 use std::cell::Cell;
@@ -29,7 +29,7 @@ type LineText = ArrayString<128>;
 pub struct ProgressLine<'a, C: Clock, E: Print> {
     clock: &'a C,
     terminal: &'a E,
-    tally: Cell<Tally>,
+    headway: Cell<Headway>,
 
     // When it was last shown, in milliseconds of the clock, where it was.
     shown: Cell<Option<u64>>,
@@ -46,7 +46,7 @@ impl<'a, C: Clock, E: Print> ProgressLine<'a, C, E> {
         ProgressLine {
             clock,
             terminal,
-            tally: Cell::new(Tally::new(0, 0, None)),
+            headway: Cell::new(Headway::new(0, 0, None)),
             shown: Cell::new(None),
             kept_in,
             is_forecast_due: Cell::new(true),
@@ -55,12 +55,12 @@ impl<'a, C: Clock, E: Print> ProgressLine<'a, C, E> {
 
     /// How many words were done when it began.
     pub fn done_at_first(&self) -> u32 {
-        self.tally.get().done_at_first
+        self.headway.get().done_at_first
     }
 
     /// How many words are done.
     pub fn done(&self) -> u32 {
-        self.tally.get().done
+        self.headway.get().done
     }
 
     /// Writes a text to the terminal, where it goes on.
@@ -74,26 +74,26 @@ impl<'a, C: Clock, E: Print> ProgressLine<'a, C, E> {
         u64::try_from(time.as_millis()).ok()
     }
 
-    // Keeps a tally, and shows it where that is due. A clock with no time makes nothing due.
-    fn keep(&self, tally: Tally) {
+    // Keeps what is known, and shows it where that is due. A clock with no time makes nothing due.
+    fn keep(&self, headway: Headway) {
         let now = self.now();
-        let tally = tally.measured_anew(now);
-        self.tally.set(tally);
+        let headway = headway.measured_anew(now);
+        self.headway.set(headway);
         let due = match (self.shown.get(), now) {
             (Some(shown), Some(now)) => is_due(shown, now),
             (None, Some(_)) => true,
             (_, None) => false,
         };
         if due {
-            let showing = tally.showing(now);
-            self.forecast(tally, showing.seconds_left);
+            let showing = headway.showing(now);
+            self.forecast(headway, showing.seconds_left);
             self.put(showing_line(showing), now);
         }
     }
 
     // Says once how long it takes, as soon as the pace is known, where that is long.
-    fn forecast(&self, tally: Tally, seconds_left: Option<u64>) {
-        if !self.is_forecast_due.get() || !tally.has_pace() {
+    fn forecast(&self, headway: Headway, seconds_left: Option<u64>) {
+        if !self.is_forecast_due.get() || !headway.has_pace() {
             return;
         }
         self.is_forecast_due.set(false);
@@ -119,10 +119,10 @@ impl<'a, C: Clock, E: Print> ProgressLine<'a, C, E> {
 impl<C: Clock, E: Print> Onlooker for ProgressLine<'_, C, E> {
     fn begins(&self, done: u32, words: u32) {
         let now = self.now();
-        let tally = Tally::new(done, words, now);
-        self.tally.set(tally);
+        let headway = Headway::new(done, words, now);
+        self.headway.set(headway);
         if done == 0 {
-            self.put(showing_line(tally.showing(now)), now);
+            self.put(showing_line(headway.showing(now)), now);
         } else {
             let kept_in = self.kept_in;
             let going_on = GoingOn {
@@ -135,20 +135,20 @@ impl<C: Clock, E: Print> Onlooker for ProgressLine<'_, C, E> {
     }
 
     fn sees(&self, sight: Sight) {
-        let earlier = self.tally.get();
-        let tally = earlier.seeing(sight);
-        if tally.is_news(earlier) {
-            self.keep(tally);
+        let earlier = self.headway.get();
+        let headway = earlier.seeing(sight);
+        if headway.is_news(earlier) {
+            self.keep(headway);
         } else {
-            self.tally.set(tally);
+            self.headway.set(headway);
         }
     }
 
     fn stub_begins(&self) {
         let now = self.now();
-        let tally = self.tally.get().typing_stub().measured_anew(now);
-        self.tally.set(tally);
-        self.put(showing_line(tally.showing(now)), now);
+        let headway = self.headway.get().typing_stub().measured_anew(now);
+        self.headway.set(headway);
+        self.put(showing_line(headway.showing(now)), now);
     }
 
     fn ends(&self) {

@@ -31,7 +31,7 @@ use Rattle.command_io.specs.Tapes.{AreTapes, AreAllTaken, AreTapesFault, tapes_o
 use Rattle.byte_io.specs.Text.{line}
 use Rattle.tape_commands.specs.Report.{life_text, end_text, mode_name, held_word_text, report}
 use Rattle.tape_commands.specs.Dialogue.{Talks, IsDialogueText, IsDialogue, IsDialogueInPart, IsDialogueFault, IsReportFault, IsTalkFault, dialogue_opening, dialogue_patience}
-use Rattle.tape_commands.specs.declared.exchange.Exchange.{Exchange}
+use Rattle.tape_commands.specs.declared.key_line.KeyLine.{KeyLine}
 use Rattle.tape_commands.specs.KeyLines.{Answered, Gathers, Holds, Notes, answered_in, answered_keys, key_text, last_line}
 use Rattle.tape_commands.specs.Rehearsal.{IsMachineFault, machine_of}
 use Rattle.tape_commands.proofs.CleanRuns.{ComesToEnd, comes_to_end}
@@ -39,18 +39,18 @@ use Rattle.byte_io.proofs.Fronts.{front_behind, front_whole, prefix_behind, pref
 use Rattle.tape_commands.proofs.KeyTexts.{gathered_text}
 
 -- events that end from one world on end from an earlier one on, lead to the same world and tell the same; what was told so far is written
-pub record Conversation (start w : Scene) (exchange : Exchange) (before now : Option (List ℕ)) : Type 0 where
+pub record Conversation (start w : Scene) (under_way : KeyLine) (before now : Option (List ℕ)) : Type 0 where
   pub told : List ℕ
   pub gathered : List Answered
-  pub gathers : Gathers gathered exchange
+  pub gathers : Gathers gathered under_way
   pub written : Appends before now told
   pub goes : (events : List Event) → IsCleanRun w events
       → (all : List Event) × IsCleanRun start all × (after w events ≡ after start all) × (key_text (answered_keys start all) ≡ told ++ key_text (gathered ++ answered_keys w events))
   pub rest : (all : List Event) → IsCleanRun start all
       → (events : List Event) × IsCleanRun w events × (key_text (answered_keys start all) ≡ told ++ key_text (gathered ++ answered_keys w events))
 
-pub conversation_none : (w : Scene) (exchange : Exchange) (out : Option (List ℕ)) → Gathers [] exchange → Conversation w w exchange out out
-conversation_none w exchange out gathers = record {
+pub conversation_none : (w : Scene) (under_way : KeyLine) (out : Option (List ℕ)) → Gathers [] under_way → Conversation w w under_way out out
+conversation_none w under_way out gathers = record {
   told = [];
   gathered = [];
   gathers = gathers;
@@ -75,10 +75,10 @@ clean_none w end [] is clean = refl
 clean_none w end (event ∷ more) is clean = absurd (let none = clean.0 in cc)
 
 -- the next event of a clean line, told
-pub conversation_more : (start w next : Scene) (exchange noted : Exchange) (before between now : Option (List ℕ)) → ended w.core.phase ≡ None → next ≡ happens w (first_event w)
-    → ((gathered : List Answered) → Gathers gathered exchange → Notes gathered (answered_in w (first_event w)) noted (between ⇒ now))
-    → Conversation start w exchange before between → Conversation start next noted before now
-conversation_more start w next exchange noted before between now on is notes so =
+pub conversation_more : (start w next : Scene) (under_way noted : KeyLine) (before between now : Option (List ℕ)) → ended w.core.phase ≡ None → next ≡ happens w (first_event w)
+    → ((gathered : List Answered) → Gathers gathered under_way → Notes gathered (answered_in w (first_event w)) noted (between ⇒ now))
+    → Conversation start w under_way before between → Conversation start next noted before now
+conversation_more start w next under_way noted before between now on is notes so =
     let more = notes so.gathered so.gathers in
     record {
       told = so.told ++ more.told;
@@ -106,10 +106,10 @@ conversation_more start w next exchange noted before between now on is notes so 
     }
 
 -- a turn that fails
-pub conversation_stops : (start w : Scene) (exchange : Exchange) (before between now : Option (List ℕ)) → Conversation start w exchange before between → ended w.core.phase ≡ None
-    → ((gathered : List Answered) → Gathers gathered exchange → (more : List Answered) → WritesPrefix between now (key_text (gathered ++ (answered_in w (first_event w) ++ more))))
+pub conversation_stops : (start w : Scene) (under_way : KeyLine) (before between now : Option (List ℕ)) → Conversation start w under_way before between → ended w.core.phase ≡ None
+    → ((gathered : List Answered) → Gathers gathered under_way → (more : List Answered) → WritesPrefix between now (key_text (gathered ++ (answered_in w (first_event w) ++ more))))
     → (all : List Event) → IsCleanRun start all → WritesPrefix before now (key_text (answered_keys start all))
-conversation_stops start w exchange before between now so on front all clean =
+conversation_stops start w under_way before between now so on front all clean =
     let left = so.rest all clean in
     let later = clean_more w left.0 on left.1 in
     subst (WritesPrefix before now) (sym (left.2 ∙ ap (λ ks. so.told ++ key_text (so.gathered ++ ks)) later.2))
@@ -117,10 +117,10 @@ conversation_stops start w exchange before between now so on front all clean =
     (front so.gathered so.gathers (answered_keys (happens w (first_event w)) later.0)))
 
 -- a last line that fails
-pub conversation_unfinished : (start w : Scene) (end : End) (exchange : Exchange) (before between now : Option (List ℕ)) → Conversation start w exchange before between → ended w.core.phase ≡ Some end
-    → ((held : List Answered) → Holds held exchange → WritesPrefix between now (last_line held))
+pub conversation_unfinished : (start w : Scene) (end : End) (under_way : KeyLine) (before between now : Option (List ℕ)) → Conversation start w under_way before between → ended w.core.phase ≡ Some end
+    → ((held : List Answered) → Holds held under_way → WritesPrefix between now (last_line held))
     → (all : List Event) → IsCleanRun start all → WritesPrefix before now (key_text (answered_keys start all))
-conversation_unfinished start w end exchange before between now so is front all clean =
+conversation_unfinished start w end under_way before between now so is front all clean =
     let left = so.rest all clean in
     let text : key_text (answered_keys start all) ≡ so.told ++ last_line so.gathered =
     left.2 ∙ ap (λ es. so.told ++ key_text (so.gathered ++ answered_keys w es)) (clean_none w end left.0 is left.1)
@@ -128,9 +128,9 @@ conversation_unfinished start w end exchange before between now so is front all 
     subst (WritesPrefix before now) (sym text) (front_behind before between now so.told (last_line so.gathered) so.written (front so.gathered so.gathers.holds))
 
 -- the end, and the line under way with it
-pub conversation_ends : (start w : Scene) (end : End) (exchange : Exchange) (before between now : Option (List ℕ)) → Conversation start w exchange before between → ended w.core.phase ≡ Some end
-    → ((held : List Answered) → Holds held exchange → Appends between now (last_line held)) → Talks (start ⇒ w) end (before ⇒ now)
-conversation_ends start w end exchange before between now so is finished =
+pub conversation_ends : (start w : Scene) (end : End) (under_way : KeyLine) (before between now : Option (List ℕ)) → Conversation start w under_way before between → ended w.core.phase ≡ Some end
+    → ((held : List Answered) → Holds held under_way → Appends between now (last_line held)) → Talks (start ⇒ w) end (before ⇒ now)
+conversation_ends start w end under_way before between now so is finished =
     let all = so.goes [] (subst (λ o. IsSome o) (sym is) refl) in
     let text : key_text (answered_keys start all.0) ≡ so.told ++ last_line so.gathered =
     all.3 ∙ ap (λ g. so.told ++ key_text g) (append-nil so.gathered) ∙ ap (λ l. so.told ++ l) (gathered_text so.gathered so.gathers.echoes) in

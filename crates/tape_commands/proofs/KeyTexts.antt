@@ -9,7 +9,7 @@ use Rattle.std.proofs.lemmas.Grind.{flat_map-append}
 use Rattle.std.proofs.lemmas.List.{map-append, length-append}
 use Rattle.std.proofs.lemmas.List.Concat.{flat_map-cons}
 use Rattle.byte_io.specs.Output.{WritesPrefix}
-use Rattle.tape_commands.specs.declared.exchange.Exchange.{Exchange}
+use Rattle.tape_commands.specs.declared.key_line.KeyLine.{KeyLine}
 use Rattle.tape_commands.specs.KeyLines.{Answered, Gathers, Holds, Notes, is_echo, in_first_line, key_lines, key_line, key_text, last_line, shown, shown_character, shown_keys, shown_answers}
 use Rattle.byte_io.proofs.Fronts.{front_longer, front_none}
 
@@ -47,7 +47,7 @@ answers_more g a =
     ∙ flat_map-append shown_character (flat_map (λ (b : Answered). b.answer) g) a.answer
 
 -- a line under way takes a key and its answer
-pub holds_more : (g : List Answered) (a : Answered) (old now : Exchange) → Holds g old → now.keys.items ≡ old.keys.items ++ shown (a.key ∷ []) → now.answers.items ≡ old.answers.items ++ shown a.answer → Holds (g ++ a ∷ []) now
+pub holds_more : (g : List Answered) (a : Answered) (old now : KeyLine) → Holds g old → now.keys.items ≡ old.keys.items ++ shown (a.key ∷ []) → now.answers.items ≡ old.answers.items ++ shown a.answer → Holds (g ++ a ∷ []) now
 holds_more g a old now holds keys answers = record {
   keys = keys ∙ ap (λ l. l ++ shown (a.key ∷ [])) holds.keys ∙ sym (keys_more g a);
   answers = answers ∙ ap (λ l. l ++ shown a.answer) holds.answers ∙ sym (answers_more g a);
@@ -74,14 +74,14 @@ some_more : (g : List Answered) (a : Answered) → g ++ a ∷ [] ≡ [] → ⊥
 some_more [] a none = cc
 some_more (x ∷ g) a none = cc
 
-pub none_noted : (g : List Answered) (now : Exchange) (before : Option (List ℕ)) → Gathers g now → Notes g [] now (before ⇒ before)
+pub none_noted : (g : List Answered) (now : KeyLine) (before : Option (List ℕ)) → Gathers g now → Notes g [] now (before ⇒ before)
 none_noted g now before gathers = record { told = []; left = g; gathers = gathers; written = Appends-nil before; text = λ more. refl }
 
 echoes_more : (g : List Answered) (a : Answered) → Echoes g → is_echo a ≡ true → Echoes (g ++ a ∷ [])
 echoes_more [] a echoes on = (on, tt)
 echoes_more (x ∷ g) a echoes on = (echoes.0, echoes_more g a echoes.1 on)
 
-pub echo_noted : (g : List Answered) (a : Answered) (now : Exchange) (before : Option (List ℕ)) → Holds (g ++ a ∷ []) now → Echoes g → is_echo a ≡ true → Notes g (a ∷ []) now (before ⇒ before)
+pub echo_noted : (g : List Answered) (a : Answered) (now : KeyLine) (before : Option (List ℕ)) → Holds (g ++ a ∷ []) now → Echoes g → is_echo a ≡ true → Notes g (a ∷ []) now (before ⇒ before)
 echo_noted g a now before holds echoes on = record {
   told = [];
   left = g ++ a ∷ [];
@@ -90,7 +90,7 @@ echo_noted g a now before holds echoes on = record {
   text = λ more. ap key_text (sym (append_assoc g (a ∷ []) more));
 }
 
-line_noted : (g : List Answered) (a : Answered) (now : Exchange) (before after : Option (List ℕ)) → Echoes g → is_echo a ≡ false → Appends before after (last_line (g ++ a ∷ [])) → Holds [] now → Notes g (a ∷ []) now (before ⇒ after)
+line_noted : (g : List Answered) (a : Answered) (now : KeyLine) (before after : Option (List ℕ)) → Echoes g → is_echo a ≡ false → Appends before after (last_line (g ++ a ∷ [])) → Holds [] now → Notes g (a ∷ []) now (before ⇒ after)
 line_noted g a now before after echoes off written holds = record {
   told = key_line (g ++ a ∷ []);
   left = [];
@@ -100,7 +100,7 @@ line_noted g a now before after echoes off written holds = record {
 }
 
 -- a line that is written whole ends with the key that was not echoed
-pub line_ends : {T E : Type 0} (r : Result T E) (a : Answered) (old mid now : Exchange) (before after : Option (List ℕ))
+pub line_ends : {T E : Type 0} (r : Result T E) (a : Answered) (old mid now : KeyLine) (before after : Option (List ℕ))
     → OnOk r ((held : List Answered) → Holds held mid → Appends before after (last_line held) × Holds [] now)
     → mid.keys.items ≡ old.keys.items ++ shown (a.key ∷ []) → mid.answers.items ≡ old.answers.items ++ shown a.answer → is_echo a ≡ false
     → OnOk r ((gathered : List Answered) → Gathers gathered old → Notes gathered (a ∷ []) now (before ⇒ after))
@@ -110,7 +110,7 @@ line_ends (Ok x) a old mid now before after finished keys answers off = λ gathe
     line_noted gathered a now before after gathers.echoes off line.0 line.1
 
 -- a line that is written in part is a front of the text of all keys
-pub line_fails : {T E : Type 0} (r : Result T E) (a : Answered) (old mid : Exchange) (before after : Option (List ℕ))
+pub line_fails : {T E : Type 0} (r : Result T E) (a : Answered) (old mid : KeyLine) (before after : Option (List ℕ))
     → OnErr r ((held : List Answered) → Holds held mid → WritesPrefix before after (last_line held))
     → mid.keys.items ≡ old.keys.items ++ shown (a.key ∷ []) → mid.answers.items ≡ old.answers.items ++ shown a.answer → is_echo a ≡ false
     → OnErr r ((gathered : List Answered) → Gathers gathered old → (more : List Answered) → WritesPrefix before after (key_text (gathered ++ (a ∷ more))))
@@ -121,27 +121,27 @@ line_fails (Err e) a old mid before after failed keys answers off = λ gathered 
     (front_longer before after (key_line (gathered ++ a ∷ [])) (key_text more) (subst (WritesPrefix before after) (last_is (gathered ++ a ∷ []) (some_more gathered a)) line))
 
 -- a line that is written in part is a front of the line of the keys held
-held_fails : (exchange : Exchange) (held : List Answered) (text : List ℕ) (before after : Option (List ℕ)) → Holds held exchange → (length exchange.keys.items ≡ 0 → ⊥)
-    → text ≡ (exchange.keys.items ++ codes " -> " ++ exchange.answers.items) ++ 10 ∷ [] → WritesPrefix before after text → WritesPrefix before after (last_line held)
-held_fails exchange held text before after holds some is front =
+held_fails : (under_way : KeyLine) (held : List Answered) (text : List ℕ) (before after : Option (List ℕ)) → Holds held under_way → (length under_way.keys.items ≡ 0 → ⊥)
+    → text ≡ (under_way.keys.items ++ codes " -> " ++ under_way.answers.items) ++ 10 ∷ [] → WritesPrefix before after text → WritesPrefix before after (last_line held)
+held_fails under_way held text before after holds some is front =
     subst (WritesPrefix before after)
-    (is ∙ ap (λ l. (l ++ codes " -> " ++ exchange.answers.items) ++ 10 ∷ []) holds.keys ∙ ap (λ l. (shown_keys held ++ codes " -> " ++ l) ++ 10 ∷ []) holds.answers
+    (is ∙ ap (λ l. (l ++ codes " -> " ++ under_way.answers.items) ++ 10 ∷ []) holds.keys ∙ ap (λ l. (shown_keys held ++ codes " -> " ++ l) ++ 10 ∷ []) holds.answers
     ∙ sym (last_is held (λ none. some (ap length holds.keys ∙ ap (λ h. length (shown_keys h)) none))))
     front
 
 -- where nothing was written, nothing of a key's line was
-pub none_of_key : {T E : Type 0} (r : Result T E) (a : Answered) (old : Exchange) (out : Option (List ℕ))
+pub none_of_key : {T E : Type 0} (r : Result T E) (a : Answered) (old : KeyLine) (out : Option (List ℕ))
     → OnErr r ((gathered : List Answered) → Gathers gathered old → (more : List Answered) → WritesPrefix out out (key_text (gathered ++ (a ∷ more))))
 none_of_key (Ok x) a old out = tt
 none_of_key (Err e) a old out = λ gathered gathers more. front_none out (key_text (gathered ++ (a ∷ more)))
 
 -- .. nor of the line under way
-pub none_of_line : {T E : Type 0} (r : Result T E) (old : Exchange) (out : Option (List ℕ)) → OnErr r ((held : List Answered) → Holds held old → WritesPrefix out out (last_line held))
+pub none_of_line : {T E : Type 0} (r : Result T E) (old : KeyLine) (out : Option (List ℕ)) → OnErr r ((held : List Answered) → Holds held old → WritesPrefix out out (last_line held))
 none_of_line (Ok x) old out = tt
 none_of_line (Err e) old out = λ held holds. front_none out (last_line held)
 
 -- the line under way, written in part
-pub some_of_line : {T E : Type 0} (r : Result T E) (old : Exchange) (text shown_text : List ℕ) (before after : Option (List ℕ)) → (length old.keys.items ≡ 0 → ⊥) → shown_text ≡ text
+pub some_of_line : {T E : Type 0} (r : Result T E) (old : KeyLine) (text shown_text : List ℕ) (before after : Option (List ℕ)) → (length old.keys.items ≡ 0 → ⊥) → shown_text ≡ text
     → text ≡ (old.keys.items ++ codes " -> " ++ old.answers.items) ++ 10 ∷ [] → WritesPrefix before after shown_text → OnErr r ((held : List Answered) → Holds held old → WritesPrefix before after (last_line held))
 some_of_line (Ok x) old text shown_text before after some same is front = tt
 some_of_line (Err e) old text shown_text before after some same is front = λ held holds. held_fails old held text before after holds some is (subst (WritesPrefix before after) same front)

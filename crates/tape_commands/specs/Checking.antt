@@ -31,12 +31,12 @@ abbrev pub IsInputUnchecked : Held → Held → Failure → Type 0
 IsInputUnchecked before after failure = IsCheckFailure false (only_input before.input after.input) (before.out ⇒ after.out) failure
 
 -- the tapes of these names were checked
-abbrev pub AreChecked : List Name → CheckOptions → Intake → Intake → Status → Type 0
-AreChecked names options before after status =
-    OfTapes names before after (λ inputs. IsCheckedTo options.blocks inputs (before.held.out ⇒ after.held.out) status)
+abbrev pub AreChecked : List Name → CheckOptions → Change Intake → Status → Type 0
+AreChecked names options intake status =
+    OfTapes names intake.before intake.after (λ inputs. IsCheckedTo options.blocks inputs (intake.before.held.out ⇒ intake.after.held.out) status)
 
 -- they were not: a file can't be opened, or what the inputs hold is to blame
-abbrev pub AreUnchecked : List Name → CheckOptions → Intake → Intake → Failure → Type 0
-AreUnchecked names options before after failure =
-    FailsUnopened (files_of names) before after failure
-    ⊎ OfTapes names before after (λ inputs. IsCheckFailure options.blocks inputs (before.held.out ⇒ after.held.out) failure)
+abbrev pub AreUnchecked : List Name → CheckOptions → Change Intake → Failure → Type 0
+AreUnchecked names options intake failure =
+    FailsUnopened (files_of names) intake.before intake.after failure
+    ⊎ OfTapes names intake.before intake.after (λ inputs. IsCheckFailure options.blocks inputs (intake.before.held.out ⇒ intake.after.held.out) failure)

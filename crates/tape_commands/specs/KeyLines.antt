@@ -12,7 +12,7 @@ use Rattle.line_world.specs.Scene.{Scene}
 use Rattle.line_world.specs.World.{happens}
 use Rattle.request_values.specs.Change.{Change}
 use Rattle.byte_io.specs.Text.{line}
-use Rattle.tape_commands.specs.declared.exchange.Exchange.{Exchange}
+use Rattle.tape_commands.specs.declared.key_line.KeyLine.{KeyLine}
 
 -- a key that the console took, and what it answered
 pub record Answered : Type 0 where
@@ -78,19 +78,19 @@ last_line [] = []
 last_line (a ∷ others) = key_line (a ∷ others)
 
 -- a line under way holds these keys
-pub record Holds (held : List Answered) (exchange : Exchange) : Type 0 where
-  pub keys : exchange.keys.items ≡ shown_keys held
-  pub answers : exchange.answers.items ≡ shown_answers held
+pub record Holds (held : List Answered) (under_way : KeyLine) : Type 0 where
+  pub keys : under_way.keys.items ≡ shown_keys held
+  pub answers : under_way.answers.items ≡ shown_answers held
 
 -- a line under way holds these keys, each of which was merely echoed
-pub record Gathers (gathered : List Answered) (exchange : Exchange) : Type 0 where
-  pub holds : Holds gathered exchange
+pub record Gathers (gathered : List Answered) (under_way : KeyLine) : Type 0 where
+  pub holds : Holds gathered under_way
   pub echoes : AllByRecursion (λ a. is_echo a ≡ true) gathered
 
 -- behind gathered keys come the next ones: the lines that they end were written, and what is left is gathered
-pub record Notes (gathered next : List Answered) (exchange' : Exchange) (out : Change (Option (List ℕ))) : Type 0 where
+pub record Notes (gathered next : List Answered) (under_way' : KeyLine) (out : Change (Option (List ℕ))) : Type 0 where
   pub told : List ℕ
   pub left : List Answered
-  pub gathers : Gathers left exchange'
+  pub gathers : Gathers left under_way'
   pub written : Appends out.before out.after told
   pub text : (more : List Answered) → key_text (gathered ++ (next ++ more)) ≡ told ++ key_text (left ++ more)

@@ -22,11 +22,12 @@ IsShowingFailure stage inputs out failure =
     FailsOver inputs (IsDialogueFault (inputs.held ⇒ inputs.rests) stage out) ((status : Status) × IsShownTo stage inputs out status) failure
 
 -- the load of the tapes of these names was shown
-abbrev pub AreShown : List Name → Stage → Intake → Intake → Status → Type 0
-AreShown names stage before after status = OfTapes names before after (λ inputs. IsShownTo stage inputs (before.held.out ⇒ after.held.out) status)
+abbrev pub AreShown : List Name → Stage → Change Intake → Status → Type 0
+AreShown names stage intake status =
+    OfTapes names intake.before intake.after (λ inputs. IsShownTo stage inputs (intake.before.held.out ⇒ intake.after.held.out) status)
 
 -- it was not: a file can't be opened, or what the inputs hold is to blame
-abbrev pub AreUnshown : List Name → Stage → Intake → Intake → Failure → Type 0
-AreUnshown names stage before after failure =
-    FailsUnopened (files_of names) before after failure
-    ⊎ OfTapes names before after (λ inputs. IsShowingFailure stage inputs (before.held.out ⇒ after.held.out) failure)
+abbrev pub AreUnshown : List Name → Stage → Change Intake → Failure → Type 0
+AreUnshown names stage intake failure =
+    FailsUnopened (files_of names) intake.before intake.after failure
+    ⊎ OfTapes names intake.before intake.after (λ inputs. IsShowingFailure stage inputs (intake.before.held.out ⇒ intake.after.held.out) failure)

@@ -96,8 +96,8 @@ pub(crate) fn check_tapes<'a, F: InputFiles, R: Read, W: Output, E: FaultOutput>
     streams: &mut Streams<R, W, E>,
 ) -> Result<Status, Failure<'a>>
     requires { FitsInMemory R.row }
-    ensures ok { IfOk result (AreChecked names.now options (intake (F.opened inputs.old) streams.old) (intake (F.opened inputs.new) streams.new)) }
-    ensures err { IfErr result (AreUnchecked names.now options (intake (F.opened inputs.old) streams.old) (intake (F.opened inputs.new) streams.new)) }
+    ensures ok { IfOk result (AreChecked names.now options (intake (F.opened inputs.old) streams.old ⇒ intake (F.opened inputs.new) streams.new)) }
+    ensures err { IfErr result (AreUnchecked names.now options (intake (F.opened inputs.old) streams.old ⇒ intake (F.opened inputs.new) streams.new)) }
     ensures quiet { streams.new.err ≡ streams.old.err }
 {
     let taken = take(inputs, alloc, names, streams)?;

@@ -15,7 +15,7 @@ ghost use Rattle.input_files.specs.Intake.{intake};
 ghost use Rattle.input_files.specs.Taking.{OfTakenInputs};
 ghost use Rattle.tape_commands.specs.Showing.{AreShown, AreUnshown, IsShowingFailure, IsShownTo};
 
-use crate::exchange::Exchange;
+use crate::key_line::KeyLine;
 use crate::output::flushed;
 use crate::report::put_report;
 use crate::worlds::{open_world, zeroed};
@@ -90,34 +90,34 @@ fn write_report<W: Write>(alloc: Global, world: &World, out: &mut W) -> Result<(
     Ok(())
 }
 
-// A clean line up to the first end, each exchange written when it is over.
+// A clean line up to the first end, each line of keys written when it is over.
 fn talk<W: Write>(alloc: Global, world: &mut World, out: &mut W) -> Result<End, CommandFault>
     ensures ok { IfOk result (λ end. Talks (world.old ⇒ world.new) end (W.contents out.old ⇒ W.contents out.new)) }
     ensures front { OnErr result ((events : List Event) → IsCleanRun world.old events →
         WritesPrefix (W.contents out.old) (W.contents out.new) (key_text (answered_keys world.old events))) }
     ensures err { IfErr result IsTalkFault }
 {
-    let mut exchange = Exchange::new(alloc);
+    let mut under_way = KeyLine::new(alloc);
     loop {
         if let Some(end) = world.core().end() {
-            exchange.finish(out)?;
+            under_way.finish(out)?;
             return Ok(end);
         }
-        turn(world, &mut exchange, out)?;
+        turn(world, &mut under_way, out)?;
     }
 }
 
 // The next event of a clean line. Where the machine takes a key, the key and its answer are noted.
 fn turn<W: Write>(
     world: &mut World,
-    exchange: &mut Exchange,
+    under_way: &mut KeyLine,
     out: &mut W,
 ) -> Result<(), CommandFault>
     ensures world { world.new ≡ happens world.old (first_event world.old) }
-    ensures ok { OnOk result ((gathered : List Answered) → Gathers gathered exchange.old →
-        Notes gathered (answered_in world.old (first_event world.old)) exchange.new (W.contents out.old ⇒ W.contents out.new)) }
+    ensures ok { OnOk result ((gathered : List Answered) → Gathers gathered under_way.old →
+        Notes gathered (answered_in world.old (first_event world.old)) under_way.new (W.contents out.old ⇒ W.contents out.new)) }
     ensures work { ended world.old.core.phase ≡ None → work_left world.new < work_left world.old }
-    ensures front { OnErr result ((gathered : List Answered) → Gathers gathered exchange.old → (more : List Answered) →
+    ensures front { OnErr result ((gathered : List Answered) → Gathers gathered under_way.old → (more : List Answered) →
         WritesPrefix (W.contents out.old) (W.contents out.new) (key_text (gathered ++ (answered_in world.old (first_event world.old) ++ more)))) }
     ensures err { IfErr result IsTalkFault }
 {
@@ -129,7 +129,7 @@ fn turn<W: Write>(
         return Ok(());
     };
     match world.up().get(waiting..) {
-        Some(answer) => exchange.note(key, answer, out),
+        Some(answer) => under_way.note(key, answer, out),
         None => Ok(()),
     }
 }
@@ -144,8 +144,8 @@ pub(crate) fn show_dialogue<'a, F: InputFiles, R: Read, W: Output, E: FaultOutpu
     streams: &mut Streams<R, W, E>,
 ) -> Result<Status, Failure<'a>>
     requires { FitsInMemory R.row }
-    ensures ok { IfOk result (AreShown names.now stage (intake (F.opened inputs.old) streams.old) (intake (F.opened inputs.new) streams.new)) }
-    ensures err { IfErr result (AreUnshown names.now stage (intake (F.opened inputs.old) streams.old) (intake (F.opened inputs.new) streams.new)) }
+    ensures ok { IfOk result (AreShown names.now stage (intake (F.opened inputs.old) streams.old ⇒ intake (F.opened inputs.new) streams.new)) }
+    ensures err { IfErr result (AreUnshown names.now stage (intake (F.opened inputs.old) streams.old ⇒ intake (F.opened inputs.new) streams.new)) }
     ensures quiet { streams.new.err ≡ streams.old.err }
 {
     let taken = take(inputs, alloc, names, streams)?;

@@ -17,17 +17,17 @@ use std::io::Write;
 ///
 /// While the console merely echoes, keys are collected; the first other answer ends the line.
 #[derive(Drop)]
-pub(crate) struct Exchange {
+pub(crate) struct KeyLine {
     keys: Vec<u8>,
     answers: Vec<u8>,
 }
 
-impl Exchange {
+impl KeyLine {
     /// Nothing was typed yet.
-    pub(crate) fn new(alloc: Global) -> Exchange
+    pub(crate) fn new(alloc: Global) -> KeyLine
         ensures { Gathers [] result }
     {
-        Exchange {
+        KeyLine {
             keys: Vec::new(alloc),
             answers: Vec::new(alloc),
         }

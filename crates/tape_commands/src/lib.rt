@@ -13,7 +13,7 @@ mod block_list;
 mod check;
 mod check_text;
 mod dialogue;
-mod exchange;
+mod key_line;
 mod make;
 mod output;
 mod play;

@@ -4,7 +4,7 @@ use Rattle.tape_commands.proofs.Dialogues.{Conversation}
 use Rattle.tape_commands.proofs.dialogue.talk.Given as goal
 
 abbrev pub invariant-loop-end : goal.invariant-loop-end
-invariant-loop-end g l = Conversation l.initial.world l.world l.exchange (g.W.Write.contents l.initial.out) (g.W.Write.contents l.out)
+invariant-loop-end g l = Conversation l.initial.world l.world l.under_way (g.W.Write.contents l.initial.out) (g.W.Write.contents l.out)
 
 abbrev pub decreases-loop-end : goal.decreases-loop-end
 decreases-loop-end g l = work_left l.world

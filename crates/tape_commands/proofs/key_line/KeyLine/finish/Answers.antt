@@ -4,7 +4,7 @@ use Rattle.std.proofs.KnownBytes.{Appends-nil}
 use Rattle.tape_commands.specs.KeyLines.{Holds, last_line}
 use Rattle.byte_io.proofs.Fronts.{front_prefix}
 use Rattle.tape_commands.proofs.KeyTexts.{none_held, none_of_line, some_of_line}
-use Rattle.tape_commands.proofs.exchange.Exchange.finish.Goals as goal
+use Rattle.tape_commands.proofs.key_line.KeyLine.finish.Goals as goal
 
 pub returns-then-is_empty-clause-ok : goal.returns-then-is_empty-clause-ok
 returns-then-is_empty-clause-ok g c held holds =

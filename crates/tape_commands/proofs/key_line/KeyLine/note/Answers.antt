@@ -2,7 +2,7 @@ use Rattle.std.proofs.Common.{nat_eq, ap, sym, ◌∙◌}
 use Rattle.std.specs.Cmp.Lexicographic.{pointwise}
 use Rattle.tape_commands.specs.KeyLines.{Answered}
 use Rattle.tape_commands.proofs.KeyTexts.{holds_more, echo_noted, line_ends, line_fails, none_of_key}
-use Rattle.tape_commands.proofs.exchange.Exchange.note.Goals as goal
+use Rattle.tape_commands.proofs.key_line.KeyLine.note.Goals as goal
 
 pub returns-then-eq-clause-ok : goal.returns-then-eq-clause-ok
 returns-then-eq-clause-ok g c gathered gathers =

@@ -11,8 +11,9 @@ use Rattle.record_file.specs.DiskStep.{DiskStep, Did, Failed, LedTo, answered, s
 use Rattle.record_file.specs.Folder.{IsFolderOf}
 use Rattle.record_file.specs.declared.disk.Access.TheVariants.{ReadOnly, ReadWrite}
 use Rattle.load_devices.proofs.Told.{tells_join, tells_none}
+use Rattle.request_values.specs.Change.{Change, ◌⇒◌}
 use Rattle.tape_shelf.specs.Room.{room_of, IsFolderOpened}
-use Rattle.tape_shelf.specs.ShelfDisk.{Place, Room, ShelfDisk, HasNoPart, HasNoRoom, HasPart, HasRoom, LeaveAll, resuming, IsPutOn, IsPut, Written, IsNoFileName, IsSearch, Free, IsNotReserved, NoRoom, IsReserved, Reserved, IsMakingHeld, IsTaking, IsTakingHeld, Unmade, Taken, NotTaken, IsGone, Goes, IsLeftBehind, IsOnDisk, Synced, IsNaming, Renamed, NotRenamed, IsSettling, IsNamed, Named, Unnamed, IsClosed, part_name, IsAdded, IsNotAdded, IsUnadded, NoFile}
+use Rattle.tape_shelf.specs.ShelfDisk.{Closing, Place, Room, ShelfDisk, closing_in, HasNoPart, HasNoRoom, HasPart, HasRoom, LeaveAll, resuming, IsPutOn, IsPut, Written, IsNoFileName, IsSearch, Free, IsNotReserved, NoRoom, IsReserved, Reserved, IsMakingHeld, IsTaking, IsTakingHeld, Unmade, Taken, NotTaken, IsGone, Goes, IsLeftBehind, IsOnDisk, Synced, IsNaming, Renamed, NotRenamed, IsSettling, IsNamed, Named, Unnamed, IsClosed, part_name, IsAdded, IsNotAdded, IsUnadded, NoFile}
 use Rattle.tape_shelf.specs.Shelf.{add_step, put_step}
 use Rattle.tape_shelf.specs.ShelfTold.{AsksFor}
 use Rattle.tape_shelf.specs.declared.new_file.Part.{Part}
@@ -80,6 +81,10 @@ pub not_renamed : (own name : List ℕ) (steps : List DiskStep) → IsSearch nam
 not_renamed own name steps Free = NotRenamed
 
 -- ---- room
+
+-- a disk with a shelf that was asked this, and has this name and this room
+abbrev pub disk_at : Option (List DiskStep) → List ℕ → Option Room → ShelfDisk
+disk_at asked name room = record { asked = asked; name = name; room = room }
 
 -- a file that was filled holds just what it was filled with, where the disk still tells
 pub filled_with : (before after : Option (List ℕ)) (zeros : List ℕ) (steps : List DiskStep) (a b : Option (List DiskStep)) → OnSome a (before ≡ Some [])
@@ -151,14 +156,14 @@ then_not_reserved name fault a b c search making =
 
 -- how that is called of a shelf
 pub no_room_on : (name : List ℕ) (room : Option Room) (fault : ShelfFault) (a b : Option (List DiskStep)) → HasAsked a b (IsNotReserved name fault)
-    → HasAsked a b (HasNoRoom fault (record { asked = a; name = name; room = room }) (record { asked = b; name = name; room = room }))
+    → HasAsked a b (HasNoRoom fault (disk_at a name room ⇒ disk_at b name room))
 no_room_on name room fault a b h = (h.0, h.1, record { refused = h.2; room = refl; name = refl })
 
 pub has_room_on : {T : Type 0} (opened : T → List ℕ → Type 0) (size : ℕ) (contents : T → Option (List ℕ)) (name : List ℕ) (room : Option Room) (part : Part T) (a b c : Option (List DiskStep))
     → string_bytes part.name ≡ part_name name → (part.length ≡ 0) × (part.kept ≡ false) → OnSome c (contents part.file ≡ Some []) → OnSome c (contents part.held ≡ Some (replicate size 0)) → HasAsked a b (IsSearch name None)
     → (folder : List ℕ) × opened part.folder folder × IsFolderOf name folder × HasAsked b c (λ steps. IsReserved name folder (contents part.held) (Failed (LookAtName name) ∷ steps))
     → (folder : List ℕ) × IsFolderOpened opened (Some part) folder
-    × HasAsked a c (HasRoom folder size (record { asked = a; name = name; room = room }) (record { asked = c; name = name; room = Some (room_of contents part) }))
+    × HasAsked a c (HasRoom folder size (disk_at a name room ⇒ disk_at c name (Some (room_of contents part))))
 has_room_on opened size contents name room part a b c own new fresh filled search made =
     let h = then_reserved name made.0 (contents part.held) a b c search made.3 in (
       made.0,
@@ -185,12 +190,12 @@ has_room_on opened size contents name room part a b c own new fresh filled searc
 pub added_on : {T : Type 0} (contents : T → Option (List ℕ)) (name text : List ℕ) (before : Option (Part T)) (part part' : Part T) (a b : Option (List DiskStep))
     → Some part ≡ before → string_bytes part'.name ≡ string_bytes part.name → Appends (contents part.file) (contents part'.file) text → part'.length ≡ part.length + length text → part'.kept ≡ true
     → HasAsked a b (λ steps. steps ≡ Did (SyncFile (contents part'.file)) ∷ [])
-    → HasAsked a b (IsAdded text (record { asked = a; name = name; room = option_map (room_of contents) before }) (record { asked = b; name = name; room = Some (room_of contents part') }))
+    → HasAsked a b (IsAdded text (disk_at a name (option_map (room_of contents) before) ⇒ disk_at b name (Some (room_of contents part'))))
 added_on contents name text before part part' a b is own appends longer kept synced = (
   synced.0,
   synced.1,
   record {
-    before = room_of contents part;
+    earlier = room_of contents part;
     had = ap (option_map (room_of contents)) (sym is);
     written = contents part'.file;
     appends = appends;
@@ -203,7 +208,7 @@ added_on contents name text before part part' a b is own appends longer kept syn
 -- or it was not
 pub not_added_on : {T : Type 0} (contents : T → Option (List ℕ)) (name : List ℕ) (before : Option (Part T)) (part part' : Part T) (a b : Option (List DiskStep)) → Some part ≡ before
     → HasAsked a b (IsUnadded (Some (room_of contents part)) (Some (room_of contents part')))
-    → HasAsked a b (IsNotAdded (record { asked = a; name = name; room = option_map (room_of contents) before }) (record { asked = b; name = name; room = Some (room_of contents part') }))
+    → HasAsked a b (IsNotAdded (disk_at a name (option_map (room_of contents) before) ⇒ disk_at b name (Some (room_of contents part'))))
 not_added_on contents name before part part' a b is unadded = (
   unadded.0,
   unadded.1,
@@ -215,7 +220,7 @@ not_added_on contents name before part part' a b is unadded = (
 
 -- nor without room
 pub not_added_nowhere : {T : Type 0} (contents : T → Option (List ℕ)) (name : List ℕ) (before after : Option (Part T)) (a : Option (List DiskStep)) → None ≡ before → after ≡ None
-    → HasAsked a a (IsNotAdded (record { asked = a; name = name; room = option_map (room_of contents) before }) (record { asked = a; name = name; room = option_map (room_of contents) after }))
+    → HasAsked a a (IsNotAdded (disk_at a name (option_map (room_of contents) before) ⇒ disk_at a name (option_map (room_of contents) after)))
 not_added_nowhere contents name before after a is none = (
   [],
   tells_none a,
@@ -257,31 +262,27 @@ named place room own fault a b c d is disk naming settling = (
   Named fault disk.0 naming.0 settling.0 disk.2 (subst (λ n. IsNaming n place.name None naming.0) is naming.2) settling.2,
 )
 
-pub put_written : (place : Place) (text : List ℕ) (room : Room) (written : Option (List ℕ)) (all : ℕ) (fault : Option ShelfFault) (a b : Option (List DiskStep))
-    → Appends room.written written text → all ≡ room.length + length text → HasAsked a b (IsNamed place (record room { written = written; length = all }) fault)
-    → HasAsked a b (IsPut place text room fault)
-put_written place text room written all fault a b appends is naming =
-    (naming.0, naming.1, Written written fault naming.0 appends (subst (λ n. IsNamed place (record room { written = written; length = n }) fault naming.0) is naming.2))
+pub put_written : (closing : Closing) (room : Room) (written : Option (List ℕ)) (all : ℕ) (fault : Option ShelfFault) (a b : Option (List DiskStep))
+    → Appends room.written written closing.text → all ≡ room.length + length closing.text → HasAsked a b (IsNamed closing.place (record room { written = written; length = all }) fault)
+    → HasAsked a b (IsPut closing room fault)
+put_written closing room written all fault a b appends is naming =
+    (naming.0, naming.1, Written written fault naming.0 appends (subst (λ n. IsNamed closing.place (record room { written = written; length = n }) fault naming.0) is naming.2))
 
 -- what holds of the room that there is
 pub in_room : {T : Type 0} (opened : T → List ℕ → Type 0) (contents : T → Option (List ℕ)) (name text folder : List ℕ) (fault : Option ShelfFault) (before : Option (Part T))
     (part : Part T) (after : Option (Part T)) (a b : Option (List DiskStep)) → Some part ≡ before → after ≡ None
-    → ((dir : List ℕ) → opened part.folder dir → HasAsked a b (IsPut (record { folder = dir; name = name }) text (room_of contents part) fault)) → IsFolderOpened opened before folder
-    → HasAsked a b (IsPutOn folder text fault (record { asked = a; name = name; room = option_map (room_of contents) before })
-    (record { asked = b; name = name; room = option_map (room_of contents) after }))
+    → ((dir : List ℕ) → opened part.folder dir → HasAsked a b (IsPut (record { place = record { folder = dir; name = name }; text = text }) (room_of contents part) fault)) → IsFolderOpened opened before folder
+    → HasAsked a b (IsPutOn (record { place = record { folder = folder; name = name }; text = text }) fault (disk_at a name (option_map (room_of contents) before) ⇒ disk_at b name (option_map (room_of contents) after)))
 in_room opened contents name text folder fault before part after a b is none put = subst
-    (λ room. IsFolderOpened opened room folder → HasAsked a b (IsPutOn folder text fault (record { asked = a; name = name; room = option_map (room_of contents) room })
-    (record { asked = b; name = name; room = option_map (room_of contents) after })))
+    (λ room. IsFolderOpened opened room folder → HasAsked a b (IsPutOn (record { place = record { folder = folder; name = name }; text = text }) fault (disk_at a name (option_map (room_of contents) room) ⇒ disk_at b name (option_map (room_of contents) after))))
     is
     (λ open_so. let h = put folder open_so in (h.0, h.1, record { put = h.2; room = subst (λ room. option_map (room_of contents) room ≡ None) (sym none) refl; name = refl }))
 
 -- without room nothing is asked
 pub in_no_room : {T : Type 0} (contents : T → Option (List ℕ)) (name text folder : List ℕ) (before after : Option (Part T)) (a : Option (List DiskStep)) → None ≡ before → after ≡ None
-    → HasAsked a a (IsPutOn folder text (Some Write) (record { asked = a; name = name; room = option_map (room_of contents) before })
-    (record { asked = a; name = name; room = option_map (room_of contents) after }))
+    → HasAsked a a (IsPutOn (record { place = record { folder = folder; name = name }; text = text }) (Some Write) (disk_at a name (option_map (room_of contents) before) ⇒ disk_at a name (option_map (room_of contents) after)))
 in_no_room contents name text folder before after a is none = subst
-    (λ room. HasAsked a a (IsPutOn folder text (Some Write) (record { asked = a; name = name; room = option_map (room_of contents) room })
-    (record { asked = a; name = name; room = option_map (room_of contents) after })))
+    (λ room. HasAsked a a (IsPutOn (record { place = record { folder = folder; name = name }; text = text }) (Some Write) (disk_at a name (option_map (room_of contents) room) ⇒ disk_at a name (option_map (room_of contents) after))))
     is
     ([], tells_none a, record { put = (refl, refl); room = subst (λ room. option_map (room_of contents) room ≡ None) (sym none) refl; name = refl })
 
@@ -300,16 +301,16 @@ closed contents before part a b is h = subst (λ room. HasAsked a b (IsClosed (o
 
 -- ---- what was answered
 
-pub put_answer : (folder text : List ℕ) (answer : Result ⊤ ShelfFault) (a b : Option (List DiskStep)) (disk disk' : ShelfDisk) → HasAsked a b (IsPutOn folder text (fault_of answer) disk disk')
-    → HasAsked a b (AsksFor folder (put_step text answer) disk disk')
-put_answer folder text (Ok done) a b disk disk' h = h
-put_answer folder text (Err fault) a b disk disk' h = h
+pub put_answer : (folder text : List ℕ) (answer : Result ⊤ ShelfFault) (a b : Option (List DiskStep)) (disk : Change ShelfDisk) → HasAsked a b (IsPutOn (closing_in folder text disk.before) (fault_of answer) disk)
+    → HasAsked a b (AsksFor folder (put_step text answer) disk)
+put_answer folder text (Ok done) a b disk h = h
+put_answer folder text (Err fault) a b disk h = h
 
 pub add_answer : {T : Type 0} (contents : T → Option (List ℕ)) (folder name text : List ℕ) (before : Option (Part T)) (part part' : Part T) (answer : Result ⊤ ShelfFault) (a b : Option (List DiskStep))
     → Some part ≡ before → string_bytes part'.name ≡ string_bytes part.name → OnOk answer (Appends (contents part.file) (contents part'.file) text) → OnOk answer (part'.length ≡ part.length + length text)
     → OnOk answer (part'.kept ≡ true) → OnOk answer (HasAsked a b (λ steps. steps ≡ Did (SyncFile (contents part'.file)) ∷ []))
     → IfErr answer (λ _. HasAsked a b (IsUnadded (Some (room_of contents part)) (Some (room_of contents part'))))
-    → HasAsked a b (AsksFor folder (add_step text answer) (record { asked = a; name = name; room = option_map (room_of contents) before }) (record { asked = b; name = name; room = Some (room_of contents part') }))
+    → HasAsked a b (AsksFor folder (add_step text answer) (disk_at a name (option_map (room_of contents) before) ⇒ disk_at b name (Some (room_of contents part'))))
 add_answer contents folder name text before part part' (Ok done) a b is own appends longer kept synced unadded = added_on contents name text before part part' a b is own appends longer kept synced
 add_answer contents folder name text before part part' (Err fault) a b is own appends longer kept synced unadded = not_added_on contents name before part part' a b is unadded
 
@@ -340,7 +341,7 @@ pub has_part_on : {T : Type 0} (opened : T → List ℕ → Type 0) (contents : 
     → string_bytes part.name ≡ part_name name → part.length ≡ 0 → (part.kept ≡ false → numbers ≡ []) → OnSome b (contents part.file ≡ Some []) → OnSome b (contents part.held ≡ Some [])
     → (folder : List ℕ) × opened part.folder folder × IsFolderOf name folder × HasAsked a b (λ steps. steps ≡ resuming (part_name name) folder (contents part.held))
     → (folder : List ℕ) × IsFolderOpened opened (Some part) folder
-    × HasAsked a b (HasPart folder numbers (record { asked = a; name = name; room = room }) (record { asked = b; name = name; room = Some (room_of contents part) }))
+    × HasAsked a b (HasPart folder numbers (disk_at a name room ⇒ disk_at b name (Some (room_of contents part))))
 has_part_on opened contents name numbers room part a b own empty stays fresh untouched taken = (
   taken.0,
   taken.1,
@@ -363,5 +364,5 @@ has_part_on opened contents name numbers room part a b own empty stays fresh unt
 )
 
 pub no_part_on : (name : List ℕ) (room : Option Room) (a b : Option (List DiskStep)) → HasAsked a b LeaveAll
-    → HasAsked a b (HasNoPart (record { asked = a; name = name; room = room }) (record { asked = b; name = name; room = room }))
+    → HasAsked a b (HasNoPart (disk_at a name room ⇒ disk_at b name room))
 no_part_on name room a b h = (h.0, h.1, record { idle = h.2; room = refl; name = refl })

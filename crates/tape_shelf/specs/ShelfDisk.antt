@@ -7,6 +7,7 @@ use Rattle.record_file.specs.DiskStep.{DiskStep, Did, Failed, LedTo, step_by}
 use Rattle.record_file.specs.DiskStep.{DiskRequest, LookAtName, FindSoleFile, FindFile, Open, Hold, Link, Rename, Remove, SyncFolder, Cut, SyncFile}
 use Rattle.record_file.specs.Folder.{IsFolderOf}
 use Rattle.record_file.specs.declared.disk.Access.TheVariants.{ReadOnly, ReadWrite, New}
+use Rattle.request_values.specs.Change.{Change, ◌⇒◌}
 use Rattle.tape_shelf.specs.declared.shelf.ShelfFault.{ShelfFault}
 use Rattle.tape_shelf.specs.declared.shelf.ShelfFault.TheVariants.{IsThere, PartIsThere, Write, Memory}
 
@@ -123,6 +124,11 @@ pub record Place : Type 0 where
   pub folder : List ℕ
   pub name : List ℕ
 
+-- what is done last: the last text of a tape is written, and the tape goes to its place
+pub record Closing : Type 0 where
+  pub place : Place
+  pub text : List ℕ
+
 -- the file beside is cut behind what was written to it, and brought to the disk, and then its name is still its own
 pub data IsOnDisk (room : Room) : Bool → List DiskStep → Type 0 where
   Synced : (found : Bool)
@@ -161,16 +167,17 @@ pub data IsNamed (place : Place) (room : Room) : Option ShelfFault → List Disk
 
 -- the last text was written to the file beside, and that gets the tape's name, with all that was written to it and no byte more; or it can't be
 -- written
-pub data IsPut (place : Place) (text : List ℕ) (room : Room) : Option ShelfFault → List DiskStep → Type 0 where
+pub data IsPut (closing : Closing) (room : Room) : Option ShelfFault → List DiskStep → Type 0 where
   NotWritten : (written : Option (List ℕ)) (leaving : List DiskStep) → IsLeftBehind room.kept room.name written leaving
-      → IsPut place text room (Some Write) leaving
-  Written : (written : Option (List ℕ)) (fault : Option ShelfFault) (naming : List DiskStep) → Appends room.written written text
-      → IsNamed place (record room { written = written; length = room.length + length text }) fault naming → IsPut place text room fault naming
+      → IsPut closing room (Some Write) leaving
+  Written : (written : Option (List ℕ)) (fault : Option ShelfFault) (naming : List DiskStep) → Appends room.written written closing.text
+      → IsNamed closing.place (record room { written = written; length = room.length + length closing.text }) fault naming
+      → IsPut closing room fault naming
 
 -- without room nothing is asked
-abbrev pub IsPutInto : Place → List ℕ → Option Room → Option ShelfFault → List DiskStep → Type 0
-IsPutInto place text None fault steps = (fault ≡ Some Write) × (steps ≡ [])
-IsPutInto place text (Some room) fault steps = IsPut place text room fault steps
+abbrev pub IsPutInto : Closing → Option Room → Option ShelfFault → List DiskStep → Type 0
+IsPutInto closing None fault steps = (fault ≡ Some Write) × (steps ≡ [])
+IsPutInto closing (Some room) fault steps = IsPut closing room fault steps
 
 -- ---- one call
 
@@ -181,56 +188,56 @@ pub record ShelfDisk : Type 0 where
   pub room : Option Room
 
 -- from one moment to another the disk, where the shelf is on one, was asked for steps of which this holds
-abbrev pub ShelfAsked : Option ShelfDisk → Option ShelfDisk → (ShelfDisk → ShelfDisk → List DiskStep → Type 0) → Type 0
+abbrev pub ShelfAsked : Option ShelfDisk → Option ShelfDisk → (Change ShelfDisk → List DiskStep → Type 0) → Type 0
 ShelfAsked None after P = ⊤
 ShelfAsked (Some disk) None P = ⊥
-ShelfAsked (Some disk) (Some disk') P = HasAsked disk.asked disk'.asked (P disk disk')
+ShelfAsked (Some disk) (Some disk') P = HasAsked disk.asked disk'.asked (P (disk ⇒ disk'))
 
 -- the room of so many bytes was taken, in this folder, in a file beside, to which nothing was written since it is filled, where the disk tells
-pub record HasRoom (folder : List ℕ) (length : ℕ) (disk disk' : ShelfDisk) (steps : List DiskStep) : Type 0 where
-  pub folder_of : IsFolderOf disk.name folder
+pub record HasRoom (folder : List ℕ) (length : ℕ) (disk : Change ShelfDisk) (steps : List DiskStep) : Type 0 where
+  pub folder_of : IsFolderOf disk.before.name folder
   pub filled : Option (List ℕ)
-  pub taken : OnSome disk'.asked (filled ≡ Some (replicate length 0))
-  pub reserved : IsReserved disk.name folder filled steps
+  pub taken : OnSome disk.after.asked (filled ≡ Some (replicate length 0))
+  pub reserved : IsReserved disk.before.name folder filled steps
   pub written : Option (List ℕ)
-  pub room : disk'.room ≡ Some (record { name = part_name disk.name; written = written; length = 0; kept = false })
-  pub fresh : OnSome disk'.asked (written ≡ Some [])
-  pub name : disk'.name ≡ disk.name
+  pub room : disk.after.room ≡ Some (record { name = part_name disk.before.name; written = written; length = 0; kept = false })
+  pub fresh : OnSome disk.after.asked (written ≡ Some [])
+  pub name : disk.after.name ≡ disk.before.name
 
 -- there is none, for this reason, and what room there was is as it was
-pub record HasNoRoom (fault : ShelfFault) (disk disk' : ShelfDisk) (steps : List DiskStep) : Type 0 where
-  pub refused : IsNotReserved disk.name fault steps
-  pub room : disk'.room ≡ disk.room
-  pub name : disk'.name ≡ disk.name
+pub record HasNoRoom (fault : ShelfFault) (disk : Change ShelfDisk) (steps : List DiskStep) : Type 0 where
+  pub refused : IsNotReserved disk.before.name fault steps
+  pub room : disk.after.room ≡ disk.before.room
+  pub name : disk.after.name ≡ disk.before.name
 
 -- a file beside that was left there is gone on with, in this folder: nothing was written to it yet. It stays, where there is a block in it
-pub record HasPart (folder numbers : List ℕ) (disk disk' : ShelfDisk) (steps : List DiskStep) : Type 0 where
-  pub folder_of : IsFolderOf disk.name folder
+pub record HasPart (folder numbers : List ℕ) (disk : Change ShelfDisk) (steps : List DiskStep) : Type 0 where
+  pub folder_of : IsFolderOf disk.before.name folder
   pub held : Option (List ℕ)
-  pub untouched : OnSome disk'.asked (held ≡ Some [])
-  pub resumed : steps ≡ resuming (part_name disk.name) folder held
+  pub untouched : OnSome disk.after.asked (held ≡ Some [])
+  pub resumed : steps ≡ resuming (part_name disk.before.name) folder held
   pub written : Option (List ℕ)
   pub kept : Bool
   pub stays : kept ≡ false → numbers ≡ []
-  pub room : disk'.room ≡ Some (record { name = part_name disk.name; written = written; length = 0; kept = kept })
-  pub fresh : OnSome disk'.asked (written ≡ Some [])
-  pub name : disk'.name ≡ disk.name
+  pub room : disk.after.room ≡ Some (record { name = part_name disk.before.name; written = written; length = 0; kept = kept })
+  pub fresh : OnSome disk.after.asked (written ≡ Some [])
+  pub name : disk.after.name ≡ disk.before.name
 
 -- it is not: each file is left as it is, and what room there was is as it was
-pub record HasNoPart (disk disk' : ShelfDisk) (steps : List DiskStep) : Type 0 where
+pub record HasNoPart (disk : Change ShelfDisk) (steps : List DiskStep) : Type 0 where
   pub idle : LeaveAll steps
-  pub room : disk'.room ≡ disk.room
-  pub name : disk'.name ≡ disk.name
+  pub room : disk.after.room ≡ disk.before.room
+  pub name : disk.after.name ≡ disk.before.name
 
 -- a text was added to the file beside, and is on the disk
-pub record IsAdded (text : List ℕ) (disk disk' : ShelfDisk) (steps : List DiskStep) : Type 0 where
-  pub before : Room
-  pub had : disk.room ≡ Some before
+pub record IsAdded (text : List ℕ) (disk : Change ShelfDisk) (steps : List DiskStep) : Type 0 where
+  pub earlier : Room
+  pub had : disk.before.room ≡ Some earlier
   pub written : Option (List ℕ)
-  pub appends : Appends before.written written text
+  pub appends : Appends earlier.written written text
   pub synced : steps ≡ Did (SyncFile written) ∷ []
-  pub room : disk'.room ≡ Some (record { name = before.name; written = written; length = before.length + length text; kept = true })
-  pub name : disk'.name ≡ disk.name
+  pub room : disk.after.room ≡ Some (record { name = earlier.name; written = written; length = earlier.length + length text; kept = true })
+  pub name : disk.after.name ≡ disk.before.name
 
 -- it could not be written; or not be brought to the disk, and then it counts as one that is there; or there is no room
 pub data IsUnadded : Option Room → Option Room → List DiskStep → Type 0 where
@@ -240,12 +247,16 @@ pub data IsUnadded : Option Room → Option Room → List DiskStep → Type 0 wh
       → IsUnadded (Some room) (Some (record { name = room.name; written = written; length = size; kept = true })) (Failed (SyncFile written) ∷ [])
 
 -- a text was not added
-pub record IsNotAdded (disk disk' : ShelfDisk) (steps : List DiskStep) : Type 0 where
-  pub unadded : IsUnadded disk.room disk'.room steps
-  pub name : disk'.name ≡ disk.name
+pub record IsNotAdded (disk : Change ShelfDisk) (steps : List DiskStep) : Type 0 where
+  pub unadded : IsUnadded disk.before.room disk.after.room steps
+  pub name : disk.after.name ≡ disk.before.name
+
+-- the last text of a tape whose folder has this name
+abbrev pub closing_in : List ℕ → List ℕ → ShelfDisk → Closing
+closing_in folder text disk = record { place = record { folder = folder; name = disk.name }; text = text }
 
 -- a tape was given its name, or not, and there is no room any more
-pub record IsPutOn (folder text : List ℕ) (fault : Option ShelfFault) (disk disk' : ShelfDisk) (steps : List DiskStep) : Type 0 where
-  pub put : IsPutInto (record { folder = folder; name = disk.name }) text disk.room fault steps
-  pub room : disk'.room ≡ None
-  pub name : disk'.name ≡ disk.name
+pub record IsPutOn (closing : Closing) (fault : Option ShelfFault) (disk : Change ShelfDisk) (steps : List DiskStep) : Type 0 where
+  pub put : IsPutInto closing disk.before.room fault steps
+  pub room : disk.after.room ≡ None
+  pub name : disk.after.name ≡ disk.before.name

@@ -2,8 +2,9 @@
 use Rattle.std.specs.Prelude.{◌≡◌, ℕ, List, [], ◌∷◌, Option, Some, None}
 use Rattle.load_devices.specs.Told.{Gains}
 use Rattle.record_file.specs.DiskStep.{DiskStep}
+use Rattle.request_values.specs.Change.{Change}
 use Rattle.tape_shelf.specs.Shelf.{ShelfStep, Reserve, NotReserved, Resume, NotResumed, Add, NotAdded, Put, NotPut}
-use Rattle.tape_shelf.specs.ShelfDisk.{ShelfDisk, ShelfAsked, HasRoom, HasNoRoom, HasPart, HasNoPart, IsAdded, IsNotAdded, IsPutOn}
+use Rattle.tape_shelf.specs.ShelfDisk.{ShelfDisk, ShelfAsked, HasRoom, HasNoRoom, HasPart, HasNoPart, IsAdded, IsNotAdded, IsPutOn, closing_in}
 
 -- what was asked of it so far, in its order; None where its type doesn't tell. And the disk on which its tape goes; None where it goes on none,
 -- or the type doesn't say
@@ -16,15 +17,15 @@ abbrev pub untold_shelf : ShelfTold
 untold_shelf = record { steps = None; disk = None }
 
 -- what a step asks of the disk, where the folder of the tape has this name
-abbrev pub AsksFor : List ℕ → ShelfStep → ShelfDisk → ShelfDisk → List DiskStep → Type 0
-AsksFor folder (Reserve length) = HasRoom folder length
-AsksFor folder (NotReserved length fault) = HasNoRoom fault
-AsksFor folder (Resume numbers) = HasPart folder numbers
-AsksFor folder (NotResumed fault) = HasNoPart
-AsksFor folder (Add text) = IsAdded text
-AsksFor folder (NotAdded text) = IsNotAdded
-AsksFor folder (Put text) = IsPutOn folder text None
-AsksFor folder (NotPut text fault) = IsPutOn folder text (Some fault)
+abbrev pub AsksFor : List ℕ → ShelfStep → Change ShelfDisk → List DiskStep → Type 0
+AsksFor folder (Reserve length) disk = HasRoom folder length disk
+AsksFor folder (NotReserved length fault) disk = HasNoRoom fault disk
+AsksFor folder (Resume numbers) disk = HasPart folder numbers disk
+AsksFor folder (NotResumed fault) disk = HasNoPart disk
+AsksFor folder (Add text) disk = IsAdded text disk
+AsksFor folder (NotAdded text) disk = IsNotAdded disk
+AsksFor folder (Put text) disk = IsPutOn (closing_in folder text disk.before) None disk
+AsksFor folder (NotPut text fault) disk = IsPutOn (closing_in folder text disk.before) (Some fault) disk
 
 -- a step was done on a shelf
 abbrev pub IsDone : List ℕ → ShelfStep → ShelfTold → ShelfTold → Type 0

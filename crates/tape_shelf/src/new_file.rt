@@ -297,7 +297,7 @@ fn put_into<D: Disk>(
     ensures fault { IfErr result IsPutFault }
     ensures asked { (folder : List ℕ) → D.is_opened_as part.folder folder
         → HasAsked (D.asked disk.old) (D.asked disk.new)
-        (IsPut (record { folder = folder; name = name.now }) text.now (room_of D.File.contents part) (fault_of result)) }
+        (IsPut (record { place = record { folder = folder; name = name.now }; text = text.now }) (room_of D.File.contents part) (fault_of result)) }
 {
     let Some(length) = part.length.checked_add(text.len() as u64) else {
         leave(disk, &part);

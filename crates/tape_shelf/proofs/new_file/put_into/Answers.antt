@@ -11,5 +11,5 @@ returns-then-is_err-clause-asked g c folder opened = let leaving = c.leave-then-
 
 pub returns-clause-asked : goal.returns-clause-asked
 returns-clause-asked g c folder opened =
-    put_written _ _ (room_of g.D.File.Write.contents c.args.part) _ _ _ _ _ (done _ c.write_and_flush.result c.if-is_err.ensures.value c.write_and_flush.ensures.ok) c.in-Some.ensures.1
+    put_written _ (room_of g.D.File.Write.contents c.args.part) _ _ _ _ _ (done _ c.write_and_flush.result c.if-is_err.ensures.value c.write_and_flush.ensures.ok) c.in-Some.ensures.1
     (c.name_written.ensures.asked folder opened)

@@ -4,7 +4,7 @@ use Rattle.tape_shelf.proofs.new_file.NewFileShelf.put.Goals as goal
 pub returns-in-Some-clause-done : goal.returns-in-Some-clause-done
 returns-in-Some-clause-done g c folder opened = (
   tt,
-  put_answer folder c.args.text.now c.put_into.result _ _ _ _
+  put_answer folder c.args.text.now c.put_into.result _ _ _
       (in_room g.D.Disk.is_opened_as g.D.File.Write.contents _ _ _ _ _ c.in-Some.part _ _ _ c.in-Some.ensures.value c.take.ensures.after c.put_into.ensures.asked opened),
 )
 

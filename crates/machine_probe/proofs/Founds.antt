@@ -15,7 +15,8 @@ use Rattle.reading_engine.specs.declared.stop.Stop.TheVariants.{Ended, LineFaile
 use Rattle.reading_engine.specs.Inquired.{TellsEnd}
 use Rattle.machine_probe.specs.declared.pieces.Pieces.{Pieces}
 use Rattle.machine_probe.specs.Passes.{ArePieces, last_words, found}
-use Rattle.machine_probe.specs.Steps.{LiesWithin, passed}
+use Rattle.machine_probe.specs.Passes.{passed}
+use Rattle.machine_probe.specs.Steps.{LiesWithin}
 use Rattle.machine_probe.proofs.LastWords.{even_times, last_at, length_last, next_end}
 
 -- ---- ends

@@ -13,7 +13,9 @@ use Rattle.honest_line.specs.Honest.{IsHonest}
 use Rattle.machine_probe.specs.declared.memory_end.Limits.{Limits}
 use Rattle.machine_probe.specs.declared.pieces.Pieces.{Pieces}
 use Rattle.machine_probe.specs.declared.search.Search.{Search}
-use Rattle.machine_probe.specs.Passes.{ArePieces, IsPass, SearchGoesOn, Searches, found, last_words, limits, pass_over, three_passes}
+use Rattle.machine_probe.specs.Passes.{ArePieces, IsPass, SearchGoesOn, Searches, ahead, found, last_words, limits, pass_over, passed, three_passes}
+use Rattle.machine_probe.specs.declared.memory_end.PassEnd.{PassEnd}
+use Rattle.machine_probe.specs.declared.memory_end.PassEnd.TheVariants.{Lacking, Over}
 use Rattle.looking_law.specs.Rows.{AreHonest, in_a_row}
 use Rattle.machine_probe.proofs.Founds.{IsOver, passed_within}
 use Rattle.machine_probe.proofs.LastWords.{last_asked}
@@ -167,28 +169,35 @@ next_at limits from address pieces last said long are p =
     let w = passed_within from pieces (Ended (NoWord address)) last are over p.end in
     record { even = w.0; within = w.1 }
 
+-- only a word that is not there lets a pass lack one
+lacking_is : (stop : LookStop) (found next : ℕ) → passed stop found ≡ Lacking next → (address : ℕ) × (stop ≡ Ended (NoWord address)) × (next ≡ found)
+lacking_is (Ended (NoWord address)) found next is = (address, refl, cc is)
+lacking_is (Ended Complete) found next is = absurd (cc is)
+lacking_is (Ended GaveUp) found next is = absurd (cc is)
+lacking_is TurnsOver found next is = absurd (cc is)
+lacking_is (LineFailed fault) found next is = absurd (cc is)
+
 -- what is left of a search leaves the machine ready, if the passes behind this one do
-goes_on_leaves : (stop : LookStop) (to : ℕ) (next : Search → List (List Item) → Type 0) (search : Search) (parts : List (List Item)) → ((address : ℕ) → stop ≡ Ended (NoWord address) → next search parts → AllLeave parts) → SearchGoesOn stop to next search parts → AllLeave parts
-goes_on_leaves (Ended (NoWord address)) to next search parts so is = so address refl is
-goes_on_leaves (Ended Complete) to next search parts so is = subst AllLeave (sym is.1) tt
-goes_on_leaves (Ended GaveUp) to next search parts so is = subst AllLeave (sym is.1) tt
-goes_on_leaves TurnsOver to next search parts so is = subst AllLeave (sym is.1) tt
-goes_on_leaves (LineFailed fault) to next search parts so is = subst AllLeave (sym is.1) tt
+goes_on_leaves : (end : PassEnd) (next : ℕ → Search → List (List Item) → Type 0) (search : Search) (parts : List (List Item)) → ((from : ℕ) → end ≡ Lacking from → next from search parts → AllLeave parts) → SearchGoesOn end next search parts → AllLeave parts
+goes_on_leaves (Lacking from) next search parts so is = so from refl is
+goes_on_leaves (Over over) next search parts so is = subst AllLeave (sym is.1) tt
 
 pass_then : (pieces : Pieces) (passes : List Pieces) (limits : Limits) (from : ℕ) (search : Search) (parts : List (List Item)) → limits.patience < 2 ^ 32 → ArePieces from pieces →
-    ((next : ℕ) (rest : List (List Item)) → NextAt from next pieces → Searches passes limits next search rest → AllLeave rest) →
-    Searches (pieces ∷ passes) limits from search parts → AllLeave parts
+    ((next : ℕ) (rest : List (List Item)) → NextAt from next pieces → Searches passes (ahead limits next) search rest → AllLeave rest) →
+    Searches (pieces ∷ passes) (ahead limits from) search parts → AllLeave parts
 pass_then pieces passes limits from search [] long are so is = absurd is
 pass_then pieces passes limits from search (said ∷ parts) long are so (stop, last, p, goes) = (
   pass_leaves limits from pieces stop last said long are p,
-  goes_on_leaves stop (found from pieces last) (Searches passes limits (found from pieces last)) search parts
-      (λ address is. so (found from pieces last) parts (next_at limits from address pieces last said long are (subst (λ (s : LookStop). IsPass (pass_over limits from pieces) s last said) is p))) goes,
+  goes_on_leaves (passed stop (found from pieces last)) (λ at. Searches passes (ahead limits at)) search parts
+      (λ next is rest. let lacks = lacking_is stop (found from pieces last) next is in
+      so next parts (subst (λ n. NextAt from n pieces) (sym lacks.2)
+      (next_at limits from lacks.0 pieces last said long are (subst (λ (s : LookStop). IsPass (pass_over limits from pieces) s last said) lacks.1 p))) rest) goes,
 )
 
-none_then : (limits : Limits) (from : ℕ) (search : Search) (parts : List (List Item)) → Searches [] limits from search parts → AllLeave parts
+none_then : (limits : Limits) (from : ℕ) (search : Search) (parts : List (List Item)) → Searches [] (ahead limits from) search parts → AllLeave parts
 none_then limits from search parts is = subst AllLeave (sym is.1) tt
 
-search_leaves : (limits : Limits) (search : Search) (parts : List (List Item)) → limits.patience < 2 ^ 32 → Searches three_passes limits 0 search parts → AllLeave parts
+search_leaves : (limits : Limits) (search : Search) (parts : List (List Item)) → limits.patience < 2 ^ 32 → Searches three_passes (ahead limits 0) search parts → AllLeave parts
 search_leaves limits search parts long is =
     pass_then (record { bytes = 0o4000; count = 28 }) (record { bytes = 0o100; count = 32 } ∷ record { bytes = 2; count = 32 } ∷ []) limits 0 search parts long
     (record { even = refl; whole = refl; some = omega arith; below = omega arith })

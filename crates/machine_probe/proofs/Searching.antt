@@ -23,14 +23,15 @@ use Rattle.reading_engine.specs.Belief.{IsBelievableAt}
 use Rattle.reading_engine.specs.Failing.{line_fault}
 use Rattle.reading_engine.proofs.Beliefs.{inquired_believable}
 use Rattle.machine_probe.specs.declared.memory_end.Limits.{Limits}
+use Rattle.machine_probe.specs.declared.memory_end.PassEnd.{PassEnd}
 use Rattle.machine_probe.specs.declared.memory_end.PassEnd.TheVariants.{Lacking, Over}
 use Rattle.machine_probe.specs.declared.pieces.Pieces.{Pieces}
 use Rattle.machine_probe.specs.declared.search.Search.{Search}
 use Rattle.machine_probe.specs.declared.search.Search.TheVariants.{Ends, Stopped}
 use Rattle.machine_probe.specs.MemoryEnd.{IsTrueEnd, FindsEnd, stop_of}
-use Rattle.machine_probe.specs.Passes.{ArePieces, IsPass, SearchGoesOn, Searches, found, last_words, pass_over, three_passes}
+use Rattle.machine_probe.specs.Passes.{ArePieces, IsPass, SearchGoesOn, Searches, ahead, found, last_words, pass_over, passed, three_passes}
 use Rattle.looking_law.specs.Rows.{AreHonest, in_a_row}
-use Rattle.machine_probe.specs.Steps.{LiesWithin, Stepped, passed}
+use Rattle.machine_probe.specs.Steps.{LiesWithin, Stepped}
 use Rattle.machine_probe.proofs.Founds.{IsOver, all_read, lacking, paid_at, reached}
 
 -- ---- one pass
@@ -88,7 +89,7 @@ FindsFrom from limit patience search parts =
 -- these passes came to this, and what they find is so
 record Runs (passes : List Pieces) (limits : Limits) (from limit : ℕ) (search : Search) (line line' : LineTold) : Type 0 where
   pub parts : List (List Item)
-  pub searches : Searches passes limits from search parts
+  pub searches : Searches passes (ahead limits from) search parts
   pub on_line : Gains line.said line'.said (in_a_row parts)
   pub finds : FindsFrom from limit limits.patience search parts
   pub counted : CountsFault (line_fault (stop_of search)) line.failures line'.failures
@@ -143,30 +144,14 @@ over_right limits from pieces (LineFailed fault) last said search are reads pass
     searched e = cc e
 
 -- how the search goes on from there
-over_goes : (stop : Stop) (end : ℕ) (next : Search → List (List Item) → Type 0) (search : Search) → Over search ≡ passed stop end → SearchGoesOn stop end next search []
-over_goes (Ended Complete) end next search is = (searched is, refl)
-  where
-    searched : Over search ≡ Over (Ends end) → search ≡ Ends end
-    searched e = cc e
-over_goes (Ended (NoWord a)) end next search is = absurd (cc is)
-over_goes (Ended GaveUp) end next search is = (searched is, refl)
-  where
-    searched : Over search ≡ Over (Stopped (Ended GaveUp)) → search ≡ Stopped (Ended GaveUp)
-    searched e = cc e
-over_goes TurnsOver end next search is = (searched is, refl)
-  where
-    searched : Over search ≡ Over (Stopped TurnsOver) → search ≡ Stopped TurnsOver
-    searched e = cc e
-over_goes (LineFailed fault) end next search is = (searched is, refl)
-  where
-    searched : Over search ≡ Over (Stopped (LineFailed fault)) → search ≡ Stopped (LineFailed fault)
-    searched e = cc e
+over_goes : (end : PassEnd) (next : ℕ → Search → List (List Item) → Type 0) (search : Search) → Over search ≡ end → SearchGoesOn end next search []
+over_goes end next search is = subst (λ e. SearchGoesOn e next search []) is (refl, refl)
 
 run_over : (pieces : Pieces) (passes : List Pieces) (limits : Limits) (from : ℕ) (search : Search) (line line' : LineTold) → ArePieces from pieces → Stepped (pass_over limits from pieces) (Over search) line line' →
     Runs (pieces ∷ passes) limits from (from + pieces.bytes * pieces.count) search line line'
 run_over pieces passes limits from search line line' are s = record {
   parts = s.said ∷ [];
-  searches = (s.stop, s.last, s.is_pass, over_goes s.stop (found from pieces s.last) (Searches passes limits (found from pieces s.last)) search s.result_is);
+  searches = (s.stop, s.last, s.is_pass, over_goes (passed s.stop (found from pieces s.last)) (λ at. Searches passes (ahead limits at)) search s.result_is);
   on_line = subst (Gains line.said line'.said) (sym (append-nil s.said)) s.on_line;
   finds = over_right limits from pieces s.stop s.last s.said search are s.reads s.is_pass s.result_is;
   counted = s.counted;
@@ -203,22 +188,15 @@ more_right limits from limit next pieces (Ended GaveUp) last said search parts a
 more_right limits from limit next pieces TurnsOver last said search parts are reads pass is fits finds machine now lost ready reaches within honest = absurd (cc is)
 more_right limits from limit next pieces (LineFailed fault) last said search parts are reads pass is fits finds machine now lost ready reaches within honest = absurd (cc is)
 
-more_goes : (stop : Stop) (next end : ℕ) (limits : Limits) (passes : List Pieces) (search : Search) (parts : List (List Item)) → Lacking next ≡ passed stop end → Searches passes limits next search parts →
-    SearchGoesOn stop end (Searches passes limits end) search parts
-more_goes (Ended (NoWord a)) next end limits passes search parts is goes = subst (λ at. Searches passes limits at search parts) (here is) goes
-  where
-    here : {at : ℕ} → Lacking next ≡ Lacking at → next ≡ at
-    here e = cc e
-more_goes (Ended Complete) next end limits passes search parts is goes = absurd (cc is)
-more_goes (Ended GaveUp) next end limits passes search parts is goes = absurd (cc is)
-more_goes TurnsOver next end limits passes search parts is goes = absurd (cc is)
-more_goes (LineFailed fault) next end limits passes search parts is goes = absurd (cc is)
+more_goes : (end : PassEnd) (next : ℕ) (limits : Limits) (passes : List Pieces) (search : Search) (parts : List (List Item)) → Lacking next ≡ end → Searches passes (ahead limits next) search parts →
+    SearchGoesOn end (λ at. Searches passes (ahead limits at)) search parts
+more_goes end next limits passes search parts is goes = subst (λ e. SearchGoesOn e (λ at. Searches passes (ahead limits at)) search parts) is goes
 
 run_more : (pieces : Pieces) (passes : List Pieces) (limits : Limits) (from next limit : ℕ) (search : Search) (line line' line'' : LineTold) → ArePieces from pieces → Stepped (pass_over limits from pieces) (Lacking next) line line' →
     next + pieces.bytes ≤ limit + 2 → Runs passes limits next limit search line' line'' → Runs (pieces ∷ passes) limits from (from + pieces.bytes * pieces.count) search line line''
 run_more pieces passes limits from next limit search line line' line'' are s fits run = record {
   parts = s.said ∷ run.parts;
-  searches = (s.stop, s.last, s.is_pass, more_goes s.stop next (found from pieces s.last) limits passes search run.parts s.result_is run.searches);
+  searches = (s.stop, s.last, s.is_pass, more_goes (passed s.stop (found from pieces s.last)) next limits passes search run.parts s.result_is run.searches);
   on_line = gains_join line.said line'.said line''.said s.said (in_a_row run.parts) s.on_line run.on_line;
   finds = more_right limits from limit next pieces s.stop s.last s.said search run.parts are s.reads s.is_pass s.result_is fits run.finds;
   counted = subst (λ count. CountsFault (line_fault (stop_of search)) count line''.failures) s.counted run.counted;

@@ -12,7 +12,8 @@ use Rattle.reading_engine.specs.Inquired.{Inquired, IsInquired, inquiry}
 use Rattle.machine_probe.specs.declared.memory_end.Limits.{Limits}
 use Rattle.machine_probe.specs.declared.pieces.Pieces.{Pieces}
 use Rattle.machine_probe.specs.Passes.{ArePieces, found, pass_over, reader_of}
-use Rattle.machine_probe.specs.Steps.{Stepped, passed, stop_in}
+use Rattle.machine_probe.specs.Passes.{passed}
+use Rattle.machine_probe.specs.Steps.{Stepped, stop_in}
 use Rattle.machine_probe.proofs.Founds.{passed_within}
 
 -- the fault that stopped a pass is the one that is answered

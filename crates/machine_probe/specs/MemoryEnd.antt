@@ -13,7 +13,7 @@ use Rattle.reading_engine.specs.Failing.{line_fault}
 use Rattle.machine_probe.specs.declared.memory_end.Limits.{Limits}
 use Rattle.machine_probe.specs.declared.search.Search.{Search}
 use Rattle.machine_probe.specs.declared.search.Search.TheVariants.{Ends, Stopped}
-use Rattle.machine_probe.specs.Passes.{Searches, three_passes}
+use Rattle.machine_probe.specs.Passes.{Searches, ahead, three_passes}
 use Rattle.looking_law.specs.Belief.{IsReadyMachine}
 use Rattle.looking_law.specs.Rows.{AreHonest, in_a_row}
 
@@ -38,7 +38,7 @@ IsFound patience search parts =
 pub record FindsEnd (limits : Limits) (search : Search) (before after : LineTold) : Type 0 where
   -- what was said in each pass
   pub parts : List (List Item)
-  pub passes : Searches three_passes limits 0 search parts
+  pub passes : Searches three_passes (ahead limits 0) search parts
   pub on_line : Gains before.said after.said (in_a_row parts)
   pub believed : IsFound limits.patience search parts
   pub counted : CountsFault (line_fault (stop_of search)) before.failures after.failures

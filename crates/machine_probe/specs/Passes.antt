@@ -8,6 +8,8 @@ use Rattle.reading_engine.specs.declared.stop.Stop.{Stop}
 use Rattle.reading_engine.specs.declared.stop.Stop.TheVariants.{Ended}
 use Rattle.reading_engine.specs.Inquired.{Inquired, TellsEnd, inquiry}
 use Rattle.machine_probe.specs.declared.memory_end.Limits.{Limits}
+use Rattle.machine_probe.specs.declared.memory_end.PassEnd.{PassEnd}
+use Rattle.machine_probe.specs.declared.memory_end.PassEnd.TheVariants.{Lacking, Over}
 use Rattle.machine_probe.specs.declared.pieces.Pieces.{Pieces}
 use Rattle.machine_probe.specs.declared.room.Room.{Room}
 use Rattle.machine_probe.specs.declared.search.Search.{Search}
@@ -62,18 +64,30 @@ pub record IsPass (pass : Pass) (stop : Stop) (last : Reader) (said : List Item)
 abbrev pub found : ℕ → Pieces → Reader → ℕ
 found from pieces last = from + pieces.bytes * length last.values
 
--- how a search goes on from a pass that stopped so and found memory up to an address, where `next` says what the passes
--- do that are left: with these where a piece lacked its last word; where none did, memory ends behind the last; and any
--- other stop is the search's
-abbrev pub SearchGoesOn : Stop → ℕ → (next : Search → List (List Item) → Type 0) → Search → List (List Item) → Type 0
-SearchGoesOn (Ended (NoWord address)) found next search parts = next search parts
-SearchGoesOn (Ended Complete) found next search parts = (search ≡ Ends found) × (parts ≡ [])
-SearchGoesOn stop found next search parts = (search ≡ Stopped stop) × (parts ≡ [])
+-- what a pass that stopped so and found memory up to an address comes to
+abbrev pub passed : Stop → ℕ → PassEnd
+passed (Ended (NoWord address)) found = Lacking found
+passed (Ended Complete) found = Over (Ends found)
+passed stop found = Over (Stopped stop)
 
--- these passes, from an address on, came to this, with what was said in each. Behind the last pass memory ends
-abbrev pub Searches : List Pieces → Limits → (from : ℕ) → Search → List (List Item) → Type 0
-Searches [] limits from search parts = (search ≡ Ends from) × (parts ≡ [])
-Searches (pieces ∷ passes) limits from search [] = ⊥
-Searches (pieces ∷ passes) limits from search (said ∷ parts) =
-    (stop : Stop) × (last : Reader) × IsPass (pass_over limits from pieces) stop last said
-    × SearchGoesOn stop (found from pieces last) (Searches passes limits (found from pieces last)) search parts
+-- what is ahead of a search: from which address on its passes go, and the limits of each
+pub record Ahead : Type 0 where
+  pub limits : Limits
+  pub from : ℕ
+
+abbrev pub ahead : Limits → ℕ → Ahead
+ahead limits from = record { limits = limits; from = from }
+
+-- how a search goes on behind a pass that came to this, where `next` says what the passes do that are left: with these where a piece
+-- lacked its last word, from there on; else it is over
+abbrev pub SearchGoesOn : PassEnd → (next : ℕ → Search → List (List Item) → Type 0) → Search → List (List Item) → Type 0
+SearchGoesOn (Lacking from) next search parts = next from search parts
+SearchGoesOn (Over end) next search parts = (search ≡ end) × (parts ≡ [])
+
+-- these passes came to this, with what was said in each. Behind the last pass memory ends
+abbrev pub Searches : List Pieces → Ahead → Search → List (List Item) → Type 0
+Searches [] at search parts = (search ≡ Ends at.from) × (parts ≡ [])
+Searches (pieces ∷ passes) at search [] = ⊥
+Searches (pieces ∷ passes) at search (said ∷ parts) =
+    (stop : Stop) × (last : Reader) × IsPass (pass_over at.limits at.from pieces) stop last said
+    × SearchGoesOn (passed stop (found at.from pieces last)) (λ from. Searches passes (ahead at.limits from)) search parts

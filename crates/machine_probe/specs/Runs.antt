@@ -4,7 +4,7 @@ use Rattle.load_devices.specs.declared.item.Item.{Item}
 use Rattle.load_devices.specs.Told.{Gains}
 use Rattle.machine_probe.specs.declared.search.Search.{Search}
 use Rattle.machine_probe.specs.MemoryEnd.{IsFound}
-use Rattle.machine_probe.specs.Passes.{Searches, limits, three_passes}
+use Rattle.machine_probe.specs.Passes.{Searches, ahead, limits, three_passes}
 use Rattle.looking_law.specs.Rows.{in_a_row}
 use Rattle.probe_report.specs.declared.findings.Attempt.{Attempt}
 use Rattle.probe_report.specs.declared.findings.Extent.{Extent}
@@ -40,7 +40,7 @@ pub record IsTrialOf (options : ProbeOptions) (old : ℕ) (attempt : Attempt) (s
 -- a search of memory's end gave this, with what was said in each of its passes
 pub record IsSearch (options : ProbeOptions) (extent : Extent) (parts : List (List Item)) : Type 0 where
   pub search : Search
-  pub passes : Searches three_passes (limits options.patience (turns_of options.patience)) 0 search parts
+  pub passes : Searches three_passes (ahead (limits options.patience (turns_of options.patience)) 0) search parts
   pub extent_is : extent ≡ extent_of search
   pub found : IsFound options.patience search parts
 

@@ -4,24 +4,15 @@ use Rattle.load_devices.specs.declared.item.Item.{Item}
 use Rattle.load_devices.specs.Devices.{LineTold}
 use Rattle.load_devices.specs.Failures.{CountsFault, IsLastFault}
 use Rattle.load_devices.specs.Told.{Gains}
-use Rattle.reading_core.specs.declared.phase.End.TheVariants.{Complete, NoWord}
 use Rattle.reading_core.specs.Invariant.{IsReader}
 use Rattle.reading_core.specs.Reader.{Reader}
 use Rattle.reading_engine.specs.Failing.{line_fault}
 use Rattle.reading_engine.specs.declared.stop.Stop.{Stop}
-use Rattle.reading_engine.specs.declared.stop.Stop.TheVariants.{Ended}
 use Rattle.machine_probe.specs.declared.memory_end.PassEnd.{PassEnd}
 use Rattle.machine_probe.specs.declared.memory_end.PassEnd.TheVariants.{Lacking, Over}
 use Rattle.machine_probe.specs.declared.pieces.Pieces.{Pieces}
-use Rattle.machine_probe.specs.declared.search.Search.TheVariants.{Ends, Stopped}
 use Rattle.machine_probe.specs.MemoryEnd.{stop_of}
-use Rattle.machine_probe.specs.Passes.{IsPass, Pass, found, reader_of}
-
--- what a pass that stopped so and found memory up to an address comes to
-abbrev pub passed : Stop → ℕ → PassEnd
-passed (Ended (NoWord address)) found = Lacking found
-passed (Ended Complete) found = Over (Ends found)
-passed stop found = Over (Stopped stop)
+use Rattle.machine_probe.specs.Passes.{IsPass, Pass, found, passed, reader_of}
 
 -- a piece that lacks its last word is one of the pieces
 abbrev pub LiesWithin : ℕ → Pieces → PassEnd → Type 0

@@ -2,8 +2,8 @@ ghost use Rattle.std.specs.Prelude.{◌≡◌, IfOk, OnErr};
 ghost use Rattle.load_devices.specs.Devices.{line_told};
 ghost use Rattle.load_devices.specs.Told.{SaysNothing};
 ghost use Rattle.machine_probe.specs.MemoryEnd.{FindsEnd};
-ghost use Rattle.machine_probe.specs.Passes.{ArePieces, IsRoom, limits, pass_over};
-ghost use Rattle.machine_probe.specs.Steps.{Stepped, passed};
+ghost use Rattle.machine_probe.specs.Passes.{ArePieces, IsRoom, limits, pass_over, passed};
+ghost use Rattle.machine_probe.specs.Steps.{Stepped};
 
 use crate::pieces::{LARGE, Pieces, SMALL, WORDS};
 use crate::room::Room;

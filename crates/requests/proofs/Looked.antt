@@ -18,7 +18,7 @@ use Rattle.requests.specs.Planning.{IsPlanned}
 use Rattle.requests.specs.Probing.{IsConsoleProbed, IsConsoleUnprobed, probe_options}
 
 module _ (names : List Name) (look : Look) (before after : Moment) (plan : PlanValue) (planned : IsPlanned names (intake_at before) (intake_at after) plan)
-    (no_disk : AsksNoDisk (before ⇒ after)) (end : VerifyEnd) (reported : IsVerifyReported plan look.patience (console_at look before) (console_at look after) end) where
+    (no_disk : AsksNoDisk (before ⇒ after)) (end : VerifyEnd) (reported : IsVerifyReported plan look.patience (console_at look before ⇒ console_at look after) end) where
   pub verified : (result : Result Status Failure) → result ≡ after_verify end → IfOk result (AreVerified names look (before ⇒ after))
   verified (Ok status) is = record { plan = plan; planned = planned; verified = (end, reported, sym is); no_disk = no_disk }
   verified (Err failure) is = tt

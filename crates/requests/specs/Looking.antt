@@ -28,19 +28,19 @@ consoles_at look moments = console_at look moments.before ⇒ console_at look mo
 -- memory was looked at for a plan
 abbrev pub IsPlanVerified : PlanValue → Look → Change ConsoleTold → Status → Type 0
 IsPlanVerified plan look console status =
-    (end : VerifyEnd) × IsVerifyReported plan look.patience console.before console.after end × (after_verify end ≡ Ok status)
+    (end : VerifyEnd) × IsVerifyReported plan look.patience console end × (after_verify end ≡ Ok status)
 
 -- a look for a plan came to nothing
 pub record IsVerifyCutShort (plan : PlanValue) (look : Look) (console : Change ConsoleTold) (failure : Failure) : Type 0 where
   pub fault : LookFault
-  pub is_so : IsVerifyFault plan look.patience console.before console.after fault
+  pub is_so : IsVerifyFault plan look.patience console fault
   pub is_called : IsFailureOf (machine.Look fault) look.line.now look.line.now failure
 
 -- a look for a plan failed: it came to nothing, or it was reported and its line had failed
 abbrev pub IsVerifyFailure : PlanValue → Look → Change ConsoleTold → Failure → Type 0
 IsVerifyFailure plan look console failure =
     IsVerifyCutShort plan look console failure
-    ⊎ ((end : VerifyEnd) × IsVerifyReported plan look.patience console.before console.after end × (after_verify end ≡ Err failure))
+    ⊎ ((end : VerifyEnd) × IsVerifyReported plan look.patience console end × (after_verify end ≡ Err failure))
 
 -- memory was looked at for the tapes of these names, as one, at the console that is named
 pub record AreVerified (names : List Name) (look : Look) (moments : Change Moment) (status : Status) : Type 0 where

@@ -44,7 +44,7 @@ returns-in-Ok-verified-clause-ok g c =
     (sym c.back.ensures) (c.verify-verified.ensures.call ∙ ap (λ (t : ConsoleTold). t.call) p) in
     let planned = subst (λ (h : Held). IsPlanned c.args.names.now (intake_at before) (intake opened' h) c.in-Ok.plan) (sym c.streams.view_is) c.in-Ok.ensures.ok in
     let planned' : IsPlanned c.args.names.now (intake_at before) (intake_at after) c.in-Ok.plan = record { opened = planned.opened; is_so = planned.is_so } in
-    let reported = told_as (λ x y. IsVerifyReported c.in-Ok.plan c.args.look.patience x y c.in-Ok-verified.end) b (console_at c.args.look before) a (console_at c.args.look after) p q
+    let reported = told_as (λ x y. IsVerifyReported c.in-Ok.plan c.args.look.patience (x ⇒ y) c.in-Ok-verified.end) b (console_at c.args.look before) a (console_at c.args.look after) p q
     c.in-Ok-verified.ensures.reported in
     rw (← c.system.view_is) (subst (λ s. IfOk c.after_verify.result (AreVerified c.args.names.now c.args.look (before ⇒ moment s held))) (sym c.new-system.ensures)
     (verified c.args.names.now c.args.look before after c.in-Ok.plan planned' refl c.in-Ok-verified.end reported c.after_verify.result c.after_verify.ensures))
@@ -76,7 +76,7 @@ returns-in-Ok-verified-clause-err g c =
     (sym c.back.ensures) (c.verify-verified.ensures.call ∙ ap (λ (t : ConsoleTold). t.call) p) in
     let planned = subst (λ (h : Held). IsPlanned c.args.names.now (intake_at before) (intake opened' h) c.in-Ok.plan) (sym c.streams.view_is) c.in-Ok.ensures.ok in
     let planned' : IsPlanned c.args.names.now (intake_at before) (intake_at after) c.in-Ok.plan = record { opened = planned.opened; is_so = planned.is_so } in
-    let reported = told_as (λ x y. IsVerifyReported c.in-Ok.plan c.args.look.patience x y c.in-Ok-verified.end) b (console_at c.args.look before) a (console_at c.args.look after) p q
+    let reported = told_as (λ x y. IsVerifyReported c.in-Ok.plan c.args.look.patience (x ⇒ y) c.in-Ok-verified.end) b (console_at c.args.look before) a (console_at c.args.look after) p q
     c.in-Ok-verified.ensures.reported in
     rw (← c.system.view_is) (subst (λ s. IfErr c.after_verify.result (AreUnverified c.args.names.now c.args.look (before ⇒ moment s held))) (sym c.new-system.ensures)
     (unverified c.args.names.now c.args.look before after c.in-Ok.plan planned' refl c.in-Ok-verified.end reported c.after_verify.result c.after_verify.ensures))
@@ -109,7 +109,7 @@ returns-clause-err g c =
     let planned = subst (λ (h : Held). IsPlanned c.args.names.now (intake_at before) (intake opened' h) c.in-Ok.plan) (sym c.streams.view_is) c.in-Ok.ensures.ok in
     let planned' : IsPlanned c.args.names.now (intake_at before) (intake_at after) c.in-Ok.plan = record { opened = planned.opened; is_so = planned.is_so } in
     let fault = c.in-Err-verified.fault in
-    let is_so = told_as (λ x y. IsVerifyFault c.in-Ok.plan c.args.look.patience x y fault) b (console_at c.args.look before) a (console_at c.args.look after) p q
+    let is_so = told_as (λ x y. IsVerifyFault c.in-Ok.plan c.args.look.patience (x ⇒ y) fault) b (console_at c.args.look before) a (console_at c.args.look after) p q
     c.in-Err-verified.ensures.fault in
     rw (← c.system.view_is) (subst (λ s. AreUnverified c.args.names.now c.args.look (before ⇒ moment s held) c.failure-failure.result) (sym c.new-system.ensures)
     (inr (record {

@@ -1,3 +1,4 @@
+pub mod Access
 pub mod Beginning
 pub mod Closing
 pub mod Course

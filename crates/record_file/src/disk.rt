@@ -4,12 +4,12 @@ ghost use Rattle.record_file.specs.DiskStep.{Look, LookAtName, FindSoleFile, Fin
 ghost use Rattle.load_devices.specs.Told.{Tells};
 ghost use Rattle.record_file.specs.DiskStep.{DiskStep, answered, resolved, step_by};
 
-use crate::file_id::FileId;
+use crate::file_id::{found_same, found_sole};
 use crate::locks::Locks;
+use crate::synced::synced;
 use std::alloc::Global;
 use std::fs::{File, Metadata, OpenFile, OpenOptions};
-use std::io::{ErrorKind, Read, Seek, Write};
-use std::os::unix::fs::MetadataExt;
+use std::io::{Read, Seek, Write};
 use std::path::PathBuf;
 use std::{fs, io};
 
@@ -30,8 +30,13 @@ pub enum Access {
 }
 
 impl Access {
+    ghost use Rattle.std.specs.Prelude.{◌≡◌};
+    ghost use Rattle.record_file.specs.Access.{options_of};
+
     // The options of the system.
-    fn options(self) -> OpenOptions {
+    fn options(self) -> OpenOptions
+        ensures { result ≡ options_of self }
+    {
         let mut options = File::options();
         options.read(true);
         match self {
@@ -132,17 +137,11 @@ impl<F: Locks> Disk for &F {
     }
 
     fn is_sole_file(&mut self, name: &str) -> bool {
-        match fs::symlink_metadata(*self, name) {
-            Ok(metadata) => metadata.is_file() && metadata.nlink() == 1,
-            Err(_) => false,
-        }
+        found_sole(&fs::symlink_metadata(*self, name))
     }
 
     fn has_name(&mut self, name: &str, file: &F::File) -> bool {
-        match (fs::symlink_metadata(*self, name), file.metadata()) {
-            (Ok(named), Ok(metadata)) => FileId::from(&named) == FileId::from(&metadata),
-            _ => false,
-        }
+        found_same(&fs::symlink_metadata(*self, name), &file.metadata())
     }
 
     fn resolve(&mut self, alloc: Global, name: &str) -> io::Result<PathBuf<Global>> {
@@ -170,7 +169,7 @@ impl<F: Locks> Disk for &F {
     }
 
     fn sync_folder(&mut self, folder: &F::File) -> io::Result<()> {
-        sync(folder)
+        synced(folder.sync_all())
     }
 
     fn cut(&mut self, file: &F::File, length: u64) -> io::Result<()> {
@@ -178,14 +177,6 @@ impl<F: Locks> Disk for &F {
     }
 
     fn sync_file(&mut self, file: &F::File) -> io::Result<()> {
-        sync(file)
-    }
-}
-
-// A pipe, a terminal or a device has no disk behind it, and says so.
-fn sync<T: OpenFile>(file: &T) -> io::Result<()> {
-    match file.sync_all() {
-        Err(error) if error.kind() == ErrorKind::InvalidInput => Ok(()),
-        outcome => outcome,
+        synced(file.sync_all())
     }
 }

@@ -3,10 +3,11 @@ ghost use Rattle.std.specs.Prelude.{◌≡◌, ℕ, List, Option, None, OnOk};
 ghost use Rattle.std.specs.Io.KnownBytes.{Keeps};
 ghost use Rattle.load_record.specs.Keeper.{Lasts};
 
+use crate::synced::synced;
 use load_record::LastingWrite;
 use std::fs::OpenFile;
 use std::io;
-use std::io::{ErrorKind, Write};
+use std::io::Write;
 
 /// A writer whose bytes can be made to reach the disk, and not only a buffer of the system.
 ///
@@ -34,12 +35,8 @@ impl<F: Write + OpenFile> SyncWrite for F {
         self.flush()
     }
 
-    // A pipe, a terminal or a device has no disk behind it, and says so.
     fn sync(&mut self) -> io::Result<()> {
-        match self.sync_data() {
-            Err(error) if error.kind() == ErrorKind::InvalidInput => Ok(()),
-            outcome => outcome,
-        }
+        synced(self.sync_data())
     }
 }
 

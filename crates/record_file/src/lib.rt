@@ -23,6 +23,7 @@ mod made;
 mod old_record;
 mod record_fault;
 mod record_file;
+mod synced;
 
 pub use beside::{BESIDE, folder_of, make_new};
 pub use disk::{Access, Disk};

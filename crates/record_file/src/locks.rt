@@ -1,4 +1,5 @@
 //! Files that one program at a time can hold.
+ghost use Rattle.std.specs.Prelude.{◌≡◌, ◌↔◌, Err, false};
 
 use std::fs::{File, TryLockError};
 use std::rt::Files;
@@ -12,9 +13,13 @@ pub trait Locks: Files {
 
 impl Locks for HostRuntime {
     fn hold(&self, file: &File) -> bool {
-        match file.try_lock() {
-            Err(TryLockError::WouldBlock) => false,
-            _ => true,
-        }
+        counts_as_held(&file.try_lock())
     }
+}
+
+// Whether a file is held behind a try to lock it: unless somebody else holds it.
+fn counts_as_held(tried: &Result<(), TryLockError>) -> bool
+    ensures { (result ≡ false) ↔ (tried.now ≡ Err TryLockError.WouldBlock) }
+{
+    !matches!(tried, Err(TryLockError::WouldBlock))
 }

@@ -29,7 +29,7 @@ mod way;
 pub use consoles::Consoles;
 pub use device::Device;
 pub use device_line::{DeviceLine, open_line};
-pub use devices::Devices;
+pub use devices::{Devices, open_terminal};
 pub use listening::{listen, silences_within};
 pub use outlets::Outlets;
 pub use reach::Reach;

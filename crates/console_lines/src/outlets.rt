@@ -1,12 +1,12 @@
 //! What a system has for lines: a network and serial devices.
-ghost use Rattle.std.specs.Prelude.{◌*◌, ◌≡◌, [], ◌∷◌, List, Option, None};
+ghost use Rattle.std.specs.Prelude.{◌*◌, ◌≡◌, [], ◌∷◌, List, Option, None, IfOk, ⊤};
 ghost use Rattle.std.specs.Duration.{as_nanos};
 ghost use Rattle.load_devices.specs.Told.{Gains};
 ghost use Rattle.console_lines.specs.DeviceValue.{fresh_device};
 ghost use Rattle.console_lines.specs.Dialling.{LineRequest, Dialled, OpenedDevice, Limited};
 
 use crate::device::Device;
-use crate::devices::Devices;
+use crate::devices::{Devices, open_terminal};
 use crate::receive::TimedStream;
 use crate::terminal::Terminal;
 use std::io;
@@ -26,6 +26,9 @@ pub trait Outlets {
     /// What was asked so far, of the network and of the devices, in its order; None where the type doesn't tell.
     ghost asked: { Self → Option (List LineRequest) } = { λ _. None };
 
+    /// Whether an open device is a terminal, locked for one user alone, and never makes him wait, where the type says it.
+    ghost is_ready: { Self.Terminal → Type 0 } = { λ _. ⊤ };
+
     /// Connects to `HOST:PORT`. Where the name has several addresses they are tried in turn.
     fn dial(&mut self, address: &str) -> io::Result<Self::Stream>
         ensures asked { Gains (asked self.old) (asked self.new) (Dialled address.now ∷ []) };
@@ -38,6 +41,7 @@ pub trait Outlets {
     ///
     /// An error where there is none, where it may not be opened, is no terminal, or is in use.
     fn open_device(&mut self, path: &str) -> io::Result<Self::Terminal>
+        ensures ready { IfOk result is_ready }
         ensures asked { Gains (asked self.old) (asked self.new) (OpenedDevice path.now ∷ []) };
 
     /// Ends each read and each write of an open device after this time, in milliseconds by the clock.
@@ -47,6 +51,7 @@ pub trait Outlets {
         clock: &'a C,
         quiet_ms: u32,
     ) -> Device<'a, Self::Terminal, C>
+        requires ready { is_ready terminal }
         ensures device { result ≡ fresh_device (Self.Terminal.remaining terminal) (Self.Terminal.contents terminal) (Self.Terminal.misses terminal) quiet_ms }
         ensures asked { Gains (asked self.old) (asked self.new) (Limited quiet_ms ∷ []) };
 }
@@ -55,6 +60,8 @@ impl<S: TimedStream + Drop, F: Net<Stream = S> + Devices> Outlets for &F {
     type Stream = S;
 
     type Terminal = F::Terminal;
+
+    ghost is_ready = { λ device. F.was_terminal device × F.is_locked device × F.never_waits device };
 
     fn dial(&mut self, address: &str) -> io::Result<S> {
         TcpStream::connect(*self, address)
@@ -65,7 +72,7 @@ impl<S: TimedStream + Drop, F: Net<Stream = S> + Devices> Outlets for &F {
     }
 
     fn open_device(&mut self, path: &str) -> io::Result<F::Terminal> {
-        self.open_terminal(path)
+        open_terminal(*self, path)
     }
 
     fn limit_device<'a, C: Clock>(

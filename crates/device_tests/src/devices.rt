@@ -2,7 +2,7 @@
 //! hang-up, a failure and a stopped output are heard as.
 
 use crate::terminals::{Bench, DAWN, HOUR, PATH, Pace, Scripted, Turn};
-use console_lines::{Device, DeviceLine, Devices, open_line};
+use console_lines::{Device, DeviceLine, Devices, open_line, open_terminal};
 use host_core::Heard;
 use load_devices::{Line, LineFault};
 use std::io::ErrorKind;
@@ -272,7 +272,7 @@ const LIMITS: [(u64, bool); 4] = [(50, true), (49, false), (51, false), (0, fals
 fn takes(limit: Option<Duration>) -> bool {
     let bench = Bench::new(&[], &[], Pace::Still);
     let system = &bench;
-    match system.open_terminal(PATH) {
+    match open_terminal(&system, PATH) {
         Ok(terminal) => Device::new(terminal, system, 50)
             .set_read_timeout(limit)
             .is_ok(),

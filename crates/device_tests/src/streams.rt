@@ -63,8 +63,24 @@ impl Net for TwoAddresses<'_> {
 impl Devices for TwoAddresses<'_> {
     type Terminal = File;
 
-    fn open_terminal(&self, _path: &str) -> io::Result<File> {
+    fn is_device(&self, _path: &str) -> io::Result<bool> {
         Err(io::Error::from(ErrorKind::NotFound))
+    }
+
+    fn open(&self, _path: &str) -> io::Result<File> {
+        Err(io::Error::from(ErrorKind::NotFound))
+    }
+
+    fn is_terminal(&self, _device: &File) -> bool {
+        false
+    }
+
+    fn lock(&self, _device: &File) -> io::Result<()> {
+        Ok(())
+    }
+
+    fn wait_for_nothing(&self, _device: &File) -> io::Result<()> {
+        Ok(())
     }
 }
 

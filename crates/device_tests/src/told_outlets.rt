@@ -6,7 +6,7 @@ ghost use Rattle.device_tests.specs.ToldOutlets.{asked_till};
 ghost use Rattle.simulated_system.specs.LineRequests.{asked_by, request};
 
 use crate::terminals::{Bench, PATH, Pace, Scripted};
-use console_lines::{Consoles, Device, Devices, Outlets, SystemConsoles};
+use console_lines::{Consoles, Device, Outlets, SystemConsoles, open_terminal};
 use load_devices::LineFault;
 use simulated_system::LineRequest;
 use std::alloc::Global;
@@ -75,7 +75,7 @@ impl<'a, R: Abort> Outlets for ToldOutlets<'a, R> {
     fn open_device(&mut self, path: &str) -> io::Result<Scripted<'a>> {
         let name = self.copy(path);
         self.tell(LineRequest::Opened(name));
-        self.bench.open_terminal(path)
+        open_terminal(&self.bench, path)
     }
 
     fn limit_device<'b, C: Clock>(

@@ -226,16 +226,34 @@ impl IsTerminal for Console {
 impl Devices for System<'_> {
     type Terminal = Console;
 
-    fn open_terminal(&self, path: &str) -> io::Result<Console> {
+    // Who asks wants to connect.
+    fn is_device(&self, path: &str) -> io::Result<bool> {
         self.connections
             .set(self.connections.get().saturating_add(1));
-        if self.setting.reads == 0 || path != DEVICE {
-            return Err(io::Error::from(ErrorKind::NotFound));
+        if self.setting.reads > 0 && path == DEVICE {
+            Ok(true)
+        } else {
+            Err(io::Error::from(ErrorKind::NotFound))
         }
+    }
+
+    fn open(&self, _path: &str) -> io::Result<Console> {
         match self.machine.replace(None) {
             Some(odt) => Ok(Console::over(odt, self.setting)),
             None => Err(io::Error::from(ErrorKind::NotFound)),
         }
+    }
+
+    fn is_terminal(&self, device: &Console) -> bool {
+        device.is_terminal()
+    }
+
+    fn lock(&self, _device: &Console) -> io::Result<()> {
+        Ok(())
+    }
+
+    fn wait_for_nothing(&self, _device: &Console) -> io::Result<()> {
+        Ok(())
     }
 }
 

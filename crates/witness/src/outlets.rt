@@ -11,6 +11,8 @@ impl<'c, T: Outlets> Outlets for Watched<'c, T> {
 
     ghost asked = { λ watched. T.asked watched.part };
 
+    ghost is_ready = { λ device. T.is_ready device };
+
     fn dial(&mut self, address: &str) -> io::Result<T::Stream> {
         self.witness.of_opening(self.part.dial(address))
     }

@@ -11,6 +11,7 @@ import threading
 import unittest
 
 from cases import Case, Console
+from commands import OF_TAPES
 from outside import Answer, fault, tape_of
 
 TAPES = 40
@@ -68,11 +69,9 @@ class Many(Case):
 
     def tell(self, names, status, text):
         """Asserts that each command tells a fault of tapes of these names. A console that is named is not looked for."""
-        first, *more = names
-        self.told(["check", *names], status, text)
-        self.told(["dialogue", *names], status, text)
-        self.told(["load", first, "127.0.0.1:1", *more, "--record", "a.record"], status, text)
-        self.told(["verify", first, "127.0.0.1:1", *more], status, text)
+        for command in OF_TAPES:
+            words = command.words(*names, line="127.0.0.1:1", script="/dev/null")
+            self.told([*words, "--record", "a.record"] if command.name == "load" else words, status, text)
         self.assertFalse(os.path.exists(self.path("a.record")))
 
 

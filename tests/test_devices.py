@@ -12,6 +12,7 @@ import unittest
 from concurrent.futures import ThreadPoolExecutor
 
 from cases import Case, Console, DeafConsole
+from commands import AT_A_MACHINE
 from outside import HELLO, IN_USE, NO_OUTPUT, NO_TERMINAL, Answer, bytes_of, fault, line_failed
 
 # All that is typed at a machine of zeroed memory to load and start first.lda, what is reported, and the record.
@@ -199,11 +200,11 @@ class Refusals(Devices):
         self.was_typed(device, "")
         device.address = "./ttyUSB0"
         self.ends(self.load(device), 0, STARTED)
-        for words, end in (("verify first.lda LINE", "Same"), ("save a.lda LINE 1000 1000", "Saved"), ("probe LINE", "Probed")):
+        for command in AT_A_MACHINE:
             device.machine = Console(memory={0o1000: 0o011064})
-            given = self.ldaodt(f"{words.replace('LINE', device.address)} --quiet {self.quiet}")
+            given = self.ldaodt(f"{command.line(line=device.address)} --quiet {self.quiet}")
             device.settle()
-            self.is_so((given.status, given.out.split("\n")[-2], given.err), (0, f"end {end}", ""))
+            self.is_so((command.name, given.status, given.out.split("\n")[-2], given.err), (command.name, 0, f"end {command.end}", ""))
 
 
 def is_locked(device):

@@ -8,6 +8,7 @@ import os
 import unittest
 
 from cases import Case
+from commands import OF_TAPES
 from outside import Answer, fault
 
 GOOD, OTHER, BAD = "first.lda", "no-word.lda", "bad-sum.lda"
@@ -67,16 +68,14 @@ class Files(Several):
     """Files."""
 
     def test_tapes(self):
-        for command in ("check", "dialogue"):
-            for words, told in TAPES:
-                self.told(f"{command} {words}", told)
-
-    def test_tapes_of_a_machine(self):
-        """LINE stands behind the first tape. Nothing is dialled: nobody listens there, and that is not told."""
-        for command in ("load", "load --record a.record", "verify"):
-            for words, told in TAPES:
-                first, *more = words.split()
-                self.told(f"{command} {first} 127.0.0.1:1 {' '.join(more)}", told)
+        """Nothing is dialled where a line is named: nobody listens there, and that is not told. A script that is there, and says
+        nothing, is read behind them all."""
+        for command in OF_TAPES:
+            for names, told in TAPES:
+                self.told(command.line(*names.split(), line="127.0.0.1:1", script="good.script"), told)
+        for names, told in TAPES:
+            first, *more = names.split()
+            self.told(f"load --record a.record {first} 127.0.0.1:1 {' '.join(more)}", told)
         self.assertFalse(os.path.exists(self.path("a.record")))
 
     def test_rehearsals(self):

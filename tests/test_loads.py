@@ -1,6 +1,6 @@
 """Loads of a machine behind a port of this computer: how they end, what the record then holds, and what was typed.
 
-How many characters a load sends is counted from what it types (docs/MAP.md, "The life of one word"): `Z` first,
+How many characters a load sends is counted from what it types (docs/MAP.md, "The way of a byte"): `Z` first,
 which is answered by four characters; for a word that has to be deposited 22 keys, answered by 40 characters;
 for one that stands already 8, answered by 17; and 7 for the start, each echoed.
 """

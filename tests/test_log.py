@@ -9,49 +9,39 @@ import time
 import unittest
 
 from cases import Case, Console
-from outside import LINE_FAILED, NO_OUTPUT, NO_PORT, PROGRAM, Answer, bytes_of, fault, text_of
+from commands import AT_A_MACHINE, COMMANDS, RUNS
+from outside import NO_OUTPUT, NO_PORT, PROGRAM, Answer, bytes_of, fault, text_of
 
-# What a load of the first tape reports, and what a log has of that; where 256 words of memory end, so does the tape's word.
+# What a load of the first tape reports, and what a log has of that.
 REPORT = "sent 30 spent 0 verified 1 of 1\nend Started\n"
 STARTED = "end Started sent 30 spent 0 verified 1 of 1"
-SMALL = {"words": 256}
 
-# Runs that come to a console: their words, how its machine is made, and what the log has behind the words. The counts
-# are those of docs/MAP.md ("The life of one word"): 23 keys load a word and 7 start it, 9 read one, and 8 find that it is
-# not there. 001000 holds 011064 on the tape.
-AT_A_CONSOLE = [
-    ("load first.lda LINE", {}, f"status 0 {STARTED}"),
-    ("load first.lda LINE --no-start", {}, "status 0 end Loaded sent 23 spent 0 verified 1 of 1"),
-    ("load first.lda LINE", SMALL, "status 5 end NoWord 001000 sent 8 spent 0 verified 0 of 1"),
-    ("verify first.lda LINE", {"memory": {0o1000: 0o011064}}, "status 0 end Same sent 9 spent 0 looked 1 of 1 differ 0"),
-    ("verify first.lda LINE", {}, "status 1 end Differs sent 9 spent 0 looked 1 of 1 differ 1"),
-    ("save a.lda LINE 1000 1000", {}, "status 0 end Saved sent 9 spent 0 read 1 of 1"),
-    ("save a.lda LINE 1000 1000", SMALL, "status 5 end NoWord 001000 sent 8 spent 0 read 0 of 1"),
-    ("probe LINE", {}, "status 0 end Probed"),
-    ("probe LINE", SMALL, "status 5 end NoWord 001000"),
-]
+# Probes: how their machine is made, which has no word at 001000 where 256 words of memory end, and what the log has behind the words.
+PROBES = (({}, "status 0 end Probed"), ({"words": 256}, "status 5 end NoWord 001000"))
 
-# Runs that come to none: their words, status and fault.
-WITHOUT_A_CONSOLE = [
-    ("load no-such.lda x:1", 4, fault("cannot read no-such.lda", errno.ENOENT)),
-    ("load bad-sum.lda x:1", 3, "ldaodt: tape refused at 9: BadSum\n"),
-    ("load first.lda x:1 no-such.lda", 4, fault("cannot read no-such.lda", errno.ENOENT)),
-    ("verify first.lda x:1 bad-sum.lda", 3, "ldaodt: tape 2 refused at 9: BadSum\n"),
-    ("load first.lda x:y", 4, fault("cannot connect to x:y", NO_PORT)),
-    ("verify first.lda x:y", 4, fault("cannot connect to x:y", NO_PORT)),
-    ("save first.lda x:y 0 2", 4, "ldaodt: first.lda is there already\n"),
-    ("probe x:y", 4, fault("cannot connect to x:y", NO_PORT)),
-    ("load first.lda ./first.lda", 2, "ldaodt: ./first.lda is no serial device: load TAPE LINE [MORE]..\n"),
-    ("save a.lda ./first.lda 0 2", 2, "ldaodt: ./first.lda is no serial device: save FILE LINE FROM TO\n"),
-    ("probe ./first.lda", 2, "ldaodt: ./first.lda is no serial device: probe LINE\n"),
-]
+
+def without_a_console():
+    """Runs that come to no console: their words, status and fault."""
+    for command in AT_A_MACHINE:
+        yield command.line(line="x:y"), 4, fault("cannot connect to x:y", NO_PORT)
+        yield command.line(line="./first.lda"), 2, f"ldaodt: ./first.lda is no serial device: {command.name} {command.order}\n"
+        if command.takes("TAPE"):
+            yield command.line("no-such.lda", line="x:1"), 4, fault("cannot read no-such.lda", errno.ENOENT)
+            yield command.line("bad-sum.lda", line="x:1"), 3, "ldaodt: tape refused at 9: BadSum\n"
+        if command.takes("[MORE].."):
+            yield command.line("first.lda", "no-such.lda", line="x:1"), 4, fault("cannot read no-such.lda", errno.ENOENT)
+            yield command.line("first.lda", "bad-sum.lda", line="x:1"), 3, "ldaodt: tape 2 refused at 9: BadSum\n"
+        if command.takes("FILE"):
+            yield command.line(file="first.lda", line="x:y"), 4, "ldaodt: first.lda is there already\n"
 
 
 def asked(words):
-    """What the log has of words: the line stands behind the tapes, and no option is told."""
-    command, *names = words.split(" --")[0].split()
-    names = names[:2] if command == "save" else [*names[:1], *names[2:], *names[1:2]]
-    return " ".join([command, *names])
+    """What the log has of words: the line stands behind the files, and no address and no option is told."""
+    name, *given = words.split(" --")[0].split()
+    places = next(it.order for it in COMMANDS if it.name == name).replace(" [MORE]..", "").split()
+    told = dict(zip(places, given))
+    files = [told[it] for it in ("FILE", "TAPE") if it in told]
+    return " ".join([name, *files, *given[len(places):], told["LINE"]])
 
 
 class Logs(Case):
@@ -91,29 +81,34 @@ class Logs(Case):
 
 class AtAConsole(Logs):
     def test_each_end(self):
-        for words, machine, told in AT_A_CONSOLE:
-            with self.subTest(words, **machine):
-                given, log = self.logged_at(words, Console(**machine))
-                self.is_so(log, f"{asked(words)} {told}")
-                other = self.at(words.replace("a.lda", "b.lda"), Console(**machine))
-                self.is_so(self.without_pace(given), self.without_pace(other))
-                self.is_so(bytes_of(self.path("a.lda")), bytes_of(self.path("b.lda")))
-                for name in ("a.lda", "b.lda"):
-                    if os.path.exists(self.path(name)):
-                        os.remove(self.path(name))
+        """Where the line fails, the log comes behind what is said of that, too."""
+        for run in RUNS:
+            with self.subTest(run.words, end=run.end):
+                given, log = self.logged_at(run.words, run.console(0), close_after=run.breaks, takes_last=True)
+                self.is_so(given, run.answer())
+                self.is_so(log, f"{asked(run.words)} status {run.status} end {run.end} sent {run.sent} spent 0 {run.counts}")
+                other = self.at(run.words.replace("new.lda", "other.lda"), run.console(0), close_after=run.breaks, takes_last=True)
+                self.is_so((other, bytes_of(self.path("other.lda"))), (given, bytes_of(self.path("new.lda"))))
+                self.remove("new.lda", "other.lda")
+
+    def remove(self, *names):
+        """Takes files away that are there."""
+        for name in names:
+            if os.path.exists(self.path(name)):
+                os.remove(self.path(name))
+
+    def test_probes(self):
+        for machine, told in PROBES:
+            with self.subTest(told):
+                given, log = self.logged_at("probe LINE", Console(**machine))
+                self.is_so(log, f"{asked('probe LINE')} {told}")
+                self.is_so(self.without_pace(given), self.without_pace(self.at("probe LINE", Console(**machine))))
 
     def test_several_tapes(self):
         given, log = self.logged_at("load two-words.lda LINE first.lda first.lda", Console())
         self.is_so((given.status, given.err), (0, ""))
         counts, end, _ = given.out.split("\n")
         self.is_so(log, f"load two-words.lda first.lda first.lda LINE status 0 {end} {counts}")
-
-    def test_a_line_that_fails(self):
-        """Behind a report two lines say what was wrong, and the log comes behind them."""
-        for words, counts in (("load first.lda LINE", "verified 0 of 1"), ("verify first.lda LINE", "looked 0 of 1 differ 0"), ("save a.lda LINE 1000 1000", "read 0 of 1")):
-            given, log = self.logged_at(words, Console(), close_after=5, takes_last=True)
-            self.ends(given, 4, f"sent 2 spent 0 {counts}\nend LineFailed\n", fault("line failed", LINE_FAILED["closed"]))
-            self.is_so(log, f"{asked(words)} status 4 end LineFailed sent 2 spent 0 {counts}")
 
     def test_what_the_machine_says_is_no_report(self):
         """It stands behind the report, in whichever pieces it comes."""
@@ -137,7 +132,7 @@ class AtAConsole(Logs):
 
 class WithoutAConsole(Logs):
     def test_faults(self):
-        for words, status, err in WITHOUT_A_CONSOLE:
+        for words, status, err in without_a_console():
             with self.subTest(words):
                 given, log = self.logged(words)
                 self.ends(given, status, "", err)

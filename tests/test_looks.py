@@ -2,7 +2,7 @@
 memory is what it was, whatever becomes of them.
 
 A look types `Z` first, which is answered by four characters, and then eight keys for each word, answered by seventeen
-(docs/MAP.md, "The life of one word"): its address and `/`, which is answered by its number, and CR.
+(docs/MAP.md, "The way of a byte"): its address and `/`, which is answered by its number, and CR.
 """
 import errno
 import os

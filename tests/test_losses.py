@@ -1,6 +1,6 @@
 """Loads over a line that loses characters, and restarts of the host, beside a second model of console, host and line.
 
-The model is written from docs/CONSOLE.md, docs/SCRIPTS.md and docs/MAP.md ("The life of one word"), and has another
+The model is written from docs/CONSOLE.md, docs/SCRIPTS.md and docs/MAP.md ("The way of a byte"), and has another
 shape than the program, whose console has modes and whose host has phases: here the console is the text that stands on
 its line, and the host does one thing after another, with the forms of what may answer each key. So what one of them
 misreads the other would have to misread, too, in another way, to stay hidden.

@@ -5,6 +5,7 @@ import os
 import unittest
 
 from cases import Case, Console
+from commands import READING
 from outside import bytes_of, fault
 
 # The system's limits, in bytes: of a name in a folder, and of a path.
@@ -44,16 +45,12 @@ class Names(Case):
             self.is_so([len(it) for it in paths_to(name)], [it for it in (*LENGTHS, LONGEST_PATH) if it > len(name) + 3])
 
     def test_tapes_and_scripts(self):
-        commands = {
-            "check": lambda tape: ["check", tape], "check more": lambda tape: ["check", "first.lda", tape], "dialogue": lambda tape: ["dialogue", tape],
-            "rehearse": lambda tape: ["rehearse", tape, "a.script"], "rehearse more": lambda tape: ["rehearse", "first.lda", "a.script", tape],
-        }
-        for said, words in commands.items():
-            plain = self.ldaodt(words("first.lda"))
+        for command, tapes in [(command, tapes) for command in READING for tapes in ((), ("first.lda",))]:
+            plain = self.ldaodt(command.words(*tapes, "first.lda"))
             self.is_so(plain.status, 0)
             for path in paths_to("first.lda"):
-                with self.subTest(said, length=len(path)):
-                    self.is_so(self.ldaodt(words(path)), plain)
+                with self.subTest(command.name, tapes=tapes, length=len(path)):
+                    self.is_so(self.ldaodt(command.words(*tapes, path)), plain)
         plain = self.ldaodt("rehearse first.lda a.script")
         for path in paths_to("a.script"):
             with self.subTest("script", length=len(path)):

@@ -7,19 +7,16 @@ import socket
 import subprocess
 import unittest
 
+import commands
 from cases import Case, Console
-from outside import HELLO, LOST_DIGIT, NO_OUTPUT, NO_PORT, PROGRAM, Answer, bytes_of, fault, tape_of, text_of
+from outside import LOST_DIGIT, NO_OUTPUT, NO_PORT, PROGRAM, Answer, bytes_of, fault, tape_of, text_of
 
 NO_INPUT = fault("cannot read standard input", errno.EBADF)
 
 # Command lines that have something printed, and what stands on standard input. A load stands for itself below.
 PRINTING = {
-    "": bytes_of(HELLO),
-    "check first.lda": b"",
+    **{it.line(script=LOST_DIGIT): it.keys for it in commands.PRINTING},
     "check --blocks first.lda": b"",
-    "dialogue first.lda": b"",
-    f"rehearse first.lda {LOST_DIGIT}": b"",
-    "type": b"001000/011064\n",
     "--help": b"",
     "help load": b"",
     "--version": b"",
@@ -27,9 +24,9 @@ PRINTING = {
 
 # Command lines that have something told on standard error alone: the status and the text.
 TOLD = {
-    "check bad-sum.lda": (3, "ldaodt: tape refused at 9: BadSum\n"),
-    "check no-such.lda": (4, fault("cannot read no-such.lda", errno.ENOENT)),
-    "load first.lda x:y": (4, fault("cannot connect to x:y", NO_PORT)),
+    **{it.line("bad-sum.lda", script=LOST_DIGIT): (3, "ldaodt: tape refused at 9: BadSum\n") for it in commands.READING},
+    **{it.line("no-such.lda", script=LOST_DIGIT): (4, fault("cannot read no-such.lda", errno.ENOENT)) for it in commands.READING},
+    **{it.line(line="x:y"): (4, fault("cannot connect to x:y", NO_PORT)) for it in commands.AT_A_MACHINE},
     "check first.lda first.lda long": (3, "ldaodt: tape 3 refused at 1048576: TooLong\n"),
     "make new.lda long": (3, "ldaodt: words refused at line 1: BadNumber\n"),
     "rehearse first.lda long": (3, "ldaodt: script refused at line 0\n"),
@@ -134,10 +131,10 @@ class Readers(Case):
     def test_what_was_done_at_a_machine(self):
         """The report of a load, a look or a probe is missed by whoever sits there: that it is lost is told."""
         self.put_tapes("first.lda")
-        for words in ("load first.lda LINE", "verify first.lda LINE", "save a.lda LINE 1000 1000", "probe LINE"):
-            with self.subTest(words):
+        for command in commands.AT_A_MACHINE:
+            with self.subTest(command.name):
                 peer = self.console_at(Console())
-                given = self.unread(f"{words.replace('LINE', peer.address)} --quiet {self.quiet}")
+                given = self.unread(f"{command.line(line=peer.address)} --quiet {self.quiet}")
                 peer.settle()
                 self.ends(given, 4, "", NO_OUTPUT)
 

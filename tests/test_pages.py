@@ -10,11 +10,10 @@ import unittest
 from concurrent.futures import ThreadPoolExecutor
 
 from cases import Case, Console, StoringConsole
+from commands import AT_A_MACHINE
 from outside import FIRST, HELLO, PROGRAM, TOP, run
 
 ROW = re.compile(r"^\|(.*)\|$", re.MULTILINE)
-ENDS = re.compile(r"\b(Loaded|Started|Uncertain|MaybeStarted|GaveUp|NoWord|WontHold|Stale|TurnsOver|LineFailed|KeepFailed|Same|Differs|Saved"
-                  r"|Probed|NotTrusted|NoPrompt)\b")
 
 
 def text_at(name):
@@ -31,6 +30,25 @@ def section(text, heading):
     """What stands below a heading, up to the next one of its kind."""
     level = heading.split(" ")[0]
     return text.split(f"{heading}\n", 1)[1].split(f"\n{level} ", 1)[0]
+
+
+def ends_of_the_crates():
+    """How something ends, as the crates have it: the cases of the loader's ends and of each command's. Those that say that an engine
+    ended somehow are none of their own."""
+    cases = cases_of("crates/host_core/src/phase.rt", "End") | cases_of("crates/load_engine/src/stop.rt", "Stop")
+    for file in glob.glob("crates/*/src/*_end.rt", root_dir=TOP):
+        for name in re.findall(r"^pub enum (\w+End) ", text_at(file), re.MULTILINE):
+            cases |= cases_of(file, name)
+    return cases - {"Ended", "Driven", "Unfinished"}
+
+
+def cases_of(file, name):
+    """The cases of an enum of the crates."""
+    body = re.search(rf"^pub enum {name} \{{\n(.*?)^\}}", text_at(file), re.MULTILINE | re.DOTALL)[1]
+    return set(re.findall(r"^    (\w+)\b", body, re.MULTILINE))
+
+
+ENDS = re.compile(rf"\b({'|'.join(ends_of_the_crates())})\b")
 
 
 def statuses_in(text):
@@ -54,23 +72,7 @@ def commands():
 NOT_IN_HELP = {"LineFailed", "KeepFailed"}
 
 # Whose endings ENDINGS has as those of `all`.
-AT_A_MACHINE = {"load", "verify", "save", "probe"}
-
-# Where the crates have how something ends. Behind Ended, Driven and Unfinished stands how an engine did.
-END_TYPES = {
-    "crates/host_core/src/phase.rt": "End",
-    "crates/load_engine/src/stop.rt": "Stop",
-    "crates/machine_load/src/load_end.rt": "LoadEnd",
-    "crates/machine_look/src/verify_end.rt": "VerifyEnd",
-    "crates/machine_look/src/save_end.rt": "SaveEnd",
-    "crates/probe_report/src/probe_end.rt": "ProbeEnd",
-}
-
-
-def cases_of(file, name):
-    """The cases of an enum of the crates."""
-    body = re.search(rf"^pub enum {name} \{{\n(.*?)^\}}", text_at(file), re.MULTILINE | re.DOTALL)[1]
-    return set(re.findall(r"^    (\w+)\b", body, re.MULTILINE))
+ALL = {it.name for it in AT_A_MACHINE}
 
 
 class Endings(Case):
@@ -84,7 +86,7 @@ class Endings(Case):
             name = re.match(r"`end (\w+)", cells[0])
             if name:
                 self.ends[name[1]] = int(cells[-1])
-                self.commands_of[name[1]] = AT_A_MACHINE if cells[1] == "all" else set(re.findall(r"`(\w+)`", cells[1]))
+                self.commands_of[name[1]] = ALL if cells[1] == "all" else set(re.findall(r"`(\w+)`", cells[1]))
         self.statuses = {int(cells[0]): cells[1] for cells in rows_of(section(self.page, "## Statuses")) if cells[0].isdecimal()}
 
     def test_each_ending_has_a_status_that_is_one(self):
@@ -95,8 +97,8 @@ class Endings(Case):
                 self.is_so((end, self.ends[end]), (end, status))
 
     def test_each_ending_of_the_crates_is_one(self):
-        cases = set().union(*(cases_of(file, name) for file, name in END_TYPES.items()))
-        self.is_so(cases - {"Ended", "Driven", "Unfinished"}, set(self.ends) - {"none"})
+        self.assertGreater(len(ends_of_the_crates()), 16)
+        self.is_so(ends_of_the_crates(), set(self.ends) - {"none"})
 
     def test_help_says_the_same(self):
         named = set()
@@ -104,7 +106,7 @@ class Endings(Case):
             with self.subTest(command):
                 said = statuses_in(run([command, "--help"]).out)
                 self.is_so(said, {end: self.ends.get(end) for end in said})
-                if command in AT_A_MACHINE:
+                if command in ALL:
                     self.is_so(set(said), {end for end, its in self.commands_of.items() if command in its} - NOT_IN_HELP)
                 named |= set(said)
         self.is_so(named, set(self.ends) - {"none"} - NOT_IN_HELP)

@@ -7,9 +7,8 @@ import pty
 import unittest
 
 from cases import Case, Console
+from commands import AT_A_MACHINE, OF_TAPES
 from outside import NO_TERMINAL, fault, run
-
-ORDERS = {"load": "load TAPE LINE [MORE]..", "verify": "verify TAPE LINE [MORE]..", "save": "save FILE LINE FROM TO", "probe": "probe LINE"}
 
 
 class Places(Case):
@@ -39,17 +38,17 @@ class Places(Case):
     def test_a_line_that_is_no_device(self):
         """As in the order of cp, or with the line left out."""
         for line in ("./two-words.lda", "./folder", "./pipe", "./", self.path("first.lda")):
-            for words in ("load first.lda LINE ./ttyUSB0 --record a.record", "verify first.lda LINE ./ttyUSB0", "save new.lda LINE 1000 1000",
-                          "probe LINE", "load ./ttyUSB0 LINE"):
-                order = ORDERS[words.split()[0]]
-                self.is_refused(words.replace("LINE", line), f"{line} is no serial device: {order}")
+            for it in AT_A_MACHINE:
+                for words in (it.line("first.lda", "./ttyUSB0", line=line), it.line("./ttyUSB0", line=line)):
+                    self.is_refused(words, f"{line} is no serial device: {it.name} {it.order}")
+            self.is_refused(f"load first.lda {line} ./ttyUSB0 --record a.record", f"{line} is no serial device: load TAPE LINE [MORE]..")
 
     def test_a_terminal_that_is_read(self):
         peer = self.console_at(Console())
-        for words in ("check ./ttyUSB0", "check first.lda ./ttyUSB0", "dialogue ./ttyUSB0", "rehearse ./ttyUSB0 a.script",
-                      "rehearse first.lda a.script ./ttyUSB0", "load ./ttyUSB0 ./ttyUSB0", f"load first.lda {peer.name} ./ttyUSB0",
-                      f"verify ./ttyUSB0 {peer.name}"):
-            self.is_refused(words, "./ttyUSB0 is a terminal, no tape")
+        for it in OF_TAPES:
+            for tapes in (["./ttyUSB0"], ["first.lda", "./ttyUSB0"]):
+                self.is_refused(it.line(*tapes, line=peer.name), "./ttyUSB0 is a terminal, no tape")
+        self.is_refused("load ./ttyUSB0 ./ttyUSB0", "./ttyUSB0 is a terminal, no tape")
         self.is_refused("rehearse first.lda ./ttyUSB0", "./ttyUSB0 is a terminal, no script")
         self.is_refused("make new.lda ./ttyUSB0", "./ttyUSB0 is a terminal, no words")
         self.is_refused(f"load first.lda {peer.name} --record ./ttyUSB0", "./ttyUSB0 is a terminal, no record")

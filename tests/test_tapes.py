@@ -444,7 +444,7 @@ class ByHand(Case):
 # ---------------------------------------------------------------- what is typed of tapes
 
 # Tapes, each its blocks and its start, the words that memory then has, where the program runs, and why they stand here.
-# How many characters are sent is counted from what is typed (docs/MAP.md, "The life of one word"): `Z`, 22 for a word
+# How many characters are sent is counted from what is typed (docs/MAP.md, "The way of a byte"): `Z`, 22 for a word
 # that has to be deposited, 8 for one that stands already, 7 for the start.
 TOGETHER = (
     ([([], 0)], "", "000000", "a start at the first address"),

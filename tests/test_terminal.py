@@ -12,6 +12,7 @@ from concurrent.futures import ThreadPoolExecutor
 
 from cases import Case, Console, DeafConsole
 from cases import SlowConsole as Hundredths
+from commands import COUNTING
 from outside import PROGRAM, fault, line_failed, tape_of
 
 # Each line that is shown: the terminal is asked to cut what it has no column for, and behind the text to take away what
@@ -166,9 +167,8 @@ class Terminal(Case):
         self.put("a.record", b"LDAODT 2\n001000 031421")
         # The first of two blocks, and the room of the rest.
         self.put("b.lda.part", tape_of([(0o1000, bytes(512))])[:-7] + bytes(526))
-        for words, begins in (("load first.lda LINE", LISTENING), ("load two-words.lda LINE --record a.record", SHOWN.format(GOING_ON)),
+        for words, begins in (*((it.line(), LISTENING) for it in COUNTING), ("load two-words.lda LINE --record a.record", SHOWN.format(GOING_ON)),
                               ("load many.lda LINE --fast", SHOWN.format("0 of 400 words, 0%, listening") + SHOWN.format("0 of 400 words, 0%, stub")),
-                              ("verify first.lda LINE", LISTENING), ("save a.lda LINE 1000 1000", LISTENING),
                               ("save b.lda LINE 1000 2776", SHOWN.format(SAVING_ON))):
             with self.subTest(words):
                 ended, shown = self.interrupted(words, DeafConsole(), lambda machine: machine.typed)
@@ -330,7 +330,7 @@ class Plain(Case):
 
     def test_the_word_counts(self):
         """Each key is slow, so that a line is shown with each."""
-        rows = (("load first.lda LINE", "Started"), ("verify first.lda LINE", "Same"), ("save a.lda LINE 1000 1000", "Saved"))
+        rows = [(it.line(), it.end) for it in COUNTING]
         for words, shown in self.each(rows, lambda memory: SlowConsole(0, memory=memory)).items():
             with self.subTest(words):
                 texts = re.findall(re.escape(SHOWN).replace(r"\{\}", "(.*?)"), shown)

@@ -1,9 +1,11 @@
-"""Words of the command line that are no text, empty or odd."""
+"""Words of the command line that are no text, empty or odd; and those of each command, where one is missing or too many."""
 import errno
+import re
 import unittest
 
 from cases import Case, Console
-from outside import FIRST, LOST_DIGIT, NO_PORT, bytes_of, fault
+from commands import COMMANDS
+from outside import FIRST, LOST_DIGIT, NO_PORT, TOP, bytes_of, fault
 
 NO_TEXT = "ldaodt: a word of the command line is not UTF-8\n"
 NO_LINE = "a line is HOST:PORT, or the path of a serial device, which has a '/'"
@@ -107,6 +109,42 @@ class Words(Case):
         self.ends(given, 0, "".join(CHECKED.splitlines(True)[:3]) * 1000 + "words 1\n001000 177777 011064\n")
         given = self.ldaodt(["rehearse", FIRST, LOST_DIGIT] + [FIRST] * 1000)
         self.ends(given, 0, "sent 34 lost 1 spent 1 verified 1 of 1\nend Started\nodt Running 001000\n001000 011064 stands\n")
+
+
+class Commands(Case):
+    """Each command's words, by the table of them, and as the page of help has them, which is compared with the program's to the last byte."""
+
+    NAMED = [it for it in COMMANDS if it.name]
+    USAGES = dict(re.findall(r"^Usage: ldaodt (\w+)(.*)$", bytes_of(f"{TOP}/tests/help.md").decode(), re.MULTILINE))
+
+    def is_refused(self, words, why, usage):
+        with self.subTest(words):
+            self.ends(self.ldaodt(words), 2, "", f"error: {why}\n\nUsage: ldaodt {words[0]}{usage}\n\nFor more information, try '--help'.\n")
+
+    def test_the_table_has_each_command(self):
+        orders = {name: usage.replace("[OPTIONS]", "").replace("...", "..").translate({ord(it): None for it in "<>"}).strip() for name, usage in self.USAGES.items()}
+        self.is_so([(it.name, it.order) for it in self.NAMED], list(orders.items()))
+
+    def test_none_at_all(self):
+        """`--` alone asks for nothing."""
+        names = ", ".join([it.name for it in self.NAMED] + ["help"])
+        self.ends(self.ldaodt("--"), 2, "", "error: 'ldaodt' requires a subcommand but one was not provided\n"
+                  f"  [subcommands: {names}]\n\nUsage: ldaodt [COMMAND]\n\nFor more information, try '--help'.\n")
+
+    def test_one_that_is_missing(self):
+        """It is said which are, and only those."""
+        for command in self.NAMED:
+            wanted = [it for it in command.order.split() if it[0] != "["]
+            for count in range(len(wanted)):
+                why = "\n  ".join(["the following required arguments were not provided:", *(f"<{it}>" for it in wanted[count:])])
+                words = command.words(line="b:1")[:1 + count]
+                self.is_refused(words, why, self.USAGES[command.name].replace(" [OPTIONS]", ""))
+
+    def test_one_too_many(self):
+        """But for commands that take further tapes."""
+        for command in self.NAMED:
+            if not command.takes("[MORE].."):
+                self.is_refused([*command.words(line="b:1", words="words"), "b.lda"], "unexpected argument 'b.lda' found", self.USAGES[command.name])
 
 
 if __name__ == "__main__":

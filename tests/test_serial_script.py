@@ -14,7 +14,8 @@ import time
 import unittest
 
 from cases import Case, Console
-from outside import HELLO, PROGRAM, TOP, Answer, text_of
+from commands import AT_A_MACHINE
+from outside import HELLO, PROGRAM, TOP, Answer, bytes_of, text_of
 from test_devices import is_locked
 
 # A command that notes its words, and its device where that is its input; it says and ends as the test asks.
@@ -26,6 +27,9 @@ said=${name}_says ended=${name}_ends
 [ -z "${!said-}" ] || echo "${!said}" >&2
 exit "${!ended-0}"
 """
+
+# The program's help of a command.
+HELPING = '[ "${2-}" != --help ] || exec cat "$HELPS/$1"\n'
 
 # What the script calls and a test has no stand-in for.
 CALLED = "bash dirname readlink flock stat cat timeout sleep mktemp grep sed tee rm".split()
@@ -41,11 +45,20 @@ SETTINGS = {
     "110/8n2": "110 raw -echo cs8 -parenb cstopb -crtscts clocal -hupcl",
 }
 
+# What the program says where it is asked for help, as the page of transcripts has it.
+HELPS = dict(re.findall(r"^\$ ./ldaodt (\w+) --help\n(.*?)^```$", bytes_of(f"{TOP}/tests/help.md").decode(), re.MULTILINE | re.DOTALL))
+
+
+def without_line(command, *tapes):
+    """A command line as this script is given it."""
+    return " ".join(it for it in command.words(*tapes) if it != "LINE")
+
+
 # What a person writes behind SPEED and DEVICE, and how the program is called.
 PLACES = (
-    # LINE is behind the first tape, and further ones behind it.
+    # Most commands have LINE behind the first tape, and further ones behind it.
+    *((without_line(it, "a.lda", "b.lda", "c.lda"), it.line("a.lda", "b.lda", "c.lda")) for it in AT_A_MACHINE),
     ("load a.lda", "load a.lda LINE"),
-    ("load a.lda b.lda c.lda", "load a.lda LINE b.lda c.lda"),
     ("verify a.lda b.lda", "verify a.lda LINE b.lda"),
     ("save a.lda 0 157776", "save a.lda LINE 0 157776"),
     ("probe", "probe LINE"),
@@ -78,6 +91,7 @@ REFUSED = (
     ("9600", "DEVICE is missing"),
     ("9600 DEVICE", "which command?"),
     ("9600 DEVICE check a.lda", "check"),
+    ("9600 DEVICE type", "type"),
     ("9600 DEVICE talk now", "talk takes nothing more"),
     ("9600 127.0.0.1:2323 probe", "HOST:PORT"),
     ("scan", "DEVICE is missing"),
@@ -162,11 +176,16 @@ class Script(Case):
         shutil.copy(f"{TOP}/tools/serial", self.path("tools/serial"))
         for name in CALLED:
             os.symlink(shutil.which(name), self.path(f"bin/{name}"))
+        os.mkdir(self.path("helps"))
+        for name, text in HELPS.items():
+            self.put(f"helps/{name}", text.encode())
 
     def stand_in(self, *paths, text=STAND_IN):
+        """Puts commands there; one in the program's place has its help, too."""
         for path in paths:
+            first, rest = text.split("\n", 1)
             with open(self.path(path), "w", encoding="utf-8") as file:
-                file.write(text)
+                file.write(f"{first}\n{HELPING}{rest}" if path.endswith("ldaodt") else text)
             os.chmod(self.path(path), 0o755)
 
     def serial(self, words, script=None, keys=b"", lone=True, **more):
@@ -174,7 +193,7 @@ class Script(Case):
         words = words.split() if isinstance(words, str) else words
         words = [it.replace("DEVICE", self.device) for it in words]
         path = self.path("bin") if lone else f"{self.path('bin')}:{os.environ['PATH']}"
-        env = {**os.environ, "PATH": path, "NOTES": self.path("notes"), "TMPDIR": self.room, **more.pop("env", {})}
+        env = {**os.environ, "PATH": path, "NOTES": self.path("notes"), "HELPS": self.path("helps"), "TMPDIR": self.room, **more.pop("env", {})}
         open(self.path("notes"), "a").close()
         ran = subprocess.run([script or self.path("tools/serial"), *words], input=keys, env=env, cwd=self.room, capture_output=True, timeout=300, **more)
         return Answer(ran.returncode, text_of(ran.stdout), text_of(ran.stderr))
@@ -218,8 +237,8 @@ class Words(Script):
 
     def test_help_of_a_command_sets_nothing(self):
         """Nor does it ask for the device."""
-        self.ends(self.serial("9600 /dev/none probe --help"), 0)
-        self.is_so(self.notes(), ["ldaodt probe --help"])
+        self.ends(self.serial("9600 /dev/none probe --help"), 0, HELPS["probe"])
+        self.is_so(self.notes(), [])
 
     def test_the_status_and_what_is_said_are_the_program_s(self):
         for status in range(8):
@@ -500,10 +519,15 @@ class Machines(Script):
 
     def test_each_command(self):
         self.machine(Console(memory={0o1000: 0o011064}))
-        for words, end in (("verify first.lda", "Same"), ("save a.lda 1000 1000", "Saved"), ("probe", "Probed"), ("load first.lda", "Started")):
-            with self.subTest(words):
-                given = self.serial(f"9600 DEVICE {words} --quiet {self.quiet}")
-                self.is_so((given.status, given.out.split("\n")[-2], given.err), (0, f"end {end}", ""))
+        for command in reversed(AT_A_MACHINE):
+            with self.subTest(command.name):
+                given = self.serial(f"9600 DEVICE {without_line(command)} --quiet {self.quiet}")
+                self.is_so((given.status, given.out.split("\n")[-2], given.err), (0, f"end {command.end}", ""))
+
+    def test_a_command_that_is_none(self):
+        """The program says so."""
+        given = self.serial("9600 DEVICE frobnicate")
+        self.is_so((given.status, given.out, given.err.split("\n")[0]), (2, "", "error: unrecognized subcommand 'frobnicate'"))
 
     def test_what_a_pseudo_terminal_can_not_be_set_to(self):
         """As an adapter that knows no 7 bits: nothing is typed."""

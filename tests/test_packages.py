@@ -6,6 +6,7 @@ import subprocess
 import unittest
 
 from cases import Case
+from commands import AT_A_MACHINE
 from outside import PROGRAM, TOP
 
 # What a system finds in its own folders, below /usr or another one.
@@ -15,8 +16,15 @@ FILES = {
     "share/doc/ldaodt/tools/machine",
 }
 
-# Asks bash what it would offer for the last of some words, a line for each.
+# Asks bash what it would offer for the last of some words, a line for each. There is one serial device.
 OFFERS = """
+compgen() {
+    case "$*" in
+        '-G /dev/tty'*) echo /dev/ttyUSB0 ;;
+        -G*) ;;
+        *) builtin compgen "$@" ;;
+    esac
+}
 . "$COMPLETION"
 COMP_WORDS=("$@") COMP_CWORD=$(($# - 1))
 _ldaodt "$1" "${COMP_WORDS[COMP_CWORD]}" "${COMP_WORDS[COMP_CWORD - 1]}"
@@ -39,6 +47,11 @@ COMMANDS = [line.split()[0] for line in listed_in("", "Commands")]
 
 def options_of(command):
     return [word for line in listed_in(f"{command} ", "Options") for word in re.findall(r"^ +(?:-\w, )?(--[a-z-]+)", line)]
+
+
+def values_of(command):
+    """The options that have a value, and what stands for that."""
+    return re.findall(r"^ +(--[a-z-]+) <(\w+)>", "\n".join(listed_in(f"{command} ", "Options")), re.MULTILINE)
 
 
 class LaidOut(Case):
@@ -125,14 +138,24 @@ class Completion(Case):
                 self.assertEqual(self.offers("ldaodt", command, "--"), options_of(command))
         self.assertEqual(self.offers("ldaodt", "load", "--rec"), [it for it in options_of("load") if it.startswith("--rec")])
 
-    def test_an_option_s_own_words(self):
-        self.assertEqual(self.offers("ldaodt", "type", "--style", ""), list("01234567"))
-        self.assertEqual(self.offers("ldaodt", "load", "--patience", ""), [])
+    def test_the_values_of_the_options_of_each_command(self):
+        """A file is offered, and each style; a number or an address is nobody's to guess."""
+        tried = set()
+        for command in COMMANDS[:-1]:
+            for option, value in values_of(command):
+                with self.subTest(command=command, option=option):
+                    offered = list("01234567") if option == "--style" else ["another.lda"] if value == "FILE" else []
+                    self.assertEqual(self.offers("ldaodt", command, option, "ano" if value == "FILE" else ""), offered)
+                    tried.add(value)
+        self.assertLessEqual({"FILE", "N", "MS", "SECONDS", "AAAAAA"}, tried)
+        self.assertIn("a tape.lda", self.offers("ldaodt", "load", "--recheck", "a"))
 
     def test_files(self):
         self.assertIn("a tape.lda", self.offers("ldaodt", "check", "a"))
         self.assertEqual(self.offers("ldaodt", "check", "ano"), ["another.lda"])
-        self.assertEqual(self.offers("ldaodt", "load", "--record", "ano"), ["another.lda"])
+
+    def test_the_devices_of_a_line(self):
+        self.assertEqual([it for it in COMMANDS if "/dev/ttyUSB0" in self.offers("ldaodt", it, "")], [it.name for it in AT_A_MACHINE])
 
     @unittest.skipUnless(shutil.which("zsh"), "there is no zsh")
     def test_zsh_can_read_its_own(self):
